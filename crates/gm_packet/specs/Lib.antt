@@ -1,0 +1,4 @@
+pub mod Kinds
+pub mod Packets
+pub mod Requests
+pub mod Views
