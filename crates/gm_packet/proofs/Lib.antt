@@ -1,4 +1,5 @@
 pub mod Cuts
+pub mod Joins
 pub mod Outcomes
 pub mod Reading
 pub mod Requests

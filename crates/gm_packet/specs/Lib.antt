@@ -2,3 +2,4 @@ pub mod Kinds
 pub mod Packets
 pub mod Requests
 pub mod Views
+pub mod Writing

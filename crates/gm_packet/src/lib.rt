@@ -9,6 +9,7 @@ mod arguments;
 mod header;
 mod kind;
 mod request;
+mod writing;
 
 pub use header::{BadMagic, Header, REQUEST_MAGIC, RESPONSE_MAGIC, read_header};
 pub use kind::Kind;

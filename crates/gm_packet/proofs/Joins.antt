@@ -1,0 +1,57 @@
+-- Arguments joined by NULs, as the writer goes over them.
+use Rattle.std.proofs.Common.{◌≡◌, ℕ, zero, suc, ◌+◌, ◌-◌, ◌≤◌, ◌<◌, Bool, true, false, not, List, [], ◌∷◌, ◌++◌, length, take, drop, get_or, map, refl, sym, ap, ◌∙◌, arith, append_assoc}
+use Rattle.std.specs.Prelude.{IsTrue, ◌↔◌}
+use Rattle.std.specs.List.{list_any, flat_map, join_with_byte}
+use Rattle.std.proofs.Math.Seq.{drop-cons}
+use Rattle.std.proofs.Math.Numerals.{add-one, one-add}
+use Rattle.std.proofs.lemmas.List.{take_rest, append-nil, length-append}
+use Rattle.std.specs.Borrow.{Bor}
+use Rattle.gm_packet.specs.Requests.{has_nul, LackNul}
+
+-- an argument behind its NUL
+abbrev pub behind : Bor (List ℕ) → List ℕ
+behind text = 0 ∷ text.now
+
+-- the arguments without where they lie
+abbrev pub texts_of : List (Bor (List ℕ)) → List (List ℕ)
+texts_of texts = map (λ text. text.now) texts
+
+pub join_is : (first : Bor (List ℕ)) (rest : List (Bor (List ℕ))) → join_with_byte 0 (texts_of (first ∷ rest)) ≡ first.now ++ flat_map behind rest
+join_is first [] = sym (append-nil first.now)
+join_is first (second ∷ rest) = ap (λ (x : List ℕ). first.now ++ 0 ∷ x) (join_is second rest)
+
+pub list_any-take : (n : ℕ) (texts : List (Bor (List ℕ))) → list_any has_nul (take n (texts_of texts)) ≡ list_any (λ text. has_nul text.now) (take n texts)
+list_any-take zero texts = refl
+list_any-take (suc n) [] = refl
+list_any-take (suc n) (text ∷ texts) = rw (list_any-take n texts) refl
+
+-- all of a list that isn't empty, as a pattern takes it apart
+pub whole_is : (texts : List (Bor (List ℕ))) (d : Bor (List ℕ)) → 1 ≤ length texts → join_with_byte 0 (texts_of texts) ≡ (get_or texts 0 d).now ++ flat_map behind (take (length texts - 1) (drop 1 texts))
+whole_is [] d some = absurd (omega arith)
+whole_is (first ∷ rest) d some = join_is first rest ∙ ap (λ x. first.now ++ flat_map behind x) (sym (take_rest (first ∷ rest) 1))
+
+-- room for one argument more
+pub room_more : (rest : List (Bor (List ℕ))) (i : ℕ) (d : Bor (List ℕ)) → i < length rest → length (flat_map behind (drop i rest)) ≡ 1 + length (get_or rest i d).now + length (flat_map behind (drop (i + 1) rest))
+room_more rest i d lt =
+    ap (λ x. length (flat_map behind x)) (drop-cons rest i d lt) ∙ length-append (behind (get_or rest i d)) (flat_map behind (drop (suc i) rest))
+    ∙ rw (add-one, one-add) refl
+
+-- an element past the end
+abbrev pub no_text : Bor (List ℕ)
+no_text = record { ref_ptr = (0, 0); now = [] }
+
+pub whole_len : (texts : List (Bor (List ℕ))) (d : Bor (List ℕ)) → 1 ≤ length texts → length (join_with_byte 0 (texts_of texts)) ≡ length (get_or texts 0 d).now + length (flat_map behind (take (length texts - 1) (drop 1 texts)))
+whole_len texts d some = ap length (whole_is texts d some) ∙ length-append (get_or texts 0 d).now (flat_map behind (take (length texts - 1) (drop 1 texts)))
+
+-- the test whether the arguments in front lack NUL
+pub lacks_exactly : (n : ℕ) (texts : List (Bor (List ℕ))) (r : Bool) → r ≡ list_any (λ text. has_nul text.now) (take n texts) → IsTrue (not r) ↔ LackNul n (texts_of texts)
+lacks_exactly n texts true e = ((λ h. absurd cc), (λ h. let f : list_any has_nul (take n (texts_of texts)) ≡ true = list_any-take n texts ∙ sym e in absurd cc))
+lacks_exactly n texts false e = ((λ h. list_any-take n texts ∙ sym e), (λ h. refl))
+
+-- four parts put one after the other
+pub four_parts : (old a b c d e w x y z : List ℕ) → a ≡ old → b ≡ a ++ w → c ≡ b ++ x → d ≡ c ++ y → e ≡ d ++ z → e ≡ old ++ (w ++ x ++ y ++ z)
+four_parts old a b c d e w x y z pa pb pc pd pe = rw (pe, pd, pc, pb, pa) (simp append_assoc)
+
+-- two parts that make a whole
+pub two_parts : (old a b x y whole : List ℕ) → a ≡ old ++ x → b ≡ a ++ y → whole ≡ x ++ y → b ≡ old ++ whole
+two_parts old a b x y whole pa pb w = rw (pb, pa, w) (append_assoc old x y)

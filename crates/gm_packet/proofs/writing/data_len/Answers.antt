@@ -1,0 +1,8 @@
+use Rattle.std.proofs.Common.{arith, length-append, length, ap, ℕ, List}
+use Rattle.gm_packet.proofs.Joins.{whole_is, no_text, whole_len}
+use Rattle.gm_packet.proofs.writing.data_len.Goals as goal
+
+pub returns-in-len1-up : goal.returns-in-len1-up
+returns-in-len1-up c =
+    let w = whole_len c.args.texts.now no_text c.in-len1-up.len_at_least in
+    omega (arith, w, c.saturating_add.ensures, c.tail_len.ensures)

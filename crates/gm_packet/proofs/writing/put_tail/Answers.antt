@@ -1,0 +1,6 @@
+use Rattle.std.proofs.Common.{arith, length-append, length}
+use Rattle.gm_packet.proofs.Joins.{behind, room_more, no_text}
+use Rattle.gm_packet.proofs.writing.put_tail.Goals as goal
+
+pub put-requires : goal.put-requires
+put-requires c = omega (arith, room_more c.args.rest.now c.loop-text.text-index no_text c.loop-text-test.true, c.loop-text.invariant.room)

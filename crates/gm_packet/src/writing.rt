@@ -1,0 +1,111 @@
+//! Writes a packet of any kind from its arguments.
+
+ghost use Rattle.std.specs.Prelude.{◌≡◌, ◌+◌, ◌-◌, ◌^◌, ◌<◌, ◌≤◌, ◌↔◌, ◌++◌, [], ◌∷◌, false, map, min, length, IsTrue, OnOk, OnErr, vec_len, vec_capacity};
+ghost use Rattle.std.specs.List.{list_any, flat_map, join_with_byte};
+ghost use Rattle.gm_packet.specs.Packets.{packet};
+ghost use Rattle.gm_packet.specs.Requests.{has_nul, LackNul};
+ghost use Rattle.gm_packet.specs.Writing.{Fits};
+
+use crate::arguments::has_nul;
+use std::alloc::AllocError;
+
+/// How many bytes the arguments after the first take, each behind its NUL; at most the greatest `u64`.
+fn tail_len(rest: &[&[u8]]) -> u64
+    ensures { result ≡ min (length (flat_map (λ text. 0 ∷ text.now) rest.now)) (2 ^ 64 - 1) }
+{
+    let mut len: u64 = 0;
+    for text in rest {
+        len = len.saturating_add(1).saturating_add(text.len() as u64);
+    }
+    len
+}
+
+/// How many bytes the arguments take as data; at most the greatest `u64`.
+pub fn data_len(texts: &[&[u8]]) -> u64
+    ensures { result ≡ min (length (join_with_byte 0 (map (λ text. text.now) texts.now))) (2 ^ 64 - 1) }
+{
+    match texts {
+        [] => 0,
+        [first, rest @ ..] => tail_len(rest).saturating_add(first.len() as u64),
+    }
+}
+
+/// Whether one of the arguments holds NUL.
+fn any_nul(texts: &[&[u8]]) -> bool
+    ensures { result ≡ list_any (λ text. has_nul text.now) texts.now }
+{
+    texts.iter().any(|text| has_nul(text))
+}
+
+/// Whether no argument but the last holds NUL.
+fn separable(texts: &[&[u8]]) -> bool
+    ensures { IsTrue result ↔ LackNul (length texts.now - 1) (map (λ text. text.now) texts.now) }
+{
+    match texts {
+        [] => true,
+        [front @ .., _] => !any_nul(front),
+    }
+}
+
+/// Whether a packet can carry the arguments.
+pub fn fits(texts: &[&[u8]]) -> bool
+    ensures { IsTrue result ↔ Fits (map (λ text. text.now) texts.now) }
+{
+    separable(texts) && data_len(texts) <= u64::from(u32::MAX)
+}
+
+/// Appends where there is room.
+fn put(out: &mut Vec<u8>, bytes: &[u8])
+    requires { vec_len out.old + length bytes.now ≤ vec_capacity out.old }
+    ensures items { out.new.items ≡ out.old.items ++ bytes.now }
+    ensures len { vec_len out.new ≡ vec_len out.old + length bytes.now }
+    ensures capacity { vec_capacity out.old ≤ vec_capacity out.new }
+{
+    out.extend_from_slice(bytes).unwrap();
+}
+
+/// Appends the arguments after the first, each behind its NUL, where there is room.
+fn put_tail(out: &mut Vec<u8>, rest: &[&[u8]])
+    requires { vec_len out.old + length (flat_map (λ text. 0 ∷ text.now) rest.now) ≤ vec_capacity out.old }
+    ensures items { out.new.items ≡ out.old.items ++ flat_map (λ text. 0 ∷ text.now) rest.now }
+{
+    for text in rest {
+        put(out, &[0]);
+        put(out, text);
+    }
+}
+
+/// Appends the data that the arguments spell, where there is room.
+fn put_data(out: &mut Vec<u8>, texts: &[&[u8]])
+    requires { vec_len out.old + length (join_with_byte 0 (map (λ text. text.now) texts.now)) ≤ vec_capacity out.old }
+    ensures items { out.new.items ≡ out.old.items ++ join_with_byte 0 (map (λ text. text.now) texts.now) }
+{
+    match texts {
+        [] => {}
+        [first, rest @ ..] => {
+            put(out, first);
+            put_tail(out, rest);
+        }
+    }
+}
+
+/// Appends the packet of this type with these arguments, all of it or nothing.
+pub fn put_packet(
+    out: &mut Vec<u8>,
+    magic: &[u8; 4],
+    kind: u32,
+    texts: &[&[u8]],
+) -> Result<(), AllocError>
+    requires { length (join_with_byte 0 (map (λ text. text.now) texts.now)) < 2 ^ 32 }
+    ensures ok { OnOk result (out.new.items ≡ out.old.items
+        ++ packet magic.now kind (join_with_byte 0 (map (λ text. text.now) texts.now))) }
+    ensures err { OnErr result (out.new.items ≡ out.old.items) }
+{
+    let size = data_len(texts) as u32;
+    out.reserve(12 + size as usize)?;
+    put(out, magic);
+    put(out, &kind.to_be_bytes());
+    put(out, &size.to_be_bytes());
+    put_data(out, texts);
+    Ok(())
+}
