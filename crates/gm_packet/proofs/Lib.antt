@@ -1,6 +1,7 @@
 pub mod Cuts
 pub mod Joins
 pub mod Outcomes
+pub mod Packets
 pub mod Reading
 pub mod Requests
 pub mod Timeouts

@@ -1,5 +1,7 @@
+pub mod Answers
 pub mod Kinds
 pub mod Packets
 pub mod Requests
+pub mod Texts
 pub mod Views
 pub mod Writing

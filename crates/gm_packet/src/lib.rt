@@ -9,8 +9,11 @@ mod arguments;
 mod header;
 mod kind;
 mod request;
+mod response;
+mod texts;
 mod writing;
 
 pub use header::{BadMagic, Header, REQUEST_MAGIC, RESPONSE_MAGIC, read_header};
 pub use kind::Kind;
-pub use request::RequestFault;
+pub use request::{Request, RequestFault, request_fits, write_request};
+pub use response::{Response, response_fits, response_len, write_response};

@@ -1,12 +1,19 @@
 //! Requests: what clients and workers send.
 
-ghost use Rattle.std.specs.Prelude.{◌≡◌, ◌↔◌, IfOk, IsErrOf};
+ghost use Rattle.std.specs.Prelude.{◌≡◌, ◌↔◌, [], ◌∷◌, ◌++◌, IfOk, IsErrOf, IsTrue, OnOk, OnErr, MatchOption, decimal};
 ghost use Rattle.std.specs.Option.{option_map};
 ghost use Rattle.gm_packet.specs.Requests.{Asks, IsKnown, IsSpelled, read_as, request_of};
+ghost use Rattle.gm_packet.specs.Texts.{texts_of};
+ghost use Rattle.gm_packet.specs.Writing.{Fits, request_packet, request_texts};
 ghost use Rattle.gm_packet.specs.Views.{asked_of, asked_result};
 
 use crate::arguments::{function_and_timeout, no_argument, one_plain, three_opaque, three_plain, two_opaque};
+use crate::header::REQUEST_MAGIC;
 use crate::kind::Kind;
+use crate::texts::Texts;
+use crate::writing::{fits, put_packet};
+use itoa::Buffer;
+use std::alloc::AllocError;
 
 /// Why a packet is no request.
 #[derive(Clone, Copy, Debug, PartialEq, Eq)]
@@ -224,5 +231,115 @@ impl<'a> Request<'a> {
         ensures bad { IsErrOf result RequestFault.BadArguments ↔ (IsKnown kind × (IsSpelled kind bytes.now → ⊥)) }
     {
         read_exactly(kind, bytes)
+    }
+}
+
+/// The function and the timeout of a request that has a timeout.
+fn timed<'a>(request: &Request<'a>) -> Option<(&'a [u8], u32)>
+    ensures { MatchOption result (request_texts (asked_of request.now) ≡ (asked_of request.now).arguments)
+        (λ found. request_texts (asked_of request.now) ≡ found.0.now ∷ decimal found.1 ∷ []) }
+{
+    match *request {
+        Request::CanDoTimeout { function, timeout } => Some((function, timeout)),
+        _ => None,
+    }
+}
+
+/// The kind of a request.
+fn kind(request: &Request<'_>) -> Kind
+    ensures { result ≡ (asked_of request.now).kind }
+{
+    match request {
+        Request::CanDo { .. } => Kind::CanDo,
+        Request::CantDo { .. } => Kind::CantDo,
+        Request::ResetAbilities => Kind::ResetAbilities,
+        Request::PreSleep => Kind::PreSleep,
+        Request::SubmitJob { .. } => Kind::SubmitJob,
+        Request::GrabJob => Kind::GrabJob,
+        Request::WorkStatus { .. } => Kind::WorkStatus,
+        Request::WorkComplete { .. } => Kind::WorkComplete,
+        Request::WorkFail { .. } => Kind::WorkFail,
+        Request::GetStatus { .. } => Kind::GetStatus,
+        Request::EchoReq { .. } => Kind::EchoReq,
+        Request::SubmitJobBg { .. } => Kind::SubmitJobBg,
+        Request::SubmitJobHigh { .. } => Kind::SubmitJobHigh,
+        Request::SetClientId { .. } => Kind::SetClientId,
+        Request::CanDoTimeout { .. } => Kind::CanDoTimeout,
+        Request::AllYours => Kind::AllYours,
+        Request::WorkException { .. } => Kind::WorkException,
+        Request::OptionReq { .. } => Kind::OptionReq,
+        Request::WorkData { .. } => Kind::WorkData,
+        Request::WorkWarning { .. } => Kind::WorkWarning,
+        Request::GrabJobUniq => Kind::GrabJobUniq,
+        Request::SubmitJobHighBg { .. } => Kind::SubmitJobHighBg,
+        Request::SubmitJobLow { .. } => Kind::SubmitJobLow,
+        Request::SubmitJobLowBg { .. } => Kind::SubmitJobLowBg,
+    }
+}
+
+/// The arguments of a request, without its timeout.
+fn texts<'a>(request: &Request<'a>) -> Texts<'a>
+    ensures { texts_of result ≡ (asked_of request.now).arguments }
+{
+    match *request {
+        Request::ResetAbilities => Texts::zero(),
+        Request::PreSleep => Texts::zero(),
+        Request::GrabJob => Texts::zero(),
+        Request::AllYours => Texts::zero(),
+        Request::GrabJobUniq => Texts::zero(),
+        Request::CanDo { function } => Texts::one(function),
+        Request::CantDo { function } => Texts::one(function),
+        Request::WorkFail { handle } => Texts::one(handle),
+        Request::GetStatus { handle } => Texts::one(handle),
+        Request::EchoReq { body } => Texts::one(body),
+        Request::SetClientId { id } => Texts::one(id),
+        Request::OptionReq { name } => Texts::one(name),
+        Request::CanDoTimeout { function, .. } => Texts::one(function),
+        Request::WorkComplete { handle, body } => Texts::two(handle, body),
+        Request::WorkException { handle, body } => Texts::two(handle, body),
+        Request::WorkData { handle, body } => Texts::two(handle, body),
+        Request::WorkWarning { handle, body } => Texts::two(handle, body),
+        Request::WorkStatus { handle, numerator, denominator } => {
+            Texts::three(handle, numerator, denominator)
+        }
+        Request::SubmitJob { function, unique, body } => Texts::three(function, unique, body),
+        Request::SubmitJobBg { function, unique, body } => Texts::three(function, unique, body),
+        Request::SubmitJobHigh { function, unique, body } => Texts::three(function, unique, body),
+        Request::SubmitJobHighBg { function, unique, body } => Texts::three(function, unique, body),
+        Request::SubmitJobLow { function, unique, body } => Texts::three(function, unique, body),
+        Request::SubmitJobLowBg { function, unique, body } => Texts::three(function, unique, body),
+    }
+}
+
+/// Whether a packet can carry a request: no argument but the last holds NUL, and the length of the
+/// data fits 32 bits.
+pub fn request_fits(request: &Request<'_>) -> bool
+    ensures { IsTrue result ↔ Fits (request_texts (asked_of request.now)) }
+{
+    match timed(request) {
+        None => fits(texts(request).as_slice()),
+        Some((function, timeout)) => {
+            let mut buffer = Buffer::new();
+            let digits = buffer.format(timeout).as_bytes();
+            fits(Texts::two(function, digits).as_slice())
+        }
+    }
+}
+
+/// Appends the packet of a request that a packet can carry (`request_fits`). Want of memory leaves the
+/// bytes as they were.
+pub fn write_request(request: &Request<'_>, out: &mut Vec<u8>) -> Result<(), AllocError>
+    requires { Fits (request_texts (asked_of request.now)) }
+    ensures ok { OnOk result (out.new.items ≡ out.old.items ++ request_packet (asked_of request.now)) }
+    ensures err { OnErr result (out.new.items ≡ out.old.items) }
+{
+    let number = kind(request).number();
+    match timed(request) {
+        None => put_packet(out, &REQUEST_MAGIC, number, texts(request).as_slice()),
+        Some((function, timeout)) => {
+            let mut buffer = Buffer::new();
+            let digits = buffer.format(timeout).as_bytes();
+            put_packet(out, &REQUEST_MAGIC, number, Texts::two(function, digits).as_slice())
+        }
     }
 }
