@@ -1,0 +1,65 @@
+//! What is true of every stream. Each function here is a law: its body does nothing, and its contract
+//! is the law.
+
+ghost use Rattle.std.specs.Prelude.{◌≡◌, ◌<◌, ℕ, List, ◌++◌, length};
+ghost use Rattle.gm_feeder.specs.declared.units.Limits.{Limits};
+ghost use Rattle.gm_feeder.specs.declared.units.FeedFault.{FeedFault};
+ghost use Rattle.gm_feeder.specs.Units.{Item, IsUnit, BeginsNoUnit, Spells, IsFaultOf, Waits};
+ghost use Rattle.gm_feeder.specs.Streams.{Stream, Event, Runs, all_fed, all_given};
+
+/// No unit begins another: what two units begin, whatever follows each, is begun by one unit.
+pub fn no_unit_begins_another()
+    ensures { (limits : Limits) (whole other x y : List ℕ) (item another : Item)
+        → IsUnit limits whole item → IsUnit limits other another → whole ++ x ≡ other ++ y
+        → (whole ≡ other) × (item ≡ another) }
+{}
+
+/// A unit has bytes, so a feeder that gives one holds fewer afterwards.
+pub fn no_unit_is_empty()
+    ensures { (limits : Limits) (whole : List ℕ) (item : Item)
+        → IsUnit limits whole item → 0 < length whole }
+{}
+
+/// A stream has one spelling.
+pub fn one_spelling()
+    ensures { (limits : Limits) (stream : List ℕ) (items others : List Item) (rest other : List ℕ)
+        → Spells limits stream items rest → Spells limits stream others other
+        → (items ≡ others) × (rest ≡ other) }
+{}
+
+/// It doesn't matter where a stream is cut: what the front spells stays spelled, and its rest is
+/// spelled together with what comes.
+pub fn any_cut()
+    ensures { (limits : Limits) (front back : List ℕ) (items more : List Item) (rest end : List ℕ)
+        → Spells limits front items rest → Spells limits (rest ++ back) more end
+        → Spells limits (front ++ back) (items ++ more) end }
+{}
+
+/// At most one fault stands at a rest, where one stands there is no unit, and where more bytes are
+/// waited for none stands.
+pub fn one_fault()
+    ensures one { (limits : Limits) (rest : List ℕ) (fault other : FeedFault)
+        → IsFaultOf limits rest fault → IsFaultOf limits rest other → fault ≡ other }
+    ensures no_unit { (limits : Limits) (rest : List ℕ) (fault : FeedFault)
+        → IsFaultOf limits rest fault → BeginsNoUnit limits rest }
+    ensures none { (limits : Limits) (rest : List ℕ) (fault : FeedFault)
+        → Waits limits rest → IsFaultOf limits rest fault → ⊥ }
+{}
+
+/// A fault stands whatever comes: so it doesn't matter in which pieces a faulty stream comes.
+pub fn fault_stays()
+    ensures { (limits : Limits) (rest more : List ℕ) (fault : FeedFault)
+        → IsFaultOf limits rest fault → IsFaultOf limits (rest ++ more) fault }
+{}
+
+/// Once a feeder gives no more units, those that it gave and the bytes that it holds are the spelling
+/// of what was fed, in whichever pieces, and no other spelling is.
+pub fn any_pieces()
+    ensures spelled { (old new : Stream) (events : List Event)
+        → Runs old events new → BeginsNoUnit new.limits new.pending
+        → Spells old.limits (old.pending ++ all_fed events) (all_given events) new.pending }
+    ensures only { (old new : Stream) (events : List Event) (items : List Item) (rest : List ℕ)
+        → Runs old events new → BeginsNoUnit new.limits new.pending
+        → Spells old.limits (old.pending ++ all_fed events) items rest
+        → (all_given events ≡ items) × (new.pending ≡ rest) }
+{}

@@ -1,0 +1,17 @@
+//! Cuts the bytes of one connection into units.
+//!
+//! A unit is what a client of a job server sends at once: for now a request packet of the Gearman
+//! binary protocol (the Gearman PROTOCOL document, "Binary Packet"). Bytes come in pieces of any
+//! length; `Feeder` gives the units out whole, one after another, and says when no bytes that could
+//! follow would make a unit any more. `laws` holds what is true of every stream.
+#![tactic(auto)]
+
+mod feeder;
+mod front;
+pub mod laws;
+#[cfg(test)]
+mod tests;
+mod units;
+
+pub use feeder::Feeder;
+pub use units::{FeedFault, Limits, Unit};

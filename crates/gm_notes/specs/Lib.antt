@@ -1,0 +1,9 @@
+pub mod Flow
+pub mod Notes
+pub mod Numbers
+pub mod Plain
+pub mod Ranges
+pub mod Servers
+pub mod Settings
+pub mod Steps
+pub mod Texts

@@ -1,0 +1,132 @@
+//! The settings of a server.
+
+ghost use Rattle.std.specs.Prelude.{◌≡◌, ◌≤◌, Some, MatchResult};
+ghost use Rattle.std.specs.List.{list_all};
+ghost use Rattle.gm_notes.specs.Settings.{Settings, config_fault, is_name, is_name_byte};
+
+use crate::text::Text;
+use std::marker::Model;
+
+/// Why settings are refused.
+#[derive(Clone, Copy, Debug, PartialEq, Eq)]
+pub enum ConfigError {
+    /// The name isn't 1 to 40 bytes of `[A-Za-z0-9.-]`.
+    BadName = 17,
+    /// The first job's number is 0.
+    BadNumber = 18,
+    /// There aren't 1 to 1,024 slots.
+    BadSlots = 19,
+    /// There aren't 1 to 65,536 functions.
+    BadFunctions = 20,
+}
+
+impl ConfigError {
+    ghost use Rattle.gm_notes.specs.Settings.{config_error_number};
+
+    /// The number of this refusal.
+    pub fn number(self) -> u8
+        ensures { result ≡ config_error_number self }
+    {
+        self as u8
+    }
+}
+
+/// The settings of a server: the name in job handles, the first job's number, and the most
+/// connections and functions that there may be at once.
+#[derive(Debug, Drop)]
+pub struct Config {
+    name: Text,
+    first_job: u64,
+    slots: u32,
+    max_functions: u32,
+}
+
+impl Model for Config {
+    ghost use Rattle.std.specs.Prelude.{◌≡◌, None};
+    ghost use Rattle.gm_notes.specs.Settings.{Settings, config_fault};
+
+    ghost Value = { Settings };
+
+    ghost view = { λ c. record { name = c.name; first_job = c.first_job; slots = c.slots; max_functions = c.max_functions } };
+
+    ghost invariant = { λ c. config_fault (record { name = c.name; first_job = c.first_job; slots = c.slots; max_functions = c.max_functions }) ≡ None };
+}
+
+/// Whether each byte may stand in a name.
+fn are_name_bytes(name: &[u8]) -> bool
+    ensures { result ≡ list_all is_name_byte name.now }
+{
+    name.iter()
+        .all(|b| b.is_ascii_alphanumeric() || *b == b'.' || *b == b'-')
+}
+
+/// Whether a name may stand in job handles.
+fn is_name(name: &[u8]) -> bool
+    ensures { result ≡ is_name name.now }
+{
+    !name.is_empty() && name.len() <= 40 && are_name_bytes(name)
+}
+
+impl Config {
+    /// Settings with this name in job handles, this number for the first job, and at most so many
+    /// connections and functions. What is wrong is answered in the order of `ConfigError`. It takes no
+    /// memory.
+    pub fn new(
+        name: Vec<u8>,
+        first_job: u64,
+        slots: u32,
+        max_functions: u32,
+    ) -> Result<Config, ConfigError>
+        ensures { let asked : Settings = record { name = name.items; first_job = first_job; slots = slots; max_functions = max_functions } in
+            MatchResult result (λ config. (config ≡ asked)) (λ fault. config_fault asked ≡ Some fault) }
+    {
+        if !is_name(&name) {
+            return Err(ConfigError::BadName);
+        }
+        if first_job == 0 {
+            return Err(ConfigError::BadNumber);
+        }
+        if slots == 0 || slots > 1024 {
+            return Err(ConfigError::BadSlots);
+        }
+        if max_functions == 0 || max_functions > 65536 {
+            return Err(ConfigError::BadFunctions);
+        }
+        Ok(Config {
+            name: Text::from_vec(name),
+            first_job,
+            slots,
+            max_functions,
+        })
+    }
+
+    /// The name in job handles.
+    pub fn name(&self) -> &[u8]
+        ensures { result.now ≡ self.now.name }
+    {
+        self.name.as_slice()
+    }
+
+    /// The number of the first job.
+    pub fn first_job(&self) -> u64
+        ensures { result ≡ self.now.first_job }
+    {
+        self.first_job
+    }
+
+    /// The most connections that there may be at once.
+    pub fn slots(&self) -> u32
+        ensures value { result ≡ self.now.slots }
+        ensures bound { result ≤ 1024 }
+    {
+        self.slots
+    }
+
+    /// The most functions that there may be.
+    pub fn max_functions(&self) -> u32
+        ensures value { result ≡ self.now.max_functions }
+        ensures bound { result ≤ 65536 }
+    {
+        self.max_functions
+    }
+}
