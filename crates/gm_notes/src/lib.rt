@@ -8,6 +8,8 @@ mod note;
 mod plain;
 mod questions;
 mod server;
+#[cfg(test)]
+mod tests;
 mod text;
 
 pub use config::{Config, ConfigError};

@@ -6,7 +6,7 @@ use Rattle.gm_packet.specs.declared.kind.Kind.{Kind}
 use Rattle.gm_packet.specs.declared.request.Request.{Request}
 use Rattle.gm_packet.specs.declared.request.RequestFault.{RequestFault}
 use Rattle.gm_packet.specs.declared.request.RequestFault.TheVariants.{UnknownCommand, BadArguments}
-use Rattle.gm_packet.specs.Kinds.{number, kind_of}
+use Rattle.gm_packet.specs.Kinds.{kind_of}
 use Rattle.gm_packet.specs.Requests.{Asked, Asks, IsKnown, IsSpelled, read_as, read_kind, request_of}
 use Rattle.gm_packet.specs.Views.{asked_of, asked_result}
 use Rattle.gm_packet.proofs.Requests.{number_of_found, kind_of_number, asks, found}
@@ -31,10 +31,11 @@ none_known kind bytes None is none = refl
 none_known kind bytes (Some k) is none = absurd (none (k, number_of_found kind k is))
 
 pub unknown_exactly : (kind : ℕ) (bytes : List ℕ) (r : Result Request RequestFault) → asked_result r ≡ request_of kind bytes → IsErrOf r UnknownCommand ↔ (IsKnown kind → ⊥)
-unknown_exactly kind bytes r e =
-    ((λ was known. known_is (read_as known.0 bytes)
-        (ap (λ o. read_kind o bytes) (sym (kind_of_number known.0)) ∙ ap (λ k. request_of k bytes) known.1 ∙ sym e ∙ ap asked_result was)),
-     (λ none. refused_is r UnknownCommand (e ∙ none_known kind bytes (kind_of kind) refl none)))
+unknown_exactly kind bytes r e = (
+  (λ was known. known_is (read_as known.0 bytes)
+      (ap (λ o. read_kind o bytes) (sym (kind_of_number known.0)) ∙ ap (λ k. request_of k bytes) known.1 ∙ sym e ∙ ap asked_result was)),
+  (λ none. refused_is r UnknownCommand (e ∙ none_known kind bytes (kind_of kind) refl none)),
+)
 
 bad_known : (kind : ℕ) (bytes : List ℕ) (o : Option Kind) → kind_of kind ≡ o → read_kind o bytes ≡ Err BadArguments → IsKnown kind
 bad_known kind bytes None is e = absurd cc
@@ -45,9 +46,10 @@ none_spelled bytes None none = refl
 none_spelled bytes (Some asked) none = absurd (none asked refl)
 
 pub bad_exactly : (kind : ℕ) (bytes : List ℕ) (r : Result Request RequestFault) → asked_result r ≡ request_of kind bytes → IsErrOf r BadArguments ↔ (IsKnown kind × (IsSpelled kind bytes → ⊥))
-bad_exactly kind bytes r e =
-    ((λ was. (bad_known kind bytes (kind_of kind) refl (sym e ∙ ap asked_result was), λ spelled. let f = found kind bytes spelled.0 spelled.1 in let g = sym e ∙ ap asked_result was in let bad : ⊥ = cc in bad)),
-     (λ h. refused_is r BadArguments (e ∙ known_bad kind bytes h.0 h.1)))
+bad_exactly kind bytes r e = (
+  (λ was. (bad_known kind bytes (kind_of kind) refl (sym e ∙ ap asked_result was), λ spelled. let f = found kind bytes spelled.0 spelled.1 in let g = sym e ∙ ap asked_result was in let bad : ⊥ = cc in bad)),
+  (λ h. refused_is r BadArguments (e ∙ known_bad kind bytes h.0 h.1)),
+)
   where
     known_bad : (kind : ℕ) (bytes : List ℕ) (known : IsKnown kind) → (IsSpelled kind bytes → ⊥) → request_of kind bytes ≡ Err BadArguments
     known_bad kind bytes known none =

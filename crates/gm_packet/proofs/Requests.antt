@@ -1,21 +1,20 @@
 -- What reading a request answers, in the words of the relation.
-use Rattle.std.proofs.Common.{◌≡◌, ◌≢◌, ℕ, zero, suc, ◌+◌, ◌<◌, ◌≤◌, ◌^◌, Bool, true, false, cond, ltb, leb, ◌&&◌, List, [], ◌∷◌, ◌++◌, length, take, Option, Some, None, Result, Ok, Err, refl, sym, ap, subst, ◌∙◌, arith}
-use Rattle.std.specs.Prelude.{◌==◌, find, IfOk, IsErrOf}
+use Rattle.std.proofs.Common.{◌≡◌, ℕ, ◌<◌, ◌^◌, Bool, true, false, cond, ltb, leb, ◌&&◌, List, [], ◌∷◌, length, Option, Some, None, Ok, refl, sym, ap, subst, ◌∙◌, arith}
+use Rattle.std.specs.Prelude.{◌==◌, find}
 use Rattle.std.specs.Char.{is_ascii_digit}
-use Rattle.std.specs.List.{list_any, list_all, join_with_byte}
+use Rattle.std.specs.List.{list_all, join_with_byte}
 use Rattle.std.specs.Option.{option_map, option_and_then, ok_or}
 use Rattle.std.specs.Str.Parse.{digits_value}
 use Rattle.std.specs.Io.BufRead.{strip_last}
 use Rattle.std.proofs.lemmas.Bool.{or_parts, or_from, and_parts, ltb-true, leb-true, lt-ltb, le-leb}
 use Rattle.std.proofs.lemmas.Bool.Decides.{nat_tests}
-use Rattle.std.proofs.lemmas.Option.{cond_some, some_pair_parts, same_Some}
+use Rattle.std.proofs.lemmas.Option.{some_pair_parts, same_Some}
 use Rattle.gm_packet.specs.declared.kind.Kind.{Kind}
 use Rattle.gm_packet.specs.declared.kind.Kind.TheVariants.{CanDo, CantDo, ResetAbilities, PreSleep, SubmitJob, GrabJob, WorkStatus, WorkComplete, WorkFail, GetStatus, EchoReq, SubmitJobBg, SubmitJobHigh, SetClientId, CanDoTimeout, AllYours, WorkException, OptionReq, WorkData, WorkWarning, GrabJobUniq, SubmitJobHighBg, SubmitJobLow, SubmitJobLowBg}
-use Rattle.gm_packet.specs.declared.request.RequestFault.{RequestFault}
-use Rattle.gm_packet.specs.declared.request.RequestFault.TheVariants.{UnknownCommand, BadArguments}
+use Rattle.gm_packet.specs.declared.request.RequestFault.TheVariants.{BadArguments}
 use Rattle.gm_packet.specs.Kinds.{Shape, Empty, Plain, Opaque, Timed, shape, number, all_kinds, kind_of}
-use Rattle.gm_packet.specs.Requests.{Asked, Asks, Spells, IsTimeout, is_timeout, seconds_of, with_timeout, has_nul, LackNul, parts, arguments_of, read_as, read_kind, request_of}
-use Rattle.gm_packet.proofs.Reading.{Accepted, parts_some, parts_again, plain_spelled, plain_accepted, opaque_spelled, opaque_accepted}
+use Rattle.gm_packet.specs.Requests.{Asked, Asks, Spells, IsTimeout, is_timeout, with_timeout, has_nul, parts, arguments_of, read_as, read_kind, request_of}
+use Rattle.gm_packet.proofs.Reading.{parts_some, parts_again, plain_spelled, plain_accepted, opaque_spelled, opaque_accepted}
 
 -- ---- the table
 

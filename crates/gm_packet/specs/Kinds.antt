@@ -41,29 +41,29 @@ number SubmitJobLowBg = 34
 
 -- the arguments
 abbrev pub shape : Kind → Shape
-shape CanDo = Plain 0            -- function
-shape CantDo = Plain 0           -- function
+shape CanDo = Plain 0  -- function
+shape CantDo = Plain 0  -- function
 shape ResetAbilities = Empty
 shape PreSleep = Empty
-shape SubmitJob = Opaque 2       -- function, unique id, body
+shape SubmitJob = Opaque 2  -- function, unique id, body
 shape GrabJob = Empty
-shape WorkStatus = Plain 2       -- handle, numerator, denominator
-shape WorkComplete = Opaque 1    -- handle, body
-shape WorkFail = Plain 0         -- handle
-shape GetStatus = Plain 0        -- handle
-shape EchoReq = Opaque 0         -- body
-shape SubmitJobBg = Opaque 2     -- function, unique id, body
-shape SubmitJobHigh = Opaque 2   -- function, unique id, body
-shape SetClientId = Plain 0      -- id
-shape CanDoTimeout = Timed       -- function, timeout
+shape WorkStatus = Plain 2  -- handle, numerator, denominator
+shape WorkComplete = Opaque 1  -- handle, body
+shape WorkFail = Plain 0  -- handle
+shape GetStatus = Plain 0  -- handle
+shape EchoReq = Opaque 0  -- body
+shape SubmitJobBg = Opaque 2  -- function, unique id, body
+shape SubmitJobHigh = Opaque 2  -- function, unique id, body
+shape SetClientId = Plain 0  -- id
+shape CanDoTimeout = Timed  -- function, timeout
 shape AllYours = Empty
-shape WorkException = Opaque 1   -- handle, body
-shape OptionReq = Plain 0        -- option name
-shape WorkData = Opaque 1        -- handle, body
-shape WorkWarning = Opaque 1     -- handle, body
+shape WorkException = Opaque 1  -- handle, body
+shape OptionReq = Plain 0  -- option name
+shape WorkData = Opaque 1  -- handle, body
+shape WorkWarning = Opaque 1  -- handle, body
 shape GrabJobUniq = Empty
-shape SubmitJobHighBg = Opaque 2 -- function, unique id, body
-shape SubmitJobLow = Opaque 2    -- function, unique id, body
+shape SubmitJobHighBg = Opaque 2  -- function, unique id, body
+shape SubmitJobLow = Opaque 2  -- function, unique id, body
 shape SubmitJobLowBg = Opaque 2  -- function, unique id, body
 
 abbrev pub all_kinds : List Kind

@@ -1,5 +1,6 @@
 pub mod Answers
 pub mod Kinds
+pub mod Laws
 pub mod Packets
 pub mod Requests
 pub mod Texts

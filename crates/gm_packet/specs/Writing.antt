@@ -1,10 +1,9 @@
 -- How packets are spelled by who writes them.
-use Rattle.std.specs.Prelude.{◌≡◌, ℕ, ◌-◌, ◌<◌, ◌^◌, Bool, true, false, if◌then◌else◌, List, [], ◌∷◌, ◌++◌, length, take, map, decimal}
-use Rattle.std.specs.List.{list_any, join_with_byte}
-use Rattle.std.specs.Borrow.{Bor}
+use Rattle.std.specs.Prelude.{ℕ, ◌-◌, ◌<◌, ◌^◌, Bool, if◌then◌else◌, List, [], ◌∷◌, ◌++◌, length, decimal}
+use Rattle.std.specs.List.{join_with_byte}
 use Rattle.gm_packet.specs.Kinds.{Shape, Empty, Plain, Opaque, Timed, shape, number}
 use Rattle.gm_packet.specs.Packets.{request_magic, response_magic, packet}
-use Rattle.gm_packet.specs.Requests.{Asked, has_nul, LackNul}
+use Rattle.gm_packet.specs.Requests.{Asked, LackNul}
 
 -- No argument but the last holds NUL, and the data's length fits 32 bits: what a packet can carry.
 pub record Fits (texts : List (List ℕ)) : Type 0 where

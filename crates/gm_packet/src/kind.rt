@@ -6,7 +6,7 @@ ghost use Rattle.gm_packet.specs.Kinds.{number, kind_of};
 /// A request that this server knows, of the Gearman PROTOCOL document's types 1 to 36.
 ///
 /// SUBMIT_JOB_SCHED (35) and SUBMIT_JOB_EPOCH (36) aren't among them: nothing here starts a job by
-/// the calendar.
+/// the calendar. What each asks is said at the variant of `Request` that has its name.
 #[derive(Clone, Copy, Debug, PartialEq, Eq)]
 pub enum Kind {
     CanDo,

@@ -8,8 +8,11 @@
 mod arguments;
 mod header;
 mod kind;
+pub mod laws;
 mod request;
 mod response;
+#[cfg(test)]
+mod tests;
 mod texts;
 mod writing;
 

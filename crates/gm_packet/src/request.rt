@@ -1,13 +1,15 @@
 //! Requests: what clients and workers send.
 
-ghost use Rattle.std.specs.Prelude.{◌≡◌, ◌↔◌, [], ◌∷◌, ◌++◌, IfOk, IsErrOf, IsTrue, OnOk, OnErr, MatchOption, decimal};
+ghost use Rattle.std.specs.Prelude.{◌≡◌, ◌↔◌, [], ◌∷◌, ◌++◌, ◌+◌, ◌<◌, length, vec_len, vec_capacity, IfOk, IsErrOf, IsTrue, OnOk, OnErr, MatchOption, decimal};
 ghost use Rattle.std.specs.Option.{option_map};
 ghost use Rattle.gm_packet.specs.Requests.{Asks, IsKnown, IsSpelled, read_as, request_of};
 ghost use Rattle.gm_packet.specs.Texts.{texts_of};
 ghost use Rattle.gm_packet.specs.Writing.{Fits, request_packet, request_texts};
 ghost use Rattle.gm_packet.specs.Views.{asked_of, asked_result};
 
-use crate::arguments::{function_and_timeout, no_argument, one_plain, three_opaque, three_plain, two_opaque};
+use crate::arguments::{
+    function_and_timeout, no_argument, one_plain, three_opaque, three_plain, two_opaque,
+};
 use crate::header::REQUEST_MAGIC;
 use crate::kind::Kind;
 use crate::texts::Texts;
@@ -26,12 +28,16 @@ pub enum RequestFault {
 
 /// A request, its arguments borrowed from the data of its packet. What it asks for, and who sends it,
 /// says the Gearman PROTOCOL document under the same names.
-#[derive(Clone, Copy, Debug)]
+#[derive(Clone, Copy, Debug, PartialEq, Eq)]
 pub enum Request<'a> {
     /// A worker can do jobs of this function.
-    CanDo { function: &'a [u8] },
+    CanDo {
+        function: &'a [u8],
+    },
     /// A worker can't do them any longer.
-    CantDo { function: &'a [u8] },
+    CantDo {
+        function: &'a [u8],
+    },
     /// A worker can do nothing.
     ResetAbilities,
     /// A worker wants a NOOP when there is a job for it.
@@ -51,13 +57,22 @@ pub enum Request<'a> {
         denominator: &'a [u8],
     },
     /// A worker has done its job.
-    WorkComplete { handle: &'a [u8], body: &'a [u8] },
+    WorkComplete {
+        handle: &'a [u8],
+        body: &'a [u8],
+    },
     /// A worker's job failed.
-    WorkFail { handle: &'a [u8] },
+    WorkFail {
+        handle: &'a [u8],
+    },
     /// A client asks how far a job is.
-    GetStatus { handle: &'a [u8] },
+    GetStatus {
+        handle: &'a [u8],
+    },
     /// The sender wants its bytes back.
-    EchoReq { body: &'a [u8] },
+    EchoReq {
+        body: &'a [u8],
+    },
     /// As `SubmitJob`, without listening.
     SubmitJobBg {
         function: &'a [u8],
@@ -71,19 +86,35 @@ pub enum Request<'a> {
         body: &'a [u8],
     },
     /// A connection names itself.
-    SetClientId { id: &'a [u8] },
+    SetClientId {
+        id: &'a [u8],
+    },
     /// As `CanDo`, with the seconds that a job may take; 0 is no limit.
-    CanDoTimeout { function: &'a [u8], timeout: u32 },
+    CanDoTimeout {
+        function: &'a [u8],
+        timeout: u32,
+    },
     /// Nothing: a leftover of the protocol.
     AllYours,
     /// A worker's job met an exception.
-    WorkException { handle: &'a [u8], body: &'a [u8] },
+    WorkException {
+        handle: &'a [u8],
+        body: &'a [u8],
+    },
     /// A connection sets an option.
-    OptionReq { name: &'a [u8] },
+    OptionReq {
+        name: &'a [u8],
+    },
     /// A part of a job's result.
-    WorkData { handle: &'a [u8], body: &'a [u8] },
+    WorkData {
+        handle: &'a [u8],
+        body: &'a [u8],
+    },
     /// A warning from a job.
-    WorkWarning { handle: &'a [u8], body: &'a [u8] },
+    WorkWarning {
+        handle: &'a [u8],
+        body: &'a [u8],
+    },
     /// As `GrabJob`, and the answer also has the unique id.
     GrabJobUniq,
     /// As `SubmitJobHigh`, without listening.
@@ -141,7 +172,11 @@ fn read_as(kind: Kind, bytes: &[u8]) -> Option<Request<'_>>
         }
         Kind::WorkStatus => {
             let (handle, numerator, denominator) = three_plain(bytes)?;
-            Some(Request::WorkStatus { handle, numerator, denominator })
+            Some(Request::WorkStatus {
+                handle,
+                numerator,
+                denominator,
+            })
         }
         Kind::EchoReq => Some(Request::EchoReq { body: bytes }),
         Kind::WorkComplete => {
@@ -162,27 +197,51 @@ fn read_as(kind: Kind, bytes: &[u8]) -> Option<Request<'_>>
         }
         Kind::SubmitJob => {
             let (function, unique, body) = three_opaque(bytes)?;
-            Some(Request::SubmitJob { function, unique, body })
+            Some(Request::SubmitJob {
+                function,
+                unique,
+                body,
+            })
         }
         Kind::SubmitJobBg => {
             let (function, unique, body) = three_opaque(bytes)?;
-            Some(Request::SubmitJobBg { function, unique, body })
+            Some(Request::SubmitJobBg {
+                function,
+                unique,
+                body,
+            })
         }
         Kind::SubmitJobHigh => {
             let (function, unique, body) = three_opaque(bytes)?;
-            Some(Request::SubmitJobHigh { function, unique, body })
+            Some(Request::SubmitJobHigh {
+                function,
+                unique,
+                body,
+            })
         }
         Kind::SubmitJobHighBg => {
             let (function, unique, body) = three_opaque(bytes)?;
-            Some(Request::SubmitJobHighBg { function, unique, body })
+            Some(Request::SubmitJobHighBg {
+                function,
+                unique,
+                body,
+            })
         }
         Kind::SubmitJobLow => {
             let (function, unique, body) = three_opaque(bytes)?;
-            Some(Request::SubmitJobLow { function, unique, body })
+            Some(Request::SubmitJobLow {
+                function,
+                unique,
+                body,
+            })
         }
         Kind::SubmitJobLowBg => {
             let (function, unique, body) = three_opaque(bytes)?;
-            Some(Request::SubmitJobLowBg { function, unique, body })
+            Some(Request::SubmitJobLowBg {
+                function,
+                unique,
+                body,
+            })
         }
         Kind::ResetAbilities => {
             no_argument(bytes)?;
@@ -299,15 +358,41 @@ fn texts<'a>(request: &Request<'a>) -> Texts<'a>
         Request::WorkException { handle, body } => Texts::two(handle, body),
         Request::WorkData { handle, body } => Texts::two(handle, body),
         Request::WorkWarning { handle, body } => Texts::two(handle, body),
-        Request::WorkStatus { handle, numerator, denominator } => {
-            Texts::three(handle, numerator, denominator)
-        }
-        Request::SubmitJob { function, unique, body } => Texts::three(function, unique, body),
-        Request::SubmitJobBg { function, unique, body } => Texts::three(function, unique, body),
-        Request::SubmitJobHigh { function, unique, body } => Texts::three(function, unique, body),
-        Request::SubmitJobHighBg { function, unique, body } => Texts::three(function, unique, body),
-        Request::SubmitJobLow { function, unique, body } => Texts::three(function, unique, body),
-        Request::SubmitJobLowBg { function, unique, body } => Texts::three(function, unique, body),
+        Request::WorkStatus {
+            handle,
+            numerator,
+            denominator,
+        } => { Texts::three(handle, numerator, denominator) }
+        Request::SubmitJob {
+            function,
+            unique,
+            body,
+        } => Texts::three(function, unique, body),
+        Request::SubmitJobBg {
+            function,
+            unique,
+            body,
+        } => Texts::three(function, unique, body),
+        Request::SubmitJobHigh {
+            function,
+            unique,
+            body,
+        } => Texts::three(function, unique, body),
+        Request::SubmitJobHighBg {
+            function,
+            unique,
+            body,
+        } => Texts::three(function, unique, body),
+        Request::SubmitJobLow {
+            function,
+            unique,
+            body,
+        } => Texts::three(function, unique, body),
+        Request::SubmitJobLowBg {
+            function,
+            unique,
+            body,
+        } => Texts::three(function, unique, body),
     }
 }
 
@@ -326,12 +411,15 @@ pub fn request_fits(request: &Request<'_>) -> bool
     }
 }
 
-/// Appends the packet of a request that a packet can carry (`request_fits`). Want of memory leaves the
-/// bytes as they were.
+/// Appends the packet of a request that a packet can carry (`request_fits`). It fails only where `out`
+/// lacks the room and none is to be had, and leaves the bytes as they were.
 pub fn write_request(request: &Request<'_>, out: &mut Vec<u8>) -> Result<(), AllocError>
     requires { Fits (request_texts (asked_of request.now)) }
     ensures ok { OnOk result (out.new.items ≡ out.old.items ++ request_packet (asked_of request.now)) }
     ensures err { OnErr result (out.new.items ≡ out.old.items) }
+
+    // It fails only where room is missing.
+    ensures full { OnErr result (vec_capacity out.old < vec_len out.old + length (request_packet (asked_of request.now))) }
 {
     let number = kind(request).number();
     match timed(request) {
@@ -339,7 +427,12 @@ pub fn write_request(request: &Request<'_>, out: &mut Vec<u8>) -> Result<(), All
         Some((function, timeout)) => {
             let mut buffer = Buffer::new();
             let digits = buffer.format(timeout).as_bytes();
-            put_packet(out, &REQUEST_MAGIC, number, Texts::two(function, digits).as_slice())
+            put_packet(
+                out,
+                &REQUEST_MAGIC,
+                number,
+                Texts::two(function, digits).as_slice(),
+            )
         }
     }
 }

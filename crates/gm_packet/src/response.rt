@@ -1,6 +1,6 @@
 //! Responses: what the server sends.
 
-ghost use Rattle.std.specs.Prelude.{◌≡◌, ◌-◌, ◌^◌, ◌↔◌, ◌++◌, min, length, IsTrue, OnOk, OnErr};
+ghost use Rattle.std.specs.Prelude.{◌≡◌, ◌+◌, ◌-◌, ◌<◌, ◌^◌, ◌↔◌, ◌++◌, min, length, vec_len, vec_capacity, IsTrue, OnOk, OnErr};
 ghost use Rattle.gm_packet.specs.Texts.{texts_of};
 ghost use Rattle.gm_packet.specs.Writing.{Fits, flag, answer_packet};
 ghost use Rattle.gm_packet.specs.Answers.{answer_of};
@@ -12,12 +12,14 @@ use std::alloc::AllocError;
 
 /// A response, its arguments borrowed. What each tells, and whom, says the Gearman PROTOCOL document
 /// under the same names.
-#[derive(Clone, Copy, Debug)]
+#[derive(Clone, Copy, Debug, PartialEq, Eq)]
 pub enum Response<'a> {
     /// There is a job for a worker that went to sleep.
     Noop,
     /// A submission was taken, and this is the job's handle.
-    JobCreated { handle: &'a [u8] },
+    JobCreated {
+        handle: &'a [u8],
+    },
     /// No job waits that the worker can do.
     NoJob,
     /// The job that a worker asked for.
@@ -33,13 +35,23 @@ pub enum Response<'a> {
         denominator: &'a [u8],
     },
     /// A job is done.
-    WorkComplete { handle: &'a [u8], body: &'a [u8] },
+    WorkComplete {
+        handle: &'a [u8],
+        body: &'a [u8],
+    },
     /// A job failed.
-    WorkFail { handle: &'a [u8] },
+    WorkFail {
+        handle: &'a [u8],
+    },
     /// The bytes that came with an ECHO_REQ.
-    EchoRes { body: &'a [u8] },
+    EchoRes {
+        body: &'a [u8],
+    },
     /// A request was refused.
-    Error { code: &'a [u8], text: &'a [u8] },
+    Error {
+        code: &'a [u8],
+        text: &'a [u8],
+    },
     /// What is known of a job.
     StatusRes {
         handle: &'a [u8],
@@ -49,13 +61,24 @@ pub enum Response<'a> {
         denominator: &'a [u8],
     },
     /// A job met an exception.
-    WorkException { handle: &'a [u8], body: &'a [u8] },
+    WorkException {
+        handle: &'a [u8],
+        body: &'a [u8],
+    },
     /// An option was set.
-    OptionRes { name: &'a [u8] },
+    OptionRes {
+        name: &'a [u8],
+    },
     /// A part of a job's result.
-    WorkData { handle: &'a [u8], body: &'a [u8] },
+    WorkData {
+        handle: &'a [u8],
+        body: &'a [u8],
+    },
     /// A warning from a job.
-    WorkWarning { handle: &'a [u8], body: &'a [u8] },
+    WorkWarning {
+        handle: &'a [u8],
+        body: &'a [u8],
+    },
     /// As `JobAssign`, with the unique id.
     JobAssignUniq {
         handle: &'a [u8],
@@ -111,16 +134,29 @@ fn texts<'a>(response: &Response<'a>) -> Texts<'a>
         Response::WorkData { handle, body } => Texts::two(handle, body),
         Response::WorkWarning { handle, body } => Texts::two(handle, body),
         Response::Error { code, text } => Texts::two(code, text),
-        Response::JobAssign { handle, function, body } => Texts::three(handle, function, body),
-        Response::WorkStatus { handle, numerator, denominator } => {
-            Texts::three(handle, numerator, denominator)
-        }
-        Response::JobAssignUniq { handle, function, unique, body } => {
-            Texts::four(handle, function, unique, body)
-        }
-        Response::StatusRes { handle, known, running, numerator, denominator } => {
-            Texts::five(handle, flag(*known), flag(*running), numerator, denominator)
-        }
+        Response::JobAssign {
+            handle,
+            function,
+            body,
+        } => Texts::three(handle, function, body),
+        Response::WorkStatus {
+            handle,
+            numerator,
+            denominator,
+        } => { Texts::three(handle, numerator, denominator) }
+        Response::JobAssignUniq {
+            handle,
+            function,
+            unique,
+            body,
+        } => { Texts::four(handle, function, unique, body) }
+        Response::StatusRes {
+            handle,
+            known,
+            running,
+            numerator,
+            denominator,
+        } => { Texts::five(handle, flag(*known), flag(*running), numerator, denominator) }
     }
 }
 
@@ -140,12 +176,20 @@ pub fn response_fits(response: &Response<'_>) -> bool
     fits(texts(response).as_slice())
 }
 
-/// Appends the packet of a response that a packet can carry (`response_fits`). Want of memory leaves
-/// the bytes as they were.
+/// Appends the packet of a response that a packet can carry (`response_fits`). It fails only where `out`
+/// lacks the room and none is to be had, and leaves the bytes as they were.
 pub fn write_response(response: &Response<'_>, out: &mut Vec<u8>) -> Result<(), AllocError>
     requires { Fits (answer_of response.now).arguments }
     ensures ok { OnOk result (out.new.items ≡ out.old.items ++ answer_packet (answer_of response.now)) }
     ensures err { OnErr result (out.new.items ≡ out.old.items) }
+
+    // It fails only where room is missing.
+    ensures full { OnErr result (vec_capacity out.old < vec_len out.old + length (answer_packet (answer_of response.now))) }
 {
-    put_packet(out, &RESPONSE_MAGIC, kind_of(response), texts(response).as_slice())
+    put_packet(
+        out,
+        &RESPONSE_MAGIC,
+        kind_of(response),
+        texts(response).as_slice(),
+    )
 }

@@ -16,31 +16,46 @@ impl<'a> Texts<'a> {
     pub fn zero() -> Self
         ensures { texts_of result ≡ [] }
     {
-        Texts { all: [b"", b"", b"", b"", b""], count: 0 }
+        Texts {
+            all: [b"", b"", b"", b"", b""],
+            count: 0,
+        }
     }
 
     pub fn one(first: &'a [u8]) -> Self
         ensures { texts_of result ≡ first.now ∷ [] }
     {
-        Texts { all: [first, b"", b"", b"", b""], count: 1 }
+        Texts {
+            all: [first, b"", b"", b"", b""],
+            count: 1,
+        }
     }
 
     pub fn two(first: &'a [u8], second: &'a [u8]) -> Self
         ensures { texts_of result ≡ first.now ∷ second.now ∷ [] }
     {
-        Texts { all: [first, second, b"", b"", b""], count: 2 }
+        Texts {
+            all: [first, second, b"", b"", b""],
+            count: 2,
+        }
     }
 
     pub fn three(first: &'a [u8], second: &'a [u8], third: &'a [u8]) -> Self
         ensures { texts_of result ≡ first.now ∷ second.now ∷ third.now ∷ [] }
     {
-        Texts { all: [first, second, third, b"", b""], count: 3 }
+        Texts {
+            all: [first, second, third, b"", b""],
+            count: 3,
+        }
     }
 
     pub fn four(first: &'a [u8], second: &'a [u8], third: &'a [u8], fourth: &'a [u8]) -> Self
         ensures { texts_of result ≡ first.now ∷ second.now ∷ third.now ∷ fourth.now ∷ [] }
     {
-        Texts { all: [first, second, third, fourth, b""], count: 4 }
+        Texts {
+            all: [first, second, third, fourth, b""],
+            count: 4,
+        }
     }
 
     pub fn five(
@@ -52,7 +67,10 @@ impl<'a> Texts<'a> {
     ) -> Self
         ensures { texts_of result ≡ first.now ∷ second.now ∷ third.now ∷ fourth.now ∷ fifth.now ∷ [] }
     {
-        Texts { all: [first, second, third, fourth, fifth], count: 5 }
+        Texts {
+            all: [first, second, third, fourth, fifth],
+            count: 5,
+        }
     }
 
     /// The arguments as a slice.

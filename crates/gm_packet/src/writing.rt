@@ -89,7 +89,8 @@ fn put_data(out: &mut Vec<u8>, texts: &[&[u8]])
     }
 }
 
-/// Appends the packet of this type with these arguments, all of it or nothing.
+/// Appends the packet of this type with these arguments, all of it or nothing. It fails only where
+/// `out` lacks the room and none is to be had.
 pub fn put_packet(
     out: &mut Vec<u8>,
     magic: &[u8; 4],
@@ -100,6 +101,8 @@ pub fn put_packet(
     ensures ok { OnOk result (out.new.items ≡ out.old.items
         ++ packet magic.now kind (join_with_byte 0 (map (λ text. text.now) texts.now))) }
     ensures err { OnErr result (out.new.items ≡ out.old.items) }
+    ensures full { OnErr result (vec_capacity out.old
+        < vec_len out.old + length (packet magic.now kind (join_with_byte 0 (map (λ text. text.now) texts.now)))) }
 {
     let size = data_len(texts) as u32;
     out.reserve(12 + size as usize)?;

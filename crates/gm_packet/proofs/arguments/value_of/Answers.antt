@@ -1,4 +1,4 @@
-use Rattle.std.proofs.Common.{◌≡◌, ◌+◌, ◌*◌, ◌<◌, ◌≤◌, ◌^◌, length, get_or, take, arith, ap, ◌∙◌}
+use Rattle.std.proofs.Common.{◌+◌, ◌*◌, arith, ap, ◌∙◌}
 use Rattle.gm_packet.proofs.Timeouts.{Step, step}
 use Rattle.gm_packet.proofs.arguments.value_of.Goals as goal
 use Rattle.gm_packet.proofs.arguments.value_of.Goals.{In-loop-digit}

@@ -1,5 +1,5 @@
-use Rattle.std.proofs.Common.{arith, length-append, length, ap, ℕ, List}
-use Rattle.gm_packet.proofs.Joins.{whole_is, no_text, whole_len}
+use Rattle.std.proofs.Common.{arith}
+use Rattle.gm_packet.proofs.Joins.{no_text, whole_len}
 use Rattle.gm_packet.proofs.writing.data_len.Goals as goal
 
 pub returns-in-len1-up : goal.returns-in-len1-up

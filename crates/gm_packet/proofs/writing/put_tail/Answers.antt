@@ -1,5 +1,5 @@
-use Rattle.std.proofs.Common.{arith, length-append, length}
-use Rattle.gm_packet.proofs.Joins.{behind, room_more, no_text}
+use Rattle.std.proofs.Common.{arith}
+use Rattle.gm_packet.proofs.Joins.{room_more, no_text}
 use Rattle.gm_packet.proofs.writing.put_tail.Goals as goal
 
 pub put-requires : goal.put-requires

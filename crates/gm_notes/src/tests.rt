@@ -1,0 +1,169 @@
+//! Worked answers, and that calls which can be refused for memory succeed where there is memory.
+
+use crate::{
+    ApplyError, Config, ConfigError, Done, Event, JobServer, PlainServer, Text, UnitFault,
+};
+use std::alloc::{AllocError, Global};
+use std::test::Fail;
+
+fn config(
+    alloc: Global,
+    name: &[u8],
+    first: u64,
+    slots: u32,
+    functions: u32,
+) -> Result<Result<Config, ConfigError>, AllocError> {
+    Ok(Config::new(Vec::from_slice(alloc, name)?, first, slots, functions))
+}
+
+fn server(rt: &HostRuntime, slots: u32) -> Result<PlainServer, Fail> {
+    let config = config(rt.alloc(), b"gmd", 1, slots, 65536)?
+        .ok()
+        .ok_or("settings")?;
+    Ok(PlainServer::new(rt.alloc(), config)?)
+}
+
+#[test]
+fn settings_are_refused_in_their_order(rt: HostRuntime) -> Result<(), Fail> {
+    let alloc = rt.alloc();
+    let refused = [
+        (b"a:b".as_slice(), 0, 1025, 65537, 17),
+        (b"".as_slice(), 0, 1025, 65537, 17),
+        (b"gmd".as_slice(), 0, 1025, 65537, 18),
+        (b"gmd".as_slice(), 1, 1025, 65537, 19),
+        (b"gmd".as_slice(), 1, 0, 65537, 19),
+        (b"gmd".as_slice(), 1, 1024, 65537, 20),
+        (b"gmd".as_slice(), 1, 1024, 0, 20),
+    ];
+    for (name, first, slots, functions, number) in refused {
+        let fault = config(alloc, name, first, slots, functions)?
+            .err()
+            .ok_or("taken")?;
+        assert_eq!(rt; fault.number(), number);
+    }
+    let taken = config(alloc, b"gmd", 1, 1024, 65536)?
+        .ok()
+        .ok_or("refused")?;
+    assert_eq!(rt; taken.name(), b"gmd".as_slice());
+    assert_eq!(rt; taken.first_job(), 1);
+    assert_eq!(rt; taken.slots(), 1024);
+    assert_eq!(rt; taken.max_functions(), 65536);
+    Ok(())
+}
+
+#[test]
+fn numbers_of_refusals(rt: HostRuntime) {
+    assert_eq!(rt; UnitFault::BadMagic.number(), 3);
+    assert_eq!(rt; UnitFault::PacketTooLarge.number(), 4);
+    assert_eq!(rt; ApplyError::Memory.number(), 6);
+    assert_eq!(rt; ApplyError::NotOpen.number(), 10);
+    assert_eq!(rt; ApplyError::NoSlot.number(), 11);
+}
+
+#[test]
+fn texts_are_kept(rt: HostRuntime) -> Result<(), Fail> {
+    let copied = Text::copy_of(rt.alloc(), b"ab")?;
+    assert_eq!(rt; copied.as_slice(), b"ab".as_slice());
+    let made = Text::from_vec(Vec::from_slice(rt.alloc(), b"cd")?);
+    assert_eq!(rt; made.as_slice(), b"cd".as_slice());
+    Ok(())
+}
+
+const NOTHING: Done = Done {
+    opened: None,
+    created: None,
+};
+
+#[test]
+fn an_echo_is_answered(rt: HostRuntime) -> Result<(), Fail> {
+    let mut server = server(&rt, 2)?;
+    let opened = server.apply(&Event::Open { addr: b"127.0.0.1" });
+    assert_eq!(rt;
+        opened,
+        Ok(Done {
+            opened: Some(0),
+            created: None
+        })
+    );
+    let echo = Event::Packet {
+        slot: 0,
+        kind: 16,
+        bytes: b"hi",
+    };
+    assert_eq!(rt; server.apply(&echo), Ok(NOTHING));
+    assert_eq!(rt;
+        server.drain(0).as_slice(),
+        b"\0RES\0\0\0\x11\0\0\0\x02hi".as_slice()
+    );
+    assert_eq!(rt; server.drain(0).as_slice(), b"".as_slice());
+    // SUBMIT_JOB_EPOCH is never served, and CAN_DO isn't served yet: each is unknown, whatever its data.
+    for kind in [36, 1] {
+        let unknown = Event::Packet {
+            slot: 0,
+            kind,
+            bytes: b"\0\0",
+        };
+        assert_eq!(rt; server.apply(&unknown), Ok(NOTHING));
+        assert_eq!(rt;
+            server.drain(0).as_slice(),
+            b"\0RES\0\0\0\x13\0\0\0\x1funknown_command\0unknown command".as_slice()
+        );
+    }
+    Ok(())
+}
+
+#[test]
+fn a_fault_shuts_its_slot(rt: HostRuntime) -> Result<(), Fail> {
+    let mut server = server(&rt, 2)?;
+    for slot in 0..2u32 {
+        let opened = server.apply(&Event::Open { addr: b"a" });
+        assert_eq!(rt;
+            opened,
+            Ok(Done {
+                opened: Some(slot),
+                created: None
+            })
+        );
+    }
+    assert_eq!(rt;
+        server.apply(&Event::Open { addr: b"a" }),
+        Err(ApplyError::NoSlot)
+    );
+    let fault = Event::Fault {
+        slot: 1,
+        fault: UnitFault::BadMagic,
+    };
+    assert_eq!(rt; server.shut(1), false);
+    assert_eq!(rt; server.apply(&fault), Ok(NOTHING));
+    assert_eq!(rt; server.shut(1), true);
+    assert_eq!(rt; server.shut(0), false);
+    assert_eq!(rt; server.shut(2), false);
+    assert_eq!(rt; server.apply(&fault), Err(ApplyError::NotOpen));
+    let echo = Event::Packet {
+        slot: 1,
+        kind: 16,
+        bytes: b"",
+    };
+    assert_eq!(rt; server.apply(&echo), Err(ApplyError::NotOpen));
+    let nowhere = Event::Packet {
+        slot: 2,
+        kind: 16,
+        bytes: b"",
+    };
+    assert_eq!(rt; server.apply(&nowhere), Err(ApplyError::NotOpen));
+    assert_eq!(rt;
+        server.drain(1).as_slice(),
+        b"\0RES\0\0\0\x13\0\0\0\x13bad_magic\0bad magic".as_slice()
+    );
+    assert_eq!(rt; server.drain(2).as_slice(), b"".as_slice());
+    let large = Event::Fault {
+        slot: 0,
+        fault: UnitFault::PacketTooLarge,
+    };
+    assert_eq!(rt; server.apply(&large), Ok(NOTHING));
+    assert_eq!(rt;
+        server.drain(0).as_slice(),
+        b"\0RES\0\0\0\x13\0\0\0\x21packet_too_large\0packet too large".as_slice()
+    );
+    Ok(())
+}
