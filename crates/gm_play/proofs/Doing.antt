@@ -1,0 +1,171 @@
+-- Orders that are done.
+use Rattle.std.proofs.Common.{◌≡◌, ◌<◌, ℕ, arith, Bool, true, false, ◌&&◌, List, [], ◌∷◌, ◌++◌, length, get_or, set, Option, Some, None, refl, sym, ap, subst, ◌∙◌, append_assoc, append-nil, length-set}
+use Rattle.gm_feeder.specs.declared.units.Limits.{Limits}
+use Rattle.gm_notes.specs.declared.note.Note.{Note}
+use Rattle.gm_notes.specs.declared.note.Note.TheVariants.{Opened}
+use Rattle.gm_notes.specs.declared.event.ApplyError.TheVariants.{NotOpen, NoSlot}
+use Rattle.gm_notes.specs.Settings.{Settings}
+use Rattle.gm_notes.specs.Notes.{is_open, is_shut, takes_units}
+use Rattle.gm_notes.specs.Steps.{Step, Open, run}
+use Rattle.gm_notes.specs.Servers.{is_closing}
+use Rattle.gm_play.specs.declared.connection.Connection.{Connection}
+use Rattle.gm_play.specs.Fronts.{Front, fresh, with_rest, GivesPiece}
+use Rattle.gm_play.specs.Scripts as scripts
+use Rattle.gm_play.specs.Prints.{open_text, refused_text, bad_text, told, drained, Opening, Giving}
+use Rattle.gm_play.specs.Connections.{IsPlace, IsTold, IsHeld, IsReady, TellsAll, Plays, GetsSlot, Gives}
+use Rattle.gm_play.proofs.Places.{each_set, place_stays, other_slot, same_slot}
+use Rattle.gm_play.proofs.Steps.{IsFree, free_is, opened_steps, refused_steps, opened_notes, opened_open, opened_shut, opened_here}
+
+-- ---- an opening
+
+-- the front once this address got slot c
+abbrev pub opened : ℕ → List ℕ → Front → Front
+opened c addr front = record { steps = Open addr ∷ front.steps; rests = with_rest c [] front.rests }
+
+pub free_here : {S : Type 0} (agrees : S → Settings → List Step → Type 0) (k : Settings) (limits : Limits) (front : Front) (c : ℕ) (addr : List ℕ) (server server' : S) (places : List (Option Connection))
+    → IsReady agrees k limits front server places → GetsSlot agrees k front.steps addr (Some c) server' → IsFree 0 k.slots (run k front.steps).notes c
+free_here agrees k limits front c addr server server' places h g = free_is 0 k.slots (run k front.steps).notes c (sym g.got)
+
+pub in_places : {S : Type 0} (agrees : S → Settings → List Step → Type 0) (k : Settings) (limits : Limits) (front : Front) (c : ℕ) (addr : List ℕ) (server server' : S) (places : List (Option Connection))
+    → IsReady agrees k limits front server places → GetsSlot agrees k front.steps addr (Some c) server' → c < length places
+in_places agrees k limits front c addr server server' places h g =
+    let free = free_here agrees k limits front c addr server server' places h g in
+    omega (arith, free.high, h.count)
+
+not_closing : (o s : Bool) → o ≡ false → false ≡ (o && s)
+not_closing true s e = absurd cc
+not_closing false s e = refl
+
+pub opens : {S : Type 0} (agrees : S → Settings → List Step → Type 0) (k : Settings) (limits : Limits) (front : Front) (c : ℕ) (addr : List ℕ) (server server' : S) (places : List (Option Connection)) (connection : Connection)
+    → IsReady agrees k limits front server places → GetsSlot agrees k front.steps addr (Some c) server' → connection.feeder.limits ≡ limits → connection.feeder.pending ≡ [] → connection.feeder.fault ≡ None → connection.told_shut ≡ false
+    → IsHeld agrees k limits (run k front.steps) (opened c addr front) server' (set places c (Some connection))
+opens agrees k limits front c addr server server' places connection h g limited empty sound told =
+    let free = free_here agrees k limits front c addr server server' places h g in
+    let lt = in_places agrees k limits front c addr server server' places h g in
+    let old : List Note = (run k front.steps).notes in
+    let new : List Note = (run k (Open addr ∷ front.steps)).notes in
+    let notes : new ≡ Opened c addr ∷ old = opened_notes k addr front.steps c (sym g.got) in
+    record {
+      agreed = subst (agrees server' k) (opened_steps k addr front.steps c (sym g.got)) g.agreed;
+      count = length-set places c (Some connection) ∙ h.count;
+      held =
+          each_set (λ (d : ℕ) (p : Option Connection). IsPlace limits d new (with_rest c [] front.rests d) p) places c (Some connection) lt
+          (λ d differs.
+          let other = other_slot d c differs in
+          place_stays limits c d old new [] front.rests (get_or places d None) (ap (is_open d) notes ∙ opened_open c d addr old other) (ap (is_shut d) notes ∙ opened_shut c d addr old other) other (h.held d))
+          (record {
+            opened = ap (is_open c) notes ∙ opened_here c addr old;
+            limited = limited;
+            pending = rw (same_slot c) empty;
+            sound = λ e. sound;
+          });
+      told =
+          each_set (λ (d : ℕ) (p : Option Connection). IsTold (is_closing d (run k front.steps)) p) places c (Some connection) lt (λ d differs. h.told d)
+          (told ∙ not_closing (is_open c old) (is_shut c old) free.closed);
+    }
+
+joined : (out said more out' out'' : List ℕ) → out' ≡ out ++ said → out'' ≡ out' ++ more → out'' ≡ out ++ (said ++ more)
+joined out said more out' out'' a b = b ∙ (ap (λ (l : List ℕ). l ++ more) a ∙ append_assoc out said more)
+
+pub plays_open : {S : Type 0} (agrees : S → Settings → List Step → Type 0) (k : Settings) (limits : Limits) (front : Front) (c : ℕ) (addr out out' out'' : List ℕ) (server server' : S) (places places' : List (Option Connection))
+    → GetsSlot agrees k front.steps addr (Some c) server → out' ≡ out ++ open_text c → TellsAll agrees k limits (run k front.steps) (opened c addr front) out' server' places' out''
+    → Plays agrees k limits front (scripts.Opens addr) out server' places' out''
+plays_open agrees k limits front c addr out out' out'' server server' places places' g said t =
+    let mid = opened c addr front in
+    let more = told k (run k front.steps) 0 k.slots mid.steps in
+    let new : Front = record { steps = drained k 0 k.slots mid.steps; rests = mid.rests } in
+    record {
+      text = open_text c ++ more;
+      new = new;
+      tells = subst (λ (slot : Option ℕ). Opening k addr front slot (open_text c ++ more) new) g.got (record { printed = refl; taken = refl });
+      printed = joined out (open_text c) more out' out'' said t.printed;
+      ready = t.ready;
+    }
+
+pub plays_full : {S : Type 0} (agrees : S → Settings → List Step → Type 0) (k : Settings) (limits : Limits) (front : Front) (addr out out' : List ℕ) (server server' : S) (places : List (Option Connection))
+    → IsReady agrees k limits front server places → GetsSlot agrees k front.steps addr None server' → out' ≡ out ++ refused_text NoSlot
+    → Plays agrees k limits front (scripts.Opens addr) out server' places out'
+plays_full agrees k limits front addr out out' server server' places h g said =
+    record {
+      text = refused_text NoSlot;
+      new = front;
+      tells = subst (λ (slot : Option ℕ). Opening k addr front slot (refused_text NoSlot) front) g.got (record { printed = refl; kept = refl });
+      printed = said;
+      ready = record {
+        agreed = subst (agrees server' k) (refused_steps k addr front.steps (sym g.got)) g.agreed;
+        count = h.count;
+        held = h.held;
+        told = h.told;
+      };
+    }
+
+-- ---- a piece
+
+pub plays_piece : {S : Type 0} (agrees : S → Settings → List Step → Type 0) (k : Settings) (limits : Limits) (front mid : Front) (c : ℕ) (piece out out' : List ℕ) (server : S) (places : List (Option Connection))
+    → takes_units c (run k front.steps).notes ≡ true → GivesPiece k limits c piece front mid → TellsAll agrees k limits (run k front.steps) mid out server places out'
+    → Plays agrees k limits front (scripts.Gives c piece) out server places out'
+plays_piece agrees k limits front mid c piece out out' server places takes g t =
+    let more = told k (run k front.steps) 0 k.slots mid.steps in
+    let new : Front = record { steps = drained k 0 k.slots mid.steps; rests = mid.rests } in
+    record {
+      text = more;
+      new = new;
+      tells = subst (λ (b : Bool). Giving k limits c piece front b more new) (sym takes) (mid, g, record { printed = refl; taken = refl });
+      printed = t.printed;
+      ready = t.ready;
+    }
+
+pub plays_none : {S : Type 0} (agrees : S → Settings → List Step → Type 0) (k : Settings) (limits : Limits) (front : Front) (c : ℕ) (piece out out' : List ℕ) (server : S) (places : List (Option Connection))
+    → Gives agrees k limits c piece front false server places → out' ≡ out ++ refused_text NotOpen
+    → Plays agrees k limits front (scripts.Gives c piece) out server places out'
+plays_none agrees k limits front c piece out out' server places g said =
+    record {
+      text = refused_text NotOpen;
+      new = front;
+      tells = subst (λ (b : Bool). Giving k limits c piece front b (refused_text NotOpen) front) (sym g.0) (record { printed = refl; kept = refl });
+      printed = said;
+      ready = g.1;
+    }
+
+-- ---- neither
+
+pub plays_skip : {S : Type 0} (agrees : S → Settings → List Step → Type 0) (k : Settings) (limits : Limits) (front : Front) (out : List ℕ) (server : S) (places : List (Option Connection))
+    → IsReady agrees k limits front server places → Plays agrees k limits front scripts.Skip out server places out
+plays_skip agrees k limits front out server places h =
+    record { text = []; new = front; tells = record { printed = refl; kept = refl }; printed = sym (append-nil out); ready = h }
+
+pub plays_bad : {S : Type 0} (agrees : S → Settings → List Step → Type 0) (k : Settings) (limits : Limits) (front : Front) (out out' : List ℕ) (server : S) (places : List (Option Connection))
+    → IsReady agrees k limits front server places → out' ≡ out ++ bad_text → Plays agrees k limits front scripts.Bad out server places out'
+plays_bad agrees k limits front out out' server places h said =
+    record { text = bad_text; new = front; tells = record { printed = refl; kept = refl }; printed = said; ready = h }
+
+-- ---- the beginning
+
+fresh_place : (limits : Limits) (c : ℕ) (place : Option Connection) → place ≡ None → IsPlace limits c [] [] place
+fresh_place limits c None e = refl
+fresh_place limits c (Some connection) e = absurd (let bad : Some connection ≡ None = e in cc)
+
+fresh_told : (shut : Bool) (place : Option Connection) → place ≡ None → IsTold shut place
+fresh_told shut None e = tt
+fresh_told shut (Some connection) e = absurd (let bad : Some connection ≡ None = e in cc)
+
+pub ready : {S : Type 0} (agrees : S → Settings → List Step → Type 0) (k : Settings) (limits : Limits) (server : S) (places : List (Option Connection)) → agrees server k [] → length places ≡ k.slots
+    → ((c : ℕ) → get_or places c None ≡ None) → IsReady agrees k limits fresh server places
+ready agrees k limits server places agreed count empty =
+    record {
+      agreed = agreed;
+      count = count;
+      held = λ c. fresh_place limits c (get_or places c None) (empty c);
+      told = λ c. fresh_told (is_closing c (run k [])) (get_or places c None) (empty c);
+    }
+
+-- the opening, and what is told after it
+pub opens_and_tells : {S : Type 0} (agrees : S → Settings → List Step → Type 0) (k : Settings) (limits : Limits) (front : Front) (c : ℕ) (addr out out' out'' : List ℕ) (server server' server'' : S) (places places' places'' : List (Option Connection)) (connection : Connection)
+    → IsReady agrees k limits front server places → GetsSlot agrees k front.steps addr (Some c) server' → connection.feeder.limits ≡ limits → connection.feeder.pending ≡ [] → connection.feeder.fault ≡ None → connection.told_shut ≡ false
+    → places' ≡ set places c (Some connection) → out' ≡ out ++ open_text c
+    → (IsHeld agrees k limits (run k front.steps) (opened c addr front) server' places' → TellsAll agrees k limits (run k front.steps) (opened c addr front) out' server'' places'' out'')
+    → Plays agrees k limits front (scripts.Opens addr) out server'' places'' out''
+opens_and_tells agrees k limits front c addr out out' out'' server server' server'' places places' places'' connection h g limited empty sound told is said tells =
+    let held = opens agrees k limits front c addr server server' places connection h g limited empty sound told in
+    plays_open agrees k limits front c addr out out' out'' server' server'' places places'' g said
+    (tells (subst (λ (l : List (Option Connection)). IsHeld agrees k limits (run k front.steps) (opened c addr front) server' l) (sym is) held))

@@ -1,0 +1,13 @@
+pub mod Cuts
+pub mod Doing
+pub mod Giving
+pub mod Hex
+pub mod OneText
+pub mod Outcomes
+pub mod Places
+pub mod Printing
+pub mod Scripts
+pub mod Steps
+pub mod Telling
+pub mod Unloading
+pub mod Words

@@ -1,0 +1,107 @@
+-- What is printed for a script.
+use Rattle.std.specs.Prelude.{◌≡◌, ℕ, zero, suc, ◌/◌, ◌%◌, ◌==◌, Bool, true, false, not, ◌&&◌, if◌then◌else◌, List, [], ◌∷◌, ◌++◌, length, codes, decimal, Option, Some, None}
+use Rattle.std.specs.List.{flat_map}
+use Rattle.std.specs.Char.{digit_char}
+use Rattle.gm_feeder.specs.declared.units.Limits.{Limits}
+use Rattle.gm_notes.specs.declared.event.ApplyError.{ApplyError}
+use Rattle.gm_notes.specs.declared.event.ApplyError.TheVariants.{NotOpen, NoSlot}
+use Rattle.gm_notes.specs.Numbers.{apply_error_number}
+use Rattle.gm_notes.specs.Settings.{Settings}
+use Rattle.gm_notes.specs.Notes.{is_open, takes_units}
+use Rattle.gm_notes.specs.Flow.{waiting}
+use Rattle.gm_notes.specs.Steps.{Past, Step, Open, Drain, free_slot, run}
+use Rattle.gm_notes.specs.Servers.{is_closing}
+use Rattle.gm_play.specs.Scripts.{Order, Skip, Bad, Opens, Gives, order_of, lines_of}
+use Rattle.gm_play.specs.Fronts.{Front, fresh, with_rest, GivesPiece}
+
+-- ---- printed lines, each with its newline (10)
+
+-- the two hexadecimal digits of a byte, in lower case
+abbrev pub hex_pair : ℕ → List ℕ
+hex_pair byte = digit_char (byte / 16) ∷ digit_char (byte % 16) ∷ []
+
+abbrev pub hex_of : List ℕ → List ℕ
+hex_of bytes = flat_map hex_pair bytes
+
+-- `bad line`
+abbrev pub bad_text : List ℕ
+bad_text = codes "bad line" ++ 10 ∷ []
+
+-- `refused` and the number of the refusal
+abbrev pub refused_text : ApplyError → List ℕ
+refused_text refused = codes "refused " ++ decimal (apply_error_number refused) ++ 10 ∷ []
+
+-- the slot and `open`
+abbrev pub open_text : ℕ → List ℕ
+open_text c = decimal c ++ codes " open" ++ 10 ∷ []
+
+-- the slot and the bytes, where there are any
+abbrev pub bytes_text : ℕ → List ℕ → List ℕ
+bytes_text c bytes = if length bytes == 0 then [] else decimal c ++ codes " " ++ hex_of bytes ++ 10 ∷ []
+
+-- the slot and `shut`, where it became so
+abbrev pub shut_text : ℕ → Bool → List ℕ
+shut_text c became = if became then decimal c ++ codes " shut" ++ 10 ∷ [] else []
+
+-- ---- what comes of a line
+
+-- slot c is shut now and wasn't before
+abbrev pub became_shut : ℕ → Past → Past → Bool
+became_shut c before now = is_closing c now && not (is_closing c before)
+
+-- what is told of slot c: what waits for it, and whether it became shut; nothing where it isn't open
+abbrev pub told_of : ℕ → Past → Past → List ℕ
+told_of c before now =
+    if is_open c now.notes then bytes_text c (waiting c now.flow) ++ shut_text c (became_shut c before now) else []
+
+-- what waited for slot c is taken, where it is open
+abbrev pub drain_of : Settings → ℕ → List Step → List Step
+drain_of k c steps = if is_open c (run k steps).notes then Drain c ∷ steps else steps
+
+-- what is told of the n slots from c on, one after another, since it was so before
+abbrev pub told : Settings → Past → ℕ → ℕ → List Step → List ℕ
+told k before c zero steps = []
+told k before c (suc n) steps = told_of c before (run k steps) ++ told k before (suc c) n (drain_of k c steps)
+
+-- the steps once these are drained
+abbrev pub drained : Settings → ℕ → ℕ → List Step → List Step
+drained k c zero steps = steps
+drained k c (suc n) steps = drained k (suc c) n (drain_of k c steps)
+
+-- From old, a line led to mid and printed this at once; then each slot is told of and drained.
+pub record Settles (k : Settings) (old mid : Front) (said text : List ℕ) (new : Front) : Type 0 where
+  pub printed : text ≡ said ++ told k (run k old.steps) 0 k.slots mid.steps
+  pub taken : new ≡ record mid { steps = drained k 0 k.slots mid.steps }
+
+-- nothing happens but that this is printed
+pub record Only (old : Front) (said text : List ℕ) (new : Front) : Type 0 where
+  pub printed : text ≡ said
+  pub kept : new ≡ old
+
+-- an opening from this address gets this slot, or there is none
+abbrev pub Opening : Settings → List ℕ → Front → Option ℕ → List ℕ → Front → Type 0
+Opening k addr old None text new = Only old (refused_text NoSlot) text new
+Opening k addr old (Some c) text new =
+    Settles k old (record { steps = Open addr ∷ old.steps; rests = with_rest c [] old.rests }) (open_text c) text new
+
+-- a piece for a slot that takes units, or doesn't
+abbrev pub Giving : Settings → Limits → ℕ → List ℕ → Front → Bool → List ℕ → Front → Type 0
+Giving k limits c piece old false text new = Only old (refused_text NotOpen) text new
+Giving k limits c piece old true text new = (mid : Front) × GivesPiece k limits c piece old mid × Settles k old mid [] text new
+
+-- from old, the order prints this and leads to new
+abbrev pub Tells : Settings → Limits → Front → Order → List ℕ → Front → Type 0
+Tells k limits old Skip text new = Only old [] text new
+Tells k limits old Bad text new = Only old bad_text text new
+Tells k limits old (Opens addr) text new = Opening k addr old (free_slot k (run k old.steps)) text new
+Tells k limits old (Gives c piece) text new = Giving k limits c piece old (takes_units c (run k old.steps).notes) text new
+
+-- from this front on, these lines print this text
+abbrev pub Prints : Settings → Limits → Front → List (List ℕ) → List ℕ → Type 0
+Prints k limits front [] text = text ≡ []
+Prints k limits front (line ∷ lines) text =
+    (said : List ℕ) × (next : Front) × (more : List ℕ) × Tells k limits front (order_of line) said next × Prints k limits next lines more × (text ≡ said ++ more)
+
+-- the text that a script prints, on a server with these settings and feeders with these limits
+abbrev pub IsTextOf : Settings → Limits → List ℕ → List ℕ → Type 0
+IsTextOf k limits script text = Prints k limits fresh (lines_of script) text

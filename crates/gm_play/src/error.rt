@@ -1,0 +1,40 @@
+//! Why a script isn't played to its end.
+
+ghost use Rattle.std.specs.Prelude.{◌≡◌};
+ghost use Rattle.gm_play.specs.declared.error.PlayError.TheVariants.{Memory};
+
+use std::alloc::{AllocError, AllocFailed};
+use thiserror::Error;
+
+/// Why a script isn't played to its end. What came of the lines before may be printed.
+#[derive(Clone, Copy, Debug, PartialEq, Eq, Drop, Error)]
+pub enum PlayError {
+    /// The reader failed.
+    #[error("the script can't be read")]
+    Read,
+    /// The writer failed.
+    #[error("the output can't be written")]
+    Write,
+    /// The script has more than 16,777,216 bytes.
+    #[error("the script is too long")]
+    TooLong,
+    /// There was no memory for it.
+    #[error("there is no memory left")]
+    Memory,
+}
+
+impl From<AllocError> for PlayError {
+    ghost from_gives = { λ _ e. e ≡ Memory };
+
+    fn from(_e: AllocError) -> PlayError {
+        PlayError::Memory
+    }
+}
+
+impl<T: Drop> From<AllocFailed<T>> for PlayError {
+    ghost from_gives = { λ _ e. e ≡ Memory };
+
+    fn from(_e: AllocFailed<T>) -> PlayError {
+        PlayError::Memory
+    }
+}

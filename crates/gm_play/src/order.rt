@@ -1,0 +1,197 @@
+//! What the lines of a script ask for.
+
+ghost use Rattle.std.specs.Prelude.{◌≡◌, ◌+◌, ◌*◌, ◌<◌, ◌≤◌, ◌==◌, true, ◌∷◌, length, position, IfOk, MatchOption};
+ghost use Rattle.std.specs.Char.{digit_value, is_ascii_digit};
+ghost use Rattle.std.specs.List.{list_all};
+ghost use Rattle.std.specs.Option.{option_map};
+ghost use Rattle.std.specs.Str.Parse.{digits_value};
+ghost use Rattle.gm_play.specs.Scripts.{words_of, slot_of, hex_byte, hex_bytes, piece_of, order_of_two, order_of_three, order_of};
+ghost use Rattle.gm_play.specs.Orders.{cut, SaysDigit, IsReading, order_view};
+
+use std::alloc::{AllocError, Global};
+
+/// What a line asks for.
+#[derive(Debug, Drop)]
+pub enum Order<'a> {
+    /// Nothing: the line is empty or a remark.
+    Skip,
+    /// The line isn't understood.
+    Bad,
+    /// A connection from this address.
+    Open { addr: &'a [u8] },
+    /// These bytes, to this slot.
+    Bytes { slot: u32, piece: Vec<u8> },
+}
+
+/// The words of a line, where there are as many as some order has.
+#[derive(Clone, Copy)]
+enum Words<'a> {
+    Two(&'a [u8], &'a [u8]),
+    Three(&'a [u8], &'a [u8], &'a [u8]),
+    Other,
+}
+
+/// Where a byte stands first.
+fn place_of(bytes: &[u8], at: u8) -> Option<usize>
+    ensures { result ≡ position (λ b. b == at) bytes.now }
+{
+    bytes.iter().position(|b| *b == at)
+}
+
+/// The bytes before the first that is this one, and those after it.
+#[tactic(auto, using(crate::proofs::Cuts::cuts_rules))]
+pub fn cut(bytes: &[u8], at: u8) -> Option<(&[u8], &[u8])>
+    ensures { option_map (λ x. (x.0.now, x.1.now)) result ≡ cut at bytes.now }
+{
+    let place = place_of(bytes, at)?;
+    Some((&bytes[..place], &bytes[place + 1..]))
+}
+
+/// The words of a line.
+fn words_of(line: &[u8]) -> Words<'_>
+    ensures { IsReading line.now result }
+{
+    let Some((first, rest)) = cut(line, b' ') else {
+        return Words::Other;
+    };
+    let Some((second, third)) = cut(rest, b' ') else {
+        return Words::Two(first, rest);
+    };
+    match cut(third, b' ') {
+        None => Words::Three(first, second, third),
+        Some(_) => Words::Other,
+    }
+}
+
+/// Whether each byte is a decimal digit.
+fn are_digits(word: &[u8]) -> bool
+    ensures { result ≡ list_all is_ascii_digit word.now }
+{
+    word.iter().all(|b| b.is_ascii_digit())
+}
+
+/// The number that at most ten digits write.
+fn value_of(digits: &[u8]) -> u64
+    requires short { length digits.now ≤ 10 }
+    requires decimal { list_all is_ascii_digit digits.now ≡ true }
+    ensures { result ≡ digits_value 10 digits.now }
+{
+    let mut value: u64 = 0;
+    for digit in digits {
+        value = value * 10 + u64::from(*digit - b'0');
+    }
+    value
+}
+
+/// The slot that 1 to 10 decimal digits say, if it fits 32 bits.
+fn slot_of(word: &[u8]) -> Option<u32>
+    ensures { result ≡ slot_of word.now }
+{
+    if word.is_empty() || word.len() > 10 || !are_digits(word) {
+        return None;
+    }
+    u32::try_from(value_of(word)).ok()
+}
+
+/// What a hexadecimal digit of either case says.
+fn digit_of(byte: u8) -> Option<u8>
+    ensures { SaysDigit byte result }
+{
+    match byte {
+        b'0'..=b'9' => Some(byte - b'0'),
+        b'A'..=b'F' => Some(byte - b'A' + 10),
+        b'a'..=b'f' => Some(byte - b'a' + 10),
+        _ => None,
+    }
+}
+
+/// The byte that two hexadecimal digits say, the greater first.
+fn byte_of(high: u8, low: u8) -> Option<u8>
+    ensures { result ≡ hex_byte high low }
+{
+    let high = digit_of(high)?;
+    let low = digit_of(low)?;
+    Some(16 * high + low)
+}
+
+/// The first two bytes, and those after them.
+fn first_two(text: &[u8]) -> Option<(u8, u8, &[u8])>
+    ensures { MatchOption result (length text.now < 2) (λ found. text.now ≡ found.0 ∷ found.1 ∷ found.2.now) }
+{
+    match text {
+        [first, second, rest @ ..] => Some((*first, *second, rest)),
+        _ => None,
+    }
+}
+
+/// The bytes that a text of two hexadecimal digits each says.
+fn hex_bytes(alloc: Global, text: &[u8]) -> Result<Option<Vec<u8>>, AllocError>
+    ensures { IfOk result (λ found. option_map (λ bytes. bytes.items) found ≡ hex_bytes text.now) }
+{
+    let mut bytes = Vec::new(alloc);
+    let mut rest = text;
+    while let Some((high, low, after)) = first_two(rest) {
+        let Some(byte) = byte_of(high, low) else {
+            return Ok(None);
+        };
+        bytes.push(byte)?;
+        rest = after;
+    }
+    Ok(if rest.is_empty() { Some(bytes) } else { None })
+}
+
+/// The piece that a word says: one byte or more.
+fn piece_of(alloc: Global, word: &[u8]) -> Result<Option<Vec<u8>>, AllocError>
+    ensures { IfOk result (λ found. option_map (λ bytes. bytes.items) found ≡ piece_of word.now) }
+{
+    if word.is_empty() {
+        return Ok(None);
+    }
+    hex_bytes(alloc, word)
+}
+
+/// What two words ask for.
+fn order_of_two<'a>(verb: &[u8], addr: &'a [u8]) -> Order<'a>
+    ensures { order_view result ≡ order_of_two verb.now addr.now }
+{
+    if verb == b"open".as_slice() && !addr.is_empty() {
+        Order::Open { addr }
+    } else {
+        Order::Bad
+    }
+}
+
+/// What three words ask for.
+fn order_of_three(
+    alloc: Global,
+    verb: &[u8],
+    slot: &[u8],
+    piece: &[u8],
+) -> Result<Order<'static>, AllocError>
+    ensures { IfOk result (λ order. order_view order ≡ order_of_three verb.now slot.now piece.now) }
+{
+    if verb != b"bytes".as_slice() {
+        return Ok(Order::Bad);
+    }
+    let Some(slot) = slot_of(slot) else {
+        return Ok(Order::Bad);
+    };
+    match piece_of(alloc, piece)? {
+        None => Ok(Order::Bad),
+        Some(piece) => Ok(Order::Bytes { slot, piece }),
+    }
+}
+
+/// What a line asks for.
+pub fn order_of(alloc: Global, line: &[u8]) -> Result<Order<'_>, AllocError>
+    ensures { IfOk result (λ order. order_view order ≡ order_of line.now) }
+{
+    if matches!(line, [] | [b'#', ..]) {
+        return Ok(Order::Skip);
+    }
+    match words_of(line) {
+        Words::Two(verb, addr) => Ok(order_of_two(verb, addr)),
+        Words::Three(verb, slot, piece) => order_of_three(alloc, verb, slot, piece),
+        Words::Other => Ok(Order::Bad),
+    }
+}

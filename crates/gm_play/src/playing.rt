@@ -1,0 +1,160 @@
+//! Plays a script.
+
+ghost use Rattle.std.specs.Prelude.{◌≡◌, ◌^◌, ◌<◌, ◌≤◌, ℕ, List, [], length, IfOk, None, slice_index_or, IfSome, IsErrOf, OnOk};
+ghost use Rattle.std.specs.Io.KnownBytes.{Appends};
+ghost use Rattle.gm_notes.specs.Settings.{Settings};
+ghost use Rattle.gm_notes.specs.Steps.{run};
+ghost use Rattle.gm_play.specs.Fronts.{Front, fresh};
+ghost use Rattle.gm_play.specs.Prints.{IsTextOf, Prints};
+ghost use Rattle.gm_play.specs.Scripts.{lines_of, order_of};
+ghost use Rattle.gm_play.specs.Connections.{IsReady, Writes};
+
+use crate::connection::Connection;
+use crate::error::PlayError;
+use crate::line::play_line;
+use crate::order::cut;
+use gm_feeder::Limits;
+use gm_notes::{Config, JobServer, PlainServer};
+use std::alloc::{AllocError, Global};
+use std::hash::RandomState;
+use std::io::{ErrorKind, Read, Write};
+
+/// The most bytes that a script may have.
+const MOST: usize = 16_777_216;
+
+/// What a script is played on.
+#[derive(Drop)]
+pub struct PlaySettings {
+    /// The server's settings.
+    pub config: Config,
+    /// How large a unit may be.
+    pub limits: Limits,
+    /// Whether the plain server is used.
+    pub plain: bool,
+}
+
+/// Reads the script, which is all that the reader has left.
+fn read_script<R: Read>(alloc: Global, reader: &mut R) -> Result<Vec<u8>, PlayError>
+    ensures all { IfOk result (λ script. IfSome (R.remaining reader.old) (λ bytes. script.items ≡ bytes)) }
+    ensures long { IsErrOf result PlayError.TooLong → IfSome (R.remaining reader.old) (λ bytes. 16777216 < length bytes) }
+{
+    let mut script = Vec::new(alloc);
+    let mut bounded = (&mut *reader).take(MOST as u64 + 1);
+    match bounded.read_to_end(&mut script) {
+        Ok(_) => {}
+        Err(fault) if fault.kind() == ErrorKind::OutOfMemory => return Err(PlayError::Memory),
+        Err(_) => return Err(PlayError::Read),
+    }
+    if script.len() > MOST {
+        return Err(PlayError::TooLong);
+    }
+    Ok(script)
+}
+
+/// A place for each slot; none is open.
+fn empty_places(alloc: Global, slots: u32) -> Result<Vec<Option<Connection>>, AllocError>
+    ensures len { IfOk result (λ places. length places.items ≡ slots) }
+    ensures empty { IfOk result (λ places. (c : ℕ) → slice_index_or places.items c None ≡ None) }
+{
+    let mut places = Vec::new(alloc);
+    for _slot in 0..slots {
+        places.push(None)?;
+    }
+    Ok(places)
+}
+
+/// Plays a line, and writes what it prints.
+fn play_and_write<S: JobServer, W: Write>(
+    alloc: Global,
+    limits: Limits,
+    server: &mut S,
+    places: &mut [Option<Connection>],
+    line: &[u8],
+    writer: &mut W,
+) -> Result<(), PlayError>
+    requires limits { limits.max_bytes ≤ 1073741824 }
+    requires count { length places.old < 2 ^ 32 }
+    ensures ok { OnOk result ((k : Settings) (front : Front) → IsReady S.agrees k limits front server.old places.old
+        → Writes S.agrees k limits front (order_of line.now) (W.contents writer.old) server.new places.new (W.contents writer.new)) }
+    ensures short { IsErrOf result PlayError.TooLong → ⊥ }
+{
+    let mut text = Vec::new(alloc);
+    play_line(alloc, limits, server, places, line, &mut text)?;
+    match writer.write_all(&text) {
+        Ok(()) => Ok(()),
+        Err(_) => Err(PlayError::Write),
+    }
+}
+
+/// Plays each line of a script in turn.
+fn play_lines<S: JobServer, W: Write>(
+    alloc: Global,
+    limits: Limits,
+    server: &mut S,
+    places: &mut [Option<Connection>],
+    script: &[u8],
+    writer: &mut W,
+) -> Result<(), PlayError>
+    requires limits { limits.max_bytes ≤ 1073741824 }
+    requires count { length places.old < 2 ^ 32 }
+    ensures ok { OnOk result ((k : Settings) (front : Front) → IsReady S.agrees k limits front server.old places.old
+        → (text : List ℕ) × Prints k limits front (lines_of script.now) text × Appends (W.contents writer.old) (W.contents writer.new) text) }
+    ensures short { IsErrOf result PlayError.TooLong → ⊥ }
+{
+    let mut rest = script;
+    while let Some((line, after)) = cut(rest, b'\n') {
+        play_and_write(alloc, limits, server, places, line, writer)?;
+        rest = after;
+    }
+    play_and_write(alloc, limits, server, places, rest, writer)
+}
+
+/// Plays the script that a reader gives on a server with so many slots, and writes what comes of it.
+///
+/// The server is to have taken no step yet. That a packet's data are at most a gigabyte is for the
+/// caller to see to. What was written before an error isn't said.
+pub fn play_on<S: JobServer, R: Read, W: Write>(
+    alloc: Global,
+    server: &mut S,
+    limits: Limits,
+    slots: u32,
+    reader: &mut R,
+    writer: &mut W,
+) -> Result<(), PlayError>
+    requires { limits.max_bytes ≤ 1073741824 }
+    ensures text { OnOk result ((k : Settings) → k.slots ≡ slots → S.agrees server.old k []
+        → IfSome (R.remaining reader.old) (λ script. (text : List ℕ) × IsTextOf k limits script text
+        × Appends (W.contents writer.old) (W.contents writer.new) text)) }
+    ensures long { IsErrOf result PlayError.TooLong → IfSome (R.remaining reader.old) (λ script. 16777216 < length script) }
+{
+    let script = read_script(alloc, reader)?;
+    let mut places = empty_places(alloc, slots)?;
+    play_lines(alloc, limits, server, &mut places, &script, writer)
+}
+
+/// Plays the script that a reader gives, and writes what comes of it.
+///
+/// That a packet's data are at most a gigabyte is for the caller to see to. What was written before an
+/// error isn't said.
+pub fn play<R: Read, W: Write>(
+    alloc: Global,
+    _seed: RandomState,
+    settings: PlaySettings,
+    reader: &mut R,
+    writer: &mut W,
+) -> Result<(), PlayError>
+    requires { settings.limits.max_bytes ≤ 1073741824 }
+    ensures text { OnOk result (IfSome (R.remaining reader.old) (λ script. (text : List ℕ)
+        × IsTextOf settings.config settings.limits script text
+        × Appends (W.contents writer.old) (W.contents writer.new) text)) }
+    ensures long { IsErrOf result PlayError.TooLong → IfSome (R.remaining reader.old) (λ script. 16777216 < length script) }
+{
+    let PlaySettings {
+        config,
+        limits,
+        plain: _,
+    } = settings;
+    let slots = config.slots();
+    let mut server = PlainServer::new(alloc, config)?;
+    play_on(alloc, &mut server, limits, slots, reader, writer)
+}
