@@ -2,7 +2,8 @@
 use Rattle.std.proofs.Common.{◌≡◌, ℕ, zero, suc, ◌+◌, ◌<◌, true, false, List, Some, refl, arith}
 use Rattle.std.proofs.Math.Numerals.{add-one}
 use Rattle.gm_notes.specs.declared.note.Note.{Note}
-use Rattle.gm_notes.specs.Notes.{is_open, free_from}
+use Rattle.gm_notes.specs.Notes.{is_open}
+use Rattle.gm_notes.specs.Steps.{free_from}
 
 -- a slot that isn't open is the least free one
 pub free_here : (c n : ℕ) (notes : List Note) → 0 < n → is_open c notes ≡ false → free_from c n notes ≡ Some c

@@ -6,14 +6,21 @@ use Rattle.std.proofs.lemmas.Bool.Decides.{nat_tests}
 use Rattle.std.proofs.lemmas.List.{get_or-set_same, get_or-set_other, reverse-append}
 use Rattle.gm_notes.specs.declared.note.Note.{Note}
 use Rattle.gm_notes.specs.declared.note.Note.TheVariants.{Opened, Shut}
-use Rattle.gm_notes.specs.declared.event.ApplyError.{ApplyError}
-use Rattle.gm_notes.specs.declared.event.ApplyError.TheVariants.{NotOpen}
+use Rattle.gm_notes.specs.declared.event.ApplyError.TheVariants.{NotOwed}
+use Rattle.gm_notes.specs.declared.states.Phase.TheVariants.{Awake}
+use Rattle.gm_notes.specs.declared.states.Mode.{Mode}
+use Rattle.gm_notes.specs.declared.states.Mode.TheVariants as modes
 use Rattle.gm_notes.specs.Settings.{Settings}
-use Rattle.gm_notes.specs.Notes.{is_open, is_shut, takes_units, free_from}
+use Rattle.gm_notes.specs.Notes.{is_open, is_shut, takes_units, phase, is_owed, mode, welcomes}
 use Rattle.gm_notes.specs.Flow.{Flow, Queued, waiting}
-use Rattle.gm_notes.specs.Ranges.{AreOpenBelow}
-use Rattle.gm_notes.specs.Steps.{Past, Step, Open, Packet, Fault, Drain, run, unless, refusal, add, free_slot, if_takes_units, opening, give, noted}
-use Rattle.gm_packet.specs.Writing.{Answer, answer_packet}
+use Rattle.gm_notes.specs.Ranges.{AreOpenBelow, NobodyIsOwed}
+use Rattle.gm_notes.specs.Past.{Past, noted, print, give}
+use Rattle.gm_notes.specs.Requests.{packet_of}
+use Rattle.gm_notes.specs.Steps.{Step, unless, refusal, free_from, unless_not_open, opening, made_since, if_owed, if_free, if_welcome, free_slot}
+use Rattle.gm_notes.specs.Served.{served, run, add}
+use Rattle.gm_notes.specs.Answers.{answer_to}
+use Rattle.gm_packet.specs.declared.kind.Kind.{Kind}
+use Rattle.gm_packet.specs.declared.kind.Kind.TheVariants as kinds
 use Rattle.gm_notes.specs.Plain.{Holds}
 
 -- ---- slots
@@ -59,6 +66,22 @@ pub below_push_opened : (t : Bool) (notes more : List Note) (slot count : ℕ) (
 below_push_opened true notes more slot count addr below lt is = below_opened notes more slot count addr below lt is
 below_push_opened false notes more slot count addr below lt is = below_same notes more count below is
 
+-- nobody is owed where nobody was and a connection was opened, or shut
+owed_opened : (t : Bool) (c : ℕ) (notes : List Note) → is_owed (phase c notes) ≡ false → is_owed (unwrap_or (cond t (Some Awake) None) (phase c notes)) ≡ false
+owed_opened true c notes calm = refl
+owed_opened false c notes calm = calm
+
+pub calm_push_opened : (t : Bool) (notes more : List Note) (slot : ℕ) (addr : List ℕ) → NobodyIsOwed notes → more ≡ cond t (notes ++ Opened slot addr ∷ []) notes → NobodyIsOwed more
+calm_push_opened true notes more slot addr calm is c = ap (λ l. is_owed (phase c l)) (ap reverse is ∙ reverse_push notes (Opened slot addr)) ∙ owed_opened (c == slot) c (reverse notes) (calm c)
+calm_push_opened false notes more slot addr calm is c = ap (λ l. is_owed (phase c (reverse l))) is ∙ calm c
+
+pub calm_push_shut : (t : Bool) (notes more : List Note) (slot : ℕ) → NobodyIsOwed notes → more ≡ cond t (notes ++ Shut slot ∷ []) notes → NobodyIsOwed more
+calm_push_shut true notes more slot calm is c = ap (λ l. is_owed (phase c l)) (ap reverse is ∙ reverse_push notes (Shut slot)) ∙ calm c
+calm_push_shut false notes more slot calm is c = ap (λ l. is_owed (phase c (reverse l))) is ∙ calm c
+
+pub calm_same : (notes more : List Note) → NobodyIsOwed notes → more ≡ notes → NobodyIsOwed more
+calm_same notes more calm is c = ap (λ l. is_owed (phase c (reverse l))) is ∙ calm c
+
 -- ---- bytes
 
 queued_at : (t : Bool) (lanes : List (List ℕ)) (slot : ℕ) (bytes : List ℕ) (flow : List Flow) (c : ℕ) → (c == slot) ≡ t → slot < length lanes → ((d : ℕ) → get_or lanes d [] ≡ waiting d flow) → get_or (set lanes slot (get_or lanes slot [] ++ bytes)) c [] ≡ cond t (waiting c flow ++ bytes) (waiting c flow)
@@ -73,65 +96,19 @@ queued_at false lanes slot bytes flow c is lt each =
 pub queued : (lanes : List (List ℕ)) (slot : ℕ) (bytes : List ℕ) (flow : List Flow) → slot < length lanes → ((d : ℕ) → get_or lanes d [] ≡ waiting d flow) → (c : ℕ) → get_or (set lanes slot (get_or lanes slot [] ++ bytes)) c [] ≡ waiting c (Queued slot bytes ∷ flow)
 queued lanes slot bytes flow lt each c = queued_at (c == slot) lanes slot bytes flow c refl lt each
 
--- ---- who isn't open waits for nothing
-
-abbrev WaitsForNothing : ℕ → Past → Type 0
-WaitsForNothing c past = is_open c past.notes ≡ false → waiting c past.flow ≡ []
-
-opened_waits : (t : Bool) (c slot : ℕ) (past : Past) → WaitsForNothing c past → unwrap_or (cond t (Some true) None) (is_open c past.notes) ≡ false → cond t [] (waiting c past.flow) ≡ []
-opened_waits true c slot past rest e = refl
-opened_waits false c slot past rest e = rest e
-
-given_waits : (t : Bool) (c d : ℕ) (bytes : List ℕ) (past : Past) → (c == d) ≡ t → is_open d past.notes ≡ true → WaitsForNothing c past → is_open c past.notes ≡ false → cond t (waiting c past.flow ++ bytes) (waiting c past.flow) ≡ []
-given_waits true c d bytes past is opened rest e =
-    let same : d ≡ c = grind (arith, nat_tests) in
-    let f : is_open c past.notes ≡ true = subst (λ x. is_open x past.notes ≡ true) same opened in
-    absurd cc
-given_waits false c d bytes past is opened rest e = rest e
-
-drained_waits : (t : Bool) (c : ℕ) (past : Past) → WaitsForNothing c past → is_open c past.notes ≡ false → cond t [] (waiting c past.flow) ≡ []
-drained_waits true c past rest e = refl
-drained_waits false c past rest e = rest e
-
-taken_test : (t : Bool) → cond {A = Option ApplyError} t None (Some NotOpen) ≡ None → t ≡ true
-taken_test true e = refl
-taken_test false e = absurd cc
-
--- who takes units is open
-open_of_taken : (d : ℕ) (past : Past) → if_takes_units d past ≡ None → is_open d past.notes ≡ true
-open_of_taken d past e = (and_parts (is_open d past.notes) (not (is_shut d past.notes)) (taken_test (takes_units d past.notes) e)).0
-
-add_waits : (k : Settings) (s : Step) (past : Past) (c : ℕ) → refusal k s past ≡ None → WaitsForNothing c past → WaitsForNothing c (add k s past)
-add_waits k (Open addr) past c taken rest = open_waits (free_slot k past)
-  where
-    open_waits : (o : Option ℕ) → WaitsForNothing c (opening o addr past)
-    open_waits None = rest
-    open_waits (Some slot) = opened_waits (c == slot) c slot past rest
-add_waits k (Packet d kind bytes) past c taken rest = given_waits (c == d) c d _ past refl (open_of_taken d past taken) rest
-add_waits k (Fault d fault) past c taken rest = given_waits (c == d) c d _ past refl (open_of_taken d past taken) rest
-add_waits k (Drain d) past c taken rest = drained_waits (c == d) c past rest
-
-step_waits : (o : Option ApplyError) (k : Settings) (s : Step) (past : Past) (c : ℕ) → refusal k s past ≡ o → WaitsForNothing c past → WaitsForNothing c (unless o (add k s past) past)
-step_waits None k s past c is rest = add_waits k s past c is rest
-step_waits (Some refused) k s past c is rest = rest
-
-pub closed_waits_for_nothing : (k : Settings) (steps : List Step) (c : ℕ) → is_open c (run k steps).notes ≡ false → waiting c (run k steps).flow ≡ []
-closed_waits_for_nothing k [] c e = refl
-closed_waits_for_nothing k (s ∷ steps) c e = step_waits (refusal k s (run k steps)) k s (run k steps) c refl (closed_waits_for_nothing k steps c) e
-
 -- ---- one step more
 
 -- a step that is taken adds what it adds
 pub run_taken : (k : Settings) (s : Step) (steps : List Step) → refusal k s (run k steps) ≡ None → run k (s ∷ steps) ≡ add k s (run k steps)
 run_taken k s steps taken = ap (λ o. unless o (add k s (run k steps)) (run k steps)) taken
 
-pub units_taken : (notes : List Note) (slot : ℕ) (past : Past) → reverse notes ≡ past.notes → takes_units slot (reverse notes) ≡ true → if_takes_units slot past ≡ None
-units_taken notes slot past is takes = ap (λ t. cond {A = Option ApplyError} t None (Some NotOpen)) (ap (takes_units slot) (sym is) ∙ takes)
+pub units_taken : (notes : List Note) (slot : ℕ) (past : Past) → reverse notes ≡ past.notes → takes_units slot (reverse notes) ≡ true → unless_not_open (takes_units slot past.notes) ≡ None
+units_taken notes slot past is takes = ap unless_not_open (ap (takes_units slot) (sym is) ∙ takes)
 
-pub holds_given : (notes : List Note) (lanes more : List (List ℕ)) (past : Past) (slot : ℕ) (answer : Answer) → Holds notes lanes past → slot < length lanes → more ≡ set lanes slot (get_or lanes slot [] ++ answer_packet answer) → Holds notes more (give slot answer past)
-holds_given notes lanes more past slot answer holds lt is = record {
+pub holds_given : (notes : List Note) (lanes more : List (List ℕ)) (past : Past) (slot : ℕ) (bytes : List ℕ) → Holds notes lanes past → slot < length lanes → more ≡ set lanes slot (get_or lanes slot [] ++ bytes) → Holds notes more (print slot bytes past)
+holds_given notes lanes more past slot bytes holds lt is = record {
   notes_are = holds.notes_are;
-  lanes_are = λ c. ap (λ l. get_or l c []) is ∙ queued lanes slot (answer_packet answer) past.flow lt holds.lanes_are c;
+  lanes_are = λ c. ap (λ l. get_or l c []) is ∙ queued lanes slot bytes past.flow lt holds.lanes_are c;
 }
 
 pub holds_shut : (notes more : List Note) (lanes : List (List ℕ)) (past : Past) (slot : ℕ) → Holds notes lanes past → more ≡ notes ++ Shut slot ∷ [] → Holds more lanes (noted (Shut slot) past)
@@ -143,12 +120,41 @@ holds_shut notes more lanes past slot holds is = record {
 pub holds_same : (notes more : List Note) (lanes : List (List ℕ)) (past : Past) → Holds notes lanes past → more ≡ notes → Holds more lanes past
 holds_same notes more lanes past holds is = record { notes_are = ap reverse is ∙ holds.notes_are; lanes_are = holds.lanes_are }
 
-began_at : (t : Bool) (c slot : ℕ) (flow : List Flow) → (c == slot) ≡ t → waiting slot flow ≡ [] → waiting c flow ≡ cond t [] (waiting c flow)
-began_at true c slot flow is empty = let same : slot ≡ c = grind (arith, nat_tests) in subst (λ x. waiting x flow ≡ []) same empty
-began_at false c slot flow is empty = refl
+began_at : (t : Bool) (lanes : List (List ℕ)) (slot : ℕ) (flow : List Flow) (c : ℕ) → (c == slot) ≡ t → slot < length lanes → ((d : ℕ) → get_or lanes d [] ≡ waiting d flow) → get_or (set lanes slot []) c [] ≡ cond t [] (waiting c flow)
+began_at true lanes slot flow c is lt each =
+    let same : slot ≡ c = grind (arith, nat_tests) in
+    subst (λ x. get_or (set lanes slot []) x [] ≡ []) same (get_or-set_same lanes slot [] [] lt)
+began_at false lanes slot flow c is lt each =
+    let other : c ≢ slot = grind (arith, nat_tests) in
+    rw get_or-set_other (each c)
 
-pub holds_opened : (notes more : List Note) (lanes : List (List ℕ)) (past : Past) (slot : ℕ) (addr : List ℕ) → Holds notes lanes past → waiting slot past.flow ≡ [] → more ≡ notes ++ Opened slot addr ∷ [] → Holds more lanes (opening (Some slot) addr past)
-holds_opened notes more lanes past slot addr holds empty is = record {
+pub holds_opened : (notes more : List Note) (lanes emptied : List (List ℕ)) (past : Past) (slot : ℕ) (addr : List ℕ) → Holds notes lanes past → slot < length lanes → more ≡ notes ++ Opened slot addr ∷ [] → emptied ≡ set lanes slot [] → Holds more emptied (opening (Some slot) addr past)
+holds_opened notes more lanes emptied past slot addr holds lt is gone = record {
   notes_are = ap reverse is ∙ reverse_push notes (Opened slot addr) ∙ ap (λ l. Opened slot addr ∷ l) holds.notes_are;
-  lanes_are = λ c. holds.lanes_are c ∙ began_at (c == slot) c slot past.flow refl empty;
+  lanes_are = λ c. ap (λ l. get_or l c []) gone ∙ began_at (c == slot) lanes slot past.flow c refl lt holds.lanes_are;
 }
+
+-- ---- answers
+
+-- what a packet does today
+pub packet_is : (k : Settings) (c : ℕ) (o : Option Kind) (bytes : List ℕ) (past : Past) → packet_of served k c o bytes past ≡ give c (answer_to o bytes) past
+packet_is k c None bytes past = refl
+packet_is k c (Some kinds.EchoReq) bytes past = refl
+packet_is k c (Some other) bytes past = refl
+
+-- no job was made where there are as many
+pub none_made : (jobs : List ℕ) → made_since jobs jobs ≡ None
+none_made jobs = let same : (length jobs == length jobs) ≡ true = grind (arith, nat_tests) in rw same refl
+
+-- who is open and is owed nothing
+pub owed_none : (c : ℕ) (notes : List Note) (past : List Note) → reverse notes ≡ past → is_open c (reverse notes) ≡ true → is_owed (phase c (reverse notes)) ≡ false → if_owed c past ≡ Some NotOwed
+owed_none c notes past is opened calm = ap (if_owed c) (sym is) ∙ rw (opened, calm) refl
+
+-- who takes new connections and has a free slot
+welcome : (m : Mode) (o : Option ℕ) (slot : ℕ) → welcomes m ≡ true → o ≡ Some slot → if_welcome m o ≡ None
+welcome modes.Running o slot goes free = ap if_free free
+welcome modes.Graceful o slot goes free = absurd cc
+welcome modes.Stopped o slot goes free = absurd cc
+
+pub opening_taken : (notes : List Note) (past : Past) (k : Settings) (slot : ℕ) → reverse notes ≡ past.notes → welcomes (mode (reverse notes)) ≡ true → free_slot k past ≡ Some slot → if_welcome (mode past.notes) (free_slot k past) ≡ None
+opening_taken notes past k slot is goes free = welcome (mode past.notes) (free_slot k past) slot (ap (λ l. welcomes (mode l)) (sym is) ∙ goes) free

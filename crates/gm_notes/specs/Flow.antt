@@ -6,6 +6,7 @@ pub data Flow : Type 0 where
   Began : ℕ → Flow  -- a connection was opened there
   Queued : ℕ → List ℕ → Flow  -- these bytes were given to it
   Drained : ℕ → Flow  -- what waited was taken
+  Emptied : ℕ → Flow  -- what waited went with the connection
 
 -- all that was given to slot c since it was opened
 abbrev pub sent : ℕ → List Flow → List ℕ
@@ -13,6 +14,7 @@ sent c [] = []
 sent c (Began d ∷ older) = if c == d then [] else sent c older
 sent c (Queued d bytes ∷ older) = if c == d then sent c older ++ bytes else sent c older
 sent c (Drained d ∷ older) = sent c older
+sent c (Emptied d ∷ older) = sent c older
 
 -- what was given to slot c since it was opened or drained
 abbrev pub waiting : ℕ → List Flow → List ℕ
@@ -20,3 +22,4 @@ waiting c [] = []
 waiting c (Began d ∷ older) = if c == d then [] else waiting c older
 waiting c (Queued d bytes ∷ older) = if c == d then waiting c older ++ bytes else waiting c older
 waiting c (Drained d ∷ older) = if c == d then [] else waiting c older
+waiting c (Emptied d ∷ older) = if c == d then [] else waiting c older

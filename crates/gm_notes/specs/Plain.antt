@@ -5,7 +5,9 @@ use Rattle.gm_notes.specs.declared.note.Note.{Note}
 use Rattle.gm_notes.specs.declared.plain.PlainServer.{PlainServer}
 use Rattle.gm_notes.specs.Settings.{Settings}
 use Rattle.gm_notes.specs.Flow.{waiting}
-use Rattle.gm_notes.specs.Steps.{Past, Step, run}
+use Rattle.gm_notes.specs.Past.{Past}
+use Rattle.gm_notes.specs.Steps.{Step}
+use Rattle.gm_notes.specs.Served.{run}
 
 -- these notes, the newest last, and these bytes for each slot are what has happened
 pub record Holds (notes : List Note) (lanes : List (List ℕ)) (past : Past) : Type 0 where

@@ -4,10 +4,15 @@ use Rattle.gm_notes.specs.declared.event.Event.{Event}
 use Rattle.gm_notes.specs.declared.event.Event.TheVariants as events
 use Rattle.gm_notes.specs.declared.event.Done.{Done}
 use Rattle.gm_notes.specs.declared.event.ApplyError.{ApplyError}
-use Rattle.gm_notes.specs.declared.event.ApplyError.TheVariants.{Memory, NotOpen, NoSlot}
+use Rattle.gm_notes.specs.declared.event.ApplyError.TheVariants.{Memory, NotOpen, NoSlot, NotOwed, Refusing}
+use Rattle.gm_notes.specs.declared.states.Place.{Place}
+use Rattle.gm_notes.specs.declared.states.Place.TheVariants as places
 use Rattle.gm_notes.specs.Settings.{Settings}
-use Rattle.gm_notes.specs.Notes.{is_open, is_shut}
-use Rattle.gm_notes.specs.Steps.{Past, Step, Open, Packet, Fault, refusal, done, run}
+use Rattle.gm_notes.specs.Notes.{is_open, is_shut, phase, is_owed}
+use Rattle.gm_notes.specs.Jobs.{Spot, Unmade, Waits, RunsAt, Over, Thrown}
+use Rattle.gm_notes.specs.Past.{Past}
+use Rattle.gm_notes.specs.Steps.{Step, Open, Packet, Fault, refusal}
+use Rattle.gm_notes.specs.Served.{done, run}
 
 -- the step that an event is, wherever its bytes lie
 abbrev pub step_of : Event → Step
@@ -26,6 +31,8 @@ abbrev pub IsRefusal : ApplyError → Option ApplyError → Type 0
 IsRefusal Memory stands = stands ≡ None
 IsRefusal NotOpen stands = stands ≡ Some NotOpen
 IsRefusal NoSlot stands = stands ≡ Some NoSlot
+IsRefusal NotOwed stands = stands ≡ Some NotOwed
+IsRefusal Refusing stands = stands ≡ Some Refusing
 
 -- what a step is answered after these steps
 abbrev pub Answers : Settings → List Step → Step → Result Done ApplyError → Type 0
@@ -40,3 +47,24 @@ steps_after (Err refused) s steps = steps
 -- whether a slot is open and takes no more units
 abbrev pub is_closing : ℕ → Past → Bool
 is_closing c past = is_open c past.notes && is_shut c past.notes
+
+-- whether a NOOP is owed to a slot that is open
+abbrev pub owes : ℕ → Past → Bool
+owes c past = is_open c past.notes && is_owed (phase c past.notes)
+
+-- where a job is, as a server tells it: ended and discarded are both gone
+abbrev pub place_of : Spot → Place
+place_of Unmade = places.Unmade
+place_of Waits = places.Waiting
+place_of (RunsAt c) = places.Running c
+place_of Over = places.Gone
+place_of Thrown = places.Gone
+
+-- what the taking or the withdrawal of a NOOP answers after these steps; want of memory is none of the answers
+abbrev pub AnswersAt : Settings → List Step → Step → Result (Unit {0}) ApplyError → Type 0
+AnswersAt k steps s (Ok answer) = refusal k s (run k steps) ≡ None
+AnswersAt k steps s (Err refused) = refusal k s (run k steps) ≡ Some refused
+
+abbrev pub steps_after_that : Result (Unit {0}) ApplyError → Step → List Step → List Step
+steps_after_that (Ok answer) s steps = s ∷ steps
+steps_after_that (Err refused) s steps = steps

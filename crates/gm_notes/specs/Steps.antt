@@ -1,47 +1,43 @@
--- What each step adds to the past, and which steps are refused.
-use Rattle.std.specs.Prelude.{ℕ, if◌then◌else◌, List, [], ◌∷◌, Option, Some, None, Result, Ok, Err}
+-- Steps, what each adds to the past, which are refused, and their run.
+use Rattle.std.specs.Prelude.{ℕ, zero, suc, Bool, true, false, ◌==◌, if◌then◌else◌, List, [], ◌∷◌, length, Option, Some, None}
 use Rattle.gm_packet.specs.declared.kind.Kind.{Kind}
-use Rattle.gm_packet.specs.declared.kind.Kind.TheVariants.{EchoReq}
-use Rattle.gm_packet.specs.declared.request.RequestFault.{RequestFault}
-use Rattle.gm_packet.specs.Requests.{Asked, request_of}
-use Rattle.gm_packet.specs.Writing.{Answer, answer_packet, echo_res}
+use Rattle.gm_packet.specs.Kinds.{kind_of}
+use Rattle.gm_admin.specs.Commands.{command_of}
+use Rattle.gm_notes.specs.declared.states.Mode.{Mode}
+use Rattle.gm_notes.specs.declared.states.Mode.TheVariants.{Running, Graceful, Stopped}
 use Rattle.gm_notes.specs.declared.note.Note.{Note}
 use Rattle.gm_notes.specs.declared.note.Note.TheVariants.{Opened, Shut}
+use Rattle.gm_notes.specs.declared.note.Note.TheVariants as notes
 use Rattle.gm_notes.specs.declared.event.Done.{Done}
 use Rattle.gm_notes.specs.declared.event.UnitFault.{UnitFault}
 use Rattle.gm_notes.specs.declared.event.ApplyError.{ApplyError}
-use Rattle.gm_notes.specs.declared.event.ApplyError.TheVariants.{NotOpen, NoSlot}
+use Rattle.gm_notes.specs.declared.event.ApplyError.TheVariants.{NotOpen, NoSlot, NotOwed, Refusing}
 use Rattle.gm_notes.specs.Settings.{Settings}
-use Rattle.gm_notes.specs.Notes.{takes_units, free_from}
-use Rattle.gm_notes.specs.Flow.{Flow, Began, Queued, Drained}
-use Rattle.gm_notes.specs.Texts.{unknown_command, fault_answer}
+use Rattle.gm_notes.specs.Notes.{is_open, takes_units, phase, is_owed, mode}
+use Rattle.gm_notes.specs.Flow.{Began, Drained}
+use Rattle.gm_notes.specs.Jobs.{made}
+use Rattle.gm_notes.specs.Texts.{fault_text}
+use Rattle.gm_notes.specs.Past.{Past, nothing, noted, flowed, print}
+use Rattle.gm_notes.specs.Requests.{packet_of}
+use Rattle.gm_notes.specs.Lines.{command}
+use Rattle.gm_notes.specs.Closings.{close, tick}
 
--- all that has happened: the notes, and what happened to bytes, each the newest first
-pub record Past : Type 0 where
-  pub notes : List Note
-  pub flow : List Flow
-
-abbrev pub nothing : Past
-nothing = record { notes = []; flow = [] }
-
--- one step: an event, or the taking of what waits for a slot
+-- one step: an event, the taking or the withdrawal of a NOOP, or the taking of what waits for a slot
 pub data Step : Type 0 where
   Open : List ℕ → Step  -- from this address
   Packet : ℕ → ℕ → List ℕ → Step  -- of this slot, with this type and these data
+  Line : ℕ → List ℕ → Step  -- of this slot, without its newline
   Fault : ℕ → UnitFault → Step  -- of this slot
+  Close : ℕ → Step  -- of this slot
+  Tick : ℕ → Step  -- at this moment
+  Took : ℕ → Step  -- the NOOP of this slot
+  Withdrew : ℕ → Step  -- the NOOP of this slot
   Drain : ℕ → Step  -- of this slot
 
--- ---- what is added
-
-abbrev pub noted : Note → Past → Past
-noted note past = record past { notes = note ∷ past.notes }
-
-abbrev pub flowed : Flow → Past → Past
-flowed what past = record past { flow = what ∷ past.flow }
-
--- the answer is queued to slot c
-abbrev pub give : ℕ → Answer → Past → Past
-give c answer past = flowed (Queued c (answer_packet answer)) past
+-- the least of the n slots from c on that isn't open
+abbrev pub free_from : ℕ → ℕ → List Note → Option ℕ
+free_from c zero notes = None
+free_from c (suc n) notes = if is_open c notes then free_from (suc c) n notes else Some c
 
 -- the slot that an opening gets
 abbrev pub free_slot : Settings → Past → Option ℕ
@@ -51,21 +47,17 @@ abbrev pub opening : Option ℕ → List ℕ → Past → Past
 opening None addr past = past
 opening (Some c) addr past = flowed (Began c) (noted (Opened c addr) past)
 
--- the answer to a request; those that aren't served yet are unknown
-abbrev pub answer_to : Kind → List (List ℕ) → Answer
-answer_to EchoReq (body ∷ []) = echo_res body
-answer_to kind arguments = unknown_command
-
--- the answer to what a packet asks
-abbrev pub request_answer : Result Asked RequestFault → Answer
-request_answer (Ok asked) = answer_to asked.kind asked.arguments
-request_answer (Err fault) = unknown_command
-
-abbrev pub add : Settings → Step → Past → Past
-add k (Open addr) past = opening (free_slot k past) addr past
-add k (Packet c kind bytes) past = give c (request_answer (request_of kind bytes)) past
-add k (Fault c fault) past = noted (Shut c) (give c (fault_answer fault) past)
-add k (Drain c) past = flowed (Drained c) past
+-- what a step adds; served says which requests are
+abbrev pub add_by : (Kind → Bool) → Settings → Step → Past → Past
+add_by served k (Open addr) past = opening (free_slot k past) addr past
+add_by served k (Packet c kind bytes) past = packet_of served k c (kind_of kind) bytes past
+add_by served k (Line c bytes) past = command k c (command_of bytes) past
+add_by served k (Fault c fault) past = noted (Shut c) (print c (fault_text fault) past)
+add_by served k (Close c) past = close k c past
+add_by served k (Tick now) past = tick k now past
+add_by served k (Took c) past = noted (notes.Took c) past
+add_by served k (Withdrew c) past = noted (notes.Withdrew c) past
+add_by served k (Drain c) past = flowed (Drained c) past
 
 -- ---- what is refused
 
@@ -73,21 +65,28 @@ abbrev pub if_free : Option ℕ → Option ApplyError
 if_free None = Some NoSlot
 if_free (Some c) = None
 
-abbrev pub if_takes_units : ℕ → Past → Option ApplyError
-if_takes_units c past = if takes_units c past.notes then None else Some NotOpen
+abbrev pub if_welcome : Mode → Option ℕ → Option ApplyError
+if_welcome Running free = if_free free
+if_welcome Graceful free = Some Refusing
+if_welcome Stopped free = Some Refusing
+
+abbrev pub unless_not_open : Bool → Option ApplyError
+unless_not_open true = None
+unless_not_open false = Some NotOpen
+
+abbrev pub if_owed : ℕ → List Note → Option ApplyError
+if_owed c notes = if is_open c notes then (if is_owed (phase c notes) then None else Some NotOwed) else Some NotOpen
 
 abbrev pub refusal : Settings → Step → Past → Option ApplyError
-refusal k (Open addr) past = if_free (free_slot k past)
-refusal k (Packet c kind bytes) past = if_takes_units c past
-refusal k (Fault c fault) past = if_takes_units c past
+refusal k (Open addr) past = if_welcome (mode past.notes) (free_slot k past)
+refusal k (Packet c kind bytes) past = unless_not_open (takes_units c past.notes)
+refusal k (Line c bytes) past = unless_not_open (takes_units c past.notes)
+refusal k (Fault c fault) past = unless_not_open (takes_units c past.notes)
+refusal k (Close c) past = unless_not_open (is_open c past.notes)
+refusal k (Tick now) past = None
+refusal k (Took c) past = if_owed c past.notes
+refusal k (Withdrew c) past = if_owed c past.notes
 refusal k (Drain c) past = None
-
--- what a step that is taken answers
-abbrev pub done : Settings → Step → Past → Done
-done k (Open addr) past = record { opened = free_slot k past; created = None }
-done k (Packet c kind bytes) past = record { opened = None; created = None }
-done k (Fault c fault) past = record { opened = None; created = None }
-done k (Drain c) past = record { opened = None; created = None }
 
 -- ---- the run
 
@@ -96,11 +95,28 @@ abbrev pub unless : Option ApplyError → Past → Past → Past
 unless None after before = after
 unless (Some refused) after before = before
 
--- what has happened after one step more
-abbrev pub step : Settings → Step → Past → Past
-step k s past = unless (refusal k s past) (add k s past) past
+abbrev pub step_by : (Kind → Bool) → Settings → Step → Past → Past
+step_by served k s past = unless (refusal k s past) (add_by served k s past) past
 
 -- what has happened after these steps, the newest first
-abbrev pub run : Settings → List Step → Past
-run k [] = nothing
-run k (s ∷ older) = step k s (run k older)
+abbrev pub run_by : (Kind → Bool) → Settings → List Step → Past
+run_by served k [] = nothing
+run_by served k (s ∷ older) = step_by served k s (run_by served k older)
+
+-- ---- what a step that is taken answers
+
+-- the slot that was given
+abbrev pub given_slot : Settings → Step → Past → Option ℕ
+given_slot k (Open addr) past = free_slot k past
+given_slot k s past = None
+
+-- the newest job, if there are more than before
+abbrev pub newest : List ℕ → Option ℕ
+newest [] = None
+newest (n ∷ ns) = Some n
+
+abbrev pub made_since : List ℕ → List ℕ → Option ℕ
+made_since before after = if length after == length before then None else newest after
+
+abbrev pub done_by : (Kind → Bool) → Settings → Step → Past → Done
+done_by served k s past = record { opened = given_slot k s past; created = made_since (made past.notes) (made (add_by served k s past).notes) }

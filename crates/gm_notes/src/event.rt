@@ -13,6 +13,8 @@ pub enum UnitFault {
     BadMagic = 3,
     /// A packet's size is over the limit.
     PacketTooLarge = 4,
+    /// A text line has too many bytes before its newline.
+    LineTooLong = 5,
 }
 
 impl UnitFault {
@@ -35,6 +37,10 @@ pub enum ApplyError {
     NotOpen = 10,
     /// Every slot is open.
     NoSlot = 11,
+    /// No NOOP is owed to the slot.
+    NotOwed = 12,
+    /// The server takes no new connections.
+    Refusing = 13,
 }
 
 impl ApplyError {

@@ -1,14 +1,38 @@
 //! The bytes that wait for each slot.
 
-ghost use Rattle.std.specs.Prelude.{◌≡◌, ◌<◌, ◌++◌, [], length, replicate, slice_set, IfOk, OnOk, OnErr};
+ghost use Rattle.std.specs.Prelude.{◌≡◌, ◌<◌, ◌++◌, [], ◌∷◌, length, replicate, slice_set, IfOk, OnOk, OnErr};
 ghost use Rattle.std.specs.List.{slice_index_or};
 ghost use Rattle.gm_packet.specs.Answers.{answer_of};
-ghost use Rattle.gm_packet.specs.Writing.{Fits, answer_packet};
+ghost use Rattle.gm_packet.specs.Writing.{Fits, answer_packet, error};
+ghost use Rattle.gm_notes.specs.Texts.{fault_text};
 
+use crate::event::UnitFault;
+use gm_admin::AdminError;
 use gm_packet::{Response, write_response};
 use std::alloc::{AllocError, Global};
 use std::marker::Model;
 use std::mem;
+
+/// Appends an ERROR packet; want of memory leaves the bytes as they were.
+fn write_error(code: &[u8], text: &[u8], out: &mut Vec<u8>) -> Result<(), AllocError>
+    requires { Fits (code.now ∷ text.now ∷ []) }
+    ensures ok { OnOk result (out.new.items ≡ out.old.items ++ answer_packet (error code.now text.now)) }
+    ensures err { OnErr result (out.new.items ≡ out.old.items) }
+{
+    write_response(&Response::Error { code, text }, out)
+}
+
+/// Appends what a fault prints; want of memory leaves the bytes as they were.
+fn write_fault(fault: UnitFault, out: &mut Vec<u8>) -> Result<(), AllocError>
+    ensures ok { OnOk result (out.new.items ≡ out.old.items ++ fault_text fault) }
+    ensures err { OnErr result (out.new.items ≡ out.old.items) }
+{
+    match fault {
+        UnitFault::BadMagic => write_error(b"bad_magic", b"bad magic", out),
+        UnitFault::PacketTooLarge => write_error(b"packet_too_large", b"packet too large", out),
+        UnitFault::LineTooLong => gm_admin::write_fault(AdminError::LineTooLong, out),
+    }
+}
 
 /// The bytes that wait, slot by slot.
 #[derive(Drop)]
@@ -55,11 +79,23 @@ impl Lanes {
         write_response(response, lane)
     }
 
+    /// Queues what a fault prints to a slot; want of memory changes nothing.
+    pub fn give_fault(&mut self, slot: u32, fault: UnitFault) -> Result<(), AllocError>
+        requires { slot < length self.old }
+        ensures ok { OnOk result (self.new ≡ slice_set self.old slot (slice_index_or self.old slot [] ++ fault_text fault)) }
+        ensures err { OnErr result (self.new ≡ self.old) }
+        ensures len { length self.new ≡ length self.old }
+    {
+        let lane = &mut self.lanes[slot as usize];
+        write_fault(fault, lane)
+    }
+
     /// Takes what waits for a slot.
     pub fn take(&mut self, slot: u32) -> Vec<u8>
         requires { slot < length self.old }
         ensures taken { result.items ≡ slice_index_or self.old slot [] }
         ensures rest { self.new ≡ slice_set self.old slot [] }
+        ensures len { length self.new ≡ length self.old }
     {
         let lane = &mut self.lanes[slot as usize];
         let empty = Vec::new(*lane.allocator());

@@ -4,10 +4,13 @@
 mod config;
 mod event;
 mod lanes;
+pub mod laws;
 mod note;
 mod plain;
 mod questions;
+pub mod rows;
 mod server;
+mod states;
 #[cfg(test)]
 mod tests;
 mod text;
@@ -17,4 +20,5 @@ pub use event::{ApplyError, Done, Event, UnitFault};
 pub use note::Note;
 pub use plain::PlainServer;
 pub use server::JobServer;
+pub use states::{Mode, Phase, Place, Priority};
 pub use text::Text;

@@ -1,12 +1,124 @@
 //! The facts that the past is made of.
 
+use crate::states::{Mode, Priority};
 use crate::text::Text;
 
 /// One thing that has happened. The past of a server is the list of these.
 #[derive(Debug, Drop)]
 pub enum Note {
     /// A connection from this address was given the slot.
-    Opened { slot: u32, addr: Text },
+    Opened {
+        slot: u32,
+        addr: Text,
+    },
     /// The slot takes no more units.
-    Shut { slot: u32 },
+    Shut {
+        slot: u32,
+    },
+    /// The connection is gone.
+    Closed {
+        slot: u32,
+    },
+    /// The connection named itself.
+    Named {
+        slot: u32,
+        id: Text,
+    },
+    /// The connection wants exceptions.
+    OptionSet {
+        slot: u32,
+    },
+    /// The worker can do this function, a job of it within so many seconds; 0 is no limit.
+    Can {
+        slot: u32,
+        function: Text,
+        timeout: u32,
+    },
+    /// The worker can't do it any longer.
+    Cant {
+        slot: u32,
+        function: Text,
+    },
+    /// The worker can do nothing.
+    Reset {
+        slot: u32,
+    },
+    /// The worker went to sleep.
+    Slept {
+        slot: u32,
+    },
+    /// It is owed a NOOP.
+    Woken {
+        slot: u32,
+    },
+    /// It awoke by itself.
+    Stirred {
+        slot: u32,
+    },
+    /// The NOOP was taken.
+    Took {
+        slot: u32,
+    },
+    /// The NOOP was withdrawn.
+    Withdrew {
+        slot: u32,
+    },
+    /// A job was made, and waits.
+    Made {
+        job: u64,
+        function: Text,
+        priority: Priority,
+        unique: Text,
+        body: Text,
+    },
+    /// The job goes on without listeners.
+    Kept {
+        job: u64,
+    },
+    /// The connection hears of the job.
+    Listens {
+        job: u64,
+        slot: u32,
+    },
+    /// The job runs at the slot, at the latest until the deadline.
+    Assigned {
+        job: u64,
+        slot: u32,
+        deadline: Option<u64>,
+    },
+    /// The job waits again.
+    Returned {
+        job: u64,
+    },
+    /// The job is done or has failed.
+    Ended {
+        job: u64,
+    },
+    /// The job is wanted by nobody.
+    Discarded {
+        job: u64,
+    },
+    /// So far is the job.
+    Report {
+        job: u64,
+        numerator: Text,
+        denominator: Text,
+    },
+    /// The function was mentioned.
+    Mention {
+        function: Text,
+    },
+    /// At most so many jobs of the function may be there; 0 is no limit.
+    Limit {
+        function: Text,
+        size: u32,
+    },
+    /// So late is it, in seconds.
+    Now {
+        moment: u64,
+    },
+    /// So the server goes on.
+    Went {
+        mode: Mode,
+    },
 }

@@ -1,21 +1,21 @@
 //! A server that means what the definitions say, and little else.
 
-ghost use Rattle.std.specs.Prelude.{◌≡◌, ◌≤◌, List, [], ◌∷◌, IfOk, length};
+ghost use Rattle.std.specs.Prelude.{◌≡◌, ◌≤◌, List, [], ◌∷◌, Some, IfOk, length};
 ghost use Rattle.gm_packet.specs.Answers.{answer_of};
-ghost use Rattle.gm_packet.specs.Requests.{request_of};
+ghost use Rattle.gm_packet.specs.Kinds.{kind_of};
 ghost use Rattle.gm_packet.specs.Writing.{Fits};
-ghost use Rattle.gm_notes.specs.Ranges.{AreOpenBelow};
-ghost use Rattle.gm_notes.specs.Texts.{fault_answer};
-ghost use Rattle.gm_notes.specs.Steps.{request_answer};
+ghost use Rattle.gm_notes.specs.Ranges.{AreOpenBelow, NobodyIsOwed};
+ghost use Rattle.gm_notes.specs.Answers.{answer_to};
 
 use crate::config::Config;
 use crate::event::{ApplyError, Done, Event, UnitFault};
 use crate::lanes::Lanes;
 use crate::note::Note;
-use crate::questions::{free_slot, is_open, is_shut, takes_units};
+use crate::questions::{free_slot, is_open, is_shut, mode, phase, place, takes_units, welcomes};
 use crate::server::JobServer;
+use crate::states::{Mode, Phase, Place};
 use crate::text::Text;
-use gm_packet::{Request, Response};
+use gm_packet::{Kind, Response};
 use std::alloc::{AllocError, Global};
 
 /// The plain server: it keeps the list of all that has happened, the newest last, and answers by
@@ -28,36 +28,20 @@ pub struct PlainServer {
     alloc: Global,
     ghost wide: { length lanes ≡ config.slots },
     ghost in_range: { AreOpenBelow config.slots notes.items },
+    ghost calm: { NobodyIsOwed notes.items },
 }
 
 /// The answer to a packet.
 fn answer<'a>(kind: u32, bytes: &'a [u8]) -> Response<'a>
     requires { length bytes.now ≤ 1073741824 }
-    ensures value { answer_of result ≡ request_answer (request_of kind bytes.now) }
+    ensures value { answer_of result ≡ answer_to (kind_of kind) bytes.now }
     ensures fits { Fits (answer_of result).arguments }
 {
-    match Request::read(kind, bytes) {
-        Ok(Request::EchoReq { body }) => Response::EchoRes { body },
+    match Kind::of(kind) {
+        Some(Kind::EchoReq) => Response::EchoRes { body: bytes },
         _ => Response::Error {
             code: b"unknown_command",
             text: b"unknown command",
-        },
-    }
-}
-
-/// The answer to a fault.
-fn answer_to_fault(fault: UnitFault) -> Response<'static>
-    ensures value { answer_of result ≡ fault_answer fault }
-    ensures fits { Fits (answer_of result).arguments }
-{
-    match fault {
-        UnitFault::BadMagic => Response::Error {
-            code: b"bad_magic",
-            text: b"bad magic",
-        },
-        UnitFault::PacketTooLarge => Response::Error {
-            code: b"packet_too_large",
-            text: b"packet too large",
         },
     }
 }
@@ -85,11 +69,16 @@ impl PlainServer {
         ensures { (k : Settings) (steps : List Step) → PlainAgrees self.old k steps
             → Answers k steps (Open addr.now) result × PlainAgrees self.new k (steps_after result (Open addr.now) steps) }
     {
+        if !welcomes(&self.notes) {
+            return Err(ApplyError::Refusing);
+        }
         let Some(slot) = free_slot(&self.notes, self.config.slots()) else {
             return Err(ApplyError::NoSlot);
         };
         let addr = Text::copy_of(self.alloc, addr)?;
         self.notes.push(Note::Opened { slot, addr })?;
+        // What waited for the slot's connection before goes with it.
+        drop(self.lanes.take(slot));
         Ok(Done {
             opened: Some(slot),
             created: None,
@@ -119,12 +108,31 @@ impl PlainServer {
             return Err(ApplyError::NotOpen);
         }
         self.notes.reserve(1)?;
-        self.lanes.give(slot, &answer_to_fault(fault))?;
+        self.lanes.give_fault(slot, fault)?;
         self.notes.push(Note::Shut { slot }).unwrap();
         Ok(Done {
             opened: None,
             created: None,
         })
+    }
+}
+
+impl PlainServer {
+    ghost use Rattle.gm_notes.specs.Settings.{Settings};
+    ghost use Rattle.gm_notes.specs.Steps.{Step, refusal, if_owed};
+    ghost use Rattle.gm_notes.specs.Plain.{PlainAgrees};
+    ghost use Rattle.gm_notes.specs.Served.{run};
+
+    /// Why no NOOP of the slot can be taken or withdrawn: nobody sleeps yet, so none is owed.
+    fn not_owed(&self, slot: u32) -> ApplyError
+        ensures { (k : Settings) (steps : List Step) → PlainAgrees self.now k steps
+            → if_owed slot (run k steps).notes ≡ Some result }
+    {
+        if is_open(&self.notes, slot) {
+            ApplyError::NotOwed
+        } else {
+            ApplyError::NotOpen
+        }
     }
 }
 
@@ -141,8 +149,28 @@ impl JobServer for PlainServer {
         }
     }
 
+    fn owed(&self, slot: u32) -> bool {
+        is_open(&self.notes, slot) && phase(&self.notes, slot) == Phase::Owed
+    }
+
     fn shut(&self, slot: u32) -> bool {
         is_open(&self.notes, slot) && is_shut(&self.notes, slot)
+    }
+
+    fn mode(&self) -> Mode {
+        mode(&self.notes)
+    }
+
+    fn place(&self, job: u64) -> Place {
+        place(&self.notes, job)
+    }
+
+    fn took(&mut self, slot: u32) -> Result<(), ApplyError> {
+        Err(self.not_owed(slot))
+    }
+
+    fn withdrew(&mut self, slot: u32) -> Result<(), ApplyError> {
+        Err(self.not_owed(slot))
     }
 
     fn drain(&mut self, slot: u32) -> Vec<u8> {

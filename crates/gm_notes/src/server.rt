@@ -3,10 +3,14 @@
 ghost use Rattle.std.specs.Prelude.{◌≡◌, List, ◌∷◌};
 ghost use Rattle.gm_notes.specs.Settings.{Settings};
 ghost use Rattle.gm_notes.specs.Flow.{waiting};
-ghost use Rattle.gm_notes.specs.Steps.{Step, Drain, run};
-ghost use Rattle.gm_notes.specs.Servers.{step_of, IsSized, Answers, steps_after, is_closing};
+ghost use Rattle.gm_notes.specs.Notes.{mode};
+ghost use Rattle.gm_notes.specs.Jobs.{spot};
+ghost use Rattle.gm_notes.specs.Steps.{Step, Took, Withdrew, Drain};
+ghost use Rattle.gm_notes.specs.Served.{run};
+ghost use Rattle.gm_notes.specs.Servers.{step_of, IsSized, Answers, AnswersAt, steps_after, steps_after_that, is_closing, owes, place_of};
 
 use crate::event::{ApplyError, Done, Event};
+use crate::states::{Mode, Place};
 
 /// A job server, however it keeps what it knows.
 ///
@@ -16,19 +20,46 @@ use crate::event::{ApplyError, Done, Event};
 pub trait JobServer {
     ghost agrees: { Self → Settings → List Step → Type 0 };
 
-    /// Lets an event take effect, and answers what it made. `NotOpen` comes where a unit is for a slot
-    /// that isn't open or is shut, `NoSlot` where every slot is open, and `Memory` only for a step that
-    /// would else be taken. A packet's data are at most 1,073,741,824 bytes.
+    /// Lets an event take effect, and answers what it made. For an opening, `Refusing` comes where the
+    /// server takes no new connections, and then `NoSlot` where every slot is open; for a packet or a
+    /// fault, `NotOpen` where its slot isn't open or is shut; `Memory` only for a step that would else be
+    /// taken. A packet's data are at most 1,073,741,824 bytes.
     fn apply(&mut self, event: &Event<'_>) -> Result<Done, ApplyError>
         requires { IsSized event.now }
         ensures { (k : Settings) (steps : List Step) → agrees self.old k steps
             → Answers k steps (step_of event.now) result
             × agrees self.new k (steps_after result (step_of event.now) steps) };
 
+    /// Whether a NOOP is owed to the slot; never where it isn't open.
+    fn owed(&self, slot: u32) -> bool
+        ensures { (k : Settings) (steps : List Step) → agrees self.now k steps
+            → result ≡ owes slot (run k steps) };
+
     /// Whether the slot is open and takes no more units.
     fn shut(&self, slot: u32) -> bool
         ensures { (k : Settings) (steps : List Step) → agrees self.now k steps
             → result ≡ is_closing slot (run k steps) };
+
+    /// Whether the server goes on.
+    fn mode(&self) -> Mode
+        ensures { (k : Settings) (steps : List Step) → agrees self.now k steps
+            → result ≡ mode (run k steps).notes };
+
+    /// Where a job is.
+    fn place(&self, job: u64) -> Place
+        ensures { (k : Settings) (steps : List Step) → agrees self.now k steps
+            → result ≡ place_of (spot job (run k steps).notes) };
+
+    /// The NOOP that is owed to the slot was taken. `NotOpen` comes where the slot isn't open, and then
+    /// `NotOwed` where none is owed. It needs no memory.
+    fn took(&mut self, slot: u32) -> Result<(), ApplyError>
+        ensures { (k : Settings) (steps : List Step) → agrees self.old k steps
+            → AnswersAt k steps (Took slot) result × agrees self.new k (steps_after_that result (Took slot) steps) };
+
+    /// The NOOP that is owed to the slot was withdrawn; refused as `took`. It needs no memory.
+    fn withdrew(&mut self, slot: u32) -> Result<(), ApplyError>
+        ensures { (k : Settings) (steps : List Step) → agrees self.old k steps
+            → AnswersAt k steps (Withdrew slot) result × agrees self.new k (steps_after_that result (Withdrew slot) steps) };
 
     /// Takes the bytes that wait for the slot, which wait no more; none where it isn't open. It needs no
     /// memory.

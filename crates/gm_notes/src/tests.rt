@@ -1,7 +1,8 @@
 //! Worked answers, and that calls which can be refused for memory succeed where there is memory.
 
 use crate::{
-    ApplyError, Config, ConfigError, Done, Event, JobServer, PlainServer, Text, UnitFault,
+    ApplyError, Config, ConfigError, Done, Event, JobServer, Mode, Place, PlainServer, Text,
+    UnitFault,
 };
 use std::alloc::{AllocError, Global};
 use std::test::Fail;
@@ -55,9 +56,12 @@ fn settings_are_refused_in_their_order(rt: HostRuntime) -> Result<(), Fail> {
 fn numbers_of_refusals(rt: HostRuntime) {
     assert_eq!(rt; UnitFault::BadMagic.number(), 3);
     assert_eq!(rt; UnitFault::PacketTooLarge.number(), 4);
+    assert_eq!(rt; UnitFault::LineTooLong.number(), 5);
     assert_eq!(rt; ApplyError::Memory.number(), 6);
     assert_eq!(rt; ApplyError::NotOpen.number(), 10);
     assert_eq!(rt; ApplyError::NoSlot.number(), 11);
+    assert_eq!(rt; ApplyError::NotOwed.number(), 12);
+    assert_eq!(rt; ApplyError::Refusing.number(), 13);
 }
 
 #[test]
@@ -164,6 +168,30 @@ fn a_fault_shuts_its_slot(rt: HostRuntime) -> Result<(), Fail> {
     assert_eq!(rt;
         server.drain(0).as_slice(),
         b"\0RES\0\0\0\x13\0\0\0\x21packet_too_large\0packet too large".as_slice()
+    );
+    Ok(())
+}
+
+#[test]
+fn nobody_is_owed_and_nothing_runs(rt: HostRuntime) -> Result<(), Fail> {
+    let mut server = server(&rt, 2)?;
+    assert_eq!(rt; server.took(0), Err(ApplyError::NotOpen));
+    assert_eq!(rt; server.withdrew(0), Err(ApplyError::NotOpen));
+    assert_eq!(rt; server.apply(&Event::Open { addr: b"a" }).is_ok(), true);
+    assert_eq!(rt; server.owed(0), false);
+    assert_eq!(rt; server.took(0), Err(ApplyError::NotOwed));
+    assert_eq!(rt; server.withdrew(0), Err(ApplyError::NotOwed));
+    assert_eq!(rt; server.mode() == Mode::Running, true);
+    assert_eq!(rt; server.place(1) == Place::Unmade, true);
+    let long = Event::Fault {
+        slot: 0,
+        fault: UnitFault::LineTooLong,
+    };
+    assert_eq!(rt; server.apply(&long), Ok(NOTHING));
+    assert_eq!(rt; server.shut(0), true);
+    assert_eq!(rt;
+        server.drain(0).as_slice(),
+        b"ERR line_too_long\n".as_slice()
     );
     Ok(())
 }

@@ -1,20 +1,22 @@
 -- Orders that are done.
-use Rattle.std.proofs.Common.{◌≡◌, ◌<◌, ℕ, arith, Bool, true, false, ◌&&◌, List, [], ◌∷◌, ◌++◌, length, get_or, set, Option, Some, None, refl, sym, ap, subst, ◌∙◌, append_assoc, append-nil, length-set}
+use Rattle.std.proofs.Common.{◌≡◌, ◌<◌, ◌≤◌, ℕ, arith, Bool, true, false, ◌&&◌, List, [], ◌∷◌, ◌++◌, length, get_or, set, Option, Some, None, refl, sym, ap, subst, ◌∙◌, append_assoc, append-nil, length-set}
 use Rattle.gm_feeder.specs.declared.units.Limits.{Limits}
 use Rattle.gm_notes.specs.declared.note.Note.{Note}
 use Rattle.gm_notes.specs.declared.note.Note.TheVariants.{Opened}
-use Rattle.gm_notes.specs.declared.event.ApplyError.TheVariants.{NotOpen, NoSlot}
+use Rattle.gm_notes.specs.declared.event.ApplyError.{ApplyError}
+use Rattle.gm_notes.specs.declared.event.ApplyError.TheVariants.{NotOpen}
 use Rattle.gm_notes.specs.Settings.{Settings}
 use Rattle.gm_notes.specs.Notes.{is_open, is_shut, takes_units}
-use Rattle.gm_notes.specs.Steps.{Step, Open, run}
+use Rattle.gm_notes.specs.Steps.{Step, Open, free_slot}
+use Rattle.gm_notes.specs.Served.{run}
 use Rattle.gm_notes.specs.Servers.{is_closing}
 use Rattle.gm_play.specs.declared.connection.Connection.{Connection}
 use Rattle.gm_play.specs.Fronts.{Front, fresh, with_rest, GivesPiece}
 use Rattle.gm_play.specs.Scripts as scripts
 use Rattle.gm_play.specs.Prints.{open_text, refused_text, bad_text, told, drained, Opening, Giving}
-use Rattle.gm_play.specs.Connections.{IsPlace, IsTold, IsHeld, IsReady, TellsAll, Plays, GetsSlot, Gives}
+use Rattle.gm_play.specs.Connections.{IsPlace, IsTold, IsHeld, IsReady, TellsAll, Plays, IsGiven, Gives}
 use Rattle.gm_play.proofs.Places.{each_set, place_stays, other_slot, same_slot}
-use Rattle.gm_play.proofs.Steps.{IsFree, free_is, opened_steps, refused_steps, opened_notes, opened_open, opened_shut, opened_here}
+use Rattle.gm_play.proofs.Steps.{IsFree, free_is, opened_notes, opened_open, opened_shut, opened_here}
 
 -- ---- an opening
 
@@ -23,11 +25,11 @@ abbrev pub opened : ℕ → List ℕ → Front → Front
 opened c addr front = record { steps = Open addr ∷ front.steps; rests = with_rest c [] front.rests }
 
 pub free_here : {S : Type 0} (agrees : S → Settings → List Step → Type 0) (k : Settings) (limits : Limits) (front : Front) (c : ℕ) (addr : List ℕ) (server server' : S) (places : List (Option Connection))
-    → IsReady agrees k limits front server places → GetsSlot agrees k front.steps addr (Some c) server' → IsFree 0 k.slots (run k front.steps).notes c
-free_here agrees k limits front c addr server server' places h g = free_is 0 k.slots (run k front.steps).notes c (sym g.got)
+    → IsReady agrees k limits front server places → IsGiven agrees k front.steps addr c server' → IsFree 0 k.slots (run k front.steps).notes c
+free_here agrees k limits front c addr server server' places h g = free_is 0 k.slots (run k front.steps).notes c g.free
 
 pub in_places : {S : Type 0} (agrees : S → Settings → List Step → Type 0) (k : Settings) (limits : Limits) (front : Front) (c : ℕ) (addr : List ℕ) (server server' : S) (places : List (Option Connection))
-    → IsReady agrees k limits front server places → GetsSlot agrees k front.steps addr (Some c) server' → c < length places
+    → IsReady agrees k limits front server places → IsGiven agrees k front.steps addr c server' → c < length places
 in_places agrees k limits front c addr server server' places h g =
     let free = free_here agrees k limits front c addr server server' places h g in
     omega (arith, free.high, h.count)
@@ -37,16 +39,16 @@ not_closing true s e = absurd cc
 not_closing false s e = refl
 
 pub opens : {S : Type 0} (agrees : S → Settings → List Step → Type 0) (k : Settings) (limits : Limits) (front : Front) (c : ℕ) (addr : List ℕ) (server server' : S) (places : List (Option Connection)) (connection : Connection)
-    → IsReady agrees k limits front server places → GetsSlot agrees k front.steps addr (Some c) server' → connection.feeder.limits ≡ limits → connection.feeder.pending ≡ [] → connection.feeder.fault ≡ None → connection.told_shut ≡ false
+    → IsReady agrees k limits front server places → IsGiven agrees k front.steps addr c server' → connection.feeder.limits ≡ limits → connection.feeder.pending ≡ [] → connection.feeder.fault ≡ None → connection.told_shut ≡ false
     → IsHeld agrees k limits (run k front.steps) (opened c addr front) server' (set places c (Some connection))
 opens agrees k limits front c addr server server' places connection h g limited empty sound told =
     let free = free_here agrees k limits front c addr server server' places h g in
     let lt = in_places agrees k limits front c addr server server' places h g in
     let old : List Note = (run k front.steps).notes in
     let new : List Note = (run k (Open addr ∷ front.steps)).notes in
-    let notes : new ≡ Opened c addr ∷ old = opened_notes k addr front.steps c (sym g.got) in
+    let notes : new ≡ Opened c addr ∷ old = opened_notes k addr front.steps c g.taken g.free in
     record {
-      agreed = subst (agrees server' k) (opened_steps k addr front.steps c (sym g.got)) g.agreed;
+      agreed = g.agreed;
       count = length-set places c (Some connection) ∙ h.count;
       held =
           each_set (λ (d : ℕ) (p : Option Connection). IsPlace limits d new (with_rest c [] front.rests d) p) places c (Some connection) lt
@@ -68,7 +70,7 @@ joined : (out said more out' out'' : List ℕ) → out' ≡ out ++ said → out'
 joined out said more out' out'' a b = b ∙ (ap (λ (l : List ℕ). l ++ more) a ∙ append_assoc out said more)
 
 pub plays_open : {S : Type 0} (agrees : S → Settings → List Step → Type 0) (k : Settings) (limits : Limits) (front : Front) (c : ℕ) (addr out out' out'' : List ℕ) (server server' : S) (places places' : List (Option Connection))
-    → GetsSlot agrees k front.steps addr (Some c) server → out' ≡ out ++ open_text c → TellsAll agrees k limits (run k front.steps) (opened c addr front) out' server' places' out''
+    → IsGiven agrees k front.steps addr c server → out' ≡ out ++ open_text c → TellsAll agrees k limits (run k front.steps) (opened c addr front) out' server' places' out''
     → Plays agrees k limits front (scripts.Opens addr) out server' places' out''
 plays_open agrees k limits front c addr out out' out'' server server' places places' g said t =
     let mid = opened c addr front in
@@ -77,26 +79,11 @@ plays_open agrees k limits front c addr out out' out'' server server' places pla
     record {
       text = open_text c ++ more;
       new = new;
-      tells = subst (λ (slot : Option ℕ). Opening k addr front slot (open_text c ++ more) new) g.got (record { printed = refl; taken = refl });
+      tells =
+          subst (λ (r : Option ApplyError). Opening k addr front r (free_slot k (run k front.steps)) (open_text c ++ more) new) (sym g.taken)
+          (subst (λ (slot : Option ℕ). Opening k addr front None slot (open_text c ++ more) new) (sym g.free) (record { printed = refl; taken = refl }));
       printed = joined out (open_text c) more out' out'' said t.printed;
       ready = t.ready;
-    }
-
-pub plays_full : {S : Type 0} (agrees : S → Settings → List Step → Type 0) (k : Settings) (limits : Limits) (front : Front) (addr out out' : List ℕ) (server server' : S) (places : List (Option Connection))
-    → IsReady agrees k limits front server places → GetsSlot agrees k front.steps addr None server' → out' ≡ out ++ refused_text NoSlot
-    → Plays agrees k limits front (scripts.Opens addr) out server' places out'
-plays_full agrees k limits front addr out out' server server' places h g said =
-    record {
-      text = refused_text NoSlot;
-      new = front;
-      tells = subst (λ (slot : Option ℕ). Opening k addr front slot (refused_text NoSlot) front) g.got (record { printed = refl; kept = refl });
-      printed = said;
-      ready = record {
-        agreed = subst (agrees server' k) (refused_steps k addr front.steps (sym g.got)) g.agreed;
-        count = h.count;
-        held = h.held;
-        told = h.told;
-      };
     }
 
 -- ---- a piece
@@ -161,7 +148,7 @@ ready agrees k limits server places agreed count empty =
 
 -- the opening, and what is told after it
 pub opens_and_tells : {S : Type 0} (agrees : S → Settings → List Step → Type 0) (k : Settings) (limits : Limits) (front : Front) (c : ℕ) (addr out out' out'' : List ℕ) (server server' server'' : S) (places places' places'' : List (Option Connection)) (connection : Connection)
-    → IsReady agrees k limits front server places → GetsSlot agrees k front.steps addr (Some c) server' → connection.feeder.limits ≡ limits → connection.feeder.pending ≡ [] → connection.feeder.fault ≡ None → connection.told_shut ≡ false
+    → IsReady agrees k limits front server places → IsGiven agrees k front.steps addr c server' → connection.feeder.limits ≡ limits → connection.feeder.pending ≡ [] → connection.feeder.fault ≡ None → connection.told_shut ≡ false
     → places' ≡ set places c (Some connection) → out' ≡ out ++ open_text c
     → (IsHeld agrees k limits (run k front.steps) (opened c addr front) server' places' → TellsAll agrees k limits (run k front.steps) (opened c addr front) out' server'' places'' out'')
     → Plays agrees k limits front (scripts.Opens addr) out server'' places'' out''
@@ -169,3 +156,10 @@ opens_and_tells agrees k limits front c addr out out' out'' server server' serve
     let held = opens agrees k limits front c addr server server' places connection h g limited empty sound told in
     plays_open agrees k limits front c addr out out' out'' server' server'' places places'' g said
     (tells (subst (λ (l : List (Option Connection)). IsHeld agrees k limits (run k front.steps) (opened c addr front) server' l) (sym is) held))
+
+-- the slot of an opening has a place
+pub opens_past_end : {S : Type 0} (agrees : S → Settings → List Step → Type 0) (k : Settings) (limits : Limits) (front : Front) (c : ℕ) (addr out out' : List ℕ) (server server' server'' : S) (places places' : List (Option Connection))
+    → IsReady agrees k limits front server places → IsGiven agrees k front.steps addr c server' → length places ≤ c → Plays agrees k limits front (scripts.Opens addr) out server'' places' out'
+opens_past_end agrees k limits front c addr out out' server server' server'' places places' h g far =
+    let near = in_places agrees k limits front c addr server server' places h g in
+    absurd (omega (arith, near, far))

@@ -1,30 +1,24 @@
 -- A script prints one text.
 use Rattle.std.proofs.Common.{◌≡◌, ℕ, Bool, true, false, List, [], ◌∷◌, ◌++◌, Option, Some, None, refl, sym, ap, ap₂, subst, ◌∙◌}
 use Rattle.gm_feeder.specs.declared.units.Limits.{Limits}
-use Rattle.gm_feeder.specs.declared.units.FeedFault.TheVariants as feeds
 use Rattle.gm_feeder.specs.Units.{Item}
 use Rattle.gm_feeder.proofs.StreamLemmas.{one_spelling, one_fault, waits-no_fault}
 use Rattle.gm_notes.specs.declared.event.UnitFault.{UnitFault}
-use Rattle.gm_notes.specs.declared.event.UnitFault.TheVariants.{BadMagic, PacketTooLarge}
+use Rattle.gm_notes.specs.declared.event.ApplyError.{ApplyError}
 use Rattle.gm_notes.specs.Settings.{Settings}
 use Rattle.gm_notes.specs.Notes.{takes_units}
-use Rattle.gm_notes.specs.Steps.{Open, free_slot, run}
+use Rattle.gm_notes.specs.Steps.{Open, free_slot, refusal}
+use Rattle.gm_notes.specs.Served.{run}
 use Rattle.gm_play.specs.Scripts.{Order, Skip, Bad, Opens, Gives, order_of, lines_of}
-use Rattle.gm_play.specs.Fronts.{Front, fresh, with_rest, with_units, with_fault, Stands, GivesPiece}
+use Rattle.gm_play.specs.Fronts.{Front, fresh, with_rest, with_units, with_fault, unit_fault, Stands, GivesPiece}
 use Rattle.gm_play.specs.Prints.{Settles, Only, Opening, Giving, Tells, Prints, IsTextOf, told, drained, open_text}
 
 one_standing : (limits : Limits) (rest : List ℕ) (fault other : Option UnitFault) → Stands limits rest fault → Stands limits rest other → fault ≡ other
 one_standing limits rest None None s t = refl
-one_standing limits rest None (Some BadMagic) s t = absurd (waits-no_fault limits rest feeds.BadMagic s t)
-one_standing limits rest None (Some PacketTooLarge) s t = absurd (waits-no_fault limits rest feeds.PacketTooLarge s t)
-one_standing limits rest (Some BadMagic) None s t = absurd (waits-no_fault limits rest feeds.BadMagic t s)
-one_standing limits rest (Some PacketTooLarge) None s t = absurd (waits-no_fault limits rest feeds.PacketTooLarge t s)
-one_standing limits rest (Some BadMagic) (Some BadMagic) s t = refl
-one_standing limits rest (Some PacketTooLarge) (Some PacketTooLarge) s t = refl
-one_standing limits rest (Some BadMagic) (Some PacketTooLarge) s t =
-    absurd (let same : feeds.BadMagic ≡ feeds.PacketTooLarge = one_fault limits rest feeds.BadMagic feeds.PacketTooLarge s t in cc)
-one_standing limits rest (Some PacketTooLarge) (Some BadMagic) s t =
-    absurd (let same : feeds.PacketTooLarge ≡ feeds.BadMagic = one_fault limits rest feeds.PacketTooLarge feeds.BadMagic s t in cc)
+one_standing limits rest None (Some fault) s t = absurd (waits-no_fault limits rest t.fed s t.stands)
+one_standing limits rest (Some fault) None s t = absurd (waits-no_fault limits rest s.fed t s.stands)
+one_standing limits rest (Some fault) (Some other) s t =
+    sym s.named ∙ (ap unit_fault (one_fault limits rest s.fed t.fed s.stands t.stands) ∙ t.named)
 
 -- the front that these units, this rest and this fault lead to
 abbrev led : Settings → ℕ → Front → List Item → List ℕ → Option UnitFault → Front
@@ -47,9 +41,10 @@ one_settling k old mid mid' said a b x y same s t = (
 one_only : (old : Front) (said a b : List ℕ) (x y : Front) → Only old said a x → Only old said b y → (a ≡ b) × (x ≡ y)
 one_only old said a b x y s t = (s.printed ∙ sym t.printed, s.kept ∙ sym t.kept)
 
-one_opening : (k : Settings) (addr : List ℕ) (old : Front) (slot : Option ℕ) (a b : List ℕ) (x y : Front) → Opening k addr old slot a x → Opening k addr old slot b y → (a ≡ b) × (x ≡ y)
-one_opening k addr old None a b x y s t = (s.printed ∙ sym t.printed, s.kept ∙ sym t.kept)
-one_opening k addr old (Some c) a b x y s t =
+one_opening : (k : Settings) (addr : List ℕ) (old : Front) (refused : Option ApplyError) (slot : Option ℕ) (a b : List ℕ) (x y : Front) → Opening k addr old refused slot a x → Opening k addr old refused slot b y → (a ≡ b) × (x ≡ y)
+one_opening k addr old (Some refused) slot a b x y s t = (s.printed ∙ sym t.printed, s.kept ∙ sym t.kept)
+one_opening k addr old None None a b x y s t = absurd s
+one_opening k addr old None (Some c) a b x y s t =
     let mid : Front = record { steps = Open addr ∷ old.steps; rests = with_rest c [] old.rests } in
     one_settling k old mid mid (open_text c) a b x y refl s t
 
@@ -61,7 +56,7 @@ one_giving k limits c piece old true a b x y s t =
 one_telling : (k : Settings) (limits : Limits) (old : Front) (order : Order) (a b : List ℕ) (x y : Front) → Tells k limits old order a x → Tells k limits old order b y → (a ≡ b) × (x ≡ y)
 one_telling k limits old Skip a b x y s t = (s.printed ∙ sym t.printed, s.kept ∙ sym t.kept)
 one_telling k limits old Bad a b x y s t = (s.printed ∙ sym t.printed, s.kept ∙ sym t.kept)
-one_telling k limits old (Opens addr) a b x y s t = one_opening k addr old (free_slot k (run k old.steps)) a b x y s t
+one_telling k limits old (Opens addr) a b x y s t = one_opening k addr old (refusal k (Open addr) (run k old.steps)) (free_slot k (run k old.steps)) a b x y s t
 one_telling k limits old (Gives c piece) a b x y s t = one_giving k limits c piece old (takes_units c (run k old.steps).notes) a b x y s t
 
 one_print : (k : Settings) (limits : Limits) (front : Front) (lines : List (List ℕ)) (a b : List ℕ) → Prints k limits front lines a → Prints k limits front lines b → a ≡ b

@@ -6,10 +6,14 @@ use Rattle.gm_notes.specs.declared.note.Note.{Note}
 use Rattle.gm_notes.specs.declared.note.Note.TheVariants.{Opened, Shut}
 use Rattle.gm_notes.specs.declared.event.UnitFault.{UnitFault}
 use Rattle.gm_notes.specs.declared.event.ApplyError.{ApplyError}
-use Rattle.gm_notes.specs.declared.event.ApplyError.TheVariants.{NotOpen}
+use Rattle.gm_packet.specs.Kinds.{kind_of}
+use Rattle.gm_notes.proofs.PlainLemmas.{packet_is}
 use Rattle.gm_notes.specs.Settings.{Settings}
-use Rattle.gm_notes.specs.Notes.{is_open, is_shut, free_from}
-use Rattle.gm_notes.specs.Steps.{Past, Step, Open, Packet, Fault, refusal, add, unless, opening, if_free, free_slot, run}
+use Rattle.gm_notes.specs.Notes.{is_open, is_shut}
+use Rattle.gm_notes.specs.Steps.{free_from}
+use Rattle.gm_notes.specs.Past.{Past}
+use Rattle.gm_notes.specs.Steps.{Step, Open, Packet, Fault, refusal, unless, unless_not_open, opening, free_slot}
+use Rattle.gm_notes.specs.Served.{add, run}
 use Rattle.gm_play.specs.Fronts.{unless_refused, handed_in, with_unit, with_units, with_fault}
 use Rattle.gm_play.proofs.Places.{Keeps, keeps_same, same_slot}
 
@@ -23,7 +27,8 @@ packet_notes : (r : Option ApplyError) (k : Settings) (c kind : ℕ) (bytes : Li
     → (run k (unless_refused r (Packet c kind bytes) steps)).notes ≡ (run k steps).notes
 packet_notes None k c kind bytes steps =
     let past = run k steps in
-    unless_notes (refusal k (Packet c kind bytes) past) (add k (Packet c kind bytes) past) past refl
+    unless_notes (refusal k (Packet c kind bytes) past) (add k (Packet c kind bytes) past) past
+    (ap (λ (p : Past). p.notes) (packet_is k c (kind_of kind) bytes past))
 packet_notes (Some refused) k c kind bytes steps = refl
 
 unit_notes : (k : Settings) (c : ℕ) (item : Item) (steps : List Step) → (run k (with_unit k c item steps)).notes ≡ (run k steps).notes
@@ -57,7 +62,7 @@ shut_now : (c : ℕ) (notes : List Note) → is_shut c (Shut c ∷ notes) ≡ tr
 shut_now c notes = rw (same_slot c) refl
 
 -- an open slot that takes no units is shut
-shut_already : (o s : Bool) (refused : ApplyError) → (if o && not s then None else Some NotOpen) ≡ Some refused → o ≡ true → s ≡ true
+shut_already : (o s : Bool) (refused : ApplyError) → unless_not_open (o && not s) ≡ Some refused → o ≡ true → s ≡ true
 shut_already true true refused e is_on = refl
 shut_already true false refused e is_on = absurd cc
 shut_already false s refused e is_on = absurd cc
@@ -92,15 +97,12 @@ pub free_is : (c n : ℕ) (notes : List Note) (d : ℕ) → free_from c n notes 
 free_is c zero notes d e = absurd cc
 free_is c (suc n) notes d e = free_by (is_open c notes) c n notes d refl e (free_is (suc c) n notes d)
 
--- the opening is taken where there is a slot
-pub opened_steps : (k : Settings) (addr : List ℕ) (steps : List Step) (c : ℕ) → free_slot k (run k steps) ≡ Some c → handed_in k (Open addr) steps ≡ Open addr ∷ steps
-opened_steps k addr steps c e = ap (λ (q : Option ℕ). unless_refused (if_free q) (Open addr) steps) e
-
-pub refused_steps : (k : Settings) (addr : List ℕ) (steps : List Step) → free_slot k (run k steps) ≡ None → handed_in k (Open addr) steps ≡ steps
-refused_steps k addr steps e = ap (λ (q : Option ℕ). unless_refused (if_free q) (Open addr) steps) e
-
-pub opened_notes : (k : Settings) (addr : List ℕ) (steps : List Step) (c : ℕ) → free_slot k (run k steps) ≡ Some c → (run k (Open addr ∷ steps)).notes ≡ Opened c addr ∷ (run k steps).notes
-opened_notes k addr steps c e = ap (λ (q : Option ℕ). (unless (if_free q) (opening q addr (run k steps)) (run k steps)).notes) e
+-- what an opening that is taken notes
+pub opened_notes : (k : Settings) (addr : List ℕ) (steps : List Step) (c : ℕ) → refusal k (Open addr) (run k steps) ≡ None → free_slot k (run k steps) ≡ Some c
+    → (run k (Open addr ∷ steps)).notes ≡ Opened c addr ∷ (run k steps).notes
+opened_notes k addr steps c taken e =
+    ap (λ (q : Option ApplyError). (unless q (add k (Open addr) (run k steps)) (run k steps)).notes) taken
+    ∙ ap (λ (q : Option ℕ). (opening q addr (run k steps)).notes) e
 
 pub opened_open : (c d : ℕ) (addr : List ℕ) (notes : List Note) → (d == c) ≡ false → is_open d (Opened c addr ∷ notes) ≡ is_open d notes
 opened_open c d addr notes other = rw other refl

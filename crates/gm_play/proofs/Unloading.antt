@@ -2,14 +2,13 @@
 use Rattle.std.proofs.Common.{◌≡◌, ◌<◌, ℕ, arith, List, [], ◌∷◌, ◌++◌, length, Option, Some, None, refl, sym, ap, subst, ◌∙◌, append_assoc, append-nil, length-append}
 use Rattle.gm_feeder.specs.declared.units.Limits.{Limits}
 use Rattle.gm_feeder.specs.Units.{Item, IsUnitThen, Spells, BeginsNoUnit}
-use Rattle.gm_feeder.specs.Streams.{Stream, GivesUnit, GivesNone, GivesFault}
+use Rattle.gm_feeder.specs.Streams.{Stream, GivesUnit, GivesNone}
 use Rattle.gm_feeder.proofs.StreamLemmas.{unit_not_empty, fault-begins_no_unit}
 use Rattle.gm_notes.specs.declared.event.UnitFault.{UnitFault}
-use Rattle.gm_notes.specs.declared.event.UnitFault.TheVariants.{BadMagic, PacketTooLarge}
 use Rattle.gm_notes.specs.Settings.{Settings}
 use Rattle.gm_notes.specs.Steps.{Step}
 use Rattle.gm_play.specs.Fronts.{with_unit, with_units, Stands}
-use Rattle.gm_play.specs.Feeding.{Goes, HandsInUnit, Unloads, feed_fault}
+use Rattle.gm_play.specs.Feeding.{Goes, HandsInUnit, Unloads, GivesFaultAs}
 
 pub with_units-push : (k : Settings) (c : ℕ) (items : List Item) (item : Item) (steps : List Step) → with_units k c (items ++ item ∷ []) steps ≡ with_unit k c item (with_units k c items steps)
 with_units-push k c [] item steps = refl
@@ -66,12 +65,8 @@ ends_waiting agrees c first old server mid server' new u g =
     let same : new ≡ mid = g.0.kept in
     ends agrees c first old server mid None server' new u g.1 (ap (λ (s : Stream). s.limits) same) (ap (λ (s : Stream). s.pending) same) g.0.waits.no_unit g.0.waits (λ e. ap (λ (s : Stream). s.fault) same ∙ g.0.running)
 
-stands : (limits : Limits) (rest : List ℕ) (old : Stream) (fault : UnitFault) (new : Stream) → GivesFault old (feed_fault fault) new → Stands old.limits old.pending (Some fault)
-stands limits rest old BadMagic new g = g.stands
-stands limits rest old PacketTooLarge new g = g.stands
-
 pub ends_faulty : {S : Type 0} (agrees : S → Settings → List Step → Type 0) (c : ℕ) (first : S) (old : Stream) (server : S) (mid : Stream) (fault : UnitFault) (server' : S) (new : Stream)
-    → Unloading agrees c first old server mid → GivesFault mid (feed_fault fault) new × (server' ≡ server) → Unloads agrees c first old (Some fault) server' new
+    → Unloading agrees c first old server mid → GivesFaultAs mid fault new × (server' ≡ server) → Unloads agrees c first old (Some fault) server' new
 ends_faulty agrees c first old server mid fault server' new u g =
-    ends agrees c first old server mid (Some fault) server' new u g.1 (ap (λ (s : Stream). s.limits) g.0.kept) (ap (λ (s : Stream). s.pending) g.0.kept)
-    (fault-begins_no_unit mid.limits mid.pending (feed_fault fault) g.0.stands) (stands mid.limits mid.pending mid fault new g.0) (λ e. absurd (let bad : Some fault ≡ None = e in cc))
+    ends agrees c first old server mid (Some fault) server' new u g.1 (ap (λ (s : Stream). s.limits) g.0.gives.kept) (ap (λ (s : Stream). s.pending) g.0.gives.kept)
+    (fault-begins_no_unit mid.limits mid.pending g.0.fed g.0.gives.stands) (record { fed = g.0.fed; named = g.0.named; stands = g.0.gives.stands }) (λ e. absurd (let bad : Some fault ≡ None = e in cc))

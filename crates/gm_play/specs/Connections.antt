@@ -1,15 +1,18 @@
 -- How the program holds a front: a server, and a connection for each open slot.
-use Rattle.std.specs.Prelude.{◌≡◌, ℕ, Bool, true, false, not, ◌&&◌, List, ◌∷◌, ◌++◌, length, slice_index_or, Option, Some, None}
+use Rattle.std.specs.Prelude.{◌≡◌, ℕ, Bool, true, false, not, ◌&&◌, List, ◌∷◌, ◌++◌, length, slice_index_or, Option, Some, None, Result, Ok, Err}
 use Rattle.std.specs.Io.KnownBytes.{Appends}
 use Rattle.gm_feeder.specs.declared.units.Limits.{Limits}
 use Rattle.gm_notes.specs.Settings.{Settings}
 use Rattle.gm_notes.specs.declared.note.Note.{Note}
+use Rattle.gm_notes.specs.declared.event.ApplyError.{ApplyError}
 use Rattle.gm_notes.specs.Notes.{is_open, is_shut, takes_units}
 use Rattle.gm_notes.specs.Flow.{waiting}
-use Rattle.gm_notes.specs.Steps.{Past, Step, Open, Drain, free_slot, run}
+use Rattle.gm_notes.specs.Past.{Past}
+use Rattle.gm_notes.specs.Steps.{Step, Open, Drain, free_slot, refusal}
+use Rattle.gm_notes.specs.Served.{run}
 use Rattle.gm_notes.specs.Servers.{is_closing}
 use Rattle.gm_play.specs.declared.connection.Connection.{Connection}
-use Rattle.gm_play.specs.Fronts.{Front, handed_in, GivesPiece}
+use Rattle.gm_play.specs.Fronts.{Front, GivesPiece}
 use Rattle.gm_play.specs.Scripts.{Order}
 use Rattle.gm_play.specs.Prints.{bytes_text, shut_text, told, drained, Tells}
 
@@ -71,10 +74,16 @@ pub record Plays {S : Type 0} (agrees : S → Settings → List Step → Type 0)
   pub printed : out' ≡ out ++ text
   pub ready : IsReady agrees k limits new server places
 
--- an opening from this address gets this slot, or there is none
-pub record GetsSlot {S : Type 0} (agrees : S → Settings → List Step → Type 0) (k : Settings) (steps : List Step) (addr : List ℕ) (slot : Option ℕ) (server : S) : Type 0 where
-  pub got : slot ≡ free_slot k (run k steps)
-  pub agreed : agrees server k (handed_in k (Open addr) steps)
+-- the opening from this address is taken, and gets this slot
+pub record IsGiven {S : Type 0} (agrees : S → Settings → List Step → Type 0) (k : Settings) (steps : List Step) (addr : List ℕ) (slot : ℕ) (server : S) : Type 0 where
+  pub taken : refusal k (Open addr) (run k steps) ≡ None
+  pub free : free_slot k (run k steps) ≡ Some slot
+  pub agreed : agrees server k (Open addr ∷ steps)
+
+-- an opening from this address gets this slot, or is refused so
+abbrev pub GetsSlot : {S : Type 0} → (S → Settings → List Step → Type 0) → Settings → List Step → List ℕ → Result ℕ ApplyError → S → Type 0
+GetsSlot agrees k steps addr (Ok slot) server = IsGiven agrees k steps addr slot server
+GetsSlot agrees k steps addr (Err refused) server = (refusal k (Open addr) (run k steps) ≡ Some refused) × agrees server k steps
 
 -- a piece was taken by the slot, or the slot takes none
 abbrev pub Gives : {S : Type 0} → (S → Settings → List Step → Type 0) → Settings → Limits → ℕ → List ℕ → Front → Bool → S → List (Option Connection) → Type 0

@@ -1,31 +1,15 @@
 -- What happens to a server and a feeder when a piece comes.
 use Rattle.std.specs.Prelude.{◌≡◌, ℕ, List, ◌++◌, Option, Some, None}
 use Rattle.gm_feeder.specs.declared.units.FeedFault.{FeedFault}
-use Rattle.gm_feeder.specs.declared.units.FeedFault.TheVariants as feeds
 use Rattle.gm_feeder.specs.Units.{Item, Spells}
 use Rattle.gm_feeder.specs.Streams.{Stream, GivesUnit, GivesNone, GivesFault}
 use Rattle.gm_notes.specs.declared.event.UnitFault.{UnitFault}
-use Rattle.gm_notes.specs.declared.event.UnitFault.TheVariants as faults
 use Rattle.gm_notes.specs.Settings.{Settings}
 use Rattle.gm_notes.specs.Steps.{Step}
 use Rattle.gm_play.specs.declared.connection.Connection.{Connection}
 use Rattle.gm_play.specs.declared.feeding.Turn.{Turn}
 use Rattle.gm_play.specs.declared.feeding.Turn.TheVariants as turns
-use Rattle.gm_play.specs.Fronts.{with_unit, with_units, with_fault, Stands}
-
--- ---- faults
-
--- the fault of a feeder as the server's; want of memory is none
-abbrev pub unit_fault : FeedFault → Option UnitFault
-unit_fault feeds.BadMagic = Some faults.BadMagic
-unit_fault feeds.PacketTooLarge = Some faults.PacketTooLarge
-unit_fault feeds.Memory = None
-
-abbrev pub feed_fault : UnitFault → FeedFault
-feed_fault faults.BadMagic = feeds.BadMagic
-feed_fault faults.PacketTooLarge = feeds.PacketTooLarge
-
--- ---- what happens to a server and a feeder
+use Rattle.gm_play.specs.Fronts.{unit_fault, with_unit, with_units, with_fault, Stands}
 
 -- whatever steps the server agreed with, it agrees with these afterwards
 abbrev pub Goes : {S : Type 0} → (S → Settings → List Step → Type 0) → (Settings → List Step → List Step) → S → S → Type 0
@@ -37,11 +21,17 @@ pub record HandsInUnit {S : Type 0} (agrees : S → Settings → List Step → T
   pub gives : GivesUnit old item new
   pub goes : Goes agrees (λ k steps. with_unit k c item steps) server server'
 
+-- the feeder answers a fault, and this is its name for the server
+pub record GivesFaultAs (old : Stream) (fault : UnitFault) (new : Stream) : Type 0 where
+  pub fed : FeedFault
+  pub named : unit_fault fed ≡ Some fault
+  pub gives : GivesFault old fed new
+
 -- what a look at a feeder did
 abbrev pub Turned : {S : Type 0} → (S → Settings → List Step → Type 0) → ℕ → S → Stream → Turn → S → Stream → Type 0
 Turned agrees c server old turns.Unit server' new = HandsInUnit agrees c server old server' new
 Turned agrees c server old turns.Wait server' new = GivesNone old new × (server' ≡ server)
-Turned agrees c server old (turns.Fault fault) server' new = GivesFault old (feed_fault fault) new × (server' ≡ server)
+Turned agrees c server old (turns.Fault fault) server' new = GivesFaultAs old fault new × (server' ≡ server)
 
 -- The units that stand in the feeder are handed in; the rest stays, and the fault that stands there.
 pub record Unloads {S : Type 0} (agrees : S → Settings → List Step → Type 0) (c : ℕ) (server : S) (old : Stream) (fault : Option UnitFault) (server' : S) (new : Stream) : Type 0 where

@@ -1,13 +1,15 @@
 -- What a server takes when the bytes of its connections go through feeders.
 use Rattle.std.specs.Prelude.{◌≡◌, ℕ, ◌==◌, if◌then◌else◌, List, [], ◌∷◌, ◌++◌, Option, Some, None}
 use Rattle.gm_feeder.specs.declared.units.Limits.{Limits}
+use Rattle.gm_feeder.specs.declared.units.FeedFault.{FeedFault}
 use Rattle.gm_feeder.specs.declared.units.FeedFault.TheVariants as feeds
 use Rattle.gm_feeder.specs.Units.{Item, APacket, Spells, IsFaultOf, Waits}
 use Rattle.gm_notes.specs.declared.event.ApplyError.{ApplyError}
 use Rattle.gm_notes.specs.declared.event.UnitFault.{UnitFault}
 use Rattle.gm_notes.specs.declared.event.UnitFault.TheVariants as faults
 use Rattle.gm_notes.specs.Settings.{Settings}
-use Rattle.gm_notes.specs.Steps.{Step, Packet, Fault, refusal, run}
+use Rattle.gm_notes.specs.Steps.{Step, Packet, Fault, refusal}
+use Rattle.gm_notes.specs.Served.{run}
 
 -- what has been taken: the server's steps, the newest first, and for each slot the bytes that came since
 -- it was opened and made no unit yet
@@ -49,11 +51,22 @@ with_fault k c (Some fault) steps = handed_in k (Fault c fault) steps
 
 -- ---- a piece
 
+-- the fault of a feeder as the server's; want of memory is none
+abbrev pub unit_fault : FeedFault → Option UnitFault
+unit_fault feeds.BadMagic = Some faults.BadMagic
+unit_fault feeds.PacketTooLarge = Some faults.PacketTooLarge
+unit_fault feeds.Memory = None
+
+-- a fault stands at the rest of a stream, and this is its name for the server
+pub record IsFaultAt (limits : Limits) (rest : List ℕ) (fault : UnitFault) : Type 0 where
+  pub fed : FeedFault
+  pub named : unit_fault fed ≡ Some fault
+  pub stands : IsFaultOf limits rest fed
+
 -- what stands at the rest of a stream: this fault, or none and more bytes are waited for
 abbrev pub Stands : Limits → List ℕ → Option UnitFault → Type 0
 Stands limits rest None = Waits limits rest
-Stands limits rest (Some faults.BadMagic) = IsFaultOf limits rest feeds.BadMagic
-Stands limits rest (Some faults.PacketTooLarge) = IsFaultOf limits rest feeds.PacketTooLarge
+Stands limits rest (Some fault) = IsFaultAt limits rest fault
 
 -- A piece for slot c: the rest and the piece spell units and a new rest; the units are handed in, and
 -- then the fault that stands at the new rest, if one does.

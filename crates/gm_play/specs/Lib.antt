@@ -4,3 +4,4 @@ pub mod Fronts
 pub mod Orders
 pub mod Prints
 pub mod Scripts
+pub mod Statuses

@@ -4,12 +4,14 @@ use Rattle.std.specs.List.{flat_map}
 use Rattle.std.specs.Char.{digit_char}
 use Rattle.gm_feeder.specs.declared.units.Limits.{Limits}
 use Rattle.gm_notes.specs.declared.event.ApplyError.{ApplyError}
-use Rattle.gm_notes.specs.declared.event.ApplyError.TheVariants.{NotOpen, NoSlot}
+use Rattle.gm_notes.specs.declared.event.ApplyError.TheVariants.{NotOpen}
 use Rattle.gm_notes.specs.Numbers.{apply_error_number}
 use Rattle.gm_notes.specs.Settings.{Settings}
 use Rattle.gm_notes.specs.Notes.{is_open, takes_units}
 use Rattle.gm_notes.specs.Flow.{waiting}
-use Rattle.gm_notes.specs.Steps.{Past, Step, Open, Drain, free_slot, run}
+use Rattle.gm_notes.specs.Past.{Past}
+use Rattle.gm_notes.specs.Steps.{Step, Open, Drain, free_slot, refusal}
+use Rattle.gm_notes.specs.Served.{run}
 use Rattle.gm_notes.specs.Servers.{is_closing}
 use Rattle.gm_play.specs.Scripts.{Order, Skip, Bad, Opens, Gives, order_of, lines_of}
 use Rattle.gm_play.specs.Fronts.{Front, fresh, with_rest, GivesPiece}
@@ -78,10 +80,11 @@ pub record Only (old : Front) (said text : List ℕ) (new : Front) : Type 0 wher
   pub printed : text ≡ said
   pub kept : new ≡ old
 
--- an opening from this address gets this slot, or there is none
-abbrev pub Opening : Settings → List ℕ → Front → Option ℕ → List ℕ → Front → Type 0
-Opening k addr old None text new = Only old (refused_text NoSlot) text new
-Opening k addr old (Some c) text new =
+-- an opening from this address is refused, or gets a slot
+abbrev pub Opening : Settings → List ℕ → Front → Option ApplyError → Option ℕ → List ℕ → Front → Type 0
+Opening k addr old (Some refused) slot text new = Only old (refused_text refused) text new
+Opening k addr old None None text new = ⊥
+Opening k addr old None (Some c) text new =
     Settles k old (record { steps = Open addr ∷ old.steps; rests = with_rest c [] old.rests }) (open_text c) text new
 
 -- a piece for a slot that takes units, or doesn't
@@ -93,7 +96,8 @@ Giving k limits c piece old true text new = (mid : Front) × GivesPiece k limits
 abbrev pub Tells : Settings → Limits → Front → Order → List ℕ → Front → Type 0
 Tells k limits old Skip text new = Only old [] text new
 Tells k limits old Bad text new = Only old bad_text text new
-Tells k limits old (Opens addr) text new = Opening k addr old (free_slot k (run k old.steps)) text new
+Tells k limits old (Opens addr) text new =
+    Opening k addr old (refusal k (Open addr) (run k old.steps)) (free_slot k (run k old.steps)) text new
 Tells k limits old (Gives c piece) text new = Giving k limits c piece old (takes_units c (run k old.steps).notes) text new
 
 -- from this front on, these lines print this text

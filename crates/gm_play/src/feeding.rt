@@ -4,8 +4,8 @@ ghost use Rattle.std.specs.Prelude.{◌≡◌, ◌≤◌, List, IfOk, OnOk};
 ghost use Rattle.gm_notes.specs.Settings.{Settings};
 ghost use Rattle.gm_notes.specs.Steps.{Step};
 ghost use Rattle.gm_notes.specs.Servers.{step_of, IsSized};
-ghost use Rattle.gm_play.specs.Fronts.{handed_in};
-ghost use Rattle.gm_play.specs.Feeding.{unit_fault, Turned, Unloads, TakesPiece};
+ghost use Rattle.gm_play.specs.Fronts.{handed_in, unit_fault};
+ghost use Rattle.gm_play.specs.Feeding.{Turned, Unloads, TakesPiece};
 
 use crate::connection::Connection;
 use gm_feeder::{FeedFault, Feeder, Unit};
@@ -32,7 +32,7 @@ fn hand_in<S: JobServer>(server: &mut S, event: &Event<'_>) -> Result<(), AllocE
     match server.apply(event) {
         Ok(_) => Ok(()),
         Err(ApplyError::Memory) => Err(AllocError),
-        Err(ApplyError::NotOpen | ApplyError::NoSlot) => Ok(()),
+        Err(_) => Ok(()),
     }
 }
 

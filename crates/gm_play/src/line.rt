@@ -2,7 +2,9 @@
 
 ghost use Rattle.std.specs.Prelude.{◌≡◌, ◌^◌, ◌<◌, ◌≤◌, ℕ, List, length, IfOk, OnOk};
 ghost use Rattle.gm_notes.specs.Settings.{Settings};
-ghost use Rattle.gm_notes.specs.Steps.{Past, Step, run};
+ghost use Rattle.gm_notes.specs.Past.{Past};
+ghost use Rattle.gm_notes.specs.Steps.{Step};
+ghost use Rattle.gm_notes.specs.Served.{run};
 ghost use Rattle.gm_play.specs.Fronts.{Front};
 ghost use Rattle.gm_play.specs.Scripts.{Opens, Gives as Giving, order_of};
 ghost use Rattle.gm_play.specs.Orders.{order_view};
@@ -13,7 +15,7 @@ use crate::feeding::take_piece;
 use crate::order::{Order, order_of};
 use crate::text::{put_bad, put_bytes, put_open, put_refused, put_shut};
 use gm_feeder::Limits;
-use gm_notes::{ApplyError, Event, JobServer};
+use gm_notes::{ApplyError, Done, Event, JobServer};
 use std::alloc::{AllocError, Global};
 
 /// Tells of an open slot: the bytes that wait for it, and whether it became shut.
@@ -53,15 +55,21 @@ fn tell<S: JobServer>(
     Ok(())
 }
 
-/// Hands in an opening, and answers its slot.
-fn opened<S: JobServer>(server: &mut S, addr: &[u8]) -> Result<Option<u32>, AllocError>
-    ensures { IfOk result (λ slot. (k : Settings) (steps : List Step) → S.agrees server.old k steps
-        → GetsSlot S.agrees k steps addr.now slot server.new) }
+/// Hands in an opening, and answers its slot or why it was refused.
+fn opened<S: JobServer>(server: &mut S, addr: &[u8]) -> Result<Result<u32, ApplyError>, AllocError>
+    ensures { IfOk result (λ given. (k : Settings) (steps : List Step) → S.agrees server.old k steps
+        → GetsSlot S.agrees k steps addr.now given server.new) }
 {
     match server.apply(&Event::Open { addr }) {
-        Ok(done) => Ok(done.opened),
+        Ok(
+            Done {
+                opened: Some(slot),
+                ..
+            },
+        ) => Ok(Ok(slot)),
+        Ok(Done { opened: None, .. }) => Ok(Err(ApplyError::NoSlot)),
         Err(ApplyError::Memory) => Err(AllocError),
-        Err(ApplyError::NotOpen | ApplyError::NoSlot) => Ok(None),
+        Err(refused) => Ok(Err(refused)),
     }
 }
 
@@ -79,8 +87,9 @@ fn open<S: JobServer>(
     ensures { OnOk result ((k : Settings) (front : Front) → IsReady S.agrees k limits front server.old places.old
         → Plays S.agrees k limits front (Opens addr.now) out.old.items server.new places.new out.new.items) }
 {
-    let Some(slot) = opened(server, addr)? else {
-        return put_refused(out, ApplyError::NoSlot);
+    let slot = match opened(server, addr)? {
+        Ok(slot) => slot,
+        Err(refused) => return put_refused(out, refused),
     };
     put_open(out, slot)?;
     let index = slot as usize;

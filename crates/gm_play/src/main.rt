@@ -11,6 +11,7 @@ pub mod laws;
 mod line;
 mod order;
 mod playing;
+mod stop;
 #[cfg(test)]
 mod tests;
 mod text;
@@ -26,30 +27,7 @@ use std::env;
 use std::hash::RandomState;
 use std::io::{BufWriter, Write};
 use std::process::ExitCode;
-use thiserror::Error;
-
-/// Why the program ends early.
-#[derive(Debug, Drop, Error)]
-enum Stop {
-    #[error("no argument is understood")]
-    Argument,
-    #[error("there is no random seed")]
-    Seed,
-    #[error("{0}")]
-    Play(PlayError),
-}
-
-impl Stop {
-    /// The status that the program ends with.
-    fn status(&self) -> u8 {
-        match self {
-            Stop::Argument => 2,
-            Stop::Seed => 3,
-            Stop::Play(PlayError::Read | PlayError::TooLong) => 2,
-            Stop::Play(PlayError::Write | PlayError::Memory) => 3,
-        }
-    }
-}
+use stop::Stop;
 
 /// The settings where none are asked for.
 fn default_settings(alloc: Global) -> Result<PlaySettings, PlayError>

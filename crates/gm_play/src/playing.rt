@@ -3,7 +3,7 @@
 ghost use Rattle.std.specs.Prelude.{◌≡◌, ◌^◌, ◌<◌, ◌≤◌, ℕ, List, [], length, IfOk, None, slice_index_or, IfSome, IsErrOf, OnOk};
 ghost use Rattle.std.specs.Io.KnownBytes.{Appends};
 ghost use Rattle.gm_notes.specs.Settings.{Settings};
-ghost use Rattle.gm_notes.specs.Steps.{run};
+ghost use Rattle.gm_notes.specs.Served.{run};
 ghost use Rattle.gm_play.specs.Fronts.{Front, fresh};
 ghost use Rattle.gm_play.specs.Prints.{IsTextOf, Prints};
 ghost use Rattle.gm_play.specs.Scripts.{lines_of, order_of};

@@ -1,6 +1,6 @@
 use Rattle.std.proofs.Common.{◌≡◌, ◌-◌}
 use Rattle.std.specs.Prelude.{reverse}
-use Rattle.gm_notes.specs.Notes.{free_from}
+use Rattle.gm_notes.specs.Steps.{free_from}
 use Rattle.gm_notes.proofs.questions.free_slot.Given as goal
 
 abbrev pub invariant-loop-slot : goal.invariant-loop-slot

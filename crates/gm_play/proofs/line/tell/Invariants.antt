@@ -1,6 +1,6 @@
 use Rattle.gm_feeder.specs.declared.units.Limits.{Limits}
 use Rattle.gm_notes.specs.Settings.{Settings}
-use Rattle.gm_notes.specs.Steps.{Past}
+use Rattle.gm_notes.specs.Past.{Past}
 use Rattle.gm_play.specs.Fronts.{Front}
 use Rattle.gm_play.specs.Connections.{IsHeld}
 use Rattle.gm_play.proofs.Telling.{Telling}

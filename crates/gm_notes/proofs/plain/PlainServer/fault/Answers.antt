@@ -1,11 +1,14 @@
-use Rattle.std.proofs.Common.{◌≡◌, ◌<◌, length, true, reverse, is_ok, [], ◌∷◌, ◌++◌, refl, sym, ap, subst, ◌∙◌}
+use Rattle.std.proofs.Common.{◌≡◌, ◌<◌, ℕ, Option, None, length, true, reverse, is_ok, [], ◌∷◌, ◌++◌, sym, ap, subst, ◌∙◌}
 use Rattle.std.specs.Prelude.{if◌then◌else◌}
 use Rattle.gm_notes.specs.declared.note.Note.TheVariants.{Shut}
-use Rattle.gm_notes.specs.Steps.{Fault, run, give, noted}
+use Rattle.gm_notes.specs.Jobs.{made}
+use Rattle.gm_notes.specs.Past.{print}
+use Rattle.gm_notes.specs.Texts.{fault_text}
+use Rattle.gm_notes.specs.Steps.{Fault}
+use Rattle.gm_notes.specs.Served.{run}
 use Rattle.gm_notes.specs.Notes.{takes_units}
 use Rattle.gm_notes.specs.Plain.{Holds}
-use Rattle.gm_packet.specs.Answers.{answer_of}
-use Rattle.gm_notes.proofs.PlainLemmas.{taking_is_below, below_same, below_push_shut, run_taken, units_taken, holds_given, holds_same, holds_shut}
+use Rattle.gm_notes.proofs.PlainLemmas.{taking_is_below, below_same, below_push_shut, calm_same, calm_push_shut, none_made, run_taken, units_taken, holds_given, holds_same, holds_shut}
 use Rattle.gm_notes.proofs.plain.PlainServer.fault.Goals as goal
 use Rattle.gm_notes.proofs.plain.PlainServer.fault.Goals.{Else-not-takes_units}
 
@@ -18,38 +21,45 @@ below c =
     (taking_is_below c.args.slot _ c.args.self.now.notes.items c.args.self.now.in_range (takes c))
 
 pub invariant_of-self : goal.invariant_of-self
-invariant_of-self c = record { wide = c.args.self.now.wide; in_range = below_same c.args.self.now.notes.items c.reserve.new.self.items _ c.args.self.now.in_range c.reserve.ensures.items }
+invariant_of-self c = record {
+  wide = c.args.self.now.wide;
+  in_range = below_same c.args.self.now.notes.items c.reserve.new.self.items _ c.args.self.now.in_range c.reserve.ensures.items;
+  calm = calm_same c.args.self.now.notes.items c.reserve.new.self.items c.args.self.now.calm c.reserve.ensures.items;
+}
 
-pub give-requires-clause-slot : goal.give-requires-clause-slot
-give-requires-clause-slot c = below (goal.at-give-requires-clause-slot c).Else-not-takes_units
+pub give_fault-requires : goal.give_fault-requires
+give_fault-requires c = below (goal.at-give_fault-requires c).Else-not-takes_units
 
 pub invariant_of-self-in-Break-branch-2 : goal.invariant_of-self-in-Break-branch-2
 invariant_of-self-in-Break-branch-2 c = record {
-  wide = c.give.ensures.len ∙ c.args.self.now.wide;
+  wide = c.give_fault.ensures.len ∙ c.args.self.now.wide;
   in_range = below_same c.args.self.now.notes.items c.reserve.new.self.items _ c.args.self.now.in_range c.reserve.ensures.items;
+  calm = calm_same c.args.self.now.notes.items c.reserve.new.self.items c.args.self.now.calm c.reserve.ensures.items;
 }
 
 pub invariant_of-self-2 : goal.invariant_of-self-2
 invariant_of-self-2 c = record {
-  wide = c.give.ensures.len ∙ c.args.self.now.wide;
+  wide = c.give_fault.ensures.len ∙ c.args.self.now.wide;
   in_range =
       below_push_shut (is_ok c.push.result) c.reserve.new.self.items c.push.new.self.items c.args.slot _
       (below_same c.args.self.now.notes.items c.reserve.new.self.items _ c.args.self.now.in_range c.reserve.ensures.items) c.push.ensures.items;
+  calm =
+      calm_push_shut (is_ok c.push.result) c.reserve.new.self.items c.push.new.self.items c.args.slot
+      (calm_same c.args.self.now.notes.items c.reserve.new.self.items c.args.self.now.calm c.reserve.ensures.items) c.push.ensures.items;
 }
 
 pub returns : goal.returns
 returns c k steps agrees =
     let o = (goal.at-returns c).Else-not-takes_units in
-    let taken = units_taken c.args.self.now.notes.items c.args.slot (run k steps) agrees.past.notes_are (takes o) in
-    let reserved = holds_same c.args.self.now.notes.items c.reserve.new.self.items c.args.self.now.lanes (run k steps) agrees.past c.reserve.ensures.items in
-    let given = holds_given c.reserve.new.self.items c.args.self.now.lanes c.give.new.self (run k steps) c.args.slot (answer_of c.answer_to_fault.result) reserved (below o) c.in_ok-give.ensures.ok in
+    let past = run k steps in
+    let taken = units_taken c.args.self.now.notes.items c.args.slot past agrees.past.notes_are (takes o) in
+    let reserved = holds_same c.args.self.now.notes.items c.reserve.new.self.items c.args.self.now.lanes past agrees.past c.reserve.ensures.items in
+    let given = holds_given c.reserve.new.self.items c.args.self.now.lanes c.give_fault.new.self past c.args.slot (fault_text c.args.fault) reserved (below o) c.in_ok-give_fault.ensures.ok in
     let pushed : c.push.new.self.items ≡ c.reserve.new.self.items ++ Shut c.args.slot ∷ [] = c.push.ensures.items ∙ ap (λ r. if is_ok r then c.reserve.new.self.items ++ Shut c.args.slot ∷ [] else c.reserve.new.self.items) c.unwrap.ensures in
-    let shut = holds_shut c.reserve.new.self.items c.push.new.self.items c.give.new.self (give c.args.slot (answer_of c.answer_to_fault.result) (run k steps)) c.args.slot given pushed in (
-      (taken, refl),
+    let shut = holds_shut c.reserve.new.self.items c.push.new.self.items c.give_fault.new.self (print c.args.slot (fault_text c.args.fault) past) c.args.slot given pushed in (
+      (taken, ap (λ (n : Option ℕ). record { opened = None; created = n }) (sym (none_made (made past.notes)))),
       record {
         settings = agrees.settings;
-        past =
-            subst (λ p. Holds c.push.new.self.items c.give.new.self p) (sym (run_taken k (Fault c.args.slot c.args.fault) steps taken))
-            (subst (λ a. Holds c.push.new.self.items c.give.new.self (noted (Shut c.args.slot) (give c.args.slot a (run k steps)))) c.answer_to_fault.ensures.value shut);
+        past = subst (λ p. Holds c.push.new.self.items c.give_fault.new.self p) (sym (run_taken k (Fault c.args.slot c.args.fault) steps taken)) shut;
       },
     )

@@ -1,0 +1,87 @@
+//! The texts that answer lines.
+
+ghost use Rattle.std.specs.Prelude.{◌≡◌, ◌+◌, ◌<◌, ◌++◌, map, length, vec_len, vec_capacity, OnOk, OnErr};
+ghost use Rattle.gm_admin.specs.Answers.{status_text, workers_text, ok_text, version_text, error_text};
+ghost use Rattle.gm_admin.specs.Views.{status_row, worker_row};
+
+use crate::fault::AdminError;
+use crate::lengths::{status_len, workers_len};
+use crate::rows::{StatusRow, WorkerRow};
+use crate::writing::{put, put_status_lines, put_worker_lines};
+use std::alloc::AllocError;
+
+/// Appends the answer to `status`: a row for each function, and a dot. All of it is appended or
+/// nothing, and it fails only where `out` lacks the room and none is to be had; so do the others here.
+pub fn write_status(rows: &[StatusRow<'_>], out: &mut Vec<u8>) -> Result<(), AllocError>
+    ensures ok { OnOk result (out.new.items
+        ≡ out.old.items ++ status_text (map status_row rows.now)) }
+    ensures err { OnErr result (out.new.items ≡ out.old.items) }
+    ensures full { OnErr result (vec_capacity out.old
+        < vec_len out.old + length (status_text (map status_row rows.now))) }
+{
+    let Some(len) = status_len(rows).checked_add(2) else {
+        return Err(AllocError);
+    };
+    out.reserve(len)?;
+    put_status_lines(out, rows);
+    put(out, b".\n");
+    Ok(())
+}
+
+/// Appends the answer to `workers`: a row for each connection, and a dot.
+pub fn write_workers(rows: &[WorkerRow<'_>], out: &mut Vec<u8>) -> Result<(), AllocError>
+    ensures ok { OnOk result (out.new.items
+        ≡ out.old.items ++ workers_text (map worker_row rows.now)) }
+    ensures err { OnErr result (out.new.items ≡ out.old.items) }
+    ensures full { OnErr result (vec_capacity out.old
+        < vec_len out.old + length (workers_text (map worker_row rows.now))) }
+{
+    let Some(len) = workers_len(rows).checked_add(2) else {
+        return Err(AllocError);
+    };
+    out.reserve(len)?;
+    put_worker_lines(out, rows);
+    put(out, b".\n");
+    Ok(())
+}
+
+/// Appends the answer to a command that was done.
+pub fn write_ok(out: &mut Vec<u8>) -> Result<(), AllocError>
+    ensures ok { OnOk result (out.new.items ≡ out.old.items ++ ok_text) }
+    ensures err { OnErr result (out.new.items ≡ out.old.items) }
+    ensures full { OnErr result (vec_capacity out.old < vec_len out.old + length ok_text) }
+{
+    out.extend_from_slice(b"OK\n")
+}
+
+/// Appends the answer to `version`.
+pub fn write_version(out: &mut Vec<u8>) -> Result<(), AllocError>
+    ensures ok { OnOk result (out.new.items ≡ out.old.items ++ version_text) }
+    ensures err { OnErr result (out.new.items ≡ out.old.items) }
+    ensures full { OnErr result (vec_capacity out.old < vec_len out.old + length version_text) }
+{
+    out.extend_from_slice(b"OK 1.0.0\n")
+}
+
+/// The line that says what is wrong.
+fn error_line<'a>(error: AdminError) -> &'a [u8]
+    ensures { result.now ≡ error_text error }
+{
+    match error {
+        AdminError::UnknownCommand => b"ERR unknown_command\n",
+        AdminError::MissingName => b"ERR missing_name\n",
+        AdminError::BadSize => b"ERR bad_size\n",
+        AdminError::BadFunction => b"ERR bad_function\n",
+        AdminError::TooManyFunctions => b"ERR too_many_functions\n",
+        AdminError::LineTooLong => b"ERR line_too_long\n",
+    }
+}
+
+/// Appends the answer to a line that is refused.
+pub fn write_fault(error: AdminError, out: &mut Vec<u8>) -> Result<(), AllocError>
+    ensures ok { OnOk result (out.new.items ≡ out.old.items ++ error_text error) }
+    ensures err { OnErr result (out.new.items ≡ out.old.items) }
+    ensures full { OnErr result (vec_capacity out.old < vec_len out.old + length (error_text error)) }
+{
+    out.extend_from_slice(error_line(error))
+}

@@ -1,0 +1,27 @@
+//! The rows of the lists.
+
+/// What `status` says of a function.
+#[derive(Clone, Copy, Debug, PartialEq, Eq)]
+pub struct StatusRow<'a> {
+    /// The function.
+    pub name: &'a [u8],
+    /// Its jobs, waiting or running.
+    pub total: u64,
+    /// Those of them that run.
+    pub running: u64,
+    /// The workers that can do them.
+    pub workers: u32,
+}
+
+/// What `workers` says of a connection.
+#[derive(Debug, Drop, PartialEq, Eq)]
+pub struct WorkerRow<'a> {
+    /// The slot of the connection.
+    pub slot: u32,
+    /// Where it comes from.
+    pub addr: &'a [u8],
+    /// The name that it gave itself; empty where it gave none.
+    pub id: &'a [u8],
+    /// The functions that it can do, in the order in which it named them.
+    pub functions: Vec<&'a [u8]>,
+}

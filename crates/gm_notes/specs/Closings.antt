@@ -1,0 +1,66 @@
+-- What closings and ticks do.
+use Rattle.std.specs.Prelude.{ℕ, Bool, false, not, ◌&&◌, nat_le, max, if◌then◌else◌, List, [], ◌∷◌, reverse, Option, Some, None}
+use Rattle.gm_packet.specs.Writing.{work_fail}
+use Rattle.gm_notes.specs.declared.note.Note.TheVariants.{Closed, Returned, Ended, Discarded, Now}
+use Rattle.gm_notes.specs.Settings.{Settings}
+use Rattle.gm_notes.specs.Notes.{moment}
+use Rattle.gm_notes.specs.Flow.{Emptied}
+use Rattle.gm_notes.specs.Jobs.{Job, spot, is_waiting, is_running, is_running_at, job, made, is_wanted, listeners, deadline, handle}
+use Rattle.gm_notes.specs.Past.{Past, noted, flowed, tell_all, wake}
+use Rattle.gm_notes.specs.Workers.{stir}
+
+-- ---- closing
+
+-- a waiting job that nobody wants is discarded
+abbrev pub discard_one : ℕ → Past → Past
+discard_one n past = if is_waiting (spot n past.notes) && not (is_wanted n past.notes) then noted (Discarded n) past else past
+
+abbrev pub discard_each : List ℕ → Past → Past
+discard_each [] past = past
+discard_each (n ∷ jobs) past = discard_each jobs (discard_one n past)
+
+abbrev pub wake_for : Settings → Option Job → Past → Past
+wake_for k None past = past
+wake_for k (Some job) past = wake k job.function past
+
+-- a job that ran at slot c waits again if somebody wants it, and is discarded if not
+abbrev pub give_back_one : Settings → ℕ → ℕ → Past → Past
+give_back_one k c n past =
+    if is_running_at c (spot n past.notes)
+    then (if is_wanted n past.notes then wake_for k (job n past.notes) (noted (Returned n) past) else noted (Discarded n) past)
+    else past
+
+abbrev pub give_back_each : Settings → ℕ → List ℕ → Past → Past
+give_back_each k c [] past = past
+give_back_each k c (n ∷ jobs) past = give_back_each k c jobs (give_back_one k c n past)
+
+-- the connection in slot c goes, with what waited for it
+abbrev pub gone : ℕ → Past → Past
+gone c past = flowed (Emptied c) (noted (Closed c) (stir c past))
+
+-- the jobs made, in the order of their numbers
+abbrev pub rising : Past → List ℕ
+rising past = reverse (made past.notes)
+
+abbrev pub close : Settings → ℕ → Past → Past
+close k c past = give_back_each k c (rising past) (discard_each (rising past) (gone c past))
+
+-- ---- ticks
+
+abbrev pub is_reached : Option ℕ → ℕ → Bool
+is_reached None now = false
+is_reached (Some late) now = nat_le late now
+
+-- a running job whose deadline is reached has failed; its worker isn't told
+abbrev pub expire_one : Settings → ℕ → Past → Past
+expire_one k n past =
+    if is_running (spot n past.notes) && is_reached (deadline n past.notes) (moment past.notes)
+    then noted (Ended n) (tell_all (work_fail (handle k n)) (listeners n past.notes) past)
+    else past
+
+abbrev pub expire_each : Settings → List ℕ → Past → Past
+expire_each k [] past = past
+expire_each k (n ∷ jobs) past = expire_each k jobs (expire_one k n past)
+
+abbrev pub tick : Settings → ℕ → Past → Past
+tick k now past = expire_each k (rising past) (noted (Now (max now (moment past.notes))) past)

@@ -1,0 +1,53 @@
+-- When each note may be added, and that every note of a past was.
+use Rattle.std.specs.Prelude.{◌≡◌, ℕ, ◌<◌, ◌≤◌, true, false, List, [], ◌∷◌, ◌++◌, Some, None}
+use Rattle.gm_notes.specs.declared.note.Note.{Note}
+use Rattle.gm_notes.specs.declared.note.Note.TheVariants.{Opened, Shut, Closed, Named, OptionSet, Can, Cant, Reset, Slept, Woken, Stirred, Took, Withdrew, Made, Kept, Listens, Assigned, Returned, Ended, Discarded, Report, Mention, Limit, Now, Went}
+use Rattle.gm_notes.specs.Settings.{Settings}
+use Rattle.gm_notes.specs.Notes.{is_open, phase, is_asleep, is_awake, is_owed, moment}
+use Rattle.gm_notes.specs.Jobs.{Pick, spot, is_waiting, is_running, is_live, is_wanted, is_mentioned, joined, next_number, pick}
+
+-- slot c's grab gets job n
+abbrev pub Gets : ℕ → ℕ → List Note → Type 0
+Gets c n older = (found : Pick) × (pick c older ≡ Some found) × (found.job ≡ n)
+
+-- when a note may be added to the older ones
+abbrev pub Allowed : Settings → Note → List Note → Type 0
+Allowed k (Opened c addr) older = (is_open c older ≡ false) × (c < k.slots)
+Allowed k (Shut c) older = is_open c older ≡ true
+Allowed k (Closed c) older = is_open c older ≡ true
+Allowed k (Named c id) older = is_open c older ≡ true
+Allowed k (OptionSet c) older = is_open c older ≡ true
+Allowed k (Can c f t) older = is_open c older ≡ true
+Allowed k (Cant c f) older = is_open c older ≡ true
+Allowed k (Reset c) older = is_open c older ≡ true
+Allowed k (Slept c) older = (is_open c older ≡ true) × (is_awake (phase c older) ≡ true)
+Allowed k (Woken c) older = (is_open c older ≡ true) × (is_asleep (phase c older) ≡ true)
+Allowed k (Stirred c) older = is_asleep (phase c older) ≡ true
+Allowed k (Took c) older = is_owed (phase c older) ≡ true
+Allowed k (Withdrew c) older = is_owed (phase c older) ≡ true
+-- a job gets the next number, and joins nothing
+Allowed k (Made n f p u body) older = (next_number k older ≡ Some n) × (joined f u older ≡ None)
+Allowed k (Kept n) older = is_live (spot n older) ≡ true
+Allowed k (Listens n c) older = (is_live (spot n older) ≡ true) × (is_open c older ≡ true)
+-- only a waiting job is given out, and only to whose grab gets it
+Allowed k (Assigned n c deadline) older = (is_waiting (spot n older) ≡ true) × (is_open c older ≡ true) × Gets c n older
+-- only a running job waits again, and only while somebody wants it
+Allowed k (Returned n) older = (is_running (spot n older) ≡ true) × (is_wanted n older ≡ true)
+Allowed k (Ended n) older = is_running (spot n older) ≡ true
+-- a job is discarded only where nobody wants it
+Allowed k (Discarded n) older = (is_live (spot n older) ≡ true) × (is_wanted n older ≡ false)
+Allowed k (Report n a b) older = is_running (spot n older) ≡ true
+Allowed k (Mention f) older = is_mentioned f older ≡ false
+Allowed k (Limit f size) older = Unit {0}
+Allowed k (Now t) older = moment older ≤ t
+Allowed k (Went m) older = Unit {0}
+
+-- each of the newer notes was allowed when it was added
+abbrev pub AllAllowed : Settings → List Note → List Note → Type 0
+AllAllowed k [] older = Unit {0}
+AllAllowed k (note ∷ newer) older = Allowed k note (newer ++ older) × AllAllowed k newer older
+
+-- every note was allowed when it was added; the newest comes first
+abbrev pub History : Settings → List Note → Type 0
+History k [] = Unit {0}
+History k (note ∷ older) = Allowed k note older × History k older

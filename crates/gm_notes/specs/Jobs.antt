@@ -1,0 +1,255 @@
+-- What the notes say of jobs and functions.
+use Rattle.std.specs.Prelude.{ℕ, ◌+◌, ◌^◌, Bool, true, false, not, ◌&&◌, ◌||◌, ◌==◌, nat_lt, if◌then◌else◌, List, [], ◌∷◌, ◌++◌, length, filter, find, codes, decimal, Option, Some, None}
+use Rattle.std.specs.List.{list_any}
+use Rattle.std.specs.Str.{bytes_eq}
+use Rattle.gm_notes.specs.declared.states.Priority.{Priority}
+use Rattle.gm_notes.specs.declared.states.Priority.TheVariants.{High, Normal, Low}
+use Rattle.gm_notes.specs.declared.note.Note.{Note}
+use Rattle.gm_notes.specs.declared.note.Note.TheVariants.{Opened, Closed, Can, Cant, Reset, Made, Kept, Listens, Assigned, Returned, Ended, Discarded, Report, Mention, Limit}
+use Rattle.gm_notes.specs.Settings.{Settings}
+use Rattle.gm_notes.specs.Notes.{last_said, said_of, is_open, slots_from}
+
+-- ---- places
+
+-- where a job is
+pub data Spot : Type 0 where
+  Unmade : Spot
+  Waits : Spot
+  RunsAt : ℕ → Spot
+  Over : Spot  -- it has ended
+  Thrown : Spot  -- it was discarded
+
+abbrev pub says_spot : ℕ → Note → Option Spot
+says_spot n (Made m f p u body) = said_of n m Waits
+says_spot n (Returned m) = said_of n m Waits
+says_spot n (Assigned m c deadline) = said_of n m (RunsAt c)
+says_spot n (Ended m) = said_of n m Over
+says_spot n (Discarded m) = said_of n m Thrown
+says_spot n note = None
+
+abbrev pub spot : ℕ → List Note → Spot
+spot n notes = last_said (says_spot n) Unmade notes
+
+abbrev pub is_waiting : Spot → Bool
+is_waiting Waits = true
+is_waiting Unmade = false
+is_waiting (RunsAt c) = false
+is_waiting Over = false
+is_waiting Thrown = false
+
+abbrev pub is_running : Spot → Bool
+is_running (RunsAt c) = true
+is_running Waits = false
+is_running Unmade = false
+is_running Over = false
+is_running Thrown = false
+
+abbrev pub is_running_at : ℕ → Spot → Bool
+is_running_at c (RunsAt d) = c == d
+is_running_at c Waits = false
+is_running_at c Unmade = false
+is_running_at c Over = false
+is_running_at c Thrown = false
+
+abbrev pub is_live : Spot → Bool
+is_live where_it_is = is_waiting where_it_is || is_running where_it_is
+
+-- ---- what a job is
+
+pub record Job : Type 0 where
+  pub function : List ℕ
+  pub priority : Priority
+  pub unique : List ℕ
+  pub body : List ℕ
+
+abbrev pub says_job : ℕ → Note → Option (Option Job)
+says_job n (Made m f p u body) = said_of n m (Some (record { function = f; priority = p; unique = u; body = body }))
+says_job n note = None
+
+abbrev pub job : ℕ → List Note → Option Job
+job n notes = last_said (says_job n) None notes
+
+-- the jobs made, the newest first
+abbrev pub made : List Note → List ℕ
+made [] = []
+made (Made n f p u body ∷ older) = n ∷ made older
+made (note ∷ older) = made older
+
+-- a background submission made or joined it
+abbrev pub says_kept : ℕ → Note → Option Bool
+says_kept n (Made m f p u body) = said_of n m false
+says_kept n (Kept m) = said_of n m true
+says_kept n note = None
+
+abbrev pub is_kept : ℕ → List Note → Bool
+is_kept n notes = last_said (says_kept n) false notes
+
+-- who hears of it, in the order in which they came to listen, once for each time
+abbrev pub listeners : ℕ → List Note → List ℕ
+listeners n [] = []
+listeners n (Made m f p u body ∷ older) = if n == m then [] else listeners n older
+listeners n (Listens m c ∷ older) = if n == m then listeners n older ++ c ∷ [] else listeners n older
+listeners n (Closed c ∷ older) = filter (λ d. not (d == c)) (listeners n older)
+listeners n (note ∷ older) = listeners n older
+
+-- somebody wants it
+abbrev pub is_wanted : ℕ → List Note → Bool
+is_wanted n notes = is_kept n notes || not (length (listeners n notes) == 0)
+
+-- how far it is: a numerator and a denominator, `0` and `0` at first
+abbrev pub says_report : ℕ → Note → Option (List ℕ × List ℕ)
+says_report n (Made m f p u body) = said_of n m (codes "0", codes "0")
+says_report n (Report m a b) = said_of n m (a, b)
+says_report n note = None
+
+abbrev pub report : ℕ → List Note → List ℕ × List ℕ
+report n notes = last_said (says_report n) (codes "0", codes "0") notes
+
+-- the moment at which it fails, if there is one
+abbrev pub says_deadline : ℕ → Note → Option (Option ℕ)
+says_deadline n (Made m f p u body) = said_of n m None
+says_deadline n (Returned m) = said_of n m None
+says_deadline n (Assigned m c deadline) = said_of n m deadline
+says_deadline n note = None
+
+abbrev pub deadline : ℕ → List Note → Option ℕ
+deadline n notes = last_said (says_deadline n) None notes
+
+-- ---- functions and abilities
+
+-- the functions mentioned, the first first
+abbrev pub functions : List Note → List (List ℕ)
+functions [] = []
+functions (Mention f ∷ older) = functions older ++ f ∷ []
+functions (note ∷ older) = functions older
+
+abbrev pub is_mentioned : List ℕ → List Note → Bool
+is_mentioned f notes = list_any (λ g. bytes_eq g f) (functions notes)
+
+-- at most so many of its jobs may be there; 0 is no limit
+abbrev pub says_limit : List ℕ → Note → Option ℕ
+says_limit f (Limit g size) = if bytes_eq g f then Some size else None
+says_limit f note = None
+
+abbrev pub limit : List ℕ → List Note → ℕ
+limit f notes = last_said (says_limit f) 0 notes
+
+-- a function that a worker can do, and how many seconds a job of it may take; 0 is no limit
+pub record Ability : Type 0 where
+  pub function : List ℕ
+  pub timeout : ℕ
+
+abbrev pub is_of : List ℕ → Ability → Bool
+is_of f ability = bytes_eq ability.function f
+
+-- an ability that stands keeps its place and takes the new timeout; another goes to the end
+abbrev pub put : List ℕ → ℕ → List Ability → List Ability
+put f t [] = record { function = f; timeout = t } ∷ []
+put f t (ability ∷ abilities) = if is_of f ability then record { function = f; timeout = t } ∷ abilities else ability ∷ put f t abilities
+
+-- what the connection in slot c can do, in the order added
+abbrev pub abilities : ℕ → List Note → List Ability
+abilities c [] = []
+abilities c (Opened d addr ∷ older) = if c == d then [] else abilities c older
+abilities c (Closed d ∷ older) = if c == d then [] else abilities c older
+abilities c (Reset d ∷ older) = if c == d then [] else abilities c older
+abilities c (Can d f t ∷ older) = if c == d then put f t (abilities c older) else abilities c older
+abilities c (Cant d f ∷ older) = if c == d then filter (λ ability. not (is_of f ability)) (abilities c older) else abilities c older
+abilities c (note ∷ older) = abilities c older
+
+abbrev pub is_able : ℕ → List ℕ → List Note → Bool
+is_able c f notes = list_any (is_of f) (abilities c notes)
+
+-- ---- queues
+
+-- the jobs in the order in which they last came to wait, the first first
+abbrev pub as_they_came : List Note → List ℕ
+as_they_came [] = []
+as_they_came (Made n f p u body ∷ older) = as_they_came older ++ n ∷ []
+as_they_came (Returned n ∷ older) = filter (λ m. not (m == n)) (as_they_came older) ++ n ∷ []
+as_they_came (note ∷ older) = as_they_came older
+
+abbrev pub same_priority : Priority → Priority → Bool
+same_priority High High = true
+same_priority Normal Normal = true
+same_priority Low Low = true
+same_priority High Normal = false
+same_priority High Low = false
+same_priority Normal High = false
+same_priority Normal Low = false
+same_priority Low High = false
+same_priority Low Normal = false
+
+abbrev pub is_job_of : List ℕ → Option Job → Bool
+is_job_of f None = false
+is_job_of f (Some job) = bytes_eq job.function f
+
+abbrev pub is_job_with : List ℕ → Priority → Option Job → Bool
+is_job_with f p None = false
+is_job_with f p (Some job) = bytes_eq job.function f && same_priority job.priority p
+
+-- the waiting jobs of a function and a priority, in the order in which they last came to wait
+abbrev pub queue : List ℕ → Priority → List Note → List ℕ
+queue f p notes = filter (λ n. is_waiting (spot n notes) && is_job_with f p (job n notes)) (as_they_came notes)
+
+-- all that waits for a function, in the order in which it is given out
+abbrev pub waiting_for : List ℕ → List Note → List ℕ
+waiting_for f notes = queue f High notes ++ queue f Normal notes ++ queue f Low notes
+
+abbrev pub is_empty : List ℕ → Bool
+is_empty [] = true
+is_empty (n ∷ ns) = false
+
+-- a job to be given out, and the seconds that it may take
+pub record Pick : Type 0 where
+  pub job : ℕ
+  pub timeout : ℕ
+
+abbrev pub first_of : List ℕ → ℕ → Option Pick → Option Pick
+first_of [] timeout otherwise = otherwise
+first_of (n ∷ ns) timeout otherwise = Some (record { job = n; timeout = timeout })
+
+abbrev pub pick_from : List Ability → List Note → Option Pick
+pick_from [] notes = None
+pick_from (ability ∷ abilities) notes = first_of (waiting_for ability.function notes) ability.timeout (pick_from abilities notes)
+
+-- the job that a grab of slot c gets
+abbrev pub pick : ℕ → List Note → Option Pick
+pick c notes = pick_from (abilities c notes) notes
+
+-- ---- joining, numbers and counts
+
+abbrev pub joins : List ℕ → Bool
+joins u = not (is_empty u) && not (bytes_eq u (codes "-"))
+
+abbrev pub is_job_named : List ℕ → List ℕ → Option Job → Bool
+is_job_named f u None = false
+is_job_named f u (Some job) = bytes_eq job.function f && bytes_eq job.unique u
+
+-- the live job of the function with this unique id; none where the id is empty or a dash
+abbrev pub joined : List ℕ → List ℕ → List Note → Option ℕ
+joined f u notes = if joins u then find (λ n. is_live (spot n notes) && is_job_named f u (job n notes)) (made notes) else None
+
+-- the number of the next job; none once the last was given out
+abbrev pub next_number : Settings → List Note → Option ℕ
+next_number k notes = if nat_lt (k.first_job + length (made notes)) (2 ^ 64) then Some (k.first_job + length (made notes)) else None
+
+-- how many jobs of the function wait or run, how many of these run, and how many connections can do it
+abbrev pub total : List ℕ → List Note → ℕ
+total f notes = length (filter (λ n. is_live (spot n notes) && is_job_of f (job n notes)) (made notes))
+
+abbrev pub running : List ℕ → List Note → ℕ
+running f notes = length (filter (λ n. is_running (spot n notes) && is_job_of f (job n notes)) (made notes))
+
+abbrev pub able : Settings → List ℕ → List Note → ℕ
+able k f notes = length (filter (λ c. is_open c notes && is_able c f notes) (slots_from 0 k.slots))
+
+-- ---- handles
+
+-- H:NAME:NUMBER
+abbrev pub handle : Settings → ℕ → List ℕ
+handle k n = codes "H:" ++ k.name ++ codes ":" ++ decimal n
+
+-- the job that a handle names: just what was printed for it
+abbrev pub handled : Settings → List ℕ → List Note → Option ℕ
+handled k text notes = find (λ n. bytes_eq (handle k n) text) (made notes)

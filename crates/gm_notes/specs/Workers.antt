@@ -1,0 +1,96 @@
+-- What the requests of workers do.
+use Rattle.std.specs.Prelude.{ℕ, ◌+◌, ◌-◌, ◌^◌, Bool, true, false, not, ◌&&◌, ◌==◌, min, if◌then◌else◌, List, filter, codes, Option, Some, None}
+use Rattle.gm_packet.specs.Writing.{Answer, no_job, job_assign, job_assign_uniq}
+use Rattle.gm_notes.specs.declared.note.Note.{Note}
+use Rattle.gm_notes.specs.declared.note.Note.TheVariants.{Can, Cant, Slept, Woken, Stirred, Assigned, Ended, Report}
+use Rattle.gm_notes.specs.Settings.{Settings}
+use Rattle.gm_notes.specs.Notes.{is_open, has_option, phase, is_asleep, is_awake, moment}
+use Rattle.gm_notes.specs.Jobs.{Job, Pick, job, spot, is_running_at, listeners, waiting_for, is_empty, pick, handle, handled}
+use Rattle.gm_notes.specs.Past.{Past, noted, give, refuse, mentioned, tell_all}
+use Rattle.gm_notes.specs.Submissions.{is_bad_name, is_one_too_many}
+
+-- ---- abilities and sleep
+
+-- a sleeping worker is owed a NOOP at once if a job waits that it can do now
+abbrev pub woken_if : Bool → ℕ → Past → Past
+woken_if true c past = noted (Woken c) past
+woken_if false c past = past
+
+abbrev pub can_do : Settings → ℕ → List ℕ → ℕ → Past → Past
+can_do k c f t past =
+    if is_bad_name f then refuse c (codes "bad_function") past
+    else (if is_one_too_many k f past.notes then refuse c (codes "too_many_functions") past
+    else woken_if (is_asleep (phase c past.notes) && not (is_empty (waiting_for f past.notes))) c (noted (Can c f t) (mentioned f past)))
+
+abbrev pub cant_do : ℕ → List ℕ → Past → Past
+cant_do c f past = if is_bad_name f then refuse c (codes "bad_function") past else noted (Cant c f) past
+
+-- it doesn't go to sleep beside work
+abbrev pub sleep_beside : Option Pick → ℕ → Past → Past
+sleep_beside None c past = past
+sleep_beside (Some found) c past = noted (Woken c) past
+
+abbrev pub pre_sleep : ℕ → Past → Past
+pre_sleep c past = if is_awake (phase c past.notes) then sleep_beside (pick c past.notes) c (noted (Slept c) past) else past
+
+-- ---- grabs
+
+abbrev pub stir : ℕ → Past → Past
+stir c past = if is_asleep (phase c past.notes) then noted (Stirred c) past else past
+
+-- the moment plus the seconds, at most the greatest of 64 bits; none for 0
+abbrev pub deadline_after : ℕ → ℕ → Option ℕ
+deadline_after now timeout = if timeout == 0 then None else Some (min (now + timeout) (2 ^ 64 - 1))
+
+-- what is told of a job that is given out, with its unique id if the worker asked for it
+abbrev pub assignment : Settings → Bool → ℕ → Job → Answer
+assignment k true n job = job_assign_uniq (handle k n) job.function job.unique job.body
+assignment k false n job = job_assign (handle k n) job.function job.body
+
+abbrev pub tell_assigned : Settings → ℕ → Bool → ℕ → Option Job → Past → Past
+tell_assigned k c uniq n None past = past
+tell_assigned k c uniq n (Some job) past = give c (assignment k uniq n job) past
+
+abbrev pub give_out : Settings → ℕ → Bool → Option Pick → Past → Past
+give_out k c uniq None past = give c no_job past
+give_out k c uniq (Some found) past =
+    tell_assigned k c uniq found.job (job found.job past.notes)
+    (noted (Assigned found.job c (deadline_after (moment past.notes) found.timeout)) past)
+
+abbrev pub grab : Settings → ℕ → Bool → Past → Past
+grab k c uniq past = give_out k c uniq (pick c past.notes) (stir c past)
+
+-- ---- work
+
+-- what a worker says of its job: the packet to be passed on, whether only to those who want exceptions,
+-- the report that it holds, and whether the job ends with it
+pub record Work : Type 0 where
+  pub answer : Answer
+  pub exceptions_only : Bool
+  pub report : Option (List ℕ × List ℕ)
+  pub ends : Bool
+
+abbrev pub report_kept : ℕ → Option (List ℕ × List ℕ) → Past → Past
+report_kept n None past = past
+report_kept n (Some numbers) past = noted (Report n numbers.0 numbers.1) past
+
+abbrev pub ended_if : Bool → ℕ → Past → Past
+ended_if true n past = noted (Ended n) past
+ended_if false n past = past
+
+-- who hears of it
+abbrev pub hearers : Bool → List ℕ → List Note → List ℕ
+hearers true slots notes = filter (λ c. is_open c notes && has_option c notes) slots
+hearers false slots notes = slots
+
+abbrev pub tell_work : Work → ℕ → Past → Past
+tell_work w n past =
+    ended_if w.ends n (tell_all w.answer (hearers w.exceptions_only (listeners n past.notes) past.notes) (report_kept n w.report past))
+
+-- the job that the handle names runs at the slot, or the packet is refused
+abbrev pub work_on : ℕ → Work → Option ℕ → Past → Past
+work_on c w None past = refuse c (codes "job_not_found") past
+work_on c w (Some n) past = if is_running_at c (spot n past.notes) then tell_work w n past else refuse c (codes "job_not_found") past
+
+abbrev pub work : Settings → ℕ → List ℕ → Work → Past → Past
+work k c text w past = work_on c w (handled k text past.notes) past

@@ -1,0 +1,19 @@
+-- The statuses that the program ends with.
+use Rattle.std.specs.Prelude.{ℕ}
+use Rattle.gm_play.specs.declared.error.PlayError.{PlayError}
+use Rattle.gm_play.specs.declared.error.PlayError.TheVariants as faults
+use Rattle.gm_play.specs.declared.stop.Stop.{Stop}
+use Rattle.gm_play.specs.declared.stop.Stop.TheVariants.{Argument, Seed, Play}
+
+-- 2 where the script can't be had, 3 where memory or the output is wanting
+abbrev pub play_status : PlayError → ℕ
+play_status faults.Read = 2
+play_status faults.Write = 3
+play_status faults.TooLong = 2
+play_status faults.Memory = 3
+
+-- 2 where the words aren't understood, 3 where there is no random seed
+abbrev pub stop_status : Stop → ℕ
+stop_status Argument = 2
+stop_status Seed = 3
+stop_status (Play fault) = play_status fault

@@ -1,0 +1,35 @@
+//! Why the program ends early.
+
+ghost use Rattle.std.specs.Prelude.{◌≡◌};
+ghost use Rattle.gm_play.specs.Statuses.{stop_status};
+
+use crate::error::PlayError;
+use thiserror::Error;
+
+/// Why the program ends early.
+#[derive(Debug, Drop, Error)]
+pub enum Stop {
+    /// It was given an argument.
+    #[error("no argument is understood")]
+    Argument,
+    /// There are no random bytes to be had.
+    #[error("there is no random seed")]
+    Seed,
+    /// The script wasn't played to its end.
+    #[error("{0}")]
+    Play(PlayError),
+}
+
+impl Stop {
+    /// The status that the program ends with.
+    pub fn status(&self) -> u8
+        ensures { result ≡ stop_status self.now }
+    {
+        match self {
+            Stop::Argument => 2,
+            Stop::Seed => 3,
+            Stop::Play(PlayError::Read | PlayError::TooLong) => 2,
+            Stop::Play(PlayError::Write | PlayError::Memory) => 3,
+        }
+    }
+}
