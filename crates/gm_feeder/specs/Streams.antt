@@ -1,10 +1,10 @@
 -- What the calls of a feeder do.
-use Rattle.std.specs.Prelude.{◌≡◌, ℕ, List, [], ◌∷◌, ◌++◌, Option, Some, None, Result, Ok, Err, IfSome}
+use Rattle.std.specs.Prelude.{◌≡◌, ℕ, List, [], ◌∷◌, ◌++◌, drop, Option, Some, None, Result, Ok, Err, IfSome}
 use Rattle.gm_feeder.specs.declared.units.Limits.{Limits}
 use Rattle.gm_feeder.specs.declared.units.FeedFault.{FeedFault}
 use Rattle.gm_feeder.specs.declared.units.Unit.{Unit as Given}
-use Rattle.gm_feeder.specs.declared.units.Unit.TheVariants.{Packet}
-use Rattle.gm_feeder.specs.Units.{Item, APacket, IsUnitThen, IsFaultOf, Waits}
+use Rattle.gm_feeder.specs.declared.units.Unit.TheVariants.{Packet, Line}
+use Rattle.gm_feeder.specs.Units.{Item, APacket, ALine, IsUnitThen, IsFaultOf, Waits}
 
 -- what a feeder is to its callers: the bytes fed and not given out, and the fault that it has answered
 pub record Stream : Type 0 where
@@ -15,10 +15,15 @@ pub record Stream : Type 0 where
 -- what a unit says, wherever its bytes lie
 abbrev pub item_of : Given → Item
 item_of (Packet kind bytes) = APacket kind bytes.now
+item_of (Line bytes) = ALine bytes.now
 
 -- the stream with a piece more
 abbrev pub fed : Stream → List ℕ → Stream
 fed stream piece = record stream { pending = stream.pending ++ piece }
+
+-- the stream without the first so many of its bytes
+abbrev pub without_front : ℕ → Stream → Stream
+without_front len stream = record stream { pending = drop len stream.pending }
 
 -- the stream on which this fault was answered
 abbrev pub faulted : Stream → FeedFault → Stream

@@ -1,19 +1,27 @@
 -- What a unit is, and what a stream of units spells, on whole lists of bytes.
-use Rattle.std.specs.Prelude.{◌≡◌, ℕ, ◌^◌, ◌<◌, ◌≤◌, List, [], ◌∷◌, ◌++◌, length, take}
+use Rattle.std.specs.Prelude.{◌≡◌, ◌≢◌, ℕ, ◌^◌, ◌<◌, ◌≤◌, List, [], ◌∷◌, ◌++◌, length, take}
+use Rattle.std.specs.List.{All}
+use Rattle.std.specs.Io.BufRead.{strip_last}
 use Rattle.gm_packet.specs.Packets.{request_magic, packet}
 use Rattle.gm_feeder.specs.declared.units.Limits.{Limits}
 use Rattle.gm_feeder.specs.declared.units.FeedFault.{FeedFault}
-use Rattle.gm_feeder.specs.declared.units.FeedFault.TheVariants.{BadMagic, PacketTooLarge, Memory}
+use Rattle.gm_feeder.specs.declared.units.FeedFault.TheVariants.{BadMagic, PacketTooLarge, LineTooLong, Memory}
 
 -- the number of a fault
 abbrev pub fault_number : FeedFault → ℕ
 fault_number BadMagic = 3
 fault_number PacketTooLarge = 4
+fault_number LineTooLong = 5
 fault_number Memory = 6
 
--- what a unit says: a packet its type and its data
+-- what a unit says: a packet its type and its data, a line its text
 pub data Item : Type 0 where
   APacket : ℕ → List ℕ → Item
+  ALine : List ℕ → Item
+
+-- the bytes begin with NUL, as packets do
+abbrev pub BeginsWithNul : List ℕ → Type 0
+BeginsWithNul bytes = (after : List ℕ) × (bytes ≡ 0 ∷ after)
 
 -- these bytes are a packet to the server with this type and these data, within the limits
 pub record IsPacket (limits : Limits) (whole : List ℕ) (kind : ℕ) (bytes : List ℕ) : Type 0 where
@@ -22,9 +30,23 @@ pub record IsPacket (limits : Limits) (whole : List ℕ) (kind : ℕ) (bytes : L
   pub size_fits : length bytes < 2 ^ 32
   pub within_limit : length bytes ≤ limits.max_bytes
 
+-- the bytes before a newline, without the one `\r` (13) that may stand at their very end
+abbrev pub without_return : List ℕ → List ℕ
+without_return before = strip_last 13 before
+
+-- these bytes are a text line that says this, within the limits: the bytes before a newline (10), and the newline
+pub record IsLine (limits : Limits) (whole : List ℕ) (bytes : List ℕ) : Type 0 where
+  pub before : List ℕ
+  pub spelled : whole ≡ before ++ 10 ∷ []
+  pub one_line : All (λ b. b ≢ 10) before
+  pub no_packet : BeginsWithNul whole → ⊥
+  pub within_limit : length before ≤ limits.max_line
+  pub said : bytes ≡ without_return before
+
 -- these bytes are a unit that says this
 abbrev pub IsUnit : Limits → List ℕ → Item → Type 0
 IsUnit limits whole (APacket kind bytes) = IsPacket limits whole kind bytes
+IsUnit limits whole (ALine bytes) = IsLine limits whole bytes
 
 -- the bytes are a unit and what comes after it
 pub record IsUnitThen (limits : Limits) (bytes : List ℕ) (item : Item) (after : List ℕ) : Type 0 where
@@ -40,10 +62,6 @@ BeginsNoUnit limits bytes = (item : Item) (after : List ℕ) → IsUnitThen limi
 abbrev pub Spells : Limits → List ℕ → List Item → List ℕ → Type 0
 Spells limits stream [] rest = (stream ≡ rest) × BeginsNoUnit limits rest
 Spells limits stream (item ∷ items) rest = (after : List ℕ) × IsUnitThen limits stream item after × Spells limits after items rest
-
--- the bytes begin with NUL, as packets do
-abbrev pub BeginsWithNul : List ℕ → Type 0
-BeginsWithNul bytes = (after : List ℕ) × (bytes ≡ 0 ∷ after)
 
 -- some bytes that could follow make a unit at the front
 abbrev pub CanGoOn : Limits → List ℕ → Type 0
@@ -62,13 +80,19 @@ pub record IsHopelessPacket (limits : Limits) (rest : List ℕ) : Type 0 where
   pub nul : BeginsWithNul rest
   pub hopeless : IsHopeless limits rest
 
+-- a rest that begins otherwise and is no front of any line
+pub record IsHopelessLine (limits : Limits) (rest : List ℕ) : Type 0 where
+  pub no_nul : BeginsWithNul rest → ⊥
+  pub hopeless : IsHopeless limits rest
+
 -- this fault stands at the rest
 abbrev pub IsFaultOf : Limits → List ℕ → FeedFault → Type 0
 IsFaultOf limits rest BadMagic = IsHopelessPacket limits rest × (AgreesWithMagic rest → ⊥)
 IsFaultOf limits rest PacketTooLarge = IsHopelessPacket limits rest × AgreesWithMagic rest
+IsFaultOf limits rest LineTooLong = IsHopelessLine limits rest
 IsFaultOf limits rest Memory = ⊥
 
--- More bytes are needed: there is no unit yet, and where the rest begins as a packet it can become one.
+-- More bytes are needed: there is no unit yet, and some bytes that could follow make one.
 pub record Waits (limits : Limits) (rest : List ℕ) : Type 0 where
   pub no_unit : BeginsNoUnit limits rest
-  pub goes_on : BeginsWithNul rest → CanGoOn limits rest
+  pub goes_on : CanGoOn limits rest

@@ -1,13 +1,13 @@
 //! The bytes of one connection, cut into units.
 
-ghost use Rattle.std.specs.Prelude.{◌≡◌, ◌≤◌, List, ℕ, [], Some, None, IfSome, IfNone, IfOk, IfErr, OnOk, OnErr, length};
+ghost use Rattle.std.specs.Prelude.{◌≡◌, ◌≤◌, List, ℕ, [], Some, None, IfSome, IfNone, IfOk, IfErr, OnOk, OnErr, length, take};
 ghost use Rattle.std.specs.Borrow.{sem};
 ghost use Rattle.std.specs.Io.BufRead.{Rests};
 ghost use Rattle.gm_feeder.specs.contracts.feeder.Feeder.{the_row};
 ghost use Rattle.gm_feeder.specs.Units.{IsUnitThen, IsFaultOf, Waits};
-ghost use Rattle.gm_feeder.specs.Streams.{item_of, fed, GivesNext};
+ghost use Rattle.gm_feeder.specs.Streams.{item_of, fed, without_front, GivesNext};
 
-use crate::front::{Front, HEADER_LEN, find_front};
+use crate::front::{Front, HEADER_LEN, find_front, without_return};
 use crate::units::{FeedFault, Limits, Unit};
 use std::alloc::Global;
 use std::marker::Model;
@@ -22,6 +22,9 @@ pub struct Feeder {
     // The bytes before it were given out. `feed` lets go of them, and not `next_unit`, so that no byte
     // is moved once a unit.
     start: usize,
+    // How many of the bytes from `start` on were looked through for a newline, so that none is looked at
+    // twice.
+    scanned: usize,
     fault: Option<FeedFault>,
     limits: Limits,
 }
@@ -29,6 +32,7 @@ pub struct Feeder {
 impl Model for Feeder {
     ghost use Rattle.std.specs.Prelude.{◌≤◌, IfSome, length, drop};
     ghost use Rattle.gm_feeder.specs.Units.{IsFaultOf};
+    ghost use Rattle.gm_feeder.specs.Fronts.{IsScanned};
     ghost use Rattle.gm_feeder.specs.Streams.{Stream};
 
     ghost Value = { Stream };
@@ -36,6 +40,7 @@ impl Model for Feeder {
     ghost view = { λ f. record { limits = f.limits; pending = drop f.start f.buffer.items; fault = f.fault } };
 
     ghost invariant = { λ f. (f.start ≤ length f.buffer.items)
+        × IsScanned f.limits (drop f.start f.buffer.items) f.scanned
         × IfSome f.fault (λ fault. IsFaultOf f.limits (drop f.start f.buffer.items) fault) };
 }
 
@@ -52,6 +57,7 @@ impl Feeder {
         Feeder {
             buffer: Vec::new(alloc),
             start: 0,
+            scanned: 0,
             fault: None,
             limits,
         }
@@ -94,7 +100,8 @@ impl Feeder {
     ///
     /// `BadMagic` comes as soon as the bytes begin with NUL and one of the first four differs from the
     /// magic; `PacketTooLarge` as soon as the size, with its missing bytes taken as zero, is above the
-    /// limit. It takes no memory, and never answers `Memory`.
+    /// limit; `LineTooLong` as soon as they begin with another byte and over the limit of them hold no
+    /// newline. It takes no memory, and never answers `Memory`. Each byte is searched for a newline once.
     pub fn next_unit(&mut self) -> Result<Option<Unit<'_>>, FeedFault>
         ensures unit { IfOk result (λ found. IfSome found (λ unit.
             (after : List ℕ) × IsUnitThen self.old.limits self.old.pending (item_of unit) after)) }
@@ -106,20 +113,39 @@ impl Feeder {
         if let Some(fault) = self.fault {
             return Err(fault);
         }
-        let from = self.start;
-        match find_front(&self.buffer[from..], self.limits) {
-            Front::Incomplete => Ok(None),
+        match find_front(&self.buffer[self.start..], self.scanned, self.limits) {
+            Front::Incomplete { scanned } => {
+                self.scanned = scanned;
+                Ok(None)
+            }
             Front::Fault(fault) => {
                 self.fault = Some(fault);
                 Err(fault)
             }
             Front::Packet { kind, size } => {
-                let to = from + HEADER_LEN + size as usize;
-                self.start = to;
-                let bytes = &self.buffer[from + HEADER_LEN..to];
+                let whole = self.take_front(HEADER_LEN + size as usize);
+                let bytes = &whole[HEADER_LEN..];
                 Ok(Some(Unit::Packet { kind, bytes }))
             }
+            Front::Line { len } => {
+                let whole = self.take_front(len + 1);
+                let bytes = without_return(&whole[..len]);
+                Ok(Some(Unit::Line { bytes }))
+            }
         }
+    }
+
+    // Lets go of so many of the pending bytes, and lends them.
+    fn take_front(&mut self, len: usize) -> &[u8]
+        requires within { len ≤ length self.old.pending }
+        requires running { self.old.fault ≡ None }
+        ensures bytes { result.now ≡ take len self.old.pending }
+        ensures* after { sem 𝓛 (Rests the_row self.entry (λ new. new ≡ without_front len self.old)) }
+    {
+        let from = self.start;
+        self.start += len;
+        self.scanned = 0;
+        &self.buffer[from..self.start]
     }
 
     /// The bytes that were fed and not given out.

@@ -1,11 +1,12 @@
 //! Looks at the front of the bytes that wait.
 
-ghost use Rattle.std.specs.Prelude.{◌≡◌, ◌↔◌, IsTrue};
-ghost use Rattle.gm_feeder.specs.Fronts.{filled_header, IsFront};
-ghost use Rattle.gm_feeder.specs.Units.{BeginsWithNul};
+ghost use Rattle.std.specs.Prelude.{◌≡◌, ◌↔◌, IsTrue, ⊥};
+ghost use Rattle.gm_feeder.specs.Fronts.{filled_header, IsScanned, IsFront};
+ghost use Rattle.gm_feeder.specs.Units.{BeginsWithNul, without_return};
 
 use crate::units::{FeedFault, Limits};
 use gm_packet::read_header;
+use memchr::memchr;
 
 /// How many bytes stand before the data of a packet.
 pub(crate) const HEADER_LEN: usize = 12;
@@ -18,10 +19,12 @@ const EMPTY_HEADER: [u8; HEADER_LEN] = [0, b'R', b'E', b'Q', 0, 0, 0, 0, 0, 0, 0
 pub(crate) enum Front {
     /// A whole packet, with this type and so many bytes of data.
     Packet { kind: u32, size: u32 },
+    /// A whole line, with so many bytes before its newline.
+    Line { len: usize },
     /// No bytes that could follow make a unit.
     Fault(FeedFault),
-    /// No unit yet.
-    Incomplete,
+    /// No unit yet. The first so many bytes hold no newline.
+    Incomplete { scanned: usize },
 }
 
 // The first twelve bytes. Those that are still to come are taken from the header of an empty packet,
@@ -41,13 +44,11 @@ fn begins_with_nul(bytes: &[u8]) -> bool
     matches!(bytes, [0, ..])
 }
 
-/// What stands at the front of these bytes.
-pub(crate) fn find_front(bytes: &[u8], limits: Limits) -> Front
+/// What stands at the front of bytes that begin with NUL.
+fn find_packet(bytes: &[u8], limits: Limits) -> Front
+    requires { BeginsWithNul bytes.now }
     ensures { IsFront limits bytes.now result }
 {
-    if !begins_with_nul(bytes) {
-        return Front::Incomplete;
-    }
     let Ok(header) = read_header(&filled_header(bytes)) else {
         return Front::Fault(FeedFault::BadMagic);
     };
@@ -55,10 +56,53 @@ pub(crate) fn find_front(bytes: &[u8], limits: Limits) -> Front
         return Front::Fault(FeedFault::PacketTooLarge);
     }
     if bytes.len() < HEADER_LEN + header.size as usize {
-        return Front::Incomplete;
+        return Front::Incomplete { scanned: 0 };
     }
     Front::Packet {
         kind: header.kind,
         size: header.size,
+    }
+}
+
+/// What stands at the front of bytes that don't begin with NUL. The first `scanned` of them hold no
+/// newline, and aren't looked at again.
+fn find_line(bytes: &[u8], scanned: usize, limits: Limits) -> Front
+    requires text { BeginsWithNul bytes.now → ⊥ }
+    requires scanned { IsScanned limits bytes.now scanned }
+    ensures { IsFront limits bytes.now result }
+{
+    let most = limits.max_line as usize;
+    // No line ends at a newline further on.
+    let end = bytes.len().min(most + 1);
+    if let Some(more) = memchr(b'\n', &bytes[scanned..end]) {
+        return Front::Line {
+            len: scanned + more,
+        };
+    }
+    if end > most {
+        return Front::Fault(FeedFault::LineTooLong);
+    }
+    Front::Incomplete { scanned: end }
+}
+
+/// What stands at the front of these bytes, where the first `scanned` of them hold no newline.
+pub(crate) fn find_front(bytes: &[u8], scanned: usize, limits: Limits) -> Front
+    requires { IsScanned limits bytes.now scanned }
+    ensures { IsFront limits bytes.now result }
+{
+    if begins_with_nul(bytes) {
+        find_packet(bytes, limits)
+    } else {
+        find_line(bytes, scanned, limits)
+    }
+}
+
+/// A line's text without the one `\r` that may stand at its very end.
+pub(crate) fn without_return(text: &[u8]) -> &[u8]
+    ensures { result.now ≡ without_return text.now }
+{
+    match text {
+        [front @ .., b'\r'] => front,
+        _ => text,
     }
 }

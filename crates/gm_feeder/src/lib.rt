@@ -1,9 +1,10 @@
 //! Cuts the bytes of one connection into units.
 //!
-//! A unit is what a client of a job server sends at once: for now a request packet of the Gearman
-//! binary protocol (the Gearman PROTOCOL document, "Binary Packet"). Bytes come in pieces of any
-//! length; `Feeder` gives the units out whole, one after another, and says when no bytes that could
-//! follow would make a unit any more. `laws` holds what is true of every stream.
+//! A unit is what a client of a job server sends at once: a request packet of the Gearman binary
+//! protocol (the Gearman PROTOCOL document, "Binary Packet"), or a line of its text protocol
+//! ("Administrative Protocol"). A packet begins with NUL, a line with any other byte. Bytes come in
+//! pieces of any length; `Feeder` gives the units out whole, one after another, and says when no bytes
+//! that could follow would make a unit any more. `laws` holds what is true of every stream.
 #![tactic(auto)]
 
 mod feeder;

@@ -8,7 +8,7 @@ ghost use Rattle.gm_feeder.specs.Units.{fault_number};
 pub struct Limits {
     /// The most bytes of data that a packet may have. Its twelve bytes of header aren't counted.
     pub max_bytes: u32,
-    /// The most bytes that a text line may have.
+    /// The most bytes that a text line may have before its newline. A `\r` there is counted too.
     pub max_line: u32,
 }
 
@@ -19,6 +19,8 @@ pub enum FeedFault {
     BadMagic = 3,
     /// A packet's size is over `Limits::max_bytes`, whatever of its four bytes is still to come.
     PacketTooLarge = 4,
+    /// The bytes begin with another byte than NUL, and over `Limits::max_line` of them hold no newline.
+    LineTooLong = 5,
     /// There was no memory for the piece.
     Memory = 6,
 }
@@ -37,4 +39,6 @@ impl FeedFault {
 pub enum Unit<'a> {
     /// A request packet: its type, and its data, which are the bytes after the header.
     Packet { kind: u32, bytes: &'a [u8] },
+    /// A text line: its bytes without the newline, and without one `\r` directly before it.
+    Line { bytes: &'a [u8] },
 }
