@@ -1,14 +1,15 @@
 -- What a header, filled up where it is short, says of the bytes that wait.
-use Rattle.std.proofs.Common.{◌≡◌, ℕ, zero, suc, ◌+◌, ◌-◌, ◌^◌, ◌<◌, ◌≤◌, List, [], ◌∷◌, ◌++◌, length, take, drop, get_or, replicate, slice_range, refl, sym, ap, ap₂, subst, subst₂, ◌∙◌, arith, append_assoc, append-nil, length-append, length-drop, le_refl, zero-le, lit<}
+use Rattle.std.proofs.Common.{◌≡◌, ℕ, zero, suc, ◌+◌, ◌-◌, ◌^◌, ◌<◌, ◌≤◌, List, [], ◌∷◌, ◌++◌, length, take, drop, get_or, replicate, refl, sym, ap, ap₂, subst, subst₂, ◌∙◌, arith, append_assoc, append-nil, length-append, length-drop, le_refl, zero-le, lit<}
 use Rattle.std.specs.Int.{w32, to_be_bytes, from_be_bytes, byte_at}
 use Rattle.std.proofs.lemmas.Nat.{from_be_bytes-to_be_bytes_4}
 use Rattle.std.proofs.lemmas.List.{drop_all, length-replicate, length-take-le, take-append-drop, take_rest, drop-drop}
 use Rattle.std.proofs.Math.Seq.{take-add}
 use Rattle.gm_packet.specs.Packets.{request_magic, packet}
 use Rattle.gm_feeder.specs.declared.units.Limits.{Limits}
-use Rattle.gm_feeder.specs.Units.{APacket, IsPacket, IsUnitThen, BeginsNoUnit, BeginsWithNul, CanGoOn, IsHopeless, AgreesWithMagic, Waits}
+use Rattle.gm_feeder.specs.Units.{APacket, ALine, IsPacket, BeginsNoUnit, BeginsWithNul, CanGoOn, IsHopeless, AgreesWithMagic}
 use Rattle.gm_feeder.specs.Fronts.{empty_header, filled_header}
-use Rattle.gm_feeder.proofs.UnitLemmas.{header, packet_is, same_size, unit_is}
+use Rattle.gm_feeder.proofs.UnitLemmas.{header, packet_is, same_size, unit_is, nul_longer}
+use Rattle.gm_feeder.proofs.LineLemmas.{line_not_nul}
 
 pub take_nil : (n : ℕ) → take n (let l : List ℕ = [] in l) ≡ []
 take_nil zero = refl
@@ -76,31 +77,29 @@ size-below bytes more rest kind size k n hs hn filled is =
     in
     subst₂ (λ (a b : ℕ). a ≤ b) (from_be_bytes-to_be_bytes_4 size hs) (from_be_bytes-to_be_bytes_4 n hn) below
 
--- ---- what stands at the front
+-- ---- what stands at the front of bytes that begin with NUL
 
--- no packet begins without NUL
-pub no_unit-without_nul : (limits : Limits) (bytes : List ℕ) → (BeginsWithNul bytes → ⊥) → Waits limits bytes
-no_unit-without_nul limits bytes never = record { no_unit = none; goes_on = λ nul. absurd (never nul) }
-  where
-    none : BeginsNoUnit limits bytes
-    none (APacket kind text) after u = never (drop 1 (header kind (length text)) ++ (text ++ after), unit_is limits bytes kind text after u)
-
--- none begins with another magic
-pub hopeless-wrong_magic : (limits : Limits) (bytes : List ℕ) → (AgreesWithMagic bytes → ⊥) → IsHopeless limits bytes
-hopeless-wrong_magic limits bytes never more (APacket kind text) after u =
+-- no packet begins with another magic
+pub hopeless-wrong_magic : (limits : Limits) (bytes : List ℕ) → BeginsWithNul bytes → (AgreesWithMagic bytes → ⊥) → IsHopeless limits bytes
+hopeless-wrong_magic limits bytes nul never more (APacket kind text) after u =
     never (agrees-front bytes more (ap (take 4) (unit_is limits (bytes ++ more) kind text after u)))
+hopeless-wrong_magic limits bytes nul never more (ALine text) after u =
+    absurd (line_not_nul limits (bytes ++ more) text after u (nul_longer bytes more nul))
 
-pub hopeless-large : (limits : Limits) (bytes : List ℕ) (kind size : ℕ) → size < 2 ^ 32 → limits.max_bytes < size
+pub hopeless-large : (limits : Limits) (bytes : List ℕ) (kind size : ℕ) → BeginsWithNul bytes → size < 2 ^ 32 → limits.max_bytes < size
     → filled_header bytes ≡ header kind size → IsHopeless limits bytes
-hopeless-large limits bytes kind size fits large filled more (APacket k text) after u =
+hopeless-large limits bytes kind size nul fits large filled more (ALine text) after u =
+    absurd (line_not_nul limits (bytes ++ more) text after u (nul_longer bytes more nul))
+hopeless-large limits bytes kind size nul fits large filled more (APacket k text) after u =
     let packet_here = u.unit in
     let small = size-below bytes more (text ++ after) kind size k (length text) fits packet_here.size_fits filled (unit_is limits (bytes ++ more) k text after u) in
     absurd (omega (arith, packet_here.within_limit))
 
 -- fewer bytes than the header says begin with no unit
-pub no_unit-short : (limits : Limits) (bytes : List ℕ) (kind size : ℕ) → size < 2 ^ 32 → length bytes < 12 + size
+pub no_unit-short : (limits : Limits) (bytes : List ℕ) (kind size : ℕ) → BeginsWithNul bytes → size < 2 ^ 32 → length bytes < 12 + size
     → filled_header bytes ≡ header kind size → BeginsNoUnit limits bytes
-no_unit-short limits bytes kind size fits short filled (APacket k text) after u =
+no_unit-short limits bytes kind size nul fits short filled (ALine text) after u = absurd (line_not_nul limits bytes text after u nul)
+no_unit-short limits bytes kind size nul fits short filled (APacket k text) after u =
     let packet_here = u.unit in
     let is = unit_is limits bytes k text after u in
     let long : 12 + length text ≤ length bytes = omega (arith, ap length is, length-append text after) in
@@ -141,43 +140,22 @@ can_go_on limits bytes kind size kind_fits size_fits within short filled =
 -- as many bytes as the header says are a packet
 pub packet-long : (limits : Limits) (bytes : List ℕ) (kind size : ℕ) → kind < 2 ^ 32 → size < 2 ^ 32 → size ≤ limits.max_bytes
     → 12 + size ≤ length bytes → filled_header bytes ≡ header kind size
-    → IsPacket limits (take (12 + size) bytes) kind (slice_range bytes 12 (12 + size))
+    → IsPacket limits (take (12 + size) bytes) kind (drop 12 (take (12 + size) bytes))
 packet-long limits bytes kind size kind_fits size_fits within enough filled =
-    let text = slice_range bytes 12 (12 + size) in
-    let same : 12 + size - 12 ≡ size = omega arith in
-    let text_is : text ≡ take size (drop 12 bytes) = ap (λ (n : ℕ). take n (drop 12 bytes)) same in
+    let text = drop 12 (take (12 + size) bytes) in
+    let whole_is : take (12 + size) bytes ≡ header kind size ++ take size (drop 12 bytes) =
+    take-add 12 size bytes ∙ ap (λ (l : List ℕ). l ++ take size (drop 12 bytes)) (sym (filled-long bytes (omega arith)) ∙ filled)
+    in
+    let text_is : text ≡ take size (drop 12 bytes) = ap (drop 12) whole_is in
     let long : length text ≡ size =
     ap length text_is ∙ length-take-le size (drop 12 bytes) (omega (arith, length-drop 12 bytes))
     in
     let spelled : take (12 + size) bytes ≡ packet request_magic kind text =
-    take-add 12 size bytes
-    ∙ (ap (λ (l : List ℕ). l ++ take size (drop 12 bytes)) (sym (filled-long bytes (omega arith)) ∙ (filled ∙ ap (header kind) (sym long)))
-    ∙ (ap (λ (l : List ℕ). header kind (length text) ++ l) (sym text_is) ∙ sym (packet_is kind text)))
+    whole_is
+    ∙ (ap₂ (λ (n : ℕ) (l : List ℕ). header kind n ++ l) (sym long) (sym text_is)
+    ∙ sym (packet_is kind text))
     in
     record { spelled = spelled; kind_fits = kind_fits; size_fits = rw long size_fits; within_limit = rw long within }
-
--- a packet found in what is shown of a buffer, from a place on, is the unit there
-pub unit_at : (limits : Limits) (items shown shown_after : List ℕ) (start kind size : ℕ) → shown ≡ items → shown_after ≡ items
-    → IsPacket limits (take (12 + size) (take (length shown - start) (drop start shown))) kind (slice_range (take (length shown - start) (drop start shown)) 12 (12 + size))
-    → IsUnitThen limits (drop start items) (APacket kind (take (start + 12 + size - (start + 12)) (drop (start + 12) shown_after))) (drop (start + 12 + size) items)
-unit_at limits items shown shown_after start kind size same same_after found =
-    let rest = drop start items in
-    let shown_rest : take (length shown - start) (drop start shown) ≡ rest =
-    rw same (take_rest items start)
-    in
-    let text = slice_range rest 12 (12 + size) in
-    let text_is : take (start + 12 + size - (start + 12)) (drop (start + 12) shown_after) ≡ text =
-    ap₂ (λ (n : ℕ) (l : List ℕ). take n l) (let e : start + 12 + size - (start + 12) ≡ 12 + size - 12 = omega arith in e) (ap (drop (start + 12)) same_after ∙ sym (drop-drop 12 start items))
-    in
-    let here : IsPacket limits (take (12 + size) rest) kind text =
-    subst (λ (l : List ℕ). IsPacket limits (take (12 + size) l) kind (slice_range l 12 (12 + size))) shown_rest found
-    in
-    let place : start + (12 + size) ≡ start + 12 + size = omega arith in
-    record {
-      whole = take (12 + size) rest;
-      unit = subst (λ (l : List ℕ). IsPacket limits (take (12 + size) rest) kind l) (sym text_is) here;
-      joined = sym (take-append-drop (12 + size) rest) ∙ ap (λ (l : List ℕ). take (12 + size) rest ++ l) (drop-drop (12 + size) start items ∙ ap (λ (n : ℕ). drop n items) place);
-    }
 
 -- what an empty packet completes begins a packet, within every limit
 pub empty_goes_on : (limits : Limits) (bytes : List ℕ) → length bytes ≤ 4 → filled_header bytes ≡ empty_header → CanGoOn limits bytes

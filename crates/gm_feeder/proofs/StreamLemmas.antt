@@ -1,13 +1,25 @@
 -- The laws of units, spellings and faults.
-use Rattle.std.proofs.Common.{◌≡◌, ◌<◌, ℕ, arith, List, [], ◌∷◌, ◌++◌, length, take, drop, refl, sym, ap, ap₂, subst, ◌∙◌, append_assoc, append-nil, length-append, zero-le, lit≤}
+use Rattle.std.proofs.Common.{◌≡◌, ◌<◌, ℕ, arith, true, false, List, [], ◌∷◌, ◌++◌, length, take, drop, refl, sym, ap, ap₂, subst, ◌∙◌, ◌⊎◌, inl, inr, ⊎_elim, append_assoc, append-nil, length-append, zero-le, lit≤}
+use Rattle.std.proofs.lemmas.Bool.{cases_eq, cases_Bool, false≢true}
+use Rattle.std.proofs.lemmas.Slice.Eq.{bytes_eq-Decides}
+use Rattle.std.specs.Str.{bytes_eq}
 use Rattle.std.proofs.lemmas.List.{append_cancel_left}
 use Rattle.gm_feeder.specs.declared.units.Limits.{Limits}
 use Rattle.gm_feeder.specs.declared.units.FeedFault.{FeedFault}
-use Rattle.gm_feeder.specs.declared.units.FeedFault.TheVariants.{BadMagic, PacketTooLarge, Memory}
-use Rattle.gm_feeder.specs.Units.{Item, APacket, IsUnit, IsUnitThen, BeginsNoUnit, Spells, CanGoOn, IsHopeless, IsHopelessPacket, AgreesWithMagic, IsFaultOf, Waits}
+use Rattle.gm_feeder.specs.declared.units.FeedFault.TheVariants.{BadMagic, PacketTooLarge, LineTooLong, Memory}
+use Rattle.gm_packet.specs.Packets.{request_magic}
+use Rattle.gm_feeder.specs.Units.{Item, APacket, ALine, IsUnit, IsUnitThen, BeginsNoUnit, BeginsWithNul, Spells, CanGoOn, IsHopeless, IsHopelessPacket, IsHopelessLine, AgreesWithMagic, IsFaultOf, Waits, without_return}
 use Rattle.gm_feeder.specs.Streams.{Stream, Event, Fed, Gave, fed, Runs, all_fed, all_given}
-use Rattle.gm_feeder.proofs.UnitLemmas.{header, packet_is, same_kind, same_size, same_front}
+use Rattle.gm_feeder.proofs.UnitLemmas.{header, packet_is, same_kind, same_size, same_front, nul_longer, nul_front, packet_nul}
+use Rattle.gm_feeder.proofs.LineLemmas.{same_before, line_is, line_not_nul}
 use Rattle.gm_feeder.proofs.FrontLemmas.{empty_goes_on, take_nil}
+
+-- a packet and a line aren't at one place
+not_both : (limits : Limits) (whole other x y : List ℕ) (kind : ℕ) (text said : List ℕ) → IsUnit limits whole (APacket kind text) → IsUnit limits other (ALine said)
+    → whole ++ x ≡ other ++ y → ⊥
+not_both limits whole other x y kind text said u v joined =
+    line_not_nul limits (whole ++ x) said y (record { whole = other; unit = v; joined = joined })
+    (packet_nul limits (whole ++ x) kind text x (record { whole = whole; unit = u; joined = refl }))
 
 -- two units at one place are one
 pub one_unit : (limits : Limits) (whole other x y : List ℕ) (item another : Item) → IsUnit limits whole item → IsUnit limits other another
@@ -26,11 +38,19 @@ one_unit limits whole other x y (APacket j text) (APacket k words) u v joined =
     let sizes : m ≡ n = same_size j k m n u.size_fits v.size_fits headers in
     let texts : text ≡ words = same_front text words x y sizes (ap (drop 12) all) in
     (left ∙ (ap₂ (λ (h t : List ℕ). h ++ t) headers texts ∙ sym right), ap₂ APacket kinds texts)
+one_unit limits whole other x y (APacket kind text) (ALine said) u v joined = absurd (not_both limits whole other x y kind text said u v joined)
+one_unit limits whole other x y (ALine said) (APacket kind text) u v joined = absurd (not_both limits other whole y x kind text said v u (sym joined))
+one_unit limits whole other x y (ALine said) (ALine words) u v joined =
+    let left = line_is limits (whole ++ x) said x (record { whole = whole; unit = u; joined = refl }) in
+    let right = line_is limits (other ++ y) words y (record { whole = other; unit = v; joined = refl }) in
+    let same : u.before ≡ v.before = same_before u.before v.before x y u.one_line v.one_line (sym left ∙ (joined ∙ right)) in
+    (u.spelled ∙ (ap (λ (l : List ℕ). l ++ 10 ∷ []) same ∙ sym v.spelled), ap ALine (u.said ∙ (ap without_return same ∙ sym v.said)))
 
 pub unit_not_empty : (limits : Limits) (whole : List ℕ) (item : Item) → IsUnit limits whole item → 0 < length whole
 unit_not_empty limits whole (APacket kind text) u =
     let long = ap length (u.spelled ∙ packet_is kind text) in
     omega (arith, long, length-append (header kind (length text)) text)
+unit_not_empty limits whole (ALine said) u = omega (arith, ap length u.spelled, length-append u.before (10 ∷ []))
 
 -- and what comes after them is one
 one_after : (limits : Limits) (bytes : List ℕ) (item another : Item) (after other : List ℕ) → IsUnitThen limits bytes item after
@@ -71,27 +91,59 @@ any_cut limits front back (item ∷ items) more rest end s t =
 pub one_fault : (limits : Limits) (rest : List ℕ) (fault other : FeedFault) → IsFaultOf limits rest fault → IsFaultOf limits rest other → fault ≡ other
 one_fault limits rest BadMagic BadMagic f g = refl
 one_fault limits rest BadMagic PacketTooLarge f g = absurd (f.1 g.1)
+one_fault limits rest BadMagic LineTooLong f g = absurd (g.no_nul f.0.nul)
 one_fault limits rest BadMagic Memory f g = absurd g
 one_fault limits rest PacketTooLarge BadMagic f g = absurd (g.1 f.1)
 one_fault limits rest PacketTooLarge PacketTooLarge f g = refl
+one_fault limits rest PacketTooLarge LineTooLong f g = absurd (g.no_nul f.0.nul)
 one_fault limits rest PacketTooLarge Memory f g = absurd g
+one_fault limits rest LineTooLong BadMagic f g = absurd (f.no_nul g.0.nul)
+one_fault limits rest LineTooLong PacketTooLarge f g = absurd (f.no_nul g.0.nul)
+one_fault limits rest LineTooLong LineTooLong f g = refl
+one_fault limits rest LineTooLong Memory f g = absurd g
 one_fault limits rest Memory other f g = absurd f
+
+pub fault-hopeless : (limits : Limits) (rest : List ℕ) (fault : FeedFault) → IsFaultOf limits rest fault → IsHopeless limits rest
+fault-hopeless limits rest BadMagic f = f.0.hopeless
+fault-hopeless limits rest PacketTooLarge f = f.0.hopeless
+fault-hopeless limits rest LineTooLong f = f.hopeless
+fault-hopeless limits rest Memory f = absurd f
 
 hopeless-begins_no_unit : (limits : Limits) (rest : List ℕ) → IsHopeless limits rest → BeginsNoUnit limits rest
 hopeless-begins_no_unit limits rest h = subst (BeginsNoUnit limits) (append-nil rest) (h [])
 
 pub fault-begins_no_unit : (limits : Limits) (rest : List ℕ) (fault : FeedFault) → IsFaultOf limits rest fault → BeginsNoUnit limits rest
-fault-begins_no_unit limits rest BadMagic f = hopeless-begins_no_unit limits rest f.0.hopeless
-fault-begins_no_unit limits rest PacketTooLarge f = hopeless-begins_no_unit limits rest f.0.hopeless
-fault-begins_no_unit limits rest Memory f = absurd f
+fault-begins_no_unit limits rest fault f = hopeless-begins_no_unit limits rest (fault-hopeless limits rest fault f)
 
 hopeless-ends : (limits : Limits) (rest : List ℕ) → IsHopeless limits rest → CanGoOn limits rest → ⊥
 hopeless-ends limits rest h on = h on.0 on.1 on.2 on.3
 
 pub waits-no_fault : (limits : Limits) (rest : List ℕ) (fault : FeedFault) → Waits limits rest → IsFaultOf limits rest fault → ⊥
-waits-no_fault limits rest BadMagic w f = hopeless-ends limits rest f.0.hopeless (w.goes_on f.0.nul)
-waits-no_fault limits rest PacketTooLarge w f = hopeless-ends limits rest f.0.hopeless (w.goes_on f.0.nul)
-waits-no_fault limits rest Memory w f = f
+waits-no_fault limits rest fault w f = hopeless-ends limits rest (fault-hopeless limits rest fault f) w.goes_on
+
+pub waits-goes_on : (limits : Limits) (rest : List ℕ) → Waits limits rest → CanGoOn limits rest
+waits-goes_on limits rest w = w.goes_on
+
+-- which fault stands at a hopeless rest is told by its first four bytes
+pub hopeless-fault : (limits : Limits) (rest : List ℕ) → IsHopeless limits rest → (fault : FeedFault) × IsFaultOf limits rest fault
+hopeless-fault limits [] h = absurd (hopeless-ends limits [] h (empty_goes_on limits [] zero-le refl))
+hopeless-fault limits (b ∷ bytes) h = ⊎_elim begun other (cases_eq b 0)
+  where
+    rest : List ℕ
+    rest = b ∷ bytes
+
+    decided : AgreesWithMagic rest ⊎ (AgreesWithMagic rest → ⊥)
+    decided =
+        let told = bytes_eq-Decides (take 4 rest) (take (length rest) request_magic) in
+        ⊎_elim (λ yes. inl (told.0 yes)) (λ no. inr (λ agrees. false≢true (sym no ∙ told.1 agrees))) (cases_Bool (bytes_eq (take 4 rest) (take (length rest) request_magic)))
+
+    begun : b ≡ 0 → (fault : FeedFault) × IsFaultOf limits rest fault
+    begun zero =
+        let here : IsHopelessPacket limits rest = record { nul = (bytes, ap (λ (c : ℕ). c ∷ bytes) zero); hopeless = h } in
+        ⊎_elim (λ agrees. (PacketTooLarge, (here, agrees))) (λ differs. (BadMagic, (here, differs))) decided
+
+    other : (b ≡ 0 → ⊥) → (fault : FeedFault) × IsFaultOf limits rest fault
+    other some = (LineTooLong, record { no_nul = λ nul. some (let joined = nul.1 in cc); hopeless = h })
 
 hopeless-stays : (limits : Limits) (rest more : List ℕ) → IsHopeless limits rest → IsHopeless limits (rest ++ more)
 hopeless-stays limits rest more h extra item after u =
@@ -99,7 +151,13 @@ hopeless-stays limits rest more h extra item after u =
 
 packet-stays : (limits : Limits) (rest more : List ℕ) → IsHopelessPacket limits rest → IsHopelessPacket limits (rest ++ more)
 packet-stays limits rest more p =
-    record { nul = (p.nul.0 ++ more, ap (λ (l : List ℕ). l ++ more) p.nul.1); hopeless = hopeless-stays limits rest more p.hopeless }
+    record { nul = nul_longer rest more p.nul; hopeless = hopeless-stays limits rest more p.hopeless }
+
+-- anything begins a rest of no bytes
+line-stays : (limits : Limits) (rest more : List ℕ) → IsHopelessLine limits rest → IsHopelessLine limits (rest ++ more)
+line-stays limits [] more p = absurd (hopeless-ends limits [] p.hopeless (empty_goes_on limits [] zero-le refl))
+line-stays limits (b ∷ bytes) more p =
+    record { no_nul = λ nul. p.no_nul (nul_front (b ∷ bytes) more (omega arith) nul); hopeless = hopeless-stays limits (b ∷ bytes) more p.hopeless }
 
 -- what is wrong with the magic stays wrong
 agrees-shorter : (rest more : List ℕ) → AgreesWithMagic (rest ++ more) → AgreesWithMagic rest
@@ -124,6 +182,7 @@ agrees-longer limits (a ∷ b ∷ c ∷ d ∷ rest) more h agrees =
 pub fault_stays : (limits : Limits) (rest more : List ℕ) (fault : FeedFault) → IsFaultOf limits rest fault → IsFaultOf limits (rest ++ more) fault
 fault_stays limits rest more BadMagic f = (packet-stays limits rest more f.0, λ agrees. f.1 (agrees-shorter rest more agrees))
 fault_stays limits rest more PacketTooLarge f = (packet-stays limits rest more f.0, agrees-longer limits rest more f.0.hopeless f.1)
+fault_stays limits rest more LineTooLong f = line-stays limits rest more f
 fault_stays limits rest more Memory f = f
 
 -- ---- whole runs

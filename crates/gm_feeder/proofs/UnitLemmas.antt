@@ -4,7 +4,7 @@ use Rattle.std.specs.Int.{w32, to_be_bytes, from_be_bytes}
 use Rattle.std.proofs.lemmas.Nat.{from_be_bytes-to_be_bytes_4}
 use Rattle.gm_packet.specs.Packets.{request_magic, packet}
 use Rattle.gm_feeder.specs.declared.units.Limits.{Limits}
-use Rattle.gm_feeder.specs.Units.{APacket, IsUnitThen}
+use Rattle.gm_feeder.specs.Units.{APacket, IsUnitThen, BeginsWithNul}
 
 -- a header with this type and size
 abbrev pub header : ℕ → ℕ → List ℕ
@@ -41,3 +41,16 @@ pub unit_is : (limits : Limits) (bytes : List ℕ) (kind : ℕ) (text after : Li
     → bytes ≡ header kind (length text) ++ (text ++ after)
 unit_is limits bytes kind text after u =
     u.joined ∙ (ap (λ (l : List ℕ). l ++ after) (u.unit.spelled ∙ packet_is kind text) ∙ append_assoc (header kind (length text)) text after)
+
+-- ---- NUL at the front
+
+pub nul_longer : (bytes more : List ℕ) → BeginsWithNul bytes → BeginsWithNul (bytes ++ more)
+nul_longer bytes more nul = (nul.0 ++ more, ap (λ (l : List ℕ). l ++ more) nul.1)
+
+pub nul_front : (bytes more : List ℕ) → 0 < length bytes → BeginsWithNul (bytes ++ more) → BeginsWithNul bytes
+nul_front [] more some nul = absurd (omega arith)
+nul_front (b ∷ bytes) more some nul = let joined = nul.1 in let zero : b ≡ 0 = cc in (bytes, cc)
+
+-- a packet begins with NUL
+pub packet_nul : (limits : Limits) (bytes : List ℕ) (kind : ℕ) (text after : List ℕ) → IsUnitThen limits bytes (APacket kind text) after → BeginsWithNul bytes
+packet_nul limits bytes kind text after u = (drop 1 (header kind (length text)) ++ (text ++ after), unit_is limits bytes kind text after u)

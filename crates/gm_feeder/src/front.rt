@@ -1,6 +1,6 @@
 //! Looks at the front of the bytes that wait.
 
-ghost use Rattle.std.specs.Prelude.{◌≡◌, ◌↔◌, IsTrue, ⊥};
+ghost use Rattle.std.specs.Prelude.{◌≡◌, ◌↔◌, IsTrue};
 ghost use Rattle.gm_feeder.specs.Fronts.{filled_header, IsScanned, IsFront};
 ghost use Rattle.gm_feeder.specs.Units.{BeginsWithNul, without_return};
 

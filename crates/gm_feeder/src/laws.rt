@@ -4,10 +4,11 @@
 ghost use Rattle.std.specs.Prelude.{◌≡◌, ◌<◌, ℕ, List, ◌++◌, length};
 ghost use Rattle.gm_feeder.specs.declared.units.Limits.{Limits};
 ghost use Rattle.gm_feeder.specs.declared.units.FeedFault.{FeedFault};
-ghost use Rattle.gm_feeder.specs.Units.{Item, IsUnit, BeginsNoUnit, Spells, IsFaultOf, Waits};
+ghost use Rattle.gm_feeder.specs.Units.{Item, IsUnit, BeginsNoUnit, Spells, CanGoOn, IsHopeless, IsFaultOf, Waits};
 ghost use Rattle.gm_feeder.specs.Streams.{Stream, Event, Runs, all_fed, all_given};
 
-/// No unit begins another: what two units begin, whatever follows each, is begun by one unit.
+/// No unit begins another, be they packets or lines: what two units begin, whatever follows each, is begun
+/// by one unit.
 pub fn no_unit_begins_another()
     ensures { (limits : Limits) (whole other x y : List ℕ) (item another : Item)
         → IsUnit limits whole item → IsUnit limits other another → whole ++ x ≡ other ++ y
@@ -44,6 +45,16 @@ pub fn one_fault()
         → IsFaultOf limits rest fault → BeginsNoUnit limits rest }
     ensures none { (limits : Limits) (rest : List ℕ) (fault : FeedFault)
         → Waits limits rest → IsFaultOf limits rest fault → ⊥ }
+{}
+
+/// A fault stands exactly where no continuation of the rest begins with a unit; where more bytes are
+/// waited for, some continuation does.
+pub fn a_fault_is_no_hope()
+    ensures hopeless { (limits : Limits) (rest : List ℕ) (fault : FeedFault)
+        → IsFaultOf limits rest fault → IsHopeless limits rest }
+    ensures faulty { (limits : Limits) (rest : List ℕ)
+        → IsHopeless limits rest → (fault : FeedFault) × IsFaultOf limits rest fault }
+    ensures waits { (limits : Limits) (rest : List ℕ) → Waits limits rest → CanGoOn limits rest }
 {}
 
 /// A fault stands whatever comes: so it doesn't matter in which pieces a faulty stream comes.
