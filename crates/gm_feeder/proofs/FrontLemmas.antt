@@ -1,8 +1,8 @@
 -- What a header, filled up where it is short, says of the bytes that wait.
-use Rattle.std.proofs.Common.{◌≡◌, ℕ, zero, suc, ◌+◌, ◌-◌, ◌^◌, ◌<◌, ◌≤◌, List, [], ◌∷◌, ◌++◌, length, take, drop, get_or, replicate, refl, sym, ap, ap₂, subst, subst₂, ◌∙◌, arith, append_assoc, append-nil, length-append, length-drop, le_refl, zero-le, lit<}
+use Rattle.std.proofs.Common.{◌≡◌, ℕ, zero, suc, ◌+◌, ◌-◌, ◌^◌, ◌<◌, ◌≤◌, List, [], ◌∷◌, ◌++◌, length, take, drop, get_or, replicate, refl, sym, ap, ap₂, subst₂, ◌∙◌, arith, append_assoc, append-nil, length-append, length-drop, le_refl, zero-le, lit<}
 use Rattle.std.specs.Int.{w32, to_be_bytes, from_be_bytes, byte_at}
 use Rattle.std.proofs.lemmas.Nat.{from_be_bytes-to_be_bytes_4}
-use Rattle.std.proofs.lemmas.List.{drop_all, length-replicate, length-take-le, take-append-drop, take_rest, drop-drop}
+use Rattle.std.proofs.lemmas.List.{drop_all, length-replicate, length-take-le}
 use Rattle.std.proofs.Math.Seq.{take-add}
 use Rattle.gm_packet.specs.Packets.{request_magic, packet}
 use Rattle.gm_feeder.specs.declared.units.Limits.{Limits}

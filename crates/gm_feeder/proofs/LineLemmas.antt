@@ -1,15 +1,17 @@
 -- Newlines: where a line ends, and where none can.
-use Rattle.std.proofs.Common.{◌≡◌, ◌≢◌, ℕ, ◌+◌, ◌-◌, ◌<◌, ◌≤◌, true, ◌==◌, List, [], ◌∷◌, ◌++◌, length, get_or, take, drop, slice_index, slice_range, refl, sym, ap, subst, ◌∙◌, arith, ⊎_elim, append_assoc, append-nil, length-append, length-take, le_refl}
+use Rattle.std.proofs.Common.{◌≡◌, ◌≢◌, ℕ, ◌+◌, ◌-◌, ◌<◌, ◌≤◌, Bool, true, ◌&&◌, nat_lt, List, [], ◌∷◌, ◌++◌, length, get_or, take, drop, slice_index, slice_range, refl, sym, ap, ap₂, subst, ◌∙◌, arith, ⊎_elim, append_assoc, append-nil, length-append, length-take, le_refl}
 use Rattle.std.specs.List.{All}
+use Rattle.std.specs.Io.BufRead.{ends_with_byte, strip_last}
 use Rattle.std.proofs.lemmas.Bool.{cases_lt, eq-eqb, eqb-true}
 use Rattle.std.proofs.lemmas.List.{take-append-drop, take_more, get_or-take, get_or-drop}
 use Rattle.std.proofs.lemmas.List.Elements.{All-from_get_or}
 use Rattle.std.proofs.Math.ListN.{get_or-append}
-use Rattle.std.proofs.Math.Seq.{get_or-append_seam}
+use Rattle.std.proofs.Math.Seq.{get_or-append_seam, take-append_seam}
+use Rattle.std.proofs.lemmas.Bool.Decides.{nat_tests}
 use Rattle.memchr.specs.Find.{Nowhere, Passes, is_byte}
 use Rattle.gm_feeder.specs.declared.units.Limits.{Limits}
-use Rattle.gm_feeder.specs.Units.{APacket, ALine, IsLine, IsUnitThen, BeginsNoUnit, BeginsWithNul, CanGoOn, IsHopeless, Waits, without_return}
-use Rattle.gm_feeder.specs.Fronts.{IsScanned}
+use Rattle.gm_feeder.specs.Units.{APacket, ALine, IsLine, IsUnitThen, BeginsNoUnit, BeginsWithNul, IsHopeless, Waits, without_return}
+use Rattle.gm_feeder.specs.Fronts.{IsScanned, text_of}
 use Rattle.gm_feeder.proofs.UnitLemmas.{same_front, nul_longer, nul_front, packet_nul}
 
 -- ---- the place of a newline
@@ -40,9 +42,9 @@ none_further limits bytes from end n scanned within nowhere k low bad =
     ⊎_elim
     (λ before. scanned.no_newline k before bad)
     (λ after.
-        let place : from + (k - from) ≡ k = omega arith in
-        let is : slice_index (slice_range bytes from end) (k - from) ≡ 10 = part_at bytes from end (k - from) (omega arith) ∙ (ap (slice_index bytes) place ∙ bad) in
-        nowhere (k - from) (omega arith) (omega arith) (eq-eqb (slice_index (slice_range bytes from end) (k - from)) 10 is))
+    let place : from + (k - from) ≡ k = omega arith in
+    let is : slice_index (slice_range bytes from end) (k - from) ≡ 10 = part_at bytes from end (k - from) (omega arith) ∙ (ap (slice_index bytes) place ∙ bad) in
+    nowhere (k - from) (omega arith) (omega arith) (eq-eqb (slice_index (slice_range bytes from end) (k - from)) 10 is))
     (cases_lt k from)
 
 -- bytes without newline, before a newline, are told by what they begin
@@ -64,21 +66,33 @@ line_not_nul limits bytes text after u nul =
 
 -- ---- what stands at the front of bytes without NUL there
 
+strip_last-push : (xs : List ℕ) (byte : ℕ) → strip_last byte (xs ++ byte ∷ []) ≡ xs
+strip_last-push xs byte =
+    let all = xs ++ byte ∷ [] in
+    let last : length all - 1 ≡ length xs = omega (arith, length-append xs (byte ∷ [])) in
+    let some : nat_lt 0 (length all) ≡ true = let long = length-append xs (byte ∷ []) in grind (arith, nat_tests) in
+    let is : slice_index all (length all - 1) ≡ byte = ap (slice_index all) last ∙ get_or-append_seam xs byte [] 0 in
+    let ends : ends_with_byte byte all ≡ true = ap₂ (λ (a b : Bool). a && b) some (eq-eqb (slice_index all (length all - 1)) byte is) in
+    rw ends (ap (λ (n : ℕ). take n all) last ∙ take-append_seam xs (byte ∷ []))
+
 -- a newline after bytes that hold none ends a line
 pub line_found : (limits : Limits) (bytes : List ℕ) (len : ℕ) → (BeginsWithNul bytes → ⊥) → len < length bytes → len ≤ limits.max_line
     → slice_index bytes len ≡ 10 → ((k : ℕ) → k < len → slice_index bytes k ≢ 10)
-    → IsLine limits (take (len + 1) bytes) (without_return (take len bytes))
+    → IsLine limits (take (len + 1) bytes) (text_of (take (len + 1) bytes))
 line_found limits bytes len no_nul within small is none =
     record {
       before = take len bytes;
-      spelled = take_more bytes len 0 within ∙ ap (λ (b : ℕ). take len bytes ++ b ∷ []) is;
+      spelled = spelled;
       one_line =
           All-from_get_or (λ b. b ≢ 10) (take len bytes) 0
           (λ i low. let inside : i < len = omega (arith, length-take len bytes) in λ bad. none i inside (sym (get_or-take len bytes i 0 inside) ∙ bad));
       no_packet = λ nul. no_nul (subst BeginsWithNul (take-append-drop (len + 1) bytes) (nul_longer (take (len + 1) bytes) (drop (len + 1) bytes) nul));
       within_limit = omega (arith, length-take len bytes);
-      said = refl;
+      said = ap without_return (ap (strip_last 10) spelled ∙ strip_last-push (take len bytes) 10);
     }
+  where
+    spelled : take (len + 1) bytes ≡ take len bytes ++ 10 ∷ []
+    spelled = take_more bytes len 0 within ∙ ap (λ (b : ℕ). take len bytes ++ b ∷ []) is
 
 -- over the limit of bytes without newline begin no line, whatever comes
 pub hopeless-long : (limits : Limits) (bytes : List ℕ) → (BeginsWithNul bytes → ⊥) → limits.max_line < length bytes

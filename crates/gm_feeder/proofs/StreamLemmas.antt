@@ -1,5 +1,5 @@
 -- The laws of units, spellings and faults.
-use Rattle.std.proofs.Common.{◌≡◌, ◌<◌, ℕ, arith, true, false, List, [], ◌∷◌, ◌++◌, length, take, drop, refl, sym, ap, ap₂, subst, ◌∙◌, ◌⊎◌, inl, inr, ⊎_elim, append_assoc, append-nil, length-append, zero-le, lit≤}
+use Rattle.std.proofs.Common.{◌≡◌, ◌<◌, ℕ, arith, List, None, [], ◌∷◌, ◌++◌, length, take, drop, refl, sym, ap, ap₂, subst, ◌∙◌, ◌⊎◌, inl, inr, take-append-drop, ⊎_elim, append_assoc, append-nil, length-append, zero-le, lit≤}
 use Rattle.std.proofs.lemmas.Bool.{cases_eq, cases_Bool, false≢true}
 use Rattle.std.proofs.lemmas.Slice.Eq.{bytes_eq-Decides}
 use Rattle.std.specs.Str.{bytes_eq}
@@ -8,8 +8,8 @@ use Rattle.gm_feeder.specs.declared.units.Limits.{Limits}
 use Rattle.gm_feeder.specs.declared.units.FeedFault.{FeedFault}
 use Rattle.gm_feeder.specs.declared.units.FeedFault.TheVariants.{BadMagic, PacketTooLarge, LineTooLong, Memory}
 use Rattle.gm_packet.specs.Packets.{request_magic}
-use Rattle.gm_feeder.specs.Units.{Item, APacket, ALine, IsUnit, IsUnitThen, BeginsNoUnit, BeginsWithNul, Spells, CanGoOn, IsHopeless, IsHopelessPacket, IsHopelessLine, AgreesWithMagic, IsFaultOf, Waits, without_return}
-use Rattle.gm_feeder.specs.Streams.{Stream, Event, Fed, Gave, fed, Runs, all_fed, all_given}
+use Rattle.gm_feeder.specs.Units.{Item, APacket, ALine, IsUnit, IsUnitThen, BeginsNoUnit, Spells, CanGoOn, IsHopeless, IsHopelessPacket, IsHopelessLine, AgreesWithMagic, IsFaultOf, Waits, without_return}
+use Rattle.gm_feeder.specs.Streams.{Stream, Event, Fed, Gave, fed, without_front, GivesUnit, Runs, all_fed, all_given}
 use Rattle.gm_feeder.proofs.UnitLemmas.{header, packet_is, same_kind, same_size, same_front, nul_longer, nul_front, packet_nul}
 use Rattle.gm_feeder.proofs.LineLemmas.{same_before, line_is, line_not_nul}
 use Rattle.gm_feeder.proofs.FrontLemmas.{empty_goes_on, take_nil}
@@ -209,3 +209,21 @@ pub runs_spell-only : (old new : Stream) (events : List Event) (items : List Ite
     → Spells old.limits (old.pending ++ all_fed events) items rest → (all_given events ≡ items) × (new.pending ≡ rest)
 runs_spell-only old new events items rest run none other =
     one_spelling old.limits (old.pending ++ all_fed events) (all_given events) items new.pending rest (runs_spell old new events run none) other
+
+-- ---- giving
+
+-- so many bytes, which are a unit, are let go of
+pub gives_front : (old mid new : Stream) (item : Item) (len : ℕ) → old.fault ≡ None → mid ≡ old → new ≡ without_front len mid
+    → IsUnit old.limits (take len old.pending) item → GivesUnit old item new
+gives_front old mid new item len running same is unit =
+    let left : new ≡ without_front len old = is ∙ ap (without_front len) same in
+    let pending : new.pending ≡ drop len old.pending = ap (λ (s : Stream). s.pending) left in
+    record {
+      running = running;
+      unit = record {
+        whole = take len old.pending;
+        unit = unit;
+        joined = sym (ap (λ (l : List ℕ). take len old.pending ++ l) pending ∙ take-append-drop len old.pending);
+      };
+      kept = left ∙ ap (λ (l : List ℕ). record old { pending = l }) (sym pending);
+    }

@@ -5,9 +5,10 @@ ghost use Rattle.std.specs.Borrow.{sem};
 ghost use Rattle.std.specs.Io.BufRead.{Rests};
 ghost use Rattle.gm_feeder.specs.contracts.feeder.Feeder.{the_row};
 ghost use Rattle.gm_feeder.specs.Units.{IsUnitThen, IsFaultOf, Waits};
+ghost use Rattle.gm_feeder.specs.Fronts.{IsFront};
 ghost use Rattle.gm_feeder.specs.Streams.{item_of, fed, without_front, GivesNext};
 
-use crate::front::{Front, HEADER_LEN, find_front, without_return};
+use crate::front::{Front, HEADER_LEN, data_of, find_front, text_of};
 use crate::units::{FeedFault, Limits, Unit};
 use std::alloc::Global;
 use std::marker::Model;
@@ -113,26 +114,35 @@ impl Feeder {
         if let Some(fault) = self.fault {
             return Err(fault);
         }
-        match find_front(&self.buffer[self.start..], self.scanned, self.limits) {
-            Front::Incomplete { scanned } => {
-                self.scanned = scanned;
-                Ok(None)
-            }
+        match self.look() {
+            Front::Incomplete { .. } => Ok(None),
             Front::Fault(fault) => {
                 self.fault = Some(fault);
                 Err(fault)
             }
             Front::Packet { kind, size } => {
                 let whole = self.take_front(HEADER_LEN + size as usize);
-                let bytes = &whole[HEADER_LEN..];
+                let bytes = data_of(whole);
                 Ok(Some(Unit::Packet { kind, bytes }))
             }
             Front::Line { len } => {
                 let whole = self.take_front(len + 1);
-                let bytes = without_return(&whole[..len]);
+                let bytes = text_of(whole);
                 Ok(Some(Unit::Line { bytes }))
             }
         }
+    }
+
+    // What stands at the front. Where that is no unit yet, it remembers what was looked through.
+    fn look(&mut self) -> Front
+        ensures front { IsFront self.old.limits self.old.pending result }
+        ensures kept { self.new ≡ self.old }
+    {
+        let front = find_front(&self.buffer[self.start..], self.scanned, self.limits);
+        if let Front::Incomplete { scanned } = front {
+            self.scanned = scanned;
+        }
+        front
     }
 
     // Lets go of so many of the pending bytes, and lends them.

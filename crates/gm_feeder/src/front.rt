@@ -1,8 +1,9 @@
 //! Looks at the front of the bytes that wait.
 
-ghost use Rattle.std.specs.Prelude.{◌≡◌, ◌↔◌, IsTrue};
-ghost use Rattle.gm_feeder.specs.Fronts.{filled_header, IsScanned, IsFront};
-ghost use Rattle.gm_feeder.specs.Units.{BeginsWithNul, without_return};
+ghost use Rattle.std.specs.Prelude.{◌≡◌, ◌↔◌, ◌≤◌, IsTrue, length};
+ghost use Rattle.std.specs.Io.BufRead.{strip_last};
+ghost use Rattle.gm_feeder.specs.Fronts.{filled_header, data_of, text_of, IsScanned, IsFront};
+ghost use Rattle.gm_feeder.specs.Units.{BeginsWithNul};
 
 use crate::units::{FeedFault, Limits};
 use gm_packet::read_header;
@@ -97,12 +98,27 @@ pub(crate) fn find_front(bytes: &[u8], scanned: usize, limits: Limits) -> Front
     }
 }
 
-/// A line's text without the one `\r` that may stand at its very end.
-pub(crate) fn without_return(text: &[u8]) -> &[u8]
-    ensures { result.now ≡ without_return text.now }
+/// The data of a whole packet.
+pub(crate) fn data_of(packet: &[u8]) -> &[u8]
+    requires { 12 ≤ length packet.now }
+    ensures { result.now ≡ data_of packet.now }
 {
-    match text {
-        [front @ .., b'\r'] => front,
-        _ => text,
+    &packet[HEADER_LEN..]
+}
+
+// The bytes without the last one, if that is `byte`.
+fn without_last(bytes: &[u8], byte: u8) -> &[u8]
+    ensures { result.now ≡ strip_last byte bytes.now }
+{
+    match bytes {
+        [front @ .., last] if *last == byte => front,
+        _ => bytes,
     }
+}
+
+/// What a whole line says: its bytes without the newline, and without one `\r` directly before it.
+pub(crate) fn text_of(line: &[u8]) -> &[u8]
+    ensures { result.now ≡ text_of line.now }
+{
+    without_last(without_last(line, b'\n'), b'\r')
 }

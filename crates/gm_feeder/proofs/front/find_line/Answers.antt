@@ -24,7 +24,7 @@ returns-then-end-most c =
     let from = c.args.scanned in
     let end = c.min-end.result in
     let none = none_further c.args.limits bytes from end (end - from) c.requires.scanned (omega (arith, c.requires.scanned.within, c.requires.scanned.within_limit, c.min-end.ensures))
-        (λ k low high. c.in_default.ensures k low (omega (arith, length-take (end - from) (drop from bytes), length-drop from bytes, c.min-end.ensures)))
+    (λ k low high. c.in_default.ensures k low (omega (arith, length-take (end - from) (drop from bytes), length-drop from bytes, c.min-end.ensures)))
     in
     record {
       no_nul = c.requires.text;
@@ -37,7 +37,7 @@ returns c =
     let from = c.args.scanned in
     let end = c.min-end.result in
     let none = none_further c.args.limits bytes from end (end - from) c.requires.scanned (omega (arith, c.requires.scanned.within, c.requires.scanned.within_limit, c.min-end.ensures))
-        (λ k low high. c.in_default.ensures k low (omega (arith, length-take (end - from) (drop from bytes), length-drop from bytes, c.min-end.ensures)))
+    (λ k low high. c.in_default.ensures k low (omega (arith, length-take (end - from) (drop from bytes), length-drop from bytes, c.min-end.ensures)))
     in (
       waits-open c.args.limits bytes c.requires.text (omega (arith, c.min-end.ensures)) (λ k low. none k (omega (arith, c.min-end.ensures))),
       record { within = omega (arith, c.min-end.ensures); within_limit = omega arith; no_newline = λ k low. none k (omega arith) },
