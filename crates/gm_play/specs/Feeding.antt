@@ -15,7 +15,7 @@ use Rattle.gm_play.specs.Fronts.{unit_fault, with_unit, with_units, with_fault, 
 abbrev pub Goes : {S : Type 0} → (S → Settings → List Step → Type 0) → (Settings → List Step → List Step) → S → S → Type 0
 Goes agrees change old new = (k : Settings) (steps : List Step) → agrees old k steps → agrees new k (change k steps)
 
--- the next unit is handed in
+-- the next unit is taken: handed in, if it is a packet
 pub record HandsInUnit {S : Type 0} (agrees : S → Settings → List Step → Type 0) (c : ℕ) (server : S) (old : Stream) (server' : S) (new : Stream) : Type 0 where
   pub item : Item
   pub gives : GivesUnit old item new
@@ -33,7 +33,7 @@ Turned agrees c server old turns.Unit server' new = HandsInUnit agrees c server 
 Turned agrees c server old turns.Wait server' new = GivesNone old new × (server' ≡ server)
 Turned agrees c server old (turns.Fault fault) server' new = GivesFaultAs old fault new × (server' ≡ server)
 
--- The units that stand in the feeder are handed in; the rest stays, and the fault that stands there.
+-- The units that stand in the feeder are taken; the rest stays, and the fault that stands there.
 pub record Unloads {S : Type 0} (agrees : S → Settings → List Step → Type 0) (c : ℕ) (server : S) (old : Stream) (fault : Option UnitFault) (server' : S) (new : Stream) : Type 0 where
   pub items : List Item
   pub spelled : Spells old.limits old.pending items new.pending
@@ -42,7 +42,7 @@ pub record Unloads {S : Type 0} (agrees : S → Settings → List Step → Type 
   pub sound : fault ≡ None → new.fault ≡ None
   pub goes : Goes agrees (λ k steps. with_units k c items steps) server server'
 
--- The piece is taken: what it completes is handed in.
+-- The piece is taken, and so is what it completes.
 pub record TakesPiece {S : Type 0} (agrees : S → Settings → List Step → Type 0) (c : ℕ) (piece : List ℕ) (server : S) (old : Connection) (server' : S) (new : Connection) : Type 0 where
   pub items : List Item
   pub fault : Option UnitFault

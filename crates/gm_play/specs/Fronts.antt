@@ -3,7 +3,7 @@ use Rattle.std.specs.Prelude.{◌≡◌, ℕ, ◌==◌, if◌then◌else◌, Lis
 use Rattle.gm_feeder.specs.declared.units.Limits.{Limits}
 use Rattle.gm_feeder.specs.declared.units.FeedFault.{FeedFault}
 use Rattle.gm_feeder.specs.declared.units.FeedFault.TheVariants as feeds
-use Rattle.gm_feeder.specs.Units.{Item, APacket, Spells, IsFaultOf, Waits}
+use Rattle.gm_feeder.specs.Units.{Item, APacket, ALine, Spells, IsFaultOf, Waits}
 use Rattle.gm_notes.specs.declared.event.ApplyError.{ApplyError}
 use Rattle.gm_notes.specs.declared.event.UnitFault.{UnitFault}
 use Rattle.gm_notes.specs.declared.event.UnitFault.TheVariants as faults
@@ -35,11 +35,13 @@ unless_refused (Some refused) s steps = steps
 abbrev pub handed_in : Settings → Step → List Step → List Step
 handed_in k s steps = unless_refused (refusal k s (run k steps)) s steps
 
--- a unit of slot c is handed in as a packet
+-- A unit of slot c: a packet is handed in. A text line leaves the steps as they are: it is cut from the
+-- stream, and isn't answered until the server serves lines.
 abbrev pub with_unit : Settings → ℕ → Item → List Step → List Step
 with_unit k c (APacket kind bytes) steps = handed_in k (Packet c kind bytes) steps
+with_unit k c (ALine bytes) steps = steps
 
--- these units are, in this order: those that come once the slot is shut are refused
+-- these units are taken so, in this order: packets that come once the slot is shut are refused
 abbrev pub with_units : Settings → ℕ → List Item → List Step → List Step
 with_units k c [] steps = steps
 with_units k c (item ∷ items) steps = with_units k c items (with_unit k c item steps)
@@ -55,6 +57,7 @@ with_fault k c (Some fault) steps = handed_in k (Fault c fault) steps
 abbrev pub unit_fault : FeedFault → Option UnitFault
 unit_fault feeds.BadMagic = Some faults.BadMagic
 unit_fault feeds.PacketTooLarge = Some faults.PacketTooLarge
+unit_fault feeds.LineTooLong = Some faults.LineTooLong
 unit_fault feeds.Memory = None
 
 -- a fault stands at the rest of a stream, and this is its name for the server
@@ -68,7 +71,7 @@ abbrev pub Stands : Limits → List ℕ → Option UnitFault → Type 0
 Stands limits rest None = Waits limits rest
 Stands limits rest (Some fault) = IsFaultAt limits rest fault
 
--- A piece for slot c: the rest and the piece spell units and a new rest; the units are handed in, and
+-- A piece for slot c: the rest and the piece spell units and a new rest; the units are taken, and
 -- then the fault that stands at the new rest, if one does.
 pub record GivesPiece (k : Settings) (limits : Limits) (c : ℕ) (piece : List ℕ) (old new : Front) : Type 0 where
   pub items : List Item

@@ -15,7 +15,7 @@ use std::alloc::AllocError;
 /// What a look at a feeder found.
 #[derive(Clone, Copy)]
 enum Turn {
-    /// A unit, which was handed in.
+    /// A unit, which was taken.
     Unit,
     /// Nothing that is whole, and no fault.
     Wait,
@@ -43,11 +43,12 @@ fn unit_fault(fault: FeedFault) -> Option<UnitFault>
     match fault {
         FeedFault::BadMagic => Some(UnitFault::BadMagic),
         FeedFault::PacketTooLarge => Some(UnitFault::PacketTooLarge),
+        FeedFault::LineTooLong => Some(UnitFault::LineTooLong),
         FeedFault::Memory => None,
     }
 }
 
-/// Hands in the next unit.
+/// Takes the next unit: hands in a packet, and lets go of a line.
 fn look<S: JobServer>(server: &mut S, feeder: &mut Feeder, slot: u32) -> Result<Turn, AllocError>
     requires { feeder.old.limits.max_bytes ≤ 1073741824 }
     ensures done { IfOk result (λ turn. Turned S.agrees slot server.old feeder.old turn server.new feeder.new) }
@@ -58,6 +59,8 @@ fn look<S: JobServer>(server: &mut S, feeder: &mut Feeder, slot: u32) -> Result<
             hand_in(server, &Event::Packet { slot, kind, bytes })?;
             Ok(Turn::Unit)
         }
+        // The server doesn't take lines yet, and so nothing comes of one.
+        Ok(Some(Unit::Line { .. })) => Ok(Turn::Unit),
         Ok(None) => Ok(Turn::Wait),
         Err(fault) => match unit_fault(fault) {
             Some(fault) => Ok(Turn::Fault(fault)),
@@ -66,7 +69,7 @@ fn look<S: JobServer>(server: &mut S, feeder: &mut Feeder, slot: u32) -> Result<
     }
 }
 
-/// Hands in each unit that stands in the feeder, and answers the fault that stands after them.
+/// Takes each unit that stands in the feeder, and answers the fault that stands after them.
 fn unload<S: JobServer>(
     server: &mut S,
     feeder: &mut Feeder,

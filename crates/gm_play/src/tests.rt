@@ -6,7 +6,7 @@ use crate::error::PlayError;
 use crate::playing::{PlaySettings, play};
 use gm_feeder::Limits;
 use gm_notes::Config;
-use std::alloc::Global;
+use std::alloc::{AllocError, Global};
 use std::hash::RandomState;
 use std::io;
 use std::io::{Error, ErrorKind, Read, Write};
@@ -29,16 +29,30 @@ fn settings(alloc: Global, slots: u32) -> Result<PlaySettings, Fail>
 
 // What a script prints.
 fn printed(rt: &HostRuntime, slots: u32, script: &str) -> Result<Vec<u8>, Fail> {
+    printed_bytes(rt, slots, script.as_bytes())
+}
+
+fn printed_bytes(rt: &HostRuntime, slots: u32, script: &[u8]) -> Result<Vec<u8>, Fail> {
     let alloc = rt.alloc();
     let mut out = Vec::new(alloc);
+    let mut reader = script;
     play(
         alloc,
         RandomState::new(rt)?,
         settings(alloc, slots)?,
-        &mut script.as_bytes(),
+        &mut reader,
         &mut out,
     )?;
     Ok(out)
+}
+
+// A script that opens a slot, and gives it a piece of so many bytes `a`.
+fn long_piece(alloc: Global, len: usize) -> Result<Vec<u8>, AllocError> {
+    let mut script = Vec::from_slice(alloc, b"open 127.0.0.1\nbytes 0 ")?;
+    for _ in 0..len {
+        script.extend_from_slice(b"61")?;
+    }
+    Ok(script)
 }
 
 #[test]
@@ -123,6 +137,34 @@ fn refused_steps(rt: HostRuntime) -> Result<(), Fail> {
     assert_eq!(rt;
         out.as_slice(),
         b"0 open\nrefused 11\nrefused 10\n0 0052455300000013000000136261645f6d6167696300626164206d61676963\n0 shut\nrefused 10\nbad line\n".as_slice()
+    );
+    Ok(())
+}
+
+#[test]
+fn line_too_long(rt: HostRuntime) -> Result<(), Fail> {
+    let alloc = rt.alloc();
+    let out = printed_bytes(&rt, 64, &long_piece(alloc, 1025)?)?;
+    assert_eq!(rt;
+        out.as_slice(),
+        b"0 open\n0 455252206c696e655f746f6f5f6c6f6e670a\n0 shut\n".as_slice()
+    );
+    let out = printed_bytes(&rt, 64, &long_piece(alloc, 1024)?)?;
+    assert_eq!(rt; out.as_slice(), b"0 open\n".as_slice());
+    Ok(())
+}
+
+// A text line, `status` with `\r`, between two ECHO_REQ in one piece.
+#[test]
+fn echoes_around_a_line(rt: HostRuntime) -> Result<(), Fail> {
+    let out = printed(
+        &rt,
+        64,
+        "open 127.0.0.1\nbytes 0 00524551000000100000000268697374617475730d0a0052455100000010000000014a\n",
+    )?;
+    assert_eq!(rt;
+        out.as_slice(),
+        b"0 open\n0 00524553000000110000000268690052455300000011000000014a\n".as_slice()
     );
     Ok(())
 }
