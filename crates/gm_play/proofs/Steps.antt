@@ -1,7 +1,7 @@
 -- What steps do to notes.
 use Rattle.std.proofs.Common.{◌≡◌, ◌<◌, ◌≤◌, ◌+◌, ℕ, zero, suc, arith, Bool, true, false, ◌&&◌, not, if◌then◌else◌, List, [], ◌∷◌, Option, Some, None, refl, sym, ap, subst, ◌∙◌}
 use Rattle.std.specs.Prelude.{◌==◌}
-use Rattle.gm_feeder.specs.Units.{Item, APacket}
+use Rattle.gm_feeder.specs.Units.{Item, APacket, ALine}
 use Rattle.gm_notes.specs.declared.note.Note.{Note}
 use Rattle.gm_notes.specs.declared.note.Note.TheVariants.{Opened, Shut}
 use Rattle.gm_notes.specs.declared.event.UnitFault.{UnitFault}
@@ -33,6 +33,7 @@ packet_notes (Some refused) k c kind bytes steps = refl
 
 unit_notes : (k : Settings) (c : ℕ) (item : Item) (steps : List Step) → (run k (with_unit k c item steps)).notes ≡ (run k steps).notes
 unit_notes k c (APacket kind bytes) steps = packet_notes (refusal k (Packet c kind bytes) (run k steps)) k c kind bytes steps
+unit_notes k c (ALine bytes) steps = refl
 
 pub units_notes : (k : Settings) (c : ℕ) (items : List Item) (steps : List Step) → (run k (with_units k c items steps)).notes ≡ (run k steps).notes
 units_notes k c [] steps = refl
