@@ -1,5 +1,5 @@
 -- Newlines: where a line ends, and where none can.
-use Rattle.std.proofs.Common.{◌≡◌, ◌≢◌, ℕ, ◌+◌, ◌-◌, ◌<◌, ◌≤◌, Bool, true, ◌&&◌, nat_lt, List, [], ◌∷◌, ◌++◌, length, get_or, take, drop, slice_index, slice_range, refl, sym, ap, ap₂, subst, ◌∙◌, arith, ⊎_elim, append_assoc, append-nil, length-append, length-take, le_refl}
+use Rattle.std.proofs.Common.{◌≡◌, ◌≢◌, ℕ, ◌+◌, ◌-◌, ◌<◌, ◌≤◌, Bool, true, ◌&&◌, nat_lt, List, [], ◌∷◌, ◌++◌, length, get_or, take, drop, slice_index, slice_range, refl, sym, ap, ap₂, subst, ◌∙◌, arith, ⊎_elim, append_assoc, append-nil, length-append, length-take, length-drop, le_refl}
 use Rattle.std.specs.List.{All}
 use Rattle.std.specs.Io.BufRead.{ends_with_byte, strip_last}
 use Rattle.std.proofs.lemmas.Bool.{cases_lt, eq-eqb, eqb-true}
@@ -31,6 +31,9 @@ ends_past before after bytes more n joined within none =
 part_at : (bytes : List ℕ) (from end j : ℕ) → from + j < end → slice_index (slice_range bytes from end) j ≡ slice_index bytes (from + j)
 part_at bytes from end j low = get_or-take (end - from) (drop from bytes) j 0 (omega arith) ∙ get_or-drop from bytes j 0
 
+pub length-slice : (bytes : List ℕ) (from end : ℕ) → from ≤ end → end ≤ length bytes → length (slice_range bytes from end) ≡ end - from
+length-slice bytes from end ordered within = omega (arith, length-take (end - from) (drop from bytes), length-drop from bytes)
+
 -- what a search through a part found is a newline
 pub newline_at : (bytes : List ℕ) (from end j : ℕ) → from + j < end → Passes (is_byte 10) (slice_range bytes from end) j → slice_index bytes (from + j) ≡ 10
 newline_at bytes from end j low found = sym (part_at bytes from end j low) ∙ eqb-true (slice_index (slice_range bytes from end) j) 10 found
@@ -46,6 +49,13 @@ none_further limits bytes from end n scanned within nowhere k low bad =
     let is : slice_index (slice_range bytes from end) (k - from) ≡ 10 = part_at bytes from end (k - from) (omega arith) ∙ (ap (slice_index bytes) place ∙ bad) in
     nowhere (k - from) (omega arith) (omega arith) (eq-eqb (slice_index (slice_range bytes from end) (k - from)) 10 is))
     (cases_lt k from)
+
+-- the same of a search that came to its end
+pub none_below : (limits : Limits) (bytes : List ℕ) (from end : ℕ) → IsScanned limits bytes from → from ≤ end → end ≤ length bytes
+    → Nowhere (Passes (is_byte 10) (slice_range bytes from end)) 0 (length (slice_range bytes from end)) → (k : ℕ) → k < end → slice_index bytes k ≢ 10
+none_below limits bytes from end scanned ordered within nowhere k low =
+    let long = length-slice bytes from end ordered within in
+    none_further limits bytes from end (end - from) scanned (omega arith) (λ j from_zero high. nowhere j from_zero (omega (arith, long))) k (omega arith)
 
 -- bytes without newline, before a newline, are told by what they begin
 pub same_before : (a b x y : List ℕ) → All (λ c. c ≢ 10) a → All (λ c. c ≢ 10) b → a ++ 10 ∷ x ≡ b ++ 10 ∷ y → a ≡ b

@@ -49,7 +49,7 @@ pub fn one_fault()
 
 /// A fault stands exactly where no continuation of the rest begins with a unit; where more bytes are
 /// waited for, some continuation does.
-pub fn a_fault_is_no_hope()
+pub fn fault_where_no_unit_can_come()
     ensures hopeless { (limits : Limits) (rest : List ℕ) (fault : FeedFault)
         → IsFaultOf limits rest fault → IsHopeless limits rest }
     ensures faulty { (limits : Limits) (rest : List ℕ)
