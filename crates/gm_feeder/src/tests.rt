@@ -185,43 +185,60 @@ fn odd_lines(rt: HostRuntime) -> Result<(), Fail> {
 }
 
 #[test]
-fn long_lines(rt: HostRuntime) -> Result<(), Fail> {
+fn lines_at_the_limit(rt: HostRuntime) -> Result<(), Fail> {
     let alloc = rt.alloc();
+    let mut stream = long_line(alloc, 1024)?;
     for piece_len in [1, 1000, 4096] {
-        // 1,024 bytes are a line.
-        let mut stream = long_line(alloc, 1024)?;
         let waiting = cut_into(alloc, &stream, piece_len)?;
         assert!(rt; waiting.units.is_empty());
         assert_eq!(rt; waiting.rest, stream);
         assert_eq!(rt; waiting.fault, None);
-        stream.push(b'\n')?;
+    }
+    stream.push(b'\n')?;
+    for piece_len in [1, 1000, 4096] {
         let done = cut_into(alloc, &stream, piece_len)?;
         assert_eq!(rt; done.units.len(), 1);
-        assert_eq!(rt; done.units[0], line(alloc, &stream[..1024])?);
+        assert_eq!(rt; done.units[0], line(alloc, &long_line(alloc, 1024)?)?);
         assert_eq!(rt; done.fault, None);
+    }
+    Ok(())
+}
 
-        // The `\r` before the newline is one of them.
-        let mut stream = long_line(alloc, 1023)?;
-        stream.extend_from_slice(b"\r\n")?;
-        let done = cut_into(alloc, &stream, piece_len)?;
+// The `\r` before the newline is one of the 1,024 bytes.
+#[test]
+fn a_return_counts(rt: HostRuntime) -> Result<(), Fail> {
+    let alloc = rt.alloc();
+    let mut short = long_line(alloc, 1023)?;
+    short.extend_from_slice(b"\r\n")?;
+    let mut long = long_line(alloc, 1024)?;
+    long.extend_from_slice(b"\r\n")?;
+    for piece_len in [1, 1000, 4096] {
+        let done = cut_into(alloc, &short, piece_len)?;
         assert_eq!(rt; done.units.len(), 1);
-        assert_eq!(rt; done.units[0], line(alloc, &stream[..1023])?);
+        assert_eq!(rt; done.units[0], line(alloc, &long_line(alloc, 1023)?)?);
         assert_eq!(rt; done.fault, None);
+        let refused = cut_into(alloc, &long, piece_len)?;
+        assert!(rt; refused.units.is_empty());
+        assert_eq!(rt; refused.fault, Some(FeedFault::LineTooLong));
+    }
+    Ok(())
+}
 
-        // 1,025 are none, before their newline comes and with it.
-        let mut stream = long_line(alloc, 1025)?;
-        let refused = cut_into(alloc, &stream, piece_len)?;
+// 1,025 bytes are refused before their newline comes, and with it.
+#[test]
+fn lines_over_the_limit(rt: HostRuntime) -> Result<(), Fail> {
+    let alloc = rt.alloc();
+    let open = long_line(alloc, 1025)?;
+    let mut ended = long_line(alloc, 1025)?;
+    ended.push(b'\n')?;
+    for piece_len in [1, 1000, 4096] {
+        let refused = cut_into(alloc, &open, piece_len)?;
         assert!(rt; refused.units.is_empty());
-        assert_eq!(rt; refused.rest, stream);
+        assert_eq!(rt; refused.rest, open);
         assert_eq!(rt; refused.fault, Some(FeedFault::LineTooLong));
-        stream.push(b'\n')?;
-        let refused = cut_into(alloc, &stream, piece_len)?;
+        let refused = cut_into(alloc, &ended, piece_len)?;
         assert!(rt; refused.units.is_empty());
-        assert_eq!(rt; refused.fault, Some(FeedFault::LineTooLong));
-        let mut stream = long_line(alloc, 1024)?;
-        stream.extend_from_slice(b"\r\n")?;
-        let refused = cut_into(alloc, &stream, piece_len)?;
-        assert!(rt; refused.units.is_empty());
+        assert_eq!(rt; refused.rest, ended);
         assert_eq!(rt; refused.fault, Some(FeedFault::LineTooLong));
     }
     Ok(())
