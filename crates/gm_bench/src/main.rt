@@ -1,0 +1,86 @@
+//! Measures what the crates of the server cost, to be compared with plain Rust.
+#![tactic(auto)]
+
+mod feeding;
+mod load;
+mod measurement;
+mod measuring;
+mod stop;
+mod tally;
+mod text;
+mod words;
+
+use measurement::ALL;
+use measuring::measure;
+use std::env;
+use std::process::ExitCode;
+use std::time::Duration;
+use stop::Stop;
+use text::{outcome_line, rate};
+use words::{Order, read_order};
+
+/// The count of each measurement where all are checked. It is no multiple of a unit's length.
+const CHECK_COUNT: u64 = 1_000_003;
+
+const HELP: &str = "\
+gm_bench NAME COUNT   runs a measurement, and prints what came of it, its time and its rate
+gm_bench --check      runs each measurement once at a small size, and prints what came of it
+gm_bench --help       prints this
+
+COUNT is a number of bytes. They come in pieces of 16384 bytes, and of one byte where NAME ends in _bytewise.
+NAME is one of
+
+  feed_small_packets, feed_small_packets_bytewise   ECHO_REQ packets of 16 bytes
+  feed_large_packets, feed_large_packets_bytewise   ECHO_REQ packets of 65536 bytes
+  feed_lines, feed_lines_bytewise                   text lines of 20 bytes
+";
+
+fn order(rt: &HostRuntime) -> Result<Order, Stop> {
+    let words = env::args(rt).map_err(|_| Stop::Memory)?;
+    let words: Vec<String> = words.skip(1).collect(rt.alloc())?;
+    let words: Vec<&str> = words.iter().map(|word| word.as_str()).collect(rt.alloc())?;
+    read_order(&words).map_err(Stop::Words)
+}
+
+fn print(rt: &HostRuntime, text: &str) -> Result<(), Stop> {
+    rt.print(text).map_err(|_| Stop::Write)
+}
+
+fn print_time(rt: &HostRuntime, count: u64, elapsed: Duration) -> Result<(), Stop> {
+    let seconds = elapsed.as_secs();
+    let micros = elapsed.subsec_micros();
+    let rate = rate(count, elapsed);
+    println!(rt; "{seconds}.{micros:06} s, {rate} MiB/s").map_err(|_| Stop::Write)
+}
+
+fn run(rt: &HostRuntime) -> Result<(), Stop> {
+    let alloc = rt.alloc();
+    match order(rt)? {
+        Order::Help => print(rt, HELP),
+        Order::Check => {
+            for measurement in ALL {
+                let measured = measure(rt, alloc, measurement, CHECK_COUNT)?;
+                let line = outcome_line(alloc, measurement, CHECK_COUNT, measured.outcome)?;
+                print(rt, line.as_str())?;
+            }
+            Ok(())
+        }
+        Order::Measure { measurement, count } => {
+            let measured = measure(rt, alloc, measurement, count)?;
+            let line = outcome_line(alloc, measurement, count, measured.outcome)?;
+            print(rt, line.as_str())?;
+            print_time(rt, count, measured.elapsed)
+        }
+    }
+}
+
+fn main(rt: HostRuntime) -> ExitCode {
+    match run(&rt) {
+        Ok(()) => ExitCode::SUCCESS,
+        Err(stop) => {
+            // Where standard error fails too, there is nobody left to tell.
+            let _ = eprintln!(rt; "gm_bench: {stop}");
+            ExitCode::from(stop.status())
+        }
+    }
+}
