@@ -7,17 +7,20 @@ mod measurement;
 mod measuring;
 mod stop;
 mod tally;
+#[cfg(test)]
+mod tests;
 mod text;
 mod words;
 
 use measurement::ALL;
 use measuring::measure;
-use std::env;
+use std::io::ErrorKind;
 use std::process::ExitCode;
 use std::time::Duration;
+use std::{env, io};
 use stop::Stop;
 use text::{outcome_line, rate};
-use words::{Order, read_order};
+use words::{Order, WordsFault, read_order};
 
 /// The count of each measurement where all are checked. It is no multiple of a unit's length.
 const CHECK_COUNT: u64 = 1_000_003;
@@ -35,8 +38,16 @@ NAME is one of
   feed_lines, feed_lines_bytewise                   text lines of 20 bytes
 ";
 
+/// Why the words can't be had: where it isn't for memory, one of them isn't text.
+fn words_stop(error: io::Error) -> Stop {
+    match error.kind() {
+        ErrorKind::OutOfMemory => Stop::Memory,
+        _ => Stop::Words(WordsFault::Words),
+    }
+}
+
 fn order(rt: &HostRuntime) -> Result<Order, Stop> {
-    let words = env::args(rt).map_err(|_| Stop::Memory)?;
+    let words = env::args(rt).map_err(words_stop)?;
     let words: Vec<String> = words.skip(1).collect(rt.alloc())?;
     let words: Vec<&str> = words.iter().map(|word| word.as_str()).collect(rt.alloc())?;
     read_order(&words).map_err(Stop::Words)

@@ -1,6 +1,7 @@
 //! Takes the time of a measurement.
 
-ghost use Rattle.std.specs.Prelude.{◌≡◌, IfOk};
+ghost use Rattle.std.specs.Prelude.{◌≡◌, ◌⊎◌, IfOk, IfErr};
+ghost use Rattle.gm_bench.specs.declared.stop.Stop.TheVariants.{Memory, Clock};
 ghost use Rattle.gm_bench.specs.Loads.{outcome_of};
 ghost use Rattle.gm_bench.specs.Measurements.{load_of};
 
@@ -20,14 +21,16 @@ pub struct Measured {
     pub elapsed: Duration,
 }
 
-/// Runs a measurement, with its count. Where the clock can't be read, it answers `Clock`.
+/// Runs a measurement, with its count. Where the clock can't be read, it answers `Clock`; where there's no
+/// memory for the pattern or the feeder, `Memory`.
 pub fn measure<C: Clock>(
     clock: &C,
     alloc: Global,
     measurement: Measurement,
     count: u64,
 ) -> Result<Measured, Stop>
-    ensures { IfOk result (λ measured. measured.outcome ≡ outcome_of (load_of measurement) count) }
+    ensures outcome { IfOk result (λ measured. measured.outcome ≡ outcome_of (load_of measurement) count) }
+    ensures errors { IfErr result (λ stop. (stop ≡ Memory) ⊎ (stop ≡ Clock)) }
 {
     let pattern = measurement.load().pattern(alloc)?;
     let start = Instant::now(clock).map_err(|_| Stop::Clock)?;
