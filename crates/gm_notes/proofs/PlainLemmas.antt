@@ -1,90 +1,70 @@
 -- What a plain server needs of the definitions.
-use Rattle.std.proofs.Common.{◌≡◌, ◌≢◌, ℕ, zero, suc, ◌+◌, ◌<◌, Bool, true, false, not, cond, List, [], ◌∷◌, ◌++◌, length, get_or, set, reverse, Option, Some, None, refl, sym, ap, subst, ◌∙◌, arith}
-use Rattle.std.specs.Prelude.{◌==◌, unwrap_or}
+use Rattle.std.proofs.Common.{◌≡◌, ◌≢◌, ℕ, zero, suc, ◌+◌, ◌<◌, Bool, true, false, cond, List, [], ◌∷◌, ◌++◌, length, get_or, set, Option, Some, None, Result, Ok, Err, refl, sym, ap, subst, ◌∙◌, arith, length-set}
+use Rattle.std.specs.Prelude.{◌&&◌, ◌==◌, if◌then◌else◌, unwrap_or}
+use Rattle.std.specs.Result.{IsErr, IsErrAnd, OnOk, OnErr}
 use Rattle.std.proofs.lemmas.Bool.{and_parts}
+use Rattle.std.specs.List.{All}
 use Rattle.std.proofs.lemmas.Bool.Decides.{nat_tests}
-use Rattle.std.proofs.lemmas.List.{get_or-set_same, get_or-set_other, reverse-append}
+use Rattle.std.proofs.lemmas.List.{get_or-set_same, get_or-set_other}
+use Rattle.std.proofs.Math.Numerals.{add-one}
+use Rattle.std.specs.declared.alloc.AllocError.{AllocError}
+use Rattle.gm_packet.specs.Writing.{Answer, answer_packet, job_created}
 use Rattle.gm_notes.specs.declared.note.Note.{Note}
-use Rattle.gm_notes.specs.declared.note.Note.TheVariants.{Opened, Shut}
-use Rattle.gm_notes.specs.declared.event.ApplyError.TheVariants.{NotOwed}
+use Rattle.gm_notes.specs.declared.note.Note.TheVariants.{Opened, Closed, Slept, Woken, Stirred, Took, Withdrew, Kept, Listens, Made, Mention, Assigned}
+use Rattle.gm_notes.specs.declared.states.Phase.{Phase}
 use Rattle.gm_notes.specs.declared.states.Phase.TheVariants.{Awake}
 use Rattle.gm_notes.specs.declared.states.Mode.{Mode}
 use Rattle.gm_notes.specs.declared.states.Mode.TheVariants as modes
 use Rattle.gm_notes.specs.Settings.{Settings}
-use Rattle.gm_notes.specs.Notes.{is_open, is_shut, takes_units, phase, is_owed, mode, welcomes}
-use Rattle.gm_notes.specs.Flow.{Flow, Queued, waiting}
-use Rattle.gm_notes.specs.Ranges.{AreOpenBelow, NobodyIsOwed}
-use Rattle.gm_notes.specs.Past.{Past, noted, print, give}
-use Rattle.gm_notes.specs.Requests.{packet_of}
-use Rattle.gm_notes.specs.Steps.{Step, unless, refusal, free_from, unless_not_open, opening, made_since, if_owed, if_free, if_welcome, free_slot}
-use Rattle.gm_notes.specs.Served.{served, run, add}
-use Rattle.gm_notes.specs.Answers.{answer_to}
-use Rattle.gm_packet.specs.declared.kind.Kind.{Kind}
-use Rattle.gm_packet.specs.declared.kind.Kind.TheVariants as kinds
-use Rattle.gm_notes.specs.Plain.{Holds}
+use Rattle.gm_notes.specs.Notes.{is_open, phase, is_asleep, slots_from, takes_units, moment, welcomes}
+use Rattle.gm_notes.specs.Jobs.{Job, job, is_mentioned, handle}
+use Rattle.gm_notes.specs.Flow.{Flow, Began, Drained, waiting}
+use Rattle.gm_notes.specs.Lanes.{given, given_all}
+use Rattle.gm_notes.specs.Logs.{IsCalm, StaysAwake}
+use Rattle.gm_notes.specs.Past.{Past, noted, flowed, print, give, tell_all, mentioned, wake_one, wake_each, wake}
+use Rattle.gm_notes.specs.Workers.{stir, deadline_after, tell_assigned, give_out}
+use Rattle.gm_notes.specs.Submissions.{Submission, wanted, make}
+use Rattle.gm_notes.specs.declared.event.Done.{Done}
+use Rattle.gm_notes.specs.declared.event.ApplyError.{ApplyError}
+use Rattle.gm_notes.specs.declared.event.ApplyError.TheVariants.{Memory}
+use Rattle.gm_notes.specs.Servers.{IsRefusal, Answers, steps_after}
+use Rattle.gm_notes.specs.Plain.{Holds, Agrees, Changes, unless_wanting}
+use Rattle.gm_notes.specs.Steps.{Step, unless, refusal, free_from, if_free, if_welcome, unless_not_open, made_since}
+use Rattle.gm_notes.specs.Served.{run, add}
 
--- ---- slots
+-- ---- one change after another
 
-pub taking_is_below : (c count : ℕ) (notes : List Note) → AreOpenBelow count notes → takes_units c (reverse notes) ≡ true → c < count
-taking_is_below c count notes below e = below c (and_parts (is_open c (reverse notes)) (not (is_shut c (reverse notes))) e).0
+module _ {k k' : Settings} {n n' : List Note} {l l' : List (List ℕ)} where
+  pub goes_nothing : k' ≡ k → n' ≡ n → l' ≡ l → Changes k k' n n' l l' (λ past. past)
+  goes_nothing config notes lanes = record {
+    config = config;
+    past = λ p holds. record { notes_are = notes ∙ holds.notes_are; lanes_are = λ c. ap (λ a. get_or a c []) lanes ∙ holds.lanes_are c };
+  }
 
--- the newest note comes first
-pub reverse_push : (notes : List Note) (note : Note) → reverse (notes ++ note ∷ []) ≡ note ∷ reverse notes
-reverse_push notes note = reverse-append notes (note ∷ [])
+  pub goes_then : {k'' : Settings} {n'' : List Note} {l'' : List (List ℕ)} {f g : Past → Past} → Changes k k' n n' l l' f → Changes k' k'' n' n'' l' l'' g
+      → Changes k k'' n n'' l l'' (λ past. g (f past))
+  goes_then {k''} {n''} {l''} {f} {g} first second =
+      record { config = second.config ∙ first.config; past = λ p holds. second.past (f p) (first.past p holds) }
 
-free_next : (t : Bool) (c n : ℕ) (notes : List Note) (slot : ℕ) → is_open c notes ≡ t → (free_from (suc c) n notes ≡ Some slot → (slot < suc c + n) × (is_open slot notes ≡ false)) → cond t (free_from (suc c) n notes) (Some c) ≡ Some slot → (slot < c + suc n) × (is_open slot notes ≡ false)
-free_next true c n notes slot is rest e = let r = rest e in (omega (arith, r.0), r.1)
-free_next false c n notes slot is rest e =
-    let same : c ≡ slot = cc in
-    (omega arith, subst (λ x. is_open x notes ≡ false) same is)
+  -- a change that is the same at what is kept
+  pub goes_as : {f : Past → Past} (g : Past → Past) → Changes k k' n n' l l' f → ((past : Past) → Holds n l past → f past ≡ g past) → Changes k k' n n' l l' g
+  goes_as {f} g goes same = record { config = goes.config; past = λ p holds. subst (Holds n' l') (same p holds) (goes.past p holds) }
 
--- a free slot is one of those asked for, and isn't open
-pub free_is : (c n : ℕ) (notes : List Note) (slot : ℕ) → free_from c n notes ≡ Some slot → (slot < c + n) × (is_open slot notes ≡ false)
-free_is c zero notes slot e = absurd cc
-free_is c (suc n) notes slot e = free_next (is_open c notes) c n notes slot refl (free_is (suc c) n notes slot) e
+  pub does_as : {E : Type 0} {f : Past → Past} (result : Result (Unit {0}) E) (g : Past → Past) → Changes k k' n n' l l' (unless_wanting result f)
+      → ((past : Past) → Holds n l past → f past ≡ g past) → Changes k k' n n' l l' (unless_wanting result g)
+  does_as {E} {f} (Ok done) g goes same = goes_as {f = f} g goes same
+  does_as {E} {f} (Err wanting) g goes same = goes_as {f = λ past. past} (λ past. past) goes (λ p holds. refl)
 
-opened_below : (t : Bool) (c slot count : ℕ) (notes : List Note) → (c == slot) ≡ t → slot < count → (is_open c notes ≡ true → c < count) → unwrap_or (cond t (Some true) None) (is_open c notes) ≡ true → c < count
-opened_below true c slot count notes is lt rest e = grind (arith, nat_tests)
-opened_below false c slot count notes is lt rest e = rest e
-
--- open slots stay below the count where the one opened is
-pub below_opened : (notes more : List Note) (slot count : ℕ) (addr : List ℕ) → AreOpenBelow count notes → slot < count → more ≡ notes ++ Opened slot addr ∷ [] → AreOpenBelow count more
-below_opened notes more slot count addr below lt is c e = opened_below (c == slot) c slot count (reverse notes) refl lt (below c) (sym (ap (is_open c) (ap reverse is ∙ reverse_push notes (Opened slot addr))) ∙ e)
-
-pub below_shut : (notes more : List Note) (slot count : ℕ) → AreOpenBelow count notes → more ≡ notes ++ Shut slot ∷ [] → AreOpenBelow count more
-below_shut notes more slot count below is c e = below c (sym (ap (is_open c) (ap reverse is ∙ reverse_push notes (Shut slot))) ∙ e)
-
-pub below_same : (notes more : List Note) (count : ℕ) → AreOpenBelow count notes → more ≡ notes → AreOpenBelow count more
-below_same notes more count below is c e = below c (sym (ap (λ l. is_open c (reverse l)) is) ∙ e)
-
--- after a push that may be refused
-pub below_push_shut : (t : Bool) (notes more : List Note) (slot count : ℕ) → AreOpenBelow count notes → more ≡ cond t (notes ++ Shut slot ∷ []) notes → AreOpenBelow count more
-below_push_shut true notes more slot count below is = below_shut notes more slot count below is
-below_push_shut false notes more slot count below is = below_same notes more count below is
-
-pub below_push_opened : (t : Bool) (notes more : List Note) (slot count : ℕ) (addr : List ℕ) → AreOpenBelow count notes → slot < count → more ≡ cond t (notes ++ Opened slot addr ∷ []) notes → AreOpenBelow count more
-below_push_opened true notes more slot count addr below lt is = below_opened notes more slot count addr below lt is
-below_push_opened false notes more slot count addr below lt is = below_same notes more count below is
-
--- nobody is owed where nobody was and a connection was opened, or shut
-owed_opened : (t : Bool) (c : ℕ) (notes : List Note) → is_owed (phase c notes) ≡ false → is_owed (unwrap_or (cond t (Some Awake) None) (phase c notes)) ≡ false
-owed_opened true c notes calm = refl
-owed_opened false c notes calm = calm
-
-pub calm_push_opened : (t : Bool) (notes more : List Note) (slot : ℕ) (addr : List ℕ) → NobodyIsOwed notes → more ≡ cond t (notes ++ Opened slot addr ∷ []) notes → NobodyIsOwed more
-calm_push_opened true notes more slot addr calm is c = ap (λ l. is_owed (phase c l)) (ap reverse is ∙ reverse_push notes (Opened slot addr)) ∙ owed_opened (c == slot) c (reverse notes) (calm c)
-calm_push_opened false notes more slot addr calm is c = ap (λ l. is_owed (phase c (reverse l))) is ∙ calm c
-
-pub calm_push_shut : (t : Bool) (notes more : List Note) (slot : ℕ) → NobodyIsOwed notes → more ≡ cond t (notes ++ Shut slot ∷ []) notes → NobodyIsOwed more
-calm_push_shut true notes more slot calm is c = ap (λ l. is_owed (phase c l)) (ap reverse is ∙ reverse_push notes (Shut slot)) ∙ calm c
-calm_push_shut false notes more slot calm is c = ap (λ l. is_owed (phase c (reverse l))) is ∙ calm c
-
-pub calm_same : (notes more : List Note) → NobodyIsOwed notes → more ≡ notes → NobodyIsOwed more
-calm_same notes more calm is c = ap (λ l. is_owed (phase c (reverse l))) is ∙ calm c
+  -- where memory was wanting, nothing happened
+  pub does_not : {S : Type 0} (result : Result (Unit {0}) AllocError) (g : Past → Past) → IsErr result × S → Changes k k' n n' l l' (λ past. past)
+      → Changes k k' n n' l l' (unless_wanting result g)
+  does_not {S} (Ok done) g failed goes = absurd (let wrong : IsErr (let r : Result (Unit {0}) AllocError = Ok done in r) = failed.0 in cc)
+  does_not {S} (Err wanting) g failed goes = goes
 
 -- ---- bytes
 
-queued_at : (t : Bool) (lanes : List (List ℕ)) (slot : ℕ) (bytes : List ℕ) (flow : List Flow) (c : ℕ) → (c == slot) ≡ t → slot < length lanes → ((d : ℕ) → get_or lanes d [] ≡ waiting d flow) → get_or (set lanes slot (get_or lanes slot [] ++ bytes)) c [] ≡ cond t (waiting c flow ++ bytes) (waiting c flow)
+queued_at : (t : Bool) (lanes : List (List ℕ)) (slot : ℕ) (bytes : List ℕ) (flow : List Flow) (c : ℕ) → (c == slot) ≡ t → slot < length lanes
+    → ((d : ℕ) → get_or lanes d [] ≡ waiting d flow) → get_or (set lanes slot (get_or lanes slot [] ++ bytes)) c [] ≡ cond t (waiting c flow ++ bytes) (waiting c flow)
 queued_at true lanes slot bytes flow c is lt each =
     let same : slot ≡ c = grind (arith, nat_tests) in
     subst (λ x. get_or (set lanes slot (get_or lanes slot [] ++ bytes)) x [] ≡ waiting x flow ++ bytes) same (get_or-set_same lanes slot _ [] lt ∙ ap (λ l. l ++ bytes) (each slot))
@@ -92,35 +72,24 @@ queued_at false lanes slot bytes flow c is lt each =
     let other : c ≢ slot = grind (arith, nat_tests) in
     rw get_or-set_other (each c)
 
--- what waits, once bytes were queued
-pub queued : (lanes : List (List ℕ)) (slot : ℕ) (bytes : List ℕ) (flow : List Flow) → slot < length lanes → ((d : ℕ) → get_or lanes d [] ≡ waiting d flow) → (c : ℕ) → get_or (set lanes slot (get_or lanes slot [] ++ bytes)) c [] ≡ waiting c (Queued slot bytes ∷ flow)
-queued lanes slot bytes flow lt each c = queued_at (c == slot) lanes slot bytes flow c refl lt each
+-- what is queued waits
+pub holds_given : (notes : List Note) (lanes : List (List ℕ)) (past : Past) (slot : ℕ) (bytes : List ℕ) → Holds notes lanes past → slot < length lanes
+    → Holds notes (given slot bytes lanes) (print slot bytes past)
+holds_given notes lanes past slot bytes holds lt =
+    record { notes_are = holds.notes_are; lanes_are = λ c. queued_at (c == slot) lanes slot bytes past.flow c refl lt holds.lanes_are }
 
--- ---- one step more
+pub holds_given_all : (notes : List Note) (lanes : List (List ℕ)) (past : Past) (slots : List ℕ) (answer : Answer) → Holds notes lanes past
+    → All (λ c. c < length lanes) slots → Holds notes (given_all (answer_packet answer) slots lanes) (tell_all answer slots past)
+holds_given_all notes lanes past [] answer holds below = holds
+holds_given_all notes lanes past (slot ∷ slots) answer holds below =
+    let text = answer_packet answer in
+    let lt : slot < length lanes = below 0 0 (omega arith) in
+    let long = length-set lanes slot (get_or lanes slot [] ++ text) in
+    holds_given_all notes (given slot text lanes) (print slot text past) slots answer (holds_given notes lanes past slot text holds lt)
+    (λ k d h. subst (λ n. get_or slots k d < n) (sym long) (below (suc k) d (omega (arith, h))))
 
--- a step that is taken adds what it adds
-pub run_taken : (k : Settings) (s : Step) (steps : List Step) → refusal k s (run k steps) ≡ None → run k (s ∷ steps) ≡ add k s (run k steps)
-run_taken k s steps taken = ap (λ o. unless o (add k s (run k steps)) (run k steps)) taken
-
-pub units_taken : (notes : List Note) (slot : ℕ) (past : Past) → reverse notes ≡ past.notes → takes_units slot (reverse notes) ≡ true → unless_not_open (takes_units slot past.notes) ≡ None
-units_taken notes slot past is takes = ap unless_not_open (ap (takes_units slot) (sym is) ∙ takes)
-
-pub holds_given : (notes : List Note) (lanes more : List (List ℕ)) (past : Past) (slot : ℕ) (bytes : List ℕ) → Holds notes lanes past → slot < length lanes → more ≡ set lanes slot (get_or lanes slot [] ++ bytes) → Holds notes more (print slot bytes past)
-holds_given notes lanes more past slot bytes holds lt is = record {
-  notes_are = holds.notes_are;
-  lanes_are = λ c. ap (λ l. get_or l c []) is ∙ queued lanes slot bytes past.flow lt holds.lanes_are c;
-}
-
-pub holds_shut : (notes more : List Note) (lanes : List (List ℕ)) (past : Past) (slot : ℕ) → Holds notes lanes past → more ≡ notes ++ Shut slot ∷ [] → Holds more lanes (noted (Shut slot) past)
-holds_shut notes more lanes past slot holds is = record {
-  notes_are = ap reverse is ∙ reverse_push notes (Shut slot) ∙ ap (λ l. Shut slot ∷ l) holds.notes_are;
-  lanes_are = holds.lanes_are;
-}
-
-pub holds_same : (notes more : List Note) (lanes : List (List ℕ)) (past : Past) → Holds notes lanes past → more ≡ notes → Holds more lanes past
-holds_same notes more lanes past holds is = record { notes_are = ap reverse is ∙ holds.notes_are; lanes_are = holds.lanes_are }
-
-began_at : (t : Bool) (lanes : List (List ℕ)) (slot : ℕ) (flow : List Flow) (c : ℕ) → (c == slot) ≡ t → slot < length lanes → ((d : ℕ) → get_or lanes d [] ≡ waiting d flow) → get_or (set lanes slot []) c [] ≡ cond t [] (waiting c flow)
+began_at : (t : Bool) (lanes : List (List ℕ)) (slot : ℕ) (flow : List Flow) (c : ℕ) → (c == slot) ≡ t → slot < length lanes
+    → ((d : ℕ) → get_or lanes d [] ≡ waiting d flow) → get_or (set lanes slot []) c [] ≡ cond t [] (waiting c flow)
 began_at true lanes slot flow c is lt each =
     let same : slot ≡ c = grind (arith, nat_tests) in
     subst (λ x. get_or (set lanes slot []) x [] ≡ []) same (get_or-set_same lanes slot [] [] lt)
@@ -128,33 +97,171 @@ began_at false lanes slot flow c is lt each =
     let other : c ≢ slot = grind (arith, nat_tests) in
     rw get_or-set_other (each c)
 
-pub holds_opened : (notes more : List Note) (lanes emptied : List (List ℕ)) (past : Past) (slot : ℕ) (addr : List ℕ) → Holds notes lanes past → slot < length lanes → more ≡ notes ++ Opened slot addr ∷ [] → emptied ≡ set lanes slot [] → Holds more emptied (opening (Some slot) addr past)
-holds_opened notes more lanes emptied past slot addr holds lt is gone = record {
-  notes_are = ap reverse is ∙ reverse_push notes (Opened slot addr) ∙ ap (λ l. Opened slot addr ∷ l) holds.notes_are;
-  lanes_are = λ c. ap (λ l. get_or l c []) gone ∙ began_at (c == slot) lanes slot past.flow c refl lt holds.lanes_are;
-}
+pub holds_began : (notes : List Note) (lanes : List (List ℕ)) (past : Past) (slot : ℕ) → Holds notes lanes past → slot < length lanes
+    → Holds notes (set lanes slot []) (flowed (Began slot) past)
+holds_began notes lanes past slot holds lt =
+    record { notes_are = holds.notes_are; lanes_are = λ c. began_at (c == slot) lanes slot past.flow c refl lt holds.lanes_are }
 
--- ---- answers
+pub holds_drained : (notes : List Note) (lanes : List (List ℕ)) (past : Past) (slot : ℕ) → Holds notes lanes past → slot < length lanes
+    → Holds notes (set lanes slot []) (flowed (Drained slot) past)
+holds_drained notes lanes past slot holds lt =
+    record { notes_are = holds.notes_are; lanes_are = λ c. began_at (c == slot) lanes slot past.flow c refl lt holds.lanes_are }
 
--- what a packet does today
-pub packet_is : (k : Settings) (c : ℕ) (o : Option Kind) (bytes : List ℕ) (past : Past) → packet_of served k c o bytes past ≡ give c (answer_to o bytes) past
-packet_is k c None bytes past = refl
-packet_is k c (Some kinds.EchoReq) bytes past = refl
-packet_is k c (Some other) bytes past = refl
+-- ---- sleep
+
+awake_if : (t : Bool) (other : Phase) → other ≡ Awake → unwrap_or (cond t (Some Awake) None) other ≡ Awake
+awake_if true other calm = refl
+awake_if false other calm = calm
+
+-- nobody sleeps after a note that puts nobody to sleep
+pub stays_calm : (note : Note) (notes : List Note) → StaysAwake note → IsCalm notes → IsCalm (note ∷ notes)
+stays_calm (Opened d addr) notes awake calm c = awake_if (c == d) (phase c notes) (calm c)
+stays_calm (Closed d) notes awake calm c = awake_if (c == d) (phase c notes) (calm c)
+stays_calm (Slept d) notes awake calm c = absurd awake
+stays_calm (Woken d) notes awake calm c = absurd awake
+stays_calm (Stirred d) notes awake calm c = awake_if (c == d) (phase c notes) (calm c)
+stays_calm (Took d) notes awake calm c = awake_if (c == d) (phase c notes) (calm c)
+stays_calm (Withdrew d) notes awake calm c = awake_if (c == d) (phase c notes) (calm c)
+stays_calm note notes awake calm c = calm c
+
+-- ---- slots
+
+free_next : (t : Bool) (c n : ℕ) (notes : List Note) (slot : ℕ) → is_open c notes ≡ t
+    → (free_from (suc c) n notes ≡ Some slot → (slot < suc c + n) × (is_open slot notes ≡ false))
+    → cond t (free_from (suc c) n notes) (Some c) ≡ Some slot → (slot < c + suc n) × (is_open slot notes ≡ false)
+free_next true c n notes slot is rest e = let r = rest e in (omega (arith, r.0), r.1)
+free_next false c n notes slot is rest e = let same : c ≡ slot = cc in (omega arith, subst (λ x. is_open x notes ≡ false) same is)
+
+-- a free slot is one of those asked for, and isn't open
+pub free_is : (c n : ℕ) (notes : List Note) (slot : ℕ) → free_from c n notes ≡ Some slot → (slot < c + n) × (is_open slot notes ≡ false)
+free_is c zero notes slot e = absurd cc
+free_is c (suc n) notes slot e = free_next (is_open c notes) c n notes slot refl (free_is (suc c) n notes slot) e
+
+-- ---- steps
+
+-- a step that is taken adds what it adds
+pub run_taken : (k : Settings) (s : Step) (steps : List Step) → refusal k s (run k steps) ≡ None → run k (s ∷ steps) ≡ add k s (run k steps)
+run_taken k s steps taken = ap (λ o. unless o (add k s (run k steps)) (run k steps)) taken
+
+-- who takes new connections and has a free slot
+pub welcome : (m : Mode) (o : Option ℕ) (slot : ℕ) → welcomes m ≡ true → o ≡ Some slot → if_welcome m o ≡ None
+welcome modes.Running o slot goes free = ap if_free free
+welcome modes.Graceful o slot goes free = absurd cc
+welcome modes.Stopped o slot goes free = absurd cc
 
 -- no job was made where there are as many
 pub none_made : (jobs : List ℕ) → made_since jobs jobs ≡ None
 none_made jobs = let same : (length jobs == length jobs) ≡ true = grind (arith, nat_tests) in rw same refl
 
--- who is open and is owed nothing
-pub owed_none : (c : ℕ) (notes : List Note) (past : List Note) → reverse notes ≡ past → is_open c (reverse notes) ≡ true → is_owed (phase c (reverse notes)) ≡ false → if_owed c past ≡ Some NotOwed
-owed_none c notes past is opened calm = ap (if_owed c) (sym is) ∙ rw (opened, calm) refl
+-- ---- tests at what the server keeps
 
--- who takes new connections and has a free slot
-welcome : (m : Mode) (o : Option ℕ) (slot : ℕ) → welcomes m ≡ true → o ≡ Some slot → if_welcome m o ≡ None
-welcome modes.Running o slot goes free = ap if_free free
-welcome modes.Graceful o slot goes free = absurd cc
-welcome modes.Stopped o slot goes free = absurd cc
+-- nobody who is awake is woken
+pub never_wakes : (opened able asleep : Bool) (where_it_is : Phase) → where_it_is ≡ Awake → asleep ≡ is_asleep where_it_is → (opened && asleep && able) ≡ true → ⊥
+never_wakes opened able asleep where_it_is calm is e =
+    let both = and_parts (opened && asleep) able e in
+    let sleeps = (and_parts opened asleep both.0).1 in
+    let never : true ≡ false = sym sleeps ∙ (is ∙ ap is_asleep calm) in
+    absurd cc
 
-pub opening_taken : (notes : List Note) (past : Past) (k : Settings) (slot : ℕ) → reverse notes ≡ past.notes → welcomes (mode (reverse notes)) ≡ true → free_slot k past ≡ Some slot → if_welcome (mode past.notes) (free_slot k past) ≡ None
-opening_taken notes past k slot is goes free = welcome (mode past.notes) (free_slot k past) slot (ap (λ l. welcomes (mode l)) (sym is) ∙ goes) free
+pub give_wanted : (c : ℕ) (s : Submission) (n : ℕ) (answer : Answer) (past : Past) → give c answer (wanted c s n past) ≡ wanted c s n (give c answer past)
+give_wanted c s n answer past = go s.background
+  where
+    go : (t : Bool) → give c answer (if t then noted (Kept n) past else noted (Listens n c) past) ≡ (if t then noted (Kept n) (give c answer past) else noted (Listens n c) (give c answer past))
+    go true = refl
+    go false = refl
+
+give_mentioned : (c : ℕ) (f : List ℕ) (answer : Answer) (past : Past) → give c answer (mentioned f past) ≡ mentioned f (give c answer past)
+give_mentioned c f answer past = go (is_mentioned f past.notes)
+  where
+    go : (t : Bool) → give c answer (if t then past else noted (Mention f) past) ≡ (if t then give c answer past else noted (Mention f) (give c answer past))
+    go true = refl
+    go false = refl
+
+-- it doesn't matter that the answer is queued first
+pub make_is : (k : Settings) (c : ℕ) (s : Submission) (n : ℕ) (past : Past)
+    → wake k s.function (wanted c s n (noted (Made n s.function s.priority s.unique s.body) (mentioned s.function (give c (job_created (handle k n)) past))))
+    ≡ make k c s (Some n) past
+make_is k c s n past =
+    let answer = job_created (handle k n) in
+    let note = Made n s.function s.priority s.unique s.body in
+    ap (wake k s.function)
+    (ap (λ p. wanted c s n (noted note p)) (sym (give_mentioned c s.function answer past)) ∙ sym (give_wanted c s n answer (noted note (mentioned s.function past))))
+
+pub wake_next : (f : List ℕ) (slot count rest : ℕ) (past : Past) → count ≡ suc rest
+    → wake_each f (slots_from slot count) past ≡ wake_each f (slots_from (slot + 1) rest) (wake_one f slot past)
+wake_next f slot count rest past e = rw (e, add-one) refl
+
+pub wake_none : (f : List ℕ) (slot count : ℕ) (past : Past) → count ≡ 0 → wake_each f (slots_from slot count) past ≡ past
+wake_none f slot count past e = rw e refl
+
+-- ---- workers
+
+pub does_all : {k : Settings} {n : List Note} {l l' : List (List ℕ)} (result : Result (Unit {0}) AllocError) (answer : Answer) (slots : List ℕ)
+    → All (λ c. c < length l) slots → OnOk result (l' ≡ given_all (answer_packet answer) slots l) → OnErr result (l' ≡ l)
+    → Changes k k n n l l' (unless_wanting result (tell_all answer slots))
+does_all {k} {n} {l} {l'} (Ok done) answer slots below ok err =
+    record { config = refl; past = λ p holds. subst (λ a. Holds n a (tell_all answer slots p)) (sym ok) (holds_given_all n l p slots answer holds below) }
+does_all {k} {n} {l} {l'} (Err wanting) answer slots below ok err =
+    record { config = refl; past = λ p holds. subst (λ a. Holds n a p) (sym err) holds }
+
+pub stir_give : (c : ℕ) (answer : Answer) (past : Past) → stir c (give c answer past) ≡ give c answer (stir c past)
+stir_give c answer past = go (is_asleep (phase c past.notes))
+  where
+    go : (t : Bool) → (if t then noted (Stirred c) (give c answer past) else give c answer past) ≡ give c answer (if t then noted (Stirred c) past else past)
+    go true = refl
+    go false = refl
+
+-- it doesn't matter that the worker hears of its job first
+assign_told : (k : Settings) (c : ℕ) (uniq : Bool) (n timeout : ℕ) (past : Past) (t : Bool) (found : Option Job) → job n past.notes ≡ found
+    → noted (Assigned n c (deadline_after (moment past.notes) timeout)) (if t then noted (Stirred c) (tell_assigned k c uniq n found past) else tell_assigned k c uniq n found past)
+    ≡ tell_assigned k c uniq n (job n (if t then noted (Stirred c) past else past).notes)
+    (noted (Assigned n c (deadline_after (moment (if t then noted (Stirred c) past else past).notes) timeout)) (if t then noted (Stirred c) past else past))
+assign_told k c uniq n timeout past true None e = rw e refl
+assign_told k c uniq n timeout past true (Some found) e = rw e refl
+assign_told k c uniq n timeout past false None e = rw e refl
+assign_told k c uniq n timeout past false (Some found) e = rw e refl
+
+told_phase : (k : Settings) (c : ℕ) (uniq : Bool) (n : ℕ) (past : Past) (found : Option Job) → (tell_assigned k c uniq n found past).notes ≡ past.notes
+told_phase k c uniq n past None = refl
+told_phase k c uniq n past (Some found) = refl
+
+pub assign_is : (k : Settings) (c : ℕ) (uniq : Bool) (n timeout : ℕ) (past : Past)
+    → noted (Assigned n c (deadline_after (moment past.notes) timeout)) (stir c (tell_assigned k c uniq n (job n past.notes) past))
+    ≡ give_out k c uniq (Some (record { job = n; timeout = timeout })) (stir c past)
+assign_is k c uniq n timeout past =
+    let told = tell_assigned k c uniq n (job n past.notes) past in
+    ap (λ (l : List Note). noted (Assigned n c (deadline_after (moment past.notes) timeout)) (if is_asleep (phase c l) then noted (Stirred c) told else told))
+    (told_phase k c uniq n past (job n past.notes))
+    ∙ assign_told k c uniq n timeout past (is_asleep (phase c past.notes)) (job n past.notes) refl
+
+pub never_wakes-at_once : (waits : Bool) (where_it_is : Phase) → where_it_is ≡ Awake → (is_asleep where_it_is && waits) ≡ true → ⊥
+never_wakes-at_once waits where_it_is calm e =
+    let sleeps = (and_parts (is_asleep where_it_is) waits e).0 in
+    let never : true ≡ false = sym sleeps ∙ ap is_asleep calm in
+    absurd cc
+
+-- ---- answers
+
+module _ {k k' : Settings} {n n' : List Note} {l l' : List (List ℕ)} where
+  pub agrees_kept : (settings : Settings) (steps : List Step) → Agrees k n l settings steps → Changes k k' n n' l l' (λ past. past) → Agrees k' n' l' settings steps
+  agrees_kept settings steps agrees goes = record { settings = goes.config ∙ agrees.settings; past = goes.past (run settings steps) agrees.past }
+
+  pub agrees_next : (settings : Settings) (steps : List Step) (s : Step) (f : Past → Past) → Agrees k n l settings steps → Changes k k' n n' l l' f
+      → refusal settings s (run settings steps) ≡ None → f (run settings steps) ≡ add settings s (run settings steps) → Agrees k' n' l' settings (s ∷ steps)
+  agrees_next settings steps s f agrees goes taken adds = record {
+    settings = goes.config ∙ agrees.settings;
+    past = subst (Holds n' l') (sym (run_taken settings s steps taken ∙ sym adds)) (goes.past (run settings steps) agrees.past);
+  }
+
+  -- where memory was wanting for a step that would be taken
+  pub agrees_wanting : (settings : Settings) (steps : List Step) (s : Step) (result : Result Done ApplyError)
+      → IsErr result × IsErrAnd result (λ e. e ≡ Memory) → refusal settings s (run settings steps) ≡ None → Agrees k n l settings steps
+      → Changes k k' n n' l l' (λ past. past) → Answers settings steps s result × Agrees k' n' l' settings (steps_after result s steps)
+  agrees_wanting settings steps s (Ok done) wanting taken agrees goes = absurd wanting.1
+  agrees_wanting settings steps s (Err e) wanting taken agrees goes = (
+    subst (λ (x : ApplyError). IsRefusal x (refusal settings s (run settings steps))) (sym wanting.1) taken,
+    agrees_kept settings steps agrees goes,
+  )
+
+pub units_taken : (notes : List Note) (slot : ℕ) (past : Past) → notes ≡ past.notes → takes_units slot notes ≡ true → unless_not_open (takes_units slot past.notes) ≡ None
+units_taken notes slot past is takes = ap unless_not_open (ap (takes_units slot) (sym is) ∙ takes)

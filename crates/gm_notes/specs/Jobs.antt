@@ -188,9 +188,13 @@ abbrev pub is_job_with : List ℕ → Priority → Option Job → Bool
 is_job_with f p None = false
 is_job_with f p (Some job) = bytes_eq job.function f && same_priority job.priority p
 
+-- the job waits, and is of this function and priority
+abbrev pub is_queued : List ℕ → Priority → List Note → ℕ → Bool
+is_queued f p notes n = is_waiting (spot n notes) && is_job_with f p (job n notes)
+
 -- the waiting jobs of a function and a priority, in the order in which they last came to wait
 abbrev pub queue : List ℕ → Priority → List Note → List ℕ
-queue f p notes = filter (λ n. is_waiting (spot n notes) && is_job_with f p (job n notes)) (as_they_came notes)
+queue f p notes = filter (is_queued f p notes) (as_they_came notes)
 
 -- all that waits for a function, in the order in which it is given out
 abbrev pub waiting_for : List ℕ → List Note → List ℕ
@@ -226,17 +230,23 @@ abbrev pub is_job_named : List ℕ → List ℕ → Option Job → Bool
 is_job_named f u None = false
 is_job_named f u (Some job) = bytes_eq job.function f && bytes_eq job.unique u
 
+abbrev pub is_live_named : List ℕ → List ℕ → List Note → ℕ → Bool
+is_live_named f u notes n = is_live (spot n notes) && is_job_named f u (job n notes)
+
 -- the live job of the function with this unique id; none where the id is empty or a dash
 abbrev pub joined : List ℕ → List ℕ → List Note → Option ℕ
-joined f u notes = if joins u then find (λ n. is_live (spot n notes) && is_job_named f u (job n notes)) (made notes) else None
+joined f u notes = if joins u then find (is_live_named f u notes) (made notes) else None
 
 -- the number of the next job; none once the last was given out
 abbrev pub next_number : Settings → List Note → Option ℕ
 next_number k notes = if nat_lt (k.first_job + length (made notes)) (2 ^ 64) then Some (k.first_job + length (made notes)) else None
 
+abbrev pub is_live_of : List ℕ → List Note → ℕ → Bool
+is_live_of f notes n = is_live (spot n notes) && is_job_of f (job n notes)
+
 -- how many jobs of the function wait or run, how many of these run, and how many connections can do it
 abbrev pub total : List ℕ → List Note → ℕ
-total f notes = length (filter (λ n. is_live (spot n notes) && is_job_of f (job n notes)) (made notes))
+total f notes = length (filter (is_live_of f notes) (made notes))
 
 abbrev pub running : List ℕ → List Note → ℕ
 running f notes = length (filter (λ n. is_running (spot n notes) && is_job_of f (job n notes)) (made notes))
@@ -250,6 +260,9 @@ able k f notes = length (filter (λ c. is_open c notes && is_able c f notes) (sl
 abbrev pub handle : Settings → ℕ → List ℕ
 handle k n = codes "H:" ++ k.name ++ codes ":" ++ decimal n
 
+abbrev pub is_handle : Settings → List ℕ → ℕ → Bool
+is_handle k text n = bytes_eq (handle k n) text
+
 -- the job that a handle names: just what was printed for it
 abbrev pub handled : Settings → List ℕ → List Note → Option ℕ
-handled k text notes = find (λ n. bytes_eq (handle k n) text) (made notes)
+handled k text notes = find (is_handle k text) (made notes)

@@ -1,7 +1,7 @@
 -- What the servers serve today, and the steps and runs of the definitions at that.
 use Rattle.std.specs.Prelude.{Bool, true, false, List}
 use Rattle.gm_packet.specs.declared.kind.Kind.{Kind}
-use Rattle.gm_packet.specs.declared.kind.Kind.TheVariants.{EchoReq}
+use Rattle.gm_packet.specs.declared.kind.Kind.TheVariants.{CanDo, SubmitJob, GrabJob, WorkComplete, EchoReq}
 use Rattle.gm_notes.specs.declared.event.Done.{Done}
 use Rattle.gm_notes.specs.Settings.{Settings}
 use Rattle.gm_notes.specs.Past.{Past}
@@ -9,6 +9,10 @@ use Rattle.gm_notes.specs.Steps.{Step, add_by, step_by, run_by, done_by}
 
 -- which requests are served; the others are unknown
 abbrev pub served : Kind → Bool
+served CanDo = true
+served SubmitJob = true
+served GrabJob = true
+served WorkComplete = true
 served EchoReq = true
 served kind = false
 

@@ -16,11 +16,15 @@ abbrev pub woken_if : Bool → ℕ → Past → Past
 woken_if true c past = noted (Woken c) past
 woken_if false c past = past
 
+abbrev pub made_able : ℕ → List ℕ → ℕ → Past → Past
+made_able c f t past =
+    woken_if (is_asleep (phase c past.notes) && not (is_empty (waiting_for f past.notes))) c (noted (Can c f t) (mentioned f past))
+
 abbrev pub can_do : Settings → ℕ → List ℕ → ℕ → Past → Past
 can_do k c f t past =
     if is_bad_name f then refuse c (codes "bad_function") past
     else (if is_one_too_many k f past.notes then refuse c (codes "too_many_functions") past
-    else woken_if (is_asleep (phase c past.notes) && not (is_empty (waiting_for f past.notes))) c (noted (Can c f t) (mentioned f past)))
+    else made_able c f t past)
 
 abbrev pub cant_do : ℕ → List ℕ → Past → Past
 cant_do c f past = if is_bad_name f then refuse c (codes "bad_function") past else noted (Cant c f) past

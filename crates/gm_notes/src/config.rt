@@ -1,6 +1,7 @@
 //! The settings of a server.
 
-ghost use Rattle.std.specs.Prelude.{◌≡◌, ◌≤◌, Some, MatchResult};
+ghost use Rattle.std.specs.Prelude.{◌≡◌, ◌≤◌, Some, false, length, MatchResult};
+ghost use Rattle.gm_packet.specs.Requests.{has_nul};
 ghost use Rattle.std.specs.List.{list_all};
 ghost use Rattle.gm_notes.specs.Settings.{Settings, config_fault, is_name, is_name_byte};
 
@@ -102,7 +103,9 @@ impl Config {
 
     /// The name in job handles.
     pub fn name(&self) -> &[u8]
-        ensures { result.now ≡ self.now.name }
+        ensures value { result.now ≡ self.now.name }
+        ensures plain { has_nul result.now ≡ false }
+        ensures short { length result.now ≤ 40 }
     {
         self.name.as_slice()
     }

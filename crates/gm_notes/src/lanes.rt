@@ -1,7 +1,8 @@
 //! The bytes that wait for each slot.
 
-ghost use Rattle.std.specs.Prelude.{◌≡◌, ◌<◌, ◌++◌, [], ◌∷◌, length, replicate, slice_set, IfOk, OnOk, OnErr};
-ghost use Rattle.std.specs.List.{slice_index_or};
+ghost use Rattle.std.specs.Prelude.{◌≡◌, ℕ, ◌+◌, ◌*◌, ◌<◌, ◌≤◌, ◌++◌, [], ◌∷◌, length, replicate, slice_set, IfOk, OnOk, OnErr};
+ghost use Rattle.std.specs.List.{All, slice_index_or};
+ghost use Rattle.gm_notes.specs.Lanes.{bytes_of, room_at, given, given_all};
 ghost use Rattle.gm_packet.specs.Answers.{answer_of};
 ghost use Rattle.gm_packet.specs.Writing.{Fits, answer_packet, error};
 ghost use Rattle.gm_notes.specs.Texts.{fault_text};
@@ -31,6 +32,54 @@ fn write_fault(fault: UnitFault, out: &mut Vec<u8>) -> Result<(), AllocError>
         UnitFault::BadMagic => write_error(b"bad_magic", b"bad magic", out),
         UnitFault::PacketTooLarge => write_error(b"packet_too_large", b"packet too large", out),
         UnitFault::LineTooLong => gm_admin::write_fault(AdminError::LineTooLong, out),
+    }
+}
+
+/// Finds room for so many bytes more in a lane.
+fn reserve_in(lanes: &mut Vec<Vec<u8>>, slot: u32, count: usize) -> Result<(), AllocError>
+    requires { slot < length lanes.old.items }
+    ensures bytes { bytes_of lanes.new.items ≡ bytes_of lanes.old.items }
+    ensures len { length lanes.new.items ≡ length lanes.old.items }
+    ensures room { OnOk result (count ≤ room_at slot lanes.new.items) }
+    ensures more { (c : ℕ) → room_at c lanes.old.items ≤ room_at c lanes.new.items }
+{
+    lanes[slot as usize].reserve(count)?;
+    Ok(())
+}
+
+/// Finds room for so many bytes more in the lane of each of these slots.
+fn reserve_each(lanes: &mut Vec<Vec<u8>>, slots: &[u32], count: usize) -> Result<(), AllocError>
+    requires { All (λ c. c < length lanes.old.items) slots.now }
+    ensures bytes { bytes_of lanes.new.items ≡ bytes_of lanes.old.items }
+    ensures len { length lanes.new.items ≡ length lanes.old.items }
+    ensures room { OnOk result (All (λ c. count ≤ room_at c lanes.new.items) slots.now) }
+{
+    for slot in slots {
+        reserve_in(lanes, *slot, count)?;
+    }
+    Ok(())
+}
+
+/// Appends bytes to a lane that has room for them.
+fn put_in(lanes: &mut Vec<Vec<u8>>, slot: u32, text: &[u8])
+    requires slot { slot < length lanes.old.items }
+    requires room { length text.now ≤ room_at slot lanes.old.items }
+    ensures bytes { bytes_of lanes.new.items ≡ given slot text.now (bytes_of lanes.old.items) }
+    ensures len { length lanes.new.items ≡ length lanes.old.items }
+    ensures room { (c : ℕ) → room_at c lanes.old.items ≤ room_at c lanes.new.items + length text.now }
+{
+    lanes[slot as usize].extend_from_slice(text).unwrap();
+}
+
+/// Appends bytes to the lane of each of these slots, which have room for all of them.
+fn put_each(lanes: &mut Vec<Vec<u8>>, slots: &[u32], text: &[u8])
+    requires slots { All (λ c. c < length lanes.old.items) slots.now }
+    requires room { All (λ c. length text.now * length slots.now ≤ room_at c lanes.old.items) slots.now }
+    ensures bytes { bytes_of lanes.new.items ≡ given_all text.now slots.now (bytes_of lanes.old.items) }
+    ensures len { length lanes.new.items ≡ length lanes.old.items }
+{
+    for slot in slots {
+        put_in(lanes, *slot, text);
     }
 }
 
@@ -71,7 +120,7 @@ impl Lanes {
     pub fn give(&mut self, slot: u32, response: &Response<'_>) -> Result<(), AllocError>
         requires slot { slot < length self.old }
         requires fits { Fits (answer_of response.now).arguments }
-        ensures ok { OnOk result (self.new ≡ slice_set self.old slot (slice_index_or self.old slot [] ++ answer_packet (answer_of response.now))) }
+        ensures ok { OnOk result (self.new ≡ given slot (answer_packet (answer_of response.now)) self.old) }
         ensures err { OnErr result (self.new ≡ self.old) }
         ensures len { length self.new ≡ length self.old }
     {
@@ -82,12 +131,34 @@ impl Lanes {
     /// Queues what a fault prints to a slot; want of memory changes nothing.
     pub fn give_fault(&mut self, slot: u32, fault: UnitFault) -> Result<(), AllocError>
         requires { slot < length self.old }
-        ensures ok { OnOk result (self.new ≡ slice_set self.old slot (slice_index_or self.old slot [] ++ fault_text fault)) }
+        ensures ok { OnOk result (self.new ≡ given slot (fault_text fault) self.old) }
         ensures err { OnErr result (self.new ≡ self.old) }
         ensures len { length self.new ≡ length self.old }
     {
         let lane = &mut self.lanes[slot as usize];
         write_fault(fault, lane)
+    }
+
+    /// Queues a response to each of these slots, once for each time that it stands there; want of memory
+    /// changes nothing.
+    pub fn give_all(
+        &mut self,
+        alloc: Global,
+        slots: &[u32],
+        response: &Response<'_>,
+    ) -> Result<(), AllocError>
+        requires slots { All (λ c. c < length self.old) slots.now }
+        requires fits { Fits (answer_of response.now).arguments }
+        ensures ok { OnOk result (self.new ≡ given_all (answer_packet (answer_of response.now)) slots.now self.old) }
+        ensures err { OnErr result (self.new ≡ self.old) }
+        ensures len { length self.new ≡ length self.old }
+    {
+        let mut packet = Vec::new(alloc);
+        write_response(response, &mut packet)?;
+        let all = packet.len().checked_mul(slots.len()).ok_or(AllocError)?;
+        reserve_each(&mut self.lanes, slots, all)?;
+        put_each(&mut self.lanes, slots, &packet);
+        Ok(())
     }
 
     /// Takes what waits for a slot.

@@ -1,13 +1,18 @@
 //! What the job server means, and a plain server that means just that.
 #![tactic(auto)]
 
+mod abilities;
 mod config;
 mod event;
+mod handles;
+mod jobs;
 mod lanes;
 pub mod laws;
+mod log;
 mod note;
 mod plain;
 mod questions;
+mod refusal;
 pub mod rows;
 mod server;
 mod states;

@@ -1,14 +1,12 @@
-//! What notes say, found by searching them. The newest note stands last.
+//! What notes say of connections and of the server, found by searching them.
 
-ghost use Rattle.std.specs.Prelude.{◌≡◌, reverse};
-ghost use Rattle.gm_notes.specs.Notes.{says_open, is_open, says_shut, is_shut, takes_units, says_phase, phase, says_mode, mode, welcomes};
-ghost use Rattle.gm_notes.specs.Jobs.{says_spot, spot};
-ghost use Rattle.gm_notes.specs.Servers.{place_of};
-ghost use Rattle.gm_notes.specs.Places.{said_place};
+ghost use Rattle.std.specs.Prelude.{◌≡◌, ◌<◌, true};
+ghost use Rattle.gm_notes.specs.Notes.{says_open, is_open, says_shut, is_shut, takes_units, says_phase, phase, is_asleep, is_owed, says_moment, moment, says_mode, mode, welcomes};
 ghost use Rattle.gm_notes.specs.Steps.{free_from};
 
+use crate::log::Log;
 use crate::note::Note;
-use crate::states::{Mode, Phase, Place};
+use crate::states::{Mode, Phase};
 
 fn says_open(note: &Note, slot: u32) -> Option<bool>
     ensures { result ≡ says_open slot note.now }
@@ -21,9 +19,11 @@ fn says_open(note: &Note, slot: u32) -> Option<bool>
 }
 
 /// Whether a slot is open.
-pub fn is_open(notes: &[Note], slot: u32) -> bool
-    ensures { result ≡ is_open slot (reverse notes.now) }
+pub fn is_open(log: &Log, slot: u32) -> bool
+    ensures value { result ≡ is_open slot log.now.notes }
+    ensures below { result ≡ true → slot < log.now.slots }
 {
+    let notes = log.notes();
     let mut open = false;
     for note in notes {
         if let Some(answer) = says_open(note, slot) {
@@ -44,9 +44,10 @@ fn says_shut(note: &Note, slot: u32) -> Option<bool>
 }
 
 /// Whether a slot takes no more units, since it was opened.
-pub fn is_shut(notes: &[Note], slot: u32) -> bool
-    ensures { result ≡ is_shut slot (reverse notes.now) }
+pub fn is_shut(log: &Log, slot: u32) -> bool
+    ensures { result ≡ is_shut slot log.now.notes }
 {
+    let notes = log.notes();
     let mut shut = false;
     for note in notes {
         if let Some(answer) = says_shut(note, slot) {
@@ -57,10 +58,11 @@ pub fn is_shut(notes: &[Note], slot: u32) -> bool
 }
 
 /// Whether a slot takes units.
-pub fn takes_units(notes: &[Note], slot: u32) -> bool
-    ensures { result ≡ takes_units slot (reverse notes.now) }
+pub fn takes_units(log: &Log, slot: u32) -> bool
+    ensures value { result ≡ takes_units slot log.now.notes }
+    ensures below { result ≡ true → slot < log.now.slots }
 {
-    is_open(notes, slot) && !is_shut(notes, slot)
+    is_open(log, slot) && !is_shut(log, slot)
 }
 
 fn says_phase(note: &Note, slot: u32) -> Option<Phase>
@@ -79,9 +81,10 @@ fn says_phase(note: &Note, slot: u32) -> Option<Phase>
 }
 
 /// Whether the worker in a slot sleeps, or is owed a NOOP.
-pub fn phase(notes: &[Note], slot: u32) -> Phase
-    ensures { result ≡ phase slot (reverse notes.now) }
+pub fn phase(log: &Log, slot: u32) -> Phase
+    ensures { result ≡ phase slot log.now.notes }
 {
+    let notes = log.notes();
     let mut phase = Phase::Awake;
     for note in notes {
         if let Some(answer) = says_phase(note, slot) {
@@ -89,6 +92,42 @@ pub fn phase(notes: &[Note], slot: u32) -> Phase
         }
     }
     phase
+}
+
+/// Whether the worker in a slot sleeps.
+pub fn is_asleep(log: &Log, slot: u32) -> bool
+    ensures { result ≡ is_asleep (phase slot log.now.notes) }
+{
+    match phase(log, slot) {
+        Phase::Asleep => true,
+        Phase::Awake => false,
+        Phase::Owed => false,
+    }
+}
+
+/// Whether a NOOP is owed to the worker in a slot.
+pub fn is_owed(log: &Log, slot: u32) -> bool
+    ensures { result ≡ is_owed (phase slot log.now.notes) }
+{
+    match phase(log, slot) {
+        Phase::Owed => true,
+        Phase::Awake => false,
+        Phase::Asleep => false,
+    }
+}
+
+/// The moment, in seconds.
+pub fn moment(log: &Log) -> u64
+    ensures { result ≡ moment log.now.notes }
+{
+    let notes = log.notes();
+    let mut moment = 0;
+    for note in notes {
+        if let Note::Now { moment: now } = note {
+            moment = *now;
+        }
+    }
+    moment
 }
 
 fn says_mode(note: &Note) -> Option<Mode>
@@ -101,9 +140,10 @@ fn says_mode(note: &Note) -> Option<Mode>
 }
 
 /// Whether the server goes on.
-pub fn mode(notes: &[Note]) -> Mode
-    ensures { result ≡ mode (reverse notes.now) }
+pub fn mode(log: &Log) -> Mode
+    ensures { result ≡ mode log.now.notes }
 {
+    let notes = log.notes();
     let mut mode = Mode::Running;
     for note in notes {
         if let Some(answer) = says_mode(note) {
@@ -114,48 +154,23 @@ pub fn mode(notes: &[Note]) -> Mode
 }
 
 /// Whether the server takes new connections.
-pub fn welcomes(notes: &[Note]) -> bool
-    ensures { result ≡ welcomes (mode (reverse notes.now)) }
+pub fn welcomes(log: &Log) -> bool
+    ensures { result ≡ welcomes (mode log.now.notes) }
 {
-    match mode(notes) {
+    match mode(log) {
         Mode::Running => true,
         Mode::Graceful => false,
         Mode::Stopped => false,
     }
 }
 
-fn says_place(note: &Note, job: u64) -> Option<Place>
-    ensures { result ≡ said_place (says_spot job note.now) }
+/// The least slot that isn't open.
+pub fn free_slot(log: &Log) -> Option<u32>
+    ensures { result ≡ free_from 0 log.now.slots log.now.notes }
 {
-    match note {
-        Note::Made { job: n, .. } if *n == job => Some(Place::Waiting),
-        Note::Returned { job: n } if *n == job => Some(Place::Waiting),
-        Note::Assigned { job: n, slot, .. } if *n == job => Some(Place::Running(*slot)),
-        Note::Ended { job: n } if *n == job => Some(Place::Gone),
-        Note::Discarded { job: n } if *n == job => Some(Place::Gone),
-        _ => None,
-    }
-}
-
-/// Where a job is.
-pub fn place(notes: &[Note], job: u64) -> Place
-    ensures { result ≡ place_of (spot job (reverse notes.now)) }
-{
-    let mut place = Place::Unmade;
-    for note in notes {
-        if let Some(answer) = says_place(note, job) {
-            place = answer;
-        }
-    }
-    place
-}
-
-/// The least slot that isn't open, of so many.
-pub fn free_slot(notes: &[Note], slots: u32) -> Option<u32>
-    ensures { result ≡ free_from 0 slots (reverse notes.now) }
-{
+    let slots = log.slots();
     for slot in 0..slots {
-        if !is_open(notes, slot) {
+        if !is_open(log, slot) {
             return Some(slot);
         }
     }

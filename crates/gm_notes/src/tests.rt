@@ -1,5 +1,7 @@
 //! Worked answers, and that calls which can be refused for memory succeed where there is memory.
 
+ghost use Rattle.std.specs.Prelude.{◌≤◌, length};
+
 use crate::{
     ApplyError, Config, ConfigError, Done, Event, JobServer, Mode, Place, PlainServer, Text,
     UnitFault,
@@ -100,8 +102,8 @@ fn an_echo_is_answered(rt: HostRuntime) -> Result<(), Fail> {
         b"\0RES\0\0\0\x11\0\0\0\x02hi".as_slice()
     );
     assert_eq!(rt; server.drain(0).as_slice(), b"".as_slice());
-    // SUBMIT_JOB_EPOCH is never served, and CAN_DO isn't served yet: each is unknown, whatever its data.
-    for kind in [36, 1] {
+    // SUBMIT_JOB_EPOCH is never served, and PRE_SLEEP isn't served yet: each is unknown, whatever its data.
+    for kind in [36, 4] {
         let unknown = Event::Packet {
             slot: 0,
             kind,
@@ -193,5 +195,115 @@ fn nobody_is_owed_and_nothing_runs(rt: HostRuntime) -> Result<(), Fail> {
         server.drain(0).as_slice(),
         b"ERR line_too_long\n".as_slice()
     );
+    Ok(())
+}
+
+// What a packet of a slot is answered, and what is then queued to the slots 0 and 1.
+fn asked(
+    server: &mut PlainServer,
+    slot: u32,
+    kind: u32,
+    bytes: &[u8],
+) -> (Result<Done, ApplyError>, Vec<u8>, Vec<u8>)
+    requires { length bytes.now ≤ 1073741824 }
+{
+    let done = server.apply(&Event::Packet { slot, kind, bytes });
+    (done, server.drain(0), server.drain(1))
+}
+
+fn made(job: u64) -> Result<Done, ApplyError> {
+    Ok(Done {
+        opened: None,
+        created: Some(job),
+    })
+}
+
+#[test]
+fn a_job_from_submission_to_completion(rt: HostRuntime) -> Result<(), Fail> {
+    let mut server = server(&rt, 2)?;
+    assert_eq!(rt; server.apply(&Event::Open { addr: b"c" }).is_ok(), true);
+    assert_eq!(rt; server.apply(&Event::Open { addr: b"w" }).is_ok(), true);
+
+    let (done, client, worker) = asked(&mut server, 0, 7, b"f\0x\0body");
+    assert_eq!(rt; done, made(1));
+    assert_eq!(rt;
+        client.as_slice(),
+        b"\0RES\0\0\0\x08\0\0\0\x07H:gmd:1".as_slice()
+    );
+    assert!(rt; worker.is_empty());
+    assert_eq!(rt; server.place(1) == Place::Waiting, true);
+
+    // The second submission joins, and makes nothing.
+    let (done, client, _) = asked(&mut server, 0, 7, b"f\0x\0other");
+    assert_eq!(rt; done, Ok(NOTHING));
+    assert_eq!(rt;
+        client.as_slice(),
+        b"\0RES\0\0\0\x08\0\0\0\x07H:gmd:1".as_slice()
+    );
+
+    let (done, client, worker) = asked(&mut server, 1, 1, b"f");
+    assert_eq!(rt; done, Ok(NOTHING));
+    assert!(rt; client.is_empty());
+    assert!(rt; worker.is_empty());
+
+    let (done, client, worker) = asked(&mut server, 1, 9, b"");
+    assert_eq!(rt; done, Ok(NOTHING));
+    assert!(rt; client.is_empty());
+    assert_eq!(rt;
+        worker.as_slice(),
+        b"\0RES\0\0\0\x0b\0\0\0\x0eH:gmd:1\0f\0body".as_slice()
+    );
+    assert_eq!(rt; server.place(1) == Place::Running(1), true);
+
+    // Only the slot where the job runs can complete it.
+    let (done, client, _) = asked(&mut server, 0, 13, b"H:gmd:1\0no");
+    assert_eq!(rt; done, Ok(NOTHING));
+    assert_eq!(rt;
+        client.as_slice(),
+        b"\0RES\0\0\0\x13\0\0\0\x1bjob_not_found\0job not found".as_slice()
+    );
+    assert_eq!(rt; server.place(1) == Place::Running(1), true);
+
+    // Who submitted twice hears twice, and the worker gets no answer.
+    let (done, client, worker) = asked(&mut server, 1, 13, b"H:gmd:1\0ok");
+    assert_eq!(rt; done, Ok(NOTHING));
+    assert_eq!(rt;
+        client.as_slice(),
+        b"\0RES\0\0\0\x0d\0\0\0\x0aH:gmd:1\0ok\0RES\0\0\0\x0d\0\0\0\x0aH:gmd:1\0ok".as_slice()
+    );
+    assert!(rt; worker.is_empty());
+    assert_eq!(rt; server.place(1) == Place::Gone, true);
+    assert_eq!(rt; server.place(2) == Place::Unmade, true);
+
+    // What has ended is joined no more.
+    let (done, _, _) = asked(&mut server, 0, 7, b"f\0x\0again");
+    assert_eq!(rt; done, made(2));
+    Ok(())
+}
+
+#[test]
+fn handles_are_exact(rt: HostRuntime) -> Result<(), Fail> {
+    let mut server = server(&rt, 2)?;
+    assert_eq!(rt; server.apply(&Event::Open { addr: b"w" }).is_ok(), true);
+    assert_eq!(rt; asked(&mut server, 0, 7, b"f\0\0").0, made(1));
+    assert_eq!(rt; asked(&mut server, 0, 1, b"f").0, Ok(NOTHING));
+    assert_eq!(rt; asked(&mut server, 0, 9, b"").0, Ok(NOTHING));
+    let wrong: [&[u8]; 6] = [
+        b"H:gmd:01\0x",
+        b"H:gmd:1 \0x",
+        b"H:gmd:2\0x",
+        b"h:gmd:1\0x",
+        b"H:gm:1\0x",
+        b"\0x",
+    ];
+    for text in wrong {
+        let (_, answer, _) = asked(&mut server, 0, 13, text);
+        assert_eq!(rt;
+            answer.as_slice(),
+            b"\0RES\0\0\0\x13\0\0\0\x1bjob_not_found\0job not found".as_slice(),
+            "{text:?}"
+        );
+    }
+    assert_eq!(rt; server.place(1) == Place::Running(0), true);
     Ok(())
 }

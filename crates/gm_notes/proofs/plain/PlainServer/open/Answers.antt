@@ -1,64 +1,54 @@
-use Rattle.std.proofs.Common.{◌≡◌, ◌<◌, true, reverse, is_ok, List, [], ◌∷◌, ◌++◌, ℕ, Option, Some, None, sym, ap, subst, ◌∙◌, arith}
+use Rattle.std.proofs.Common.{◌≡◌, ◌<◌, ℕ, List, true, Option, Some, None, sym, ap, subst, ◌∙◌, arith}
 use Rattle.gm_notes.specs.declared.note.Note.TheVariants.{Opened}
 use Rattle.gm_notes.specs.Settings.{Settings}
+use Rattle.gm_notes.specs.Flow.{Began}
 use Rattle.gm_notes.specs.Notes.{mode, welcomes}
 use Rattle.gm_notes.specs.Jobs.{made}
-use Rattle.gm_notes.specs.Steps.{Open, free_from, free_slot, opening, made_since}
+use Rattle.gm_notes.specs.Past.{Past, noted, flowed}
+use Rattle.gm_notes.specs.Steps.{Open, free_from, free_slot, opening, made_since, if_welcome}
 use Rattle.gm_notes.specs.Served.{run}
-use Rattle.gm_notes.specs.Plain.{Holds}
-use Rattle.gm_notes.proofs.PlainLemmas.{below_push_opened, calm_push_opened, free_is, run_taken, holds_opened, none_made, opening_taken}
+use Rattle.gm_notes.proofs.PlainLemmas.{goes_then, agrees_next, agrees_wanting, free_is, welcome, none_made}
 use Rattle.gm_notes.proofs.plain.PlainServer.open.Goals as goal
 use Rattle.gm_notes.proofs.plain.PlainServer.open.Goals.{In-Some}
 
--- the slot found is free
-found : (c : In-Some) → free_from 0 c.args.self.now.config.slots (reverse c.args.self.now.notes.items) ≡ Some c.in-Some.slot
-found c =
-    ap (λ n. free_from 0 n (reverse c.args.self.now.notes.items)) (sym c.slots.ensures.value) ∙ ap (λ l. free_from 0 c.slots.result (reverse l)) (sym c.deref-2.ensures.value)
-    ∙ sym c.in-Some.ensures
-
 below : (c : In-Some) → c.in-Some.slot < c.args.self.now.config.slots
-below c = omega (arith, (free_is 0 c.args.self.now.config.slots (reverse c.args.self.now.notes.items) c.in-Some.slot (found c)).0)
+below c =
+    let lt = (free_is 0 c.args.self.now.log.slots c.args.self.now.log.notes c.in-Some.slot (sym c.in-Some.ensures)).0 in
+    omega (arith, lt, c.args.self.now.slots)
 
-pub take-requires : goal.take-requires
-take-requires c = subst (λ n. c.in-Some.slot < n) (sym c.args.self.now.wide) (below (goal.at-take-requires c).In-Some)
+pub note-requires-clause-fits : goal.note-requires-clause-fits
+note-requires-clause-fits c =
+    subst (λ (k : Settings). c.in-Some.slot < k.slots) (sym c.make_room.ensures.goes.config) (below (goal.at-note-requires-clause-fits c).In-Some)
 
-pub invariant_of-self-2 : goal.invariant_of-self-2
-invariant_of-self-2 c = record {
-  wide = c.take.ensures.len ∙ c.args.self.now.wide;
-  in_range =
-      below_push_opened (is_ok c.push.result) c.args.self.now.notes.items c.push.new.self.items c.in-Some.slot c.args.self.now.config.slots c.in_ok-addr.addr c.args.self.now.in_range
-      (below (goal.at-invariant_of-self-2 c).In-Some) c.push.ensures.items;
-  calm = calm_push_opened (is_ok c.push.result) c.args.self.now.notes.items c.push.new.self.items c.in-Some.slot c.in_ok-addr.addr c.args.self.now.calm c.push.ensures.items;
-}
+pub begin-requires : goal.begin-requires
+begin-requires c =
+    subst (λ (k : Settings). c.in-Some.slot < k.slots) (sym (c.note.ensures.goes.config ∙ c.make_room.ensures.goes.config)) (below (goal.at-begin-requires c).In-Some)
 
-pub invariant_of-self-in-Break-branch-2 : goal.invariant_of-self-in-Break-branch-2
-invariant_of-self-in-Break-branch-2 c = record {
-  wide = c.args.self.now.wide;
-  in_range =
-      below_push_opened (is_ok c.push.result) c.args.self.now.notes.items c.push.new.self.items c.in-Some.slot c.args.self.now.config.slots c.in_ok-addr.addr c.args.self.now.in_range
-      (below (goal.at-invariant_of-self-in-Break-branch-2 c).In-Some) c.push.ensures.items;
-  calm = calm_push_opened (is_ok c.push.result) c.args.self.now.notes.items c.push.new.self.items c.in-Some.slot c.in_ok-addr.addr c.args.self.now.calm c.push.ensures.items;
-}
+free : (c : In-Some) (k : Settings) (past : Past) → c.args.self.now.config ≡ k → c.args.self.now.log.notes ≡ past.notes → free_slot k past ≡ Some c.in-Some.slot
+free c k past settings notes =
+    ap (free_from 0 k.slots) (sym notes) ∙ (ap (λ n. free_from 0 n c.args.self.now.log.notes) (ap (λ (x : Settings). x.slots) (sym settings) ∙ sym c.args.self.now.slots) ∙ sym c.in-Some.ensures)
+
+goes : (c : In-Some) (past : Past) → c.args.self.now.log.notes ≡ past.notes → welcomes (mode past.notes) ≡ true
+goes c past notes = ap (λ l. welcomes (mode l)) (sym notes) ∙ (sym c.welcomes.ensures ∙ c.if-not-welcomes.false)
+
+pub returns-in_err-make_room : goal.returns-in_err-make_room
+returns-in_err-make_room c k steps agrees =
+    let o = (goal.at-returns-in_err-make_room c).In-Some in
+    let past = run k steps in
+    let taken : if_welcome (mode past.notes) (free_slot k past) ≡ None =
+    welcome (mode past.notes) (free_slot k past) c.in-Some.slot (goes o past agrees.past.notes_are) (free o k past agrees.settings agrees.past.notes_are) in
+    agrees_wanting k steps (Open c.args.addr.now) c.from_residual-in_err-make_room.result c.from_residual-in_err-make_room.ensures taken agrees c.make_room.ensures.goes
 
 pub returns : goal.returns
 returns c k steps agrees =
+    let o = (goal.at-returns c).In-Some in
     let past = run k steps in
-    let free : free_from 0 k.slots past.notes ≡ Some c.in-Some.slot =
-    ap (λ n. free_from 0 n past.notes) (ap (λ (x : Settings). x.slots) (sym agrees.settings)) ∙ ap (free_from 0 c.args.self.now.config.slots) (sym agrees.past.notes_are) ∙ found (goal.at-returns c).In-Some in
-    let goes : welcomes (mode (reverse c.args.self.now.notes.items)) ≡ true =
-    ap (λ l. welcomes (mode (reverse l))) (sym c.deref.ensures.value) ∙ sym c.welcomes.ensures ∙ c.if-not-welcomes.false in
-    let taken = opening_taken c.args.self.now.notes.items past k c.in-Some.slot agrees.past.notes_are goes free in
-    let opened = holds_opened c.args.self.now.notes.items c.push.new.self.items c.args.self.now.lanes c.take.new.self past c.in-Some.slot c.args.addr.now agrees.past
-    (subst (λ n. c.in-Some.slot < n) (sym c.args.self.now.wide) (below (goal.at-returns c).In-Some))
-    (c.in_ok-push.ensures.items ∙ ap (λ (a : List ℕ). c.args.self.now.notes.items ++ Opened c.in-Some.slot a ∷ []) c.in_ok-addr.ensures)
-    c.take.ensures.rest in
+    let found = free o k past agrees.settings agrees.past.notes_are in
+    let taken : if_welcome (mode past.notes) (free_slot k past) ≡ None =
+    welcome (mode past.notes) (free_slot k past) c.in-Some.slot (goes o past agrees.past.notes_are) found in
     let none : made_since (made past.notes) (made (opening (free_slot k past) c.args.addr.now past).notes) ≡ None =
-    ap (λ o. made_since (made past.notes) (made (opening o c.args.addr.now past).notes)) free ∙ none_made (made past.notes) in (
-      (taken, ap (λ (o : Option ℕ). record { opened = o; created = None }) (sym free) ∙ ap (λ (n : Option ℕ). record { opened = free_slot k past; created = n }) (sym none)),
-      record {
-        settings = agrees.settings;
-        past =
-            subst (λ p. Holds c.push.new.self.items c.take.new.self p) (sym (run_taken k (Open c.args.addr.now) steps taken))
-            (subst (λ o. Holds c.push.new.self.items c.take.new.self (opening o c.args.addr.now past)) (sym free) opened);
-      },
+    ap (λ f. made_since (made past.notes) (made (opening f c.args.addr.now past).notes)) found ∙ none_made (made past.notes) in (
+      (taken, ap (λ (f : Option ℕ). record { opened = f; created = None }) (sym found) ∙ ap (λ (n : Option ℕ). record { opened = free_slot k past; created = n }) (sym none)),
+      agrees_next k steps (Open c.args.addr.now) _ agrees (goes_then (goes_then c.make_room.ensures.goes c.note.ensures.goes) c.begin.ensures.goes) taken
+          (ap (λ (a : List ℕ). flowed (Began c.in-Some.slot) (noted (Opened c.in-Some.slot a) past)) c.in_ok-addr.ensures ∙ ap (λ f. opening f c.args.addr.now past) (sym found)),
     )

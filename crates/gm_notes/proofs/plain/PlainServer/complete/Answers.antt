@@ -1,0 +1,35 @@
+use Rattle.std.proofs.Common.{◌≡◌, true, false, Some, None, refl, sym, ap, ◌∙◌}
+use Rattle.gm_packet.specs.Answers.{answer_of}
+use Rattle.gm_notes.specs.Jobs.{spot, is_running_at, handled}
+use Rattle.gm_notes.specs.Requests.{ending}
+use Rattle.gm_notes.specs.Workers.{work, work_on}
+use Rattle.gm_notes.proofs.PlainLemmas.{does_as}
+use Rattle.gm_notes.proofs.plain.PlainServer.complete.Goals as goal
+
+pub returns-in_default : goal.returns-in_default
+returns-in_default c =
+    does_as c.refuse.result (work c.args.self.now.config c.args.slot c.args.handle.now (ending (answer_of c.args.response.now))) c.refuse.ensures
+    (λ p keeps.
+    let found : None ≡ handled c.args.self.now.config c.args.handle.now p.notes =
+    sym c.in_default.is ∙ (c.in_ok-job.ensures ∙ ap (handled c.args.self.now.config c.args.handle.now) keeps.notes_are) in
+    ap (λ o. work_on c.args.slot (ending (answer_of c.args.response.now)) o p) found)
+
+pub returns-then-not-is_running_at : goal.returns-then-not-is_running_at
+returns-then-not-is_running_at c =
+    does_as c.refuse-then-not-is_running_at.result (work c.args.self.now.config c.args.slot c.args.handle.now (ending (answer_of c.args.response.now))) c.refuse-then-not-is_running_at.ensures
+    (λ p keeps.
+    let found : Some c.in-Some.job ≡ handled c.args.self.now.config c.args.handle.now p.notes =
+    sym c.in-Some.is ∙ (c.in_ok-job.ensures ∙ ap (handled c.args.self.now.config c.args.handle.now) keeps.notes_are) in
+    let runs : is_running_at c.args.slot (spot c.in-Some.job p.notes) ≡ false =
+    ap (λ l. is_running_at c.args.slot (spot c.in-Some.job l)) (sym keeps.notes_are) ∙ (sym c.is_running_at.ensures ∙ c.if-not-is_running_at.true) in
+    (rw runs refl) ∙ ap (λ o. work_on c.args.slot (ending (answer_of c.args.response.now)) o p) found)
+
+pub returns : goal.returns
+returns c =
+    does_as c.end.result (work c.args.self.now.config c.args.slot c.args.handle.now (ending (answer_of c.args.response.now))) c.end.ensures
+    (λ p keeps.
+    let found : Some c.in-Some.job ≡ handled c.args.self.now.config c.args.handle.now p.notes =
+    sym c.in-Some.is ∙ (c.in_ok-job.ensures ∙ ap (handled c.args.self.now.config c.args.handle.now) keeps.notes_are) in
+    let runs : is_running_at c.args.slot (spot c.in-Some.job p.notes) ≡ true =
+    ap (λ l. is_running_at c.args.slot (spot c.in-Some.job l)) (sym keeps.notes_are) ∙ (sym c.is_running_at.ensures ∙ c.if-not-is_running_at.false) in
+    (rw runs refl) ∙ ap (λ o. work_on c.args.slot (ending (answer_of c.args.response.now)) o p) found)
