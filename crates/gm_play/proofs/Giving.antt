@@ -1,5 +1,5 @@
 -- A slot that is given a piece.
-use Rattle.std.proofs.Common.{◌≡◌, ◌<◌, ◌≤◌, ℕ, Bool, true, false, not, ◌&&◌, List, ◌++◌, length, get_or, set, Option, Some, None, refl, ap, subst, ◌∙◌, length-set}
+use Rattle.std.proofs.Common.{◌≡◌, ◌<◌, ◌≤◌, ℕ, Bool, true, false, not, ◌&&◌, List, ◌++◌, length, get_or, set, Option, Some, None, refl, subst, ◌∙◌, length-set}
 use Rattle.gm_feeder.specs.declared.units.Limits.{Limits}
 use Rattle.gm_feeder.specs.declared.units.FeedFault.{FeedFault}
 use Rattle.gm_feeder.specs.Units.{Spells}
@@ -13,8 +13,8 @@ use Rattle.gm_play.specs.declared.connection.Connection.{Connection}
 use Rattle.gm_play.specs.Fronts.{Front, with_rest, with_units, with_fault, Stands}
 use Rattle.gm_play.specs.Feeding.{TakesPiece}
 use Rattle.gm_play.specs.Connections.{Feeds, IsPlace, IsTold, IsReady, Gives}
-use Rattle.gm_play.proofs.Places.{Keeps, keeps_same, keeps_next, each_set, past_end, place_stays, other_slot, same_slot}
-use Rattle.gm_play.proofs.Steps.{units_notes, fault_keeps, fault_shuts}
+use Rattle.gm_play.proofs.Places.{Keeps, keeps_next, each_set, past_end, place_stays, other_slot, same_slot}
+use Rattle.gm_play.proofs.Steps.{units_stay, fault_keeps, fault_shuts}
 
 -- an open slot that isn't closing takes units
 takes : (o s : Bool) → o ≡ true → (o && s) ≡ false → (o && not s) ≡ true
@@ -47,10 +47,10 @@ gives agrees k limits c piece front server server' places old new h lt is closin
     let shut_before : old.told_shut ≡ is_closing c past = subst (λ (p : Option Connection). IsTold (is_closing c past) p) is (h.told c) in
     let mid_steps : List Step = with_units k c t.items front.steps in
     let steps : List Step = with_fault k c t.fault mid_steps in
-    let unit_notes : (run k mid_steps).notes ≡ past.notes = units_notes k c t.items front.steps in
+    let units = units_stay k c t.items front.steps in
     let keeps : Keeps c past.notes (run k steps).notes =
-    keeps_next c past.notes (run k mid_steps).notes (run k steps).notes (keeps_same c past.notes (run k mid_steps).notes unit_notes) (fault_keeps k c t.fault mid_steps) in
-    let opened_mid : is_open c (run k mid_steps).notes ≡ true = ap (is_open c) unit_notes ∙ place.opened in
+    keeps_next c past.notes (run k mid_steps).notes (run k steps).notes (record { opens = units.opens; shuts = λ d other. units.shuts d }) (fault_keeps k c t.fault mid_steps) in
+    let opened_mid : is_open c (run k mid_steps).notes ≡ true = units.opens c ∙ place.opened in
     let rest : List ℕ = new.feeder.pending in
     let mid : Front = record { steps = steps; rests = with_rest c rest front.rests } in (
       takes (is_open c past.notes) (is_shut c past.notes) place.opened closing,

@@ -7,37 +7,38 @@ use Rattle.gm_notes.specs.declared.note.Note.TheVariants.{Opened, Shut}
 use Rattle.gm_notes.specs.declared.event.UnitFault.{UnitFault}
 use Rattle.gm_notes.specs.declared.event.ApplyError.{ApplyError}
 use Rattle.gm_packet.specs.Kinds.{kind_of}
-use Rattle.gm_notes.proofs.PlainLemmas.{packet_is}
+use Rattle.gm_notes.proofs.Slots.{Stays, stays_here, stays_then, packet_stays}
 use Rattle.gm_notes.specs.Settings.{Settings}
 use Rattle.gm_notes.specs.Notes.{is_open, is_shut}
 use Rattle.gm_notes.specs.Steps.{free_from}
 use Rattle.gm_notes.specs.Past.{Past}
 use Rattle.gm_notes.specs.Steps.{Step, Open, Packet, Fault, refusal, unless, unless_not_open, opening, free_slot}
-use Rattle.gm_notes.specs.Served.{add, run}
+use Rattle.gm_notes.specs.Served.{served, add, run}
 use Rattle.gm_play.specs.Fronts.{unless_refused, handed_in, with_unit, with_units, with_fault}
 use Rattle.gm_play.proofs.Places.{Keeps, keeps_same, same_slot}
 
--- ---- a unit notes nothing
+-- ---- a unit opens and shuts nothing
 
-unless_notes : (r : Option ApplyError) (after past : Past) → after.notes ≡ past.notes → (unless r after past).notes ≡ past.notes
-unless_notes None after past e = e
-unless_notes (Some refused) after past e = refl
+unless_stays : (r : Option ApplyError) (after past : Past) → Stays past.notes after.notes → Stays past.notes (unless r after past).notes
+unless_stays None after past e = e
+unless_stays (Some refused) after past e = stays_here past.notes
 
-packet_notes : (r : Option ApplyError) (k : Settings) (c kind : ℕ) (bytes : List ℕ) (steps : List Step)
-    → (run k (unless_refused r (Packet c kind bytes) steps)).notes ≡ (run k steps).notes
-packet_notes None k c kind bytes steps =
+packet_stays_so : (r : Option ApplyError) (k : Settings) (c kind : ℕ) (bytes : List ℕ) (steps : List Step)
+    → Stays (run k steps).notes (run k (unless_refused r (Packet c kind bytes) steps)).notes
+packet_stays_so None k c kind bytes steps =
     let past = run k steps in
-    unless_notes (refusal k (Packet c kind bytes) past) (add k (Packet c kind bytes) past) past
-    (ap (λ (p : Past). p.notes) (packet_is k c (kind_of kind) bytes past))
-packet_notes (Some refused) k c kind bytes steps = refl
+    unless_stays (refusal k (Packet c kind bytes) past) (add k (Packet c kind bytes) past) past (packet_stays served k c (kind_of kind) bytes past)
+packet_stays_so (Some refused) k c kind bytes steps = stays_here (run k steps).notes
 
-unit_notes : (k : Settings) (c : ℕ) (item : Item) (steps : List Step) → (run k (with_unit k c item steps)).notes ≡ (run k steps).notes
-unit_notes k c (APacket kind bytes) steps = packet_notes (refusal k (Packet c kind bytes) (run k steps)) k c kind bytes steps
-unit_notes k c (ALine bytes) steps = refl
+unit_stays : (k : Settings) (c : ℕ) (item : Item) (steps : List Step) → Stays (run k steps).notes (run k (with_unit k c item steps)).notes
+unit_stays k c (APacket kind bytes) steps = packet_stays_so (refusal k (Packet c kind bytes) (run k steps)) k c kind bytes steps
+unit_stays k c (ALine bytes) steps = stays_here (run k steps).notes
 
-pub units_notes : (k : Settings) (c : ℕ) (items : List Item) (steps : List Step) → (run k (with_units k c items steps)).notes ≡ (run k steps).notes
-units_notes k c [] steps = refl
-units_notes k c (item ∷ items) steps = units_notes k c items (with_unit k c item steps) ∙ unit_notes k c item steps
+pub units_stay : (k : Settings) (c : ℕ) (items : List Item) (steps : List Step) → Stays (run k steps).notes (run k (with_units k c items steps)).notes
+units_stay k c [] steps = stays_here (run k steps).notes
+units_stay k c (item ∷ items) steps =
+    let next = with_unit k c item steps in
+    stays_then (run k steps).notes (run k next).notes (run k (with_units k c items next)).notes (unit_stays k c item steps) (units_stay k c items next)
 
 -- ---- a fault shuts its slot
 
