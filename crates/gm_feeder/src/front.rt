@@ -33,9 +33,12 @@ pub(crate) enum Front {
 fn filled_header(bytes: &[u8]) -> [u8; HEADER_LEN]
     ensures { result ≡ filled_header bytes.now }
 {
+    // A copy of known length costs less than one that has to ask.
+    if let Some(header) = bytes.first_chunk::<HEADER_LEN>() {
+        return *header;
+    }
     let mut header = EMPTY_HEADER;
-    let known = bytes.len().min(HEADER_LEN);
-    header[..known].copy_from_slice(&bytes[..known]);
+    header[..bytes.len()].copy_from_slice(bytes);
     header
 }
 
