@@ -4,3 +4,4 @@ pub mod Keeping
 pub mod Moves
 pub mod Sitting
 pub mod Settling
+pub mod FreshPens
