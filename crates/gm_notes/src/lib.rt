@@ -16,8 +16,6 @@ mod refusal;
 pub mod rows;
 mod server;
 mod states;
-#[cfg(test)]
-mod tests;
 mod text;
 
 pub use config::{Config, ConfigError};
