@@ -1,9 +1,7 @@
 pub mod Closings
 pub mod Flow
-pub mod History
 pub mod Jobs
 pub mod Lanes
-pub mod Laws
 pub mod Lines
 pub mod Logs
 pub mod Notes
@@ -12,7 +10,6 @@ pub mod Past
 pub mod Plain
 pub mod Refusals
 pub mod Requests
-pub mod Rows
 pub mod Searches
 pub mod Served
 pub mod Servers

@@ -1,0 +1,4 @@
+pub mod History
+pub mod Laws
+pub mod Rows
+pub mod Runs
