@@ -1,13 +1,8 @@
 pub mod AbilityLemmas
-pub mod Additions
-pub mod Additions2
-pub mod Additions3
 pub mod LaneLemmas
-pub mod LawLemmas
 pub mod LogLemmas
 pub mod NameLemmas
 pub mod NoteLemmas
-pub mod PlaceLemmas
 pub mod PlainLemmas
 pub mod ServingLemmas
 pub mod Slots

@@ -7,17 +7,13 @@ mod event;
 mod handles;
 mod jobs;
 mod lanes;
-pub mod laws;
 mod log;
 mod note;
 mod plain;
 mod questions;
 mod refusal;
-pub mod rows;
 mod server;
 mod states;
-#[cfg(test)]
-mod tests;
 mod text;
 
 pub use config::{Config, ConfigError};

@@ -1,5 +1,14 @@
-//! Tests of public calls, across the crates. It has no code of its own.
+//! Tests of the public calls of the library crates: vectors and worked cases from the protocol, and that calls
+//! which can be refused for memory succeed where there is memory. It holds nothing else.
 #![tactic(auto)]
 
+#[cfg(test)]
+mod lines;
+#[cfg(test)]
+mod packets;
+#[cfg(test)]
+mod settings;
+#[cfg(test)]
+mod streams;
 #[cfg(test)]
 mod word;

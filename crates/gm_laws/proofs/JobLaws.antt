@@ -1,0 +1,217 @@
+-- The laws about jobs: where they are, and that live ones which join are one.
+use Rattle.std.proofs.Common.{◌≡◌, ℕ, suc, ◌+◌, ◌<◌, Bool, true, false, cond, ◌&&◌, ◌||◌, List, [], ◌∷◌, ◌++◌, length, find, Some, None, refl, sym, ap, subst, ◌∙◌, arith}
+use Rattle.std.specs.Prelude.{◌==◌, unwrap_or}
+use Rattle.std.specs.List.{list_any}
+use Rattle.std.specs.Str.{bytes_eq}
+use Rattle.std.proofs.lemmas.Bool.{and_parts, and_from, or_left, or_right}
+use Rattle.std.proofs.lemmas.Bool.Decides.{nat_tests}
+use Rattle.std.proofs.lemmas.Slice.Eq.{bytes_eq-Decides}
+use Rattle.gm_packet.specs.declared.kind.Kind.{Kind}
+use Rattle.gm_notes.specs.declared.note.Note.{Note}
+use Rattle.gm_notes.specs.declared.note.Note.TheVariants.{Made, Assigned, Returned, Ended, Discarded}
+use Rattle.gm_notes.specs.declared.states.Priority.TheVariants.{Normal}
+use Rattle.gm_notes.specs.Settings.{Settings}
+use Rattle.gm_notes.specs.Jobs.{Spot, Unmade, Waits, RunsAt, Over, Thrown, Job, spot, job, is_live, is_waiting, is_running, is_job_named, joins, joined, made, next_number}
+use Rattle.gm_notes.specs.Steps.{Step, run_by}
+use Rattle.gm_laws.specs.History.{Allowed, AllAllowed, History}
+use Rattle.gm_laws.specs.Runs.{all}
+use Rattle.gm_laws.specs.Laws.{AreNumbers, is_made, has_place, HavePlaces, is_live_named, AreOne, is_gone, StayGone}
+use Rattle.gm_laws.proofs.StepsAdd.{step_adds}
+use Rattle.gm_laws.proofs.Histories.{numbers, run_history}
+
+-- ---- numbers that are equal or not
+
+pub same_test : (n m : ℕ) → (m == n) ≡ (n == m)
+same_test n m = grind (arith, nat_tests)
+
+pub is_same : (n m : ℕ) → (n == m) ≡ true → n ≡ m
+is_same n m e = grind (arith, nat_tests)
+
+running_place : (s : Spot) → is_running s ≡ true → has_place s ≡ true
+running_place (RunsAt c) e = refl
+running_place Waits e = refl
+running_place Unmade e = absurd cc
+running_place Over e = refl
+running_place Thrown e = refl
+
+waiting_place : (s : Spot) → is_waiting s ≡ true → has_place s ≡ true
+waiting_place Waits e = refl
+waiting_place (RunsAt c) e = refl
+waiting_place Unmade e = absurd cc
+waiting_place Over e = refl
+waiting_place Thrown e = refl
+
+pub live_place : (s : Spot) → is_live s ≡ true → has_place s ≡ true
+live_place Waits e = refl
+live_place (RunsAt c) e = refl
+live_place Unmade e = absurd cc
+live_place Over e = refl
+live_place Thrown e = refl
+
+-- ---- places
+
+-- a new place for job m, which had one
+place_moved : (n m : ℕ) (older : List Note) (new : Spot) (t : Bool) → (n == m) ≡ t → has_place new ≡ true → has_place (spot m older) ≡ true → has_place (spot n older) ≡ is_made n older → has_place (unwrap_or (cond t (Some new) None) (spot n older)) ≡ is_made n older
+place_moved n m older new true is placed had rest =
+    let same : m ≡ n = sym (is_same n m is) in
+    placed ∙ sym (subst (λ x. has_place (spot x older) ≡ true) same had) ∙ rest
+place_moved n m older new false is placed had rest = rest
+
+place_made : (n m : ℕ) (older : List Note) (t : Bool) → has_place (spot n older) ≡ is_made n older → has_place (unwrap_or (cond t (Some Waits) None) (spot n older)) ≡ (t || is_made n older)
+place_made n m older true rest = refl
+place_made n m older false rest = rest
+
+pub places : (k : Settings) (notes : List Note) → History k notes → HavePlaces k notes
+places k [] h n = refl
+places k (Made m f p u body ∷ older) h n = place_made n m older (n == m) (places k older h.1 n) ∙ ap (λ t. t || is_made n older) (sym (same_test n m))
+places k (Returned m ∷ older) h n = place_moved n m older Waits (n == m) refl refl (running_place (spot m older) h.0.0) (places k older h.1 n)
+places k (Assigned m c late ∷ older) h n = place_moved n m older (RunsAt c) (n == m) refl refl (waiting_place (spot m older) h.0.0) (places k older h.1 n)
+places k (Ended m ∷ older) h n = place_moved n m older Over (n == m) refl refl (running_place (spot m older) h.0) (places k older h.1 n)
+places k (Discarded m ∷ older) h n = place_moved n m older Thrown (n == m) refl refl (live_place (spot m older) h.0.0) (places k older h.1 n)
+places k (note ∷ older) h n = places k older h.1 n
+
+-- ---- one live job for each function and id
+
+none_head : (test : ℕ → Bool) (m n : ℕ) (ns : List ℕ) (t u : Bool) → test m ≡ t → (m == n) ≡ u → (find test ns ≡ None → list_any (λ x. x == n) ns ≡ true → test n ≡ false) → cond t (Some m) (find test ns) ≡ None → (u || list_any (λ x. x == n) ns) ≡ true → test n ≡ false
+none_head test m n ns true u is same rest e h = absurd cc
+none_head test m n ns false true is same rest e h = subst (λ x. test x ≡ false) (is_same m n same) is
+none_head test m n ns false false is same rest e h = rest e h
+
+-- where a search finds none, no element passes
+none_passes : (test : ℕ → Bool) (ns : List ℕ) (n : ℕ) → find test ns ≡ None → list_any (λ m. m == n) ns ≡ true → test n ≡ false
+none_passes test [] n e h = absurd cc
+none_passes test (m ∷ ns) n e h = none_head test m n ns (test m) (m == n) refl refl (none_passes test ns n) e h
+
+-- live and named so, after a note that leaves job and name as they were for all but m
+live_named_parts : (f u : List ℕ) (n : ℕ) (notes : List Note) → is_live_named f u n notes ≡ true → (is_live (spot n notes) ≡ true) × (is_job_named f u (job n notes) ≡ true)
+live_named_parts f u n notes e = and_parts (is_live (spot n notes)) (is_job_named f u (job n notes)) e
+
+-- nothing live joins what finds nothing to join
+none_joins : (k : Settings) (f u : List ℕ) (n : ℕ) (older : List Note) → History k older → joins u ≡ true → joined f u older ≡ None → is_live_named f u n older ≡ true → ⊥
+none_joins k f u n older h joining none e =
+    let searched : find (λ m. is_live (spot m older) && is_job_named f u (job m older)) (made older) ≡ None =
+    ap (λ t. cond t (find (λ m. is_live (spot m older) && is_job_named f u (job m older)) (made older)) None) (sym joining) ∙ none in
+    let there : is_made n older ≡ true = sym (places k older h n) ∙ live_place (spot n older) (live_named_parts f u n older e).0 in
+    let fails = none_passes (λ m. is_live (spot m older) && is_job_named f u (job m older)) (made older) n searched there in
+    let bad : ⊥ = cc in bad
+
+-- a job that keeps its liveness: whoever is live and named after the move was before
+moved_live : (f u : List ℕ) (n m : ℕ) (older : List Note) (new : Spot) (t : Bool) → (n == m) ≡ t → is_live (spot m older) ≡ true → (is_live (unwrap_or (cond t (Some new) None) (spot n older)) && is_job_named f u (job n older)) ≡ true → is_live_named f u n older ≡ true
+moved_live f u n m older new true is lived e =
+    let same : m ≡ n = sym (is_same n m is) in
+    and_from (is_live (spot n older)) (is_job_named f u (job n older)) (subst (λ x. is_live (spot x older) ≡ true) same lived) (and_parts (is_live new) (is_job_named f u (job n older)) e).1
+moved_live f u n m older new false is lived e = e
+
+waiting_live : (s : Spot) → is_waiting s ≡ true → is_live s ≡ true
+waiting_live s e = or_left (is_waiting s) (is_running s) e
+
+running_live : (s : Spot) → is_running s ≡ true → is_live s ≡ true
+running_live s e = or_right (is_waiting s) (is_running s) e
+
+-- a new job is live under its own function and id
+new_named : (f u g v : List ℕ) → (bytes_eq g f && bytes_eq v u) ≡ true → (g ≡ f) × (v ≡ u)
+new_named f u g v e =
+    let p = and_parts (bytes_eq g f) (bytes_eq v u) e in
+    ((bytes_eq-Decides g f).0 p.0, (bytes_eq-Decides v u).0 p.1)
+
+made_named : (f u : List ℕ) (n m : ℕ) (new : Job) (older : List Note) (t : Bool) → (is_live (unwrap_or (cond t (Some Waits) None) (spot n older)) && is_job_named f u (unwrap_or (cond t (Some (Some new)) None) (job n older))) ≡ true → (t ≡ true → is_job_named f u (Some new) ≡ true) × (t ≡ false → is_live_named f u n older ≡ true)
+made_named f u n m new older true e = ((λ h. (and_parts true (is_job_named f u (Some new)) e).1), (λ h. absurd cc))
+made_named f u n m new older false e = ((λ h. absurd cc), (λ h. e))
+
+-- two live jobs of one name, once job m was made
+two_made : (k : Settings) (f u : List ℕ) (a b m : ℕ) (new : Job) (older : List Note) (s t : Bool) → History k older → (a == m) ≡ s → (b == m) ≡ t → joins u ≡ true → joined new.function new.unique older ≡ None
+    → (is_live_named f u a older ≡ true → is_live_named f u b older ≡ true → a ≡ b)
+    → (s ≡ true → is_job_named f u (Some new) ≡ true) × (s ≡ false → is_live_named f u a older ≡ true)
+    → (t ≡ true → is_job_named f u (Some new) ≡ true) × (t ≡ false → is_live_named f u b older ≡ true) → a ≡ b
+two_made k f u a b m new older true true h as_m bs_m joining none rest p q = is_same a m as_m ∙ sym (is_same b m bs_m)
+two_made k f u a b m new older false false h as_m bs_m joining none rest p q = rest (p.1 refl) (q.1 refl)
+two_made k f u a b m new older true false h as_m bs_m joining none rest p q =
+    let n = new_named f u new.function new.unique (p.0 refl) in
+    absurd (none_joins k f u b older h joining (subst (λ x. joined f x older ≡ None) n.1 (subst (λ x. joined x new.unique older ≡ None) n.0 none)) (q.1 refl))
+two_made k f u a b m new older false true h as_m bs_m joining none rest p q =
+    let n = new_named f u new.function new.unique (q.0 refl) in
+    absurd (none_joins k f u a older h joining (subst (λ x. joined f x older ≡ None) n.1 (subst (λ x. joined x new.unique older ≡ None) n.0 none)) (p.1 refl))
+
+pub one_live : (k : Settings) (notes : List Note) → History k notes → AreOne k notes
+one_live k [] h f u a b joining p q = absurd cc
+one_live k (Made m g pr v body ∷ older) h f u a b joining p q =
+    let new : Job = record { function = g; priority = pr; unique = v; body = body } in
+    two_made k f u a b m new older (a == m) (b == m) h.1 refl refl joining h.0.1 (one_live k older h.1 f u a b joining)
+    (made_named f u a m new older (a == m) p) (made_named f u b m new older (b == m) q)
+one_live k (Returned m ∷ older) h f u a b joining p q =
+    let lived = running_live (spot m older) h.0.0 in
+    one_live k older h.1 f u a b joining (moved_live f u a m older Waits (a == m) refl lived p) (moved_live f u b m older Waits (b == m) refl lived q)
+one_live k (Assigned m c late ∷ older) h f u a b joining p q =
+    let lived = waiting_live (spot m older) h.0.0 in
+    one_live k older h.1 f u a b joining (moved_live f u a m older (RunsAt c) (a == m) refl lived p) (moved_live f u b m older (RunsAt c) (b == m) refl lived q)
+one_live k (Ended m ∷ older) h f u a b joining p q =
+    let lived = running_live (spot m older) h.0 in
+    one_live k older h.1 f u a b joining (moved_live f u a m older Over (a == m) refl lived p) (moved_live f u b m older Over (b == m) refl lived q)
+one_live k (Discarded m ∷ older) h f u a b joining p q =
+    one_live k older h.1 f u a b joining (moved_live f u a m older Thrown (a == m) refl h.0.0 p) (moved_live f u b m older Thrown (b == m) refl h.0.0 q)
+one_live k (note ∷ older) h f u a b joining p q = one_live k older h.1 f u a b joining p q
+
+-- ---- who is gone stays so
+
+below_head : (k : Settings) (ns : List ℕ) (m n : ℕ) (t : Bool) → (m == n) ≡ t → m ≡ k.first_job + length ns → (list_any (λ x. x == n) ns ≡ true → n < k.first_job + length ns) → (t || list_any (λ x. x == n) ns) ≡ true → n < k.first_job + suc (length ns)
+below_head k ns m n true same is rest e = let eq = is_same m n same in omega arith
+below_head k ns m n false same is rest e = let lt = rest e in omega arith
+
+-- the numbers made are below the next one
+below_next : (k : Settings) (ns : List ℕ) (n : ℕ) → AreNumbers k ns → list_any (λ m. m == n) ns ≡ true → n < k.first_job + length ns
+below_next k [] n h e = absurd cc
+below_next k (m ∷ ns) n h e = below_head k ns m n (m == n) refl h.0 (below_next k ns n h.2) e
+
+gone_place : (s : Spot) → is_gone s ≡ true → has_place s ≡ true
+gone_place Over e = refl
+gone_place Thrown e = refl
+gone_place Unmade e = absurd cc
+gone_place Waits e = absurd cc
+gone_place (RunsAt c) e = absurd cc
+
+gone_dead : (s : Spot) → is_gone s ≡ true → is_live s ≡ true → ⊥
+gone_dead Over e h = let bad : ⊥ = cc in bad
+gone_dead Thrown e h = let bad : ⊥ = cc in bad
+gone_dead Unmade e h = let bad : ⊥ = cc in bad
+gone_dead Waits e h = let bad : ⊥ = cc in bad
+gone_dead (RunsAt c) e h = let bad : ⊥ = cc in bad
+
+-- a note that moves a live job m leaves a job that is gone
+gone_moved : (n m : ℕ) (older : List Note) (new : Spot) (t : Bool) → (n == m) ≡ t → is_gone (spot n older) ≡ true → is_live (spot m older) ≡ true → unwrap_or (cond t (Some new) None) (spot n older) ≡ spot n older
+gone_moved n m older new true is gone live =
+    let same : m ≡ n = sym (is_same n m is) in
+    absurd (gone_dead (spot n older) gone (subst (λ x. is_live (spot x older) ≡ true) same live))
+gone_moved n m older new false is gone live = refl
+
+gone_made : (k : Settings) (n m : ℕ) (older : List Note) (t : Bool) → (n == m) ≡ t → History k older → next_number k older ≡ Some m → is_gone (spot n older) ≡ true → unwrap_or (cond t (Some Waits) None) (spot n older) ≡ spot n older
+gone_made k n m older true is h next gone =
+    let same = is_same n m is in
+    let number = (numbers k (Made m [] Normal [] [] ∷ older) ((next, refl), h)).0 in
+    let lt = below_next k (made older) n (numbers k older h) (sym (places k older h n) ∙ gone_place (spot n older) gone) in
+    absurd (omega arith)
+gone_made k n m older false is h next gone = refl
+
+gone_stays : (k : Settings) (note : Note) (older : List Note) (n : ℕ) → Allowed k note older → History k older → is_gone (spot n older) ≡ true → spot n (note ∷ older) ≡ spot n older
+gone_stays k (Made m f p u body) older n h past gone = gone_made k n m older (n == m) refl past h.0 gone
+gone_stays k (Returned m) older n h past gone = gone_moved n m older Waits (n == m) refl gone (running_live (spot m older) h.0)
+gone_stays k (Assigned m c late) older n h past gone = gone_moved n m older (RunsAt c) (n == m) refl gone (waiting_live (spot m older) h.0)
+gone_stays k (Ended m) older n h past gone = gone_moved n m older Over (n == m) refl gone (running_live (spot m older) h)
+gone_stays k (Discarded m) older n h past gone = gone_moved n m older Thrown (n == m) refl gone h.0
+gone_stays k note older n h past gone = refl
+
+gone_adds : (k : Settings) (newer older : List Note) (n : ℕ) → AllAllowed k newer older → History k older → is_gone (spot n older) ≡ true → (History k (newer ++ older)) × (spot n (newer ++ older) ≡ spot n older)
+gone_adds k [] older n h past gone = (past, refl)
+gone_adds k (note ∷ newer) older n h past gone =
+    let r = gone_adds k newer older n h.1 past gone in
+    ((h.0, r.0), gone_stays k note (newer ++ older) n h.0 r.0 (ap is_gone r.1 ∙ gone) ∙ r.1)
+
+gone_step : (served : Kind → Bool) (k : Settings) (s : Step) (steps : List Step) (n : ℕ) → is_gone (spot n (run_by served k steps).notes) ≡ true → spot n (run_by served k (s ∷ steps)).notes ≡ spot n (run_by served k steps).notes
+gone_step served k s steps n gone =
+    let a = step_adds served k s (run_by served k steps) in
+    ap (spot n) a.all ∙ (gone_adds k a.newer (run_by served k steps).notes n a.allowed (run_history served k steps) gone).1
+
+pub stay_gone : StayGone
+stay_gone k [] steps n gone = refl
+stay_gone k (s ∷ later) steps n gone =
+    let before = stay_gone k later steps n gone in
+    gone_step all k s (later ++ steps) n (ap is_gone before ∙ gone) ∙ before

@@ -1,0 +1,5 @@
+mod Adding
+mod Histories
+mod JobLaws
+mod RequestsAdd
+mod StepsAdd

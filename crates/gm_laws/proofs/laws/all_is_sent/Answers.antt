@@ -1,0 +1,5 @@
+use Rattle.gm_laws.proofs.Histories.{all_is_sent}
+use Rattle.gm_laws.proofs.laws.all_is_sent.Goals as goal
+
+pub returns : goal.returns
+returns c = all_is_sent

@@ -1,0 +1,71 @@
+-- What holds after any steps, under any settings.
+use Rattle.std.specs.Prelude.{◌≡◌, ℕ, ◌+◌, ◌<◌, ◌^◌, ◌&&◌, ◌==◌, Bool, true, false, if◌then◌else◌, List, [], ◌∷◌, ◌++◌, length}
+use Rattle.std.specs.List.{list_any}
+use Rattle.gm_notes.specs.declared.note.Note.{Note}
+use Rattle.gm_notes.specs.Settings.{Settings}
+use Rattle.gm_notes.specs.Notes.{is_open}
+use Rattle.gm_notes.specs.Flow.{Flow, Began, Queued, Drained, Emptied, sent, waiting}
+use Rattle.gm_notes.specs.Jobs.{Spot, Unmade, Over, Thrown, spot, is_live, job, is_job_named, joins, made}
+use Rattle.gm_notes.specs.Steps.{Step}
+use Rattle.gm_laws.specs.Runs.{run}
+
+-- P holds of the notes after any steps
+abbrev pub AfterAnySteps : (Settings → List Note → Type 0) → Type 0
+AfterAnySteps P = (k : Settings) (steps : List Step) → P k (run k steps).notes
+
+-- the numbers made are the first and its successors, each once, none above the greatest of 64 bits; the newest first
+abbrev pub AreNumbers : Settings → List ℕ → Type 0
+AreNumbers k [] = Unit {0}
+AreNumbers k (n ∷ older) = (n ≡ k.first_job + length older) × (n < 2 ^ 64) × AreNumbers k older
+
+-- an open slot is one of those that there are
+abbrev pub AreSlots : Settings → List Note → Type 0
+AreSlots k notes = (c : ℕ) → is_open c notes ≡ true → c < k.slots
+
+-- a job has a place exactly where it was made
+abbrev pub is_made : ℕ → List Note → Bool
+is_made n notes = list_any (λ m. m == n) (made notes)
+
+abbrev pub has_place : Spot → Bool
+has_place Unmade = false
+has_place other = true
+
+abbrev pub HavePlaces : Settings → List Note → Type 0
+HavePlaces k notes = (n : ℕ) → has_place (spot n notes) ≡ is_made n notes
+
+-- live jobs of one function and one id that joins are one job
+abbrev pub is_live_named : List ℕ → List ℕ → ℕ → List Note → Bool
+is_live_named f u n notes = is_live (spot n notes) && is_job_named f u (job n notes)
+
+abbrev pub AreOne : Settings → List Note → Type 0
+AreOne k notes = (f u : List ℕ) (m n : ℕ) → joins u ≡ true → is_live_named f u m notes ≡ true → is_live_named f u n notes ≡ true → m ≡ n
+
+-- a job that has ended or was discarded stays so, whatever comes
+abbrev pub is_gone : Spot → Bool
+is_gone Over = true
+is_gone Thrown = true
+is_gone other = false
+
+abbrev pub StayGone : Type 0
+StayGone = (k : Settings) (later steps : List Step) (n : ℕ) →
+    is_gone (spot n (run k steps).notes) ≡ true → spot n (run k (later ++ steps)).notes ≡ spot n (run k steps).notes
+
+-- what was taken of the bytes of slot c since it was opened
+abbrev pub drained : ℕ → List Flow → List ℕ
+drained c [] = []
+drained c (Began d ∷ older) = if c == d then [] else drained c older
+drained c (Queued d bytes ∷ older) = drained c older
+drained c (Drained d ∷ older) = if c == d then drained c older ++ waiting c older else drained c older
+drained c (Emptied d ∷ older) = drained c older
+
+-- nothing was emptied since it was opened
+abbrev pub is_kept_up : ℕ → List Flow → Bool
+is_kept_up c [] = true
+is_kept_up c (Began d ∷ older) = if c == d then true else is_kept_up c older
+is_kept_up c (Emptied d ∷ older) = if c == d then false else is_kept_up c older
+is_kept_up c (Queued d bytes ∷ older) = is_kept_up c older
+is_kept_up c (Drained d ∷ older) = is_kept_up c older
+
+-- what was drained, followed by what waits, is what was sent
+abbrev pub AllIsSent : Type 0
+AllIsSent = (flow : List Flow) (c : ℕ) → is_kept_up c flow ≡ true → sent c flow ≡ drained c flow ++ waiting c flow
