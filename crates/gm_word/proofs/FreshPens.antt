@@ -1,5 +1,5 @@
 -- The pens of a new table.
-use Rattle.std.proofs.Common.{◌≡◌, ℕ, zero, suc, ◌+◌, ◌<◌, List, [], ◌∷◌, ◌++◌, length, refl, arith, length-append}
+use Rattle.std.proofs.Common.{◌≡◌, ℕ, zero, suc, [], ◌∷◌, length, refl, arith, length-append}
 use Rattle.std.specs.Prelude.{All}
 use Rattle.std.proofs.lemmas.List.Elements.{All-append}
 use Rattle.atomic_table.specs.Seated.{TableId}
@@ -18,4 +18,4 @@ pub fresh_pens-fit : (table : TableId) (slots : ℕ) → All (λ (pen : PenState
 fresh_pens-fit table zero = λ k d low. absurd (omega arith)
 fresh_pens-fit table (suc slots) =
     All-append (λ (pen : PenState). pen.table ≡ table) (fresh_pens table slots) (fresh_pen table slots ∷ []) (fresh_pens-fit table slots)
-        (only_one (λ (pen : PenState). pen.table ≡ table) (fresh_pen table slots) refl)
+    (only_one (λ (pen : PenState). pen.table ≡ table) (fresh_pen table slots) refl)
