@@ -1,9 +1,9 @@
 -- The pens are handed in one after another, and at the end what they have taken agrees with the words.
-use Rattle.std.proofs.Common.{◌≡◌, ℕ, zero, suc, ◌<◌, ◌≤◌, List, [], ◌∷◌, ◌++◌, length, get_or, refl, sym, ap, ◌∙◌, subst, arith, append_assoc, length-append}
-use Rattle.std.specs.Prelude.{All, Contains}
+use Rattle.std.proofs.Common.{◌≡◌, ℕ, zero, suc, ◌+◌, ◌<◌, ◌≤◌, List, [], ◌∷◌, ◌++◌, length, get_or, refl, sym, ap, ◌∙◌, subst, arith, append_assoc, length-append}
+use Rattle.std.specs.Prelude.{All, Contains, slice_index}
 use mathlib.Core.Option.{some, some-injective, some-ne-none}
 use mathlib.Core.Logic.{dite}
-use native.Mathlib.Decide.{ℕ_discrete}
+use native.Mathlib.Decide.{ℕ_discrete, dec_le}
 use lib.ListN.{get_elem?}
 use Rattle.atomic_table.specs.Table.{Me, State, Final, Seen}
 use Rattle.atomic_table.specs.declared.shared.Seat.{Seat}
@@ -12,9 +12,10 @@ use Rattle.gm_word.specs.declared.view.Count.{Count}
 use Rattle.gm_word.specs.declared.view.Page.{Page}
 use Rattle.gm_word.specs.declared.view.View.{View}
 use Rattle.gm_word.specs.declared.view.View.TheVariants.{Book, Pen}
-use Rattle.gm_word.specs.Steps.{with_back, takes_among, pens_among, counts_of, takes_of, Keeps}
+use Rattle.gm_word.specs.Lines.{number, owing}
+use Rattle.gm_word.specs.Steps.{line_at, with_back, takes_among, pens_among, counts_of, takes_of, Keeps}
 use Rattle.gm_word.specs.Seats.{PenState, takes_in, SitsAtPen, count_of, AtBook, Settles}
-use Rattle.gm_word.proofs.Totals.{if_same, if_other, none_taken, none_taken_of}
+use Rattle.gm_word.proofs.Totals.{total-has, if_same, if_other, none_taken, none_taken_of}
 use Rattle.gm_word.proofs.Keeping.{page_is, reached_keeps}
 use Rattle.gm_word.proofs.Moves.{Stands}
 
@@ -101,6 +102,19 @@ all_taken words (v ∷ vs) page count k at has =
     let none = none_taken_of slot vs (omega arith) in
     omega arith
 
+-- the slot of a pen that was handed in has a word
+pub slot_inside : (words : List ℕ) (views : List View) (page : Page) (count : Count) → Keeps words views → get_elem? views 0 ≡ some (Book page) → Contains page.back count
+    → count.slot < length words
+slot_inside words views page count k at has =
+    let slot : ℕ = count.slot in
+    let pens = total-has (λ v. pens_among slot (counts_of v)) views 0 (Book page) at in
+    let one = k.one_pen slot in
+    let here = counted page.back has.0 count has.1 has.2 (omega arith) in
+    let some_pen = here.1 in
+    dite (dec_le k.page.made slot)
+    (λ above. let none = k.no_pen slot above in absurd (omega arith))
+    (λ below. let made = k.made in omega arith)
+
 pub settles : (seat : Place) (lines : List Line) (pens : List PenState) (words : List ℕ) (slots : List (Unit {0})) → AtBook seat lines pens → Final (Seen Stands seat.id seat.me.0) words slots → Settles words lines pens
 settles seat lines pens words slots book final =
     let s : State (Unit {0}) View = final.0 in
@@ -117,5 +131,26 @@ settles seat lines pens words slots book final =
       reached = final.1.0;
       wide = sym k.wide;
       agrees = k.agrees;
+      inside = λ i d low. slot_inside s.words s.views page (count_of (get_or pens i d)) k at (book.back i d low);
       counted = λ i d low. all_taken s.words s.views page (count_of (get_or pens i d)) k at (book.back i d low);
     })
+
+-- how a table ends, pen by pen
+pub wakes_settled : (words : List ℕ) (lines : List Line) (pens : List PenState) → Settles words lines pens
+    → All (λ (pen : PenState). (line_at pen.slot lines).wakes ≡ pen.takes + (line_at pen.slot lines).withdrawals + owing (slice_index words pen.slot)) pens
+wakes_settled words lines pens s k d low =
+    let pen = get_or pens k d in
+    let agrees = s.agrees pen.slot (s.inside k d low) in
+    let takes = s.counted k d low in
+    let woken = agrees.woken in
+    omega arith
+
+pub entries_settled : (words : List ℕ) (lines : List Line) (pens : List PenState) → Settles words lines pens
+    → All (λ (pen : PenState). pen.takes + owing (slice_index words pen.slot) ≡ (line_at pen.slot lines).entered + owing (number (line_at pen.slot lines).phase)) pens
+entries_settled words lines pens s k d low =
+    let pen = get_or pens k d in
+    let agrees = s.agrees pen.slot (s.inside k d low) in
+    let takes = s.counted k d low in
+    let woken = agrees.woken in
+    let told = agrees.told in
+    omega arith

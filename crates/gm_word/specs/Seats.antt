@@ -42,6 +42,7 @@ pub record Settles (words : List ℕ) (lines : List Line) (pens : List PenState)
   pub reached : Reached words views
   pub wide : length words ≡ length lines
   pub agrees : (slot : ℕ) → slot < length words → Agrees (slice_index words slot) (line_at slot lines) (takes_of slot views)
+  pub inside : All (λ (pen : PenState). pen.slot < length words) pens
   pub counted : All (λ (pen : PenState). takes_of pen.slot views ≡ pen.takes) pens
 
 -- the lines of a book's view, and the takes of a pen's
