@@ -7,15 +7,19 @@ use Rattle.gm_notes.specs.declared.event.ApplyError.{ApplyError}
 use Rattle.gm_notes.specs.declared.event.ApplyError.TheVariants.{NotOpen}
 use Rattle.gm_notes.specs.Settings.{Settings}
 use Rattle.gm_notes.specs.Notes.{is_open, is_shut, takes_units}
-use Rattle.gm_notes.specs.Steps.{Step, Open, free_slot}
-use Rattle.gm_notes.specs.Served.{run}
+use Rattle.gm_notes.specs.Steps.{Step, Open, Close, free_slot, unless, unless_not_open, run}
+use Rattle.gm_notes.specs.Closings.{close}
+use Rattle.gm_notes.specs.Past.{Past}
+use Rattle.gm_notes.proofs.Slots.{close_keeps, close_closes}
+use Rattle.std.specs.Prelude.{nat_lt}
+use Rattle.std.proofs.lemmas.Bool.Decides.{nat_tests}
 use Rattle.gm_notes.specs.Servers.{is_closing}
 use Rattle.gm_play.specs.declared.connection.Connection.{Connection}
 use Rattle.gm_play.specs.Fronts.{Front, fresh, with_rest, GivesPiece}
 use Rattle.gm_play.specs.Scripts as scripts
-use Rattle.gm_play.specs.Prints.{open_text, refused_text, bad_text, told, drained, Opening, Giving}
-use Rattle.gm_play.specs.Connections.{IsPlace, IsTold, IsHeld, IsReady, TellsAll, Plays, IsGiven, Gives}
-use Rattle.gm_play.proofs.Places.{each_set, place_stays, other_slot, same_slot}
+use Rattle.gm_play.specs.Prints.{open_text, refused_text, bad_text, told, drained, Opening, Giving, Closing}
+use Rattle.gm_play.specs.Connections.{IsPlace, IsTold, IsHeld, IsReady, TellsAll, Plays, IsGiven, Gives, Closes}
+use Rattle.gm_play.proofs.Places.{each_set, place_stays, past_end, other_slot, same_slot}
 use Rattle.gm_play.proofs.Steps.{IsFree, free_is, opened_notes, opened_open, opened_shut, opened_here}
 
 -- ---- an opening
@@ -110,6 +114,76 @@ plays_none agrees k limits front c piece out out' server places g said =
       text = refused_text NotOpen;
       new = front;
       tells = subst (λ (b : Bool). Giving k limits c piece front b (refused_text NotOpen) front) (sym g.0) (record { printed = refl; kept = refl });
+      printed = said;
+      ready = g.1;
+    }
+
+-- ---- a closing
+
+-- the front once slot c is closed
+abbrev pub closed : ℕ → Front → Front
+closed c front = record { steps = Close c ∷ front.steps; rests = with_rest c [] front.rests }
+
+is_at : (limits : Limits) (c : ℕ) (notes : List Note) (rest : List ℕ) (places : List (Option Connection)) → is_open c notes ≡ true
+    → IsPlace limits c notes rest (get_or places c None) → c < length places
+is_at limits c notes rest places opened p = at_by (nat_lt c (length places)) refl
+  where
+    at_by : (t : Bool) → nat_lt c (length places) ≡ t → c < length places
+    at_by true e = grind (arith, nat_tests)
+    at_by false e =
+        let far : length places ≤ c = grind (arith, nat_tests) in
+        let shut : is_open c notes ≡ false = subst (λ (q : Option Connection). IsPlace limits c notes rest q) (past_end places c far) p in
+        absurd (let wrong : true ≡ false = sym opened ∙ shut in cc)
+
+pub closing_at : {S : Type 0} (agrees : S → Settings → List Step → Type 0) (k : Settings) (limits : Limits) (front : Front) (c : ℕ) (server : S) (places : List (Option Connection))
+    → IsReady agrees k limits front server places → is_open c (run k front.steps).notes ≡ true → c < length places
+closing_at agrees k limits front c server places h opened = is_at limits c (run k front.steps).notes (front.rests c) places opened (h.held c)
+
+pub closes : {S : Type 0} (agrees : S → Settings → List Step → Type 0) (k : Settings) (limits : Limits) (front : Front) (c : ℕ) (server server' : S) (places : List (Option Connection))
+    → IsReady agrees k limits front server places → is_open c (run k front.steps).notes ≡ true → agrees server' k (Close c ∷ front.steps)
+    → IsHeld agrees k limits (run k front.steps) (closed c front) server' (set places c None)
+closes agrees k limits front c server server' places h opened agreed =
+    let lt = closing_at agrees k limits front c server places h opened in
+    let past : Past = run k front.steps in
+    let old : List Note = past.notes in
+    let new : List Note = (run k (Close c ∷ front.steps)).notes in
+    let notes : new ≡ (close k c past).notes = ap (λ (o : Bool). (unless (unless_not_open o) (close k c past) past).notes) opened in
+    record {
+      agreed = agreed;
+      count = length-set places c None ∙ h.count;
+      held =
+          each_set (λ (d : ℕ) (p : Option Connection). IsPlace limits d new (with_rest c [] front.rests d) p) places c None lt
+          (λ d differs.
+          let other = other_slot d c differs in
+          let kept = close_keeps k c d past other in
+          place_stays limits c d old new [] front.rests (get_or places d None) (ap (is_open d) notes ∙ kept.0) (ap (is_shut d) notes ∙ kept.1) other (h.held d))
+          (ap (is_open c) notes ∙ close_closes k c past (same_slot c));
+      told = each_set (λ (d : ℕ) (p : Option Connection). IsTold (is_closing d past) p) places c None lt (λ d differs. h.told d) tt;
+    }
+
+pub plays_close : {S : Type 0} (agrees : S → Settings → List Step → Type 0) (k : Settings) (limits : Limits) (front : Front) (c : ℕ) (out out' : List ℕ) (server : S) (places : List (Option Connection))
+    → is_open c (run k front.steps).notes ≡ true → TellsAll agrees k limits (run k front.steps) (closed c front) out server places out'
+    → Plays agrees k limits front (scripts.Closes c) out server places out'
+plays_close agrees k limits front c out out' server places opened t =
+    let mid = closed c front in
+    let more = told k (run k front.steps) 0 k.slots mid.steps in
+    let new : Front = record { steps = drained k 0 k.slots mid.steps; rests = mid.rests } in
+    record {
+      text = more;
+      new = new;
+      tells = subst (λ (b : Bool). Closing k c front b more new) (sym opened) (record { printed = refl; taken = refl });
+      printed = t.printed;
+      ready = t.ready;
+    }
+
+pub plays_unclosed : {S : Type 0} (agrees : S → Settings → List Step → Type 0) (k : Settings) (limits : Limits) (front : Front) (c : ℕ) (out out' : List ℕ) (server : S) (places : List (Option Connection))
+    → Closes agrees k limits c front false server places → out' ≡ out ++ refused_text NotOpen
+    → Plays agrees k limits front (scripts.Closes c) out server places out'
+plays_unclosed agrees k limits front c out out' server places g said =
+    record {
+      text = refused_text NotOpen;
+      new = front;
+      tells = subst (λ (b : Bool). Closing k c front b (refused_text NotOpen) front) (sym g.0) (record { printed = refl; kept = refl });
       printed = said;
       ready = g.1;
     }
