@@ -1,5 +1,5 @@
 -- Orders that are done.
-use Rattle.std.proofs.Common.{◌≡◌, ◌<◌, ◌≤◌, ℕ, arith, Bool, true, false, ◌&&◌, List, [], ◌∷◌, ◌++◌, length, get_or, set, Option, Some, None, refl, sym, ap, subst, ◌∙◌, append_assoc, append-nil, length-set}
+use Rattle.std.proofs.Common.{◌≡◌, ◌<◌, ◌≤◌, ℕ, arith, Bool, true, false, ◌&&◌, List, [], ◌∷◌, ◌++◌, length, get_or, set, Option, Some, None, Result, Ok, Err, refl, sym, ap, subst, ◌∙◌, append_assoc, append-nil, length-set}
 use Rattle.gm_feeder.specs.declared.units.Limits.{Limits}
 use Rattle.gm_notes.specs.declared.note.Note.{Note}
 use Rattle.gm_notes.specs.declared.note.Note.TheVariants.{Opened}
@@ -11,9 +11,10 @@ use Rattle.gm_notes.specs.Steps.{Step, Open, Close, free_slot, unless, unless_no
 use Rattle.gm_notes.specs.Closings.{close}
 use Rattle.gm_notes.specs.Past.{Past}
 use Rattle.gm_notes.proofs.Slots.{close_keeps, close_closes}
-use Rattle.std.specs.Prelude.{nat_lt}
+use Rattle.std.specs.Prelude.{nat_lt, is_err}
+use Rattle.gm_notes.specs.declared.event.Done.{Done}
+use Rattle.gm_notes.specs.Servers.{Answers, steps_after, is_closing}
 use Rattle.std.proofs.lemmas.Bool.Decides.{nat_tests}
-use Rattle.gm_notes.specs.Servers.{is_closing}
 use Rattle.gm_play.specs.declared.connection.Connection.{Connection}
 use Rattle.gm_play.specs.Fronts.{Front, fresh, with_rest, GivesPiece}
 use Rattle.gm_play.specs.Scripts as scripts
@@ -237,3 +238,19 @@ pub opens_past_end : {S : Type 0} (agrees : S → Settings → List Step → Typ
 opens_past_end agrees k limits front c addr out out' server server' server'' places places' h g far =
     let near = in_places agrees k limits front c addr server server' places h g in
     absurd (omega (arith, near, far))
+
+-- a closing that wasn't refused
+pub taken_close : {S : Type 0} (agrees : S → Settings → List Step → Type 0) (k : Settings) (c : ℕ) (steps : List Step) (server : S) (r : Result Done ApplyError) → false ≡ is_err r
+    → Answers k steps (Close c) r × agrees server k (steps_after r (Close c) steps) → (is_open c (run k steps).notes ≡ true) × agrees server k (Close c ∷ steps)
+taken_close agrees k c steps server (Ok done) e h = (was_open (is_open c (run k steps).notes) h.0.0, h.1)
+  where
+    was_open : (o : Bool) → unless_not_open o ≡ None → o ≡ true
+    was_open true taken = refl
+    was_open false taken = absurd cc
+taken_close agrees k c steps server (Err refused) e h = absurd cc
+
+-- the slot of a connection that was closed has a place
+pub closes_past_end : {S : Type 0} (agrees : S → Settings → List Step → Type 0) (k : Settings) (limits : Limits) (front : Front) (c : ℕ) (server : S) (places : List (Option Connection))
+    → IsReady agrees k limits front server places → is_open c (run k front.steps).notes ≡ true → length places ≤ c → ⊥
+closes_past_end agrees k limits front c server places h opened far =
+    let near = closing_at agrees k limits front c server places h opened in omega (arith, near, far)
