@@ -1,5 +1,7 @@
-mod Adding
+mod Finding
 mod Histories
 mod JobLaws
-mod RequestsAdd
-mod StepsAdd
+mod Keeping
+mod Listeners
+mod Sayings
+mod StepsKeep

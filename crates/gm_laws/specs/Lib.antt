@@ -1,3 +1,5 @@
+pub mod Between
+pub mod Causes
 pub mod ConnectionRows
 pub mod History
 pub mod JobRows
