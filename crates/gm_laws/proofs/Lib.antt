@@ -1,7 +1,9 @@
+mod ByteLaws
 mod Finding
 mod Histories
 mod JobLaws
 mod Keeping
 mod Listeners
 mod Sayings
+mod StepLaws
 mod StepsKeep
