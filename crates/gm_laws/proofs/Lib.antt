@@ -4,6 +4,11 @@ mod Histories
 mod JobLaws
 mod Keeping
 mod Listeners
+mod Moving
+mod Orphans
+mod Runners
 mod Sayings
+mod Sleepers
 mod StepLaws
 mod StepsKeep
+mod Waiting

@@ -40,7 +40,7 @@ left_open : (d : ℕ) (slots : List ℕ) (l : List Note) → AllOpen slots l →
 left_open d [] l all = tt
 left_open d (c ∷ slots) l all = left_at c d _ l (not (c == d)) refl all.0 (left_open d slots l all.1)
 
-opens : (c : ℕ) (older : Bool) (t : Bool) → older ≡ true → unwrap_or (cond t (Some true) None) older ≡ true
+pub opens : (c : ℕ) (older : Bool) (t : Bool) → older ≡ true → unwrap_or (cond t (Some true) None) older ≡ true
 opens c older true e = refl
 opens c older false e = e
 

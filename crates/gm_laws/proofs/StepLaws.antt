@@ -13,18 +13,9 @@ use Rattle.gm_notes.specs.Steps.{Step, Open, Packet, Line, Fault, Close, Tick, T
 use Rattle.gm_laws.specs.History.{Allowed, Gets, History}
 use Rattle.gm_laws.specs.Causes.{Caused, Ends, AllCaused, AllSaid, asks, is_request, is_grab, is_closing}
 use Rattle.gm_laws.specs.Laws.{NotesAreCaused, DiscardsTheUnwanted, EndsWithItsWorker, GivesThePick, SaysNoJobWhereNoneIs}
-use Rattle.gm_laws.proofs.JobLaws.{is_same}
+use Rattle.gm_laws.proofs.Moving.{moved, from}
 use Rattle.gm_laws.proofs.Keeping.{keeps_notes}
 use Rattle.gm_laws.proofs.StepsKeep.{step_keeps}
-
--- a job that a note moves to new: it is at new, or where it was
-moved : (n m : ℕ) (new old target : Spot) (t : Bool) → (n == m) ≡ t → unwrap_or (cond t (Some new) None) old ≡ target → ((n ≡ m) × (new ≡ target)) ⊎ (old ≡ target)
-moved n m new old target true is e = inl (is_same n m is, e)
-moved n m new old target false is e = inr e
-
-from : {A B C : Type 0} → A ⊎ B → (A → C) → (B → C) → C
-from (inl a) p q = p a
-from (inr b) p q = q b
 
 -- a closing is no request
 closing_asks : (kinds : Kind → Bool) (s : Step) → is_closing s ≡ true → is_request kinds s ≡ true → ⊥
@@ -74,11 +65,11 @@ module _ (k : Settings) (served : Kind → Bool) (s : Step) (start : Past) (hist
   EndedSo n = (spot n start.notes ≡ Over) ⊎ Ends start.notes s n
 
   ended_more : (note : Note) (older : List Note) → Caused start.notes s note older → ((n : ℕ) → spot n older ≡ Over → EndedSo n) → (n : ℕ) → spot n (note ∷ older) ≡ Over → EndedSo n
-  ended_more (notes.Made m f p u body) older cause before n e = from (moved n m Waits (spot n older) Over (n == m) refl e) (λ h. absurd (let x = h.1 in cc)) (before n)
-  ended_more (notes.Returned m) older cause before n e = from (moved n m Waits (spot n older) Over (n == m) refl e) (λ h. absurd (let x = h.1 in cc)) (before n)
-  ended_more (notes.Assigned m c late) older cause before n e = from (moved n m (RunsAt c) (spot n older) Over (n == m) refl e) (λ h. absurd (let x = h.1 in cc)) (before n)
-  ended_more (notes.Discarded m) older cause before n e = from (moved n m Thrown (spot n older) Over (n == m) refl e) (λ h. absurd (let x = h.1 in cc)) (before n)
-  ended_more (notes.Ended m) older cause before n e = from (moved n m Over (spot n older) Over (n == m) refl e) (λ h. inr (subst (λ x. Ends start.notes s x) (sym h.0) cause)) (before n)
+  ended_more (notes.Made m f p u body) older cause before n e = from (moved n m Waits (spot n older) Over (n == m) refl e) (λ h. absurd (let x = h.1 in cc)) (λ h. before n h.1)
+  ended_more (notes.Returned m) older cause before n e = from (moved n m Waits (spot n older) Over (n == m) refl e) (λ h. absurd (let x = h.1 in cc)) (λ h. before n h.1)
+  ended_more (notes.Assigned m c late) older cause before n e = from (moved n m (RunsAt c) (spot n older) Over (n == m) refl e) (λ h. absurd (let x = h.1 in cc)) (λ h. before n h.1)
+  ended_more (notes.Discarded m) older cause before n e = from (moved n m Thrown (spot n older) Over (n == m) refl e) (λ h. absurd (let x = h.1 in cc)) (λ h. before n h.1)
+  ended_more (notes.Ended m) older cause before n e = from (moved n m Over (spot n older) Over (n == m) refl e) (λ h. inr (subst (λ x. Ends start.notes s x) (sym h.0) cause)) (λ h. before n h.1)
   ended_more note older cause before n e = before n e
 
   pub ends : EndsWithItsWorker start s (step_by served k s start)
@@ -95,11 +86,11 @@ module _ (k : Settings) (served : Kind → Bool) (s : Step) (start : Past) (hist
       inr (subst (λ x. (asks is_grab x s ≡ true) × Gets x n start.notes) there (subst (λ x. (asks is_grab d s ≡ true) × Gets d x start.notes) (sym same) cause))
 
   given_more : (note : Note) (older : List Note) → Caused start.notes s note older → ((n c : ℕ) → spot n older ≡ RunsAt c → GivenSo n c) → (n c : ℕ) → spot n (note ∷ older) ≡ RunsAt c → GivenSo n c
-  given_more (notes.Made m f p u body) older cause before n c e = from (moved n m Waits (spot n older) (RunsAt c) (n == m) refl e) (λ h. absurd (let x = h.1 in cc)) (before n c)
-  given_more (notes.Returned m) older cause before n c e = from (moved n m Waits (spot n older) (RunsAt c) (n == m) refl e) (λ h. absurd (let x = h.1 in cc)) (before n c)
-  given_more (notes.Assigned m d late) older cause before n c e = from (moved n m (RunsAt d) (spot n older) (RunsAt c) (n == m) refl e) (λ h. given_here n m c d h.0 h.1 cause) (before n c)
-  given_more (notes.Discarded m) older cause before n c e = from (moved n m Thrown (spot n older) (RunsAt c) (n == m) refl e) (λ h. absurd (let x = h.1 in cc)) (before n c)
-  given_more (notes.Ended m) older cause before n c e = from (moved n m Over (spot n older) (RunsAt c) (n == m) refl e) (λ h. absurd (let x = h.1 in cc)) (before n c)
+  given_more (notes.Made m f p u body) older cause before n c e = from (moved n m Waits (spot n older) (RunsAt c) (n == m) refl e) (λ h. absurd (let x = h.1 in cc)) (λ h. before n c h.1)
+  given_more (notes.Returned m) older cause before n c e = from (moved n m Waits (spot n older) (RunsAt c) (n == m) refl e) (λ h. absurd (let x = h.1 in cc)) (λ h. before n c h.1)
+  given_more (notes.Assigned m d late) older cause before n c e = from (moved n m (RunsAt d) (spot n older) (RunsAt c) (n == m) refl e) (λ h. given_here n m c d h.0 h.1 cause) (λ h. before n c h.1)
+  given_more (notes.Discarded m) older cause before n c e = from (moved n m Thrown (spot n older) (RunsAt c) (n == m) refl e) (λ h. absurd (let x = h.1 in cc)) (λ h. before n c h.1)
+  given_more (notes.Ended m) older cause before n c e = from (moved n m Over (spot n older) (RunsAt c) (n == m) refl e) (λ h. absurd (let x = h.1 in cc)) (λ h. before n c h.1)
   given_more note older cause before n c e = before n c e
 
   pub gives : GivesThePick start s (step_by served k s start)
@@ -121,15 +112,15 @@ module _ (k : Settings) (served : Kind → Bool) (s : Step) (start : Past) (hist
 
   thrown_more : (note : Note) (older : List Note) → Allowed k note older → Caused start.notes s note older → ((n : ℕ) → spot n older ≡ Thrown → ThrownSo n older) → (n : ℕ) → spot n (note ∷ older) ≡ Thrown → ThrownSo n (note ∷ older)
   thrown_more (notes.Made m f p u body) older allowed cause before n e =
-      from (moved n m Waits (spot n older) Thrown (n == m) refl e) (λ h. absurd (let x = h.1 in cc)) (λ h. elsewhere n older (notes.Made m f p u body ∷ older) (λ c. closing_asks _ s c cause) (before n h))
+      from (moved n m Waits (spot n older) Thrown (n == m) refl e) (λ h. absurd (let x = h.1 in cc)) (λ h. elsewhere n older (notes.Made m f p u body ∷ older) (λ c. closing_asks _ s c cause) (before n h.1))
   thrown_more (notes.Kept m) older allowed cause before n e = elsewhere n older (notes.Kept m ∷ older) (λ c. closing_asks _ s c cause) (before n e)
   thrown_more (notes.Listens m d) older allowed cause before n e = elsewhere n older (notes.Listens m d ∷ older) (λ c. closing_asks_at _ d s c cause) (before n e)
   thrown_more (notes.Closed c) older allowed cause before n e = thrown_closed n c older (before n e)
-  thrown_more (notes.Returned m) older allowed cause before n e = from (moved n m Waits (spot n older) Thrown (n == m) refl e) (λ h. absurd (let x = h.1 in cc)) (before n)
-  thrown_more (notes.Assigned m c late) older allowed cause before n e = from (moved n m (RunsAt c) (spot n older) Thrown (n == m) refl e) (λ h. absurd (let x = h.1 in cc)) (before n)
-  thrown_more (notes.Ended m) older allowed cause before n e = from (moved n m Over (spot n older) Thrown (n == m) refl e) (λ h. absurd (let x = h.1 in cc)) (before n)
+  thrown_more (notes.Returned m) older allowed cause before n e = from (moved n m Waits (spot n older) Thrown (n == m) refl e) (λ h. absurd (let x = h.1 in cc)) (λ h. before n h.1)
+  thrown_more (notes.Assigned m c late) older allowed cause before n e = from (moved n m (RunsAt c) (spot n older) Thrown (n == m) refl e) (λ h. absurd (let x = h.1 in cc)) (λ h. before n h.1)
+  thrown_more (notes.Ended m) older allowed cause before n e = from (moved n m Over (spot n older) Thrown (n == m) refl e) (λ h. absurd (let x = h.1 in cc)) (λ h. before n h.1)
   thrown_more (notes.Discarded m) older allowed cause before n e =
-      from (moved n m Thrown (spot n older) Thrown (n == m) refl e) (λ h. inr (cause, subst (λ x. is_wanted x older ≡ false) (sym h.0) allowed.1)) (before n)
+      from (moved n m Thrown (spot n older) Thrown (n == m) refl e) (λ h. inr (cause, subst (λ x. is_wanted x older ≡ false) (sym h.0) allowed.1)) (λ h. before n h.1)
   thrown_more note older allowed cause before n e = before n e
 
   pub discards : DiscardsTheUnwanted start s (step_by served k s start)

@@ -89,7 +89,7 @@ module _ {k : Settings} {I : Past → Type 0} (start : Past) (c number : ℕ) (b
         (λ e. gives_keeps K c (option_res name) (noted (notes.OptionSet c) start) opened (option_other name) (note_keeps K (notes.OptionSet c) start refl opened (asked is_choosing may) h))
         (λ e. refuses_keeps K c (codes "unknown_option") start opened h)
 
-  request_keeps : (kind : Kind) (a : List (List ℕ)) (timeout : ℕ) → kind_of number ≡ Some kind → Held k I (request k c kind a timeout start)
+  pub request_keeps : (kind : Kind) (a : List (List ℕ)) (timeout : ℕ) → kind_of number ≡ Some kind → Held k I (request k c kind a timeout start)
   request_keeps CanDo a timeout is = can_do_keeps K c (first a) 0 start (asked CanDo is is_enabling refl) (by_kind CanDo is is_enabling refl) opened h
   request_keeps CanDoTimeout a timeout is = can_do_keeps K c (first a) timeout start (asked CanDoTimeout is is_enabling refl) (by_kind CanDoTimeout is is_enabling refl) opened h
   request_keeps CantDo a timeout is = cant_do_keeps K c (first a) start (asked CantDo is is_disabling refl) opened h
@@ -126,6 +126,18 @@ module _ {k : Settings} {I : Past → Type 0} (start : Past) (c number : ℕ) (b
   packet_keeps served (Some kind) is =
       held_if K (served kind) (request_if_read k c (read_as kind bytes) start) (refuse c (codes "unknown_command") start)
       (λ e. read_keeps kind (read_as kind bytes) is refl) (λ e. refuses_keeps K c (codes "unknown_command") start opened h)
+
+-- a packet whose kind is one of these, by what its request does
+pub packet_of_kinds : (P : List Note → Type 0) (served : Kind → Bool) (k : Settings) (c : ℕ) (kinds : Kind → Bool) (bytes : List ℕ) (start : Past) → P start.notes
+    → ((kind : Kind) (a : List (List ℕ)) (timeout : ℕ) → kinds kind ≡ true → P (request k c kind a timeout start).notes)
+    → (o : Option Kind) → is_one_of kinds o ≡ true → P (packet_of served k c o bytes start).notes
+packet_of_kinds P served k c kinds bytes start p more None e = absurd cc
+packet_of_kinds P served k c kinds bytes start p more (Some kind) e =
+    kept_if P (served kind) (request_if_read k c (read_as kind bytes) start) (refuse c (codes "unknown_command") start) (read_of_kind (read_as kind bytes) refl) p
+  where
+    read_of_kind : (o : Option Asked) → o ≡ read_as kind bytes → P (request_if_read k c o start).notes
+    read_of_kind None is = p
+    read_of_kind (Some asked) is = more asked.kind asked.arguments asked.timeout (ap kinds (kind_read kind bytes asked (sym is)) ∙ e)
 
 -- ---- lines
 
@@ -278,7 +290,7 @@ owed_is true true e = refl
 owed_is true false e = absurd cc
 owed_is false u e = absurd cc
 
-taken_or_not : (I : Past → Type 0) (o : Option ApplyError) (after before : Past) → (o ≡ None → I after) → I before → I (unless o after before)
+pub taken_or_not : (I : Past → Type 0) (o : Option ApplyError) (after before : Past) → (o ≡ None → I after) → I before → I (unless o after before)
 taken_or_not I None after before p h = p refl
 taken_or_not I (Some refused) after before p h = h
 

@@ -4,7 +4,7 @@
 ghost use Rattle.gm_notes.specs.Jobs.{made};
 ghost use Rattle.gm_laws.specs.History.{History};
 ghost use Rattle.gm_laws.specs.Laws.{AfterAnySteps, AreNumbers, AreSlots, HavePlaces, AreOne, StayGone, AllIsSent, BytesArrive, InEachStep, NotesAreCaused, DiscardsTheUnwanted, EndsWithItsWorker, GivesThePick, SaysNoJobWhereNoneIs, OnlyDrainsTake};
-ghost use Rattle.gm_laws.specs.Between.{ListenersAreOpen};
+ghost use Rattle.gm_laws.specs.Between.{ListenersAreOpen, RunnersAreOpen, NoneIsOrphaned, NoneSleepsBesideWork};
 
 /// Every note of the past was allowed when it was added: only a waiting job was given out, and only to whose
 /// grab gets it; only a running one waited again, and only one that somebody wants; none was discarded that
@@ -83,4 +83,19 @@ pub fn says_no_job_where_none_is()
 /// Who listens to a job is open.
 pub fn listeners_are_open()
     ensures { AfterAnySteps ListenersAreOpen }
+{}
+
+/// The slot where a job runs is open.
+pub fn runners_are_open()
+    ensures { AfterAnySteps RunnersAreOpen }
+{}
+
+/// Each waiting job is wanted: a background submission keeps it, or somebody listens to it.
+pub fn none_is_orphaned()
+    ensures { AfterAnySteps NoneIsOrphaned }
+{}
+
+/// Who sleeps can do none of the jobs that wait.
+pub fn none_sleeps_beside_work()
+    ensures { AfterAnySteps NoneSleepsBesideWork }
 {}
