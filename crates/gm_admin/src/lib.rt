@@ -11,8 +11,6 @@ mod fault;
 mod lengths;
 mod rows;
 mod sizes;
-#[cfg(test)]
-mod tests;
 mod words;
 mod writing;
 

@@ -7,8 +7,6 @@ mod measurement;
 mod measuring;
 mod stop;
 mod tally;
-#[cfg(test)]
-mod tests;
 mod text;
 mod words;
 

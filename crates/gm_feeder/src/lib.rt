@@ -10,8 +10,6 @@
 mod feeder;
 mod front;
 pub mod laws;
-#[cfg(test)]
-mod tests;
 mod units;
 
 pub use feeder::Feeder;

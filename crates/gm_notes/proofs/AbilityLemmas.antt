@@ -12,7 +12,7 @@ use Rattle.gm_notes.specs.declared.note.Note.{Note}
 use Rattle.gm_notes.specs.declared.note.Note.TheVariants.{Opened, Closed, Can, Cant, Reset, Made, Returned}
 use Rattle.gm_notes.specs.declared.states.Priority.TheVariants.{High, Normal, Low}
 use Rattle.gm_notes.specs.Jobs.{Ability, put, is_of, abilities, is_able, as_they_came, is_queued, queue, waiting_for, is_empty, pick_from, first_of}
-use Rattle.gm_notes.specs.Searches.{says_able, changed, came, head}
+use Rattle.gm_notes.specs.plain.Searches.{says_able, changed, came, head}
 
 -- ---- whether a worker can do a function
 

@@ -10,8 +10,8 @@ use Rattle.gm_notes.specs.declared.note.Note.TheVariants.{Opened, Closed, Woken,
 use Rattle.gm_notes.specs.Notes.{is_open}
 use Rattle.gm_notes.specs.Jobs.{Job, job, listeners}
 use Rattle.gm_notes.specs.declared.jobs.Submitted.{Submitted}
-use Rattle.gm_notes.specs.Searches.{job_of, heard}
-use Rattle.gm_notes.specs.Logs.{paid, AllFit, IsCarried}
+use Rattle.gm_notes.specs.plain.Searches.{job_of, heard}
+use Rattle.gm_notes.specs.plain.Logs.{paid, AllFit, IsCarried}
 
 -- no more notes are paid than there are
 pub paid_below : (notes : List Note) → paid notes ≤ length notes

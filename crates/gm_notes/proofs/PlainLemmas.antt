@@ -19,8 +19,8 @@ use Rattle.gm_notes.specs.Settings.{Settings}
 use Rattle.gm_notes.specs.Notes.{is_open, phase, is_asleep, slots_from, takes_units, moment, welcomes}
 use Rattle.gm_notes.specs.Jobs.{Job, job, is_mentioned, handle}
 use Rattle.gm_notes.specs.Flow.{Flow, Began, Drained, waiting}
-use Rattle.gm_notes.specs.Lanes.{given, given_all}
-use Rattle.gm_notes.specs.Logs.{IsCalm, StaysAwake}
+use Rattle.gm_notes.specs.plain.Lanes.{given, given_all}
+use Rattle.gm_notes.specs.plain.Logs.{IsCalm, StaysAwake}
 use Rattle.gm_notes.specs.Past.{Past, noted, flowed, print, give, tell_all, mentioned, wake_one, wake_each, wake}
 use Rattle.gm_notes.specs.Workers.{stir, deadline_after, tell_assigned, give_out}
 use Rattle.gm_notes.specs.Submissions.{Submission, wanted, make}
@@ -28,7 +28,7 @@ use Rattle.gm_notes.specs.declared.event.Done.{Done}
 use Rattle.gm_notes.specs.declared.event.ApplyError.{ApplyError}
 use Rattle.gm_notes.specs.declared.event.ApplyError.TheVariants.{Memory}
 use Rattle.gm_notes.specs.Servers.{IsRefusal, Answers, steps_after}
-use Rattle.gm_notes.specs.Plain.{Holds, Agrees, Changes, unless_wanting}
+use Rattle.gm_notes.specs.plain.Holds.{Holds, Agrees, Changes, unless_wanting}
 use Rattle.gm_notes.specs.Steps.{Step, unless, refusal, free_from, if_free, if_welcome, unless_not_open, made_since}
 use Rattle.gm_notes.specs.Served.{run, add}
 

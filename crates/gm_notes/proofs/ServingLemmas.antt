@@ -13,8 +13,8 @@ use Rattle.gm_packet.specs.Views.{asked_of}
 use Rattle.gm_notes.specs.declared.refusal.Refusal.TheVariants.{UnknownCommand, BadArguments}
 use Rattle.gm_notes.specs.Settings.{Settings}
 use Rattle.gm_notes.specs.Past.{Past, refuse}
-use Rattle.gm_notes.specs.Plain.{serve, unread}
-use Rattle.gm_notes.specs.Refusals.{code_of}
+use Rattle.gm_notes.specs.plain.Holds.{serve, unread}
+use Rattle.gm_notes.specs.plain.Refusals.{code_of}
 use Rattle.gm_notes.specs.Requests.{packet_of, request_if_read}
 use Rattle.gm_notes.specs.Served.{served}
 

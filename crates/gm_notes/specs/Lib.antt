@@ -1,16 +1,11 @@
 pub mod Closings
 pub mod Flow
 pub mod Jobs
-pub mod Lanes
 pub mod Lines
-pub mod Logs
 pub mod Notes
 pub mod Numbers
 pub mod Past
-pub mod Plain
-pub mod Refusals
 pub mod Requests
-pub mod Searches
 pub mod Served
 pub mod Servers
 pub mod Settings
@@ -18,3 +13,4 @@ pub mod Steps
 pub mod Submissions
 pub mod Texts
 pub mod Workers
+pub mod plain

@@ -4,7 +4,7 @@ ghost use Rattle.std.specs.Prelude.{◌≡◌, ◌<◌, map, not, ◌&&◌, [], 
 ghost use Rattle.std.specs.Option.{option_map};
 ghost use Rattle.gm_notes.specs.Jobs.{put, abilities, is_able, as_they_came, is_queued, waiting_for, is_empty, pick, pick_from};
 ghost use Rattle.gm_notes.specs.Notes.{is_open, phase, is_asleep};
-ghost use Rattle.gm_notes.specs.Searches.{says_able, ability_of, pick_of, changed, came, head};
+ghost use Rattle.gm_notes.specs.plain.Searches.{says_able, ability_of, pick_of, changed, came, head};
 
 use crate::jobs::{is_job_with, is_waiting};
 use crate::log::Log;

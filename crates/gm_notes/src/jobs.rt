@@ -4,11 +4,11 @@ ghost use Rattle.std.specs.Prelude.{◌≡◌, ◌<◌, length, Some, ◌&&◌, 
 ghost use Rattle.std.specs.Option.{option_map};
 ghost use Rattle.std.specs.List.{All};
 ghost use Rattle.gm_notes.specs.Jobs.{says_spot, spot, is_live, is_waiting, is_running_at, says_job, job, listeners, is_job_of, is_job_with, is_job_named, made, functions, is_mentioned, says_limit, limit, joins, is_live_named, joined, next_number, is_live_of, total};
-ghost use Rattle.gm_notes.specs.Logs.{IsCarried};
+ghost use Rattle.gm_notes.specs.plain.Logs.{IsCarried};
 ghost use Rattle.gm_notes.specs.Steps.{newest};
 ghost use Rattle.gm_notes.specs.Submissions.{is_bad_name, is_one_too_many, is_full};
 ghost use Rattle.gm_notes.specs.Servers.{place_of};
-ghost use Rattle.gm_notes.specs.Searches.{said_place, mentions, job_of, heard};
+ghost use Rattle.gm_notes.specs.plain.Searches.{said_place, mentions, job_of, heard};
 
 use crate::config::Config;
 use crate::log::Log;

@@ -2,7 +2,7 @@
 
 ghost use Rattle.std.specs.Prelude.{◌≡◌, ℕ, ◌+◌, ◌*◌, ◌<◌, ◌≤◌, ◌++◌, [], ◌∷◌, length, replicate, slice_set, IfOk, OnOk, OnErr};
 ghost use Rattle.std.specs.List.{All, slice_index_or};
-ghost use Rattle.gm_notes.specs.Lanes.{bytes_of, room_at, given, given_all};
+ghost use Rattle.gm_notes.specs.plain.Lanes.{bytes_of, room_at, given, given_all};
 ghost use Rattle.gm_packet.specs.Answers.{answer_of};
 ghost use Rattle.gm_packet.specs.Writing.{Fits, answer_packet, error};
 ghost use Rattle.gm_notes.specs.Texts.{fault_text};

@@ -14,8 +14,6 @@ mod questions;
 mod refusal;
 mod server;
 mod states;
-#[cfg(test)]
-mod tests;
 mod text;
 
 pub use config::{Config, ConfigError};

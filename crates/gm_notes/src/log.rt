@@ -1,7 +1,7 @@
 //! The notes, and the room for more.
 
 ghost use Rattle.std.specs.Prelude.{◌≡◌, ◌+◌, ◌*◌, ◌≤◌, [], ◌∷◌, reverse, OnOk, OnErr};
-ghost use Rattle.gm_notes.specs.Logs.{NoteFits, AllFit, HasRoom, Spends};
+ghost use Rattle.gm_notes.specs.plain.Logs.{NoteFits, AllFit, HasRoom, Spends};
 
 use crate::note::Note;
 use std::alloc::{AllocError, Global};
@@ -19,7 +19,7 @@ pub struct Log {
 
 impl Model for Log {
     ghost use Rattle.std.specs.Prelude.{◌≤◌, ◌-◌, ◌*◌, reverse, vec_len, vec_capacity};
-    ghost use Rattle.gm_notes.specs.Logs.{Logged, AllFit, paid};
+    ghost use Rattle.gm_notes.specs.plain.Logs.{Logged, AllFit, paid};
 
     ghost Value = { Logged };
 

@@ -4,12 +4,12 @@ ghost use Rattle.std.specs.Prelude.{◌≡◌, ◌<◌, ◌≤◌, List, [], Som
 ghost use Rattle.gm_packet.specs.Answers.{answer_of};
 ghost use Rattle.gm_packet.specs.Kinds.{kind_of};
 ghost use Rattle.gm_packet.specs.Writing.{Fits};
-ghost use Rattle.gm_notes.specs.Logs.{HasRoom, Spends, NoteFits, IsCalm, StaysAwake};
+ghost use Rattle.gm_notes.specs.plain.Logs.{HasRoom, Spends, NoteFits, IsCalm, StaysAwake};
 ghost use Rattle.gm_notes.specs.Past.{noted, flowed, print, give, refuse, tell_all};
 ghost use Rattle.gm_notes.specs.Flow.{Began};
 ghost use Rattle.gm_notes.specs.Texts.{fault_text};
 ghost use Rattle.std.specs.List.{All};
-ghost use Rattle.gm_notes.specs.Refusals.{code_of};
+ghost use Rattle.gm_notes.specs.plain.Refusals.{code_of};
 
 mod serving;
 mod submitting;
@@ -43,7 +43,7 @@ pub struct PlainServer {
 }
 
 impl PlainServer {
-    ghost use Rattle.gm_notes.specs.Plain.{Goes, Does, PlainAgrees};
+    ghost use Rattle.gm_notes.specs.plain.Holds.{Goes, Does, PlainAgrees};
 
     /// A server to which nothing has happened. It needs memory for each slot.
     pub fn new(alloc: Global, config: Config) -> Result<PlainServer, AllocError>
@@ -131,7 +131,7 @@ impl PlainServer {
     ghost use Rattle.gm_notes.specs.Settings.{Settings};
     ghost use Rattle.gm_notes.specs.Steps.{Step, Open, Packet, Fault};
     ghost use Rattle.gm_notes.specs.Servers.{Answers, steps_after};
-    ghost use Rattle.gm_notes.specs.Plain.{PlainAgrees};
+    ghost use Rattle.gm_notes.specs.plain.Holds.{PlainAgrees};
 
     fn open(&mut self, addr: &[u8]) -> Result<Done, ApplyError>
         ensures { (k : Settings) (steps : List Step) → PlainAgrees self.old k steps
@@ -194,7 +194,7 @@ impl PlainServer {
 impl PlainServer {
     ghost use Rattle.gm_notes.specs.Settings.{Settings};
     ghost use Rattle.gm_notes.specs.Steps.{Step, if_owed};
-    ghost use Rattle.gm_notes.specs.Plain.{PlainAgrees};
+    ghost use Rattle.gm_notes.specs.plain.Holds.{PlainAgrees};
     ghost use Rattle.gm_notes.specs.Served.{run};
 
     /// Why no NOOP of the slot can be taken or withdrawn: nobody sleeps yet, so none is owed.
@@ -211,7 +211,7 @@ impl PlainServer {
 }
 
 impl JobServer for PlainServer {
-    ghost use Rattle.gm_notes.specs.Plain.{PlainAgrees};
+    ghost use Rattle.gm_notes.specs.plain.Holds.{PlainAgrees};
 
     ghost agrees = { PlainAgrees };
 

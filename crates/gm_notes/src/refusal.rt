@@ -3,7 +3,7 @@
 ghost use Rattle.std.specs.Prelude.{◌≡◌, ◌∷◌, []};
 ghost use Rattle.gm_packet.specs.Answers.{answer_of};
 ghost use Rattle.gm_packet.specs.Writing.{Fits};
-ghost use Rattle.gm_notes.specs.Refusals.{code_of};
+ghost use Rattle.gm_notes.specs.plain.Refusals.{code_of};
 ghost use Rattle.gm_notes.specs.Texts.{error_of};
 
 use gm_packet::Response;

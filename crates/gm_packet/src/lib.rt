@@ -11,8 +11,6 @@ mod kind;
 pub mod laws;
 mod request;
 mod response;
-#[cfg(test)]
-mod tests;
 mod texts;
 mod writing;
 

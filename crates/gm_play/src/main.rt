@@ -11,6 +11,8 @@ pub mod laws;
 mod line;
 mod order;
 mod playing;
+#[cfg(test)]
+mod rows;
 mod stop;
 #[cfg(test)]
 mod tests;

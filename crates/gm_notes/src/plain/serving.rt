@@ -3,7 +3,7 @@
 ghost use Rattle.std.specs.Prelude.{◌≡◌, ◌<◌, ◌≤◌, length};
 ghost use Rattle.gm_packet.specs.Kinds.{kind_of};
 ghost use Rattle.gm_packet.specs.Views.{asked_of};
-ghost use Rattle.gm_notes.specs.Plain.{Does, HasCome, serve, unread};
+ghost use Rattle.gm_notes.specs.plain.Holds.{Does, HasCome, serve, unread};
 ghost use Rattle.gm_notes.specs.Requests.{packet_of};
 ghost use Rattle.gm_notes.specs.Served.{served};
 

@@ -5,9 +5,9 @@ ghost use Rattle.std.specs.List.{list_any};
 ghost use Rattle.gm_packet.specs.Requests.{has_nul};
 ghost use Rattle.gm_packet.specs.Writing.{job_created};
 ghost use Rattle.gm_notes.specs.Jobs.{handle, next_number};
-ghost use Rattle.gm_notes.specs.Logs.{HasRoom, Spends, IsCarried};
+ghost use Rattle.gm_notes.specs.plain.Logs.{HasRoom, Spends, IsCarried};
 ghost use Rattle.gm_notes.specs.Past.{give, mentioned, wake_one, wake};
-ghost use Rattle.gm_notes.specs.Plain.{Goes, Does, submission_of};
+ghost use Rattle.gm_notes.specs.plain.Holds.{Goes, Does, submission_of};
 ghost use Rattle.gm_notes.specs.Submissions.{wanted, make, join_or_make, submit};
 
 use super::PlainServer;

@@ -6,12 +6,12 @@ ghost use Rattle.gm_packet.specs.Answers.{answer_of};
 ghost use Rattle.gm_packet.specs.Requests.{has_nul};
 ghost use Rattle.gm_packet.specs.Writing.{Fits};
 ghost use Rattle.gm_notes.specs.Jobs.{job, handle, listeners};
-ghost use Rattle.gm_notes.specs.Logs.{HasRoom, Spends, IsCarried};
+ghost use Rattle.gm_notes.specs.plain.Logs.{HasRoom, Spends, IsCarried};
 ghost use Rattle.gm_notes.specs.Past.{give, tell_all};
-ghost use Rattle.gm_notes.specs.Plain.{Goes, Does};
+ghost use Rattle.gm_notes.specs.plain.Holds.{Goes, Does};
 ghost use Rattle.gm_notes.specs.Requests.{ending};
 ghost use Rattle.gm_notes.specs.Workers.{made_able, can_do, deadline_after, stir, assignment, tell_assigned, grab, give_out, work, tell_work};
-ghost use Rattle.gm_notes.specs.Searches.{job_of, pick_of};
+ghost use Rattle.gm_notes.specs.plain.Searches.{job_of, pick_of};
 ghost use Rattle.gm_notes.specs.Settings.{Settings};
 
 use super::PlainServer;

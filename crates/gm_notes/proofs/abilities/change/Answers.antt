@@ -2,7 +2,7 @@ use Rattle.std.proofs.Common.{◌≡◌, rules, not, map, filter, ap, ◌∙◌}
 use Rattle.std.specs.Str.{bytes_eq}
 use Rattle.std.proofs.lemmas.Fn.{filter_same}
 use Rattle.gm_notes.specs.Jobs.{is_of}
-use Rattle.gm_notes.specs.Searches.{ability_of}
+use Rattle.gm_notes.specs.plain.Searches.{ability_of}
 use Rattle.gm_notes.proofs.AbilityLemmas.{map_filter, cant_here}
 use Rattle.gm_notes.proofs.abilities.change.Goals as goal
 

@@ -1,6 +1,6 @@
 use Rattle.std.proofs.Common.{◌≡◌, rules, not, ◌==◌, [], ◌∷◌, ◌++◌, filter, sym, ap, ◌∙◌}
 use Rattle.std.proofs.lemmas.Fn.{filter_same}
-use Rattle.gm_notes.specs.Searches.{came}
+use Rattle.gm_notes.specs.plain.Searches.{came}
 use Rattle.gm_notes.proofs.abilities.come.Goals as goal
 
 pub returns-in_ok-push-in-Returned : goal.returns-in_ok-push-in-Returned

@@ -1,6 +1,6 @@
 use Rattle.std.proofs.Common.{sym, ap, ◌∙◌, take, reverse}
 use Rattle.std.specs.Prelude.{unwrap_or}
-use Rattle.gm_notes.specs.Searches.{says_able}
+use Rattle.gm_notes.specs.plain.Searches.{says_able}
 use Rattle.gm_notes.specs.Jobs.{is_able}
 use Rattle.gm_notes.proofs.NoteLemmas.{note_next}
 use Rattle.gm_notes.proofs.AbilityLemmas.{able_next}

@@ -1,5 +1,5 @@
 use Rattle.std.proofs.Common.{sym, ◌∙◌}
-use Rattle.gm_notes.specs.Searches.{ability_of}
+use Rattle.gm_notes.specs.plain.Searches.{ability_of}
 use Rattle.gm_notes.proofs.AbilityLemmas.{pick_at}
 use Rattle.gm_notes.proofs.abilities.pick_from.Goals as goal
 

@@ -1,6 +1,6 @@
 use Rattle.std.proofs.Common.{◌≡◌, drop, map}
 use Rattle.gm_notes.specs.Jobs.{pick_from}
-use Rattle.gm_notes.specs.Searches.{ability_of}
+use Rattle.gm_notes.specs.plain.Searches.{ability_of}
 use Rattle.gm_notes.proofs.abilities.pick_from.Given as goal
 
 abbrev pub invariant-loop-ability : goal.invariant-loop-ability

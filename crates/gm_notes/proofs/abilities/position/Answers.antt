@@ -1,5 +1,5 @@
 use Rattle.std.proofs.Common.{sym, ◌∙◌}
-use Rattle.gm_notes.specs.Searches.{ability_of}
+use Rattle.gm_notes.specs.plain.Searches.{ability_of}
 use Rattle.gm_notes.proofs.AbilityLemmas.{put_in_place}
 use Rattle.gm_notes.proofs.abilities.position.Goals as goal
 

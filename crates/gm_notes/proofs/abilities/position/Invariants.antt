@@ -1,6 +1,6 @@
 use Rattle.std.proofs.Common.{◌≡◌, ◌++◌, take, drop, map}
 use Rattle.gm_notes.specs.Jobs.{put}
-use Rattle.gm_notes.specs.Searches.{ability_of}
+use Rattle.gm_notes.specs.plain.Searches.{ability_of}
 use Rattle.gm_notes.proofs.abilities.position.Given as goal
 
 abbrev pub invariant-loop-i : goal.invariant-loop-i

@@ -1,7 +1,7 @@
 use Rattle.std.proofs.Common.{List, map, set, sym, ap, ◌∙◌}
 use Rattle.std.proofs.lemmas.List.{map-set}
 use Rattle.gm_notes.specs.Jobs.{Ability, put}
-use Rattle.gm_notes.specs.Searches.{ability_of}
+use Rattle.gm_notes.specs.plain.Searches.{ability_of}
 use Rattle.gm_notes.proofs.abilities.put.Goals as goal
 
 pub returns-in-Some : goal.returns-in-Some

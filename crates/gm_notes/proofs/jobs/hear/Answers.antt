@@ -1,6 +1,6 @@
 use Rattle.std.proofs.Common.{◌≡◌, rules, not, ◌==◌, filter, sym, ap, ◌∙◌}
 use Rattle.std.proofs.lemmas.Fn.{filter_same}
-use Rattle.gm_notes.specs.Searches.{heard}
+use Rattle.gm_notes.specs.plain.Searches.{heard}
 use Rattle.gm_notes.proofs.jobs.hear.Goals as goal
 
 pub returns-in-Closed : goal.returns-in-Closed

@@ -2,7 +2,7 @@ use Rattle.std.proofs.Common.{◌≡◌, arith}
 use Rattle.std.proofs.lemmas.Grind.{common_steps}
 use Rattle.std.specs.Option.{option_map}
 use Rattle.gm_notes.specs.Jobs.{job}
-use Rattle.gm_notes.specs.Searches.{job_of}
+use Rattle.gm_notes.specs.plain.Searches.{job_of}
 use Rattle.gm_notes.proofs.LogLemmas.{job_carried, found_carried}
 use Rattle.gm_notes.proofs.jobs.job.Goals as goal
 

@@ -1,5 +1,5 @@
 use Rattle.std.proofs.Common.{◌≡◌, ◌+◌, ◌*◌, ◌≤◌, ℕ, length, drop}
-use Rattle.gm_notes.specs.Lanes.{bytes_of, room_at, given_all}
+use Rattle.gm_notes.specs.plain.Lanes.{bytes_of, room_at, given_all}
 use Rattle.gm_notes.proofs.lanes.put_each.Given as goal
 
 abbrev pub invariant-loop-slot : goal.invariant-loop-slot

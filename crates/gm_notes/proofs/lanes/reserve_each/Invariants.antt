@@ -1,6 +1,6 @@
 use Rattle.std.proofs.Common.{◌≡◌, ◌<◌, ◌≤◌, ℕ, length}
 use Rattle.std.specs.List.{slice_index_or}
-use Rattle.gm_notes.specs.Lanes.{bytes_of, room_at}
+use Rattle.gm_notes.specs.plain.Lanes.{bytes_of, room_at}
 use Rattle.gm_notes.proofs.lanes.reserve_each.Given as goal
 
 abbrev pub invariant-loop-slot : goal.invariant-loop-slot

@@ -1,6 +1,6 @@
 use Rattle.std.proofs.Common.{◌≡◌, ◌+◌, ◌*◌, ◌≤◌, arith, reverse, vec_len, vec_capacity, ap}
 use Rattle.std.proofs.lemmas.List.{length-reverse}
-use Rattle.gm_notes.specs.Logs.{paid}
+use Rattle.gm_notes.specs.plain.Logs.{paid}
 use Rattle.gm_notes.proofs.LogLemmas.{paid_below}
 use Rattle.gm_notes.proofs.log.Log.make_room.Goals as goal
 

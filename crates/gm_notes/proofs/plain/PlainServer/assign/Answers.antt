@@ -4,7 +4,7 @@ use Rattle.gm_notes.specs.Settings.{Settings}
 use Rattle.gm_notes.specs.Notes.{moment}
 use Rattle.gm_notes.specs.Jobs.{job}
 use Rattle.gm_notes.specs.Past.{noted}
-use Rattle.gm_notes.specs.Searches.{pick_of}
+use Rattle.gm_notes.specs.plain.Searches.{pick_of}
 use Rattle.gm_notes.specs.Workers.{stir, deadline_after, tell_assigned, give_out}
 use Rattle.gm_notes.proofs.PlainLemmas.{does_not, goes_then, goes_as, assign_is}
 use Rattle.gm_notes.proofs.plain.PlainServer.assign.Goals as goal

@@ -2,7 +2,7 @@ use Rattle.std.proofs.Common.{◌≡◌, Option, Some, None, sym, ap, ◌∙◌}
 use Rattle.std.specs.Option.{option_map}
 use Rattle.gm_packet.specs.Writing.{no_job}
 use Rattle.gm_notes.specs.Jobs.{Pick, pick}
-use Rattle.gm_notes.specs.Searches.{pick_of}
+use Rattle.gm_notes.specs.plain.Searches.{pick_of}
 use Rattle.gm_notes.specs.Workers.{stir, give_out, grab}
 use Rattle.gm_notes.proofs.PlainLemmas.{does_not, does_as, goes_then, goes_as, stir_give}
 use Rattle.gm_notes.proofs.plain.PlainServer.grab.Goals as goal

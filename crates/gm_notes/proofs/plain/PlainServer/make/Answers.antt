@@ -1,6 +1,6 @@
 use Rattle.std.proofs.Common.{Some}
 use Rattle.gm_notes.specs.Submissions.{make}
-use Rattle.gm_notes.specs.Plain.{submission_of}
+use Rattle.gm_notes.specs.plain.Holds.{submission_of}
 use Rattle.gm_notes.proofs.PlainLemmas.{does_not, goes_then, goes_as, make_is}
 use Rattle.gm_notes.proofs.plain.PlainServer.make.Goals as goal
 

@@ -1,6 +1,6 @@
 use Rattle.std.proofs.Common.{List, sym, subst, ◌∙◌}
 use Rattle.gm_notes.specs.declared.note.Note.{Note}
-use Rattle.gm_notes.specs.Logs.{IsCalm}
+use Rattle.gm_notes.specs.plain.Logs.{IsCalm}
 use Rattle.gm_notes.proofs.PlainLemmas.{stays_calm}
 use Rattle.gm_notes.proofs.plain.PlainServer.note.Goals as goal
 

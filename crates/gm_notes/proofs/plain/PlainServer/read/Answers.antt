@@ -2,7 +2,7 @@ use Rattle.std.proofs.Common.{ap, ◌∙◌}
 use Rattle.gm_packet.specs.Kinds.{kind_of}
 use Rattle.gm_packet.specs.Views.{asked_of}
 use Rattle.gm_notes.specs.Past.{refuse}
-use Rattle.gm_notes.specs.Refusals.{code_of}
+use Rattle.gm_notes.specs.plain.Refusals.{code_of}
 use Rattle.gm_notes.specs.Requests.{packet_of}
 use Rattle.gm_notes.specs.Served.{served}
 use Rattle.gm_notes.proofs.PlainLemmas.{does_as}

@@ -1,6 +1,6 @@
 use Rattle.std.proofs.Common.{sym, ap}
 use Rattle.gm_packet.specs.Views.{asked_of}
-use Rattle.gm_notes.specs.Plain.{serve}
+use Rattle.gm_notes.specs.plain.Holds.{serve}
 use Rattle.gm_notes.proofs.PlainLemmas.{does_as}
 use Rattle.gm_notes.proofs.ServingLemmas.{unserved}
 use Rattle.gm_notes.proofs.plain.PlainServer.serve.Goals as goal

@@ -1,7 +1,7 @@
 use Rattle.std.proofs.Common.{◌≡◌, false, Some, None, sym, ap, ◌∙◌}
 use Rattle.gm_notes.specs.Jobs.{joined}
 use Rattle.gm_notes.specs.Submissions.{is_bad_name, join_or_make, submit}
-use Rattle.gm_notes.specs.Plain.{submission_of}
+use Rattle.gm_notes.specs.plain.Holds.{submission_of}
 use Rattle.gm_notes.proofs.PlainLemmas.{does_as}
 use Rattle.gm_notes.proofs.plain.PlainServer.submit.Goals as goal
 

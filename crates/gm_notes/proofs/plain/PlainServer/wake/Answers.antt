@@ -1,7 +1,7 @@
 use Rattle.std.proofs.Common.{◌+◌, ◌-◌, sym, ap, subst, ◌∙◌, arith}
 use Rattle.gm_notes.specs.Settings.{Settings}
 use Rattle.gm_notes.specs.Past.{wake_one}
-use Rattle.gm_notes.specs.Plain.{Keeps}
+use Rattle.gm_notes.specs.plain.Holds.{Keeps}
 use Rattle.gm_notes.proofs.PlainLemmas.{wake_next, wake_none}
 use Rattle.gm_notes.proofs.plain.PlainServer.wake.Goals as goal
 

@@ -1,8 +1,8 @@
 use Rattle.std.proofs.Common.{◌≡◌, ◌-◌}
 use Rattle.gm_notes.specs.Notes.{slots_from}
-use Rattle.gm_notes.specs.Logs.{HasRoom}
+use Rattle.gm_notes.specs.plain.Logs.{HasRoom}
 use Rattle.gm_notes.specs.Past.{Past, wake_each}
-use Rattle.gm_notes.specs.Plain.{Keeps}
+use Rattle.gm_notes.specs.plain.Holds.{Keeps}
 use Rattle.gm_notes.proofs.plain.PlainServer.wake.Given as goal
 
 abbrev pub invariant-loop-slot : goal.invariant-loop-slot

@@ -1,6 +1,6 @@
 use Rattle.std.proofs.Common.{refl}
 use Rattle.gm_notes.specs.Submissions.{wanted}
-use Rattle.gm_notes.specs.Plain.{submission_of}
+use Rattle.gm_notes.specs.plain.Holds.{submission_of}
 use Rattle.gm_notes.proofs.PlainLemmas.{goes_as}
 use Rattle.gm_notes.proofs.plain.PlainServer.want.Goals as goal
 

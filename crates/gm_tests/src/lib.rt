@@ -1,0 +1,12 @@
+//! Tests of the public calls of the library crates: vectors and worked cases from the protocol, and that calls
+//! which can be refused for memory succeed where there is memory. It holds nothing else.
+#![tactic(auto)]
+
+#[cfg(test)]
+mod lines;
+#[cfg(test)]
+mod packets;
+#[cfg(test)]
+mod settings;
+#[cfg(test)]
+mod streams;

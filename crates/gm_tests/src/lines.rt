@@ -1,0 +1,252 @@
+//! Lines and texts that were taken from elsewhere, and one call of each function.
+
+use gm_admin::{
+    AdminError, AdminFault, Command, StatusRow, WorkerRow, write_fault, write_ok, write_status,
+    write_version, write_workers,
+};
+use std::alloc::{AllocError, Global};
+use std::test::Fail;
+
+/// What lines command.
+const COMMANDS: [(&[u8], Command<'static>); 22] = [
+    (b"status", Command::Status),
+    (b"STATUS", Command::Status),
+    (b"status x y", Command::Status),
+    (b" \tstatus \t", Command::Status),
+    (b"workers", Command::Workers),
+    (b"Workers 1", Command::Workers),
+    (b"version z", Command::Version),
+    (
+        b"maxqueue f",
+        Command::MaxQueue {
+            name: b"f",
+            size: 0,
+        },
+    ),
+    (
+        b"MaxQueue f 1",
+        Command::MaxQueue {
+            name: b"f",
+            size: 1,
+        },
+    ),
+    (
+        b"\tmaxqueue\t\tf \t 1\t",
+        Command::MaxQueue {
+            name: b"f",
+            size: 1,
+        },
+    ),
+    (
+        b"maxqueue F 0",
+        Command::MaxQueue {
+            name: b"F",
+            size: 0,
+        },
+    ),
+    (
+        b"maxqueue f 0000000007",
+        Command::MaxQueue {
+            name: b"f",
+            size: 7,
+        },
+    ),
+    (
+        b"maxqueue f -0",
+        Command::MaxQueue {
+            name: b"f",
+            size: 0,
+        },
+    ),
+    (
+        b"maxqueue f -5",
+        Command::MaxQueue {
+            name: b"f",
+            size: 0,
+        },
+    ),
+    (
+        b"maxqueue f -4294967295",
+        Command::MaxQueue {
+            name: b"f",
+            size: 0,
+        },
+    ),
+    (
+        b"maxqueue f 4294967295",
+        Command::MaxQueue {
+            name: b"f",
+            size: u32::MAX,
+        },
+    ),
+    (
+        b"maxqueue a\0b 2",
+        Command::MaxQueue {
+            name: b"a\0b",
+            size: 2,
+        },
+    ),
+    (
+        b"maxqueue a\rb 2",
+        Command::MaxQueue {
+            name: b"a\rb",
+            size: 2,
+        },
+    ),
+    (
+        b"maxqueue -1",
+        Command::MaxQueue {
+            name: b"-1",
+            size: 0,
+        },
+    ),
+    (b"shutdown", Command::Shutdown { graceful: false }),
+    (b"shutdown GraceFul", Command::Shutdown { graceful: true }),
+    (b"SHUTDOWN\tgraceful", Command::Shutdown { graceful: true }),
+];
+
+/// Lines that command nothing, and why.
+const FAULTS: [(&[u8], AdminFault); 22] = [
+    (b"", AdminFault::UnknownCommand),
+    (b" \t  \t", AdminFault::UnknownCommand),
+    (b"stat", AdminFault::UnknownCommand),
+    (b"statuses", AdminFault::UnknownCommand),
+    (b"status\r", AdminFault::UnknownCommand),
+    (b"sta\rtus", AdminFault::UnknownCommand),
+    (b"\0status", AdminFault::UnknownCommand),
+    (b"create f", AdminFault::UnknownCommand),
+    (b"shutdown now", AdminFault::UnknownCommand),
+    (b"shutdown graceful x", AdminFault::UnknownCommand),
+    (b"shutdown gracefully", AdminFault::UnknownCommand),
+    (b"maxqueue", AdminFault::MissingName),
+    (b"maxqueue \t", AdminFault::MissingName),
+    (b"maxqueue f 1x", AdminFault::BadSize),
+    (b"maxqueue f +1", AdminFault::BadSize),
+    (b"maxqueue f 1 2", AdminFault::BadSize),
+    (b"maxqueue f 1 2 3", AdminFault::BadSize),
+    (b"maxqueue f 4294967296", AdminFault::BadSize),
+    (b"maxqueue f -4294967296", AdminFault::BadSize),
+    (b"maxqueue f 00000000001", AdminFault::BadSize),
+    (b"maxqueue f -", AdminFault::BadSize),
+    (b"maxqueue f --1", AdminFault::BadSize),
+];
+
+#[test]
+fn reads_commands(rt: HostRuntime) {
+    for (line, command) in COMMANDS {
+        assert_eq!(rt; Command::read(line), Ok(command), "at {line:?}");
+    }
+}
+
+#[test]
+fn tells_what_is_no_command(rt: HostRuntime) {
+    for (line, fault) in FAULTS {
+        assert_eq!(rt; Command::read(line), Err(fault), "at {line:?}");
+    }
+    assert_eq!(rt; AdminFault::UnknownCommand.number(), 7);
+    assert_eq!(rt; AdminFault::MissingName.number(), 8);
+    assert_eq!(rt; AdminFault::BadSize.number(), 9);
+}
+
+/// What `write_status` appends behind a byte that was there before.
+fn status_of(alloc: Global, rows: &[StatusRow<'_>]) -> Result<Vec<u8>, AllocError> {
+    let mut out = Vec::from_slice(alloc, b"<")?;
+    write_status(rows, &mut out)?;
+    Ok(out)
+}
+
+/// As `status_of`.
+fn workers_of(alloc: Global, rows: &[WorkerRow<'_>]) -> Result<Vec<u8>, AllocError> {
+    let mut out = Vec::from_slice(alloc, b"<")?;
+    write_workers(rows, &mut out)?;
+    Ok(out)
+}
+
+#[test]
+fn writes_status(rt: HostRuntime) -> Result<(), Fail> {
+    let f = StatusRow {
+        name: b"f",
+        total: 2,
+        running: 0,
+        workers: 0,
+    };
+    let odd = StatusRow {
+        name: b"a b\x7f\0\x80\xff!",
+        total: u64::MAX,
+        running: 10,
+        workers: u32::MAX,
+    };
+    assert_eq!(rt; status_of(rt.alloc(), &[])?.as_slice(), b"<.\n".as_slice());
+    assert_eq!(rt;
+        status_of(rt.alloc(), &[f])?.as_slice(),
+        b"<\x66\x09\x32\x09\x30\x09\x30\x0a\x2e\x0a".as_slice()
+    );
+    assert_eq!(rt;
+        status_of(rt.alloc(), &[f, odd])?.as_slice(),
+        b"<f\t2\t0\t0\na?b??\x80\xff!\t18446744073709551615\t10\t4294967295\n.\n".as_slice()
+    );
+    Ok(())
+}
+
+#[test]
+fn writes_workers(rt: HostRuntime) -> Result<(), Fail> {
+    let idle = WorkerRow {
+        slot: 0,
+        addr: b"127.0.0.1",
+        id: b"",
+        functions: Vec::new(rt.alloc()),
+    };
+    let able = WorkerRow {
+        slot: 1,
+        addr: b"10.0.0.2",
+        id: b"w\t1",
+        functions: vec![in rt.alloc(); b"b".as_slice(), b"a".as_slice()]?,
+    };
+    let nowhere = WorkerRow {
+        slot: 4294967295,
+        addr: b"",
+        id: b" ",
+        functions: vec![in rt.alloc(); b"".as_slice(), b"-".as_slice()]?,
+    };
+    assert_eq!(rt;
+        workers_of(rt.alloc(), &[idle, able, nowhere])?.as_slice(),
+        b"<0 127.0.0.1 - :\n1 10.0.0.2 w?1 : b a\n4294967295 - ? :  -\n.\n".as_slice()
+    );
+    assert_eq!(rt; workers_of(rt.alloc(), &[])?.as_slice(), b"<.\n".as_slice());
+    Ok(())
+}
+
+#[test]
+fn writes_single_lines(rt: HostRuntime) -> Result<(), Fail> {
+    let mut out = Vec::new(rt.alloc());
+    write_ok(&mut out)?;
+    write_version(&mut out)?;
+    assert_eq!(rt; out.as_slice(), b"OK\nOK 1.0.0\n".as_slice());
+    let lines: [(AdminError, &[u8]); 6] = [
+        (AdminError::UnknownCommand, b"ERR unknown_command\n"),
+        (AdminError::MissingName, b"ERR missing_name\n"),
+        (AdminError::BadSize, b"ERR bad_size\n"),
+        (AdminError::BadFunction, b"ERR bad_function\n"),
+        (AdminError::TooManyFunctions, b"ERR too_many_functions\n"),
+        (AdminError::LineTooLong, b"ERR line_too_long\n"),
+    ];
+    for (error, line) in lines {
+        out.clear();
+        write_fault(error, &mut out)?;
+        assert_eq!(rt; out.as_slice(), line, "at {error:?}");
+    }
+    Ok(())
+}
+
+/// A buffer with room is written without more memory, and each writer adds to what stands there.
+#[test]
+fn writes_where_there_is_room(rt: HostRuntime) -> Result<(), Fail> {
+    let mut out = Vec::with_capacity(rt.alloc(), 64)?;
+    write_status(&[], &mut out)?;
+    write_workers(&[], &mut out)?;
+    write_fault(AdminError::BadSize, &mut out)?;
+    write_ok(&mut out)?;
+    assert_eq!(rt; out.as_slice(), b".\n.\nERR bad_size\nOK\n".as_slice());
+    assert_eq!(rt; out.capacity(), 64);
+    Ok(())
+}

@@ -1,0 +1,235 @@
+//! Packets against bytes that were taken from elsewhere, and one call of each function.
+
+use gm_packet::{
+    BadMagic, Header, Kind, Request, RequestFault, Response, read_header, request_fits,
+    response_fits, response_len, write_request, write_response,
+};
+use std::alloc::{AllocError, Global};
+use std::test::Fail;
+
+/// Rows of bytes and what they say.
+macro_rules! table {
+    ($kind:ident: $($($left:expr),+ => $variant:ident $({ $($field:ident: $value:expr),* })?;)*) => {
+        [$(($($left,)+ $kind::$variant $({ $($field: $value),* })?)),*]
+    };
+}
+
+/// What whole packets ask, every type of request once, byte for byte.
+const REQUESTS: [(&[u8], Request<'static>); 24] = table! { Request:
+    b"\0REQ\0\0\0\x01\0\0\0\x01f" => CanDo { function: b"f" };
+    b"\0REQ\0\0\0\x02\0\0\0\x01f" => CantDo { function: b"f" };
+    b"\0REQ\0\0\0\x03\0\0\0\0" => ResetAbilities;
+    b"\0REQ\0\0\0\x04\0\0\0\0" => PreSleep;
+    b"\0REQ\0\0\0\x07\0\0\0\x05f\0a\x001" => SubmitJob { function: b"f", unique: b"a", body: b"1" };
+    b"\0REQ\0\0\0\x09\0\0\0\0" => GrabJob;
+    b"\0REQ\0\0\0\x0c\0\0\0\x0dH:gmd:1\x003\x00100" => WorkStatus { handle: b"H:gmd:1", numerator: b"3", denominator: b"100" };
+    b"\0REQ\0\0\0\x0d\0\0\0\x0aH:gmd:1\0a\0" => WorkComplete { handle: b"H:gmd:1", body: b"a\0" };
+    b"\0REQ\0\0\0\x0e\0\0\0\x07H:gmd:1" => WorkFail { handle: b"H:gmd:1" };
+    b"\0REQ\0\0\0\x0f\0\0\0\x07H:gmd:1" => GetStatus { handle: b"H:gmd:1" };
+    b"\0REQ\0\0\0\x10\0\0\0\x02hi" => EchoReq { body: b"hi" };
+    b"\0REQ\0\0\0\x12\0\0\0\x05f\0a\x001" => SubmitJobBg { function: b"f", unique: b"a", body: b"1" };
+    b"\0REQ\0\0\0\x15\0\0\0\x05f\0\0\0\0" => SubmitJobHigh { function: b"f", unique: b"", body: b"\0\0" };
+    b"\0REQ\0\0\0\x16\0\0\0\x02me" => SetClientId { id: b"me" };
+    b"\0REQ\0\0\0\x17\0\0\0\x04f\x0030" => CanDoTimeout { function: b"f", timeout: 30 };
+    b"\0REQ\0\0\0\x18\0\0\0\0" => AllYours;
+    b"\0REQ\0\0\0\x19\0\0\0\x08H:gmd:1\0" => WorkException { handle: b"H:gmd:1", body: b"" };
+    b"\0REQ\0\0\0\x1a\0\0\0\x0aexceptions" => OptionReq { name: b"exceptions" };
+    b"\0REQ\0\0\0\x1c\0\0\0\x09H:gmd:1\0a" => WorkData { handle: b"H:gmd:1", body: b"a" };
+    b"\0REQ\0\0\0\x1d\0\0\0\x09H:gmd:1\0a" => WorkWarning { handle: b"H:gmd:1", body: b"a" };
+    b"\0REQ\0\0\0\x1e\0\0\0\0" => GrabJobUniq;
+    b"\0REQ\0\0\0\x20\0\0\0\x05f\0a\x001" => SubmitJobHighBg { function: b"f", unique: b"a", body: b"1" };
+    b"\0REQ\0\0\0\x21\0\0\0\x05f\0a\x001" => SubmitJobLow { function: b"f", unique: b"a", body: b"1" };
+    b"\0REQ\0\0\0\x22\0\0\0\x05f\0a\x001" => SubmitJobLowBg { function: b"f", unique: b"a", body: b"1" };
+};
+
+/// Whole packets that say a response, every type once and more of two.
+const RESPONSES: [(&[u8], Response<'static>); 18] = table! { Response:
+    b"\0RES\0\0\0\x06\0\0\0\0" => Noop;
+    b"\0RES\0\0\0\x08\0\0\0\x07H:gmd:1" => JobCreated { handle: b"H:gmd:1" };
+    b"\0RES\0\0\0\x0a\0\0\0\0" => NoJob;
+    b"\0RES\0\0\0\x0b\0\0\0\x0bH:gmd:1\0f\x001" => JobAssign { handle: b"H:gmd:1", function: b"f", body: b"1" };
+    b"\0RES\0\0\0\x0c\0\0\0\x0dH:gmd:1\x003\x00100" => WorkStatus { handle: b"H:gmd:1", numerator: b"3", denominator: b"100" };
+    b"\0RES\0\0\0\x0d\0\0\0\x09H:gmd:1\0a" => WorkComplete { handle: b"H:gmd:1", body: b"a" };
+    b"\0RES\0\0\0\x0e\0\0\0\x07H:gmd:1" => WorkFail { handle: b"H:gmd:1" };
+    b"\0RES\0\0\0\x11\0\0\0\x02hi" => EchoRes { body: b"hi" };
+    b"\0RES\0\0\0\x13\0\0\0\x1bjob_not_found\0job not found" => Error { code: b"job_not_found", text: b"job not found" };
+    b"\0RES\0\0\0\x13\0\0\0\x13bad_magic\0bad magic" => Error { code: b"bad_magic", text: b"bad magic" };
+    b"\0RES\0\0\0\x14\0\0\0\x12H:gmd:1\x001\x001\x0003\x00100" => StatusRes { handle: b"H:gmd:1", known: true, running: true, numerator: b"03", denominator: b"100" };
+    b"\0RES\0\0\0\x14\0\0\0\x0fH:gmd:2\x001\x000\x000\x000" => StatusRes { handle: b"H:gmd:2", known: true, running: false, numerator: b"0", denominator: b"0" };
+    b"\0RES\0\0\0\x14\0\0\0\x0fH:gmd:3\x000\x000\x000\x000" => StatusRes { handle: b"H:gmd:3", known: false, running: false, numerator: b"0", denominator: b"0" };
+    b"\0RES\0\0\0\x19\0\0\0\x09H:gmd:1\0a" => WorkException { handle: b"H:gmd:1", body: b"a" };
+    b"\0RES\0\0\0\x1b\0\0\0\x0aexceptions" => OptionRes { name: b"exceptions" };
+    b"\0RES\0\0\0\x1c\0\0\0\x09H:gmd:1\0a" => WorkData { handle: b"H:gmd:1", body: b"a" };
+    b"\0RES\0\0\0\x1d\0\0\0\x09H:gmd:1\0a" => WorkWarning { handle: b"H:gmd:1", body: b"a" };
+    b"\0RES\0\0\0\x1f\0\0\0\x0dH:gmd:1\0f\0a\x001" => JobAssignUniq { handle: b"H:gmd:1", function: b"f", unique: b"a", body: b"1" };
+};
+
+/// The header of a whole packet, and its data.
+fn cut_packet(packet: &[u8]) -> Option<(Header, &[u8])> {
+    let [m0, m1, m2, m3, k0, k1, k2, k3, s0, s1, s2, s3, data @ ..] = packet else {
+        return None;
+    };
+    let header = [*m0, *m1, *m2, *m3, *k0, *k1, *k2, *k3, *s0, *s1, *s2, *s3];
+    Some((read_header(&header).ok()?, data))
+}
+
+/// The packet of a request, if it fits, behind a byte that was there before.
+fn written_request(alloc: Global, request: &Request<'_>) -> Result<Option<Vec<u8>>, AllocError> {
+    let mut out = Vec::from_slice(alloc, b"<")?;
+    if !request_fits(request) {
+        return Ok(None);
+    }
+    write_request(request, &mut out)?;
+    Ok(Some(out))
+}
+
+/// As `written_request`.
+fn written_response(alloc: Global, response: &Response<'_>) -> Result<Option<Vec<u8>>, AllocError> {
+    let mut out = Vec::from_slice(alloc, b"<")?;
+    if !response_fits(response) {
+        return Ok(None);
+    }
+    write_response(response, &mut out)?;
+    Ok(Some(out))
+}
+
+#[test]
+fn reads_and_writes_each_request(rt: HostRuntime) -> Result<(), Fail> {
+    for (packet, request) in REQUESTS {
+        let (header, data) = cut_packet(packet).ok_or("no packet")?;
+        assert_eq!(rt; header.size as usize, data.len(), "at {header:?}");
+        assert_eq!(rt;
+            Request::read(header.kind, data),
+            Ok(request),
+            "at {header:?}"
+        );
+        let out = written_request(rt.alloc(), &request)?.ok_or("too long")?;
+        assert_eq!(rt; out.get(1..), Some(packet), "at {header:?}");
+    }
+    Ok(())
+}
+
+#[test]
+fn writes_each_response(rt: HostRuntime) -> Result<(), Fail> {
+    for (packet, response) in RESPONSES {
+        assert_eq!(rt;
+            response_len(&response),
+            packet.len() as u64,
+            "at {response:?}"
+        );
+        let out = written_response(rt.alloc(), &response)?.ok_or("too long")?;
+        assert_eq!(rt; out.get(1..), Some(packet), "at {response:?}");
+    }
+    Ok(())
+}
+
+/// Data that are no request of their type.
+#[test]
+fn refuses_bad_arguments(rt: HostRuntime) {
+    let bad: [(u32, &[u8]); 22] = [
+        (1, b"f\0\0"),
+        (1, b"f\0g"),
+        (1, b"\0\0"),
+        (3, b"\0"),
+        (9, b"f"),
+        (30, b"f"),
+        (7, b""),
+        (7, b"f"),
+        (7, b"f\0a"),
+        (12, b"H:gmd:1\x003"),
+        (12, b"H:gmd:1\x003\0"),
+        (12, b"H:gmd:1\x003\x00100\0\0"),
+        (12, b"H:gmd:1\x003\x00100\x004"),
+        (13, b"H:gmd:1"),
+        (23, b"f"),
+        (23, b"f\0"),
+        (23, b"f\0\0"),
+        (23, b"f\0+5"),
+        (23, b"f\x005 "),
+        (23, b"f\x0000000000005"),
+        (23, b"f\x004294967296"),
+        (23, b"f\x0030\0\0"),
+    ];
+    for (kind, data) in bad {
+        assert_eq!(rt;
+            Request::read(kind, data),
+            Err(RequestFault::BadArguments),
+            "type {kind}, {data:?}"
+        );
+    }
+}
+
+/// Types that no client sends and types that nobody knows, whatever the data.
+#[test]
+fn refuses_unknown_types(rt: HostRuntime) {
+    for kind in [
+        0, 5, 6, 8, 10, 11, 17, 19, 20, 27, 31, 35, 36, 37, 256, 4294967295,
+    ] {
+        for data in [b"", b"f", b"f\0a\x001", b"\0\0"] as [&[u8]; 4] {
+            assert_eq!(rt;
+                Request::read(kind, data),
+                Err(RequestFault::UnknownCommand),
+                "type {kind}"
+            );
+        }
+    }
+}
+
+/// Data that look odd and are right.
+#[test]
+fn reads_odd_data(rt: HostRuntime) {
+    let odd: [(u32, &[u8], Request<'_>); 12] = table! { Request:
+        1, b"" => CanDo { function: b"" };
+        1, b"\0" => CanDo { function: b"" };
+        1, b"f\0" => CanDo { function: b"f" };
+        7, b"\0\0" => SubmitJob { function: b"", unique: b"", body: b"" };
+        12, b"\0\0\0" => WorkStatus { handle: b"", numerator: b"", denominator: b"" };
+        13, b"\0\0" => WorkComplete { handle: b"", body: b"\0" };
+        16, b"\0" => EchoReq { body: b"\0" };
+        23, b"f\x00007" => CanDoTimeout { function: b"f", timeout: 7 };
+        23, b"f\x000\0" => CanDoTimeout { function: b"f", timeout: 0 };
+        23, b"f\x000000000030" => CanDoTimeout { function: b"f", timeout: 30 };
+        23, b"f\x004294967295" => CanDoTimeout { function: b"f", timeout: u32::MAX };
+        23, b"\x001" => CanDoTimeout { function: b"", timeout: 1 };
+    };
+    for (kind, data, request) in odd {
+        assert_eq!(rt;
+            Request::read(kind, data),
+            Ok(request),
+            "type {kind}, {data:?}"
+        );
+    }
+}
+
+#[test]
+fn tells_what_is_no_packet(rt: HostRuntime) -> Result<(), Fail> {
+    let res = [0, b'R', b'E', b'S', 0, 0, 0, 6, 0, 0, 0, 0];
+    assert_eq!(rt; read_header(&res), Err(BadMagic));
+    assert_eq!(rt; Kind::of(36), None);
+    for number in 0..40 {
+        if let Some(kind) = Kind::of(number) {
+            assert_eq!(rt; kind.number(), number);
+        }
+    }
+    let split = Request::SubmitJob {
+        function: b"f\0",
+        unique: b"a",
+        body: b"1",
+    };
+    assert_eq!(rt;
+        written_request(rt.alloc(), &split)?,
+        None,
+        "a NUL in the function"
+    );
+    let split = Response::JobAssign {
+        handle: b"H:gmd:1",
+        function: b"f\0",
+        body: b"1",
+    };
+    assert_eq!(rt;
+        written_response(rt.alloc(), &split)?,
+        None,
+        "a NUL in the function"
+    );
+    Ok(())
+}

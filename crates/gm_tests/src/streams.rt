@@ -1,0 +1,27 @@
+//! That a feeder takes pieces where there is memory, and gives out units and faults.
+
+use gm_feeder::{FeedFault, Feeder, Limits, Unit};
+
+#[test]
+fn feeds_where_there_is_memory(rt: HostRuntime) {
+    let mut feeder = Feeder::new(
+        rt.alloc(),
+        Limits {
+            max_bytes: 67108864,
+            max_line: 1024,
+        },
+    );
+    assert_eq!(rt; feeder.feed(b"status\r\n\0REQ\0\0"), Ok(()));
+    let status = Unit::Line { bytes: b"status" };
+    assert_eq!(rt; feeder.next_unit(), Ok(Some(status)));
+    assert_eq!(rt; feeder.next_unit(), Ok(None));
+    assert_eq!(rt; feeder.pending(), b"\0REQ\0\0".as_slice());
+    assert_eq!(rt; feeder.feed(b"\0\x10\0\0\0\x02hi\0S"), Ok(()));
+    let hi = Unit::Packet {
+        kind: 16,
+        bytes: b"hi",
+    };
+    assert_eq!(rt; feeder.next_unit(), Ok(Some(hi)));
+    assert_eq!(rt; feeder.next_unit(), Err(FeedFault::BadMagic));
+    assert_eq!(rt; FeedFault::LineTooLong.number(), 5);
+}
