@@ -5,30 +5,14 @@ use Rattle.std.proofs.lemmas.Bool.{ltb-true}
 use Rattle.std.proofs.lemmas.Bool.Decides.{nat_tests}
 use Rattle.std.proofs.lemmas.List.{append-nil}
 use Rattle.std.proofs.lemmas.Option.{same_Some}
-use Rattle.gm_packet.specs.declared.kind.Kind.{Kind}
 use Rattle.gm_notes.specs.declared.note.Note.{Note}
 use Rattle.gm_notes.specs.declared.note.Note.TheVariants.{Opened, Closed, Made}
 use Rattle.gm_notes.specs.Settings.{Settings}
 use Rattle.gm_notes.specs.Notes.{is_open}
 use Rattle.gm_notes.specs.Flow.{Flow, Began, Queued, Drained, Emptied, sent, waiting}
 use Rattle.gm_notes.specs.Jobs.{made}
-use Rattle.gm_notes.specs.Steps.{Step, run_by}
-use Rattle.gm_laws.specs.History.{AllAllowed, History}
+use Rattle.gm_laws.specs.History.{History}
 use Rattle.gm_laws.specs.Laws.{AreNumbers, AreSlots, drained, is_kept_up}
-use Rattle.gm_laws.proofs.Adding.{Adds}
-use Rattle.gm_laws.proofs.StepsAdd.{run_adds}
-
--- ---- every note was allowed
-
-history_on : (k : Settings) (newer older : List Note) → AllAllowed k newer older → History k older → History k (newer ++ older)
-history_on k [] older h g = g
-history_on k (note ∷ newer) older h g = (h.0, history_on k newer older h.1 g)
-
-pub adds_history : (k : Settings) (older notes : List Note) → Adds k older notes → History k older → History k notes
-adds_history k older notes a h = subst (λ l. History k l) (sym a.all) (history_on k a.newer older a.allowed h)
-
-pub run_history : (served : Kind → Bool) (k : Settings) (steps : List Step) → History k (run_by served k steps).notes
-run_history served k steps = adds_history k [] (run_by served k steps).notes (run_adds served k steps) tt
 
 -- ---- numbers
 

@@ -1,5 +1,14 @@
-mod Adding
+mod ByteLaws
+mod Finding
 mod Histories
 mod JobLaws
-mod RequestsAdd
-mod StepsAdd
+mod Keeping
+mod Listeners
+mod Moving
+mod Orphans
+mod Runners
+mod Sayings
+mod Sleepers
+mod StepLaws
+mod StepsKeep
+mod Waiting

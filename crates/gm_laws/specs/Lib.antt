@@ -1,4 +1,10 @@
+pub mod Between
+pub mod Causes
+pub mod ConnectionRows
 pub mod History
+pub mod JobRows
 pub mod Laws
-pub mod Rows
+pub mod LineRows
+pub mod RowWords
 pub mod Runs
+pub mod WorkerRows

@@ -1,4 +1,4 @@
-use Rattle.gm_laws.proofs.Histories.{run_history}
+use Rattle.gm_laws.proofs.StepsKeep.{run_history}
 use Rattle.gm_laws.specs.Runs.{all}
 use Rattle.gm_laws.proofs.laws.each_note_was_allowed.Goals as goal
 

@@ -1,4 +1,4 @@
-use Rattle.gm_laws.proofs.Histories.{run_history}
+use Rattle.gm_laws.proofs.StepsKeep.{run_history}
 use Rattle.gm_laws.proofs.JobLaws.{one_live as law}
 use Rattle.gm_laws.specs.Runs.{all, run}
 use Rattle.gm_laws.proofs.laws.one_live_job.Goals as goal

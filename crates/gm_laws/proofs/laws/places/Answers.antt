@@ -1,4 +1,4 @@
-use Rattle.gm_laws.proofs.Histories.{run_history}
+use Rattle.gm_laws.proofs.StepsKeep.{run_history}
 use Rattle.gm_laws.proofs.JobLaws.{places as law}
 use Rattle.gm_laws.specs.Runs.{all, run}
 use Rattle.gm_laws.proofs.laws.places.Goals as goal

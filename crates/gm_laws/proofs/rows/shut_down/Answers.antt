@@ -4,4 +4,4 @@ use Rattle.gm_laws.proofs.rows.shut_down.Goals as goal
 
 pub returns : goal.returns
 unfolding digits
-returns c = (refl, refl, refl)
+returns c = (refl, refl, refl, refl)

@@ -1,0 +1,141 @@
+-- The laws about what a step does to notes and says.
+use Rattle.std.proofs.Common.{◌≡◌, ◌⊎◌, inl, inr, ℕ, suc, Bool, true, false, cond, not, ◌&&◌, ◌||◌, List, [], ◌∷◌, ◌++◌, length, filter, Option, Some, None, refl, sym, ap, subst, ◌∙◌, arith}
+use Rattle.std.specs.Prelude.{◌==◌, unwrap_or}
+use Rattle.std.proofs.lemmas.Bool.Decides.{nat_tests}
+use Rattle.gm_packet.specs.declared.kind.Kind.{Kind}
+use Rattle.gm_notes.specs.declared.note.Note.{Note}
+use Rattle.gm_notes.specs.declared.note.Note.TheVariants as notes
+use Rattle.gm_notes.specs.Settings.{Settings}
+use Rattle.gm_notes.specs.Flow.{Flow, Began, Queued, Drained, Emptied}
+use Rattle.gm_notes.specs.Jobs.{Spot, Unmade, Waits, RunsAt, Over, Thrown, spot, is_wanted, is_kept, listeners}
+use Rattle.gm_notes.specs.Past.{Past}
+use Rattle.gm_notes.specs.Steps.{Step, Open, Packet, Line, Fault, Close, Tick, Took, Withdrew, Drain, step_by}
+use Rattle.gm_laws.specs.History.{Allowed, Gets, History}
+use Rattle.gm_laws.specs.Causes.{Caused, Ends, AllCaused, AllSaid, asks, is_request, is_grab, is_closing}
+use Rattle.gm_laws.specs.Laws.{NotesAreCaused, DiscardsTheUnwanted, EndsWithItsWorker, GivesThePick, SaysNoJobWhereNoneIs}
+use Rattle.gm_laws.proofs.Moving.{moved, from}
+use Rattle.gm_laws.proofs.Keeping.{keeps_notes}
+use Rattle.gm_laws.proofs.StepsKeep.{step_keeps}
+
+-- a closing is no request
+closing_asks : (kinds : Kind → Bool) (s : Step) → is_closing s ≡ true → is_request kinds s ≡ true → ⊥
+closing_asks kinds (Close c) e h = let bad : ⊥ = cc in bad
+closing_asks kinds (Open addr) e h = let bad : ⊥ = cc in bad
+closing_asks kinds (Packet c number bytes) e h = let bad : ⊥ = cc in bad
+closing_asks kinds (Line c bytes) e h = let bad : ⊥ = cc in bad
+closing_asks kinds (Fault c fault) e h = let bad : ⊥ = cc in bad
+closing_asks kinds (Tick now) e h = let bad : ⊥ = cc in bad
+closing_asks kinds (Took c) e h = let bad : ⊥ = cc in bad
+closing_asks kinds (Withdrew c) e h = let bad : ⊥ = cc in bad
+closing_asks kinds (Drain c) e h = let bad : ⊥ = cc in bad
+
+closing_asks_at : (kinds : Kind → Bool) (c : ℕ) (s : Step) → is_closing s ≡ true → asks kinds c s ≡ true → ⊥
+closing_asks_at kinds c (Close d) e h = let bad : ⊥ = cc in bad
+closing_asks_at kinds c (Open addr) e h = let bad : ⊥ = cc in bad
+closing_asks_at kinds c (Packet d number bytes) e h = let bad : ⊥ = cc in bad
+closing_asks_at kinds c (Line d bytes) e h = let bad : ⊥ = cc in bad
+closing_asks_at kinds c (Fault d fault) e h = let bad : ⊥ = cc in bad
+closing_asks_at kinds c (Tick now) e h = let bad : ⊥ = cc in bad
+closing_asks_at kinds c (Took d) e h = let bad : ⊥ = cc in bad
+closing_asks_at kinds c (Withdrew d) e h = let bad : ⊥ = cc in bad
+closing_asks_at kinds c (Drain d) e h = let bad : ⊥ = cc in bad
+
+some : (n : ℕ) → not (suc n == 0) ≡ false → ⊥
+some n e = let more : (suc n == 0) ≡ false = grind (arith, nat_tests) in let bad : ⊥ = cc in bad
+
+-- who had no listener has none after a closing
+left_none : (c : ℕ) (kept : Bool) (slots : List ℕ) → (kept || not (length slots == 0)) ≡ false → (kept || not (length (filter (λ d. not (d == c)) slots) == 0)) ≡ false
+left_none c true slots e = absurd cc
+left_none c false [] e = refl
+left_none c false (d ∷ slots) e = absurd (some (length slots) e)
+
+module _ (k : Settings) (served : Kind → Bool) (s : Step) (start : Past) (history : History k start.notes) where
+  note_law : (P : List Note → Type 0) → ((note : Note) (older : List Note) → Allowed k note older → Caused start.notes s note older → History k older → P older → P (note ∷ older)) → P start.notes → P (step_by served k s start).notes
+  note_law P more p = (step_keeps start served s (keeps_notes P more) (λ c e h u. u) (history, p)).1
+
+  pub caused : NotesAreCaused start s (step_by served k s start)
+  caused =
+      note_law (λ l. (newer : List Note) × (l ≡ newer ++ start.notes) × AllCaused start.notes s newer)
+      (λ note older allowed cause h p. (note ∷ p.0, ap (λ l. note ∷ l) p.1, (subst (λ l. Caused start.notes s note l) p.1 cause, p.2)))
+      ([], refl, tt)
+
+  -- ---- endings
+
+  abbrev EndedSo : ℕ → Type 0
+  EndedSo n = (spot n start.notes ≡ Over) ⊎ Ends start.notes s n
+
+  ended_more : (note : Note) (older : List Note) → Caused start.notes s note older → ((n : ℕ) → spot n older ≡ Over → EndedSo n) → (n : ℕ) → spot n (note ∷ older) ≡ Over → EndedSo n
+  ended_more (notes.Made m f p u body) older cause before n e = from (moved n m Waits (spot n older) Over (n == m) refl e) (λ h. absurd (let x = h.1 in cc)) (λ h. before n h.1)
+  ended_more (notes.Returned m) older cause before n e = from (moved n m Waits (spot n older) Over (n == m) refl e) (λ h. absurd (let x = h.1 in cc)) (λ h. before n h.1)
+  ended_more (notes.Assigned m c late) older cause before n e = from (moved n m (RunsAt c) (spot n older) Over (n == m) refl e) (λ h. absurd (let x = h.1 in cc)) (λ h. before n h.1)
+  ended_more (notes.Discarded m) older cause before n e = from (moved n m Thrown (spot n older) Over (n == m) refl e) (λ h. absurd (let x = h.1 in cc)) (λ h. before n h.1)
+  ended_more (notes.Ended m) older cause before n e = from (moved n m Over (spot n older) Over (n == m) refl e) (λ h. inr (subst (λ x. Ends start.notes s x) (sym h.0) cause)) (λ h. before n h.1)
+  ended_more note older cause before n e = before n e
+
+  pub ends : EndsWithItsWorker start s (step_by served k s start)
+  ends = note_law (λ l. (n : ℕ) → spot n l ≡ Over → EndedSo n) (λ note older allowed cause h p. ended_more note older cause p) (λ n e. inl e)
+
+  -- ---- grabs
+
+  abbrev GivenSo : ℕ → ℕ → Type 0
+  GivenSo n c = (spot n start.notes ≡ RunsAt c) ⊎ ((asks is_grab c s ≡ true) × Gets c n start.notes)
+
+  given_here : (n m c d : ℕ) → n ≡ m → RunsAt d ≡ RunsAt c → (asks is_grab d s ≡ true) × Gets d m start.notes → GivenSo n c
+  given_here n m c d same at cause =
+      let there : d ≡ c = cc in
+      inr (subst (λ x. (asks is_grab x s ≡ true) × Gets x n start.notes) there (subst (λ x. (asks is_grab d s ≡ true) × Gets d x start.notes) (sym same) cause))
+
+  given_more : (note : Note) (older : List Note) → Caused start.notes s note older → ((n c : ℕ) → spot n older ≡ RunsAt c → GivenSo n c) → (n c : ℕ) → spot n (note ∷ older) ≡ RunsAt c → GivenSo n c
+  given_more (notes.Made m f p u body) older cause before n c e = from (moved n m Waits (spot n older) (RunsAt c) (n == m) refl e) (λ h. absurd (let x = h.1 in cc)) (λ h. before n c h.1)
+  given_more (notes.Returned m) older cause before n c e = from (moved n m Waits (spot n older) (RunsAt c) (n == m) refl e) (λ h. absurd (let x = h.1 in cc)) (λ h. before n c h.1)
+  given_more (notes.Assigned m d late) older cause before n c e = from (moved n m (RunsAt d) (spot n older) (RunsAt c) (n == m) refl e) (λ h. given_here n m c d h.0 h.1 cause) (λ h. before n c h.1)
+  given_more (notes.Discarded m) older cause before n c e = from (moved n m Thrown (spot n older) (RunsAt c) (n == m) refl e) (λ h. absurd (let x = h.1 in cc)) (λ h. before n c h.1)
+  given_more (notes.Ended m) older cause before n c e = from (moved n m Over (spot n older) (RunsAt c) (n == m) refl e) (λ h. absurd (let x = h.1 in cc)) (λ h. before n c h.1)
+  given_more note older cause before n c e = before n c e
+
+  pub gives : GivesThePick start s (step_by served k s start)
+  gives = note_law (λ l. (n c : ℕ) → spot n l ≡ RunsAt c → GivenSo n c) (λ note older allowed cause h p. given_more note older cause p) (λ n c e. inl e)
+
+  -- ---- discarding
+
+  abbrev ThrownSo : ℕ → List Note → Type 0
+  ThrownSo n l = (spot n start.notes ≡ Thrown) ⊎ ((is_closing s ≡ true) × (is_wanted n l ≡ false))
+
+  -- not in a closing
+  elsewhere : (n : ℕ) (older newer : List Note) → (is_closing s ≡ true → ⊥) → ThrownSo n older → ThrownSo n newer
+  elsewhere n older newer other (inl e) = inl e
+  elsewhere n older newer other (inr h) = absurd (other h.0)
+
+  thrown_closed : (n c : ℕ) (older : List Note) → ThrownSo n older → ThrownSo n (notes.Closed c ∷ older)
+  thrown_closed n c older (inl e) = inl e
+  thrown_closed n c older (inr h) = inr (h.0, left_none c (is_kept n older) (listeners n older) h.1)
+
+  thrown_more : (note : Note) (older : List Note) → Allowed k note older → Caused start.notes s note older → ((n : ℕ) → spot n older ≡ Thrown → ThrownSo n older) → (n : ℕ) → spot n (note ∷ older) ≡ Thrown → ThrownSo n (note ∷ older)
+  thrown_more (notes.Made m f p u body) older allowed cause before n e =
+      from (moved n m Waits (spot n older) Thrown (n == m) refl e) (λ h. absurd (let x = h.1 in cc)) (λ h. elsewhere n older (notes.Made m f p u body ∷ older) (λ c. closing_asks _ s c cause) (before n h.1))
+  thrown_more (notes.Kept m) older allowed cause before n e = elsewhere n older (notes.Kept m ∷ older) (λ c. closing_asks _ s c cause) (before n e)
+  thrown_more (notes.Listens m d) older allowed cause before n e = elsewhere n older (notes.Listens m d ∷ older) (λ c. closing_asks_at _ d s c cause) (before n e)
+  thrown_more (notes.Closed c) older allowed cause before n e = thrown_closed n c older (before n e)
+  thrown_more (notes.Returned m) older allowed cause before n e = from (moved n m Waits (spot n older) Thrown (n == m) refl e) (λ h. absurd (let x = h.1 in cc)) (λ h. before n h.1)
+  thrown_more (notes.Assigned m c late) older allowed cause before n e = from (moved n m (RunsAt c) (spot n older) Thrown (n == m) refl e) (λ h. absurd (let x = h.1 in cc)) (λ h. before n h.1)
+  thrown_more (notes.Ended m) older allowed cause before n e = from (moved n m Over (spot n older) Thrown (n == m) refl e) (λ h. absurd (let x = h.1 in cc)) (λ h. before n h.1)
+  thrown_more (notes.Discarded m) older allowed cause before n e =
+      from (moved n m Thrown (spot n older) Thrown (n == m) refl e) (λ h. inr (cause, subst (λ x. is_wanted x older ≡ false) (sym h.0) allowed.1)) (λ h. before n h.1)
+  thrown_more note older allowed cause before n e = before n e
+
+  pub discards : DiscardsTheUnwanted start s (step_by served k s start)
+  discards = note_law (λ l. (n : ℕ) → spot n l ≡ Thrown → ThrownSo n l) (λ note older allowed cause h p. thrown_more note older allowed cause p) (λ n e. inl e)
+
+  -- ---- what is said
+
+  pub says_no_job : SaysNoJobWhereNoneIs start s (step_by served k s start)
+  says_no_job =
+      (step_keeps {I = λ past. (newer : List Flow) × (past.flow ≡ newer ++ start.flow) × AllSaid start.notes s newer} start served s
+      (record {
+        by_note = λ note past inner allowed cause h p. p;
+        by_opening = λ c addr past allowed cause h p. (Began c ∷ p.0, ap (λ l. Began c ∷ l) p.1, (tt, p.2));
+        by_closing = λ c past opened cause h p. (Emptied c ∷ p.0, ap (λ l. Emptied c ∷ l) p.1, (tt, p.2));
+        by_saying = λ c bytes past opened may h p. (Queued c bytes ∷ p.0, ap (λ l. Queued c bytes ∷ l) p.1, (may, p.2));
+      })
+      (λ c e h p. (Drained c ∷ p.0, ap (λ l. Drained c ∷ l) p.1, (tt, p.2)))
+      (history, ([], refl, tt))).1
