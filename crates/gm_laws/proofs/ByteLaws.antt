@@ -10,7 +10,7 @@ use Rattle.gm_notes.specs.Settings.{Settings}
 use Rattle.gm_notes.specs.Notes.{is_open}
 use Rattle.gm_notes.specs.Flow.{Flow, Began, Queued, Drained, Emptied, sent, waiting}
 use Rattle.gm_notes.specs.Past.{Past}
-use Rattle.gm_notes.specs.Steps.{Step, Close, Drain, step_by, run_by}
+use Rattle.gm_notes.specs.Steps.{Step, Close, Drain, step, run}
 use Rattle.gm_laws.specs.History.{History}
 use Rattle.gm_laws.specs.Laws.{drained, IsFront, SentSo, takes_from, OnlyDrainsTake}
 use Rattle.gm_laws.proofs.Keeping.{is_inner}
@@ -57,9 +57,9 @@ AllSent past = (c : ℕ) → SentSo (is_open c past.notes) c past.flow
 noted_sent : (note : Note) (past : Past) → is_inner note ≡ true → AllSent past → (c : ℕ) → SentSo (is_open c (note ∷ past.notes)) c past.flow
 noted_sent note past inner i c = subst (λ t. SentSo t c past.flow) (sym (inner_open note past.notes c inner)) (i c)
 
-step_sent : (k : Settings) (served : Kind → Bool) (s : Step) (start : Past) → History k start.notes → AllSent start → AllSent (step_by served k s start)
-step_sent k served s start history all =
-    (step_keeps {k = k} {I = AllSent} start served s
+step_sent : (k : Settings) (s : Step) (start : Past) → History k start.notes → AllSent start → AllSent (step k s start)
+step_sent k s start history all =
+    (step_keeps {k = k} {I = AllSent} start s
     (record {
       by_note = λ note past inner allowed cause h i. noted_sent note past inner i;
       by_opening = λ d addr past allowed cause h i c. began c d past.flow (is_open c past.notes) (c == d) refl (i c);
@@ -69,9 +69,9 @@ step_sent k served s start history all =
     (λ d e h i c. taken c d start.flow (is_open c start.notes) (c == d) refl (i c))
     (history, all)).1
 
-pub run_sent : (served : Kind → Bool) (k : Settings) (steps : List Step) (c : ℕ) → SentSo (is_open c (run_by served k steps).notes) c (run_by served k steps).flow
-run_sent served k [] c = (refl, ([], refl))
-run_sent served k (s ∷ steps) c = step_sent k served s (run_by served k steps) (run_history served k steps) (run_sent served k steps) c
+pub run_sent : (k : Settings) (steps : List Step) (c : ℕ) → SentSo (is_open c (run k steps).notes) c (run k steps).flow
+run_sent k [] c = (refl, ([], refl))
+run_sent k (s ∷ steps) c = step_sent k s (run k steps) (run_history k steps) (run_sent k steps) c
 
 -- ---- what is taken
 
@@ -99,13 +99,13 @@ none_waits c d past i closed e =
     let here : SentSo false c past.flow = subst (λ t. SentSo t c past.flow) (subst (λ x. is_open x past.notes ≡ false) same closed) (i c) in
     here.0
 
-module _ (k : Settings) (served : Kind → Bool) (s : Step) (start : Past) where
+module _ (k : Settings) (s : Step) (start : Past) where
   abbrev Fronts : Past → Type 0
   Fronts past = AllSent past × ((c : ℕ) → takes_from c s ≡ false → IsFront (waiting c start.flow) (waiting c past.flow))
 
-  pub only_drains : History k start.notes → AllSent start → OnlyDrainsTake start s (step_by served k s start)
+  pub only_drains : History k start.notes → AllSent start → OnlyDrainsTake start s (step k s start)
   only_drains history all =
-      (step_keeps {k = k} {I = Fronts} start served s
+      (step_keeps {k = k} {I = Fronts} start s
       (record {
         by_note = λ note past inner allowed cause h i. (noted_sent note past inner i.0, i.1);
         by_opening = λ d addr past allowed cause h i. (

@@ -12,9 +12,9 @@ use Rattle.gm_notes.specs.declared.note.Note.TheVariants.{Made, Assigned, Return
 use Rattle.gm_notes.specs.declared.states.Priority.TheVariants.{Normal}
 use Rattle.gm_notes.specs.Settings.{Settings}
 use Rattle.gm_notes.specs.Jobs.{Spot, Unmade, Waits, RunsAt, Over, Thrown, Job, spot, job, is_live, is_waiting, is_running, is_job_named, joins, joined, made, next_number}
-use Rattle.gm_notes.specs.Steps.{Step, run_by}
+use Rattle.gm_notes.specs.Steps.{Step, run}
 use Rattle.gm_laws.specs.History.{Allowed, History}
-use Rattle.gm_laws.specs.Runs.{all}
+
 use Rattle.gm_laws.specs.Laws.{AreNumbers, is_made, has_place, HavePlaces, is_live_named, AreOne, is_gone, StayGone}
 use Rattle.gm_laws.proofs.StepsKeep.{step_keeps, run_history}
 use Rattle.gm_laws.proofs.Keeping.{keeps_notes}
@@ -200,15 +200,15 @@ gone_stays k (Ended m) older n h past gone = gone_moved n m older Over (n == m) 
 gone_stays k (Discarded m) older n h past gone = gone_moved n m older Thrown (n == m) refl gone h.0
 gone_stays k note older n h past gone = refl
 
-gone_step : (served : Kind → Bool) (k : Settings) (s : Step) (steps : List Step) (n : ℕ) → is_gone (spot n (run_by served k steps).notes) ≡ true → spot n (run_by served k (s ∷ steps)).notes ≡ spot n (run_by served k steps).notes
-gone_step served k s steps n gone =
-    let start = run_by served k steps in
-    (step_keeps start served s
+gone_step : (k : Settings) (s : Step) (steps : List Step) (n : ℕ) → is_gone (spot n (run k steps).notes) ≡ true → spot n (run k (s ∷ steps)).notes ≡ spot n (run k steps).notes
+gone_step k s steps n gone =
+    let start = run k steps in
+    (step_keeps start s
     (keeps_notes (λ l. spot n l ≡ spot n start.notes) (λ note older allowed caused h e. gone_stays k note older n allowed h (ap is_gone e ∙ gone) ∙ e))
-    (λ c e h u. u) (run_history served k steps, refl)).1
+    (λ c e h u. u) (run_history k steps, refl)).1
 
 pub stay_gone : StayGone
 stay_gone k [] steps n gone = refl
 stay_gone k (s ∷ later) steps n gone =
     let before = stay_gone k later steps n gone in
-    gone_step all k s (later ++ steps) n (ap is_gone before ∙ gone) ∙ before
+    gone_step k s (later ++ steps) n (ap is_gone before ∙ gone) ∙ before

@@ -18,7 +18,7 @@ use Rattle.gm_notes.specs.Submissions.{Submission, is_bad_name, is_one_too_many,
 use Rattle.gm_notes.specs.Workers.{stir}
 use Rattle.gm_notes.specs.Requests.{submission, request, packet_of}
 use Rattle.gm_notes.specs.Closings.{discard_one, discard_each, wake_for, give_back_one, give_back_each, gone, rising, close}
-use Rattle.gm_notes.specs.Steps.{Step, Open, Packet, Line, Fault, Close, Tick, Took, Withdrew, Drain, refusal, step_by, run_by}
+use Rattle.gm_notes.specs.Steps.{Step, Open, Packet, Line, Fault, Close, Tick, Took, Withdrew, Drain, refusal, step, run}
 use Rattle.gm_laws.specs.History.{Allowed, History}
 use Rattle.gm_laws.specs.Causes.{Caused, is_closing, is_submission, is_request, is_one_of}
 use Rattle.gm_laws.specs.Between.{NoneIsOrphaned}
@@ -162,9 +162,9 @@ both_not : (t : Bool) → t ≡ true → t ≡ false → ⊥
 both_not t p q = let bad : true ≡ false = sym p ∙ q in let worse : ⊥ = cc in worse
 
 -- a step that is no closing and no submission
-quiet_wanted : (k : Settings) (served : Kind → Bool) (s : Step) (start : Past) → is_closing s ≡ false → is_request is_submission s ≡ false → History k start.notes → WantedSo None_ start.notes → WantedSo None_ (step_by served k s start).notes
-quiet_wanted k served s start closes submits h w =
-    (step_keeps start served s
+quiet_wanted : (k : Settings) (s : Step) (start : Past) → is_closing s ≡ false → is_request is_submission s ≡ false → History k start.notes → WantedSo None_ start.notes → WantedSo None_ (step k s start).notes
+quiet_wanted k s start closes submits h w =
+    (step_keeps start s
     (keeps_notes (λ l. WantedSo None_ l) (λ note older allowed cause g p.
     wanted_more None_ k note older
     (λ c is. closes_not s c closes (subst (λ x. Caused start.notes s x older) is cause))
@@ -180,21 +180,21 @@ request_submits k c start w SubmitJobLow a timeout e = submit_wanted k c (submis
 request_submits k c start w SubmitJobLowBg a timeout e = submit_wanted k c (submission Low true a) start w
 request_submits k c start w kind a timeout e = absurd cc
 
-packet_wanted : (k : Settings) (served : Kind → Bool) (c number : ℕ) (bytes : List ℕ) (start : Past) (t : Bool) → is_one_of is_submission (kind_of number) ≡ t → History k start.notes → WantedSo None_ start.notes
-    → WantedSo None_ (step_by served k (Packet c number bytes) start).notes
-packet_wanted k served c number bytes start true is h w =
-    taken_or_not (λ past. WantedSo None_ past.notes) (refusal k (Packet c number bytes) start) (packet_of served k c (kind_of number) bytes start) start
-    (λ taken. packet_of_kinds (λ l. WantedSo None_ l) served k c is_submission bytes start w (request_submits k c start w) (kind_of number) is) w
-packet_wanted k served c number bytes start false is h w = quiet_wanted k served (Packet c number bytes) start refl is h w
+packet_wanted : (k : Settings) (c number : ℕ) (bytes : List ℕ) (start : Past) (t : Bool) → is_one_of is_submission (kind_of number) ≡ t → History k start.notes → WantedSo None_ start.notes
+    → WantedSo None_ (step k (Packet c number bytes) start).notes
+packet_wanted k c number bytes start true is h w =
+    taken_or_not (λ past. WantedSo None_ past.notes) (refusal k (Packet c number bytes) start) (packet_of k c (kind_of number) bytes start) start
+    (λ taken. packet_of_kinds (λ l. WantedSo None_ l)  k c is_submission bytes start w (request_submits k c start w) (kind_of number) is) w
+packet_wanted k c number bytes start false is h w = quiet_wanted k (Packet c number bytes) start refl is h w
 
-step_wanted : (k : Settings) (served : Kind → Bool) (s : Step) (start : Past) → History k start.notes → WantedSo None_ start.notes → WantedSo None_ (step_by served k s start).notes
-step_wanted k served (Close c) start h w = taken_or_not (λ past. WantedSo None_ past.notes) (refusal k (Close c) start) (close k c start) start (λ taken. close_wanted k c start h) w
-step_wanted k served (Packet c number bytes) start h w = packet_wanted k served c number bytes start (is_one_of is_submission (kind_of number)) refl h w
-step_wanted k served s start h w = quiet_wanted k served s start refl refl h w
+step_wanted : (k : Settings) (s : Step) (start : Past) → History k start.notes → WantedSo None_ start.notes → WantedSo None_ (step k s start).notes
+step_wanted k (Close c) start h w = taken_or_not (λ past. WantedSo None_ past.notes) (refusal k (Close c) start) (close k c start) start (λ taken. close_wanted k c start h) w
+step_wanted k (Packet c number bytes) start h w = packet_wanted k c number bytes start (is_one_of is_submission (kind_of number)) refl h w
+step_wanted k s start h w = quiet_wanted k s start refl refl h w
 
-pub run_wanted : (served : Kind → Bool) (k : Settings) (steps : List Step) → WantedSo None_ (run_by served k steps).notes
-run_wanted served k [] n e = absurd cc
-run_wanted served k (s ∷ steps) n e = step_wanted k served s (run_by served k steps) (run_history served k steps) (run_wanted served k steps) n e
+pub run_wanted : (k : Settings) (steps : List Step) → WantedSo None_ (run k steps).notes
+run_wanted k [] n e = absurd cc
+run_wanted k (s ∷ steps) n e = step_wanted k s (run k steps) (run_history k steps) (run_wanted k steps) n e
 
-pub none_orphaned : (served : Kind → Bool) (k : Settings) (steps : List Step) → NoneIsOrphaned k (run_by served k steps).notes
-none_orphaned served k steps n e = from (run_wanted served k steps n e) (λ w. w) (λ x. absurd x)
+pub none_orphaned : (k : Settings) (steps : List Step) → NoneIsOrphaned k (run k steps).notes
+none_orphaned k steps n e = from (run_wanted k steps n e) (λ w. w) (λ x. absurd x)

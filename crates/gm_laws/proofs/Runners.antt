@@ -11,7 +11,7 @@ use Rattle.gm_notes.specs.Jobs.{Spot, Unmade, Waits, RunsAt, Over, Thrown, Job, 
 use Rattle.gm_notes.specs.Past.{Past, noted}
 use Rattle.gm_notes.specs.Workers.{stir}
 use Rattle.gm_notes.specs.Closings.{discard_one, discard_each, wake_for, give_back_one, give_back_each, gone, rising, close}
-use Rattle.gm_notes.specs.Steps.{Step, Open, Packet, Line, Fault, Close, Tick, Took, Withdrew, Drain, refusal, step_by, run_by}
+use Rattle.gm_notes.specs.Steps.{Step, Open, Packet, Line, Fault, Close, Tick, Took, Withdrew, Drain, refusal, step, run}
 use Rattle.gm_laws.specs.History.{Allowed, History}
 use Rattle.gm_laws.specs.Causes.{Caused, is_closing}
 use Rattle.gm_laws.specs.Between.{RunnersAreOpen}
@@ -106,19 +106,19 @@ module _ (k : Settings) (c : ℕ) where
 closes_not : (s : Step) (c : ℕ) → is_closing s ≡ false → s ≡ Close c → ⊥
 closes_not s c other e = let bad : true ≡ false = sym (ap is_closing e) ∙ other in let worse : ⊥ = cc in worse
 
-quiet_runs : (k : Settings) (served : Kind → Bool) (s : Step) (start : Past) → is_closing s ≡ false → History k start.notes → RunsSo Nobody start.notes → RunsSo Nobody (step_by served k s start).notes
-quiet_runs k served s start other h r =
-    (step_keeps start served s
+quiet_runs : (k : Settings) (s : Step) (start : Past) → is_closing s ≡ false → History k start.notes → RunsSo Nobody start.notes → RunsSo Nobody (step k s start).notes
+quiet_runs k s start other h r =
+    (step_keeps start s
     (keeps_notes (λ l. RunsSo Nobody l) (λ note older allowed cause g p. runs_more Nobody k note older (λ c is. closes_not s c other (subst (λ x. Caused start.notes s x older) is cause)) allowed p))
     (λ c e g u. u) (h, r)).1
 
-step_runs : (k : Settings) (served : Kind → Bool) (s : Step) (start : Past) → History k start.notes → RunsSo Nobody start.notes → RunsSo Nobody (step_by served k s start).notes
-step_runs k served (Close c) start h r = taken_or_not (λ past. RunsSo Nobody past.notes) (refusal k (Close c) start) (close k c start) start (λ taken. close_runs k c start h r) r
-step_runs k served s start h r = quiet_runs k served s start refl h r
+step_runs : (k : Settings) (s : Step) (start : Past) → History k start.notes → RunsSo Nobody start.notes → RunsSo Nobody (step k s start).notes
+step_runs k (Close c) start h r = taken_or_not (λ past. RunsSo Nobody past.notes) (refusal k (Close c) start) (close k c start) start (λ taken. close_runs k c start h r) r
+step_runs k s start h r = quiet_runs k s start refl h r
 
-pub run_runs : (served : Kind → Bool) (k : Settings) (steps : List Step) → RunsSo Nobody (run_by served k steps).notes
-run_runs served k [] n c e = absurd cc
-run_runs served k (s ∷ steps) n c e = step_runs k served s (run_by served k steps) (run_history served k steps) (run_runs served k steps) n c e
+pub run_runs : (k : Settings) (steps : List Step) → RunsSo Nobody (run k steps).notes
+run_runs k [] n c e = absurd cc
+run_runs k (s ∷ steps) n c e = step_runs k s (run k steps) (run_history k steps) (run_runs k steps) n c e
 
-pub runners_open : (served : Kind → Bool) (k : Settings) (steps : List Step) → RunnersAreOpen k (run_by served k steps).notes
-runners_open served k steps n c e = from (run_runs served k steps n c e) (λ o. o) (λ x. absurd x)
+pub runners_open : (k : Settings) (steps : List Step) → RunnersAreOpen k (run k steps).notes
+runners_open k steps n c e = from (run_runs k steps n c e) (λ o. o) (λ x. absurd x)

@@ -22,7 +22,7 @@ use Rattle.gm_notes.specs.Submissions.{Submission, is_bad_name, is_one_too_many,
 use Rattle.gm_notes.specs.Workers.{stir, woken_if, made_able, can_do, sleep_beside, pre_sleep}
 use Rattle.gm_notes.specs.Requests.{first, submission, request, packet_of}
 use Rattle.gm_notes.specs.Closings.{discard_one, discard_each, wake_for, give_back_one, give_back_each, gone, rising, close}
-use Rattle.gm_notes.specs.Steps.{Step, Open, Packet, Line, Fault, Close, Tick, Took, Withdrew, Drain, refusal, step_by, run_by}
+use Rattle.gm_notes.specs.Steps.{Step, Open, Packet, Line, Fault, Close, Tick, Took, Withdrew, Drain, refusal, step, run}
 use Rattle.gm_laws.specs.History.{Allowed, History}
 use Rattle.gm_laws.specs.Causes.{Caused, is_closing, is_submission, is_enabling, is_sleeping, is_request, is_one_of, asks}
 use Rattle.gm_laws.specs.Between.{NoneSleepsBesideWork}
@@ -337,10 +337,10 @@ quiet_notes before s (notes.Can e f t) older a b c d cause = absurd (both_not (i
 quiet_notes before s (notes.Slept e) older a b c d cause = absurd (both_not (is_request is_sleeping s) (asks_some is_sleeping e s cause) d)
 quiet_notes before s note older a b c d cause = refl
 
-quiet_calm : (k : Settings) (served : Kind → Bool) (s : Step) (start : Past) → is_closing s ≡ false → is_request is_submission s ≡ false → is_request is_enabling s ≡ false → is_request is_sleeping s ≡ false
-    → History k start.notes → CalmBut Never start.notes → CalmBut Never (step_by served k s start).notes
-quiet_calm k served s start a b c d h w =
-    (step_keeps start served s
+quiet_calm : (k : Settings) (s : Step) (start : Past) → is_closing s ≡ false → is_request is_submission s ≡ false → is_request is_enabling s ≡ false → is_request is_sleeping s ≡ false
+    → History k start.notes → CalmBut Never start.notes → CalmBut Never (step k s start).notes
+quiet_calm k s start a b c d h w =
+    (step_keeps start s
     (keeps_notes (λ l. CalmBut Never l) (λ note older allowed cause g p. calm_more Never note older (quiet_notes start.notes s note older a b c d cause) p))
     (λ c e g u. u) (h, w)).1
 
@@ -362,27 +362,27 @@ apart_kinds None e = (refl, refl, refl)
 apart_kinds (Some kind) e =
     let p = or_none (is_submission kind || is_enabling kind) (is_sleeping kind) e in let q = or_none (is_submission kind) (is_enabling kind) p.0 in (q.0, q.1, p.1)
 
-packet_calm : (k : Settings) (served : Kind → Bool) (c number : ℕ) (bytes : List ℕ) (start : Past) (t : Bool) → is_one_of is_stirring (kind_of number) ≡ t → History k start.notes → Fit k start.notes → CalmBut Never start.notes
-    → CalmBut Never (step_by served k (Packet c number bytes) start).notes
-packet_calm k served c number bytes start true is h fit w =
-    taken_or_not (λ past. CalmBut Never past.notes) (refusal k (Packet c number bytes) start) (packet_of served k c (kind_of number) bytes start) start
-    (λ taken. packet_of_kinds (λ l. CalmBut Never l) served k c is_stirring bytes start w (request_calm k c start fit w) (kind_of number) is) w
-packet_calm k served c number bytes start false is h fit w =
-    let a = apart_kinds (kind_of number) is in quiet_calm k served (Packet c number bytes) start refl a.0 a.1 a.2 h w
+packet_calm : (k : Settings) (c number : ℕ) (bytes : List ℕ) (start : Past) (t : Bool) → is_one_of is_stirring (kind_of number) ≡ t → History k start.notes → Fit k start.notes → CalmBut Never start.notes
+    → CalmBut Never (step k (Packet c number bytes) start).notes
+packet_calm k c number bytes start true is h fit w =
+    taken_or_not (λ past. CalmBut Never past.notes) (refusal k (Packet c number bytes) start) (packet_of k c (kind_of number) bytes start) start
+    (λ taken. packet_of_kinds (λ l. CalmBut Never l)  k c is_stirring bytes start w (request_calm k c start fit w) (kind_of number) is) w
+packet_calm k c number bytes start false is h fit w =
+    let a = apart_kinds (kind_of number) is in quiet_calm k (Packet c number bytes) start refl a.0 a.1 a.2 h w
 
-step_calm : (k : Settings) (served : Kind → Bool) (s : Step) (start : Past) → History k start.notes → Fit k start.notes → CalmBut Never start.notes → CalmBut Never (step_by served k s start).notes
-step_calm k served (Close c) start h fit w = taken_or_not (λ past. CalmBut Never past.notes) (refusal k (Close c) start) (close k c start) start (λ taken. close_calm k c start fit w) w
-step_calm k served (Packet c number bytes) start h fit w = packet_calm k served c number bytes start (is_one_of is_stirring (kind_of number)) refl h fit w
-step_calm k served s start h fit w = quiet_calm k served s start refl refl refl refl h w
+step_calm : (k : Settings) (s : Step) (start : Past) → History k start.notes → Fit k start.notes → CalmBut Never start.notes → CalmBut Never (step k s start).notes
+step_calm k (Close c) start h fit w = taken_or_not (λ past. CalmBut Never past.notes) (refusal k (Close c) start) (close k c start) start (λ taken. close_calm k c start fit w) w
+step_calm k (Packet c number bytes) start h fit w = packet_calm k c number bytes start (is_one_of is_stirring (kind_of number)) refl h fit w
+step_calm k s start h fit w = quiet_calm k s start refl refl refl refl h w
 
 fits : (k : Settings) (l : List Note) → History k l → Fit k l
 fits k l h c e = let o = sleepers_open k l h c e in (o, slots k l h c o)
 
-pub run_calm : (served : Kind → Bool) (k : Settings) (steps : List Step) → CalmBut Never (run_by served k steps).notes
-run_calm served k [] c n what a s j = absurd cc
-run_calm served k (s ∷ steps) c n what a g j =
-    let start = run_by served k steps in
-    step_calm k served s start (run_history served k steps) (fits k start.notes (run_history served k steps)) (run_calm served k steps) c n what a g j
+pub run_calm : (k : Settings) (steps : List Step) → CalmBut Never (run k steps).notes
+run_calm k [] c n what a s j = absurd cc
+run_calm k (s ∷ steps) c n what a g j =
+    let start = run k steps in
+    step_calm k s start (run_history k steps) (fits k start.notes (run_history k steps)) (run_calm k steps) c n what a g j
 
-pub none_sleeps : (served : Kind → Bool) (k : Settings) (steps : List Step) → NoneSleepsBesideWork k (run_by served k steps).notes
-none_sleeps served k steps c n what a s j = from (run_calm served k steps c n what a s j) (λ h. h) (λ x. absurd x)
+pub none_sleeps : (k : Settings) (steps : List Step) → NoneSleepsBesideWork k (run k steps).notes
+none_sleeps k steps c n what a s j = from (run_calm k steps c n what a s j) (λ h. h) (λ x. absurd x)

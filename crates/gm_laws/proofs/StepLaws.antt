@@ -9,7 +9,7 @@ use Rattle.gm_notes.specs.Settings.{Settings}
 use Rattle.gm_notes.specs.Flow.{Flow, Began, Queued, Drained, Emptied}
 use Rattle.gm_notes.specs.Jobs.{Spot, Unmade, Waits, RunsAt, Over, Thrown, spot, is_wanted, is_kept, listeners}
 use Rattle.gm_notes.specs.Past.{Past}
-use Rattle.gm_notes.specs.Steps.{Step, Open, Packet, Line, Fault, Close, Tick, Took, Withdrew, Drain, step_by}
+use Rattle.gm_notes.specs.Steps.{Step, Open, Packet, Line, Fault, Close, Tick, Took, Withdrew, Drain, step}
 use Rattle.gm_laws.specs.History.{Allowed, Gets, History}
 use Rattle.gm_laws.specs.Causes.{Caused, Ends, AllCaused, AllSaid, asks, is_request, is_grab, is_closing}
 use Rattle.gm_laws.specs.Laws.{NotesAreCaused, DiscardsTheUnwanted, EndsWithItsWorker, GivesThePick, SaysNoJobWhereNoneIs}
@@ -49,11 +49,11 @@ left_none c true slots e = absurd cc
 left_none c false [] e = refl
 left_none c false (d ∷ slots) e = absurd (some (length slots) e)
 
-module _ (k : Settings) (served : Kind → Bool) (s : Step) (start : Past) (history : History k start.notes) where
-  note_law : (P : List Note → Type 0) → ((note : Note) (older : List Note) → Allowed k note older → Caused start.notes s note older → History k older → P older → P (note ∷ older)) → P start.notes → P (step_by served k s start).notes
-  note_law P more p = (step_keeps start served s (keeps_notes P more) (λ c e h u. u) (history, p)).1
+module _ (k : Settings) (s : Step) (start : Past) (history : History k start.notes) where
+  note_law : (P : List Note → Type 0) → ((note : Note) (older : List Note) → Allowed k note older → Caused start.notes s note older → History k older → P older → P (note ∷ older)) → P start.notes → P (step k s start).notes
+  note_law P more p = (step_keeps start s (keeps_notes P more) (λ c e h u. u) (history, p)).1
 
-  pub caused : NotesAreCaused start s (step_by served k s start)
+  pub caused : NotesAreCaused start s (step k s start)
   caused =
       note_law (λ l. (newer : List Note) × (l ≡ newer ++ start.notes) × AllCaused start.notes s newer)
       (λ note older allowed cause h p. (note ∷ p.0, ap (λ l. note ∷ l) p.1, (subst (λ l. Caused start.notes s note l) p.1 cause, p.2)))
@@ -72,7 +72,7 @@ module _ (k : Settings) (served : Kind → Bool) (s : Step) (start : Past) (hist
   ended_more (notes.Ended m) older cause before n e = from (moved n m Over (spot n older) Over (n == m) refl e) (λ h. inr (subst (λ x. Ends start.notes s x) (sym h.0) cause)) (λ h. before n h.1)
   ended_more note older cause before n e = before n e
 
-  pub ends : EndsWithItsWorker start s (step_by served k s start)
+  pub ends : EndsWithItsWorker start s (step k s start)
   ends = note_law (λ l. (n : ℕ) → spot n l ≡ Over → EndedSo n) (λ note older allowed cause h p. ended_more note older cause p) (λ n e. inl e)
 
   -- ---- grabs
@@ -93,7 +93,7 @@ module _ (k : Settings) (served : Kind → Bool) (s : Step) (start : Past) (hist
   given_more (notes.Ended m) older cause before n c e = from (moved n m Over (spot n older) (RunsAt c) (n == m) refl e) (λ h. absurd (let x = h.1 in cc)) (λ h. before n c h.1)
   given_more note older cause before n c e = before n c e
 
-  pub gives : GivesThePick start s (step_by served k s start)
+  pub gives : GivesThePick start s (step k s start)
   gives = note_law (λ l. (n c : ℕ) → spot n l ≡ RunsAt c → GivenSo n c) (λ note older allowed cause h p. given_more note older cause p) (λ n c e. inl e)
 
   -- ---- discarding
@@ -123,14 +123,14 @@ module _ (k : Settings) (served : Kind → Bool) (s : Step) (start : Past) (hist
       from (moved n m Thrown (spot n older) Thrown (n == m) refl e) (λ h. inr (cause, subst (λ x. is_wanted x older ≡ false) (sym h.0) allowed.1)) (λ h. before n h.1)
   thrown_more note older allowed cause before n e = before n e
 
-  pub discards : DiscardsTheUnwanted start s (step_by served k s start)
+  pub discards : DiscardsTheUnwanted start s (step k s start)
   discards = note_law (λ l. (n : ℕ) → spot n l ≡ Thrown → ThrownSo n l) (λ note older allowed cause h p. thrown_more note older allowed cause p) (λ n e. inl e)
 
   -- ---- what is said
 
-  pub says_no_job : SaysNoJobWhereNoneIs start s (step_by served k s start)
+  pub says_no_job : SaysNoJobWhereNoneIs start s (step k s start)
   says_no_job =
-      (step_keeps {I = λ past. (newer : List Flow) × (past.flow ≡ newer ++ start.flow) × AllSaid start.notes s newer} start served s
+      (step_keeps {I = λ past. (newer : List Flow) × (past.flow ≡ newer ++ start.flow) × AllSaid start.notes s newer} start s
       (record {
         by_note = λ note past inner allowed cause h p. p;
         by_opening = λ c addr past allowed cause h p. (Began c ∷ p.0, ap (λ l. Began c ∷ l) p.1, (tt, p.2));

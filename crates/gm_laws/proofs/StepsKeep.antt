@@ -34,8 +34,8 @@ use Rattle.gm_notes.specs.Workers.{stir, work}
 use Rattle.gm_notes.specs.Requests.{first, second, third, submission, passing, ending, tell_status, set_option, request, request_if_read, packet_of}
 use Rattle.gm_notes.specs.Lines.{refuse_line, fault_error, status_rows, worker_rows, is_bad_word, maxqueue, shut_one, shut_each, went_graceful, shutdown, command}
 use Rattle.gm_notes.specs.Closings.{discard_one, discard_each, wake_for, give_back_one, give_back_each, gone, rising, close, is_reached, expire_one, expire_each, tick}
-use Rattle.gm_notes.specs.Steps.{Step, Open, Packet, Line, Fault, Close, Tick, Took, Withdrew, Drain, free_slot, opening, add_by, refusal, unless_not_open, unless, step_by, run_by}
-use Rattle.gm_notes.proofs.PlainLemmas.{free_is}
+use Rattle.gm_notes.specs.Steps.{Step, Open, Packet, Line, Fault, Close, Tick, Took, Withdrew, Drain, free_slot, opening, add, refusal, unless_not_open, unless, step, run}
+use Rattle.gm_notes.proofs.FreeSlots.{free_is}
 use Rattle.gm_laws.specs.History.{Allowed, History}
 use Rattle.gm_laws.specs.Causes.{Caused, is_one_of, asks, is_request, is_submission, is_foreground, is_background, is_enabling, is_disabling, is_resetting, is_sleeping, is_grab, is_reporting, is_ending, is_naming, is_choosing, is_line, is_closing, closes, faults as has_fault}
 use Rattle.gm_laws.proofs.Finding.{same_number}
@@ -121,19 +121,16 @@ module _ {k : Settings} {I : Past → Type 0} (start : Past) (c number : ℕ) (b
   read_keeps kind None is read = refuses_keeps K c (codes "bad_arguments") start opened h
   read_keeps kind (Some asked) is read = request_keeps asked.kind asked.arguments asked.timeout (is ∙ ap Some (sym (kind_read kind bytes asked (sym read))))
 
-  pub packet_keeps : (served : Kind → Bool) (o : Option Kind) → kind_of number ≡ o → Held k I (packet_of served k c o bytes start)
-  packet_keeps served None is = refuses_keeps K c (codes "unknown_command") start opened h
-  packet_keeps served (Some kind) is =
-      held_if K (served kind) (request_if_read k c (read_as kind bytes) start) (refuse c (codes "unknown_command") start)
-      (λ e. read_keeps kind (read_as kind bytes) is refl) (λ e. refuses_keeps K c (codes "unknown_command") start opened h)
+  pub packet_keeps : (o : Option Kind) → kind_of number ≡ o → Held k I (packet_of k c o bytes start)
+  packet_keeps None is = refuses_keeps K c (codes "unknown_command") start opened h
+  packet_keeps (Some kind) is = read_keeps kind (read_as kind bytes) is refl
 
 -- a packet whose kind is one of these, by what its request does
-pub packet_of_kinds : (P : List Note → Type 0) (served : Kind → Bool) (k : Settings) (c : ℕ) (kinds : Kind → Bool) (bytes : List ℕ) (start : Past) → P start.notes
+pub packet_of_kinds : (P : List Note → Type 0) (k : Settings) (c : ℕ) (kinds : Kind → Bool) (bytes : List ℕ) (start : Past) → P start.notes
     → ((kind : Kind) (a : List (List ℕ)) (timeout : ℕ) → kinds kind ≡ true → P (request k c kind a timeout start).notes)
-    → (o : Option Kind) → is_one_of kinds o ≡ true → P (packet_of served k c o bytes start).notes
-packet_of_kinds P served k c kinds bytes start p more None e = absurd cc
-packet_of_kinds P served k c kinds bytes start p more (Some kind) e =
-    kept_if P (served kind) (request_if_read k c (read_as kind bytes) start) (refuse c (codes "unknown_command") start) (read_of_kind (read_as kind bytes) refl) p
+    → (o : Option Kind) → is_one_of kinds o ≡ true → P (packet_of k c o bytes start).notes
+packet_of_kinds P k c kinds bytes start p more None e = absurd cc
+packet_of_kinds P k c kinds bytes start p more (Some kind) e = read_of_kind (read_as kind bytes) refl
   where
     read_of_kind : (o : Option Asked) → o ≡ read_as kind bytes → P (request_if_read k c o start).notes
     read_of_kind None is = p
@@ -303,26 +300,26 @@ module _ {k : Settings} {I : Past → Type 0} (start : Past) where
       ((allowed, h.0), K.by_opening c addr start allowed refl h.0 h.1)
 
   -- what each small change keeps, a step that is taken keeps, if drains do
-  pub add_keeps : (served : Kind → Bool) (s : Step) → Keeps k start.notes s I → ((c : ℕ) → s ≡ Drain c → History k start.notes → I start → I (flowed (Drained c) start)) → refusal k s start ≡ None → Held k I start → Held k I (add_by served k s start)
-  add_keeps served (Open addr) K drains taken h = opening_keeps addr K (free_slot k start) refl h
-  add_keeps served (Packet c number bytes) K drains taken h = packet_keeps start c number bytes K (units_open c start.notes taken) h served (kind_of number) refl
-  add_keeps served (Line c bytes) K drains taken h = command_keeps K c refl (command_of bytes) start (units_open c start.notes taken) h
-  add_keeps served (Fault c fault) K drains taken h =
+  pub add_keeps : (s : Step) → Keeps k start.notes s I → ((c : ℕ) → s ≡ Drain c → History k start.notes → I start → I (flowed (Drained c) start)) → refusal k s start ≡ None → Held k I start → Held k I (add k s start)
+  add_keeps (Open addr) K drains taken h = opening_keeps addr K (free_slot k start) refl h
+  add_keeps (Packet c number bytes) K drains taken h = packet_keeps start c number bytes K (units_open c start.notes taken) h (kind_of number) refl
+  add_keeps (Line c bytes) K drains taken h = command_keeps K c refl (command_of bytes) start (units_open c start.notes taken) h
+  add_keeps (Fault c fault) K drains taken h =
       let opened = units_open c start.notes taken in
       note_keeps K (notes.Shut c) (print c (fault_text fault) start) refl opened (or_left (has_fault c (Fault c fault)) (is_line (Fault c fault)) (same_number c)) (says_keeps K c (fault_text fault) start opened (λ e. absurd (fault_other fault e)) h)
-  add_keeps served (Close c) K drains taken h = close_keeps K start (takes_open (is_open c start.notes) taken) h
-  add_keeps served (Tick now) K drains taken h = tick_keeps start now K h
-  add_keeps served (Took c) K drains taken h = note_keeps K (notes.Took c) start refl (owed_is (is_open c start.notes) (is_owed (phase c start.notes)) taken) refl h
-  add_keeps served (Withdrew c) K drains taken h = note_keeps K (notes.Withdrew c) start refl (owed_is (is_open c start.notes) (is_owed (phase c start.notes)) taken) refl h
-  add_keeps served (Drain c) K drains taken h = (h.0, drains c refl h.0 h.1)
+  add_keeps (Close c) K drains taken h = close_keeps K start (takes_open (is_open c start.notes) taken) h
+  add_keeps (Tick now) K drains taken h = tick_keeps start now K h
+  add_keeps (Took c) K drains taken h = note_keeps K (notes.Took c) start refl (owed_is (is_open c start.notes) (is_owed (phase c start.notes)) taken) refl h
+  add_keeps (Withdrew c) K drains taken h = note_keeps K (notes.Withdrew c) start refl (owed_is (is_open c start.notes) (is_owed (phase c start.notes)) taken) refl h
+  add_keeps (Drain c) K drains taken h = (h.0, drains c refl h.0 h.1)
 
-  pub step_keeps : (served : Kind → Bool) (s : Step) → Keeps k start.notes s I → ((c : ℕ) → s ≡ Drain c → History k start.notes → I start → I (flowed (Drained c) start)) → Held k I start → Held k I (step_by served k s start)
-  step_keeps served s K drains h = taken_or_not (Held k I) (refusal k s start) (add_by served k s start) start (λ taken. add_keeps served s K drains taken h) h
+  pub step_keeps : (s : Step) → Keeps k start.notes s I → ((c : ℕ) → s ≡ Drain c → History k start.notes → I start → I (flowed (Drained c) start)) → Held k I start → Held k I (step k s start)
+  step_keeps s K drains h = taken_or_not (Held k I) (refusal k s start) (add k s start) start (λ taken. add_keeps s K drains taken h) h
 
 -- every note of every run was allowed
-pub run_history : (served : Kind → Bool) (k : Settings) (steps : List Step) → History k (run_by served k steps).notes
-run_history served k [] = tt
-run_history served k (s ∷ steps) =
-    (step_keeps {k = k} {I = λ past. Unit {0}} (run_by served k steps) served s
+pub run_history : (k : Settings) (steps : List Step) → History k (run k steps).notes
+run_history k [] = tt
+run_history k (s ∷ steps) =
+    (step_keeps {k = k} {I = λ past. Unit {0}} (run k steps)  s
     (record { by_note = λ note past i a w h u. tt; by_opening = λ c addr past a w h u. tt; by_closing = λ c past o w h u. tt; by_saying = λ c bytes past o m h u. tt })
-    (λ c e h u. tt) (run_history served k steps, tt)).0
+    (λ c e h u. tt) (run_history k steps, tt)).0

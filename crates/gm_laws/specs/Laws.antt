@@ -6,11 +6,10 @@ use Rattle.gm_notes.specs.Settings.{Settings}
 use Rattle.gm_notes.specs.Notes.{is_open}
 use Rattle.gm_notes.specs.Flow.{Flow, Began, Queued, Drained, Emptied, sent, waiting}
 use Rattle.gm_notes.specs.Jobs.{Spot, Unmade, Waits, RunsAt, Over, Thrown, spot, is_live, is_wanted, job, is_job_named, joins, made}
-use Rattle.gm_notes.specs.Steps.{Step, Close, Drain}
+use Rattle.gm_notes.specs.Steps.{Step, Close, Drain, run}
 use Rattle.gm_notes.specs.Past.{Past}
 use Rattle.gm_laws.specs.History.{Gets}
 use Rattle.gm_laws.specs.Causes.{Ends, AllCaused, AllSaid, asks, is_grab, is_closing}
-use Rattle.gm_laws.specs.Runs.{run}
 
 -- P holds of the notes after any steps
 abbrev pub AfterAnySteps : (Settings → List Note → Type 0) → Type 0

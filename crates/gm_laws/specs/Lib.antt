@@ -6,5 +6,4 @@ pub mod JobRows
 pub mod Laws
 pub mod LineRows
 pub mod RowWords
-pub mod Runs
 pub mod WorkerRows

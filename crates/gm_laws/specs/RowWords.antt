@@ -13,8 +13,7 @@ use Rattle.gm_notes.specs.Flow.{Flow, Began, Queued, Drained, Emptied, sent, wai
 use Rattle.gm_notes.specs.Jobs.{spot}
 use Rattle.gm_notes.specs.Past.{Past}
 use Rattle.gm_notes.specs.Servers.{owes, place_of}
-use Rattle.gm_notes.specs.Steps.{Step, Open, Packet, Line, refusal}
-use Rattle.gm_laws.specs.Runs.{run, done}
+use Rattle.gm_notes.specs.Steps.{Step, Open, Packet, Line, refusal, run, done}
 
 -- ---- settings
 

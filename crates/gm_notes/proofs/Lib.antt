@@ -1,2 +1,3 @@
+pub mod FreeSlots
 pub mod NameLemmas
 pub mod Slots

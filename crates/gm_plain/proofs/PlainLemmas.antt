@@ -114,19 +114,6 @@ pub holds_drained : (notes : List Note) (lanes : List (List ℕ)) (past : Past) 
 holds_drained notes lanes past slot holds lt =
     record { notes_are = holds.notes_are; lanes_are = λ c. began_at (c == slot) lanes slot past.flow c refl lt holds.lanes_are }
 
--- ---- slots
-
-free_next : (t : Bool) (c n : ℕ) (notes : List Note) (slot : ℕ) → is_open c notes ≡ t
-    → (free_from (suc c) n notes ≡ Some slot → (slot < suc c + n) × (is_open slot notes ≡ false))
-    → cond t (free_from (suc c) n notes) (Some c) ≡ Some slot → (slot < c + suc n) × (is_open slot notes ≡ false)
-free_next true c n notes slot is rest e = let r = rest e in (omega (arith, r.0), r.1)
-free_next false c n notes slot is rest e = let same : c ≡ slot = cc in (omega arith, subst (λ x. is_open x notes ≡ false) same is)
-
--- a free slot is one of those asked for, and isn't open
-pub free_is : (c n : ℕ) (notes : List Note) (slot : ℕ) → free_from c n notes ≡ Some slot → (slot < c + n) × (is_open slot notes ≡ false)
-free_is c zero notes slot e = absurd cc
-free_is c (suc n) notes slot e = free_next (is_open c notes) c n notes slot refl (free_is (suc c) n notes slot) e
-
 -- ---- steps
 
 -- a step that is taken adds what it adds

@@ -1,6 +1,6 @@
-use Rattle.gm_laws.specs.Runs.{all}
+
 use Rattle.gm_laws.proofs.Sleepers.{none_sleeps}
 use Rattle.gm_laws.proofs.laws.none_sleeps_beside_work.Goals as goal
 
 pub returns : goal.returns
-returns c = none_sleeps all
+returns c = none_sleeps
