@@ -8,9 +8,9 @@ use Rattle.gm_notes.specs.declared.note.Note.{Note}
 use Rattle.gm_notes.specs.declared.note.Note.TheVariants as notes
 use Rattle.gm_notes.specs.Settings.{Settings}
 use Rattle.gm_notes.specs.Notes.{is_open}
-use Rattle.gm_notes.specs.Flow.{Flow, Began, Queued, Drained, Emptied, sent, waiting}
+use Rattle.gm_notes.specs.Flow.{Flow, Began, Queued, Drained, Emptied, waiting}
 use Rattle.gm_notes.specs.Past.{Past}
-use Rattle.gm_notes.specs.Steps.{Step, Close, Drain, step, run}
+use Rattle.gm_notes.specs.Steps.{Step, step, run}
 use Rattle.gm_laws.specs.History.{History}
 use Rattle.gm_laws.specs.Laws.{drained, IsFront, SentSo, takes_from, OnlyDrainsTake}
 use Rattle.gm_laws.proofs.Keeping.{is_inner}

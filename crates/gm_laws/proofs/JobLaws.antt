@@ -14,7 +14,6 @@ use Rattle.gm_notes.specs.Settings.{Settings}
 use Rattle.gm_notes.specs.Jobs.{Spot, Unmade, Waits, RunsAt, Over, Thrown, Job, spot, job, is_live, is_waiting, is_running, is_job_named, joins, joined, made, next_number}
 use Rattle.gm_notes.specs.Steps.{Step, run}
 use Rattle.gm_laws.specs.History.{Allowed, History}
-
 use Rattle.gm_laws.specs.Laws.{AreNumbers, is_made, has_place, HavePlaces, is_live_named, AreOne, is_gone, StayGone}
 use Rattle.gm_laws.proofs.StepsKeep.{step_keeps, run_history}
 use Rattle.gm_laws.proofs.Keeping.{keeps_notes}

@@ -1,16 +1,15 @@
 -- Whatever each small change keeps, each request keeps.
-use Rattle.std.proofs.Common.{◌≡◌, ℕ, Bool, true, false, cond, not, ◌&&◌, ◌||◌, List, [], ◌∷◌, filter, Option, Some, None, refl, sym, ap, subst, arith}
-use Rattle.std.specs.Prelude.{◌==◌, codes}
-use Rattle.std.specs.List.{list_all}
+use Rattle.std.proofs.Common.{◌≡◌, ℕ, Bool, true, false, cond, not, ◌&&◌, ◌||◌, List, [], ◌∷◌, Option, Some, None, refl, sym, ap, subst, arith}
+use Rattle.std.specs.Prelude.{codes}
 use Rattle.std.proofs.lemmas.Bool.{and_parts, or_left, or_right}
 use Rattle.std.proofs.lemmas.Bool.Decides.{nat_tests}
-use Rattle.gm_packet.specs.Writing.{Answer, answer_packet, job_created, no_job, work_fail}
+use Rattle.gm_packet.specs.Writing.{Answer, answer_packet, job_created, no_job}
 use Rattle.gm_notes.specs.declared.note.Note.{Note}
 use Rattle.gm_notes.specs.declared.note.Note.TheVariants as notes
 use Rattle.gm_notes.specs.Settings.{Settings}
-use Rattle.gm_notes.specs.Notes.{is_open, phase, is_asleep, is_awake, moment, has_option, slots_from}
-use Rattle.gm_notes.specs.Flow.{Flow, Began, Queued, Drained, Emptied}
-use Rattle.gm_notes.specs.Jobs.{Spot, Unmade, Waits, RunsAt, Over, Thrown, Job, Pick, spot, job, is_waiting, is_running, is_running_at, is_live, is_able, is_mentioned, is_empty, waiting_for, pick, abilities, joined, next_number, handle, handled, listeners}
+use Rattle.gm_notes.specs.Notes.{is_open, phase, is_asleep, is_awake, moment, slots_from}
+use Rattle.gm_notes.specs.Flow.{Began, Emptied}
+use Rattle.gm_notes.specs.Jobs.{Spot, Unmade, Waits, RunsAt, Over, Thrown, Job, Pick, spot, job, is_running, is_running_at, is_live, is_able, is_mentioned, is_empty, waiting_for, pick, abilities, joined, next_number, handle, handled, listeners}
 use Rattle.gm_notes.specs.Past.{Past, noted, flowed, print, give, refuse, mentioned, tell_all, wake_one, wake_each, wake}
 use Rattle.gm_notes.specs.Texts.{error_of, spaced}
 use Rattle.gm_notes.specs.Submissions.{Submission, is_bad_name, is_one_too_many, is_full, wanted, make, join_or_make, submit}
@@ -21,7 +20,7 @@ use Rattle.gm_laws.specs.Causes.{Caused, Ends, MaySay, is_request, is_submission
 use Rattle.gm_laws.specs.Between.{AllOpen}
 use Rattle.gm_laws.proofs.Finding.{joined_lives, pick_waits, stirred_picks, same_number}
 use Rattle.gm_laws.proofs.Listeners.{listeners_open, filtered_open, open_after}
-use Rattle.gm_laws.proofs.Sayings.{Other, created_other, assigned_other, error_other, fail_other}
+use Rattle.gm_laws.proofs.Sayings.{Other, created_other, assigned_other, error_other}
 
 -- a note that changes no flow: all but openings and closings
 abbrev pub is_inner : Note → Bool

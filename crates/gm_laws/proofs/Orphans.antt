@@ -1,24 +1,22 @@
 -- Between steps, each waiting job is wanted.
 use Rattle.std.proofs.Common.{◌≡◌, ◌⊎◌, inl, inr, ℕ, suc, Bool, true, false, cond, not, ◌&&◌, ◌||◌, List, [], ◌∷◌, ◌++◌, length, Option, Some, None, refl, sym, ap, subst, ◌∙◌, arith}
 use Rattle.std.specs.Prelude.{◌==◌, unwrap_or, codes}
-use Rattle.std.proofs.lemmas.Bool.{and_parts}
 use Rattle.std.proofs.lemmas.Bool.Decides.{nat_tests}
 use Rattle.gm_packet.specs.declared.kind.Kind.{Kind}
-use Rattle.gm_packet.specs.declared.kind.Kind.TheVariants.{CanDo, CantDo, ResetAbilities, PreSleep, SubmitJob, GrabJob, WorkStatus, WorkComplete, WorkFail, GetStatus, EchoReq, SubmitJobBg, SubmitJobHigh, SetClientId, CanDoTimeout, AllYours, WorkException, OptionReq, WorkData, WorkWarning, GrabJobUniq, SubmitJobHighBg, SubmitJobLow, SubmitJobLowBg}
+use Rattle.gm_packet.specs.declared.kind.Kind.TheVariants.{SubmitJob, SubmitJobBg, SubmitJobHigh, SubmitJobHighBg, SubmitJobLow, SubmitJobLowBg}
 use Rattle.gm_packet.specs.Kinds.{kind_of}
-use Rattle.gm_packet.specs.Requests.{Asked, read_as}
 use Rattle.gm_notes.specs.declared.states.Priority.TheVariants.{High, Normal, Low}
 use Rattle.gm_notes.specs.declared.note.Note.{Note}
 use Rattle.gm_notes.specs.declared.note.Note.TheVariants as notes
 use Rattle.gm_notes.specs.Settings.{Settings}
-use Rattle.gm_notes.specs.Notes.{is_open, phase, is_asleep, slots_from}
-use Rattle.gm_notes.specs.Jobs.{Spot, Waits, RunsAt, Over, Thrown, Job, spot, job, is_waiting, is_running_at, is_wanted, is_kept, listeners, is_mentioned, joined, next_number}
+use Rattle.gm_notes.specs.Notes.{phase, is_asleep, slots_from}
+use Rattle.gm_notes.specs.Jobs.{Waits, RunsAt, Over, Thrown, Job, spot, job, is_waiting, is_running_at, is_wanted, is_kept, listeners, is_mentioned, joined, next_number}
 use Rattle.gm_notes.specs.Past.{Past, noted, refuse, mentioned}
 use Rattle.gm_notes.specs.Submissions.{Submission, is_bad_name, is_one_too_many, is_full, wanted, make, join_or_make, submit}
 use Rattle.gm_notes.specs.Workers.{stir}
 use Rattle.gm_notes.specs.Requests.{submission, request, packet_of}
 use Rattle.gm_notes.specs.Closings.{discard_one, discard_each, wake_for, give_back_one, give_back_each, gone, rising, close}
-use Rattle.gm_notes.specs.Steps.{Step, Open, Packet, Line, Fault, Close, Tick, Took, Withdrew, Drain, refusal, step, run}
+use Rattle.gm_notes.specs.Steps.{Step, Packet, Close, refusal, step, run}
 use Rattle.gm_laws.specs.History.{Allowed, History}
 use Rattle.gm_laws.specs.Causes.{Caused, is_closing, is_submission, is_request, is_one_of}
 use Rattle.gm_laws.specs.Between.{NoneIsOrphaned}
@@ -184,7 +182,7 @@ packet_wanted : (k : Settings) (c number : ℕ) (bytes : List ℕ) (start : Past
     → WantedSo None_ (step k (Packet c number bytes) start).notes
 packet_wanted k c number bytes start true is h w =
     taken_or_not (λ past. WantedSo None_ past.notes) (refusal k (Packet c number bytes) start) (packet_of k c (kind_of number) bytes start) start
-    (λ taken. packet_of_kinds (λ l. WantedSo None_ l)  k c is_submission bytes start w (request_submits k c start w) (kind_of number) is) w
+    (λ taken. packet_of_kinds (λ l. WantedSo None_ l) k c is_submission bytes start w (request_submits k c start w) (kind_of number) is) w
 packet_wanted k c number bytes start false is h w = quiet_wanted k (Packet c number bytes) start refl is h w
 
 step_wanted : (k : Settings) (s : Step) (start : Past) → History k start.notes → WantedSo None_ start.notes → WantedSo None_ (step k s start).notes

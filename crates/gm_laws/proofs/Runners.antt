@@ -7,11 +7,11 @@ use Rattle.gm_notes.specs.declared.note.Note.{Note}
 use Rattle.gm_notes.specs.declared.note.Note.TheVariants as notes
 use Rattle.gm_notes.specs.Settings.{Settings}
 use Rattle.gm_notes.specs.Notes.{is_open, phase, is_asleep, slots_from}
-use Rattle.gm_notes.specs.Jobs.{Spot, Unmade, Waits, RunsAt, Over, Thrown, Job, spot, job, is_waiting, is_running_at, is_wanted}
+use Rattle.gm_notes.specs.Jobs.{Spot, Waits, RunsAt, Over, Thrown, Job, spot, job, is_waiting, is_running_at, is_wanted}
 use Rattle.gm_notes.specs.Past.{Past, noted}
 use Rattle.gm_notes.specs.Workers.{stir}
 use Rattle.gm_notes.specs.Closings.{discard_one, discard_each, wake_for, give_back_one, give_back_each, gone, rising, close}
-use Rattle.gm_notes.specs.Steps.{Step, Open, Packet, Line, Fault, Close, Tick, Took, Withdrew, Drain, refusal, step, run}
+use Rattle.gm_notes.specs.Steps.{Step, Close, refusal, step, run}
 use Rattle.gm_laws.specs.History.{Allowed, History}
 use Rattle.gm_laws.specs.Causes.{Caused, is_closing}
 use Rattle.gm_laws.specs.Between.{RunnersAreOpen}

@@ -4,8 +4,8 @@ use Rattle.std.specs.Prelude.{◌==◌, nat_le, nat_lt, codes, decimal}
 use Rattle.std.specs.List.{flat_map}
 use Rattle.std.proofs.lemmas.Bool.Decides.{nat_tests}
 use Rattle.gm_packet.specs.Packets.{packet}
-use Rattle.gm_packet.specs.Writing.{Answer, answer_packet, no_job, job_created, error, work_fail, work_status, work_complete, work_data, work_warning, work_exception, status_res, echo_res, option_res}
-use Rattle.gm_admin.specs.Answers.{StatusLine, WorkerLine, shown, shown_byte, shown_or_dash, status_line, worker_line, status_text, workers_text, ok_text, version_text, error_text, dot}
+use Rattle.gm_packet.specs.Writing.{answer_packet, no_job, job_created, error, work_fail, work_status, work_complete, work_data, work_warning, work_exception, status_res, echo_res, option_res}
+use Rattle.gm_admin.specs.Answers.{StatusLine, WorkerLine, shown, shown_byte, shown_or_dash, worker_line, status_text, workers_text, ok_text, version_text, error_text, dot}
 use Rattle.gm_admin.specs.declared.fault.AdminError.{AdminError}
 use Rattle.gm_admin.specs.declared.fault.AdminError.TheVariants.{UnknownCommand, MissingName, BadSize, BadFunction, TooManyFunctions, LineTooLong}
 use Rattle.gm_notes.specs.declared.event.UnitFault.{UnitFault}

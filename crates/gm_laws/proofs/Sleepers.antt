@@ -1,5 +1,5 @@
 -- Between steps, nobody sleeps beside work.
-use Rattle.std.proofs.Common.{◌≡◌, ◌⊎◌, inl, inr, ℕ, zero, suc, ◌<◌, Bool, true, false, cond, not, ◌&&◌, ◌||◌, List, [], ◌∷◌, ◌++◌, filter, Option, Some, None, refl, sym, ap, subst, ◌∙◌, arith}
+use Rattle.std.proofs.Common.{◌≡◌, ◌⊎◌, inl, inr, ℕ, ◌<◌, Bool, true, false, cond, not, ◌&&◌, ◌||◌, List, [], ◌∷◌, filter, Option, Some, None, refl, sym, ap, subst, ◌∙◌, arith}
 use Rattle.std.specs.Prelude.{◌==◌, unwrap_or, codes}
 use Rattle.std.specs.List.{list_any}
 use Rattle.std.specs.Str.{bytes_eq}
@@ -22,8 +22,8 @@ use Rattle.gm_notes.specs.Submissions.{Submission, is_bad_name, is_one_too_many,
 use Rattle.gm_notes.specs.Workers.{stir, woken_if, made_able, can_do, sleep_beside, pre_sleep}
 use Rattle.gm_notes.specs.Requests.{first, submission, request, packet_of}
 use Rattle.gm_notes.specs.Closings.{discard_one, discard_each, wake_for, give_back_one, give_back_each, gone, rising, close}
-use Rattle.gm_notes.specs.Steps.{Step, Open, Packet, Line, Fault, Close, Tick, Took, Withdrew, Drain, refusal, step, run}
-use Rattle.gm_laws.specs.History.{Allowed, History}
+use Rattle.gm_notes.specs.Steps.{Step, Packet, Close, refusal, step, run}
+use Rattle.gm_laws.specs.History.{History}
 use Rattle.gm_laws.specs.Causes.{Caused, is_closing, is_submission, is_enabling, is_sleeping, is_request, is_one_of, asks}
 use Rattle.gm_laws.specs.Between.{NoneSleepsBesideWork}
 use Rattle.gm_laws.proofs.Histories.{slots}
@@ -366,7 +366,7 @@ packet_calm : (k : Settings) (c number : ℕ) (bytes : List ℕ) (start : Past) 
     → CalmBut Never (step k (Packet c number bytes) start).notes
 packet_calm k c number bytes start true is h fit w =
     taken_or_not (λ past. CalmBut Never past.notes) (refusal k (Packet c number bytes) start) (packet_of k c (kind_of number) bytes start) start
-    (λ taken. packet_of_kinds (λ l. CalmBut Never l)  k c is_stirring bytes start w (request_calm k c start fit w) (kind_of number) is) w
+    (λ taken. packet_of_kinds (λ l. CalmBut Never l) k c is_stirring bytes start w (request_calm k c start fit w) (kind_of number) is) w
 packet_calm k c number bytes start false is h fit w =
     let a = apart_kinds (kind_of number) is in quiet_calm k (Packet c number bytes) start refl a.0 a.1 a.2 h w
 

@@ -28,7 +28,7 @@ use Rattle.gm_notes.specs.Jobs.{Spot, RunsAt, Job, spot, job, is_waiting, is_run
 use Rattle.gm_notes.specs.Past.{Past, noted, flowed, print, give, refuse, mentioned, tell_all}
 use Rattle.gm_notes.specs.Submissions.{is_one_too_many}
 use Rattle.gm_notes.specs.Texts.{fault_text}
-use Rattle.gm_notes.specs.Flow.{Began, Drained}
+use Rattle.gm_notes.specs.Flow.{Drained}
 use Rattle.gm_notes.specs.Submissions.{submit}
 use Rattle.gm_notes.specs.Workers.{stir, work}
 use Rattle.gm_notes.specs.Requests.{first, second, third, submission, passing, ending, tell_status, set_option, request, request_if_read, packet_of}
@@ -37,11 +37,11 @@ use Rattle.gm_notes.specs.Closings.{discard_one, discard_each, wake_for, give_ba
 use Rattle.gm_notes.specs.Steps.{Step, Open, Packet, Line, Fault, Close, Tick, Took, Withdrew, Drain, free_slot, opening, add, refusal, unless_not_open, unless, step, run}
 use Rattle.gm_notes.proofs.FreeSlots.{free_is}
 use Rattle.gm_laws.specs.History.{Allowed, History}
-use Rattle.gm_laws.specs.Causes.{Caused, is_one_of, asks, is_request, is_submission, is_foreground, is_background, is_enabling, is_disabling, is_resetting, is_sleeping, is_grab, is_reporting, is_ending, is_naming, is_choosing, is_line, is_closing, closes, faults as has_fault}
+use Rattle.gm_laws.specs.Causes.{is_one_of, asks, is_request, is_submission, is_foreground, is_background, is_enabling, is_disabling, is_resetting, is_sleeping, is_grab, is_reporting, is_ending, is_naming, is_choosing, is_line, is_closing, closes, faults as has_fault}
 use Rattle.gm_laws.proofs.Finding.{same_number}
 use Rattle.gm_laws.proofs.Listeners.{listeners_open}
 use Rattle.gm_laws.proofs.Sayings.{Other, fail_other, status_other, complete_other, data_other, warning_other, exception_other, echo_other, option_other, known_other, ok_other, version_other, refusal_other, fault_other, list_other, rows_other}
-use Rattle.gm_laws.proofs.Keeping.{Keeps, Held, MaySubmit, kept_if, held_if, note_keeps, says_keeps, gives_keeps, refuses_keeps, tells_keeps, wake_keeps, mentions_keeps, submit_keeps, can_do_keeps, cant_do_keeps, pre_sleep_keeps, stir_keeps, grab_keeps, works_keeps, tell_all_notes}
+use Rattle.gm_laws.proofs.Keeping.{Keeps, Held, kept_if, held_if, note_keeps, says_keeps, gives_keeps, refuses_keeps, tells_keeps, wake_keeps, mentions_keeps, submit_keeps, can_do_keeps, cant_do_keeps, pre_sleep_keeps, stir_keeps, grab_keeps, works_keeps, tell_all_notes}
 
 -- what is read of a kind is of that kind
 read_at : (kind : Kind) (o : Option (List (List ℕ) × ℕ)) (asked : Asked) → option_map (λ (found : List (List ℕ) × ℕ). record { kind = kind; arguments = found.0; timeout = found.1 }) o ≡ Some asked → asked.kind ≡ kind
@@ -320,6 +320,6 @@ module _ {k : Settings} {I : Past → Type 0} (start : Past) where
 pub run_history : (k : Settings) (steps : List Step) → History k (run k steps).notes
 run_history k [] = tt
 run_history k (s ∷ steps) =
-    (step_keeps {k = k} {I = λ past. Unit {0}} (run k steps)  s
+    (step_keeps {k = k} {I = λ past. Unit {0}} (run k steps) s
     (record { by_note = λ note past i a w h u. tt; by_opening = λ c addr past a w h u. tt; by_closing = λ c past o w h u. tt; by_saying = λ c bytes past o m h u. tt })
     (λ c e h u. tt) (run_history k steps, tt)).0

@@ -1,17 +1,16 @@
 -- A job that waits is among those that a grab would look at.
-use Rattle.std.proofs.Common.{◌≡◌, ◌⊎◌, inl, inr, ℕ, Bool, true, false, cond, not, ◌&&◌, ◌||◌, List, [], ◌∷◌, ◌++◌, filter, Option, Some, None, refl, sym, ap, subst, ◌∙◌, arith}
-use Rattle.std.specs.Prelude.{◌==◌, unwrap_or}
+use Rattle.std.proofs.Common.{◌≡◌, ◌⊎◌, inl, inr, ℕ, Bool, true, false, cond, not, ◌||◌, List, [], ◌∷◌, ◌++◌, filter, Option, Some, None, refl, sym, ap, subst, ◌∙◌}
+use Rattle.std.specs.Prelude.{◌==◌}
 use Rattle.std.specs.List.{list_any}
 use Rattle.std.specs.Str.{bytes_eq}
-use Rattle.std.proofs.lemmas.Bool.{and_parts, and_from}
-use Rattle.std.proofs.lemmas.Bool.Decides.{nat_tests}
+use Rattle.std.proofs.lemmas.Bool.{and_from}
 use Rattle.std.proofs.lemmas.Slice.Eq.{bytes_eq-Decides}
 use Rattle.gm_notes.specs.declared.note.Note.{Note}
 use Rattle.gm_notes.specs.declared.note.Note.TheVariants as notes
 use Rattle.gm_notes.specs.declared.states.Priority.{Priority}
 use Rattle.gm_notes.specs.declared.states.Priority.TheVariants.{High, Normal, Low}
-use Rattle.gm_notes.specs.Jobs.{Spot, Unmade, Waits, RunsAt, Over, Thrown, Job, Ability, Pick, spot, job, is_waiting, is_job_with, is_queued, same_priority, as_they_came, queue, waiting_for, is_empty, first_of, pick_from, pick, abilities, is_of, is_able}
-use Rattle.gm_laws.proofs.Moving.{moved, from, not_both, In}
+use Rattle.gm_notes.specs.Jobs.{Waits, RunsAt, Over, Thrown, Job, Ability, Pick, spot, job, is_waiting, is_job_with, is_queued, same_priority, as_they_came, queue, waiting_for, is_empty, first_of, pick_from, pick, abilities, is_of, is_able}
+use Rattle.gm_laws.proofs.Moving.{moved, from, In}
 
 in_last : (n : ℕ) (ms : List ℕ) → In n (ms ++ n ∷ [])
 in_last n [] = inl refl

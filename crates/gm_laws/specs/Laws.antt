@@ -5,7 +5,7 @@ use Rattle.gm_notes.specs.declared.note.Note.{Note}
 use Rattle.gm_notes.specs.Settings.{Settings}
 use Rattle.gm_notes.specs.Notes.{is_open}
 use Rattle.gm_notes.specs.Flow.{Flow, Began, Queued, Drained, Emptied, sent, waiting}
-use Rattle.gm_notes.specs.Jobs.{Spot, Unmade, Waits, RunsAt, Over, Thrown, spot, is_live, is_wanted, job, is_job_named, joins, made}
+use Rattle.gm_notes.specs.Jobs.{Spot, Unmade, RunsAt, Over, Thrown, spot, is_live, is_wanted, job, is_job_named, joins, made}
 use Rattle.gm_notes.specs.Steps.{Step, Close, Drain, run}
 use Rattle.gm_notes.specs.Past.{Past}
 use Rattle.gm_laws.specs.History.{Gets}

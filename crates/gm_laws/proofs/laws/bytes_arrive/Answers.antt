@@ -1,4 +1,3 @@
-
 use Rattle.gm_laws.proofs.ByteLaws.{run_sent}
 use Rattle.gm_laws.proofs.laws.bytes_arrive.Goals as goal
 

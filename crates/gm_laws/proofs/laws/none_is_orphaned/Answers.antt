@@ -1,4 +1,3 @@
-
 use Rattle.gm_laws.proofs.Orphans.{none_orphaned}
 use Rattle.gm_laws.proofs.laws.none_is_orphaned.Goals as goal
 

@@ -1,4 +1,3 @@
-
 use Rattle.gm_laws.proofs.Sleepers.{none_sleeps}
 use Rattle.gm_laws.proofs.laws.none_sleeps_beside_work.Goals as goal
 
