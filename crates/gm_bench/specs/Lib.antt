@@ -6,3 +6,4 @@ pub mod Rounds
 pub mod Statuses
 pub mod Takings
 pub mod Tallies
+pub mod Findings

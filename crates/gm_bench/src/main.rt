@@ -5,19 +5,19 @@ mod feeding;
 mod load;
 mod measurement;
 mod measuring;
+mod noops;
 mod stop;
 mod tally;
 mod text;
 mod words;
 
-use measurement::ALL;
-use measuring::measure;
+use measurement::{ALL, Finding};
+use measuring::{Measured, measure};
 use std::io::ErrorKind;
 use std::process::ExitCode;
-use std::time::Duration;
 use std::{env, io};
 use stop::Stop;
-use text::{outcome_line, rate};
+use text::{finding_line, frequency, rate};
 use words::{Order, WordsFault, read_order};
 
 /// The count of each measurement where all are checked. It is no multiple of a unit's length.
@@ -28,12 +28,17 @@ gm_bench NAME COUNT   runs a measurement, and prints what came of it, its time a
 gm_bench --check      runs each measurement once at a small size, and prints what came of it
 gm_bench --help       prints this
 
-COUNT is a number of bytes. They come in pieces of 16384 bytes, and of one byte where NAME ends in _bytewise.
-NAME is one of
+NAME is one of these. COUNT is a number of bytes, and they come in pieces of 16384 bytes, or of one byte where NAME ends in
+_bytewise.
 
   feed_small_packets, feed_small_packets_bytewise   ECHO_REQ packets of 16 bytes
   feed_large_packets, feed_large_packets_bytewise   ECHO_REQ packets of 65536 bytes
   feed_lines, feed_lines_bytewise                   text lines of 20 bytes
+
+Or it is one of these, and COUNT is a number of rounds.
+
+  take_empty_word   a sleep word that owes no NOOP is taken from
+  sleep_wake_take   a worker sleeps and is woken, its NOOP is taken, and the book looks for it
 ";
 
 /// Why the words can't be had: where it isn't for memory, one of them isn't text.
@@ -55,11 +60,21 @@ fn print(rt: &HostRuntime, text: &str) -> Result<(), Stop> {
     rt.print(text).map_err(|_| Stop::Write)
 }
 
-fn print_time(rt: &HostRuntime, count: u64, elapsed: Duration) -> Result<(), Stop> {
+fn print_time(rt: &HostRuntime, count: u64, measured: Measured) -> Result<(), Stop> {
+    let Measured { finding, elapsed } = measured;
     let seconds = elapsed.as_secs();
     let micros = elapsed.subsec_micros();
-    let rate = rate(count, elapsed);
-    println!(rt; "{seconds}.{micros:06} s, {rate} MiB/s").map_err(|_| Stop::Write)
+    let printed = match finding {
+        Finding::Units(_) => {
+            let rate = rate(count, elapsed);
+            println!(rt; "{seconds}.{micros:06} s, {rate} MiB/s")
+        }
+        Finding::Takes(_) => {
+            let frequency = frequency(count, elapsed);
+            println!(rt; "{seconds}.{micros:06} s, {frequency} a second")
+        }
+    };
+    printed.map_err(|_| Stop::Write)
 }
 
 fn run(rt: &HostRuntime) -> Result<(), Stop> {
@@ -69,16 +84,16 @@ fn run(rt: &HostRuntime) -> Result<(), Stop> {
         Order::Check => {
             for measurement in ALL {
                 let measured = measure(rt, alloc, measurement, CHECK_COUNT)?;
-                let line = outcome_line(alloc, measurement, CHECK_COUNT, measured.outcome)?;
+                let line = finding_line(alloc, measurement, CHECK_COUNT, measured.finding)?;
                 print(rt, line.as_str())?;
             }
             Ok(())
         }
         Order::Measure { measurement, count } => {
             let measured = measure(rt, alloc, measurement, count)?;
-            let line = outcome_line(alloc, measurement, count, measured.outcome)?;
+            let line = finding_line(alloc, measurement, count, measured.finding)?;
             print(rt, line.as_str())?;
-            print_time(rt, count, measured.elapsed)
+            print_time(rt, count, measured)
         }
     }
 }

@@ -10,3 +10,5 @@ mod packets;
 mod settings;
 #[cfg(test)]
 mod streams;
+#[cfg(test)]
+mod word;

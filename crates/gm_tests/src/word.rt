@@ -1,0 +1,285 @@
+//! The sleep words: steps in turn, and those of several threads at once.
+
+ghost use Rattle.std.specs.Prelude.{◌≡◌, ◌<◌, All, IfSome, length};
+
+use gm_word::{BookSeat, PenSeat, Phase, SleepTable, close_words};
+use std::alloc::{AllocError, Global};
+use std::test::Fail;
+use std::thread::{join, map_vec};
+
+// What the book does at a slot.
+#[derive(Clone, Copy, Debug)]
+enum Step {
+    Sleep,
+    Wake,
+    Stir,
+    Withdraw,
+    Look,
+}
+
+// What the step answers; true where it answers nothing, `None` where the phase of the slot doesn't allow it.
+fn turn(table: &SleepTable, book: &mut BookSeat, step: Step, slot: u32) -> Option<bool>
+    requires table { book.old.table ≡ table.now }
+    requires slot { slot < length book.old.lines }
+    ensures table { book.new.table ≡ book.old.table }
+    ensures len { length book.new.lines ≡ length book.old.lines }
+{
+    match (step, book.phase(slot)) {
+        (Step::Sleep, Phase::Awake) => book.sleep(table, slot),
+        (Step::Wake, Phase::Asleep) => book.wake(table, slot),
+        (Step::Stir, Phase::Asleep) => book.stir(table, slot),
+        (Step::Withdraw, Phase::Owed) => return Some(book.withdraw(table, slot)),
+        (Step::Look, _) => return Some(book.look(table, slot)),
+        _ => return None,
+    }
+    Some(true)
+}
+
+// A table with all its seats.
+#[derive(Drop)]
+struct Desk {
+    table: SleepTable,
+    book: BookSeat,
+    pens: Vec<PenSeat>,
+    slots: u32,
+    ghost book_fits: { book.table ≡ table },
+    ghost book_is_wide: { length book.lines ≡ slots },
+    ghost pens_fit: { All (λ pen. pen.table ≡ table) pens.items },
+    ghost pens_are_all: { length pens.items ≡ slots },
+}
+
+impl Desk {
+    fn new(alloc: Global, slots: u32) -> Result<Desk, AllocError>
+        requires { 0 < slots }
+    {
+        let (table, book, pens) = SleepTable::new(alloc, slots)?;
+        Ok(Desk {
+            table,
+            book,
+            pens,
+            slots,
+        })
+    }
+
+    // What the book's step answers, or with no step what the pen's take does.
+    fn turn(&mut self, step: Option<Step>, slot: u32) -> Option<bool> {
+        if slot >= self.slots {
+            return None;
+        }
+        match step {
+            Some(step) => turn(&self.table, &mut self.book, step, slot),
+            None => Some(self.pens[slot as usize].take(&self.table)),
+        }
+    }
+
+    fn close(self, alloc: Global) -> Result<Vec<u64>, AllocError> {
+        let Desk {
+            table,
+            book,
+            pens,
+            ..
+        } = self;
+        close_words(alloc, table, book, pens)
+    }
+}
+
+#[test]
+fn word_ample(rt: HostRuntime) -> Result<(), Fail> {
+    let mut desk = Desk::new(rt.alloc(), 2)?;
+    let turns = [
+        (Some(Step::Sleep), 0, true),
+        (Some(Step::Wake), 0, true),
+        (None, 0, true),
+        (Some(Step::Look), 0, true),
+        (None, 0, false),
+        (Some(Step::Sleep), 0, true),
+        (Some(Step::Wake), 0, true),
+        (Some(Step::Withdraw), 0, true),
+        (None, 0, false),
+        (Some(Step::Sleep), 0, true),
+        (Some(Step::Stir), 0, true),
+        (Some(Step::Sleep), 1, true),
+        (Some(Step::Wake), 1, true),
+    ];
+    for (step, slot, answer) in turns {
+        assert_eq!(rt; desk.turn(step, slot), Some(answer), "{step:?} at {slot}");
+    }
+    assert_eq!(rt; desk.close(rt.alloc())?.as_slice(), [0, 2].as_slice());
+    Ok(())
+}
+
+// The book, and what came of the NOOPs that were owed.
+#[derive(Drop)]
+struct Keeper<'a> {
+    table: &'a SleepTable,
+    book: BookSeat,
+    slots: u32,
+    wakes: u64,
+    entered: u64,
+    withdrawals: u64,
+    ghost fits: { book.table ≡ table.now },
+    ghost is_wide: { length book.lines ≡ slots },
+}
+
+impl<'a> Keeper<'a> {
+    // Makes the step where the phase of the slot allows it, and counts.
+    fn turn(&mut self, step: Step, slot: u32) {
+        if slot >= self.slots {
+            return;
+        }
+        match (step, turn(self.table, &mut self.book, step, slot)) {
+            (Step::Wake, Some(true)) => self.wakes = self.wakes.wrapping_add(1),
+            (Step::Look, Some(true)) => self.entered = self.entered.wrapping_add(1),
+            (Step::Withdraw, Some(true)) => self.withdrawals = self.withdrawals.wrapping_add(1),
+            (Step::Withdraw, Some(false)) => self.entered = self.entered.wrapping_add(1),
+            _ => {}
+        }
+    }
+
+    // Owes a slot a NOOP and withdraws it, so often.
+    fn withdraw_often(mut self, slot: u32, times: u32) -> Keeper<'a> {
+        for _ in 0..times {
+            self.turn(Step::Sleep, slot);
+            self.turn(Step::Wake, slot);
+            self.turn(Step::Withdraw, slot);
+        }
+        self
+    }
+
+    // Goes round the slots, so many steps in all, those that a phase doesn't allow among them.
+    fn go_round(mut self, steps: u32) -> Keeper<'a> {
+        for i in 0..steps {
+            let step = match i / 4 % 7 {
+                0 | 4 => Step::Sleep,
+                1 | 5 => Step::Wake,
+                2 => Step::Look,
+                3 => Step::Withdraw,
+                _ => Step::Stir,
+            };
+            self.turn(step, i % 4);
+        }
+        self
+    }
+}
+
+// A pen, and how often it took a NOOP.
+#[derive(Drop)]
+struct Taker<'a> {
+    table: &'a SleepTable,
+    pen: PenSeat,
+    takes: u64,
+    ghost fits: { pen.table ≡ table.now },
+}
+
+impl<'a> Taker<'a> {
+    fn take(&mut self) {
+        if self.pen.take(self.table) {
+            self.takes = self.takes.wrapping_add(1);
+        }
+    }
+
+    fn take_often(mut self, tries: u32) -> Taker<'a> {
+        for _ in 0..tries {
+            self.take();
+        }
+        self
+    }
+}
+
+// One of the pens that are left.
+fn next_pen(table: &SleepTable, pens: &mut Vec<PenSeat>) -> Option<PenSeat>
+    requires { All (λ pen. pen.table ≡ table.now) pens.old.items }
+    ensures all { All (λ pen. pen.table ≡ table.now) pens.new.items }
+    ensures some { IfSome result (λ pen. pen.table ≡ table.now) }
+{
+    pens.pop()
+}
+
+// A taker for each pen.
+fn takers_of(
+    alloc: Global,
+    table: &SleepTable,
+    mut pens: Vec<PenSeat>,
+) -> Result<Vec<Taker<'_>>, AllocError>
+    requires { All (λ pen. pen.table ≡ table.now) pens.items }
+{
+    let mut takers = Vec::new(alloc);
+    for _ in 0..pens.len() {
+        let Some(pen) = next_pen(table, &mut pens) else {
+            break;
+        };
+        takers.push(Taker {
+            table,
+            pen,
+            takes: 0,
+        })?;
+    }
+    Ok(takers)
+}
+
+#[test]
+fn word_two(rt: HostRuntime) -> Result<(), Fail> {
+    let Desk {
+        table,
+        book,
+        pens,
+        slots,
+    } = Desk::new(rt.alloc(), 1)?;
+    let keeper = Keeper {
+        table: &table,
+        book,
+        slots,
+        wakes: 0,
+        entered: 0,
+        withdrawals: 0,
+    };
+    let mut takers = takers_of(rt.alloc(), &table, pens)?;
+    let taker = takers.pop().ok_or("the slot has no pen")?;
+    let (keeper, taker) = join(
+        &rt,
+        || keeper.withdraw_often(0, 100_000),
+        || taker.take_often(1_000_000),
+    );
+    assert_eq!(rt; keeper.wakes, 100_000);
+    assert_eq!(rt; taker.takes, keeper.entered);
+    assert_eq!(rt; keeper.wakes, taker.takes.wrapping_add(keeper.withdrawals));
+    Ok(())
+}
+
+// Four pens and the book, each in a thread of its own, try a million times in all. Then nothing is owed.
+#[test]
+fn word_four(rt: HostRuntime) -> Result<(), Fail> {
+    let Desk {
+        table,
+        book,
+        pens,
+        slots,
+    } = Desk::new(rt.alloc(), 4)?;
+    let keeper = Keeper {
+        table: &table,
+        book,
+        slots,
+        wakes: 0,
+        entered: 0,
+        withdrawals: 0,
+    };
+    let takers = takers_of(rt.alloc(), &table, pens)?;
+    let (keeper, takers) = join(
+        &rt,
+        || keeper.go_round(200_000),
+        || map_vec(&rt, takers, &|taker: Taker<'_>| taker.take_often(200_000)),
+    );
+    let mut keeper = keeper;
+    let mut takes = 0u64;
+    for taker in takers? {
+        let taker = taker.take_often(1);
+        takes = takes.wrapping_add(taker.takes);
+    }
+    for slot in 0..4 {
+        keeper.turn(Step::Look, slot);
+    }
+    assert!(rt; keeper.wakes > 0);
+    assert_eq!(rt; keeper.wakes, takes.wrapping_add(keeper.withdrawals));
+    assert_eq!(rt; keeper.entered, takes);
+    Ok(())
+}

@@ -1,0 +1,71 @@
+-- A seat after its step.
+use Rattle.std.proofs.Common.{◌≡◌, ◌≢◌, ℕ, zero, suc, ◌<◌, List, ◌∷◌, map, length, get_or, replicate, refl, sym, ap, ◌∙◌, subst, length-set, ne_eqb}
+use Rattle.std.specs.Prelude.{slice_set}
+use Rattle.std.proofs.lemmas.List.{set-get_or, get_or-map}
+use lib.Seq.{map-set}
+use mathlib.Core.Logic.{dite}
+use native.Mathlib.Decide.{ℕ_discrete}
+use Rattle.atomic_table.specs.Table.{Me}
+use Rattle.atomic_table.specs.declared.shared.Seat.{Seat}
+use Rattle.gm_word.specs.declared.phase.Phase.{Phase}
+use Rattle.gm_word.specs.declared.phase.Phase.TheVariants.{Awake}
+use Rattle.gm_word.specs.declared.view.Line.{Line}
+use Rattle.gm_word.specs.declared.view.Page.{Page}
+use Rattle.gm_word.specs.declared.view.View.{View}
+use Rattle.gm_word.specs.declared.view.View.TheVariants.{Book}
+use Rattle.gm_word.specs.Lines.{Kind, withdraw, look, line_after, fresh_line}
+use Rattle.gm_word.specs.Steps.{line_at, book_after}
+use Rattle.gm_word.specs.Seats.{SitsAtBook}
+
+abbrev pub Place : Type 0
+Place = Seat (Unit {0}) View
+
+pub map-replicate : {A B : Type 0} (f : A → B) (n : ℕ) (x : A) → map f (replicate n x) ≡ replicate n (f x)
+map-replicate f zero x = refl
+map-replicate f (suc n) x = ap (λ l. f x ∷ l) (map-replicate f n x)
+
+-- the book's seat after a step at a slot, the phase beside it set
+pub sits_after : (kind : Kind) (slot found : ℕ) (old new : Place) (phases : List Phase) (phase : Phase) → (sits : SitsAtBook old phases) → new.table_id ≡ old.table_id → new.id ≡ old.id
+    → ((page : Page) → old.me.0 ≡ Book page → new.me ≡ (book_after kind slot found page, old.me.1))
+    → ((line : Line) → (line_after kind found line).phase ≡ phase) → SitsAtBook new (slice_set phases slot phase)
+sits_after kind slot found old new phases phase sits table id told phase_is =
+    let page = sits.page in
+    let line : Line = line_after kind found (line_at slot page.lines) in
+    record {
+      page = record page { lines = slice_set page.lines slot line };
+      first = id ∙ sits.first;
+      knows = told page (ap (λ (m : Me (Unit {0}) View). m.0) sits.knows) ∙ ap (λ (m : Me (Unit {0}) View). (book_after kind slot found page, m.1)) sits.knows;
+      wide = length-set page.lines slot line ∙ sits.wide ∙ ap (λ t. t.words) (sym table);
+      phases_are = ap (λ (l : List Phase). slice_set l slot phase) sits.phases_are
+          ∙ ap (λ (p : Phase). slice_set (map (λ (x : Line). x.phase) page.lines) slot p) (sym (phase_is (line_at slot page.lines)))
+          ∙ sym (map-set (λ (x : Line). x.phase) page.lines slot line);
+    }
+
+-- the phase beside the seat is that of the line
+pub phase_beside : (phases : List Phase) (lines : List Line) (slot : ℕ) (phase : Phase) → phases ≡ map (λ (line : Line). line.phase) lines → slot < length lines → phase ≡ get_or phases slot phase
+    → (line_at slot lines).phase ≡ phase
+phase_beside phases lines slot phase are low is =
+    sym (get_or-map (λ (line : Line). line.phase) lines slot fresh_line phase low) ∙ ap (λ (l : List Phase). get_or l slot phase) (sym are) ∙ sym is
+
+-- both ends of a withdrawal, and a look that finds the NOOP taken, leave the slot awake
+pub awake_after_withdrawal : (found : ℕ) (line : Line) → (line_after withdraw found line).phase ≡ Awake
+awake_after_withdrawal found line =
+    dite (ℕ_discrete found 2)
+    (λ same. subst (λ (x : ℕ). (line_after withdraw x line).phase ≡ Awake) (sym same) refl)
+    (λ other. rw (ne_eqb found 2 other) refl)
+
+pub awake_after_look : (found : ℕ) (line : Line) → found ≢ 2 → (line_after look found line).phase ≡ Awake
+awake_after_look found line other = rw (ne_eqb found 2 other) refl
+
+-- a look that finds the NOOP still owed changes nothing
+pub sits_still : (slot found : ℕ) (old new : Place) (phases : List Phase) → (sits : SitsAtBook old phases) → new.table_id ≡ old.table_id → new.id ≡ old.id
+    → ((page : Page) → old.me.0 ≡ Book page → new.me ≡ (book_after look slot found page, old.me.1)) → found ≡ 2 → new.me ≡ old.me
+sits_still slot found old new phases sits table id told owed =
+    let page = sits.page in
+    let at : old.me.0 ≡ Book page = ap (λ (m : Me (Unit {0}) View). m.0) sits.knows in
+    let same : book_after look slot 2 page ≡ Book page = ap (λ (l : List Line). Book record page { lines = l }) (set-get_or page.lines slot fresh_line) in
+    told page at ∙ ap (λ (n : ℕ). (book_after look slot n page, old.me.1)) owed ∙ ap (λ (v : View). (v, old.me.1)) (same ∙ sym at)
+
+pub sits_again : (old new : Place) (phases : List Phase) → SitsAtBook old phases → new.table_id ≡ old.table_id → new.id ≡ old.id → new.me ≡ old.me → SitsAtBook new phases
+sits_again old new phases sits table id me =
+    record { page = sits.page; first = id ∙ sits.first; knows = me ∙ sits.knows; wide = sits.wide ∙ ap (λ t. t.words) (sym table); phases_are = sits.phases_are }

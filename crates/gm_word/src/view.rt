@@ -1,0 +1,39 @@
+//! What the seats at a table know. No value of these types is made: they stand in proofs alone.
+
+use crate::phase::Phase;
+use std::collections::LinkedList;
+
+/// What the book knows of a slot.
+pub struct Line {
+    pub phase: Phase,
+    /// How many NOOPs the slot was owed so far.
+    pub wakes: u64,
+    /// How many of them the book has found taken.
+    pub entered: u64,
+    /// How many of them the book has withdrawn.
+    pub withdrawals: u64,
+}
+
+/// How many NOOPs of a slot its pen has taken.
+pub struct Count {
+    pub slot: u32,
+    pub takes: u64,
+}
+
+/// What the book knows.
+pub struct Page {
+    /// A line for each slot.
+    pub lines: LinkedList<Line>,
+    /// The slots below it have been given a pen.
+    pub made: u32,
+    /// The counts of the pens that were given back.
+    pub back: LinkedList<Count>,
+}
+
+/// What a seat knows.
+pub enum View {
+    Book(Page),
+    Pen(Count),
+    /// The pen was given back.
+    Spent,
+}
