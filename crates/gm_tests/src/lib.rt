@@ -7,6 +7,10 @@ mod lines;
 #[cfg(test)]
 mod packets;
 #[cfg(test)]
+mod queues;
+#[cfg(test)]
+mod servers;
+#[cfg(test)]
 mod settings;
 #[cfg(test)]
 mod streams;
