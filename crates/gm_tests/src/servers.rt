@@ -49,7 +49,13 @@ fn withdrawn_noop(rt: HostRuntime) -> Result<(), Fail> {
     assert_eq!(rt; server.withdrew(1), Err(ApplyError::NotOwed));
     assert_eq!(rt; server.took(64), Err(ApplyError::NotOpen));
     assert!(rt; server.drain(64).is_empty());
-    assert_eq!(rt; server.apply(&Event::Close { slot: 1 }), Ok(Done { opened: None, created: None }));
+    assert_eq!(rt;
+        server.apply(&Event::Close { slot: 1 }),
+        Ok(Done {
+            opened: None,
+            created: None
+        })
+    );
     assert_eq!(rt; server.place(1), Place::Waiting);
     Ok(())
 }
