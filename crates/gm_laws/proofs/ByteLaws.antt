@@ -3,16 +3,15 @@ use Rattle.std.proofs.Common.{◌≡◌, ℕ, Bool, true, false, cond, List, [],
 use Rattle.std.specs.Prelude.{◌==◌, unwrap_or}
 use Rattle.std.proofs.lemmas.List.{append-nil}
 use Rattle.std.proofs.lemmas.Bool.Decides.{nat_tests}
-use Rattle.gm_packet.specs.declared.kind.Kind.{Kind}
 use Rattle.gm_notes.specs.declared.note.Note.{Note}
 use Rattle.gm_notes.specs.declared.note.Note.TheVariants as notes
 use Rattle.gm_notes.specs.Settings.{Settings}
 use Rattle.gm_notes.specs.Notes.{is_open}
-use Rattle.gm_notes.specs.Flow.{Flow, Began, Queued, Drained, Emptied, waiting}
+use Rattle.gm_notes.specs.Flow.{Flow, Began, Queued, Drained, Emptied, sent, waiting}
 use Rattle.gm_notes.specs.Past.{Past}
 use Rattle.gm_notes.specs.Steps.{Step, step, run}
 use Rattle.gm_laws.specs.History.{History}
-use Rattle.gm_laws.specs.Laws.{drained, IsFront, SentSo, takes_from, OnlyDrainsTake}
+use Rattle.gm_laws.specs.Laws.{drained, is_kept_up, IsFront, SentSo, takes_from, OnlyDrainsTake}
 use Rattle.gm_laws.proofs.Keeping.{is_inner}
 use Rattle.gm_laws.proofs.StepsKeep.{step_keeps, run_history}
 
@@ -126,3 +125,29 @@ module _ (k : Settings) (s : Step) (start : Past) where
         λ c other. front_drained c (waiting c start.flow) d start.flow (c == d) refl (subst (λ x. takes_from c x ≡ false) e other) (i.1 c other),
       ))
       (history, (all, λ c other. ([], sym (append-nil (waiting c start.flow)))))).1.1
+
+-- ---- any flow
+
+module _ (c : ℕ) where
+  sent_began : (d : ℕ) (older : List Flow) (t : Bool) → (t ≡ false → is_kept_up c older ≡ true → sent c older ≡ drained c older ++ waiting c older) → cond t true (is_kept_up c older) ≡ true → cond t [] (sent c older) ≡ cond t [] (drained c older) ++ cond t [] (waiting c older)
+  sent_began d older true rest e = refl
+  sent_began d older false rest e = rest refl e
+
+  sent_queued : (bytes : List ℕ) (older : List Flow) (t : Bool) → sent c older ≡ drained c older ++ waiting c older → cond t (sent c older ++ bytes) (sent c older) ≡ drained c older ++ cond t (waiting c older ++ bytes) (waiting c older)
+  sent_queued bytes older true rest = ap (λ l. l ++ bytes) rest ∙ append_assoc (drained c older) (waiting c older) bytes
+  sent_queued bytes older false rest = rest
+
+  sent_drained : (older : List Flow) (t : Bool) → sent c older ≡ drained c older ++ waiting c older → sent c older ≡ cond t (drained c older ++ waiting c older) (drained c older) ++ cond t [] (waiting c older)
+  sent_drained older true rest = rest ∙ sym (append-nil (drained c older ++ waiting c older))
+  sent_drained older false rest = rest
+
+  sent_emptied : (older : List Flow) (t : Bool) → (is_kept_up c older ≡ true → sent c older ≡ drained c older ++ waiting c older) → cond t false (is_kept_up c older) ≡ true → sent c older ≡ drained c older ++ cond t [] (waiting c older)
+  sent_emptied older true rest e = absurd cc
+  sent_emptied older false rest e = rest e
+
+pub all_is_sent : (flow : List Flow) (c : ℕ) → is_kept_up c flow ≡ true → sent c flow ≡ drained c flow ++ waiting c flow
+all_is_sent [] c e = refl
+all_is_sent (Began d ∷ older) c e = sent_began c d older (c == d) (λ no_more. all_is_sent older c) e
+all_is_sent (Queued d bytes ∷ older) c e = sent_queued c bytes older (c == d) (all_is_sent older c e)
+all_is_sent (Drained d ∷ older) c e = sent_drained c older (c == d) (all_is_sent older c e)
+all_is_sent (Emptied d ∷ older) c e = sent_emptied c older (c == d) (all_is_sent older c) e

@@ -6,7 +6,6 @@ use Rattle.std.specs.Str.{bytes_eq}
 use Rattle.std.proofs.lemmas.Bool.{and_parts, and_from, or_left, or_right}
 use Rattle.std.proofs.lemmas.Bool.Decides.{nat_tests}
 use Rattle.std.proofs.lemmas.Slice.Eq.{bytes_eq-Decides}
-use Rattle.gm_packet.specs.declared.kind.Kind.{Kind}
 use Rattle.gm_notes.specs.declared.note.Note.{Note}
 use Rattle.gm_notes.specs.declared.note.Note.TheVariants.{Made, Assigned, Returned, Ended, Discarded}
 use Rattle.gm_notes.specs.declared.states.Priority.TheVariants.{Normal}
@@ -17,7 +16,7 @@ use Rattle.gm_laws.specs.History.{Allowed, History}
 use Rattle.gm_laws.specs.Laws.{AreNumbers, is_made, has_place, HavePlaces, is_live_named, AreOne, is_gone, StayGone}
 use Rattle.gm_laws.proofs.StepsKeep.{step_keeps, run_history}
 use Rattle.gm_laws.proofs.Keeping.{keeps_notes}
-use Rattle.gm_laws.proofs.Histories.{numbers}
+use Rattle.gm_laws.proofs.NumberLaws.{numbers}
 
 -- ---- numbers that are equal or not
 

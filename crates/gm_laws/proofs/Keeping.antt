@@ -58,7 +58,7 @@ pub record MaySubmit (s : Step) (c : ℕ) (background : Bool) : Type 0 where
   pub keeps : background ≡ true → is_request is_background s ≡ true
   pub hears : background ≡ false → asks is_foreground c s ≡ true
 
-runs_somewhere : (c : ℕ) (p : Spot) → is_running_at c p ≡ true → is_running p ≡ true
+pub runs_somewhere : (c : ℕ) (p : Spot) → is_running_at c p ≡ true → is_running p ≡ true
 runs_somewhere c (RunsAt d) e = refl
 runs_somewhere c other e = absurd cc
 

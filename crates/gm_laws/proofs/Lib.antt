@@ -1,10 +1,10 @@
 mod ByteLaws
 mod Finding
-mod Histories
 mod JobLaws
 mod Keeping
 mod Listeners
 mod Moving
+mod NumberLaws
 mod Orphans
 mod Runners
 mod Sayings

@@ -27,12 +27,16 @@ filtered_open [] l = tt
 filtered_open (c ∷ slots) l = filtered_at c _ l (is_open c l && has_option c l) refl (filtered_open slots l)
 
 -- the others are open once slot d was closed
-still_open : (c d : ℕ) (older : Bool) (t : Bool) → (c == d) ≡ t → older ≡ true → not t ≡ true → unwrap_or (cond t (Some false) None) older ≡ true
-still_open c d older true is opened other = absurd cc
-still_open c d older false is opened other = opened
+pub still_open : (older t : Bool) → t ≡ false → older ≡ true → unwrap_or (cond t (Some false) None) older ≡ true
+still_open older true other opened = absurd cc
+still_open older false other opened = opened
+
+turned : (t : Bool) → not t ≡ true → t ≡ false
+turned true e = absurd cc
+turned false e = refl
 
 left_at : (c d : ℕ) (rest : List ℕ) (l : List Note) (t : Bool) → not (c == d) ≡ t → is_open c l ≡ true → AllOpen rest (Closed d ∷ l) → AllOpen (cond t (c ∷ rest) rest) (Closed d ∷ l)
-left_at c d rest l true is opened all = (still_open c d (is_open c l) (c == d) refl opened is, all)
+left_at c d rest l true is opened all = (still_open (is_open c l) (c == d) (turned (c == d) is) opened, all)
 left_at c d rest l false is opened all = all
 
 left_open : (d : ℕ) (slots : List ℕ) (l : List Note) → AllOpen slots l → AllOpen (filter (λ c. not (c == d)) slots) (Closed d ∷ l)

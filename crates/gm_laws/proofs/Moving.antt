@@ -12,8 +12,10 @@ use Rattle.gm_notes.specs.Notes.{is_open, phase, is_asleep, slots_from}
 use Rattle.gm_notes.specs.Jobs.{Spot, spot, is_able, made}
 use Rattle.gm_notes.specs.Past.{Past, noted, wake_one, wake_each}
 use Rattle.gm_notes.specs.Closings.{rising}
+use Rattle.gm_notes.specs.Steps.{Step, Close}
 use Rattle.gm_laws.specs.History.{History}
 use Rattle.gm_laws.specs.Laws.{has_place}
+use Rattle.gm_laws.specs.Causes.{is_closing}
 use Rattle.gm_laws.proofs.JobLaws.{is_same, places}
 use Rattle.gm_laws.proofs.Keeping.{kept_if}
 
@@ -77,3 +79,11 @@ wake_each_notes P more f [] past p = p
 wake_each_notes P more f (c ∷ slots) past p =
     wake_each_notes P more f slots (wake_one f c past)
     (kept_if P (is_open c past.notes && is_asleep (phase c past.notes) && is_able c f past.notes) (noted (Woken c) past) past (more c past.notes p) p)
+
+-- ---- steps apart
+
+pub both_not : (t : Bool) → t ≡ true → t ≡ false → ⊥
+both_not t p q = let bad : true ≡ false = sym p ∙ q in let worse : ⊥ = cc in worse
+
+pub closes_not : (s : Step) (c : ℕ) → is_closing s ≡ false → s ≡ Close c → ⊥
+closes_not s c other e = both_not (is_closing s) (ap is_closing e) other

@@ -14,7 +14,7 @@ use Rattle.gm_notes.specs.Jobs.{Waits, RunsAt, Over, Thrown, Job, spot, job, is_
 use Rattle.gm_notes.specs.Past.{Past, noted, refuse, mentioned}
 use Rattle.gm_notes.specs.Submissions.{Submission, is_bad_name, is_one_too_many, is_full, wanted, make, join_or_make, submit}
 use Rattle.gm_notes.specs.Workers.{stir}
-use Rattle.gm_notes.specs.Requests.{submission, request, packet_of}
+use Rattle.gm_notes.specs.Requests.{packet_of, submission, request}
 use Rattle.gm_notes.specs.Closings.{discard_one, discard_each, wake_for, give_back_one, give_back_each, gone, rising, close}
 use Rattle.gm_notes.specs.Steps.{Step, Packet, Close, refusal, step, run}
 use Rattle.gm_laws.specs.History.{Allowed, History}
@@ -22,7 +22,7 @@ use Rattle.gm_laws.specs.Causes.{Caused, is_closing, is_submission, is_request, 
 use Rattle.gm_laws.specs.Between.{NoneIsOrphaned}
 use Rattle.gm_laws.specs.Laws.{has_place}
 use Rattle.gm_laws.proofs.Keeping.{keeps_notes, kept_if}
-use Rattle.gm_laws.proofs.Moving.{moved, from, not_both, In, placed_rises, wake_each_notes}
+use Rattle.gm_laws.proofs.Moving.{closes_not, both_not, moved, from, not_both, In, placed_rises, wake_each_notes}
 use Rattle.gm_laws.proofs.StepsKeep.{step_keeps, taken_or_not, packet_of_kinds, run_history}
 
 -- each waiting job is wanted, but for these
@@ -152,12 +152,6 @@ module _ (k : Settings) (c : ℕ) where
       gives_back_wanted (rising past) (discard_each (rising past) (gone c past)) (discards_wanted (rising past) (gone c past) (λ n e. inr (rises n e)))
 
 -- ---- steps
-
-closes_not : (s : Step) (c : ℕ) → is_closing s ≡ false → s ≡ Close c → ⊥
-closes_not s c other e = let bad : true ≡ false = sym (ap is_closing e) ∙ other in let worse : ⊥ = cc in worse
-
-both_not : (t : Bool) → t ≡ true → t ≡ false → ⊥
-both_not t p q = let bad : true ≡ false = sym p ∙ q in let worse : ⊥ = cc in worse
 
 -- a step that is no closing and no submission
 quiet_wanted : (k : Settings) (s : Step) (start : Past) → is_closing s ≡ false → is_request is_submission s ≡ false → History k start.notes → WantedSo None_ start.notes → WantedSo None_ (step k s start).notes

@@ -1,8 +1,7 @@
 -- Between steps, the slot where a job runs is open.
-use Rattle.std.proofs.Common.{◌≡◌, ◌⊎◌, inl, inr, ℕ, Bool, true, false, cond, not, ◌&&◌, List, [], ◌∷◌, Option, Some, None, refl, sym, ap, subst, ◌∙◌, arith}
+use Rattle.std.proofs.Common.{◌≡◌, ◌⊎◌, inl, inr, ℕ, Bool, true, false, cond, not, ◌&&◌, List, [], ◌∷◌, Option, Some, None, refl, sym, ap, subst, arith}
 use Rattle.std.specs.Prelude.{◌==◌, unwrap_or}
 use Rattle.std.proofs.lemmas.Bool.Decides.{nat_tests}
-use Rattle.gm_packet.specs.declared.kind.Kind.{Kind}
 use Rattle.gm_notes.specs.declared.note.Note.{Note}
 use Rattle.gm_notes.specs.declared.note.Note.TheVariants as notes
 use Rattle.gm_notes.specs.Settings.{Settings}
@@ -18,7 +17,7 @@ use Rattle.gm_laws.specs.Between.{RunnersAreOpen}
 use Rattle.gm_laws.specs.Laws.{has_place}
 use Rattle.gm_laws.proofs.Keeping.{keeps_notes, kept_if}
 use Rattle.gm_laws.proofs.Listeners.{opens}
-use Rattle.gm_laws.proofs.Moving.{moved, from, not_both, In, placed_rises, wake_each_notes}
+use Rattle.gm_laws.proofs.Moving.{closes_not, moved, from, not_both, In, placed_rises, wake_each_notes}
 use Rattle.gm_laws.proofs.StepsKeep.{step_keeps, taken_or_not, run_history}
 
 -- who runs a job is open, but for these
@@ -102,9 +101,6 @@ module _ (k : Settings) (c : ℕ) where
       (λ x. absurd x)))
 
 -- ---- steps
-
-closes_not : (s : Step) (c : ℕ) → is_closing s ≡ false → s ≡ Close c → ⊥
-closes_not s c other e = let bad : true ≡ false = sym (ap is_closing e) ∙ other in let worse : ⊥ = cc in worse
 
 quiet_runs : (k : Settings) (s : Step) (start : Past) → is_closing s ≡ false → History k start.notes → RunsSo Nobody start.notes → RunsSo Nobody (step k s start).notes
 quiet_runs k s start other h r =

@@ -20,16 +20,16 @@ use Rattle.gm_notes.specs.Jobs.{Spot, Waits, RunsAt, Over, Thrown, Job, Ability,
 use Rattle.gm_notes.specs.Past.{Past, noted, refuse, mentioned, wake_one, wake_each, wake}
 use Rattle.gm_notes.specs.Submissions.{Submission, is_bad_name, is_one_too_many, is_full, wanted, make, join_or_make, submit}
 use Rattle.gm_notes.specs.Workers.{stir, woken_if, made_able, can_do, sleep_beside, pre_sleep}
-use Rattle.gm_notes.specs.Requests.{first, submission, request, packet_of}
+use Rattle.gm_notes.specs.Requests.{packet_of, first, submission, request}
 use Rattle.gm_notes.specs.Closings.{discard_one, discard_each, wake_for, give_back_one, give_back_each, gone, rising, close}
 use Rattle.gm_notes.specs.Steps.{Step, Packet, Close, refusal, step, run}
 use Rattle.gm_laws.specs.History.{History}
 use Rattle.gm_laws.specs.Causes.{Caused, is_closing, is_submission, is_enabling, is_sleeping, is_request, is_one_of, asks}
 use Rattle.gm_laws.specs.Between.{NoneSleepsBesideWork}
-use Rattle.gm_laws.proofs.Histories.{slots}
+use Rattle.gm_laws.proofs.NumberLaws.{slots}
 use Rattle.gm_laws.proofs.Keeping.{keeps_notes, kept_if}
-use Rattle.gm_laws.proofs.Listeners.{opens}
-use Rattle.gm_laws.proofs.Moving.{moved, from, not_both, In, slot_in}
+use Rattle.gm_laws.proofs.Listeners.{opens, still_open}
+use Rattle.gm_laws.proofs.Moving.{both_not, moved, from, not_both, In, slot_in}
 use Rattle.gm_laws.proofs.StepsKeep.{step_keeps, taken_or_not, packet_of_kinds, run_history}
 use Rattle.gm_laws.proofs.Waiting.{something_waits, no_pick}
 
@@ -50,10 +50,6 @@ awake_at c d new old false is awake e = (is, e)
 asleep_at : (c d : ℕ) (old : Phase) (t : Bool) → (c == d) ≡ t → is_asleep (unwrap_or (cond t (Some Asleep) None) old) ≡ true → (c ≡ d) ⊎ (is_asleep old ≡ true)
 asleep_at c d old true is e = let same : c ≡ d = grind (arith, nat_tests) in inl same
 asleep_at c d old false is e = inr e
-
-still_open : (older t : Bool) → t ≡ false → older ≡ true → unwrap_or (cond t (Some false) None) older ≡ true
-still_open older true other e = absurd cc
-still_open older false other e = e
 
 -- who sleeps is open
 sleepers_open : (k : Settings) (l : List Note) → History k l → (c : ℕ) → is_asleep (phase c l) ≡ true → is_open c l ≡ true
@@ -325,9 +321,6 @@ is_stirring kind = is_submission kind || is_enabling kind || is_sleeping kind
 asks_some : (kinds : Kind → Bool) (c : ℕ) (s : Step) → asks kinds c s ≡ true → is_request kinds s ≡ true
 asks_some kinds c (Packet d number bytes) e = (and_parts (c == d) (is_one_of kinds (kind_of number)) e).1
 asks_some kinds c other e = absurd cc
-
-both_not : (t : Bool) → t ≡ true → t ≡ false → ⊥
-both_not t p q = let bad : true ≡ false = sym p ∙ q in let worse : ⊥ = cc in worse
 
 -- a step that is no closing, submission, new ability or sleep adds quiet notes
 quiet_notes : (before : List Note) (s : Step) (note : Note) (older : List Note) → is_closing s ≡ false → is_request is_submission s ≡ false → is_request is_enabling s ≡ false → is_request is_sleeping s ≡ false → Caused before s note older → is_quiet note ≡ true

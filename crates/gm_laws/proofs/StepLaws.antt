@@ -1,18 +1,25 @@
 -- The laws about what a step does to notes and says.
-use Rattle.std.proofs.Common.{◌≡◌, ◌⊎◌, inl, inr, ℕ, suc, Bool, true, false, not, ◌||◌, List, [], ◌∷◌, ◌++◌, length, filter, refl, sym, ap, subst, arith}
+use Rattle.std.proofs.Common.{Some, None, Option, ◌∙◌, ◌≡◌, ◌⊎◌, inl, inr, ℕ, suc, Bool, true, false, not, ◌||◌, List, [], ◌∷◌, ◌++◌, length, filter, refl, sym, ap, subst, arith}
 use Rattle.std.specs.Prelude.{◌==◌}
 use Rattle.std.proofs.lemmas.Bool.Decides.{nat_tests}
+use Rattle.std.proofs.lemmas.Option.{same_Some}
 use Rattle.gm_packet.specs.declared.kind.Kind.{Kind}
+use Rattle.gm_packet.specs.declared.kind.Kind.TheVariants.{GrabJob, GrabJobUniq}
+use Rattle.gm_packet.specs.Kinds.{kind_of}
+use Rattle.gm_notes.specs.Requests.{packet_of}
 use Rattle.gm_notes.specs.declared.note.Note.{Note}
 use Rattle.gm_notes.specs.declared.note.Note.TheVariants as notes
 use Rattle.gm_notes.specs.Settings.{Settings}
 use Rattle.gm_notes.specs.Flow.{Flow, Began, Queued, Drained, Emptied}
-use Rattle.gm_notes.specs.Jobs.{Waits, RunsAt, Over, Thrown, spot, is_wanted, is_kept, listeners}
-use Rattle.gm_notes.specs.Past.{Past}
-use Rattle.gm_notes.specs.Steps.{Step, Open, Packet, Line, Fault, Close, Tick, Took, Withdrew, Drain, step}
+use Rattle.gm_notes.specs.Jobs.{Job, Pick, job, pick, Waits, RunsAt, Over, Thrown, spot, is_wanted, is_kept, listeners}
+use Rattle.gm_notes.specs.Past.{Past, noted}
+use Rattle.gm_notes.specs.Workers.{stir, deadline_after, tell_assigned, give_out}
+use Rattle.gm_notes.specs.Notes.{moment, takes_units}
+use Rattle.gm_notes.specs.Steps.{Step, Open, Packet, Line, Fault, Close, Tick, Took, Withdrew, Drain, unless, unless_not_open, step, run}
 use Rattle.gm_laws.specs.History.{Allowed, Gets, History}
-use Rattle.gm_laws.specs.Causes.{Caused, Ends, AllCaused, AllSaid, asks, is_request, is_grab, is_closing}
-use Rattle.gm_laws.specs.Laws.{NotesAreCaused, DiscardsTheUnwanted, EndsWithItsWorker, GivesThePick, SaysNoJobWhereNoneIs}
+use Rattle.gm_laws.specs.Causes.{is_one_of, Caused, Ends, AllCaused, AllSaid, asks, is_request, is_grab, is_closing}
+use Rattle.gm_laws.specs.Laws.{NotesAreCaused, DiscardsTheUnwanted, EndsWithItsWorker, GivesThePick, GrabsGetThePick, SaysNoJobWhereNoneIs}
+use Rattle.gm_laws.proofs.Finding.{same_number}
 use Rattle.gm_laws.proofs.Moving.{moved, from}
 use Rattle.gm_laws.proofs.Keeping.{keeps_notes}
 use Rattle.gm_laws.proofs.StepsKeep.{step_keeps}
@@ -139,3 +146,34 @@ module _ (k : Settings) (s : Step) (start : Past) (history : History k start.not
       })
       (λ c e h p. (Drained c ∷ p.0, ap (λ l. Drained c ∷ l) p.1, (tt, p.2)))
       (history, ([], refl, tt))).1
+
+-- ---- a grab gets its pick
+
+assigned_notes : (k : Settings) (c : ℕ) (uniq : Bool) (n : ℕ) (o : Option Job) (past : Past) → (tell_assigned k c uniq n o past).notes ≡ past.notes
+assigned_notes k c uniq n None past = refl
+assigned_notes k c uniq n (Some job) past = refl
+
+given_out : (k : Settings) (c : ℕ) (uniq : Bool) (o : Option Pick) (found : Pick) (past : Past) → o ≡ Some found → spot found.job (give_out k c uniq o past).notes ≡ RunsAt c
+given_out k c uniq None found past is = absurd cc
+given_out k c uniq (Some other) found past is =
+    let same = same_Some other found is in
+    let n = other.job in
+    let runs : spot n (notes.Assigned n c (deadline_after (moment past.notes) other.timeout) ∷ past.notes) ≡ RunsAt c = rw (same_number n) refl in
+    subst (λ (p : Pick). spot p.job (give_out k c uniq (Some other) past).notes ≡ RunsAt c) same
+    (subst (λ l. spot n l ≡ RunsAt c) (sym (assigned_notes k c uniq n (job n past.notes) (noted (notes.Assigned n c (deadline_after (moment past.notes) other.timeout)) past))) runs)
+
+grabbed : (k : Settings) (c : ℕ) (o : Option Kind) (found : Pick) (start : Past) → is_one_of is_grab o ≡ true → pick c start.notes ≡ Some found → spot found.job (packet_of k c o [] start).notes ≡ RunsAt c
+grabbed k c None found start e is = absurd cc
+grabbed k c (Some GrabJob) found start e is = given_out k c false (pick c start.notes) found (stir c start) is
+grabbed k c (Some GrabJobUniq) found start e is = given_out k c true (pick c start.notes) found (stir c start) is
+grabbed k c (Some kind) found start e is = absurd cc
+
+taken_is : (t : Bool) (after before : Past) → t ≡ true → unless (unless_not_open t) after before ≡ after
+taken_is true after before e = refl
+taken_is false after before e = absurd cc
+
+pub grabs : GrabsGetThePick
+grabs k steps c number found e takes is =
+    let start = run k steps in
+    ap (λ (past : Past). spot found.job past.notes) (taken_is (takes_units c start.notes) (packet_of k c (kind_of number) [] start) start takes)
+    ∙ grabbed k c (kind_of number) found start e is

@@ -24,24 +24,24 @@ use Rattle.gm_notes.specs.declared.note.Note.{Note}
 use Rattle.gm_notes.specs.declared.note.Note.TheVariants as notes
 use Rattle.gm_notes.specs.Settings.{Settings}
 use Rattle.gm_notes.specs.Notes.{is_open, is_shut, takes_units, phase, is_asleep, is_owed, moment, mode, slots_from}
-use Rattle.gm_notes.specs.Jobs.{Spot, RunsAt, Job, spot, job, is_waiting, is_running, is_running_at, is_live, is_wanted, is_mentioned, report, listeners, deadline, handle, handled}
+use Rattle.gm_notes.specs.Jobs.{Job, spot, job, is_waiting, is_running, is_running_at, is_live, is_wanted, is_mentioned, report, listeners, deadline, handle, handled}
 use Rattle.gm_notes.specs.Past.{Past, noted, flowed, print, give, refuse, mentioned, tell_all}
 use Rattle.gm_notes.specs.Submissions.{is_one_too_many}
 use Rattle.gm_notes.specs.Texts.{fault_text}
 use Rattle.gm_notes.specs.Flow.{Drained}
 use Rattle.gm_notes.specs.Submissions.{submit}
 use Rattle.gm_notes.specs.Workers.{stir, work}
-use Rattle.gm_notes.specs.Requests.{first, second, third, submission, passing, ending, tell_status, set_option, request, request_if_read, packet_of}
+use Rattle.gm_notes.specs.Requests.{packet_of, first, second, third, submission, passing, ending, tell_status, set_option, request, request_if_read}
 use Rattle.gm_notes.specs.Lines.{refuse_line, fault_error, status_rows, worker_rows, is_bad_word, maxqueue, shut_one, shut_each, went_graceful, shutdown, command}
 use Rattle.gm_notes.specs.Closings.{discard_one, discard_each, wake_for, give_back_one, give_back_each, gone, rising, close, is_reached, expire_one, expire_each, tick}
-use Rattle.gm_notes.specs.Steps.{Step, Open, Packet, Line, Fault, Close, Tick, Took, Withdrew, Drain, free_slot, opening, add, refusal, unless_not_open, unless, step, run}
+use Rattle.gm_notes.specs.Steps.{Step, Open, Packet, Line, Fault, Close, Tick, Took, Withdrew, Drain, free_slot, opening, refusal, unless_not_open, unless, add, step, run}
 use Rattle.gm_notes.proofs.FreeSlots.{free_is}
 use Rattle.gm_laws.specs.History.{Allowed, History}
 use Rattle.gm_laws.specs.Causes.{is_one_of, asks, is_request, is_submission, is_foreground, is_background, is_enabling, is_disabling, is_resetting, is_sleeping, is_grab, is_reporting, is_ending, is_naming, is_choosing, is_line, is_closing, closes, faults as has_fault}
 use Rattle.gm_laws.proofs.Finding.{same_number}
 use Rattle.gm_laws.proofs.Listeners.{listeners_open}
 use Rattle.gm_laws.proofs.Sayings.{Other, fail_other, status_other, complete_other, data_other, warning_other, exception_other, echo_other, option_other, known_other, ok_other, version_other, refusal_other, fault_other, list_other, rows_other}
-use Rattle.gm_laws.proofs.Keeping.{Keeps, Held, kept_if, held_if, note_keeps, says_keeps, gives_keeps, refuses_keeps, tells_keeps, wake_keeps, mentions_keeps, submit_keeps, can_do_keeps, cant_do_keeps, pre_sleep_keeps, stir_keeps, grab_keeps, works_keeps, tell_all_notes}
+use Rattle.gm_laws.proofs.Keeping.{Keeps, Held, kept_if, held_if, note_keeps, says_keeps, gives_keeps, refuses_keeps, tells_keeps, wake_keeps, mentions_keeps, submit_keeps, can_do_keeps, cant_do_keeps, pre_sleep_keeps, stir_keeps, grab_keeps, works_keeps, tell_all_notes, runs_somewhere}
 
 -- what is read of a kind is of that kind
 read_at : (kind : Kind) (o : Option (List (List ℕ) × ℕ)) (asked : Asked) → option_map (λ (found : List (List ℕ) × ℕ). record { kind = kind; arguments = found.0; timeout = found.1 }) o ≡ Some asked → asked.kind ≡ kind
@@ -123,14 +123,16 @@ module _ {k : Settings} {I : Past → Type 0} (start : Past) (c number : ℕ) (b
 
   pub packet_keeps : (o : Option Kind) → kind_of number ≡ o → Held k I (packet_of k c o bytes start)
   packet_keeps None is = refuses_keeps K c (codes "unknown_command") start opened h
-  packet_keeps (Some kind) is = read_keeps kind (read_as kind bytes) is refl
+  packet_keeps (Some kind) is =
+      read_keeps kind (read_as kind bytes) is refl
 
 -- a packet whose kind is one of these, by what its request does
 pub packet_of_kinds : (P : List Note → Type 0) (k : Settings) (c : ℕ) (kinds : Kind → Bool) (bytes : List ℕ) (start : Past) → P start.notes
     → ((kind : Kind) (a : List (List ℕ)) (timeout : ℕ) → kinds kind ≡ true → P (request k c kind a timeout start).notes)
     → (o : Option Kind) → is_one_of kinds o ≡ true → P (packet_of k c o bytes start).notes
 packet_of_kinds P k c kinds bytes start p more None e = absurd cc
-packet_of_kinds P k c kinds bytes start p more (Some kind) e = read_of_kind (read_as kind bytes) refl
+packet_of_kinds P k c kinds bytes start p more (Some kind) e =
+    read_of_kind (read_as kind bytes) refl
   where
     read_of_kind : (o : Option Asked) → o ≡ read_as kind bytes → P (request_if_read k c o start).notes
     read_of_kind None is = p
@@ -188,10 +190,6 @@ module _ {k : Settings} {before : List Note} {s : Step} {I : Past → Type 0} (K
   command_keeps (Ok (Shutdown graceful)) past opened h = shutdown_keeps graceful past opened h
 
 -- ---- closings and ticks
-
-runs_somewhere : (c : ℕ) (s : Spot) → is_running_at c s ≡ true → is_running s ≡ true
-runs_somewhere c (RunsAt d) e = refl
-runs_somewhere c other e = absurd cc
 
 unwanted : (t : Bool) → not t ≡ true → t ≡ false
 unwanted true e = absurd cc

@@ -1,15 +1,16 @@
 -- What holds after any steps, under any settings.
-use Rattle.std.specs.Prelude.{◌≡◌, ℕ, ◌+◌, ◌<◌, ◌^◌, ◌&&◌, ◌==◌, ◌⊎◌, Bool, true, false, if◌then◌else◌, List, [], ◌∷◌, ◌++◌, length}
+use Rattle.std.specs.Prelude.{◌≡◌, ℕ, ◌+◌, ◌<◌, ◌^◌, ◌&&◌, ◌==◌, ◌⊎◌, Bool, true, false, if◌then◌else◌, List, [], ◌∷◌, ◌++◌, length, Some}
 use Rattle.std.specs.List.{list_any}
+use Rattle.gm_packet.specs.Kinds.{kind_of}
 use Rattle.gm_notes.specs.declared.note.Note.{Note}
 use Rattle.gm_notes.specs.Settings.{Settings}
-use Rattle.gm_notes.specs.Notes.{is_open}
+use Rattle.gm_notes.specs.Notes.{is_open, takes_units}
 use Rattle.gm_notes.specs.Flow.{Flow, Began, Queued, Drained, Emptied, sent, waiting}
-use Rattle.gm_notes.specs.Jobs.{Spot, Unmade, RunsAt, Over, Thrown, spot, is_live, is_wanted, job, is_job_named, joins, made}
-use Rattle.gm_notes.specs.Steps.{Step, Close, Drain, run}
+use Rattle.gm_notes.specs.Jobs.{Spot, Pick, pick, Unmade, RunsAt, Over, Thrown, spot, is_live, is_wanted, job, is_job_named, joins, made}
+use Rattle.gm_notes.specs.Steps.{Step, Packet, Close, Drain, run}
 use Rattle.gm_notes.specs.Past.{Past}
 use Rattle.gm_laws.specs.History.{Gets}
-use Rattle.gm_laws.specs.Causes.{Ends, AllCaused, AllSaid, asks, is_grab, is_closing}
+use Rattle.gm_laws.specs.Causes.{Ends, AllCaused, AllSaid, asks, is_grab, is_one_of, is_closing}
 
 -- P holds of the notes after any steps
 abbrev pub AfterAnySteps : (Settings → List Note → Type 0) → Type 0
@@ -107,6 +108,12 @@ EndsWithItsWorker before s after = (n : ℕ) → spot n after.notes ≡ Over →
 abbrev pub GivesThePick : Past → Step → Past → Type 0
 GivesThePick before s after = (n c : ℕ) → spot n after.notes ≡ RunsAt c →
     (spot n before.notes ≡ RunsAt c) ⊎ ((asks is_grab c s ≡ true) × Gets c n before.notes)
+
+-- a grab of a slot that takes units gets its pick: the job runs there
+abbrev pub GrabsGetThePick : Type 0
+GrabsGetThePick = (k : Settings) (steps : List Step) (c number : ℕ) (found : Pick) →
+    is_one_of is_grab (kind_of number) ≡ true → takes_units c (run k steps).notes ≡ true → pick c (run k steps).notes ≡ Some found →
+    spot found.job (run k (Packet c number [] ∷ steps)).notes ≡ RunsAt c
 
 -- NO_JOB is queued only for a grab, and only where there is no pick
 abbrev pub SaysNoJobWhereNoneIs : Past → Step → Past → Type 0

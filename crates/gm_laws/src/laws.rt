@@ -3,7 +3,7 @@
 
 ghost use Rattle.gm_notes.specs.Jobs.{made};
 ghost use Rattle.gm_laws.specs.History.{History};
-ghost use Rattle.gm_laws.specs.Laws.{AfterAnySteps, AreNumbers, AreSlots, HavePlaces, AreOne, StayGone, AllIsSent, BytesArrive, InEachStep, NotesAreCaused, DiscardsTheUnwanted, EndsWithItsWorker, GivesThePick, SaysNoJobWhereNoneIs, OnlyDrainsTake};
+ghost use Rattle.gm_laws.specs.Laws.{AfterAnySteps, AreNumbers, AreSlots, HavePlaces, AreOne, StayGone, AllIsSent, BytesArrive, InEachStep, NotesAreCaused, DiscardsTheUnwanted, EndsWithItsWorker, GivesThePick, GrabsGetThePick, SaysNoJobWhereNoneIs, OnlyDrainsTake};
 ghost use Rattle.gm_laws.specs.Between.{ListenersAreOpen, RunnersAreOpen, NoneIsOrphaned, NoneSleepsBesideWork};
 
 /// Every note of the past was allowed when it was added: only a waiting job was given out, and only to whose
@@ -73,6 +73,11 @@ pub fn ends_with_its_worker()
 /// A job comes to run at a slot only where the slot grabs, and the job is its pick.
 pub fn gives_the_pick()
     ensures { InEachStep GivesThePick }
+{}
+
+/// A grab of a slot that takes units gets its pick: the job runs there.
+pub fn grabs_get_the_pick()
+    ensures { GrabsGetThePick }
 {}
 
 /// NO_JOB is queued only for a grab, and only where there is no pick.

@@ -1,5 +1,5 @@
 use Rattle.gm_laws.proofs.StepsKeep.{run_history}
-use Rattle.gm_laws.proofs.Histories.{numbers as law}
+use Rattle.gm_laws.proofs.NumberLaws.{numbers as law}
 use Rattle.gm_notes.specs.Steps.{run}
 use Rattle.gm_laws.proofs.laws.numbers.Goals as goal
 

@@ -1,5 +1,5 @@
 use Rattle.gm_laws.proofs.StepsKeep.{run_history}
-use Rattle.gm_laws.proofs.Histories.{slots as law}
+use Rattle.gm_laws.proofs.NumberLaws.{slots as law}
 use Rattle.gm_notes.specs.Steps.{run}
 use Rattle.gm_laws.proofs.laws.slots.Goals as goal
 
