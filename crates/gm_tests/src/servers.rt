@@ -59,3 +59,97 @@ fn withdrawn_noop(rt: HostRuntime) -> Result<(), Fail> {
     assert_eq!(rt; server.place(1), Place::Waiting);
     Ok(())
 }
+
+/// A request: the slot that it comes from, its type and its data.
+#[derive(Clone, Copy)]
+struct Request {
+    slot: u32,
+    kind: u32,
+    bytes: &'static [u8],
+}
+
+/// Jobs that wait, run and are listened to, a worker that sleeps, and one that is owed a NOOP.
+const REQUESTS: [Request; 12] = [
+    Request {
+        slot: 1,
+        kind: 1,
+        bytes: b"f",
+    },
+    Request {
+        slot: 2,
+        kind: 23,
+        bytes: b"f\09",
+    },
+    Request {
+        slot: 1,
+        kind: 4,
+        bytes: b"",
+    },
+    Request {
+        slot: 0,
+        kind: 7,
+        bytes: b"f\0a\0d",
+    },
+    Request {
+        slot: 2,
+        kind: 9,
+        bytes: b"",
+    },
+    Request {
+        slot: 2,
+        kind: 12,
+        bytes: b"H:gmd:1\01\02",
+    },
+    Request {
+        slot: 0,
+        kind: 18,
+        bytes: b"f\0b\0d",
+    },
+    Request {
+        slot: 2,
+        kind: 9,
+        bytes: b"",
+    },
+    Request {
+        slot: 0,
+        kind: 21,
+        bytes: b"f\0c\0d",
+    },
+    Request {
+        slot: 2,
+        kind: 15,
+        bytes: b"H:gmd:3",
+    },
+    Request {
+        slot: 2,
+        kind: 2,
+        bytes: b"f",
+    },
+    Request {
+        slot: 2,
+        kind: 4,
+        bytes: b"",
+    },
+];
+
+/// Whatever was last refused for memory, connections then close one after another.
+#[test]
+fn closings(rt: HostRuntime) -> Result<(), Fail> {
+    let mut server = server(rt.alloc(), 3)?;
+    for request in &REQUESTS {
+        let Request { slot, kind, bytes } = *request;
+        let done = server.apply(&Event::Packet { slot, kind, bytes });
+        if done == Err(ApplyError::Memory) {
+            break;
+        }
+    }
+    for slot in 0..3 {
+        let closed = Done {
+            opened: None,
+            created: None,
+        };
+        assert_eq!(rt; server.apply(&Event::Close { slot }), Ok(closed));
+        assert!(rt; server.drain(slot).is_empty());
+    }
+    Ok(())
+}
