@@ -1,5 +1,5 @@
 -- Closings make no jobs.
-use Rattle.std.proofs.Common.{◌≡◌, ℕ, Bool, true, false, List, [], ◌∷◌, reverse, Option, Some, None, refl, sym, ap, ap₂, ◌∙◌}
+use Rattle.std.proofs.Common.{◌≡◌, ℕ, Bool, true, false, List, [], ◌∷◌, reverse, Option, Some, None, refl, ap, ◌∙◌}
 use Rattle.std.specs.Prelude.{not, ◌&&◌, if◌then◌else◌}
 use Rattle.gm_notes.specs.declared.note.Note.TheVariants.{Woken, Stirred, Returned, Discarded}
 use Rattle.gm_notes.specs.Settings.{Settings}

@@ -1,6 +1,6 @@
 -- What a plain server needs of the definitions.
-use Rattle.std.proofs.Common.{◌≡◌, ◌≢◌, ℕ, zero, suc, ◌+◌, ◌<◌, Bool, true, false, cond, List, [], ◌∷◌, ◌++◌, length, get_or, set, Option, Some, None, Result, Ok, Err, refl, sym, ap, subst, ◌∙◌, arith, length-set}
-use Rattle.std.specs.Prelude.{is_some, ◌&&◌, ◌==◌, if◌then◌else◌, unwrap_or}
+use Rattle.std.proofs.Common.{◌≡◌, ◌≢◌, ℕ, suc, ◌+◌, ◌<◌, Bool, true, false, cond, List, [], ◌∷◌, ◌++◌, length, get_or, set, Option, Some, None, Result, Ok, Err, refl, sym, ap, subst, ◌∙◌, arith, length-set}
+use Rattle.std.specs.Prelude.{is_some, ◌&&◌, ◌==◌, if◌then◌else◌}
 use Rattle.std.specs.Result.{IsErr, IsErrAnd, OnOk, OnErr}
 use Rattle.std.specs.List.{All}
 use Rattle.std.proofs.lemmas.Bool.Decides.{nat_tests}
@@ -31,7 +31,7 @@ use Rattle.gm_notes.specs.Servers.{IsRefusal, Answers, steps_after}
 use Rattle.gm_notes.specs.Closings.{wake_for}
 use Rattle.gm_plain.proofs.NoteLemmas.{self}
 use Rattle.gm_plain.specs.Holds.{Holds, Agrees, Changes, unless_wanting, wake_one_for}
-use Rattle.gm_notes.specs.Steps.{Step, unless, refusal, free_from, if_free, if_welcome, unless_not_open, made_since}
+use Rattle.gm_notes.specs.Steps.{Step, unless, refusal, if_free, if_welcome, unless_not_open, made_since}
 use Rattle.gm_notes.specs.Steps.{run, add}
 
 -- ---- one change after another

@@ -1,9 +1,9 @@
 -- Requests as they come, against the table of effects.
-use Rattle.std.proofs.Common.{◌≡◌, ℕ, Bool, true, false, List, [], ◌∷◌, Option, Some, None, Result, Ok, Err, refl, ap, sym, ◌∙◌}
+use Rattle.std.proofs.Common.{◌≡◌, ℕ, true, false, List, [], ◌∷◌, Option, Some, None, Result, Ok, Err, refl, ap}
 use Rattle.std.specs.Option.{option_map, ok_or}
 use Rattle.gm_packet.specs.declared.kind.Kind.{Kind}
 use Rattle.gm_packet.specs.declared.request.Request.{Request}
-use Rattle.gm_packet.specs.declared.request.Request.TheVariants.{CanDo, CantDo, ResetAbilities, PreSleep, SubmitJob, GrabJob, WorkStatus, WorkComplete, WorkFail, GetStatus, EchoReq, SubmitJobBg, SubmitJobHigh, SetClientId, CanDoTimeout, AllYours, WorkException, OptionReq, WorkData, WorkWarning, GrabJobUniq, SubmitJobHighBg, SubmitJobLow, SubmitJobLowBg}
+use Rattle.gm_packet.specs.declared.request.Request.TheVariants.{SubmitJob, WorkStatus, WorkComplete, WorkFail, SubmitJobBg, SubmitJobHigh, WorkException, WorkData, WorkWarning, SubmitJobHighBg, SubmitJobLow, SubmitJobLowBg}
 use Rattle.gm_packet.specs.declared.request.RequestFault.{RequestFault}
 use Rattle.gm_packet.specs.declared.request.RequestFault.TheVariants as faults
 use Rattle.gm_packet.specs.Kinds.{shape}

@@ -1,9 +1,8 @@
 -- The requests in three groups: submissions, what workers say of their jobs, and the others.
-use Rattle.std.specs.Prelude.{Bool, true, false, List, [], ◌∷◌, ℕ, Option, Some, None}
+use Rattle.std.specs.Prelude.{true, false, List, [], ◌∷◌, ℕ, Option, Some, None}
 use Rattle.gm_packet.specs.declared.request.Request.{Request}
 use Rattle.gm_packet.specs.declared.request.Request.TheVariants.{SubmitJob, SubmitJobBg, SubmitJobHigh, SubmitJobHighBg, SubmitJobLow, SubmitJobLowBg, WorkStatus, WorkData, WorkWarning, WorkException, WorkComplete, WorkFail}
 use Rattle.gm_packet.specs.Writing.{work_status, work_complete, work_fail, work_data, work_warning, work_exception}
-use Rattle.gm_notes.specs.declared.states.Priority.{Priority}
 use Rattle.gm_notes.specs.declared.states.Priority.TheVariants.{High, Normal, Low}
 use Rattle.gm_notes.specs.Submissions.{Submission}
 use Rattle.gm_notes.specs.Requests.{submission, passing, ending}

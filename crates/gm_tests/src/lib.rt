@@ -3,6 +3,8 @@
 #![tactic(auto)]
 
 #[cfg(test)]
+mod conns;
+#[cfg(test)]
 mod lines;
 #[cfg(test)]
 mod packets;

@@ -18,4 +18,4 @@ pub fresh_pens-fit : (table : TableId) (slots : ℕ) → All (λ (pen : PenState
 fresh_pens-fit table zero = λ k d low. absurd (omega arith)
 fresh_pens-fit table (suc slots) =
     All-append (λ (pen : PenState). pen.table ≡ table) (fresh_pens table slots) (fresh_pen table slots ∷ []) (fresh_pens-fit table slots)
-        (only_one (λ (pen : PenState). pen.table ≡ table) (fresh_pen table slots) refl)
+    (only_one (λ (pen : PenState). pen.table ≡ table) (fresh_pen table slots) refl)

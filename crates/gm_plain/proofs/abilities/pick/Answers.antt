@@ -1,4 +1,4 @@
-use Rattle.std.proofs.Common.{sym, ap, ◌∙◌, map}
+use Rattle.std.proofs.Common.{map}
 use Rattle.gm_plain.specs.Searches.{ability_of}
 use Rattle.gm_plain.proofs.Picks.{picked_waits}
 use Rattle.gm_plain.proofs.abilities.pick.Goals as goal

@@ -1,9 +1,9 @@
-use Rattle.std.proofs.Common.{◌≡◌, ◌<◌, ◌^◌, ◌++◌, ℕ, Bool, true, false, List, Option, Some, None, reverse, decimal, codes, sym, ap, ◌∙◌, arith}
-use Rattle.std.specs.Prelude.{◌==◌, if◌then◌else◌}
+use Rattle.std.proofs.Common.{◌≡◌, ◌++◌, ℕ, true, false, List, decimal, codes, sym, ap, ◌∙◌, arith}
+use Rattle.std.specs.Prelude.{◌==◌}
 use Rattle.std.specs.List.{list_any}
 use Rattle.std.proofs.lemmas.List.{append_cancel_left}
 use Rattle.gm_notes.specs.declared.note.Note.{Note}
-use Rattle.gm_notes.specs.Jobs.{made, handle, handled}
+use Rattle.gm_notes.specs.Jobs.{made, handle}
 use Rattle.gm_plain.proofs.HandleTexts.{no_handle, one_handle}
 use Rattle.gm_plain.proofs.handles.handled.Goals as goal
 use Rattle.gm_plain.proofs.handles.handled.Goals.{In-Some-number_of}

@@ -1,8 +1,7 @@
-use Rattle.std.proofs.Common.{◌≡◌, Bool, true, List, reverse, take, sym, ap, ◌∙◌}
+use Rattle.std.proofs.Common.{reverse, take, sym, ap, ◌∙◌}
 use Rattle.std.specs.Prelude.{◌==◌, ◌||◌}
 use Rattle.std.specs.List.{list_any}
 use Rattle.gm_notes.specs.Jobs.{made}
-use Rattle.gm_plain.specs.Searches.{makes}
 use Rattle.gm_plain.proofs.NoteLemmas.{note_next}
 use Rattle.gm_plain.proofs.MadeJobs.{made_next}
 use Rattle.gm_plain.proofs.handles.is_made.Goals as goal

@@ -1,5 +1,4 @@
-use Rattle.std.proofs.Common.{◌≡◌, ◌<◌, false, sym, ◌∙◌, arith, below_more}
-use Rattle.gm_plain.specs.Searches.{is_listening}
+use Rattle.std.proofs.Common.{sym, ◌∙◌, arith, below_more}
 use Rattle.gm_plain.proofs.LogLemmas.{listeners_below}
 use Rattle.gm_plain.proofs.Listening.{heard_at, heard_nowhere}
 use Rattle.gm_plain.proofs.jobs.is_heard.Goals as goal

@@ -1,4 +1,4 @@
-use Rattle.std.proofs.Common.{◌≡◌, ℕ, List, Option, Some, None, reverse, sym, ap, subst, ◌∙◌, drop, arith}
+use Rattle.std.proofs.Common.{List, reverse, ap, ◌∙◌, drop}
 use Rattle.std.specs.Prelude.{slice_get}
 use Rattle.gm_notes.specs.declared.note.Note.{Note}
 use Rattle.gm_notes.specs.Jobs.{made}

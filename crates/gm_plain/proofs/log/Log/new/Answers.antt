@@ -1,6 +1,4 @@
-use Rattle.std.proofs.Common.{◌≤◌, ℕ, List, [], reverse, sym, ap, subst, arith, ◌∙◌}
-use Rattle.gm_notes.specs.declared.note.Note.{Note}
-use Rattle.gm_plain.specs.Logs.{IsPaid, paid}
+use Rattle.std.proofs.Common.{arith}
 use Rattle.gm_plain.proofs.Dues.{nothing_due}
 use Rattle.gm_plain.proofs.log.Log.new.Goals as goal
 

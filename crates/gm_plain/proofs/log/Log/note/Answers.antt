@@ -1,8 +1,7 @@
-use Rattle.std.proofs.Common.{◌≡◌, ◌+◌, ◌≤◌, ◌<◌, ℕ, List, [], ◌∷◌, ◌++◌, length, reverse, sym, ap, subst, arith, ◌∙◌}
+use Rattle.std.proofs.Common.{◌≡◌, ◌+◌, ◌≤◌, [], ◌∷◌, reverse, sym, ap, subst, arith, ◌∙◌}
 use Rattle.std.proofs.lemmas.List.{reverse-append, length-reverse}
-use Rattle.std.specs.Vec.{vec_len, vec_capacity}
-use Rattle.gm_notes.specs.declared.note.Note.{Note}
-use Rattle.gm_plain.specs.Logs.{Logged, IsPaid, NoteFits, Stands, weight, paid}
+use Rattle.std.specs.Vec.{vec_capacity}
+use Rattle.gm_plain.specs.Logs.{Logged, NoteFits, Stands, weight, paid}
 use Rattle.gm_plain.proofs.Dues.{paid_next, room_for}
 use Rattle.gm_plain.proofs.log.Log.note.Goals as goal
 use Rattle.gm_plain.proofs.log.Log.note.Goals.{After-push_reserved-arg-1}

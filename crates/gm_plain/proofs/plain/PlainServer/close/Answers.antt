@@ -1,5 +1,4 @@
-use Rattle.std.proofs.Common.{◌≡◌, ℕ, true, List, Option, None, refl, sym, ap, ◌∙◌}
-use Rattle.gm_notes.specs.declared.note.Note.{Note}
+use Rattle.std.proofs.Common.{◌≡◌, ℕ, true, Option, None, sym, ap, ◌∙◌}
 use Rattle.gm_notes.specs.Settings.{Settings}
 use Rattle.gm_notes.specs.Notes.{is_open}
 use Rattle.gm_notes.specs.Jobs.{made}

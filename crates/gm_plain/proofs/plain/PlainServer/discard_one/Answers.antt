@@ -1,9 +1,8 @@
 use Rattle.std.proofs.Common.{◌≡◌, true, false, List, sym, ap, refl, ◌∙◌}
-use Rattle.std.specs.Prelude.{not, ◌&&◌}
 use Rattle.gm_notes.specs.declared.note.Note.{Note}
 use Rattle.gm_notes.specs.Jobs.{spot, is_waiting, is_wanted}
 use Rattle.gm_notes.specs.Closings.{discard_one}
-use Rattle.gm_plain.proofs.PlainLemmas.{goes_as, goes_nothing}
+use Rattle.gm_plain.proofs.PlainLemmas.{goes_as}
 use Rattle.gm_plain.proofs.plain.PlainServer.discard_one.Goals as goal
 
 pub returns-then-not-is_wanted-clause-goes : goal.returns-then-not-is_wanted-clause-goes

@@ -1,4 +1,4 @@
-use Rattle.std.proofs.Common.{◌≡◌, ◌≤◌, ℕ, List, Option, None, Some, length, reverse, refl, sym, ap, subst, ◌∙◌, arith}
+use Rattle.std.proofs.Common.{◌≡◌, ℕ, List, reverse, refl, sym, ap, subst, ◌∙◌, arith}
 use Rattle.std.specs.Prelude.{slice_get}
 use Rattle.std.proofs.lemmas.List.{length-reverse}
 use Rattle.gm_notes.specs.declared.note.Note.{Note}
@@ -7,7 +7,7 @@ use Rattle.gm_notes.specs.Jobs.{made}
 use Rattle.gm_notes.specs.Past.{Past}
 use Rattle.gm_notes.specs.Closings.{give_back_each, give_back_one, rising}
 use Rattle.gm_plain.specs.Holds.{Keeps}
-use Rattle.gm_plain.proofs.PlainLoops.{Folding, next_job, next_none, folded, not_some}
+use Rattle.gm_plain.proofs.PlainLoops.{next_job, next_none, folded, not_some}
 use Rattle.gm_plain.proofs.plain.PlainServer.give_back_each.Goals as goal
 use Rattle.gm_plain.proofs.plain.PlainServer.give_back_each.Goals.{in-Some, in_default, Joined-job_at}
 

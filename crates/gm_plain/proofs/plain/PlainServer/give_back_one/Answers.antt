@@ -1,8 +1,8 @@
-use Rattle.std.proofs.Common.{◌≡◌, true, false, List, Option, refl, sym, ap, ◌∙◌}
+use Rattle.std.proofs.Common.{◌≡◌, true, false, List, refl, sym, ap, ◌∙◌}
 use Rattle.gm_notes.specs.declared.note.Note.{Note}
-use Rattle.gm_notes.specs.declared.note.Note.TheVariants.{Returned, Discarded}
+use Rattle.gm_notes.specs.declared.note.Note.TheVariants.{Returned}
 use Rattle.gm_notes.specs.Settings.{Settings}
-use Rattle.gm_notes.specs.Jobs.{Job, job, spot, is_running_at, is_wanted}
+use Rattle.gm_notes.specs.Jobs.{job, spot, is_running_at, is_wanted}
 use Rattle.gm_notes.specs.Past.{noted}
 use Rattle.gm_notes.specs.Closings.{wake_for, give_back_one}
 use Rattle.gm_plain.proofs.PlainLemmas.{goes_then, goes_as}

@@ -1,6 +1,5 @@
-use Rattle.std.proofs.Common.{◌≡◌, ◌<◌, ap, subst, sym, ◌∙◌}
+use Rattle.std.proofs.Common.{◌<◌, subst, sym, ◌∙◌}
 use Rattle.gm_notes.specs.Settings.{Settings}
-use Rattle.gm_notes.specs.Closings.{gone}
 use Rattle.gm_plain.proofs.PlainLemmas.{goes_then}
 use Rattle.gm_plain.proofs.plain.PlainServer.leave.Goals as goal
 

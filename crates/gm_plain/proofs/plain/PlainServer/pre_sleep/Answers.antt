@@ -1,13 +1,11 @@
-use Rattle.std.proofs.Common.{◌≡◌, true, false, List, Option, Some, None, refl, sym, ap, ◌∙◌}
-use Rattle.std.specs.Option.{option_map}
+use Rattle.std.proofs.Common.{◌≡◌, true, false, List, sym, ap, ◌∙◌}
 use Rattle.std.specs.Prelude.{is_some}
 use Rattle.gm_notes.specs.declared.note.Note.{Note}
-use Rattle.gm_notes.specs.declared.note.Note.TheVariants.{Slept, Woken}
+use Rattle.gm_notes.specs.declared.note.Note.TheVariants.{Slept}
 use Rattle.gm_notes.specs.Notes.{phase, is_awake}
-use Rattle.gm_notes.specs.Jobs.{Pick, pick}
-use Rattle.gm_notes.specs.Past.{Past, noted}
-use Rattle.gm_notes.specs.Workers.{sleep_beside, pre_sleep}
-use Rattle.gm_plain.specs.Searches.{pick_of}
+use Rattle.gm_notes.specs.Jobs.{pick}
+use Rattle.gm_notes.specs.Past.{noted}
+use Rattle.gm_notes.specs.Workers.{pre_sleep}
 use Rattle.gm_plain.proofs.PlainLemmas.{does_not, goes_then, goes_as, beside_some, beside_none, picked_some}
 use Rattle.gm_plain.proofs.plain.PlainServer.pre_sleep.Goals as goal
 

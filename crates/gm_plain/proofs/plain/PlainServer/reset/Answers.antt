@@ -1,4 +1,3 @@
-use Rattle.std.proofs.Common.{refl}
 use Rattle.gm_notes.specs.declared.note.Note.TheVariants.{Reset}
 use Rattle.gm_notes.specs.Past.{noted}
 use Rattle.gm_plain.proofs.PlainLemmas.{does_not, goes_then}

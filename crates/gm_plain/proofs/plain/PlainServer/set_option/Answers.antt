@@ -1,6 +1,5 @@
-use Rattle.std.proofs.Common.{◌≡◌, true, ap, refl, sym, ◌∙◌, codes}
+use Rattle.std.proofs.Common.{◌≡◌, true, refl, sym, ◌∙◌, codes}
 use Rattle.std.specs.Str.{bytes_eq}
-use Rattle.gm_notes.specs.Workers.{cant_do}
 use Rattle.gm_notes.specs.Requests.{set_option}
 use Rattle.gm_plain.proofs.PlainLemmas.{does_not, goes_then, goes_as}
 use Rattle.gm_plain.proofs.plain.PlainServer.set_option.Goals as goal

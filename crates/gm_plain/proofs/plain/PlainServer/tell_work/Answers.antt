@@ -1,6 +1,5 @@
-use Rattle.std.proofs.Common.{◌≡◌, List, ℕ, Option, ap, ap₂, sym, ◌∙◌}
+use Rattle.std.proofs.Common.{◌≡◌, List, ℕ, Option, ap, ap₂, ◌∙◌}
 use Rattle.gm_notes.specs.declared.note.Note.{Note}
-use Rattle.gm_packet.specs.Answers.{answer_of}
 use Rattle.gm_notes.specs.Jobs.{listeners}
 use Rattle.gm_notes.specs.Past.{tell_all}
 use Rattle.gm_notes.specs.Workers.{hearers, report_kept, ended_if, tell_work}

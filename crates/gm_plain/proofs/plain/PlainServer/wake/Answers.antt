@@ -1,12 +1,9 @@
-use Rattle.std.proofs.Common.{◌≡◌, ◌+◌, ◌-◌, ◌<◌, sym, ap, subst, ◌∙◌, arith}
+use Rattle.std.proofs.Common.{◌+◌, ◌-◌, ◌<◌, sym, ap, subst, ◌∙◌, arith}
 use Rattle.gm_notes.specs.Settings.{Settings}
 use Rattle.gm_notes.specs.Notes.{slots_from}
 use Rattle.gm_notes.specs.Jobs.{job}
-use Rattle.gm_notes.specs.Past.{Past}
-use Rattle.gm_notes.specs.Closings.{wake_for}
 use Rattle.gm_plain.specs.Holds.{Keeps, wake_one_for}
 use Rattle.gm_plain.proofs.PlainLemmas.{wake_all, wake_each_for, wake_next, wake_none, wake_job}
-use Rattle.gm_plain.proofs.PlainLoops.{Waking}
 use Rattle.gm_plain.proofs.plain.PlainServer.wake.Goals as goal
 
 pub loop-slot-preserved : goal.loop-slot-preserved

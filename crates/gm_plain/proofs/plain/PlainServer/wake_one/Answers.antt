@@ -1,10 +1,9 @@
-use Rattle.std.proofs.Common.{◌≡◌, true, List, sym, ap, ◌∙◌}
+use Rattle.std.proofs.Common.{List, sym, ap, ◌∙◌}
 use Rattle.gm_notes.specs.declared.note.Note.{Note}
 use Rattle.gm_notes.specs.Jobs.{job}
 use Rattle.gm_plain.specs.Searches.{wakes_for}
-use Rattle.gm_notes.specs.Past.{Past}
 use Rattle.gm_plain.specs.Holds.{wake_one_for}
-use Rattle.gm_plain.proofs.PlainLemmas.{goes_as, goes_nothing}
+use Rattle.gm_plain.proofs.PlainLemmas.{goes_as}
 use Rattle.gm_plain.proofs.Wakings.{woken_sleeps, woken_is}
 use Rattle.gm_plain.proofs.plain.PlainServer.wake_one.Goals as goal
 
