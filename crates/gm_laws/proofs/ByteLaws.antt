@@ -102,7 +102,7 @@ module _ (k : Settings) (s : Step) (start : Past) where
   abbrev Fronts : Past → Type 0
   Fronts past = AllSent past × ((c : ℕ) → takes_from c s ≡ false → IsFront (waiting c start.flow) (waiting c past.flow))
 
-  pub only_drains : History k start.notes → AllSent start → OnlyDrainsTake start s (step k s start)
+  pub only_drains : History k start.notes → AllSent start → OnlyDrainsTake k start s (step k s start)
   only_drains history all =
       (step_keeps {k = k} {I = Fronts} start s
       (record {

@@ -2,6 +2,7 @@
 use Rattle.std.proofs.Common.{◌≡◌, ℕ, Bool, true, false, cond, not, ◌&&◌, ◌||◌, List, [], ◌∷◌, Option, Some, None, refl, sym, ap, subst, arith}
 use Rattle.std.specs.Prelude.{codes}
 use Rattle.std.proofs.lemmas.Bool.{and_parts, or_left, or_right}
+use Rattle.std.proofs.lemmas.Slice.Eq.{bytes_eq-Decides}
 use Rattle.std.proofs.lemmas.Bool.Decides.{nat_tests}
 use Rattle.gm_packet.specs.Writing.{Answer, answer_packet, job_created, no_job}
 use Rattle.gm_notes.specs.declared.note.Note.{Note}
@@ -9,7 +10,7 @@ use Rattle.gm_notes.specs.declared.note.Note.TheVariants as notes
 use Rattle.gm_notes.specs.Settings.{Settings}
 use Rattle.gm_notes.specs.Notes.{is_open, phase, is_asleep, is_awake, moment, slots_from}
 use Rattle.gm_notes.specs.Flow.{Began, Emptied}
-use Rattle.gm_notes.specs.Jobs.{Spot, Unmade, Waits, RunsAt, Over, Thrown, Job, Pick, spot, job, is_running, is_running_at, is_live, is_able, is_mentioned, is_empty, waiting_for, pick, abilities, joined, next_number, handle, handled, listeners}
+use Rattle.gm_notes.specs.Jobs.{Spot, Unmade, Waits, RunsAt, Over, Thrown, Job, Pick, spot, job, is_running, is_running_at, is_live, is_able, is_mentioned, is_empty, waiting_for, pick, abilities, joined, next_number, made, handle, is_handle, handled, listeners}
 use Rattle.gm_notes.specs.Past.{Past, noted, flowed, print, give, refuse, mentioned, tell_all, wake_one, wake_each, wake}
 use Rattle.gm_notes.specs.Texts.{error_of, spaced}
 use Rattle.gm_notes.specs.Submissions.{Submission, is_bad_name, is_one_too_many, is_full, wanted, make, join_or_make, submit}
@@ -18,7 +19,7 @@ use Rattle.gm_notes.specs.Steps.{Step}
 use Rattle.gm_laws.specs.History.{Allowed, History}
 use Rattle.gm_laws.specs.Causes.{Caused, Ends, MaySay, is_request, is_submission, is_foreground, is_background, is_enabling, is_disabling, is_sleeping, is_grab, is_reporting, is_line, is_closing, asks, closes}
 use Rattle.gm_laws.specs.Between.{AllOpen}
-use Rattle.gm_laws.proofs.Finding.{joined_lives, pick_waits, stirred_picks, same_number}
+use Rattle.gm_laws.proofs.Finding.{found_passes, joined_lives, pick_waits, stirred_picks, same_number}
 use Rattle.gm_laws.proofs.Listeners.{listeners_open, filtered_open, open_after}
 use Rattle.gm_laws.proofs.Sayings.{Other, created_other, assigned_other, error_other}
 
@@ -30,13 +31,13 @@ is_inner note = true
 
 -- what is true of pasts is kept by each small change of a step after these notes
 pub record Keeps (k : Settings) (before : List Note) (s : Step) (I : Past → Type 0) : Type 0 where
-  pub by_note : (note : Note) (past : Past) → is_inner note ≡ true → Allowed k note past.notes → Caused before s note past.notes → History k past.notes → I past → I (noted note past)
-  pub by_opening : (c : ℕ) (addr : List ℕ) (past : Past) → Allowed k (notes.Opened c addr) past.notes → Caused before s (notes.Opened c addr) past.notes → History k past.notes → I past → I (flowed (Began c) (noted (notes.Opened c addr) past))
-  pub by_closing : (c : ℕ) (past : Past) → is_open c past.notes ≡ true → Caused before s (notes.Closed c) past.notes → History k past.notes → I past → I (flowed (Emptied c) (noted (notes.Closed c) past))
+  pub by_note : (note : Note) (past : Past) → is_inner note ≡ true → Allowed k note past.notes → Caused k before s note past.notes → History k past.notes → I past → I (noted note past)
+  pub by_opening : (c : ℕ) (addr : List ℕ) (past : Past) → Allowed k (notes.Opened c addr) past.notes → Caused k before s (notes.Opened c addr) past.notes → History k past.notes → I past → I (flowed (Began c) (noted (notes.Opened c addr) past))
+  pub by_closing : (c : ℕ) (past : Past) → is_open c past.notes ≡ true → Caused k before s (notes.Closed c) past.notes → History k past.notes → I past → I (flowed (Emptied c) (noted (notes.Closed c) past))
   pub by_saying : (c : ℕ) (bytes : List ℕ) (past : Past) → is_open c past.notes ≡ true → MaySay before s c bytes → History k past.notes → I past → I (print c bytes past)
 
 -- what is said of the notes alone
-pub keeps_notes : {k : Settings} {before : List Note} {s : Step} (P : List Note → Type 0) → ((note : Note) (older : List Note) → Allowed k note older → Caused before s note older → History k older → P older → P (note ∷ older)) → Keeps k before s (λ past. P past.notes)
+pub keeps_notes : {k : Settings} {before : List Note} {s : Step} (P : List Note → Type 0) → ((note : Note) (older : List Note) → Allowed k note older → Caused k before s note older → History k older → P older → P (note ∷ older)) → Keeps k before s (λ past. P past.notes)
 keeps_notes P more = record {
   by_note = λ note past inner allowed caused h p. more note past.notes allowed caused h p;
   by_opening = λ c addr past allowed caused h p. more (notes.Opened c addr) past.notes allowed caused h p;
@@ -69,6 +70,10 @@ runs_there c Waits e = absurd cc
 runs_there c Over e = absurd cc
 runs_there c Thrown e = absurd cc
 
+-- a handle is the text that names its job
+handled_is : (k : Settings) (text : List ℕ) (l : List Note) (n : ℕ) → handled k text l ≡ Some n → text ≡ handle k n
+handled_is k text l n e = sym ((bytes_eq-Decides (handle k n) text).0 (found_passes (is_handle k text) (made l) n e))
+
 -- telling adds no note
 pub tell_all_notes : (answer : Answer) (slots : List ℕ) (past : Past) → (tell_all answer slots past).notes ≡ past.notes
 tell_all_notes answer [] past = refl
@@ -79,7 +84,7 @@ module _ {k : Settings} {before : List Note} {s : Step} {I : Past → Type 0} (K
   held_if true a b p q = p refl
   held_if false a b p q = q refl
 
-  pub note_keeps : (note : Note) (past : Past) → is_inner note ≡ true → Allowed k note past.notes → Caused before s note past.notes → Held k I past → Held k I (noted note past)
+  pub note_keeps : (note : Note) (past : Past) → is_inner note ≡ true → Allowed k note past.notes → Caused k before s note past.notes → Held k I past → Held k I (noted note past)
   note_keeps note past inner allowed caused h = ((allowed, h.0), K.by_note note past inner allowed caused h.0 h.1)
 
   pub says_keeps : (c : ℕ) (bytes : List ℕ) (past : Past) → is_open c past.notes ≡ true → MaySay before s c bytes → Held k I past → Held k I (print c bytes past)
@@ -97,18 +102,18 @@ module _ {k : Settings} {before : List Note} {s : Step} {I : Past → Type 0} (K
 
   -- ---- waking and mentioning
 
-  wake_one_keeps : (f : List ℕ) (c : ℕ) (past : Past) → ((c : ℕ) (older : List Note) → Caused before s (notes.Woken c) older) → Held k I past → Held k I (wake_one f c past)
+  wake_one_keeps : (f : List ℕ) (c : ℕ) (past : Past) → ((c : ℕ) (older : List Note) → Caused k before s (notes.Woken c) older) → Held k I past → Held k I (wake_one f c past)
   wake_one_keeps f c past wakes h =
       held_if (is_open c past.notes && is_asleep (phase c past.notes) && is_able c f past.notes) (noted (notes.Woken c) past) past
       (λ e. let p = and_parts (is_open c past.notes && is_asleep (phase c past.notes)) (is_able c f past.notes) e in
       note_keeps (notes.Woken c) past refl (and_parts (is_open c past.notes) (is_asleep (phase c past.notes)) p.0) (wakes c past.notes) h)
       (λ e. h)
 
-  wake_each_keeps : (f : List ℕ) (slots : List ℕ) (past : Past) → ((c : ℕ) (older : List Note) → Caused before s (notes.Woken c) older) → Held k I past → Held k I (wake_each f slots past)
+  wake_each_keeps : (f : List ℕ) (slots : List ℕ) (past : Past) → ((c : ℕ) (older : List Note) → Caused k before s (notes.Woken c) older) → Held k I past → Held k I (wake_each f slots past)
   wake_each_keeps f [] past wakes h = h
   wake_each_keeps f (c ∷ slots) past wakes h = wake_each_keeps f slots (wake_one f c past) wakes (wake_one_keeps f c past wakes h)
 
-  pub wake_keeps : (f : List ℕ) (past : Past) → ((c : ℕ) (older : List Note) → Caused before s (notes.Woken c) older) → Held k I past → Held k I (wake k f past)
+  pub wake_keeps : (f : List ℕ) (past : Past) → ((c : ℕ) (older : List Note) → Caused k before s (notes.Woken c) older) → Held k I past → Held k I (wake k f past)
   wake_keeps f past wakes h = wake_each_keeps f (slots_from 0 k.slots) past wakes h
 
   pub mentions_keeps : (f : List ℕ) (past : Past) → (is_request is_submission s || is_request is_enabling s || is_line s) ≡ true → Held k I past → Held k I (mentioned f past)
@@ -163,7 +168,7 @@ module _ {k : Settings} {before : List Note} {s : Step} {I : Past → Type 0} (K
   -- ---- workers
 
   module _ (c : ℕ) where
-    woken_keeps : (t : Bool) (past : Past) → Caused before s (notes.Woken c) past.notes → (t ≡ true → (is_open c past.notes ≡ true) × (is_asleep (phase c past.notes) ≡ true)) → Held k I past → Held k I (woken_if t c past)
+    woken_keeps : (t : Bool) (past : Past) → Caused k before s (notes.Woken c) past.notes → (t ≡ true → (is_open c past.notes ≡ true) × (is_asleep (phase c past.notes) ≡ true)) → Held k I past → Held k I (woken_if t c past)
     woken_keeps true past may a h = note_keeps (notes.Woken c) past refl (a refl) may h
     woken_keeps false past may a h = h
 
@@ -225,7 +230,7 @@ module _ {k : Settings} {before : List Note} {s : Step} {I : Past → Type 0} (K
 
     -- ---- work
 
-    ended_keeps : (t : Bool) (n : ℕ) (past : Past) → (t ≡ true → Ends before s n) → is_running (spot n past.notes) ≡ true → Held k I past → Held k I (ended_if t n past)
+    ended_keeps : (t : Bool) (n : ℕ) (past : Past) → (t ≡ true → Ends k before s n) → is_running (spot n past.notes) ≡ true → Held k I past → Held k I (ended_if t n past)
     ended_keeps true n past may running h = note_keeps (notes.Ended n) past refl running (may refl) h
     ended_keeps false n past may running h = h
 
@@ -241,7 +246,7 @@ module _ {k : Settings} {before : List Note} {s : Step} {I : Past → Type 0} (K
     hearers_open true slots l all = filtered_open slots l
     hearers_open false slots l all = all
 
-    tells_work_keeps : (w : Work) (n : ℕ) (past : Past) → Other (answer_packet w.answer) → ((a b : List ℕ) → w.report ≡ Some (a, b) → is_request is_reporting s ≡ true) → (w.ends ≡ true → Ends before s n) → is_running (spot n past.notes) ≡ true → Held k I past → Held k I (tell_work w n past)
+    tells_work_keeps : (w : Work) (n : ℕ) (past : Past) → Other (answer_packet w.answer) → ((a b : List ℕ) → w.report ≡ Some (a, b) → is_request is_reporting s ≡ true) → (w.ends ≡ true → Ends k before s n) → is_running (spot n past.notes) ≡ true → Held k I past → Held k I (tell_work w n past)
     tells_work_keeps w n past other reports ends running h =
         let slots = hearers w.exceptions_only (listeners n past.notes) past.notes in
         let one = report_kept n w.report past in
@@ -253,12 +258,12 @@ module _ {k : Settings} {before : List Note} {s : Step} {I : Past → Type 0} (K
         (tells_keeps w.answer slots one other all_one (report_keeps n w.report past reports running h))
 
     -- the job that the handle names, if it runs at the slot
-    works_on_keeps : (w : Work) (o : Option ℕ) (past : Past) → Other (answer_packet w.answer) → ((a b : List ℕ) → w.report ≡ Some (a, b) → is_request is_reporting s ≡ true) → ((n : ℕ) → w.ends ≡ true → spot n past.notes ≡ RunsAt c → Ends before s n) → is_open c past.notes ≡ true → Held k I past → Held k I (work_on c w o past)
-    works_on_keeps w None past other reports ends opened h = refuses_keeps c (codes "job_not_found") past opened h
-    works_on_keeps w (Some n) past other reports ends opened h =
+    works_on_keeps : (text : List ℕ) (w : Work) (o : Option ℕ) (past : Past) → handled k text past.notes ≡ o → Other (answer_packet w.answer) → ((a b : List ℕ) → w.report ≡ Some (a, b) → is_request is_reporting s ≡ true) → ((n : ℕ) → w.ends ≡ true → spot n past.notes ≡ RunsAt c → text ≡ handle k n → Ends k before s n) → is_open c past.notes ≡ true → Held k I past → Held k I (work_on c w o past)
+    works_on_keeps text w None past is other reports ends opened h = refuses_keeps c (codes "job_not_found") past opened h
+    works_on_keeps text w (Some n) past is other reports ends opened h =
         held_if (is_running_at c (spot n past.notes)) (tell_work w n past) (refuse c (codes "job_not_found") past)
-        (λ e. tells_work_keeps w n past other reports (λ g. ends n g (runs_there c (spot n past.notes) e)) (runs_somewhere c (spot n past.notes) e) h)
+        (λ e. tells_work_keeps w n past other reports (λ g. ends n g (runs_there c (spot n past.notes) e) (handled_is k text past.notes n is)) (runs_somewhere c (spot n past.notes) e) h)
         (λ e. refuses_keeps c (codes "job_not_found") past opened h)
 
-    pub works_keeps : (text : List ℕ) (w : Work) (past : Past) → Other (answer_packet w.answer) → ((a b : List ℕ) → w.report ≡ Some (a, b) → is_request is_reporting s ≡ true) → ((n : ℕ) → w.ends ≡ true → spot n past.notes ≡ RunsAt c → Ends before s n) → is_open c past.notes ≡ true → Held k I past → Held k I (work k c text w past)
-    works_keeps text w past other reports ends opened h = works_on_keeps w (handled k text past.notes) past other reports ends opened h
+    pub works_keeps : (text : List ℕ) (w : Work) (past : Past) → Other (answer_packet w.answer) → ((a b : List ℕ) → w.report ≡ Some (a, b) → is_request is_reporting s ≡ true) → ((n : ℕ) → w.ends ≡ true → spot n past.notes ≡ RunsAt c → text ≡ handle k n → Ends k before s n) → is_open c past.notes ≡ true → Held k I past → Held k I (work k c text w past)
+    works_keeps text w past other reports ends opened h = works_on_keeps text w (handled k text past.notes) past refl other reports ends opened h

@@ -19,7 +19,7 @@ use Rattle.gm_notes.specs.Closings.{discard_one, discard_each, wake_for, give_ba
 use Rattle.gm_notes.specs.Steps.{Step, Packet, Close, refusal, step, run}
 use Rattle.gm_laws.specs.History.{Allowed, History}
 use Rattle.gm_laws.specs.Causes.{Caused, is_closing, is_submission, is_request, is_one_of}
-use Rattle.gm_laws.specs.Between.{NoneIsOrphaned}
+use Rattle.gm_laws.specs.Between.{NoWaitingJobIsOrphaned}
 use Rattle.gm_laws.specs.Laws.{has_place}
 use Rattle.gm_laws.proofs.Keeping.{keeps_notes, kept_if}
 use Rattle.gm_laws.proofs.Moving.{closes_not, both_not, moved, from, not_both, In, placed_rises, wake_each_notes}
@@ -159,8 +159,8 @@ quiet_wanted k s start closes submits h w =
     (step_keeps start s
     (keeps_notes (λ l. WantedSo None_ l) (λ note older allowed cause g p.
     wanted_more None_ k note older
-    (λ c is. closes_not s c closes (subst (λ x. Caused start.notes s x older) is cause))
-    (λ m f pr u body is. both_not (is_request is_submission s) (subst (λ x. Caused start.notes s x older) is cause) submits) allowed p))
+    (λ c is. closes_not s c closes (subst (λ x. Caused k start.notes s x older) is cause))
+    (λ m f pr u body is. both_not (is_request is_submission s) (subst (λ x. Caused k start.notes s x older) is cause) submits) allowed p))
     (λ c e g u. u) (h, w)).1
 
 request_submits : (k : Settings) (c : ℕ) (start : Past) → WantedSo None_ start.notes → (kind : Kind) (a : List (List ℕ)) (timeout : ℕ) → is_submission kind ≡ true → WantedSo None_ (request k c kind a timeout start).notes
@@ -188,5 +188,5 @@ pub run_wanted : (k : Settings) (steps : List Step) → WantedSo None_ (run k st
 run_wanted k [] n e = absurd cc
 run_wanted k (s ∷ steps) n e = step_wanted k s (run k steps) (run_history k steps) (run_wanted k steps) n e
 
-pub none_orphaned : (k : Settings) (steps : List Step) → NoneIsOrphaned k (run k steps).notes
+pub none_orphaned : (k : Settings) (steps : List Step) → NoWaitingJobIsOrphaned k (run k steps).notes
 none_orphaned k steps n e = from (run_wanted k steps n e) (λ w. w) (λ x. absurd x)

@@ -105,7 +105,7 @@ module _ (k : Settings) (c : ℕ) where
 quiet_runs : (k : Settings) (s : Step) (start : Past) → is_closing s ≡ false → History k start.notes → RunsSo Nobody start.notes → RunsSo Nobody (step k s start).notes
 quiet_runs k s start other h r =
     (step_keeps start s
-    (keeps_notes (λ l. RunsSo Nobody l) (λ note older allowed cause g p. runs_more Nobody k note older (λ c is. closes_not s c other (subst (λ x. Caused start.notes s x older) is cause)) allowed p))
+    (keeps_notes (λ l. RunsSo Nobody l) (λ note older allowed cause g p. runs_more Nobody k note older (λ c is. closes_not s c other (subst (λ x. Caused k start.notes s x older) is cause)) allowed p))
     (λ c e g u. u) (h, r)).1
 
 step_runs : (k : Settings) (s : Step) (start : Past) → History k start.notes → RunsSo Nobody start.notes → RunsSo Nobody (step k s start).notes

@@ -25,7 +25,7 @@ use Rattle.gm_notes.specs.Closings.{discard_one, discard_each, wake_for, give_ba
 use Rattle.gm_notes.specs.Steps.{Step, Packet, Close, refusal, step, run}
 use Rattle.gm_laws.specs.History.{History}
 use Rattle.gm_laws.specs.Causes.{Caused, is_closing, is_submission, is_enabling, is_sleeping, is_request, is_one_of, asks}
-use Rattle.gm_laws.specs.Between.{NoneSleepsBesideWork}
+use Rattle.gm_laws.specs.Between.{NoOneSleepsBesideWork}
 use Rattle.gm_laws.proofs.NumberLaws.{slots}
 use Rattle.gm_laws.proofs.Keeping.{keeps_notes, kept_if}
 use Rattle.gm_laws.proofs.Listeners.{opens, still_open}
@@ -323,18 +323,18 @@ asks_some kinds c (Packet d number bytes) e = (and_parts (c == d) (is_one_of kin
 asks_some kinds c other e = absurd cc
 
 -- a step that is no closing, submission, new ability or sleep adds quiet notes
-quiet_notes : (before : List Note) (s : Step) (note : Note) (older : List Note) → is_closing s ≡ false → is_request is_submission s ≡ false → is_request is_enabling s ≡ false → is_request is_sleeping s ≡ false → Caused before s note older → is_quiet note ≡ true
-quiet_notes before s (notes.Made m f p u body) older a b c d cause = absurd (both_not (is_request is_submission s) cause b)
-quiet_notes before s (notes.Returned m) older a b c d cause = absurd (both_not (is_closing s) (ap is_closing cause.1) a)
-quiet_notes before s (notes.Can e f t) older a b c d cause = absurd (both_not (is_request is_enabling s) (asks_some is_enabling e s cause) c)
-quiet_notes before s (notes.Slept e) older a b c d cause = absurd (both_not (is_request is_sleeping s) (asks_some is_sleeping e s cause) d)
-quiet_notes before s note older a b c d cause = refl
+quiet_notes : (k : Settings) (before : List Note) (s : Step) (note : Note) (older : List Note) → is_closing s ≡ false → is_request is_submission s ≡ false → is_request is_enabling s ≡ false → is_request is_sleeping s ≡ false → Caused k before s note older → is_quiet note ≡ true
+quiet_notes k before s (notes.Made m f p u body) older a b c d cause = absurd (both_not (is_request is_submission s) cause b)
+quiet_notes k before s (notes.Returned m) older a b c d cause = absurd (both_not (is_closing s) (ap is_closing cause.1) a)
+quiet_notes k before s (notes.Can e f t) older a b c d cause = absurd (both_not (is_request is_enabling s) (asks_some is_enabling e s cause) c)
+quiet_notes k before s (notes.Slept e) older a b c d cause = absurd (both_not (is_request is_sleeping s) (asks_some is_sleeping e s cause) d)
+quiet_notes k before s note older a b c d cause = refl
 
 quiet_calm : (k : Settings) (s : Step) (start : Past) → is_closing s ≡ false → is_request is_submission s ≡ false → is_request is_enabling s ≡ false → is_request is_sleeping s ≡ false
     → History k start.notes → CalmBut Never start.notes → CalmBut Never (step k s start).notes
 quiet_calm k s start a b c d h w =
     (step_keeps start s
-    (keeps_notes (λ l. CalmBut Never l) (λ note older allowed cause g p. calm_more Never note older (quiet_notes start.notes s note older a b c d cause) p))
+    (keeps_notes (λ l. CalmBut Never l) (λ note older allowed cause g p. calm_more Never note older (quiet_notes k start.notes s note older a b c d cause) p))
     (λ c e g u. u) (h, w)).1
 
 request_calm : (k : Settings) (c : ℕ) (start : Past) → Fit k start.notes → CalmBut Never start.notes → (kind : Kind) (a : List (List ℕ)) (timeout : ℕ) → is_stirring kind ≡ true → CalmBut Never (request k c kind a timeout start).notes
@@ -377,5 +377,5 @@ run_calm k (s ∷ steps) c n what a g j =
     let start = run k steps in
     step_calm k s start (run_history k steps) (fits k start.notes (run_history k steps)) (run_calm k steps) c n what a g j
 
-pub none_sleeps : (k : Settings) (steps : List Step) → NoneSleepsBesideWork k (run k steps).notes
+pub none_sleeps : (k : Settings) (steps : List Step) → NoOneSleepsBesideWork k (run k steps).notes
 none_sleeps k steps c n what a s j = from (run_calm k steps c n what a s j) (λ h. h) (λ x. absurd x)

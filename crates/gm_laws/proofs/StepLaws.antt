@@ -57,29 +57,29 @@ left_none c false [] e = refl
 left_none c false (d ∷ slots) e = absurd (some (length slots) e)
 
 module _ (k : Settings) (s : Step) (start : Past) (history : History k start.notes) where
-  note_law : (P : List Note → Type 0) → ((note : Note) (older : List Note) → Allowed k note older → Caused start.notes s note older → History k older → P older → P (note ∷ older)) → P start.notes → P (step k s start).notes
+  note_law : (P : List Note → Type 0) → ((note : Note) (older : List Note) → Allowed k note older → Caused k start.notes s note older → History k older → P older → P (note ∷ older)) → P start.notes → P (step k s start).notes
   note_law P more p = (step_keeps start s (keeps_notes P more) (λ c e h u. u) (history, p)).1
 
-  pub caused : NotesAreCaused start s (step k s start)
+  pub caused : NotesAreCaused k start s (step k s start)
   caused =
-      note_law (λ l. (newer : List Note) × (l ≡ newer ++ start.notes) × AllCaused start.notes s newer)
-      (λ note older allowed cause h p. (note ∷ p.0, ap (λ l. note ∷ l) p.1, (subst (λ l. Caused start.notes s note l) p.1 cause, p.2)))
+      note_law (λ l. (newer : List Note) × (l ≡ newer ++ start.notes) × AllCaused k start.notes s newer)
+      (λ note older allowed cause h p. (note ∷ p.0, ap (λ l. note ∷ l) p.1, (subst (λ l. Caused k start.notes s note l) p.1 cause, p.2)))
       ([], refl, tt)
 
   -- ---- endings
 
   abbrev EndedSo : ℕ → Type 0
-  EndedSo n = (spot n start.notes ≡ Over) ⊎ Ends start.notes s n
+  EndedSo n = (spot n start.notes ≡ Over) ⊎ Ends k start.notes s n
 
-  ended_more : (note : Note) (older : List Note) → Caused start.notes s note older → ((n : ℕ) → spot n older ≡ Over → EndedSo n) → (n : ℕ) → spot n (note ∷ older) ≡ Over → EndedSo n
+  ended_more : (note : Note) (older : List Note) → Caused k start.notes s note older → ((n : ℕ) → spot n older ≡ Over → EndedSo n) → (n : ℕ) → spot n (note ∷ older) ≡ Over → EndedSo n
   ended_more (notes.Made m f p u body) older cause before n e = from (moved n m Waits (spot n older) Over (n == m) refl e) (λ h. absurd (let x = h.1 in cc)) (λ h. before n h.1)
   ended_more (notes.Returned m) older cause before n e = from (moved n m Waits (spot n older) Over (n == m) refl e) (λ h. absurd (let x = h.1 in cc)) (λ h. before n h.1)
   ended_more (notes.Assigned m c late) older cause before n e = from (moved n m (RunsAt c) (spot n older) Over (n == m) refl e) (λ h. absurd (let x = h.1 in cc)) (λ h. before n h.1)
   ended_more (notes.Discarded m) older cause before n e = from (moved n m Thrown (spot n older) Over (n == m) refl e) (λ h. absurd (let x = h.1 in cc)) (λ h. before n h.1)
-  ended_more (notes.Ended m) older cause before n e = from (moved n m Over (spot n older) Over (n == m) refl e) (λ h. inr (subst (λ x. Ends start.notes s x) (sym h.0) cause)) (λ h. before n h.1)
+  ended_more (notes.Ended m) older cause before n e = from (moved n m Over (spot n older) Over (n == m) refl e) (λ h. inr (subst (λ x. Ends k start.notes s x) (sym h.0) cause)) (λ h. before n h.1)
   ended_more note older cause before n e = before n e
 
-  pub ends : EndsWithItsWorker start s (step k s start)
+  pub ends : EndsWithItsWorker k start s (step k s start)
   ends = note_law (λ l. (n : ℕ) → spot n l ≡ Over → EndedSo n) (λ note older allowed cause h p. ended_more note older cause p) (λ n e. inl e)
 
   -- ---- grabs
@@ -92,7 +92,7 @@ module _ (k : Settings) (s : Step) (start : Past) (history : History k start.not
       let there : d ≡ c = cc in
       inr (subst (λ x. (asks is_grab x s ≡ true) × Gets x n start.notes) there (subst (λ x. (asks is_grab d s ≡ true) × Gets d x start.notes) (sym same) cause))
 
-  given_more : (note : Note) (older : List Note) → Caused start.notes s note older → ((n c : ℕ) → spot n older ≡ RunsAt c → GivenSo n c) → (n c : ℕ) → spot n (note ∷ older) ≡ RunsAt c → GivenSo n c
+  given_more : (note : Note) (older : List Note) → Caused k start.notes s note older → ((n c : ℕ) → spot n older ≡ RunsAt c → GivenSo n c) → (n c : ℕ) → spot n (note ∷ older) ≡ RunsAt c → GivenSo n c
   given_more (notes.Made m f p u body) older cause before n c e = from (moved n m Waits (spot n older) (RunsAt c) (n == m) refl e) (λ h. absurd (let x = h.1 in cc)) (λ h. before n c h.1)
   given_more (notes.Returned m) older cause before n c e = from (moved n m Waits (spot n older) (RunsAt c) (n == m) refl e) (λ h. absurd (let x = h.1 in cc)) (λ h. before n c h.1)
   given_more (notes.Assigned m d late) older cause before n c e = from (moved n m (RunsAt d) (spot n older) (RunsAt c) (n == m) refl e) (λ h. given_here n m c d h.0 h.1 cause) (λ h. before n c h.1)
@@ -100,7 +100,7 @@ module _ (k : Settings) (s : Step) (start : Past) (history : History k start.not
   given_more (notes.Ended m) older cause before n c e = from (moved n m Over (spot n older) (RunsAt c) (n == m) refl e) (λ h. absurd (let x = h.1 in cc)) (λ h. before n c h.1)
   given_more note older cause before n c e = before n c e
 
-  pub gives : GivesThePick start s (step k s start)
+  pub gives : GivesThePick k start s (step k s start)
   gives = note_law (λ l. (n c : ℕ) → spot n l ≡ RunsAt c → GivenSo n c) (λ note older allowed cause h p. given_more note older cause p) (λ n c e. inl e)
 
   -- ---- discarding
@@ -117,7 +117,7 @@ module _ (k : Settings) (s : Step) (start : Past) (history : History k start.not
   thrown_closed n c older (inl e) = inl e
   thrown_closed n c older (inr h) = inr (h.0, left_none c (is_kept n older) (listeners n older) h.1)
 
-  thrown_more : (note : Note) (older : List Note) → Allowed k note older → Caused start.notes s note older → ((n : ℕ) → spot n older ≡ Thrown → ThrownSo n older) → (n : ℕ) → spot n (note ∷ older) ≡ Thrown → ThrownSo n (note ∷ older)
+  thrown_more : (note : Note) (older : List Note) → Allowed k note older → Caused k start.notes s note older → ((n : ℕ) → spot n older ≡ Thrown → ThrownSo n older) → (n : ℕ) → spot n (note ∷ older) ≡ Thrown → ThrownSo n (note ∷ older)
   thrown_more (notes.Made m f p u body) older allowed cause before n e =
       from (moved n m Waits (spot n older) Thrown (n == m) refl e) (λ h. absurd (let x = h.1 in cc)) (λ h. elsewhere n older (notes.Made m f p u body ∷ older) (λ c. closing_asks _ s c cause) (before n h.1))
   thrown_more (notes.Kept m) older allowed cause before n e = elsewhere n older (notes.Kept m ∷ older) (λ c. closing_asks _ s c cause) (before n e)
@@ -130,12 +130,12 @@ module _ (k : Settings) (s : Step) (start : Past) (history : History k start.not
       from (moved n m Thrown (spot n older) Thrown (n == m) refl e) (λ h. inr (cause, subst (λ x. is_wanted x older ≡ false) (sym h.0) allowed.1)) (λ h. before n h.1)
   thrown_more note older allowed cause before n e = before n e
 
-  pub discards : DiscardsTheUnwanted start s (step k s start)
+  pub discards : DiscardsTheUnwanted k start s (step k s start)
   discards = note_law (λ l. (n : ℕ) → spot n l ≡ Thrown → ThrownSo n l) (λ note older allowed cause h p. thrown_more note older allowed cause p) (λ n e. inl e)
 
   -- ---- what is said
 
-  pub says_no_job : SaysNoJobWhereNoneIs start s (step k s start)
+  pub says_no_job : SaysNoJobWhereNoneIs k start s (step k s start)
   says_no_job =
       (step_keeps {I = λ past. (newer : List Flow) × (past.flow ≡ newer ++ start.flow) × AllSaid start.notes s newer} start s
       (record {

@@ -2,12 +2,13 @@
 use Rattle.std.proofs.Common.{◌≡◌, ℕ, Bool, true, false, cond, not, ◌&&◌, List, [], ◌∷◌, Option, Some, None, Result, Ok, Err, refl, sym, ap, subst, ◌∙◌, arith, max}
 use Rattle.std.specs.Prelude.{codes, ◌==◌, ◌||◌}
 use Rattle.std.specs.Str.{bytes_eq}
-use Rattle.std.specs.Option.{option_map}
+use Rattle.std.specs.Option.{option_map, ok_or}
 use Rattle.std.proofs.lemmas.Bool.{and_parts, and_from, or_left, or_right}
 use Rattle.gm_packet.specs.declared.kind.Kind.{Kind}
 use Rattle.gm_packet.specs.declared.kind.Kind.TheVariants.{CanDo, CantDo, ResetAbilities, PreSleep, SubmitJob, GrabJob, WorkStatus, WorkComplete, WorkFail, GetStatus, EchoReq, SubmitJobBg, SubmitJobHigh, SetClientId, CanDoTimeout, AllYours, WorkException, OptionReq, WorkData, WorkWarning, GrabJobUniq, SubmitJobHighBg, SubmitJobLow, SubmitJobLowBg}
 use Rattle.gm_packet.specs.Kinds.{kind_of, shape}
-use Rattle.gm_packet.specs.Requests.{Asked, read_as, arguments_of}
+use Rattle.gm_packet.specs.Requests.{Asked, read_as, read_kind, arguments_of}
+use Rattle.gm_packet.specs.declared.request.RequestFault.TheVariants.{BadArguments}
 use Rattle.gm_packet.specs.Writing.{Answer, answer_packet, status_res, echo_res, work_status, work_data, work_warning, work_exception, work_complete, work_fail, option_res}
 use Rattle.gm_notes.specs.declared.states.Priority.{Priority}
 use Rattle.gm_notes.specs.declared.states.Priority.TheVariants.{High, Normal, Low}
@@ -37,7 +38,7 @@ use Rattle.gm_notes.specs.Closings.{discard_one, discard_each, wake_for, give_ba
 use Rattle.gm_notes.specs.Steps.{Step, Open, Packet, Line, Fault, Close, Tick, Took, Withdrew, Drain, free_slot, opening, refusal, unless_not_open, unless, add, step, run}
 use Rattle.gm_notes.proofs.FreeSlots.{free_is}
 use Rattle.gm_laws.specs.History.{Allowed, History}
-use Rattle.gm_laws.specs.Causes.{is_one_of, asks, is_request, is_submission, is_foreground, is_background, is_enabling, is_disabling, is_resetting, is_sleeping, is_grab, is_reporting, is_ending, is_naming, is_choosing, is_line, is_closing, closes, faults as has_fault}
+use Rattle.gm_laws.specs.Causes.{NamesJob, is_one_of, asks, is_request, is_submission, is_foreground, is_background, is_enabling, is_disabling, is_resetting, is_sleeping, is_grab, is_reporting, is_ending, is_naming, is_choosing, is_line, is_closing, closes, faults as has_fault}
 use Rattle.gm_laws.proofs.Finding.{same_number}
 use Rattle.gm_laws.proofs.Listeners.{listeners_open}
 use Rattle.gm_laws.proofs.Sayings.{Other, fail_other, status_other, complete_other, data_other, warning_other, exception_other, echo_other, option_other, known_other, ok_other, version_other, refusal_other, fault_other, list_other, rows_other}
@@ -77,11 +78,11 @@ module _ {k : Settings} {I : Past → Type 0} (start : Past) (c number : ℕ) (b
     -- what doesn't end the job
     passes : (text : List ℕ) (answer : Answer) (only : Bool) → Other (answer_packet answer) → Held k I (work k c text (record (passing answer) { exceptions_only = only }) start)
     passes text answer only other =
-        works_keeps K c text (record (passing answer) { exceptions_only = only }) start other (λ a b e. absurd cc) (λ n e r. absurd cc) opened h
+        works_keeps K c text (record (passing answer) { exceptions_only = only }) start other (λ a b e. absurd cc) (λ n e r is. absurd cc) opened h
 
-    ends : (text : List ℕ) (answer : Answer) → is_ending kind ≡ true → Other (answer_packet answer) → Held k I (work k c text (ending answer) start)
-    ends text answer may other =
-        works_keeps K c text (ending answer) start other (λ a b e. absurd cc) (λ n e r. (by_kind is_ending may, r)) opened h
+    ends : (text : List ℕ) (answer : Answer) → ((n : ℕ) → text ≡ handle k n → NamesJob k number bytes n) → is_ending kind ≡ true → Other (answer_packet answer) → Held k I (work k c text (ending answer) start)
+    ends text answer names may other =
+        works_keeps K c text (ending answer) start other (λ a b e. absurd cc) (λ n e r is. (by_kind is_ending may, r, names n is)) opened h
 
     chooses : (name : List ℕ) → is_choosing kind ≡ true → Held k I (set_option c name start)
     chooses name may =
@@ -89,37 +90,38 @@ module _ {k : Settings} {I : Past → Type 0} (start : Past) (c number : ℕ) (b
         (λ e. gives_keeps K c (option_res name) (noted (notes.OptionSet c) start) opened (option_other name) (note_keeps K (notes.OptionSet c) start refl opened (asked is_choosing may) h))
         (λ e. refuses_keeps K c (codes "unknown_option") start opened h)
 
-  pub request_keeps : (kind : Kind) (a : List (List ℕ)) (timeout : ℕ) → kind_of number ≡ Some kind → Held k I (request k c kind a timeout start)
-  request_keeps CanDo a timeout is = can_do_keeps K c (first a) 0 start (asked CanDo is is_enabling refl) (by_kind CanDo is is_enabling refl) opened h
-  request_keeps CanDoTimeout a timeout is = can_do_keeps K c (first a) timeout start (asked CanDoTimeout is is_enabling refl) (by_kind CanDoTimeout is is_enabling refl) opened h
-  request_keeps CantDo a timeout is = cant_do_keeps K c (first a) start (asked CantDo is is_disabling refl) opened h
-  request_keeps ResetAbilities a timeout is = note_keeps K (notes.Reset c) start refl opened (asked ResetAbilities is is_resetting refl) h
-  request_keeps PreSleep a timeout is = pre_sleep_keeps K c start (asked PreSleep is is_sleeping refl) opened h
-  request_keeps GrabJob a timeout is = grab_keeps K c false start (asked GrabJob is is_grab refl) refl opened h
-  request_keeps GrabJobUniq a timeout is = grab_keeps K c true start (asked GrabJobUniq is is_grab refl) refl opened h
-  request_keeps SubmitJob a timeout is = submits SubmitJob is Normal false a refl (λ e. absurd cc) (λ e. refl)
-  request_keeps SubmitJobBg a timeout is = submits SubmitJobBg is Normal true a refl (λ e. refl) (λ e. absurd cc)
-  request_keeps SubmitJobHigh a timeout is = submits SubmitJobHigh is High false a refl (λ e. absurd cc) (λ e. refl)
-  request_keeps SubmitJobHighBg a timeout is = submits SubmitJobHighBg is High true a refl (λ e. refl) (λ e. absurd cc)
-  request_keeps SubmitJobLow a timeout is = submits SubmitJobLow is Low false a refl (λ e. absurd cc) (λ e. refl)
-  request_keeps SubmitJobLowBg a timeout is = submits SubmitJobLowBg is Low true a refl (λ e. refl) (λ e. absurd cc)
-  request_keeps WorkStatus a timeout is =
+  pub request_keeps : (kind : Kind) (a : List (List ℕ)) (timeout : ℕ) → kind_of number ≡ Some kind → ((n : ℕ) → first a ≡ handle k n → NamesJob k number bytes n) → Held k I (request k c kind a timeout start)
+  request_keeps CanDo a timeout is names = can_do_keeps K c (first a) 0 start (asked CanDo is is_enabling refl) (by_kind CanDo is is_enabling refl) opened h
+  request_keeps CanDoTimeout a timeout is names = can_do_keeps K c (first a) timeout start (asked CanDoTimeout is is_enabling refl) (by_kind CanDoTimeout is is_enabling refl) opened h
+  request_keeps CantDo a timeout is names = cant_do_keeps K c (first a) start (asked CantDo is is_disabling refl) opened h
+  request_keeps ResetAbilities a timeout is names = note_keeps K (notes.Reset c) start refl opened (asked ResetAbilities is is_resetting refl) h
+  request_keeps PreSleep a timeout is names = pre_sleep_keeps K c start (asked PreSleep is is_sleeping refl) opened h
+  request_keeps GrabJob a timeout is names = grab_keeps K c false start (asked GrabJob is is_grab refl) refl opened h
+  request_keeps GrabJobUniq a timeout is names = grab_keeps K c true start (asked GrabJobUniq is is_grab refl) refl opened h
+  request_keeps SubmitJob a timeout is names = submits SubmitJob is Normal false a refl (λ e. absurd cc) (λ e. refl)
+  request_keeps SubmitJobBg a timeout is names = submits SubmitJobBg is Normal true a refl (λ e. refl) (λ e. absurd cc)
+  request_keeps SubmitJobHigh a timeout is names = submits SubmitJobHigh is High false a refl (λ e. absurd cc) (λ e. refl)
+  request_keeps SubmitJobHighBg a timeout is names = submits SubmitJobHighBg is High true a refl (λ e. refl) (λ e. absurd cc)
+  request_keeps SubmitJobLow a timeout is names = submits SubmitJobLow is Low false a refl (λ e. absurd cc) (λ e. refl)
+  request_keeps SubmitJobLowBg a timeout is names = submits SubmitJobLowBg is Low true a refl (λ e. refl) (λ e. absurd cc)
+  request_keeps WorkStatus a timeout is names =
       works_keeps K c (first a) (record (passing (work_status (first a) (second a) (third a))) { report = Some (second a, third a) }) start
-      (status_other (first a) (second a) (third a)) (λ x y e. by_kind WorkStatus is is_reporting refl) (λ n e r. absurd cc) opened h
-  request_keeps WorkData a timeout is = passes WorkData is (first a) (work_data (first a) (second a)) false (data_other (first a) (second a))
-  request_keeps WorkWarning a timeout is = passes WorkWarning is (first a) (work_warning (first a) (second a)) false (warning_other (first a) (second a))
-  request_keeps WorkException a timeout is = passes WorkException is (first a) (work_exception (first a) (second a)) true (exception_other (first a) (second a))
-  request_keeps WorkComplete a timeout is = ends WorkComplete is (first a) (work_complete (first a) (second a)) refl (complete_other (first a) (second a))
-  request_keeps WorkFail a timeout is = ends WorkFail is (first a) (work_fail (first a)) refl (fail_other (first a))
-  request_keeps GetStatus a timeout is = tells_status (first a) (handled k (first a) start.notes)
-  request_keeps EchoReq a timeout is = gives_keeps K c (echo_res (first a)) start opened (echo_other (first a)) h
-  request_keeps SetClientId a timeout is = note_keeps K (notes.Named c (first a)) start refl opened (asked SetClientId is is_naming refl) h
-  request_keeps OptionReq a timeout is = chooses OptionReq is (first a) refl
-  request_keeps AllYours a timeout is = h
+      (status_other (first a) (second a) (third a)) (λ x y e. by_kind WorkStatus is is_reporting refl) (λ n e r is. absurd cc) opened h
+  request_keeps WorkData a timeout is names = passes WorkData is (first a) (work_data (first a) (second a)) false (data_other (first a) (second a))
+  request_keeps WorkWarning a timeout is names = passes WorkWarning is (first a) (work_warning (first a) (second a)) false (warning_other (first a) (second a))
+  request_keeps WorkException a timeout is names = passes WorkException is (first a) (work_exception (first a) (second a)) true (exception_other (first a) (second a))
+  request_keeps WorkComplete a timeout is names = ends WorkComplete is (first a) (work_complete (first a) (second a)) names refl (complete_other (first a) (second a))
+  request_keeps WorkFail a timeout is names = ends WorkFail is (first a) (work_fail (first a)) names refl (fail_other (first a))
+  request_keeps GetStatus a timeout is names = tells_status (first a) (handled k (first a) start.notes)
+  request_keeps EchoReq a timeout is names = gives_keeps K c (echo_res (first a)) start opened (echo_other (first a)) h
+  request_keeps SetClientId a timeout is names = note_keeps K (notes.Named c (first a)) start refl opened (asked SetClientId is is_naming refl) h
+  request_keeps OptionReq a timeout is names = chooses OptionReq is (first a) refl
+  request_keeps AllYours a timeout is names = h
 
   read_keeps : (kind : Kind) (o : Option Asked) → kind_of number ≡ Some kind → (o ≡ read_as kind bytes) → Held k I (request_if_read k c o start)
   read_keeps kind None is read = refuses_keeps K c (codes "bad_arguments") start opened h
   read_keeps kind (Some asked) is read = request_keeps asked.kind asked.arguments asked.timeout (is ∙ ap Some (sym (kind_read kind bytes asked (sym read))))
+      (λ n e. (asked, ap (λ o. read_kind o bytes) is ∙ ap (λ o. ok_or o BadArguments) (sym read), e))
 
   pub packet_keeps : (o : Option Kind) → kind_of number ≡ o → Held k I (packet_of k c o bytes start)
   packet_keeps None is = refuses_keeps K c (codes "unknown_command") start opened h

@@ -18,10 +18,10 @@ abbrev pub RunnersAreOpen : Settings → List Note → Type 0
 RunnersAreOpen k notes = (n c : ℕ) → spot n notes ≡ RunsAt c → is_open c notes ≡ true
 
 -- each waiting job is wanted: a background submission keeps it, or somebody listens to it
-abbrev pub NoneIsOrphaned : Settings → List Note → Type 0
-NoneIsOrphaned k notes = (n : ℕ) → spot n notes ≡ Waits → is_wanted n notes ≡ true
+abbrev pub NoWaitingJobIsOrphaned : Settings → List Note → Type 0
+NoWaitingJobIsOrphaned k notes = (n : ℕ) → spot n notes ≡ Waits → is_wanted n notes ≡ true
 
 -- who sleeps can do none of the jobs that wait
-abbrev pub NoneSleepsBesideWork : Settings → List Note → Type 0
-NoneSleepsBesideWork k notes = (c n : ℕ) (what : Job) →
+abbrev pub NoOneSleepsBesideWork : Settings → List Note → Type 0
+NoOneSleepsBesideWork k notes = (c n : ℕ) (what : Job) →
     is_asleep (phase c notes) ≡ true → spot n notes ≡ Waits → job n notes ≡ Some what → is_able c what.function notes ≡ false

@@ -87,26 +87,27 @@ BytesArrive = (k : Settings) (steps : List Step) (c : ℕ) → SentSo (is_open c
 
 -- ---- what a step does
 
--- P holds of each step after any steps: of the past before it, the step, and the past after it
-abbrev pub InEachStep : (Past → Step → Past → Type 0) → Type 0
-InEachStep P = (k : Settings) (steps : List Step) (s : Step) → P (run k steps) s (run k (s ∷ steps))
+-- P holds of each step after any steps, under any settings: of the past before it, the step, and the past after it
+abbrev pub InEachStep : (Settings → Past → Step → Past → Type 0) → Type 0
+InEachStep P = (k : Settings) (steps : List Step) (s : Step) → P k (run k steps) s (run k (s ∷ steps))
 
 -- each note that a step adds has its cause
-abbrev pub NotesAreCaused : Past → Step → Past → Type 0
-NotesAreCaused before s after = (newer : List Note) × (after.notes ≡ newer ++ before.notes) × AllCaused before.notes s newer
+abbrev pub NotesAreCaused : Settings → Past → Step → Past → Type 0
+NotesAreCaused k before s after = (newer : List Note) × (after.notes ≡ newer ++ before.notes) × AllCaused k before.notes s newer
 
 -- a job is discarded only in a closing, and only one that isn't kept and that nobody listens to
-abbrev pub DiscardsTheUnwanted : Past → Step → Past → Type 0
-DiscardsTheUnwanted before s after = (n : ℕ) → spot n after.notes ≡ Thrown →
+abbrev pub DiscardsTheUnwanted : Settings → Past → Step → Past → Type 0
+DiscardsTheUnwanted k before s after = (n : ℕ) → spot n after.notes ≡ Thrown →
     (spot n before.notes ≡ Thrown) ⊎ ((is_closing s ≡ true) × (is_wanted n after.notes ≡ false))
 
--- a job ends only with WORK_COMPLETE or WORK_FAIL of the slot where it runs, or in a tick that reaches its deadline
-abbrev pub EndsWithItsWorker : Past → Step → Past → Type 0
-EndsWithItsWorker before s after = (n : ℕ) → spot n after.notes ≡ Over → (spot n before.notes ≡ Over) ⊎ Ends before.notes s n
+-- a job ends only with WORK_COMPLETE or WORK_FAIL with its handle, of the slot where it runs, or in a tick that reaches its
+-- deadline
+abbrev pub EndsWithItsWorker : Settings → Past → Step → Past → Type 0
+EndsWithItsWorker k before s after = (n : ℕ) → spot n after.notes ≡ Over → (spot n before.notes ≡ Over) ⊎ Ends k before.notes s n
 
 -- a job comes to run at a slot only where the slot grabs, and the job is its pick
-abbrev pub GivesThePick : Past → Step → Past → Type 0
-GivesThePick before s after = (n c : ℕ) → spot n after.notes ≡ RunsAt c →
+abbrev pub GivesThePick : Settings → Past → Step → Past → Type 0
+GivesThePick k before s after = (n c : ℕ) → spot n after.notes ≡ RunsAt c →
     (spot n before.notes ≡ RunsAt c) ⊎ ((asks is_grab c s ≡ true) × Gets c n before.notes)
 
 -- a grab of a slot that takes units gets its pick: the job runs there
@@ -116,8 +117,8 @@ GrabsGetThePick = (k : Settings) (steps : List Step) (c number : ℕ) (found : P
     spot found.job (run k (Packet c number [] ∷ steps)).notes ≡ RunsAt c
 
 -- NO_JOB is queued only for a grab, and only where there is no pick
-abbrev pub SaysNoJobWhereNoneIs : Past → Step → Past → Type 0
-SaysNoJobWhereNoneIs before s after = (newer : List Flow) × (after.flow ≡ newer ++ before.flow) × AllSaid before.notes s newer
+abbrev pub SaysNoJobWhereNoneIs : Settings → Past → Step → Past → Type 0
+SaysNoJobWhereNoneIs k before s after = (newer : List Flow) × (after.flow ≡ newer ++ before.flow) × AllSaid before.notes s newer
 
 -- what waits for a slot is taken by its drains and goes with its closing, and nothing else takes of it
 abbrev pub takes_from : ℕ → Step → Bool
@@ -125,5 +126,5 @@ takes_from c (Drain d) = c == d
 takes_from c (Close d) = c == d
 takes_from c other = false
 
-abbrev pub OnlyDrainsTake : Past → Step → Past → Type 0
-OnlyDrainsTake before s after = (c : ℕ) → takes_from c s ≡ false → IsFront (waiting c before.flow) (waiting c after.flow)
+abbrev pub OnlyDrainsTake : Settings → Past → Step → Past → Type 0
+OnlyDrainsTake k before s after = (c : ℕ) → takes_from c s ≡ false → IsFront (waiting c before.flow) (waiting c after.flow)

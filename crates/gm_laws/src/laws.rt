@@ -4,7 +4,7 @@
 ghost use Rattle.gm_notes.specs.Jobs.{made};
 ghost use Rattle.gm_laws.specs.History.{History};
 ghost use Rattle.gm_laws.specs.Laws.{AfterAnySteps, AreNumbers, AreSlots, HavePlaces, AreOne, StayGone, AllIsSent, BytesArrive, InEachStep, NotesAreCaused, DiscardsTheUnwanted, EndsWithItsWorker, GivesThePick, GrabsGetThePick, SaysNoJobWhereNoneIs, OnlyDrainsTake};
-ghost use Rattle.gm_laws.specs.Between.{ListenersAreOpen, RunnersAreOpen, NoneIsOrphaned, NoneSleepsBesideWork};
+ghost use Rattle.gm_laws.specs.Between.{ListenersAreOpen, RunnersAreOpen, NoWaitingJobIsOrphaned, NoOneSleepsBesideWork};
 
 /// Every note of the past was allowed when it was added: only a waiting job was given out, and only to whose
 /// grab gets it; only a running one waited again, and only one that somebody wants; none was discarded that
@@ -64,8 +64,8 @@ pub fn discards_the_unwanted()
     ensures { InEachStep DiscardsTheUnwanted }
 {}
 
-/// A job ends only with WORK_COMPLETE or WORK_FAIL of the slot where it runs, or in a tick that reaches its
-/// deadline.
+/// A job ends only with WORK_COMPLETE or WORK_FAIL with its handle, of the slot where it runs, or in a tick that
+/// reaches its deadline.
 pub fn ends_with_its_worker()
     ensures { InEachStep EndsWithItsWorker }
 {}
@@ -96,11 +96,11 @@ pub fn runners_are_open()
 {}
 
 /// Each waiting job is wanted: a background submission keeps it, or somebody listens to it.
-pub fn none_is_orphaned()
-    ensures { AfterAnySteps NoneIsOrphaned }
+pub fn no_waiting_job_is_orphaned()
+    ensures { AfterAnySteps NoWaitingJobIsOrphaned }
 {}
 
 /// Who sleeps can do none of the jobs that wait.
-pub fn none_sleeps_beside_work()
-    ensures { AfterAnySteps NoneSleepsBesideWork }
+pub fn no_one_sleeps_beside_work()
+    ensures { AfterAnySteps NoOneSleepsBesideWork }
 {}
