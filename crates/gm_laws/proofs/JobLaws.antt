@@ -6,18 +6,17 @@ use Rattle.std.specs.Str.{bytes_eq}
 use Rattle.std.proofs.lemmas.Bool.{and_parts, and_from, or_left, or_right}
 use Rattle.std.proofs.lemmas.Bool.Decides.{nat_tests}
 use Rattle.std.proofs.lemmas.Slice.Eq.{bytes_eq-Decides}
-use Rattle.gm_packet.specs.declared.kind.Kind.{Kind}
 use Rattle.gm_notes.specs.declared.note.Note.{Note}
 use Rattle.gm_notes.specs.declared.note.Note.TheVariants.{Made, Assigned, Returned, Ended, Discarded}
 use Rattle.gm_notes.specs.declared.states.Priority.TheVariants.{Normal}
 use Rattle.gm_notes.specs.Settings.{Settings}
 use Rattle.gm_notes.specs.Jobs.{Spot, Unmade, Waits, RunsAt, Over, Thrown, Job, spot, job, is_live, is_waiting, is_running, is_job_named, joins, joined, made, next_number}
-use Rattle.gm_notes.specs.Steps.{Step, run_by}
-use Rattle.gm_laws.specs.History.{Allowed, AllAllowed, History}
-use Rattle.gm_laws.specs.Runs.{all}
+use Rattle.gm_notes.specs.Steps.{Step, run}
+use Rattle.gm_laws.specs.History.{Allowed, History}
 use Rattle.gm_laws.specs.Laws.{AreNumbers, is_made, has_place, HavePlaces, is_live_named, AreOne, is_gone, StayGone}
-use Rattle.gm_laws.proofs.StepsAdd.{step_adds}
-use Rattle.gm_laws.proofs.Histories.{numbers, run_history}
+use Rattle.gm_laws.proofs.StepsKeep.{step_keeps, run_history}
+use Rattle.gm_laws.proofs.Keeping.{keeps_notes}
+use Rattle.gm_laws.proofs.NumberLaws.{numbers}
 
 -- ---- numbers that are equal or not
 
@@ -199,19 +198,15 @@ gone_stays k (Ended m) older n h past gone = gone_moved n m older Over (n == m) 
 gone_stays k (Discarded m) older n h past gone = gone_moved n m older Thrown (n == m) refl gone h.0
 gone_stays k note older n h past gone = refl
 
-gone_adds : (k : Settings) (newer older : List Note) (n : ℕ) → AllAllowed k newer older → History k older → is_gone (spot n older) ≡ true → (History k (newer ++ older)) × (spot n (newer ++ older) ≡ spot n older)
-gone_adds k [] older n h past gone = (past, refl)
-gone_adds k (note ∷ newer) older n h past gone =
-    let r = gone_adds k newer older n h.1 past gone in
-    ((h.0, r.0), gone_stays k note (newer ++ older) n h.0 r.0 (ap is_gone r.1 ∙ gone) ∙ r.1)
-
-gone_step : (served : Kind → Bool) (k : Settings) (s : Step) (steps : List Step) (n : ℕ) → is_gone (spot n (run_by served k steps).notes) ≡ true → spot n (run_by served k (s ∷ steps)).notes ≡ spot n (run_by served k steps).notes
-gone_step served k s steps n gone =
-    let a = step_adds served k s (run_by served k steps) in
-    ap (spot n) a.all ∙ (gone_adds k a.newer (run_by served k steps).notes n a.allowed (run_history served k steps) gone).1
+gone_step : (k : Settings) (s : Step) (steps : List Step) (n : ℕ) → is_gone (spot n (run k steps).notes) ≡ true → spot n (run k (s ∷ steps)).notes ≡ spot n (run k steps).notes
+gone_step k s steps n gone =
+    let start = run k steps in
+    (step_keeps start s
+    (keeps_notes (λ l. spot n l ≡ spot n start.notes) (λ note older allowed caused h e. gone_stays k note older n allowed h (ap is_gone e ∙ gone) ∙ e))
+    (λ c e h u. u) (run_history k steps, refl)).1
 
 pub stay_gone : StayGone
 stay_gone k [] steps n gone = refl
 stay_gone k (s ∷ later) steps n gone =
     let before = stay_gone k later steps n gone in
-    gone_step all k s (later ++ steps) n (ap is_gone before ∙ gone) ∙ before
+    gone_step k s (later ++ steps) n (ap is_gone before ∙ gone) ∙ before

@@ -1,5 +1,5 @@
 -- When each note may be added, and that every note of a past was.
-use Rattle.std.specs.Prelude.{◌≡◌, ℕ, ◌<◌, ◌≤◌, true, false, List, [], ◌∷◌, ◌++◌, Some, None}
+use Rattle.std.specs.Prelude.{◌≡◌, ℕ, ◌<◌, ◌≤◌, true, false, List, [], ◌∷◌, Some, None}
 use Rattle.gm_notes.specs.declared.note.Note.{Note}
 use Rattle.gm_notes.specs.declared.note.Note.TheVariants.{Opened, Shut, Closed, Named, OptionSet, Can, Cant, Reset, Slept, Woken, Stirred, Took, Withdrew, Made, Kept, Listens, Assigned, Returned, Ended, Discarded, Report, Mention, Limit, Now, Went}
 use Rattle.gm_notes.specs.Settings.{Settings}
@@ -41,11 +41,6 @@ Allowed k (Mention f) older = is_mentioned f older ≡ false
 Allowed k (Limit f size) older = Unit {0}
 Allowed k (Now t) older = moment older ≤ t
 Allowed k (Went m) older = Unit {0}
-
--- each of the newer notes was allowed when it was added
-abbrev pub AllAllowed : Settings → List Note → List Note → Type 0
-AllAllowed k [] older = Unit {0}
-AllAllowed k (note ∷ newer) older = Allowed k note (newer ++ older) × AllAllowed k newer older
 
 -- every note was allowed when it was added; the newest comes first
 abbrev pub History : Settings → List Note → Type 0

@@ -1,6 +1,6 @@
 -- Worked rows of jobs: what the definitions give for whole runs. Each is a statement that stands proved on a function
 -- of the same name.
-use Rattle.std.specs.Prelude.{true, false, [], ◌∷◌, replicate, codes}
+use Rattle.std.specs.Prelude.{true, false, [], ◌∷◌, ◌++◌, replicate, codes}
 use Rattle.gm_notes.specs.Steps.{Close}
 use Rattle.gm_packet.specs.Writing.{job_assign_uniq}
 use Rattle.gm_notes.specs.declared.states.Place.TheVariants as places
@@ -168,11 +168,11 @@ abbrev pub LimitCounts : Type 0
 LimitCounts =
     Plays defaults (
     connect ∷ connect ∷ says 0 "maxqueue f 2" ∷ says 0 "maxqueue f 1" ∷ submit_job 0 "f" "a" "1" ∷ can_do 1 "f" ∷ grab_job 1
-    ∷ submit_job 0 "f" "b" "2" ∷ submit_job 0 "g" "b" "3" ∷ work_complete 1 "H:gmd:1" "x" ∷ submit_job 0 "f" "b" "4"
+    ∷ submit_job 0 "f" "b" "2" ∷ submit_job 0 "g" "b" "3" ∷ submit_job 0 "g" "c" "3" ∷ work_complete 1 "H:gmd:1" "x" ∷ submit_job 0 "f" "b" "4"
     ∷ says 0 "maxqueue f 2" ∷ submit_job 0 "f" "c" "5" ∷ submit_job 0 "f" "d" "6" ∷ []) (
     line 0 "OK" ∷ line 0 "OK" ∷ created 0 "H:gmd:1" ∷ assigned 1 "H:gmd:1" "f" "1" ∷ error 0 "queue_full" "queue full"
-    ∷ created 0 "H:gmd:2" ∷ completed 0 "H:gmd:1" "x" ∷ created 0 "H:gmd:3" ∷ line 0 "OK" ∷ created 0 "H:gmd:4"
-    ∷ error 0 "queue_full" "queue full" ∷ [])
+    ∷ created 0 "H:gmd:2" ∷ created 0 "H:gmd:3" ∷ completed 0 "H:gmd:1" "x" ∷ created 0 "H:gmd:4" ∷ line 0 "OK"
+    ∷ created 0 "H:gmd:5" ∷ error 0 "queue_full" "queue full" ∷ [])
 
 -- no more functions than the settings allow
 abbrev pub FunctionLimit : Type 0
@@ -221,15 +221,14 @@ Handles =
 -- where a job is, from its making to its end
 abbrev pub Places : Type 0
 Places =
+    let submitted = connect ∷ connect ∷ connect ∷ submit_job 0 "f" "a" "1" ∷ [] in
+    let given = submitted ++ can_do 1 "f" ∷ grab_job 1 ∷ [] in
+    let back = given ++ Close 1 ∷ [] in
+    let again = back ++ can_do 2 "f" ∷ grab_job 2 ∷ [] in
     Stands four_slots [] 1 places.Unmade
-    × Stands four_slots (
-    connect ∷ connect ∷ connect ∷ submit_job 0 "f" "a" "1" ∷ []) 1 places.Waiting
-    × Stands four_slots (
-    connect ∷ connect ∷ connect ∷ submit_job 0 "f" "a" "1" ∷ can_do 1 "f" ∷ grab_job 1 ∷ []) 1 (places.Running 1)
-    × Stands four_slots (
-    connect ∷ connect ∷ connect ∷ submit_job 0 "f" "a" "1" ∷ can_do 1 "f" ∷ grab_job 1 ∷ Close 1 ∷ []) 1 places.Waiting
-    × Stands four_slots (
-    connect ∷ connect ∷ connect ∷ submit_job 0 "f" "a" "1" ∷ can_do 1 "f" ∷ grab_job 1 ∷ Close 1 ∷ can_do 2 "f" ∷ grab_job 2 ∷ []) 1 (places.Running 2)
-    × Stands four_slots (
-    connect ∷ connect ∷ connect ∷ submit_job 0 "f" "a" "1" ∷ can_do 1 "f" ∷ grab_job 1 ∷ Close 1 ∷ can_do 2 "f" ∷ grab_job 2
-    ∷ work_complete 2 "H:gmd:1" "x" ∷ []) 1 places.Gone
+    × Stands four_slots submitted 1 places.Waiting
+    × Stands four_slots given 1 (places.Running 1)
+    × Stands four_slots back 1 places.Waiting
+    × Stands four_slots again 1 (places.Running 2)
+    × Stands four_slots (again ++ work_complete 2 "H:gmd:1" "x" ∷ []) 1 places.Gone
+    × Stands four_slots (submitted ++ Close 0 ∷ []) 1 places.Gone

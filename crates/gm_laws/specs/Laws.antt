@@ -1,13 +1,16 @@
 -- What holds after any steps, under any settings.
-use Rattle.std.specs.Prelude.{◌≡◌, ℕ, ◌+◌, ◌<◌, ◌^◌, ◌&&◌, ◌==◌, Bool, true, false, if◌then◌else◌, List, [], ◌∷◌, ◌++◌, length}
+use Rattle.std.specs.Prelude.{◌≡◌, ℕ, ◌+◌, ◌<◌, ◌^◌, ◌&&◌, ◌==◌, ◌⊎◌, Bool, true, false, if◌then◌else◌, List, [], ◌∷◌, ◌++◌, length, Some}
 use Rattle.std.specs.List.{list_any}
+use Rattle.gm_packet.specs.Kinds.{kind_of}
 use Rattle.gm_notes.specs.declared.note.Note.{Note}
 use Rattle.gm_notes.specs.Settings.{Settings}
-use Rattle.gm_notes.specs.Notes.{is_open}
+use Rattle.gm_notes.specs.Notes.{is_open, takes_units}
 use Rattle.gm_notes.specs.Flow.{Flow, Began, Queued, Drained, Emptied, sent, waiting}
-use Rattle.gm_notes.specs.Jobs.{Spot, Unmade, Over, Thrown, spot, is_live, job, is_job_named, joins, made}
-use Rattle.gm_notes.specs.Steps.{Step}
-use Rattle.gm_laws.specs.Runs.{run}
+use Rattle.gm_notes.specs.Jobs.{Spot, Pick, pick, Unmade, RunsAt, Over, Thrown, spot, is_live, is_wanted, job, is_job_named, joins, made}
+use Rattle.gm_notes.specs.Steps.{Step, Packet, Close, Drain, run}
+use Rattle.gm_notes.specs.Past.{Past}
+use Rattle.gm_laws.specs.History.{Gets}
+use Rattle.gm_laws.specs.Causes.{Ends, AllCaused, AllSaid, asks, is_grab, is_one_of, is_closing}
 
 -- P holds of the notes after any steps
 abbrev pub AfterAnySteps : (Settings → List Note → Type 0) → Type 0
@@ -69,3 +72,59 @@ is_kept_up c (Drained d ∷ older) = is_kept_up c older
 -- what was drained, followed by what waits, is what was sent
 abbrev pub AllIsSent : Type 0
 AllIsSent = (flow : List Flow) (c : ℕ) → is_kept_up c flow ≡ true → sent c flow ≡ drained c flow ++ waiting c flow
+
+-- between steps: of a slot that is open, what was drained since it was opened, followed by what waits, is what was
+-- sent; for one that isn't nothing waits, and what was drained is a front of what was sent
+abbrev pub IsFront : List ℕ → List ℕ → Type 0
+IsFront front whole = (rest : List ℕ) × (whole ≡ front ++ rest)
+
+abbrev pub SentSo : Bool → ℕ → List Flow → Type 0
+SentSo true c flow = sent c flow ≡ drained c flow ++ waiting c flow
+SentSo false c flow = (waiting c flow ≡ []) × IsFront (drained c flow) (sent c flow)
+
+abbrev pub BytesArrive : Type 0
+BytesArrive = (k : Settings) (steps : List Step) (c : ℕ) → SentSo (is_open c (run k steps).notes) c (run k steps).flow
+
+-- ---- what a step does
+
+-- P holds of each step after any steps, under any settings: of the past before it, the step, and the past after it
+abbrev pub InEachStep : (Settings → Past → Step → Past → Type 0) → Type 0
+InEachStep P = (k : Settings) (steps : List Step) (s : Step) → P k (run k steps) s (run k (s ∷ steps))
+
+-- each note that a step adds has its cause
+abbrev pub NotesAreCaused : Settings → Past → Step → Past → Type 0
+NotesAreCaused k before s after = (newer : List Note) × (after.notes ≡ newer ++ before.notes) × AllCaused k before.notes s newer
+
+-- a job is discarded only in a closing, and only one that isn't kept and that nobody listens to
+abbrev pub DiscardsTheUnwanted : Settings → Past → Step → Past → Type 0
+DiscardsTheUnwanted k before s after = (n : ℕ) → spot n after.notes ≡ Thrown →
+    (spot n before.notes ≡ Thrown) ⊎ ((is_closing s ≡ true) × (is_wanted n after.notes ≡ false))
+
+-- a job ends only with WORK_COMPLETE or WORK_FAIL with its handle, of the slot where it runs, or in a tick that reaches its
+-- deadline
+abbrev pub EndsWithItsWorker : Settings → Past → Step → Past → Type 0
+EndsWithItsWorker k before s after = (n : ℕ) → spot n after.notes ≡ Over → (spot n before.notes ≡ Over) ⊎ Ends k before.notes s n
+
+-- a job comes to run at a slot only where the slot grabs, and the job is its pick
+abbrev pub GivesThePick : Settings → Past → Step → Past → Type 0
+GivesThePick k before s after = (n c : ℕ) → spot n after.notes ≡ RunsAt c →
+    (spot n before.notes ≡ RunsAt c) ⊎ ((asks is_grab c s ≡ true) × Gets c n before.notes)
+
+-- a grab of a slot that takes units gets its pick: the job runs there
+abbrev pub GrabsGetThePick : Type 0
+GrabsGetThePick = (k : Settings) (steps : List Step) (c number : ℕ) (found : Pick) →
+    is_one_of is_grab (kind_of number) ≡ true → takes_units c (run k steps).notes ≡ true → pick c (run k steps).notes ≡ Some found →
+    spot found.job (run k (Packet c number [] ∷ steps)).notes ≡ RunsAt c
+
+-- NO_JOB is queued only for a grab, and only where there is no pick
+abbrev pub SaysNoJobWhereNoneIs : Settings → Past → Step → Past → Type 0
+SaysNoJobWhereNoneIs k before s after = (newer : List Flow) × (after.flow ≡ newer ++ before.flow) × AllSaid before.notes s newer
+
+-- what waits for a slot is taken by its drains and goes with its closing, and nothing else takes of it
+abbrev pub takes_from : ℕ → Step → Bool
+takes_from c (Drain d) = c == d
+takes_from c (Close d) = c == d
+takes_from c other = false
+
+abbrev pub OnlyDrainsTake : Settings → Past → Step → Past → Type 0
+OnlyDrainsTake k before s after = (c : ℕ) → takes_from c s ≡ false → IsFront (waiting c before.flow) (waiting c after.flow)

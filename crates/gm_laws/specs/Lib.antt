@@ -1,8 +1,9 @@
+pub mod Between
+pub mod Causes
 pub mod ConnectionRows
 pub mod History
 pub mod JobRows
 pub mod Laws
 pub mod LineRows
 pub mod RowWords
-pub mod Runs
 pub mod WorkerRows

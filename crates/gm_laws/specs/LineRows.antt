@@ -1,12 +1,14 @@
 -- Worked rows of text lines, faults, plain answers and settings.
-use Rattle.std.specs.Prelude.{◌≡◌, ℕ, true, false, List, [], ◌∷◌, ◌++◌, replicate, codes, Some, None}
+use Rattle.std.specs.Prelude.{◌≡◌, ℕ, true, false, List, [], ◌∷◌, ◌++◌, map, replicate, codes, Some, None}
 use Rattle.gm_notes.specs.Steps.{Line, Fault, Close}
-use Rattle.gm_notes.specs.declared.event.ApplyError.TheVariants.{NotOpen, NoSlot, Refusing}
+use Rattle.gm_notes.specs.declared.event.ApplyError.TheVariants.{Memory, NotOpen, NoSlot, NotOwed, Refusing}
 use Rattle.gm_notes.specs.declared.event.UnitFault.TheVariants.{BadMagic, PacketTooLarge, LineTooLong}
 use Rattle.gm_notes.specs.declared.config.ConfigError.TheVariants.{BadName, BadNumber, BadSlots, BadFunctions}
-use Rattle.gm_notes.specs.Settings.{config_fault, Settings}
+use Rattle.gm_notes.specs.declared.states.Mode.TheVariants as modes
+use Rattle.gm_notes.specs.Numbers.{apply_error_number, unit_fault_number}
+use Rattle.gm_notes.specs.Settings.{config_fault, config_error_number, Settings}
 use Rattle.gm_packet.specs.Writing.{echo_res}
-use Rattle.gm_laws.specs.RowWords.{settings, defaults, four_slots, connect_from, connect, says, asks, can_do, cant_do, reset_abilities, submit_job, grab_job, work_complete, echo_req, submit_job_bg, set_client_id, all_yours, to, line, page, counts, created, assigned, completed, status, echoed, error, Plays, Refuses, Takes}
+use Rattle.gm_laws.specs.RowWords.{AreShut, GoesOn, settings, defaults, four_slots, connect_from, connect, says, asks, can_do, cant_do, reset_abilities, submit_job, grab_job, work_complete, echo_req, submit_job_bg, set_client_id, all_yours, to, line, page, counts, created, assigned, completed, status, echoed, error, Plays, Refuses, Takes}
 
 -- with this name
 abbrev pub named : List ℕ → Settings
@@ -123,6 +125,30 @@ ShutDown =
     × Refuses defaults steps (says 0 "version") NotOpen
     × Takes defaults steps (Close 1)
     × Refuses defaults steps (connect) Refusing
+
+-- the server runs on, takes no new connections, or ends; a refused line changes nothing of that
+abbrev pub Modes : Type 0
+Modes =
+    GoesOn four_slots (connect ∷ connect ∷ says 0 "shutdown now" ∷ []) modes.Running
+    × GoesOn four_slots (connect ∷ connect ∷ says 0 "shutdown graceful" ∷ []) modes.Graceful
+    × GoesOn four_slots (connect ∷ connect ∷ says 0 "shutdown graceful" ∷ says 1 "shutdown" ∷ []) modes.Stopped
+    × GoesOn four_slots (connect ∷ connect ∷ says 1 "shutdown" ∷ says 0 "shutdown graceful" ∷ []) modes.Stopped
+
+-- who is open and takes no more units: after its fault, or a shutdown, until it is closed
+abbrev pub ShutSlots : Type 0
+ShutSlots =
+    let steps = connect ∷ connect ∷ connect ∷ Fault 1 BadMagic ∷ [] in
+    AreShut four_slots steps (1 ∷ [])
+    × AreShut four_slots (steps ++ Close 1 ∷ []) []
+    × AreShut four_slots (steps ++ Close 1 ∷ connect ∷ []) []
+    × AreShut four_slots (steps ++ says 0 "shutdown" ∷ []) (0 ∷ 1 ∷ 2 ∷ [])
+
+-- the numbers of refusals and of faults
+abbrev pub RefusalNumbers : Type 0
+RefusalNumbers =
+    (map apply_error_number (Memory ∷ NotOpen ∷ NoSlot ∷ NotOwed ∷ Refusing ∷ []) ≡ 6 ∷ 10 ∷ 11 ∷ 12 ∷ 13 ∷ [])
+    × (map unit_fault_number (BadMagic ∷ PacketTooLarge ∷ LineTooLong ∷ []) ≡ 3 ∷ 4 ∷ 5 ∷ [])
+    × (map config_error_number (BadName ∷ BadNumber ∷ BadSlots ∷ BadFunctions ∷ []) ≡ 17 ∷ 18 ∷ 19 ∷ 20 ∷ [])
 
 -- the settings: a name of 1 to 40 letters, digits, dots and dashes, a first number, 1 to 1,024 slots and 1 to 65,536 functions
 abbrev pub SettingsInRange : Type 0

@@ -1,20 +1,20 @@
 -- The words that rows are written in.
 use Prim.Native.String.{String}
-use Rattle.std.specs.Prelude.{◌≡◌, ℕ, Bool, List, [], ◌∷◌, ◌++◌, reverse, filter, map, codes, Option, Some, None}
+use Rattle.std.specs.Prelude.{◌≡◌, ℕ, Bool, List, [], ◌∷◌, ◌++◌, reverse, filter, codes, Some, None}
 use Rattle.std.specs.List.{join_with_byte, flat_map}
 use Rattle.gm_packet.specs.Writing.{Answer, answer_packet}
 use Rattle.gm_packet.specs.Writing as writing
 use Rattle.gm_notes.specs.declared.event.ApplyError.{ApplyError}
 use Rattle.gm_notes.specs.declared.event.Done.{Done}
+use Rattle.gm_notes.specs.declared.states.Mode.{Mode}
 use Rattle.gm_notes.specs.declared.states.Place.{Place}
 use Rattle.gm_notes.specs.Settings.{Settings}
-use Rattle.gm_notes.specs.Notes.{slots_from}
+use Rattle.gm_notes.specs.Notes.{mode, slots_from}
 use Rattle.gm_notes.specs.Flow.{Flow, Began, Queued, Drained, Emptied, sent, waiting}
 use Rattle.gm_notes.specs.Jobs.{spot}
 use Rattle.gm_notes.specs.Past.{Past}
-use Rattle.gm_notes.specs.Servers.{owes, place_of}
-use Rattle.gm_notes.specs.Steps.{Step, Open, Packet, Line, refusal}
-use Rattle.gm_laws.specs.Runs.{run, done}
+use Rattle.gm_notes.specs.Servers.{owes, is_closing, place_of}
+use Rattle.gm_notes.specs.Steps.{Step, Open, Packet, Line, refusal, run, done}
 
 -- ---- settings
 
@@ -209,6 +209,14 @@ Plays k steps answers = told (after k steps).flow ≡ answers
 -- who is owed a NOOP after them
 abbrev pub Owes : Settings → List Step → List ℕ → Type 0
 Owes k steps slots = filter (λ c. owes c (after k steps)) (slots_from 0 k.slots) ≡ slots
+
+-- which slots are open and take no more units after them
+abbrev pub AreShut : Settings → List Step → List ℕ → Type 0
+AreShut k steps slots = filter (λ c. is_closing c (after k steps)) (slots_from 0 k.slots) ≡ slots
+
+-- how the server goes on after them
+abbrev pub GoesOn : Settings → List Step → Mode → Type 0
+GoesOn k steps so = mode (after k steps).notes ≡ so
 
 -- which bytes wait for slot c after them
 abbrev pub Waits : Settings → List Step → ℕ → List ℕ → Type 0

@@ -3,7 +3,8 @@
 
 ghost use Rattle.gm_notes.specs.Jobs.{made};
 ghost use Rattle.gm_laws.specs.History.{History};
-ghost use Rattle.gm_laws.specs.Laws.{AfterAnySteps, AreNumbers, AreSlots, HavePlaces, AreOne, StayGone, AllIsSent};
+ghost use Rattle.gm_laws.specs.Laws.{AfterAnySteps, AreNumbers, AreSlots, HavePlaces, AreOne, StayGone, AllIsSent, BytesArrive, InEachStep, NotesAreCaused, DiscardsTheUnwanted, EndsWithItsWorker, GivesThePick, GrabsGetThePick, SaysNoJobWhereNoneIs, OnlyDrainsTake};
+ghost use Rattle.gm_laws.specs.Between.{ListenersAreOpen, RunnersAreOpen, NoWaitingJobIsOrphaned, NoOneSleepsBesideWork};
 
 /// Every note of the past was allowed when it was added: only a waiting job was given out, and only to whose
 /// grab gets it; only a running one waited again, and only one that somebody wants; none was discarded that
@@ -40,4 +41,66 @@ pub fn gone_stays_gone()
 /// What was drained of a connection's bytes, followed by what waits, is what was sent.
 pub fn all_is_sent()
     ensures { AllIsSent }
+{}
+
+/// Of a slot that is open after any steps, what was drained since it was opened, followed by what waits, is what
+/// was sent; for one that isn't open nothing waits, and what was drained is a front of what was sent.
+pub fn bytes_arrive()
+    ensures { BytesArrive }
+{}
+
+/// Drains, and nothing else, take of the bytes that wait for a slot, but for its closing.
+pub fn only_drains_take()
+    ensures { InEachStep OnlyDrainsTake }
+{}
+
+/// Each note that a step adds has its cause: `Causes` has a line for each.
+pub fn notes_are_caused()
+    ensures { InEachStep NotesAreCaused }
+{}
+
+/// A job is discarded only in a closing, and only one that isn't kept and that nobody listens to.
+pub fn discards_the_unwanted()
+    ensures { InEachStep DiscardsTheUnwanted }
+{}
+
+/// A job ends only with WORK_COMPLETE or WORK_FAIL with its handle, of the slot where it runs, or in a tick that
+/// reaches its deadline.
+pub fn ends_with_its_worker()
+    ensures { InEachStep EndsWithItsWorker }
+{}
+
+/// A job comes to run at a slot only where the slot grabs, and the job is its pick.
+pub fn gives_the_pick()
+    ensures { InEachStep GivesThePick }
+{}
+
+/// A grab of a slot that takes units gets its pick: the job runs there.
+pub fn grabs_get_the_pick()
+    ensures { GrabsGetThePick }
+{}
+
+/// NO_JOB is queued only for a grab, and only where there is no pick.
+pub fn says_no_job_where_none_is()
+    ensures { InEachStep SaysNoJobWhereNoneIs }
+{}
+
+/// Who listens to a job is open.
+pub fn listeners_are_open()
+    ensures { AfterAnySteps ListenersAreOpen }
+{}
+
+/// The slot where a job runs is open.
+pub fn runners_are_open()
+    ensures { AfterAnySteps RunnersAreOpen }
+{}
+
+/// Each waiting job is wanted: a background submission keeps it, or somebody listens to it.
+pub fn no_waiting_job_is_orphaned()
+    ensures { AfterAnySteps NoWaitingJobIsOrphaned }
+{}
+
+/// Who sleeps can do none of the jobs that wait.
+pub fn no_one_sleeps_beside_work()
+    ensures { AfterAnySteps NoOneSleepsBesideWork }
 {}

@@ -4,7 +4,7 @@
 ghost use Rattle.gm_laws.specs.JobRows.{Priorities, SixPriorities, SixKeepings, SixHearings, JoinedListeners, JoinedJob, JoiningKeys, JoinsRunning, EndedJobs, OnlyItsWorker, Progress, ReportKept, ExceptionsOption, DataWithNul, QueueLimit, LimitCounts, FunctionLimit, LastNumber, RefusalOrder, FunctionNames, Handles, Places};
 ghost use Rattle.gm_laws.specs.WorkerRows.{AbilityOrder, OnlyItsFunctions, QueueOrder, OneWake, OneWakeThen, AllWake, OnlyAbleWake, WorkBeforeSleep, WorkBeforeAbility, OnlyItsWork, WorkBeforeGrab, GrabStirs, StaleNoop, StillOwed, WithdrawnNoop, TakenNoop, Deadline, NoDeadline, TimeLimits, TimeStands, EdgesOfTime, ExpiredTogether, DeadlineForgotten};
 ghost use Rattle.gm_laws.specs.ConnectionRows.{LeastSlot, MadeJobs, SlotsSpent, ClosedSlots, NothingInherited, OptionNotInherited, SleepNotInherited, ShutNotInherited, ListenerNotInherited, WorkNotInherited, BytesWait, BytesSent, TwoSlots, ReturnedJob, WokenByReturn, NotItself, OrphanedJob, KeptJob, OnlyUnwanted, RunsOn, OnlyItsJobs};
-ghost use Rattle.gm_laws.specs.LineRows.{PlainAnswers, TrailingNul, Faults, WorkersText, OpenConnections, StatusText, AdminLines, LimitLines, ShutdownLines, Shutdowns, ShutDown, SettingsInRange};
+ghost use Rattle.gm_laws.specs.LineRows.{PlainAnswers, TrailingNul, Faults, WorkersText, OpenConnections, StatusText, AdminLines, LimitLines, ShutdownLines, Shutdowns, ShutDown, SettingsInRange, Modes, ShutSlots, RefusalNumbers};
 
 // ---- jobs
 
@@ -404,6 +404,21 @@ pub fn shutdowns()
 /// After a shutdown no slot takes units, and closing works.
 pub fn shut_down()
     ensures { ShutDown }
+{}
+
+/// The server runs on, takes no new connections, or ends; a refused line changes nothing of that.
+pub fn modes()
+    ensures { Modes }
+{}
+
+/// Who is open and takes no more units: after its fault, or a shutdown, until it is closed.
+pub fn shut_slots()
+    ensures { ShutSlots }
+{}
+
+/// The numbers of refusals and of faults.
+pub fn refusal_numbers()
+    ensures { RefusalNumbers }
 {}
 
 /// The settings: a name of 1 to 40 letters, digits, dots and dashes, a first number, 1 to 1,024 slots

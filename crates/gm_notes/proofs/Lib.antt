@@ -1,8 +1,3 @@
-pub mod AbilityLemmas
-pub mod LaneLemmas
-pub mod LogLemmas
+pub mod FreeSlots
 pub mod NameLemmas
-pub mod NoteLemmas
-pub mod PlainLemmas
-pub mod ServingLemmas
 pub mod Slots

@@ -1,6 +1,6 @@
 -- No packet opens, closes or shuts a slot.
 use Rattle.std.proofs.Common.{◌≡◌, ℕ, Bool, true, false, List, [], ◌∷◌, Option, Some, None, refl, ◌∙◌}
-use Rattle.std.specs.Prelude.{not, ◌&&◌, if◌then◌else◌}
+use Rattle.std.specs.Prelude.{not, ◌&&◌, ◌==◌, if◌then◌else◌}
 use Rattle.std.specs.Str.{bytes_eq}
 use Rattle.std.proofs.Common.{codes}
 use Rattle.gm_packet.specs.declared.kind.Kind.{Kind}
@@ -11,10 +11,12 @@ use Rattle.gm_notes.specs.declared.states.Priority.TheVariants.{High, Normal, Lo
 use Rattle.gm_notes.specs.declared.note.Note.{Note}
 use Rattle.gm_notes.specs.Settings.{Settings}
 use Rattle.gm_notes.specs.Notes.{is_open, is_shut, phase, is_asleep, is_awake, slots_from}
-use Rattle.gm_notes.specs.Jobs.{Job, Pick, job, spot, is_live, is_running_at, is_mentioned, is_able, listeners, joined, handled, next_number, pick, waiting_for, is_empty}
+use Rattle.gm_notes.specs.Jobs.{Job, Pick, job, spot, is_live, is_waiting, is_running_at, is_wanted, is_mentioned, is_able, listeners, joined, handled, next_number, pick, waiting_for, is_empty}
 use Rattle.gm_notes.specs.Past.{Past, noted, give, mentioned, tell_all, wake_one, wake_each}
 use Rattle.gm_notes.specs.Submissions.{Submission, is_bad_name, is_one_too_many, is_full, wanted, make, join_or_make, submit}
 use Rattle.gm_notes.specs.Workers.{Work, woken_if, made_able, can_do, cant_do, sleep_beside, pre_sleep, stir, tell_assigned, give_out, grab, report_kept, ended_if, hearers, tell_work, work_on, work}
+use Rattle.gm_notes.specs.declared.note.Note.TheVariants.{Returned}
+use Rattle.gm_notes.specs.Closings.{discard_one, discard_each, wake_for, give_back_one, give_back_each, gone, rising, close}
 use Rattle.gm_notes.specs.Requests.{first, second, third, submission, passing, ending, tell_status, set_option, request, request_if_read, packet_of}
 
 -- the same slots are open, and the same are shut
@@ -180,7 +182,56 @@ read_stays k c None past = stays_here past.notes
 read_stays k c (Some asked) past = request_stays k c asked.kind asked.arguments asked.timeout past
 
 -- whatever a packet does, the same slots are open, and the same are shut
-pub packet_stays : (served : Kind → Bool) (k : Settings) (c : ℕ) (known : Option Kind) (bytes : List ℕ) (past : Past)
-    → Stays past.notes (packet_of served k c known bytes past).notes
-packet_stays served k c None bytes past = stays_here past.notes
-packet_stays served k c (Some kind) bytes past = either (served kind) past.notes _ _ (read_stays k c (read_as kind bytes) past) (stays_here past.notes)
+pub packet_stays : (k : Settings) (c : ℕ) (known : Option Kind) (bytes : List ℕ) (past : Past) → Stays past.notes (packet_of k c known bytes past).notes
+packet_stays k c None bytes past = stays_here past.notes
+packet_stays k c (Some kind) bytes past = read_stays k c (read_as kind bytes) past
+
+-- ---- a closing closes its slot alone
+
+discard_stays : (n : ℕ) (past : Past) → Stays past.notes (discard_one n past).notes
+discard_stays n past =
+    either (is_waiting (spot n past.notes) && not (is_wanted n past.notes)) past.notes _ past (record { opens = λ d. refl; shuts = λ d. refl }) (stays_here past.notes)
+
+discards_stay : (jobs : List ℕ) (past : Past) → Stays past.notes (discard_each jobs past).notes
+discards_stay [] past = stays_here past.notes
+discards_stay (n ∷ jobs) past =
+    stays_then past.notes (discard_one n past).notes (discard_each jobs (discard_one n past)).notes (discard_stays n past) (discards_stay jobs (discard_one n past))
+
+wake_for_stays : (k : Settings) (o : Option Job) (past : Past) → Stays past.notes (wake_for k o past).notes
+wake_for_stays k None past = stays_here past.notes
+wake_for_stays k (Some job) past = wake_stays job.function (slots_from 0 k.slots) past
+
+give_back_stays : (k : Settings) (c n : ℕ) (past : Past) → Stays past.notes (give_back_one k c n past).notes
+give_back_stays k c n past =
+    either (is_running_at c (spot n past.notes)) past.notes _ past
+    (either (is_wanted n past.notes) past.notes _ _
+    (stays_then past.notes (Returned n ∷ past.notes) _ (record { opens = λ d. refl; shuts = λ d. refl }) (wake_for_stays k (job n past.notes) (noted (Returned n) past)))
+    (record { opens = λ d. refl; shuts = λ d. refl }))
+    (stays_here past.notes)
+
+give_backs_stay : (k : Settings) (c : ℕ) (jobs : List ℕ) (past : Past) → Stays past.notes (give_back_each k c jobs past).notes
+give_backs_stay k c [] past = stays_here past.notes
+give_backs_stay k c (n ∷ jobs) past =
+    stays_then past.notes (give_back_one k c n past).notes (give_back_each k c jobs (give_back_one k c n past)).notes (give_back_stays k c n past)
+    (give_backs_stay k c jobs (give_back_one k c n past))
+
+close_stays : (k : Settings) (c : ℕ) (past : Past) → Stays (gone c past).notes (close k c past).notes
+close_stays k c past =
+    let left = gone c past in
+    stays_then left.notes (discard_each (rising past) left).notes (close k c past).notes (discards_stay (rising past) left)
+    (give_backs_stay k c (rising past) (discard_each (rising past) left))
+
+-- another slot is open or shut as before
+pub close_keeps : (k : Settings) (c d : ℕ) (past : Past) → (d == c) ≡ false
+    → (is_open d (close k c past).notes ≡ is_open d past.notes) × (is_shut d (close k c past).notes ≡ is_shut d past.notes)
+close_keeps k c d past other =
+    let stirred = stir_stays c past in
+    let closed = close_stays k c past in
+    let opens : is_open d (gone c past).notes ≡ is_open d (stir c past).notes = rw other refl in
+    (closed.opens d ∙ (opens ∙ stirred.opens d), closed.shuts d ∙ stirred.shuts d)
+
+-- and this one is closed
+pub close_closes : (k : Settings) (c : ℕ) (past : Past) → (c == c) ≡ true → is_open c (close k c past).notes ≡ false
+close_closes k c past same =
+    let here : is_open c (gone c past).notes ≡ false = rw same refl in
+    (close_stays k c past).opens c ∙ here

@@ -6,11 +6,9 @@ pub mod Notes
 pub mod Numbers
 pub mod Past
 pub mod Requests
-pub mod Served
 pub mod Servers
 pub mod Settings
 pub mod Steps
 pub mod Submissions
 pub mod Texts
 pub mod Workers
-pub mod plain

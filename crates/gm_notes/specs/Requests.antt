@@ -84,8 +84,7 @@ abbrev pub request_if_read : Settings → ℕ → Option Asked → Past → Past
 request_if_read k c None past = refuse c (codes "bad_arguments") past
 request_if_read k c (Some asked) past = request k c asked.kind asked.arguments asked.timeout past
 
--- a type that isn't served is unknown, whatever its data
-abbrev pub packet_of : (Kind → Bool) → Settings → ℕ → Option Kind → List ℕ → Past → Past
-packet_of served k c None bytes past = refuse c (codes "unknown_command") past
-packet_of served k c (Some kind) bytes past =
-    if served kind then request_if_read k c (read_as kind bytes) past else refuse c (codes "unknown_command") past
+-- a type that is no request's is unknown, whatever its data
+abbrev pub packet_of : Settings → ℕ → Option Kind → List ℕ → Past → Past
+packet_of k c None bytes past = refuse c (codes "unknown_command") past
+packet_of k c (Some kind) bytes past = request_if_read k c (read_as kind bytes) past

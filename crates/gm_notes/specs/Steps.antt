@@ -1,6 +1,5 @@
 -- Steps, what each adds to the past, which are refused, and their run.
 use Rattle.std.specs.Prelude.{ℕ, zero, suc, Bool, true, false, ◌==◌, if◌then◌else◌, List, [], ◌∷◌, length, Option, Some, None}
-use Rattle.gm_packet.specs.declared.kind.Kind.{Kind}
 use Rattle.gm_packet.specs.Kinds.{kind_of}
 use Rattle.gm_admin.specs.Commands.{command_of}
 use Rattle.gm_notes.specs.declared.states.Mode.{Mode}
@@ -47,17 +46,17 @@ abbrev pub opening : Option ℕ → List ℕ → Past → Past
 opening None addr past = past
 opening (Some c) addr past = flowed (Began c) (noted (Opened c addr) past)
 
--- what a step adds; served says which requests are
-abbrev pub add_by : (Kind → Bool) → Settings → Step → Past → Past
-add_by served k (Open addr) past = opening (free_slot k past) addr past
-add_by served k (Packet c kind bytes) past = packet_of served k c (kind_of kind) bytes past
-add_by served k (Line c bytes) past = command k c (command_of bytes) past
-add_by served k (Fault c fault) past = noted (Shut c) (print c (fault_text fault) past)
-add_by served k (Close c) past = close k c past
-add_by served k (Tick now) past = tick k now past
-add_by served k (Took c) past = noted (notes.Took c) past
-add_by served k (Withdrew c) past = noted (notes.Withdrew c) past
-add_by served k (Drain c) past = flowed (Drained c) past
+-- what a step adds
+abbrev pub add : Settings → Step → Past → Past
+add k (Open addr) past = opening (free_slot k past) addr past
+add k (Packet c kind bytes) past = packet_of k c (kind_of kind) bytes past
+add k (Line c bytes) past = command k c (command_of bytes) past
+add k (Fault c fault) past = noted (Shut c) (print c (fault_text fault) past)
+add k (Close c) past = close k c past
+add k (Tick now) past = tick k now past
+add k (Took c) past = noted (notes.Took c) past
+add k (Withdrew c) past = noted (notes.Withdrew c) past
+add k (Drain c) past = flowed (Drained c) past
 
 -- ---- what is refused
 
@@ -95,13 +94,13 @@ abbrev pub unless : Option ApplyError → Past → Past → Past
 unless None after before = after
 unless (Some refused) after before = before
 
-abbrev pub step_by : (Kind → Bool) → Settings → Step → Past → Past
-step_by served k s past = unless (refusal k s past) (add_by served k s past) past
+abbrev pub step : Settings → Step → Past → Past
+step k s past = unless (refusal k s past) (add k s past) past
 
 -- what has happened after these steps, the newest first
-abbrev pub run_by : (Kind → Bool) → Settings → List Step → Past
-run_by served k [] = nothing
-run_by served k (s ∷ older) = step_by served k s (run_by served k older)
+abbrev pub run : Settings → List Step → Past
+run k [] = nothing
+run k (s ∷ older) = step k s (run k older)
 
 -- ---- what a step that is taken answers
 
@@ -118,5 +117,5 @@ newest (n ∷ ns) = Some n
 abbrev pub made_since : List ℕ → List ℕ → Option ℕ
 made_since before after = if length after == length before then None else newest after
 
-abbrev pub done_by : (Kind → Bool) → Settings → Step → Past → Done
-done_by served k s past = record { opened = given_slot k s past; created = made_since (made past.notes) (made (add_by served k s past).notes) }
+abbrev pub done : Settings → Step → Past → Done
+done k s past = record { opened = given_slot k s past; created = made_since (made past.notes) (made (add k s past).notes) }

@@ -88,6 +88,10 @@ pub enum Event<'a> {
         slot: u32,
         fault: UnitFault,
     },
+    /// The connection is gone.
+    Close {
+        slot: u32,
+    },
 }
 
 /// What a step that was taken answers.

@@ -1,17 +1,9 @@
-//! What the job server means, and a plain server that means just that.
+//! What the job server means: the definitions, and the contract of every server.
 #![tactic(auto)]
 
-mod abilities;
 mod config;
 mod event;
-mod handles;
-mod jobs;
-mod lanes;
-mod log;
 mod note;
-mod plain;
-mod questions;
-mod refusal;
 mod server;
 mod states;
 mod text;
@@ -19,7 +11,6 @@ mod text;
 pub use config::{Config, ConfigError};
 pub use event::{ApplyError, Done, Event, UnitFault};
 pub use note::Note;
-pub use plain::PlainServer;
 pub use server::JobServer;
 pub use states::{Mode, Phase, Place, Priority};
 pub use text::Text;

@@ -6,8 +6,8 @@ ghost use Rattle.gm_notes.specs.Flow.{waiting};
 ghost use Rattle.gm_notes.specs.Notes.{mode};
 ghost use Rattle.gm_notes.specs.Jobs.{spot};
 ghost use Rattle.gm_notes.specs.Steps.{Step, Took, Withdrew, Drain};
-ghost use Rattle.gm_notes.specs.Served.{run};
-ghost use Rattle.gm_notes.specs.Servers.{step_of, IsSized, Answers, AnswersAt, steps_after, steps_after_that, is_closing, owes, place_of};
+ghost use Rattle.gm_notes.specs.Steps.{run};
+ghost use Rattle.gm_notes.specs.Servers.{step_of, IsSized, Answers, AnswersAt, steps_after, steps_after_that, WantsNone, is_closing, owes, place_of};
 
 use crate::event::{ApplyError, Done, Event};
 use crate::states::{Mode, Place};
@@ -22,13 +22,15 @@ pub trait JobServer {
 
     /// Lets an event take effect, and answers what it made. For an opening, `Refusing` comes where the
     /// server takes no new connections, and then `NoSlot` where every slot is open; for a packet or a
-    /// fault, `NotOpen` where its slot isn't open or is shut; `Memory` only for a step that would else be
-    /// taken. A packet's data are at most 1,073,741,824 bytes.
+    /// fault, `NotOpen` where its slot isn't open or is shut; for a closing, `NotOpen` where it isn't open;
+    /// `Memory` only for a step that would else be taken, and never for a closing. A packet's data are at
+    /// most 1,073,741,824 bytes.
     fn apply(&mut self, event: &Event<'_>) -> Result<Done, ApplyError>
         requires { IsSized event.now }
-        ensures { (k : Settings) (steps : List Step) → agrees self.old k steps
+        ensures answers { (k : Settings) (steps : List Step) → agrees self.old k steps
             → Answers k steps (step_of event.now) result
-            × agrees self.new k (steps_after result (step_of event.now) steps) };
+            × agrees self.new k (steps_after result (step_of event.now) steps) }
+        ensures memory { WantsNone event.now result };
 
     /// Whether a NOOP is owed to the slot; never where it isn't open.
     fn owed(&self, slot: u32) -> bool

@@ -7,7 +7,7 @@ use Rattle.gm_notes.specs.declared.event.UnitFault.{UnitFault}
 use Rattle.gm_notes.specs.Settings.{Settings}
 use Rattle.gm_notes.specs.Notes.{is_open, is_shut}
 use Rattle.gm_notes.specs.Steps.{Step}
-use Rattle.gm_notes.specs.Served.{run}
+use Rattle.gm_notes.specs.Steps.{run}
 use Rattle.gm_notes.specs.Servers.{is_closing}
 use Rattle.gm_play.specs.declared.connection.Connection.{Connection}
 use Rattle.gm_play.specs.Fronts.{Front, with_rest, with_units, with_fault, Stands}

@@ -3,6 +3,7 @@ pub mod Doing
 pub mod Giving
 pub mod Hex
 pub mod OneText
+pub mod Noops
 pub mod Outcomes
 pub mod Places
 pub mod Printing

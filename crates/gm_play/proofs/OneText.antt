@@ -6,12 +6,12 @@ use Rattle.gm_feeder.proofs.StreamLemmas.{one_spelling, one_fault, waits-no_faul
 use Rattle.gm_notes.specs.declared.event.UnitFault.{UnitFault}
 use Rattle.gm_notes.specs.declared.event.ApplyError.{ApplyError}
 use Rattle.gm_notes.specs.Settings.{Settings}
-use Rattle.gm_notes.specs.Notes.{takes_units}
-use Rattle.gm_notes.specs.Steps.{Open, free_slot, refusal}
-use Rattle.gm_notes.specs.Served.{run}
-use Rattle.gm_play.specs.Scripts.{Order, Skip, Bad, Opens, Gives, order_of, lines_of}
+use Rattle.gm_notes.specs.Notes.{is_open, takes_units}
+use Rattle.gm_notes.specs.Steps.{Open, Close, free_slot, refusal}
+use Rattle.gm_notes.specs.Steps.{run}
+use Rattle.gm_play.specs.Scripts.{Order, Skip, Bad, Opens, Gives, Closes, order_of, lines_of}
 use Rattle.gm_play.specs.Fronts.{Front, fresh, with_rest, with_units, with_fault, unit_fault, Stands, GivesPiece}
-use Rattle.gm_play.specs.Prints.{Settles, Only, Opening, Giving, Tells, Prints, IsTextOf, told, drained, open_text}
+use Rattle.gm_play.specs.Prints.{Settles, Only, Opening, Giving, Closing, Tells, Prints, IsTextOf, told, drained, open_text}
 
 one_standing : (limits : Limits) (rest : List ℕ) (fault other : Option UnitFault) → Stands limits rest fault → Stands limits rest other → fault ≡ other
 one_standing limits rest None None s t = refl
@@ -53,11 +53,18 @@ one_giving k limits c piece old false a b x y s t = (s.printed ∙ sym t.printed
 one_giving k limits c piece old true a b x y s t =
     one_settling k old s.0 t.0 [] a b x y (one_piece k limits c piece old s.0 t.0 s.1 t.1) s.2 t.2
 
+one_closing : (k : Settings) (c : ℕ) (old : Front) (opened : Bool) (a b : List ℕ) (x y : Front) → Closing k c old opened a x → Closing k c old opened b y → (a ≡ b) × (x ≡ y)
+one_closing k c old false a b x y s t = (s.printed ∙ sym t.printed, s.kept ∙ sym t.kept)
+one_closing k c old true a b x y s t =
+    let mid : Front = record { steps = Close c ∷ old.steps; rests = with_rest c [] old.rests } in
+    one_settling k old mid mid [] a b x y refl s t
+
 one_telling : (k : Settings) (limits : Limits) (old : Front) (order : Order) (a b : List ℕ) (x y : Front) → Tells k limits old order a x → Tells k limits old order b y → (a ≡ b) × (x ≡ y)
 one_telling k limits old Skip a b x y s t = (s.printed ∙ sym t.printed, s.kept ∙ sym t.kept)
 one_telling k limits old Bad a b x y s t = (s.printed ∙ sym t.printed, s.kept ∙ sym t.kept)
 one_telling k limits old (Opens addr) a b x y s t = one_opening k addr old (refusal k (Open addr) (run k old.steps)) (free_slot k (run k old.steps)) a b x y s t
 one_telling k limits old (Gives c piece) a b x y s t = one_giving k limits c piece old (takes_units c (run k old.steps).notes) a b x y s t
+one_telling k limits old (Closes c) a b x y s t = one_closing k c old (is_open c (run k old.steps).notes) a b x y s t
 
 one_print : (k : Settings) (limits : Limits) (front : Front) (lines : List (List ℕ)) (a b : List ℕ) → Prints k limits front lines a → Prints k limits front lines b → a ≡ b
 one_print k limits front [] a b p q = p ∙ sym q

@@ -64,6 +64,13 @@ place_stays limits c d old new rest rests (Some connection) opens shuts other p 
       sound = λ e. p.sound (sym shuts ∙ e);
     }
 
+-- a place stays where its slot stays open or shut
+pub place_kept : (limits : Limits) (d : ℕ) (old new : List Note) (rest : List ℕ) (place : Option Connection)
+    → is_open d new ≡ is_open d old → is_shut d new ≡ is_shut d old → IsPlace limits d old rest place → IsPlace limits d new rest place
+place_kept limits d old new rest None opens shuts p = opens ∙ p
+place_kept limits d old new rest (Some connection) opens shuts p =
+    record { opened = opens ∙ p.opened; limited = p.limited; pending = p.pending; sound = λ e. p.sound (sym shuts ∙ e) }
+
 -- the notes are told the same of
 pub told_by : (a b : ℕ → Bool) (places : List (Option Connection)) → ((c : ℕ) → a c ≡ b c) → Told a places → Told b places
 told_by a b places same h c = subst (λ (t : Bool). IsTold t (get_or places c None)) (same c) (h c)

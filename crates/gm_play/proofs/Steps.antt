@@ -13,7 +13,7 @@ use Rattle.gm_notes.specs.Notes.{is_open, is_shut}
 use Rattle.gm_notes.specs.Steps.{free_from}
 use Rattle.gm_notes.specs.Past.{Past}
 use Rattle.gm_notes.specs.Steps.{Step, Open, Packet, Fault, refusal, unless, unless_not_open, opening, free_slot}
-use Rattle.gm_notes.specs.Served.{served, add, run}
+use Rattle.gm_notes.specs.Steps.{add, run}
 use Rattle.gm_play.specs.Fronts.{unless_refused, handed_in, with_unit, with_units, with_fault}
 use Rattle.gm_play.proofs.Places.{Keeps, keeps_same, same_slot}
 
@@ -27,7 +27,7 @@ packet_stays_so : (r : Option ApplyError) (k : Settings) (c kind : ℕ) (bytes :
     → Stays (run k steps).notes (run k (unless_refused r (Packet c kind bytes) steps)).notes
 packet_stays_so None k c kind bytes steps =
     let past = run k steps in
-    unless_stays (refusal k (Packet c kind bytes) past) (add k (Packet c kind bytes) past) past (packet_stays served k c (kind_of kind) bytes past)
+    unless_stays (refusal k (Packet c kind bytes) past) (add k (Packet c kind bytes) past) past (packet_stays k c (kind_of kind) bytes past)
 packet_stays_so (Some refused) k c kind bytes steps = stays_here (run k steps).notes
 
 unit_stays : (k : Settings) (c : ℕ) (item : Item) (steps : List Step) → Stays (run k steps).notes (run k (with_unit k c item steps)).notes

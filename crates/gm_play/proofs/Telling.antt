@@ -8,14 +8,15 @@ use Rattle.gm_notes.specs.Settings.{Settings}
 use Rattle.gm_notes.specs.Notes.{is_open}
 use Rattle.gm_notes.specs.Flow.{waiting}
 use Rattle.gm_notes.specs.Past.{Past}
-use Rattle.gm_notes.specs.Steps.{Step, Drain}
-use Rattle.gm_notes.specs.Served.{run}
-use Rattle.gm_notes.specs.Servers.{is_closing}
+use Rattle.gm_notes.specs.declared.event.ApplyError.{ApplyError}
+use Rattle.gm_notes.specs.Steps.{Step, Drain, Took, unless, refusal, add, run}
+use Rattle.gm_notes.proofs.Slots.{Stays, stays_here}
+use Rattle.gm_notes.specs.Servers.{is_closing, owes}
 use Rattle.gm_play.specs.declared.connection.Connection.{Connection}
 use Rattle.gm_play.specs.Fronts.{Front}
-use Rattle.gm_play.specs.Prints.{bytes_text, shut_text, told_of, drain_of, told, drained}
+use Rattle.gm_play.specs.Prints.{bytes_text, shut_text, noop_if, took_if, told_of, drain_of, told, drained}
 use Rattle.gm_play.specs.Connections.{Feeds, IsPlace, Holds, IsTold, IsHeld, TellsOne, TellsAll}
-use Rattle.gm_play.proofs.Places.{each_set, past_end}
+use Rattle.gm_play.proofs.Places.{each_set, place_kept, past_end}
 
 -- The slots before i were told of; what is still to be printed and drained completes the whole.
 pub record Telling {S : Type 0} (agrees : S → Settings → List Step → Type 0) (k : Settings) (limits : Limits) (before : Past) (front : Front) (out : List ℕ) (i : ℕ) (server : S) (places : List (Option Connection)) (now_out : List ℕ) : Type 0 where
@@ -123,6 +124,15 @@ none_more agrees k limits before front out i server places now_out t lt none =
     let closed : is_open i (run k t.now).notes ≡ false = subst (λ (p : Option Connection). IsPlace limits i (run k t.now).notes (front.rests i) p) none (t.held i) in
     rw add-one (none_by t.left agrees k limits before front out i server places now_out t refl lt closed none)
 
+-- a taking opens and shuts nothing
+took_stays : (r : Option ApplyError) (k : Settings) (c : ℕ) (past : Past) → Stays past.notes (unless r (add k (Took c) past) past).notes
+took_stays None k c past = record { opens = λ d. refl; shuts = λ d. refl }
+took_stays (Some refused) k c past = stays_here past.notes
+
+told_stays : (b : Bool) (k : Settings) (c : ℕ) (steps : List Step) → Stays (run k steps).notes (run k (took_if b c (Drain c ∷ steps))).notes
+told_stays true k c steps = took_stays (refusal k (Took c) (run k (Drain c ∷ steps))) k c (run k (Drain c ∷ steps))
+told_stays false k c steps = stays_here (run k steps).notes
+
 -- an open slot is told of, and drained
 some_by : {S : Type 0} (left : ℕ) (agrees : S → Settings → List Step → Type 0) (k : Settings) (limits : Limits) (before : Past) (front : Front) (out : List ℕ) (i : ℕ) (server : S) (places : List (Option Connection)) (now_out : List ℕ) (old new : Connection) (server' : S) (new_out : List ℕ)
     (t : Telling agrees k limits before front out i server places now_out) → t.left ≡ left → i < length places → get_or places i None ≡ Some old → TellsOne agrees k t.now i old now_out server' new new_out
@@ -131,33 +141,38 @@ some_by zero agrees k limits before front out i server places now_out old new se
 some_by (suc left) agrees k limits before front out i server places now_out old new server' new_out t e lt is one =
     let place : Feeds limits i (run k t.now).notes (front.rests i) old = subst (λ (p : Option Connection). IsPlace limits i (run k t.now).notes (front.rests i) p) is (t.held i) in
     let old_shut : old.told_shut ≡ is_closing i before = subst (λ (p : Option Connection). IsTold (is_closing i before) p) is (t.old_told i (omega arith)) in
-    let text : List ℕ = bytes_text i (waiting i (run k t.now).flow) ++ shut_text i (is_closing i (run k t.now) && not old.told_shut) in
-    let same : drain_of k i t.now ≡ Drain i ∷ t.now = rw place.opened refl in
+    let b : Bool = owes i (run k t.now) in
+    let next : List Step = took_if b i (Drain i ∷ t.now) in
+    let stays = told_stays b k i t.now in
+    let text : List ℕ = bytes_text i (waiting i (run k t.now).flow ++ noop_if b) ++ shut_text i (is_closing i (run k t.now) && not old.told_shut) in
+    let same : drain_of k i t.now ≡ next = rw place.opened refl in
     let says : told_of i before (run k t.now) ≡ text = rw (place.opened, old_shut) refl in
-    let rest : told k before i (suc left) t.now ≡ text ++ told k before (suc i) left (Drain i ∷ t.now) = ap₂ (λ (l : List ℕ) (s : List Step). l ++ told k before (suc i) left s) says same in
+    let rest : told k before i (suc left) t.now ≡ text ++ told k before (suc i) left next = ap₂ (λ (l : List ℕ) (s : List Step). l ++ told k before (suc i) left s) says same in
     record {
-      now = Drain i ∷ t.now;
+      now = next;
       left = left;
       count = omega (arith, e, t.count);
       places_count = length-set places i (Some new) ∙ t.places_count;
       agreed = one.agreed;
-      held =
-          each_set (λ (d : ℕ) (p : Option Connection). IsPlace limits d (run k t.now).notes (front.rests d) p) places i (Some new) lt (λ d differs. t.held d)
+      held = λ d.
+          place_kept limits d (run k t.now).notes (run k next).notes (front.rests d) (get_or (set places i (Some new)) d None) (stays.opens d) (stays.shuts d)
+          (each_set (λ (d : ℕ) (p : Option Connection). IsPlace limits d (run k t.now).notes (front.rests d) p) places i (Some new) lt (λ d differs. t.held d)
           (record {
             opened = place.opened;
             limited = ap (λ (f : _). f.limits) one.fed ∙ place.limited;
             pending = ap (λ (f : _). f.pending) one.fed ∙ place.pending;
             sound = λ h. ap (λ (f : _). f.fault) one.fed ∙ place.sound h;
-          });
-      new_told =
-          each_set (λ (d : ℕ) (p : Option Connection). d < suc i → IsTold (is_closing d (run k t.now)) p) places i (Some new) lt
-          (λ d differs h. t.new_told d (omega (arith, h, differs))) (λ h. one.told);
+          }) d);
+      new_told = λ d h.
+          subst (λ (x : Bool). IsTold x (get_or (set places i (Some new)) d None)) (sym (ap₂ (λ (o s : Bool). o && s) (stays.opens d) (stays.shuts d)))
+          (each_set (λ (d : ℕ) (p : Option Connection). d < suc i → IsTold (is_closing d (run k t.now)) p) places i (Some new) lt
+          (λ d differs h. t.new_told d (omega (arith, h, differs))) (λ h. one.told) d h);
       old_told =
           each_set (λ (d : ℕ) (p : Option Connection). suc i ≤ d → IsTold (is_closing d before) p) places i (Some new) lt
           (λ d differs h. t.old_told d (omega (arith, h))) (λ h. absurd (omega (arith, h)));
       printed =
-          ap (λ (l : List ℕ). l ++ told k before (suc i) left (Drain i ∷ t.now)) one.printed
-          ∙ (append_assoc now_out text (told k before (suc i) left (Drain i ∷ t.now))
+          ap (λ (l : List ℕ). l ++ told k before (suc i) left next) one.printed
+          ∙ (append_assoc now_out text (told k before (suc i) left next)
           ∙ (ap (λ (l : List ℕ). now_out ++ l) (sym rest) ∙ (ap (λ (n : ℕ). now_out ++ told k before i n t.now) (sym e) ∙ t.printed)));
       drains = ap (λ (s : List Step). drained k (suc i) left s) (sym same) ∙ (ap (λ (n : ℕ). drained k i n t.now) (sym e) ∙ t.drains);
     }

@@ -1,5 +1,5 @@
 -- How the program holds a front: a server, and a connection for each open slot.
-use Rattle.std.specs.Prelude.{◌≡◌, ℕ, Bool, true, false, not, ◌&&◌, List, ◌∷◌, ◌++◌, length, slice_index_or, Option, Some, None, Result, Ok, Err}
+use Rattle.std.specs.Prelude.{◌≡◌, ℕ, Bool, true, false, not, ◌&&◌, List, [], ◌∷◌, ◌++◌, length, slice_index_or, Option, Some, None, Result, Ok, Err}
 use Rattle.std.specs.Io.KnownBytes.{Appends}
 use Rattle.gm_feeder.specs.declared.units.Limits.{Limits}
 use Rattle.gm_notes.specs.Settings.{Settings}
@@ -8,13 +8,13 @@ use Rattle.gm_notes.specs.declared.event.ApplyError.{ApplyError}
 use Rattle.gm_notes.specs.Notes.{is_open, is_shut, takes_units}
 use Rattle.gm_notes.specs.Flow.{waiting}
 use Rattle.gm_notes.specs.Past.{Past}
-use Rattle.gm_notes.specs.Steps.{Step, Open, Drain, free_slot, refusal}
-use Rattle.gm_notes.specs.Served.{run}
-use Rattle.gm_notes.specs.Servers.{is_closing}
+use Rattle.gm_notes.specs.Steps.{Step, Open, Close, Drain, free_slot, refusal}
+use Rattle.gm_notes.specs.Steps.{run}
+use Rattle.gm_notes.specs.Servers.{is_closing, owes}
 use Rattle.gm_play.specs.declared.connection.Connection.{Connection}
-use Rattle.gm_play.specs.Fronts.{Front, GivesPiece}
+use Rattle.gm_play.specs.Fronts.{Front, with_rest, GivesPiece}
 use Rattle.gm_play.specs.Scripts.{Order}
-use Rattle.gm_play.specs.Prints.{bytes_text, shut_text, told, drained, Tells}
+use Rattle.gm_play.specs.Prints.{bytes_text, shut_text, noop_if, took_if, told, drained, Tells}
 
 -- ---- the places, one for each slot
 
@@ -54,10 +54,15 @@ IsReady agrees k limits front server places = IsHeld agrees k limits (run k fron
 
 -- ---- what the parts of a line do
 
+-- The NOOP that is owed to slot c is taken, and stands at the end; where none is, nothing happens.
+pub record TakesNoop {S : Type 0} (agrees : S → Settings → List Step → Type 0) (k : Settings) (steps : List Step) (c : ℕ) (out : List ℕ) (server : S) (out' : List ℕ) : Type 0 where
+  pub agreed : agrees server k (took_if (owes c (run k steps)) c steps)
+  pub printed : out' ≡ out ++ noop_if (owes c (run k steps))
+
 -- Slot c is told of, and is drained.
 pub record TellsOne {S : Type 0} (agrees : S → Settings → List Step → Type 0) (k : Settings) (steps : List Step) (c : ℕ) (old : Connection) (out : List ℕ) (server : S) (new : Connection) (out' : List ℕ) : Type 0 where
-  pub agreed : agrees server k (Drain c ∷ steps)
-  pub printed : out' ≡ out ++ (bytes_text c (waiting c (run k steps).flow) ++ shut_text c (is_closing c (run k steps) && not old.told_shut))
+  pub agreed : agrees server k (took_if (owes c (run k steps)) c (Drain c ∷ steps))
+  pub printed : out' ≡ out ++ (bytes_text c (waiting c (run k steps).flow ++ noop_if (owes c (run k steps))) ++ shut_text c (is_closing c (run k steps) && not old.told_shut))
   pub fed : new.feeder ≡ old.feeder
   pub told : new.told_shut ≡ is_closing c (run k steps)
 
@@ -90,6 +95,12 @@ abbrev pub Gives : {S : Type 0} → (S → Settings → List Step → Type 0) �
 Gives agrees k limits c piece old true server places =
     (takes_units c (run k old.steps).notes ≡ true) × (mid : Front) × GivesPiece k limits c piece old mid × IsHeld agrees k limits (run k old.steps) mid server places
 Gives agrees k limits c piece old false server places = (takes_units c (run k old.steps).notes ≡ false) × IsReady agrees k limits old server places
+
+-- the slot was closed, or isn't open
+abbrev pub Closes : {S : Type 0} → (S → Settings → List Step → Type 0) → Settings → Limits → ℕ → Front → Bool → S → List (Option Connection) → Type 0
+Closes agrees k limits c old true server places =
+    (is_open c (run k old.steps).notes ≡ true) × IsHeld agrees k limits (run k old.steps) (record { steps = Close c ∷ old.steps; rests = with_rest c [] old.rests }) server places
+Closes agrees k limits c old false server places = (is_open c (run k old.steps).notes ≡ false) × IsReady agrees k limits old server places
 
 -- A line's order is done, and its text is written.
 pub record Writes {S : Type 0} (agrees : S → Settings → List Step → Type 0) (k : Settings) (limits : Limits) (old : Front) (order : Order) (written : Option (List ℕ)) (server : S) (places : List (Option Connection)) (written' : Option (List ℕ)) : Type 0 where

@@ -9,7 +9,7 @@ use Rattle.gm_notes.specs.declared.event.UnitFault.{UnitFault}
 use Rattle.gm_notes.specs.declared.event.UnitFault.TheVariants as faults
 use Rattle.gm_notes.specs.Settings.{Settings}
 use Rattle.gm_notes.specs.Steps.{Step, Packet, Fault, refusal}
-use Rattle.gm_notes.specs.Served.{run}
+use Rattle.gm_notes.specs.Steps.{run}
 
 -- what has been taken: the server's steps, the newest first, and for each slot the bytes that came since
 -- it was opened and made no unit yet

@@ -6,7 +6,7 @@ use Rattle.gm_play.specs.declared.order.Words.{Words}
 use Rattle.gm_play.specs.declared.order.Words.TheVariants.{Two, Three, Other}
 use Rattle.gm_play.specs.declared.order.Order.{Order as Read}
 use Rattle.gm_play.specs.declared.order.Order.TheVariants as reads
-use Rattle.gm_play.specs.Scripts.{Order, Skip, Bad, Opens, Gives, words_of, order_of_words}
+use Rattle.gm_play.specs.Scripts.{Order, Skip, Bad, Opens, Gives, Closes, words_of, order_of_words}
 
 -- the bytes before the first that is this one, and those after it
 abbrev pub cut : ℕ → List ℕ → Option (List ℕ × List ℕ)
@@ -30,3 +30,4 @@ order_view reads.Skip = Skip
 order_view reads.Bad = Bad
 order_view (reads.Open addr) = Opens addr.now
 order_view (reads.Bytes slot piece) = Gives slot piece.items
+order_view (reads.Close slot) = Closes slot

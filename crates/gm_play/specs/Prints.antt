@@ -3,6 +3,7 @@ use Rattle.std.specs.Prelude.{◌≡◌, ℕ, zero, suc, ◌/◌, ◌%◌, ◌==
 use Rattle.std.specs.List.{flat_map}
 use Rattle.std.specs.Char.{digit_char}
 use Rattle.gm_feeder.specs.declared.units.Limits.{Limits}
+use Rattle.gm_packet.specs.Writing.{noop, answer_packet}
 use Rattle.gm_notes.specs.declared.event.ApplyError.{ApplyError}
 use Rattle.gm_notes.specs.declared.event.ApplyError.TheVariants.{NotOpen}
 use Rattle.gm_notes.specs.Numbers.{apply_error_number}
@@ -10,10 +11,10 @@ use Rattle.gm_notes.specs.Settings.{Settings}
 use Rattle.gm_notes.specs.Notes.{is_open, takes_units}
 use Rattle.gm_notes.specs.Flow.{waiting}
 use Rattle.gm_notes.specs.Past.{Past}
-use Rattle.gm_notes.specs.Steps.{Step, Open, Drain, free_slot, refusal}
-use Rattle.gm_notes.specs.Served.{run}
-use Rattle.gm_notes.specs.Servers.{is_closing}
-use Rattle.gm_play.specs.Scripts.{Order, Skip, Bad, Opens, Gives, order_of, lines_of}
+use Rattle.gm_notes.specs.Steps.{Step, Open, Close, Took, Drain, free_slot, refusal}
+use Rattle.gm_notes.specs.Steps.{run}
+use Rattle.gm_notes.specs.Servers.{is_closing, owes}
+use Rattle.gm_play.specs.Scripts.{Order, Skip, Bad, Opens, Gives, Closes, order_of, lines_of}
 use Rattle.gm_play.specs.Fronts.{Front, fresh, with_rest, GivesPiece}
 
 -- ---- printed lines, each with its newline (10)
@@ -51,14 +52,24 @@ shut_text c became = if became then decimal c ++ codes " shut" ++ 10 ∷ [] else
 abbrev pub became_shut : ℕ → Past → Past → Bool
 became_shut c before now = is_closing c now && not (is_closing c before)
 
--- what is told of slot c: what waits for it, and whether it became shut; nothing where it isn't open
+-- the NOOP, where one is taken
+abbrev pub noop_if : Bool → List ℕ
+noop_if true = answer_packet noop
+noop_if false = []
+
+-- what is told of slot c: what waits for it and the NOOP that is owed to it, and whether it became shut; nothing where
+-- it isn't open
 abbrev pub told_of : ℕ → Past → Past → List ℕ
 told_of c before now =
-    if is_open c now.notes then bytes_text c (waiting c now.flow) ++ shut_text c (became_shut c before now) else []
+    if is_open c now.notes then bytes_text c (waiting c now.flow ++ noop_if (owes c now)) ++ shut_text c (became_shut c before now) else []
 
--- what waited for slot c is taken, where it is open
+abbrev pub took_if : Bool → ℕ → List Step → List Step
+took_if true c steps = Took c ∷ steps
+took_if false c steps = steps
+
+-- what waited for slot c is taken, and then the NOOP that is owed to it, where it is open
 abbrev pub drain_of : Settings → ℕ → List Step → List Step
-drain_of k c steps = if is_open c (run k steps).notes then Drain c ∷ steps else steps
+drain_of k c steps = if is_open c (run k steps).notes then took_if (owes c (run k steps)) c (Drain c ∷ steps) else steps
 
 -- what is told of the n slots from c on, one after another, since it was so before
 abbrev pub told : Settings → Past → ℕ → ℕ → List Step → List ℕ
@@ -92,6 +103,11 @@ abbrev pub Giving : Settings → Limits → ℕ → List ℕ → Front → Bool 
 Giving k limits c piece old false text new = Only old (refused_text NotOpen) text new
 Giving k limits c piece old true text new = (mid : Front) × GivesPiece k limits c piece old mid × Settles k old mid [] text new
 
+-- a closing of a slot that is open, or isn't; what came of no unit goes with it
+abbrev pub Closing : Settings → ℕ → Front → Bool → List ℕ → Front → Type 0
+Closing k c old false text new = Only old (refused_text NotOpen) text new
+Closing k c old true text new = Settles k old (record { steps = Close c ∷ old.steps; rests = with_rest c [] old.rests }) [] text new
+
 -- from old, the order prints this and leads to new
 abbrev pub Tells : Settings → Limits → Front → Order → List ℕ → Front → Type 0
 Tells k limits old Skip text new = Only old [] text new
@@ -99,6 +115,7 @@ Tells k limits old Bad text new = Only old bad_text text new
 Tells k limits old (Opens addr) text new =
     Opening k addr old (refusal k (Open addr) (run k old.steps)) (free_slot k (run k old.steps)) text new
 Tells k limits old (Gives c piece) text new = Giving k limits c piece old (takes_units c (run k old.steps).notes) text new
+Tells k limits old (Closes c) text new = Closing k c old (is_open c (run k old.steps).notes) text new
 
 -- from this front on, these lines print this text
 abbrev pub Prints : Settings → Limits → Front → List (List ℕ) → List ℕ → Type 0

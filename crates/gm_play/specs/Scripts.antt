@@ -65,15 +65,22 @@ pub data Order : Type 0 where
   Bad : Order  -- it isn't understood
   Opens : List ℕ → Order  -- a connection from this address
   Gives : ℕ → List ℕ → Order  -- this piece, to this slot
+  Closes : ℕ → Order  -- the connection in this slot goes
 
 abbrev pub giving : Option ℕ → Option (List ℕ) → Order
 giving None piece = Bad
 giving (Some slot) None = Bad
 giving (Some slot) (Some piece) = Gives slot piece
 
--- two words: `open` and an address
+abbrev pub closing : Option ℕ → Order
+closing None = Bad
+closing (Some slot) = Closes slot
+
+-- two words: `open` and an address, or `close` and a slot
 abbrev pub order_of_two : List ℕ → List ℕ → Order
-order_of_two verb addr = if bytes_eq verb (codes "open") && not (length addr == 0) then Opens addr else Bad
+order_of_two verb word =
+    if bytes_eq verb (codes "open") && not (length word == 0) then Opens word
+    else (if bytes_eq verb (codes "close") then closing (slot_of word) else Bad)
 
 -- three words: `bytes`, a slot and a piece
 abbrev pub order_of_three : List ℕ → List ℕ → List ℕ → Order

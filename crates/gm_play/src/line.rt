@@ -4,11 +4,11 @@ ghost use Rattle.std.specs.Prelude.{◌≡◌, ◌^◌, ◌<◌, ◌≤◌, ℕ,
 ghost use Rattle.gm_notes.specs.Settings.{Settings};
 ghost use Rattle.gm_notes.specs.Past.{Past};
 ghost use Rattle.gm_notes.specs.Steps.{Step};
-ghost use Rattle.gm_notes.specs.Served.{run};
+ghost use Rattle.gm_notes.specs.Steps.{run};
 ghost use Rattle.gm_play.specs.Fronts.{Front};
-ghost use Rattle.gm_play.specs.Scripts.{Opens, Gives as Giving, order_of};
+ghost use Rattle.gm_play.specs.Scripts.{Opens, Gives as Giving, Closes as Closing, order_of};
 ghost use Rattle.gm_play.specs.Orders.{order_view};
-ghost use Rattle.gm_play.specs.Connections.{IsHeld, IsReady, TellsOne, TellsAll, Plays, GetsSlot, Gives};
+ghost use Rattle.gm_play.specs.Connections.{IsHeld, IsReady, TakesNoop, TellsOne, TellsAll, Plays, GetsSlot, Gives, Closes};
 
 use crate::connection::Connection;
 use crate::feeding::take_piece;
@@ -16,9 +16,22 @@ use crate::order::{Order, order_of};
 use crate::text::{put_bad, put_bytes, put_open, put_refused, put_shut};
 use gm_feeder::Limits;
 use gm_notes::{ApplyError, Done, Event, JobServer};
+use gm_packet::{Response, write_response};
 use std::alloc::{AllocError, Global};
 
-/// Tells of an open slot: the bytes that wait for it, and whether it became shut.
+/// Takes the NOOP that is owed to a slot, and appends it; where none is owed, it does nothing.
+fn take_noop<S: JobServer>(server: &mut S, slot: u32, out: &mut Vec<u8>) -> Result<(), AllocError>
+    ensures { OnOk result ((k : Settings) (steps : List Step) → S.agrees server.old k steps
+        → TakesNoop S.agrees k steps slot out.old.items server.new out.new.items) }
+{
+    match server.took(slot) {
+        Ok(()) => write_response(&Response::Noop, out),
+        Err(_) => Ok(()),
+    }
+}
+
+/// Tells of an open slot: the bytes that wait for it with the NOOP that is owed to it, and whether it became
+/// shut.
 fn tell_one<S: JobServer>(
     server: &mut S,
     connection: &mut Connection,
@@ -29,7 +42,8 @@ fn tell_one<S: JobServer>(
         → TellsOne S.agrees k steps slot connection.old out.old.items server.new connection.new out.new.items) }
 {
     let shut = server.shut(slot);
-    let drained = server.drain(slot);
+    let mut drained = server.drain(slot);
+    take_noop(server, slot, &mut drained)?;
     put_bytes(out, slot, &drained)?;
     put_shut(out, slot, shut && !connection.told_shut)?;
     connection.told_shut = shut;
@@ -140,6 +154,39 @@ fn give<S: JobServer>(
     }
 }
 
+/// Closes a slot, and answers whether it was open.
+fn close_slot<S: JobServer>(server: &mut S, places: &mut [Option<Connection>], slot: u32) -> bool
+    ensures { (k : Settings) (limits : _) (front : Front) → IsReady S.agrees k limits front server.old places.old
+        → Closes S.agrees k limits slot front result server.new places.new }
+{
+    if server.apply(&Event::Close { slot }).is_err() {
+        return false;
+    }
+    let index = slot as usize;
+    if index < places.len() {
+        places[index] = None;
+    }
+    true
+}
+
+/// Closes a slot.
+fn close<S: JobServer>(
+    server: &mut S,
+    places: &mut [Option<Connection>],
+    slot: u32,
+    out: &mut Vec<u8>,
+) -> Result<(), AllocError>
+    requires { length places.old < 2 ^ 32 }
+    ensures { OnOk result ((k : Settings) (limits : _) (front : Front) → IsReady S.agrees k limits front server.old places.old
+        → Plays S.agrees k limits front (Closing slot) out.old.items server.new places.new out.new.items) }
+{
+    if close_slot(server, places, slot) {
+        tell(server, places, out)
+    } else {
+        put_refused(out, ApplyError::NotOpen)
+    }
+}
+
 /// Does what a line asks for.
 fn play_order<S: JobServer>(
     alloc: Global,
@@ -159,6 +206,7 @@ fn play_order<S: JobServer>(
         Order::Bad => put_bad(out),
         Order::Open { addr } => open(alloc, limits, server, places, addr, out),
         Order::Bytes { slot, piece } => give(server, places, *slot, piece, out),
+        Order::Close { slot } => close(server, places, *slot, out),
     }
 }
 

@@ -21,6 +21,8 @@ pub enum Order<'a> {
     Open { addr: &'a [u8] },
     /// These bytes, to this slot.
     Bytes { slot: u32, piece: Vec<u8> },
+    /// The connection in this slot goes.
+    Close { slot: u32 },
 }
 
 /// The words of a line, where there are as many as some order has.
@@ -151,13 +153,18 @@ fn piece_of(alloc: Global, word: &[u8]) -> Result<Option<Vec<u8>>, AllocError>
 }
 
 /// What two words ask for.
-fn order_of_two<'a>(verb: &[u8], addr: &'a [u8]) -> Order<'a>
-    ensures { order_view result ≡ order_of_two verb.now addr.now }
+fn order_of_two<'a>(verb: &[u8], word: &'a [u8]) -> Order<'a>
+    ensures { order_view result ≡ order_of_two verb.now word.now }
 {
-    if verb == b"open".as_slice() && !addr.is_empty() {
-        Order::Open { addr }
-    } else {
-        Order::Bad
+    if verb == b"open".as_slice() && !word.is_empty() {
+        return Order::Open { addr: word };
+    }
+    if verb != b"close".as_slice() {
+        return Order::Bad;
+    }
+    match slot_of(word) {
+        Some(slot) => Order::Close { slot },
+        None => Order::Bad,
     }
 }
 

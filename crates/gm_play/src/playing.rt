@@ -3,7 +3,7 @@
 ghost use Rattle.std.specs.Prelude.{◌≡◌, ◌^◌, ◌<◌, ◌≤◌, ℕ, List, [], length, IfOk, None, slice_index_or, IfSome, IsErrOf, OnOk};
 ghost use Rattle.std.specs.Io.KnownBytes.{Appends};
 ghost use Rattle.gm_notes.specs.Settings.{Settings};
-ghost use Rattle.gm_notes.specs.Served.{run};
+ghost use Rattle.gm_notes.specs.Steps.{run};
 ghost use Rattle.gm_play.specs.Fronts.{Front, fresh};
 ghost use Rattle.gm_play.specs.Prints.{IsTextOf, Prints};
 ghost use Rattle.gm_play.specs.Scripts.{lines_of, order_of};
@@ -14,7 +14,8 @@ use crate::error::PlayError;
 use crate::line::play_line;
 use crate::order::cut;
 use gm_feeder::Limits;
-use gm_notes::{Config, JobServer, PlainServer};
+use gm_notes::{Config, JobServer};
+use gm_plain::PlainServer;
 use std::alloc::{AllocError, Global};
 use std::hash::RandomState;
 use std::io::{ErrorKind, Read, Write};

@@ -3,9 +3,15 @@
 #![tactic(auto)]
 
 #[cfg(test)]
+mod conns;
+#[cfg(test)]
 mod lines;
 #[cfg(test)]
 mod packets;
+#[cfg(test)]
+mod queues;
+#[cfg(test)]
+mod servers;
 #[cfg(test)]
 mod settings;
 #[cfg(test)]

@@ -7,141 +7,136 @@ use gm_admin::{
 use std::alloc::{AllocError, Global};
 use std::test::Fail;
 
-/// What lines command.
-const COMMANDS: [(&[u8], Command<'static>); 22] = [
-    (b"status", Command::Status),
-    (b"STATUS", Command::Status),
-    (b"status x y", Command::Status),
-    (b" \tstatus \t", Command::Status),
-    (b"workers", Command::Workers),
-    (b"Workers 1", Command::Workers),
-    (b"version z", Command::Version),
+/// What lines command, and why the others command nothing.
+const LINES: [(&[u8], Result<Command<'static>, AdminFault>); 44] = [
+    (b"status", Ok(Command::Status)),
+    (b"STATUS", Ok(Command::Status)),
+    (b"status x y", Ok(Command::Status)),
+    (b" \tstatus \t", Ok(Command::Status)),
+    (b"workers", Ok(Command::Workers)),
+    (b"Workers 1", Ok(Command::Workers)),
+    (b"version z", Ok(Command::Version)),
     (
         b"maxqueue f",
-        Command::MaxQueue {
+        Ok(Command::MaxQueue {
             name: b"f",
             size: 0,
-        },
+        }),
     ),
     (
         b"MaxQueue f 1",
-        Command::MaxQueue {
+        Ok(Command::MaxQueue {
             name: b"f",
             size: 1,
-        },
+        }),
     ),
     (
         b"\tmaxqueue\t\tf \t 1\t",
-        Command::MaxQueue {
+        Ok(Command::MaxQueue {
             name: b"f",
             size: 1,
-        },
+        }),
     ),
     (
         b"maxqueue F 0",
-        Command::MaxQueue {
+        Ok(Command::MaxQueue {
             name: b"F",
             size: 0,
-        },
+        }),
     ),
     (
         b"maxqueue f 0000000007",
-        Command::MaxQueue {
+        Ok(Command::MaxQueue {
             name: b"f",
             size: 7,
-        },
+        }),
     ),
     (
         b"maxqueue f -0",
-        Command::MaxQueue {
+        Ok(Command::MaxQueue {
             name: b"f",
             size: 0,
-        },
+        }),
     ),
     (
         b"maxqueue f -5",
-        Command::MaxQueue {
+        Ok(Command::MaxQueue {
             name: b"f",
             size: 0,
-        },
+        }),
     ),
     (
         b"maxqueue f -4294967295",
-        Command::MaxQueue {
+        Ok(Command::MaxQueue {
             name: b"f",
             size: 0,
-        },
+        }),
     ),
     (
         b"maxqueue f 4294967295",
-        Command::MaxQueue {
+        Ok(Command::MaxQueue {
             name: b"f",
             size: u32::MAX,
-        },
+        }),
     ),
     (
         b"maxqueue a\0b 2",
-        Command::MaxQueue {
+        Ok(Command::MaxQueue {
             name: b"a\0b",
             size: 2,
-        },
+        }),
     ),
     (
         b"maxqueue a\rb 2",
-        Command::MaxQueue {
+        Ok(Command::MaxQueue {
             name: b"a\rb",
             size: 2,
-        },
+        }),
     ),
     (
         b"maxqueue -1",
-        Command::MaxQueue {
+        Ok(Command::MaxQueue {
             name: b"-1",
             size: 0,
-        },
+        }),
     ),
-    (b"shutdown", Command::Shutdown { graceful: false }),
-    (b"shutdown GraceFul", Command::Shutdown { graceful: true }),
-    (b"SHUTDOWN\tgraceful", Command::Shutdown { graceful: true }),
-];
-
-/// Lines that command nothing, and why.
-const FAULTS: [(&[u8], AdminFault); 22] = [
-    (b"", AdminFault::UnknownCommand),
-    (b" \t  \t", AdminFault::UnknownCommand),
-    (b"stat", AdminFault::UnknownCommand),
-    (b"statuses", AdminFault::UnknownCommand),
-    (b"status\r", AdminFault::UnknownCommand),
-    (b"sta\rtus", AdminFault::UnknownCommand),
-    (b"\0status", AdminFault::UnknownCommand),
-    (b"create f", AdminFault::UnknownCommand),
-    (b"shutdown now", AdminFault::UnknownCommand),
-    (b"shutdown graceful x", AdminFault::UnknownCommand),
-    (b"shutdown gracefully", AdminFault::UnknownCommand),
-    (b"maxqueue", AdminFault::MissingName),
-    (b"maxqueue \t", AdminFault::MissingName),
-    (b"maxqueue f 1x", AdminFault::BadSize),
-    (b"maxqueue f +1", AdminFault::BadSize),
-    (b"maxqueue f 1 2", AdminFault::BadSize),
-    (b"maxqueue f 1 2 3", AdminFault::BadSize),
-    (b"maxqueue f 4294967296", AdminFault::BadSize),
-    (b"maxqueue f -4294967296", AdminFault::BadSize),
-    (b"maxqueue f 00000000001", AdminFault::BadSize),
-    (b"maxqueue f -", AdminFault::BadSize),
-    (b"maxqueue f --1", AdminFault::BadSize),
+    (b"shutdown", Ok(Command::Shutdown { graceful: false })),
+    (
+        b"shutdown GraceFul",
+        Ok(Command::Shutdown { graceful: true }),
+    ),
+    (
+        b"SHUTDOWN\tgraceful",
+        Ok(Command::Shutdown { graceful: true }),
+    ),
+    (b"", Err(AdminFault::UnknownCommand)),
+    (b" \t  \t", Err(AdminFault::UnknownCommand)),
+    (b"stat", Err(AdminFault::UnknownCommand)),
+    (b"statuses", Err(AdminFault::UnknownCommand)),
+    (b"status\r", Err(AdminFault::UnknownCommand)),
+    (b"sta\rtus", Err(AdminFault::UnknownCommand)),
+    (b"\0status", Err(AdminFault::UnknownCommand)),
+    (b"create f", Err(AdminFault::UnknownCommand)),
+    (b"shutdown now", Err(AdminFault::UnknownCommand)),
+    (b"shutdown graceful x", Err(AdminFault::UnknownCommand)),
+    (b"shutdown gracefully", Err(AdminFault::UnknownCommand)),
+    (b"maxqueue", Err(AdminFault::MissingName)),
+    (b"maxqueue \t", Err(AdminFault::MissingName)),
+    (b"maxqueue f 1x", Err(AdminFault::BadSize)),
+    (b"maxqueue f +1", Err(AdminFault::BadSize)),
+    (b"maxqueue f 1 2", Err(AdminFault::BadSize)),
+    (b"maxqueue f 1 2 3", Err(AdminFault::BadSize)),
+    (b"maxqueue f 4294967296", Err(AdminFault::BadSize)),
+    (b"maxqueue f -4294967296", Err(AdminFault::BadSize)),
+    (b"maxqueue f 00000000001", Err(AdminFault::BadSize)),
+    (b"maxqueue f -", Err(AdminFault::BadSize)),
+    (b"maxqueue f --1", Err(AdminFault::BadSize)),
 ];
 
 #[test]
-fn reads_commands(rt: HostRuntime) {
-    for (line, command) in COMMANDS {
-        assert_eq!(rt; Command::read(line), Ok(command), "at {line:?}");
-    }
-}
-
-#[test]
-fn tells_what_is_no_command(rt: HostRuntime) {
-    for (line, fault) in FAULTS {
-        assert_eq!(rt; Command::read(line), Err(fault), "at {line:?}");
+fn reads_lines(rt: HostRuntime) {
+    for (line, reading) in LINES {
+        assert_eq!(rt; Command::read(line), reading, "at {line:?}");
     }
     assert_eq!(rt; AdminFault::UnknownCommand.number(), 7);
     assert_eq!(rt; AdminFault::MissingName.number(), 8);

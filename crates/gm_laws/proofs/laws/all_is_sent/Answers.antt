@@ -1,4 +1,4 @@
-use Rattle.gm_laws.proofs.Histories.{all_is_sent}
+use Rattle.gm_laws.proofs.ByteLaws.{all_is_sent}
 use Rattle.gm_laws.proofs.laws.all_is_sent.Goals as goal
 
 pub returns : goal.returns

@@ -4,4 +4,4 @@ use Rattle.gm_laws.proofs.rows.places.Goals as goal
 
 pub returns : goal.returns
 unfolding digits
-returns c = (refl, refl, refl, refl, refl, refl)
+returns c = (refl, refl, refl, refl, refl, refl, refl)

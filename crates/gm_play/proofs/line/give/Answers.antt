@@ -1,4 +1,4 @@
-use Rattle.gm_notes.specs.Served.{run}
+use Rattle.gm_notes.specs.Steps.{run}
 use Rattle.gm_play.proofs.Outcomes.{on_ok}
 use Rattle.gm_play.proofs.Doing.{plays_piece, plays_none}
 use Rattle.gm_play.proofs.line.give.Goals as goal

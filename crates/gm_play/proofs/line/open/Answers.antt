@@ -1,4 +1,4 @@
-use Rattle.gm_notes.specs.Served.{run}
+use Rattle.gm_notes.specs.Steps.{run}
 use Rattle.gm_play.proofs.Outcomes.{on_ok}
 use Rattle.gm_play.proofs.Doing.{opened, opens_and_tells, opens_past_end}
 use Rattle.gm_play.proofs.line.open.Goals as goal

@@ -1,0 +1,3 @@
+pub mod AbilityLemmas
+pub mod SlotLemmas
+pub mod TableLemmas

@@ -1,0 +1,233 @@
+//! What is known of one connection.
+
+ghost use Rattle.std.specs.Prelude.{◌≡◌, ◌+◌, ◌-◌, ◌≤◌, Some, None, ◌<◌, ◌==◌, ◌&&◌, ◌||◌, IsTrue, IfSome, IfNone, OnOk, OnErr, [], length, slice_get, not, ℕ};
+ghost use Rattle.std.specs.Vec.{vec_len, vec_capacity};
+ghost use Rattle.gm_conns.specs.Connections.{closed, opened, shut, with_option, with_phase, with_id, with_ability, without_ability, with_room, with_bytes, drained, timeout_of, is_able};
+
+use gm_notes::Phase;
+use indexmap::IndexMap;
+use std::alloc::{AllocError, Global};
+use std::marker::Model;
+use std::mem;
+
+/// What is known of the connection in a slot. Where none is, all fields are as `new` makes them.
+#[derive(Drop)]
+pub(crate) struct Conn {
+    open: bool,
+    shut: bool,
+    option: bool,
+    phase: Phase,
+    addr: Vec<u8>,
+    id: Vec<u8>,
+    // The timeout of each function that it can do, in the order added.
+    abilities: IndexMap<u32, u32>,
+    waiting: Vec<u8>,
+    // How many bytes more there is room for, whatever the allocation has.
+    room: usize,
+}
+
+impl Model for Conn {
+    ghost use Rattle.std.specs.Prelude.{◌+◌, ◌≤◌};
+    ghost use Rattle.std.specs.Vec.{vec_len, vec_capacity};
+    ghost use Rattle.gm_conns.specs.Connections.{Connection};
+
+    ghost Value = { Connection };
+
+    ghost view = { λ c. record { is_open = c.open; is_shut = c.shut; has_option = c.option; phase = c.phase; addr = c.addr.items; id = c.id.items; abilities = c.abilities.entries; waiting = c.waiting.items; room = c.room } };
+
+    ghost invariant = { λ c. vec_len c.waiting + c.room ≤ vec_capacity c.waiting };
+}
+
+impl Conn {
+    /// No connection.
+    pub(crate) fn new(alloc: Global) -> Conn
+        ensures { result ≡ closed }
+    {
+        Conn {
+            open: false,
+            shut: false,
+            option: false,
+            phase: Phase::Awake,
+            addr: Vec::new(alloc),
+            id: Vec::new(alloc),
+            abilities: IndexMap::new(alloc),
+            waiting: Vec::new(alloc),
+            room: 0,
+        }
+    }
+
+    /// A connection from this address begins where none is.
+    pub(crate) fn open(&mut self, addr: Vec<u8>)
+        requires { self.old ≡ closed }
+        ensures { self.new ≡ opened addr.items }
+    {
+        self.open = true;
+        self.addr = addr;
+    }
+
+    /// The connection ends.
+    pub(crate) fn close(&mut self, alloc: Global)
+        ensures { self.new ≡ closed }
+    {
+        *self = Conn::new(alloc);
+    }
+
+    pub(crate) fn is_open(&self) -> bool
+        ensures { result ≡ self.now.is_open }
+    {
+        self.open
+    }
+
+    pub(crate) fn shut(&mut self)
+        ensures { self.new ≡ shut self.old }
+    {
+        self.shut = true;
+    }
+
+    pub(crate) fn is_shut(&self) -> bool
+        ensures { result ≡ self.now.is_shut }
+    {
+        self.shut
+    }
+
+    pub(crate) fn set_option(&mut self)
+        ensures { self.new ≡ with_option self.old }
+    {
+        self.option = true;
+    }
+
+    pub(crate) fn has_option(&self) -> bool
+        ensures { result ≡ self.now.has_option }
+    {
+        self.option
+    }
+
+    pub(crate) fn set_phase(&mut self, phase: Phase)
+        ensures { self.new ≡ with_phase phase self.old }
+    {
+        self.phase = phase;
+    }
+
+    pub(crate) fn phase(&self) -> Phase
+        ensures { result ≡ self.now.phase }
+    {
+        self.phase
+    }
+
+    pub(crate) fn addr(&self) -> &[u8]
+        ensures { result.now ≡ self.now.addr }
+    {
+        self.addr.as_slice()
+    }
+
+    pub(crate) fn set_id(&mut self, id: Vec<u8>)
+        ensures { self.new ≡ with_id id.items self.old }
+    {
+        self.id = id;
+    }
+
+    pub(crate) fn id(&self) -> &[u8]
+        ensures { result.now ≡ self.now.id }
+    {
+        self.id.as_slice()
+    }
+
+    /// It can do the function, with this timeout.
+    pub(crate) fn can_do(&mut self, f: u32, timeout: u32) -> Result<(), AllocError>
+        ensures ok { OnOk result (self.new ≡ with_ability f timeout self.old) }
+        ensures able { OnOk result ((g : ℕ) → is_able g self.new ≡ ((g == f) || is_able g self.old)) }
+        ensures err { OnErr result (self.new ≡ self.old) }
+    {
+        self.abilities.insert(f, timeout)?;
+        Ok(())
+    }
+
+    /// It can't do the function any more.
+    pub(crate) fn cant_do(&mut self, f: u32)
+        ensures abilities { self.new ≡ without_ability f self.old }
+        ensures able { (g : ℕ) → is_able g self.new ≡ (not (g == f) && is_able g self.old) }
+    {
+        let _timeout = self.abilities.shift_remove(&f);
+    }
+
+    /// Takes out the ability that was added last.
+    pub(crate) fn pop_ability(&mut self) -> Option<u32>
+        ensures others { self.new ≡ record self.old { abilities = self.new.abilities } }
+        ensures some { IfSome result (λ f. IsTrue (is_able f self.old)) }
+        ensures able { IfSome result (λ f. (g : ℕ) → is_able g self.new ≡ (not (g == f) && is_able g self.old)) }
+        ensures shorter { IfSome result (λ f. length self.new.abilities < length self.old.abilities) }
+        ensures none { IfNone result (self.new.abilities ≡ []) }
+        ensures kept { IfNone result (self.new ≡ self.old) }
+    {
+        let (f, _) = self.abilities.pop()?;
+        Some(f)
+    }
+
+    /// The ability at an index, with its timeout.
+    pub(crate) fn able(&self, i: u32) -> Option<(u32, u32)>
+        ensures { result ≡ slice_get self.now.abilities i }
+    {
+        match self.abilities.get_index(i as usize) {
+            Some((f, timeout)) => Some((*f, *timeout)),
+            None => None,
+        }
+    }
+
+    /// The timeout of the ability for a function.
+    pub(crate) fn timeout_of(&self, f: u32) -> Option<u32>
+        ensures { result ≡ timeout_of f self.now }
+    {
+        self.abilities.get(&f).copied()
+    }
+
+    /// Whether it can do the function.
+    pub(crate) fn is_able(&self, f: u32) -> bool
+        ensures { result ≡ is_able f self.now }
+    {
+        self.timeout_of(f).is_some()
+    }
+
+    /// Makes room for so many bytes beyond those that wait.
+    pub(crate) fn reserve(&mut self, n: usize) -> Result<(), AllocError>
+        ensures ok { OnOk result (self.new ≡ with_room n self.old) }
+        ensures others { self.new ≡ record self.old { room = self.new.room } }
+        ensures err { OnErr result (self.new ≡ self.old) }
+    {
+        if n > self.room {
+            self.waiting.reserve(n)?;
+            self.room = n;
+        }
+        Ok(())
+    }
+
+    pub(crate) fn room(&self) -> usize
+        ensures { result ≡ self.now.room }
+    {
+        self.room
+    }
+
+    /// The bytes wait behind the others, in reserved room.
+    pub(crate) fn put(&mut self, bytes: &[u8])
+        requires { length bytes.now ≤ self.old.room }
+        ensures { self.new ≡ with_bytes bytes.now self.old }
+    {
+        let _added = self.waiting.extend_from_slice(bytes);
+        self.room -= bytes.len();
+    }
+
+    /// The bytes that wait.
+    pub(crate) fn waiting(&self) -> &[u8]
+        ensures { result.now ≡ self.now.waiting }
+    {
+        self.waiting.as_slice()
+    }
+
+    /// Takes out the bytes that wait.
+    pub(crate) fn drain(&mut self, alloc: Global) -> Vec<u8>
+        ensures bytes { result.items ≡ self.old.waiting }
+        ensures after { self.new ≡ drained self.old }
+    {
+        self.room = 0;
+        mem::replace(&mut self.waiting, Vec::new(alloc))
+    }
+}

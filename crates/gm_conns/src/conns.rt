@@ -1,0 +1,377 @@
+//! The table of connections.
+
+ghost use Rattle.std.specs.Prelude.{◌≡◌, ℕ, ◌+◌, ◌<◌, ◌≤◌, ◌↔◌, ◌⊎◌, true, false, not, ◌&&◌, ◌==◌, [], IsTrue, Some, None, IfSome, IfNone, IfOk, IfErr, OnOk, OnErr, Err, length, slice_get};
+ghost use Rattle.gm_conns.specs.Connections.{Connection, closed, opened, shut, with_option, with_phase, with_id, with_ability, without_ability, without_abilities, with_room, with_bytes, drained, timeout_of, is_sleeping};
+ghost use Rattle.gm_conns.specs.Tables.{Table, conn, IsOpen, is_touched, able_count, is_sleeper, Changes, IsLeastFree, IsFull, LosesAbilities};
+
+use crate::able::{AbleSet, cover};
+use crate::conn::Conn;
+use crate::slot_set::SlotSet;
+use gm_notes::{ApplyError, Phase};
+use std::alloc::{AllocError, Global};
+use std::marker::Model;
+
+/// The connections of a server, by slot.
+///
+/// A slot must be open for all calls but `new`, `open` and `is_open`. What takes no memory answers no
+/// refusal; what is refused changes nothing.
+#[derive(Drop)]
+pub struct Conns {
+    alloc: Global,
+    conns: Vec<Conn>,
+    // By function.
+    able: Vec<AbleSet>,
+    free: SlotSet,
+    asleep: SlotSet,
+    touched: SlotSet,
+}
+
+impl Model for Conns {
+    ghost use Rattle.gm_conns.specs.Tables.{Table, IsKept};
+
+    ghost Value = { Table };
+
+    ghost view = { λ t. record { conns = t.conns.items; marks = t.touched } };
+
+    ghost invariant = { λ t. IsKept t.conns.items t.able.items t.free t.asleep };
+}
+
+// Whether a phase is sleep.
+fn is_sleeping(phase: Phase) -> bool
+    ensures { result ≡ is_sleeping phase }
+{
+    match phase {
+        Phase::Asleep => true,
+        Phase::Awake | Phase::Owed => false,
+    }
+}
+
+impl Conns {
+    /// So many slots, at most 1,024, none of them open.
+    pub fn new(alloc: Global, slots: u32) -> Result<Conns, AllocError>
+        requires { slots ≤ 1024 }
+        ensures slots { IfOk result (λ table. length table.conns ≡ slots) }
+        ensures closed { IfOk result (λ table. (c : ℕ) → conn table c ≡ closed) }
+        ensures untouched { IfOk result (λ table. (c : ℕ) → is_touched table c ≡ false) }
+    {
+        let mut conns = Vec::new(alloc);
+        let mut free = SlotSet::new();
+        for slot in 0..slots {
+            conns.push(Conn::new(alloc))?;
+            free.insert(slot);
+        }
+        Ok(Conns {
+            alloc,
+            conns,
+            able: Vec::new(alloc),
+            free,
+            asleep: SlotSet::new(),
+            touched: SlotSet::new(),
+        })
+    }
+
+    /// How many slots there are.
+    pub fn slots(&self) -> u32
+        ensures value { result ≡ length self.now.conns }
+        ensures most { result ≤ 1024 }
+    {
+        self.conns.len() as u32
+    }
+
+    /// Whether a connection is in the slot.
+    pub fn is_open(&self, slot: u32) -> bool
+        ensures { result ≡ (conn self.now slot).is_open }
+    {
+        match self.conns.get(slot as usize) {
+            Some(conn) => conn.is_open(),
+            None => false,
+        }
+    }
+
+    /// A connection from this address is opened in the least slot that isn't open. `NoSlot` comes where
+    /// every slot is open, and else `Memory` where there is no memory for the address.
+    pub fn open(&mut self, addr: &[u8]) -> Result<u32, ApplyError>
+        ensures slot { IfOk result (λ slot. IsLeastFree slot self.old) }
+        ensures opened { IfOk result (λ slot. Changes slot (λ _. opened addr.now) true self.old self.new) }
+        ensures full { (result ≡ Err ApplyError.NoSlot) ↔ IsFull self.old }
+        ensures refusal { IfErr result (λ e. (e ≡ ApplyError.NoSlot) ⊎ (e ≡ ApplyError.Memory)) }
+        ensures err { OnErr result (self.new ≡ self.old) }
+    {
+        let Some(slot) = self.free.next_in_both(&self.free, 0) else {
+            return Err(ApplyError::NoSlot);
+        };
+        let addr = Vec::from_slice(self.alloc, addr)?;
+        let conn = &mut self.conns[slot as usize];
+        conn.open(addr);
+        self.free.remove(slot);
+        self.touched.insert(slot);
+        Ok(slot)
+    }
+
+    /// The connection ends, with all that was known of it.
+    pub fn close(&mut self, slot: u32)
+        requires { IsOpen self.old slot }
+        ensures { Changes slot (λ _. closed) true self.old self.new }
+    {
+        self.reset(slot);
+        let conn = &mut self.conns[slot as usize];
+        conn.close(self.alloc);
+        self.free.insert(slot);
+        self.asleep.remove(slot);
+        self.touched.insert(slot);
+    }
+
+    /// The connection takes no more requests.
+    pub fn shut_down(&mut self, slot: u32)
+        requires { IsOpen self.old slot }
+        ensures { Changes slot shut true self.old self.new }
+    {
+        let conn = &mut self.conns[slot as usize];
+        conn.shut();
+        self.touched.insert(slot);
+    }
+
+    /// Whether the connection was shut down.
+    pub fn is_shut(&self, slot: u32) -> bool
+        requires { IsOpen self.now slot }
+        ensures { result ≡ (conn self.now slot).is_shut }
+    {
+        let conn = &self.conns[slot as usize];
+        conn.is_shut()
+    }
+
+    /// The connection can do the function, with this timeout: an ability that stands keeps its place.
+    pub fn can_do(&mut self, slot: u32, f: u32, timeout: u32) -> Result<(), AllocError>
+        requires { IsOpen self.old slot }
+        ensures ok { OnOk result (Changes slot (with_ability f timeout) false self.old self.new) }
+        ensures err { OnErr result (self.new ≡ self.old) }
+    {
+        cover(&mut self.able, f)?;
+        let conn = &mut self.conns[slot as usize];
+        let was_able = conn.is_able(f);
+        conn.can_do(f, timeout)?;
+        if !was_able {
+            let able = &mut self.able[f as usize];
+            able.insert(slot);
+        }
+        Ok(())
+    }
+
+    /// The connection can't do the function any more.
+    pub fn cant_do(&mut self, slot: u32, f: u32)
+        requires { IsOpen self.old slot }
+        ensures { Changes slot (without_ability f) false self.old self.new }
+    {
+        let conn = &mut self.conns[slot as usize];
+        let was_able = conn.is_able(f);
+        conn.cant_do(f);
+        if was_able {
+            let able = &mut self.able[f as usize];
+            able.remove(slot);
+        }
+    }
+
+    // Takes out the ability that was added last, if there is one.
+    fn pop_ability(&mut self, slot: u32) -> bool
+        requires { IsOpen self.old slot }
+        ensures loses { LosesAbilities slot self.old self.new }
+        ensures shorter { IsTrue result → length (conn self.new slot).abilities < length (conn self.old slot).abilities }
+        ensures none { result ≡ false → (conn self.new slot).abilities ≡ [] }
+    {
+        let conn = &mut self.conns[slot as usize];
+        match conn.pop_ability() {
+            Some(f) => {
+                let able = &mut self.able[f as usize];
+                able.remove(slot);
+                true
+            }
+            None => false,
+        }
+    }
+
+    /// The connection can do nothing any more.
+    pub fn reset(&mut self, slot: u32)
+        requires { IsOpen self.old slot }
+        ensures { Changes slot without_abilities false self.old self.new }
+    {
+        while self.pop_ability(slot) {}
+    }
+
+    /// The ability at an index, in the order added: the function and its timeout.
+    pub fn able(&self, slot: u32, i: u32) -> Option<(u32, u32)>
+        requires { IsOpen self.now slot }
+        ensures { result ≡ slice_get (conn self.now slot).abilities i }
+    {
+        let conn = &self.conns[slot as usize];
+        conn.able(i)
+    }
+
+    /// The timeout with which the connection can do the function.
+    pub fn timeout_of(&self, slot: u32, f: u32) -> Option<u32>
+        requires { IsOpen self.now slot }
+        ensures { result ≡ timeout_of f (conn self.now slot) }
+    {
+        let conn = &self.conns[slot as usize];
+        conn.timeout_of(f)
+    }
+
+    /// How many connections can do the function.
+    pub fn able_count(&self, f: u32) -> u32
+        ensures { result ≡ able_count self.now f }
+    {
+        match self.able.get(f as usize) {
+            Some(able) => able.count(),
+            None => 0,
+        }
+    }
+
+    /// Gives the connection this id.
+    pub fn set_id(&mut self, slot: u32, id: &[u8]) -> Result<(), AllocError>
+        requires { IsOpen self.old slot }
+        ensures ok { OnOk result (Changes slot (with_id id.now) false self.old self.new) }
+        ensures err { OnErr result (self.new ≡ self.old) }
+    {
+        let id = Vec::from_slice(self.alloc, id)?;
+        let conn = &mut self.conns[slot as usize];
+        conn.set_id(id);
+        Ok(())
+    }
+
+    /// The id of the connection, empty until it is set.
+    pub fn id(&self, slot: u32) -> &[u8]
+        requires { IsOpen self.now slot }
+        ensures { result.now ≡ (conn self.now slot).id }
+    {
+        let conn = &self.conns[slot as usize];
+        conn.id()
+    }
+
+    /// The address that the connection came from.
+    pub fn addr(&self, slot: u32) -> &[u8]
+        requires { IsOpen self.now slot }
+        ensures { result.now ≡ (conn self.now slot).addr }
+    {
+        let conn = &self.conns[slot as usize];
+        conn.addr()
+    }
+
+    /// Sets the option of the connection.
+    pub fn set_option(&mut self, slot: u32)
+        requires { IsOpen self.old slot }
+        ensures { Changes slot with_option false self.old self.new }
+    {
+        let conn = &mut self.conns[slot as usize];
+        conn.set_option();
+    }
+
+    /// Whether the option was set.
+    pub fn has_option(&self, slot: u32) -> bool
+        requires { IsOpen self.now slot }
+        ensures { result ≡ (conn self.now slot).has_option }
+    {
+        let conn = &self.conns[slot as usize];
+        conn.has_option()
+    }
+
+    /// Whether the connection sleeps.
+    pub fn phase(&self, slot: u32) -> Phase
+        requires { IsOpen self.now slot }
+        ensures { result ≡ (conn self.now slot).phase }
+    {
+        let conn = &self.conns[slot as usize];
+        conn.phase()
+    }
+
+    /// Puts the connection to sleep, or wakes it.
+    pub fn set_phase(&mut self, slot: u32, phase: Phase)
+        requires { IsOpen self.old slot }
+        ensures { Changes slot (with_phase phase) true self.old self.new }
+    {
+        let conn = &mut self.conns[slot as usize];
+        conn.set_phase(phase);
+        self.asleep.set(slot, is_sleeping(phase));
+        self.touched.insert(slot);
+    }
+
+    /// The least slot from `from` on that sleeps and can do the function.
+    pub fn next_sleeper(&self, f: u32, from: u32) -> Option<u32>
+        ensures found { IfSome result (λ slot. (from ≤ slot) × IsTrue (is_sleeper f (conn self.now slot))) }
+        ensures least { IfSome result (λ slot. (c : ℕ) → from ≤ c → c < slot → is_sleeper f (conn self.now c) ≡ false) }
+        ensures none { IfNone result ((c : ℕ) → from ≤ c → is_sleeper f (conn self.now c) ≡ false) }
+    {
+        match self.able.get(f as usize) {
+            Some(able) => self.asleep.next_in_both(able.slots(), from),
+            None => None,
+        }
+    }
+
+    /// Makes room for so many bytes beyond those that wait; two calls don't add up.
+    pub fn reserve_out(&mut self, slot: u32, n: usize) -> Result<(), AllocError>
+        requires { IsOpen self.old slot }
+        ensures ok { OnOk result (Changes slot (with_room n) false self.old self.new) }
+        ensures err { OnErr result (self.new ≡ self.old) }
+    {
+        let conn = &mut self.conns[slot as usize];
+        conn.reserve(n)
+    }
+
+    /// For how many bytes there is room beyond those that wait.
+    pub fn room(&self, slot: u32) -> usize
+        requires { IsOpen self.now slot }
+        ensures { result ≡ (conn self.now slot).room }
+    {
+        let conn = &self.conns[slot as usize];
+        conn.room()
+    }
+
+    /// The bytes wait for the connection, behind the others, in reserved room.
+    pub fn put_out(&mut self, slot: u32, bytes: &[u8])
+        requires open { IsOpen self.old slot }
+        requires room { length bytes.now ≤ (conn self.old slot).room }
+        ensures { Changes slot (with_bytes bytes.now) true self.old self.new }
+    {
+        let conn = &mut self.conns[slot as usize];
+        conn.put(bytes);
+        self.touched.insert(slot);
+    }
+
+    /// The bytes that wait for the connection.
+    pub fn waiting(&self, slot: u32) -> &[u8]
+        requires { IsOpen self.now slot }
+        ensures { result.now ≡ (conn self.now slot).waiting }
+    {
+        let conn = &self.conns[slot as usize];
+        conn.waiting()
+    }
+
+    /// Takes out the bytes that wait. No room is reserved then.
+    pub fn drain(&mut self, slot: u32) -> Vec<u8>
+        requires { IsOpen self.old slot }
+        ensures bytes { result.items ≡ (conn self.old slot).waiting }
+        ensures rest { Changes slot drained true self.old self.new }
+    {
+        let conn = &mut self.conns[slot as usize];
+        let bytes = conn.drain(self.alloc);
+        self.touched.insert(slot);
+        bytes
+    }
+
+    /// The least slot that was touched since it was last taken, which is taken out: a slot is touched when
+    /// it is opened, closed or shut, when its phase is set, and when bytes come to wait or are drained. So
+    /// none is missing whose waiting bytes, phase or shut have changed.
+    pub fn take_touched(&mut self) -> Option<u32>
+        ensures found { IfSome result (λ slot. IsTrue (is_touched self.old slot)) }
+        ensures least { IfSome result (λ slot. (c : ℕ) → c < slot → is_touched self.old c ≡ false) }
+        ensures rest { IfSome result (λ slot. (c : ℕ) → is_touched self.new c ≡ (not (c == slot) && is_touched self.old c)) }
+        ensures none { IfNone result ((c : ℕ) → is_touched self.old c ≡ false) }
+        ensures conns { self.new.conns ≡ self.old.conns }
+    {
+        match self.touched.next_in_both(&self.touched, 0) {
+            Some(slot) => {
+                self.touched.remove(slot);
+                Some(slot)
+            }
+            None => None,
+        }
+    }
+}

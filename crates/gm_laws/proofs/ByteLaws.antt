@@ -1,0 +1,153 @@
+-- The laws about bytes.
+use Rattle.std.proofs.Common.{◌≡◌, ℕ, Bool, true, false, cond, List, [], ◌∷◌, ◌++◌, Some, None, refl, sym, ap, subst, ◌∙◌, arith, append_assoc}
+use Rattle.std.specs.Prelude.{◌==◌, unwrap_or}
+use Rattle.std.proofs.lemmas.List.{append-nil}
+use Rattle.std.proofs.lemmas.Bool.Decides.{nat_tests}
+use Rattle.gm_notes.specs.declared.note.Note.{Note}
+use Rattle.gm_notes.specs.declared.note.Note.TheVariants as notes
+use Rattle.gm_notes.specs.Settings.{Settings}
+use Rattle.gm_notes.specs.Notes.{is_open}
+use Rattle.gm_notes.specs.Flow.{Flow, Began, Queued, Drained, Emptied, sent, waiting}
+use Rattle.gm_notes.specs.Past.{Past}
+use Rattle.gm_notes.specs.Steps.{Step, step, run}
+use Rattle.gm_laws.specs.History.{History}
+use Rattle.gm_laws.specs.Laws.{drained, is_kept_up, IsFront, SentSo, takes_from, OnlyDrainsTake}
+use Rattle.gm_laws.proofs.Keeping.{is_inner}
+use Rattle.gm_laws.proofs.StepsKeep.{step_keeps, run_history}
+
+-- a note that is no opening and no closing leaves open what was
+pub inner_open : (note : Note) (older : List Note) (c : ℕ) → is_inner note ≡ true → is_open c (note ∷ older) ≡ is_open c older
+inner_open (notes.Opened d addr) older c inner = absurd cc
+inner_open (notes.Closed d) older c inner = absurd cc
+inner_open note older c inner = refl
+
+-- ---- what was sent
+
+began : (c d : ℕ) (flow : List Flow) (older t : Bool) → (c == d) ≡ t → SentSo older c flow → SentSo (unwrap_or (cond t (Some true) None) older) c (Began d ∷ flow)
+began c d flow older true is i = rw is refl
+began c d flow true false is i = rw is i
+began c d flow false false is i = (rw is i.0, (i.1.0, rw is i.1.1))
+
+emptied : (c d : ℕ) (flow : List Flow) (older t : Bool) → (c == d) ≡ t → SentSo older c flow → (t ≡ true → older ≡ true) → SentSo (unwrap_or (cond t (Some false) None) older) c (Emptied d ∷ flow)
+emptied c d flow true true is i opened = (rw is refl, (waiting c flow, i))
+emptied c d flow false true is i opened = absurd (let e = opened refl in cc)
+emptied c d flow true false is i opened = rw is i
+emptied c d flow false false is i opened = (rw is i.0, i.1)
+
+queued : (c d : ℕ) (bytes : List ℕ) (flow : List Flow) (older t : Bool) → (c == d) ≡ t → SentSo older c flow → (t ≡ true → older ≡ true) → SentSo older c (Queued d bytes ∷ flow)
+queued c d bytes flow true true is i opened = rw is (ap (λ l. l ++ bytes) i ∙ append_assoc (drained c flow) (waiting c flow) bytes)
+queued c d bytes flow false true is i opened = absurd (let e = opened refl in cc)
+queued c d bytes flow true false is i opened = rw is i
+queued c d bytes flow false false is i opened = (rw is i.0, (i.1.0, rw is i.1.1))
+
+taken : (c d : ℕ) (flow : List Flow) (older t : Bool) → (c == d) ≡ t → SentSo older c flow → SentSo older c (Drained d ∷ flow)
+taken c d flow true true is i = rw is (i ∙ sym (append-nil (drained c flow ++ waiting c flow)))
+taken c d flow false true is i =
+    (rw is refl, (i.1.0, rw is (i.1.1 ∙ ap (λ l. l ++ i.1.0) (sym (append-nil (drained c flow)) ∙ ap (λ l. drained c flow ++ l) (sym i.0)))))
+taken c d flow true false is i = rw is i
+taken c d flow false false is i = (rw is i.0, (i.1.0, rw is i.1.1))
+
+same_slot : (c d : ℕ) (notes : List Note) → is_open d notes ≡ true → (c == d) ≡ true → is_open c notes ≡ true
+same_slot c d notes opened e = let same : d ≡ c = grind (arith, nat_tests) in subst (λ x. is_open x notes ≡ true) same opened
+
+abbrev AllSent : Past → Type 0
+AllSent past = (c : ℕ) → SentSo (is_open c past.notes) c past.flow
+
+noted_sent : (note : Note) (past : Past) → is_inner note ≡ true → AllSent past → (c : ℕ) → SentSo (is_open c (note ∷ past.notes)) c past.flow
+noted_sent note past inner i c = subst (λ t. SentSo t c past.flow) (sym (inner_open note past.notes c inner)) (i c)
+
+step_sent : (k : Settings) (s : Step) (start : Past) → History k start.notes → AllSent start → AllSent (step k s start)
+step_sent k s start history all =
+    (step_keeps {k = k} {I = AllSent} start s
+    (record {
+      by_note = λ note past inner allowed cause h i. noted_sent note past inner i;
+      by_opening = λ d addr past allowed cause h i c. began c d past.flow (is_open c past.notes) (c == d) refl (i c);
+      by_closing = λ d past opened cause h i c. emptied c d past.flow (is_open c past.notes) (c == d) refl (i c) (same_slot c d past.notes opened);
+      by_saying = λ d bytes past opened may h i c. queued c d bytes past.flow (is_open c past.notes) (c == d) refl (i c) (same_slot c d past.notes opened);
+    })
+    (λ d e h i c. taken c d start.flow (is_open c start.notes) (c == d) refl (i c))
+    (history, all)).1
+
+pub run_sent : (k : Settings) (steps : List Step) (c : ℕ) → SentSo (is_open c (run k steps).notes) c (run k steps).flow
+run_sent k [] c = (refl, ([], refl))
+run_sent k (s ∷ steps) c = step_sent k s (run k steps) (run_history k steps) (run_sent k steps) c
+
+-- ---- what is taken
+
+module _ (c : ℕ) (before : List ℕ) where
+  front_began : (d : ℕ) (flow : List Flow) (t : Bool) → (c == d) ≡ t → (t ≡ true → waiting c flow ≡ []) → IsFront before (waiting c flow) → IsFront before (waiting c (Began d ∷ flow))
+  front_began d flow true is none f = (f.0, rw is (sym (none refl) ∙ f.1))
+  front_began d flow false is none f = (f.0, rw is f.1)
+
+  front_emptied : (d : ℕ) (flow : List Flow) (t : Bool) → (c == d) ≡ t → t ≡ false → IsFront before (waiting c flow) → IsFront before (waiting c (Emptied d ∷ flow))
+  front_emptied d flow true is other f = absurd cc
+  front_emptied d flow false is other f = (f.0, rw is f.1)
+
+  front_drained : (d : ℕ) (flow : List Flow) (t : Bool) → (c == d) ≡ t → t ≡ false → IsFront before (waiting c flow) → IsFront before (waiting c (Drained d ∷ flow))
+  front_drained d flow true is other f = absurd cc
+  front_drained d flow false is other f = (f.0, rw is f.1)
+
+  front_queued : (d : ℕ) (bytes : List ℕ) (flow : List Flow) (t : Bool) → (c == d) ≡ t → IsFront before (waiting c flow) → IsFront before (waiting c (Queued d bytes ∷ flow))
+  front_queued d bytes flow true is f = (f.0 ++ bytes, rw is (ap (λ l. l ++ bytes) f.1 ∙ append_assoc before f.0 bytes))
+  front_queued d bytes flow false is f = (f.0, rw is f.1)
+
+-- nothing waits where the slot isn't open
+none_waits : (c d : ℕ) (past : Past) → AllSent past → is_open d past.notes ≡ false → (c == d) ≡ true → waiting c past.flow ≡ []
+none_waits c d past i closed e =
+    let same : d ≡ c = grind (arith, nat_tests) in
+    let here : SentSo false c past.flow = subst (λ t. SentSo t c past.flow) (subst (λ x. is_open x past.notes ≡ false) same closed) (i c) in
+    here.0
+
+module _ (k : Settings) (s : Step) (start : Past) where
+  abbrev Fronts : Past → Type 0
+  Fronts past = AllSent past × ((c : ℕ) → takes_from c s ≡ false → IsFront (waiting c start.flow) (waiting c past.flow))
+
+  pub only_drains : History k start.notes → AllSent start → OnlyDrainsTake k start s (step k s start)
+  only_drains history all =
+      (step_keeps {k = k} {I = Fronts} start s
+      (record {
+        by_note = λ note past inner allowed cause h i. (noted_sent note past inner i.0, i.1);
+        by_opening = λ d addr past allowed cause h i. (
+          (λ c. began c d past.flow (is_open c past.notes) (c == d) refl (i.0 c)),
+          λ c other. front_began c (waiting c start.flow) d past.flow (c == d) refl (none_waits c d past i.0 allowed.0) (i.1 c other),
+        );
+        by_closing = λ d past opened cause h i. (
+          (λ c. emptied c d past.flow (is_open c past.notes) (c == d) refl (i.0 c) (same_slot c d past.notes opened)),
+          λ c other. front_emptied c (waiting c start.flow) d past.flow (c == d) refl (subst (λ x. takes_from c x ≡ false) cause other) (i.1 c other),
+        );
+        by_saying = λ d bytes past opened may h i. (
+          (λ c. queued c d bytes past.flow (is_open c past.notes) (c == d) refl (i.0 c) (same_slot c d past.notes opened)),
+          λ c other. front_queued c (waiting c start.flow) d bytes past.flow (c == d) refl (i.1 c other),
+        );
+      })
+      (λ d e h i. (
+        (λ c. taken c d start.flow (is_open c start.notes) (c == d) refl (i.0 c)),
+        λ c other. front_drained c (waiting c start.flow) d start.flow (c == d) refl (subst (λ x. takes_from c x ≡ false) e other) (i.1 c other),
+      ))
+      (history, (all, λ c other. ([], sym (append-nil (waiting c start.flow)))))).1.1
+
+-- ---- any flow
+
+module _ (c : ℕ) where
+  sent_began : (d : ℕ) (older : List Flow) (t : Bool) → (t ≡ false → is_kept_up c older ≡ true → sent c older ≡ drained c older ++ waiting c older) → cond t true (is_kept_up c older) ≡ true → cond t [] (sent c older) ≡ cond t [] (drained c older) ++ cond t [] (waiting c older)
+  sent_began d older true rest e = refl
+  sent_began d older false rest e = rest refl e
+
+  sent_queued : (bytes : List ℕ) (older : List Flow) (t : Bool) → sent c older ≡ drained c older ++ waiting c older → cond t (sent c older ++ bytes) (sent c older) ≡ drained c older ++ cond t (waiting c older ++ bytes) (waiting c older)
+  sent_queued bytes older true rest = ap (λ l. l ++ bytes) rest ∙ append_assoc (drained c older) (waiting c older) bytes
+  sent_queued bytes older false rest = rest
+
+  sent_drained : (older : List Flow) (t : Bool) → sent c older ≡ drained c older ++ waiting c older → sent c older ≡ cond t (drained c older ++ waiting c older) (drained c older) ++ cond t [] (waiting c older)
+  sent_drained older true rest = rest ∙ sym (append-nil (drained c older ++ waiting c older))
+  sent_drained older false rest = rest
+
+  sent_emptied : (older : List Flow) (t : Bool) → (is_kept_up c older ≡ true → sent c older ≡ drained c older ++ waiting c older) → cond t false (is_kept_up c older) ≡ true → sent c older ≡ drained c older ++ cond t [] (waiting c older)
+  sent_emptied older true rest e = absurd cc
+  sent_emptied older false rest e = rest e
+
+pub all_is_sent : (flow : List Flow) (c : ℕ) → is_kept_up c flow ≡ true → sent c flow ≡ drained c flow ++ waiting c flow
+all_is_sent [] c e = refl
+all_is_sent (Began d ∷ older) c e = sent_began c d older (c == d) (λ no_more. all_is_sent older c) e
+all_is_sent (Queued d bytes ∷ older) c e = sent_queued c bytes older (c == d) (all_is_sent older c e)
+all_is_sent (Drained d ∷ older) c e = sent_drained c older (c == d) (all_is_sent older c e)
+all_is_sent (Emptied d ∷ older) c e = sent_emptied c older (c == d) (all_is_sent older c) e

@@ -1,0 +1,325 @@
+-- Whatever each small change keeps, each step keeps.
+use Rattle.std.proofs.Common.{◌≡◌, ℕ, Bool, true, false, cond, not, ◌&&◌, List, [], ◌∷◌, Option, Some, None, Result, Ok, Err, refl, sym, ap, subst, ◌∙◌, arith, max}
+use Rattle.std.specs.Prelude.{codes, ◌==◌, ◌||◌}
+use Rattle.std.specs.Str.{bytes_eq}
+use Rattle.std.specs.Option.{option_map, ok_or}
+use Rattle.std.proofs.lemmas.Bool.{and_parts, and_from, or_left, or_right}
+use Rattle.gm_packet.specs.declared.kind.Kind.{Kind}
+use Rattle.gm_packet.specs.declared.kind.Kind.TheVariants.{CanDo, CantDo, ResetAbilities, PreSleep, SubmitJob, GrabJob, WorkStatus, WorkComplete, WorkFail, GetStatus, EchoReq, SubmitJobBg, SubmitJobHigh, SetClientId, CanDoTimeout, AllYours, WorkException, OptionReq, WorkData, WorkWarning, GrabJobUniq, SubmitJobHighBg, SubmitJobLow, SubmitJobLowBg}
+use Rattle.gm_packet.specs.Kinds.{kind_of, shape}
+use Rattle.gm_packet.specs.Requests.{Asked, read_as, read_kind, arguments_of}
+use Rattle.gm_packet.specs.declared.request.RequestFault.TheVariants.{BadArguments}
+use Rattle.gm_packet.specs.Writing.{Answer, answer_packet, status_res, echo_res, work_status, work_data, work_warning, work_exception, work_complete, work_fail, option_res}
+use Rattle.gm_notes.specs.declared.states.Priority.{Priority}
+use Rattle.gm_notes.specs.declared.states.Priority.TheVariants.{High, Normal, Low}
+use Rattle.gm_admin.specs.declared.fault.AdminFault.{AdminFault}
+use Rattle.gm_admin.specs.declared.fault.AdminError.{AdminError}
+use Rattle.gm_admin.specs.declared.fault.AdminError.TheVariants as errors
+use Rattle.gm_admin.specs.Commands.{Asked as Commanded, Status, Workers, MaxQueue, Version, Shutdown, command_of}
+use Rattle.gm_admin.specs.Answers.{ok_text, version_text, error_text, status_text, workers_text}
+use Rattle.gm_notes.specs.declared.states.Mode.{Mode}
+use Rattle.gm_notes.specs.declared.states.Mode.TheVariants as modes
+use Rattle.gm_notes.specs.declared.event.ApplyError.{ApplyError}
+use Rattle.gm_notes.specs.declared.event.ApplyError.TheVariants.{NotOpen, NotOwed}
+use Rattle.gm_notes.specs.declared.note.Note.{Note}
+use Rattle.gm_notes.specs.declared.note.Note.TheVariants as notes
+use Rattle.gm_notes.specs.Settings.{Settings}
+use Rattle.gm_notes.specs.Notes.{is_open, is_shut, takes_units, phase, is_asleep, is_owed, moment, mode, slots_from}
+use Rattle.gm_notes.specs.Jobs.{Job, spot, job, is_waiting, is_running, is_running_at, is_live, is_wanted, is_mentioned, report, listeners, deadline, handle, handled}
+use Rattle.gm_notes.specs.Past.{Past, noted, flowed, print, give, refuse, mentioned, tell_all}
+use Rattle.gm_notes.specs.Submissions.{is_one_too_many}
+use Rattle.gm_notes.specs.Texts.{fault_text}
+use Rattle.gm_notes.specs.Flow.{Drained}
+use Rattle.gm_notes.specs.Submissions.{submit}
+use Rattle.gm_notes.specs.Workers.{stir, work}
+use Rattle.gm_notes.specs.Requests.{packet_of, first, second, third, submission, passing, ending, tell_status, set_option, request, request_if_read}
+use Rattle.gm_notes.specs.Lines.{refuse_line, fault_error, status_rows, worker_rows, is_bad_word, maxqueue, shut_one, shut_each, went_graceful, shutdown, command}
+use Rattle.gm_notes.specs.Closings.{discard_one, discard_each, wake_for, give_back_one, give_back_each, gone, rising, close, is_reached, expire_one, expire_each, tick}
+use Rattle.gm_notes.specs.Steps.{Step, Open, Packet, Line, Fault, Close, Tick, Took, Withdrew, Drain, free_slot, opening, refusal, unless_not_open, unless, add, step, run}
+use Rattle.gm_notes.proofs.FreeSlots.{free_is}
+use Rattle.gm_laws.specs.History.{Allowed, History}
+use Rattle.gm_laws.specs.Causes.{NamesJob, is_one_of, asks, is_request, is_submission, is_foreground, is_background, is_enabling, is_disabling, is_resetting, is_sleeping, is_grab, is_reporting, is_ending, is_naming, is_choosing, is_line, is_closing, closes, faults as has_fault}
+use Rattle.gm_laws.proofs.Finding.{same_number}
+use Rattle.gm_laws.proofs.Listeners.{listeners_open}
+use Rattle.gm_laws.proofs.Sayings.{Other, fail_other, status_other, complete_other, data_other, warning_other, exception_other, echo_other, option_other, known_other, ok_other, version_other, refusal_other, fault_other, list_other, rows_other}
+use Rattle.gm_laws.proofs.Keeping.{Keeps, Held, kept_if, held_if, note_keeps, says_keeps, gives_keeps, refuses_keeps, tells_keeps, wake_keeps, mentions_keeps, submit_keeps, can_do_keeps, cant_do_keeps, pre_sleep_keeps, stir_keeps, grab_keeps, works_keeps, tell_all_notes, runs_somewhere}
+
+-- what is read of a kind is of that kind
+read_at : (kind : Kind) (o : Option (List (List ℕ) × ℕ)) (asked : Asked) → option_map (λ (found : List (List ℕ) × ℕ). record { kind = kind; arguments = found.0; timeout = found.1 }) o ≡ Some asked → asked.kind ≡ kind
+read_at kind None asked e = absurd cc
+read_at kind (Some found) asked e = let same : record { kind = kind; arguments = found.0; timeout = found.1 } ≡ asked = cc in ap (λ (a : Asked). a.kind) (sym same)
+
+kind_read : (kind : Kind) (bytes : List ℕ) (asked : Asked) → read_as kind bytes ≡ Some asked → asked.kind ≡ kind
+kind_read kind bytes asked e = read_at kind (arguments_of (shape kind) bytes) asked e
+
+-- ---- requests
+
+module _ {k : Settings} {I : Past → Type 0} (start : Past) (c number : ℕ) (bytes : List ℕ) (K : Keeps k start.notes (Packet c number bytes) I) (opened : is_open c start.notes ≡ true) (h : Held k I start) where
+  tells_status : (text : List ℕ) (o : Option ℕ) → Held k I (tell_status k c text o start)
+  tells_status text None = gives_keeps K c (status_res text false false (codes "0") (codes "0")) start opened (known_other text false false (codes "0") (codes "0")) h
+  tells_status text (Some n) =
+      held_if K (is_live (spot n start.notes)) _ _
+      (λ e. gives_keeps K c (status_res text true (is_running (spot n start.notes)) (report n start.notes).0 (report n start.notes).1) start opened (known_other text true (is_running (spot n start.notes)) (report n start.notes).0 (report n start.notes).1) h)
+      (λ e. gives_keeps K c (status_res text false false (codes "0") (codes "0")) start opened (known_other text false false (codes "0") (codes "0")) h)
+
+  module _ (kind : Kind) (is : kind_of number ≡ Some kind) where
+    by_kind : (kinds : Kind → Bool) → kinds kind ≡ true → is_one_of kinds (kind_of number) ≡ true
+    by_kind kinds e = ap (is_one_of kinds) is ∙ e
+
+    asked : (kinds : Kind → Bool) → kinds kind ≡ true → asks kinds c (Packet c number bytes) ≡ true
+    asked kinds e = and_from (c == c) (is_one_of kinds (kind_of number)) (same_number c) (by_kind kinds e)
+
+    submits : (p : Priority) (background : Bool) (a : List (List ℕ)) → is_submission kind ≡ true → (background ≡ true → is_background kind ≡ true) → (background ≡ false → is_foreground kind ≡ true) → Held k I (submit k c (submission p background a) start)
+    submits p background a made kept heard =
+        submit_keeps K c (submission p background a)
+        (record { makes = by_kind is_submission made; keeps = λ e. by_kind is_background (kept e); hears = λ e. asked is_foreground (heard e) })
+        start opened h
+
+    -- what doesn't end the job
+    passes : (text : List ℕ) (answer : Answer) (only : Bool) → Other (answer_packet answer) → Held k I (work k c text (record (passing answer) { exceptions_only = only }) start)
+    passes text answer only other =
+        works_keeps K c text (record (passing answer) { exceptions_only = only }) start other (λ a b e. absurd cc) (λ n e r is. absurd cc) opened h
+
+    ends : (text : List ℕ) (answer : Answer) → ((n : ℕ) → text ≡ handle k n → NamesJob k number bytes n) → is_ending kind ≡ true → Other (answer_packet answer) → Held k I (work k c text (ending answer) start)
+    ends text answer names may other =
+        works_keeps K c text (ending answer) start other (λ a b e. absurd cc) (λ n e r is. (by_kind is_ending may, r, names n is)) opened h
+
+    chooses : (name : List ℕ) → is_choosing kind ≡ true → Held k I (set_option c name start)
+    chooses name may =
+        held_if K (bytes_eq name (codes "exceptions")) (give c (option_res name) (noted (notes.OptionSet c) start)) (refuse c (codes "unknown_option") start)
+        (λ e. gives_keeps K c (option_res name) (noted (notes.OptionSet c) start) opened (option_other name) (note_keeps K (notes.OptionSet c) start refl opened (asked is_choosing may) h))
+        (λ e. refuses_keeps K c (codes "unknown_option") start opened h)
+
+  pub request_keeps : (kind : Kind) (a : List (List ℕ)) (timeout : ℕ) → kind_of number ≡ Some kind → ((n : ℕ) → first a ≡ handle k n → NamesJob k number bytes n) → Held k I (request k c kind a timeout start)
+  request_keeps CanDo a timeout is names = can_do_keeps K c (first a) 0 start (asked CanDo is is_enabling refl) (by_kind CanDo is is_enabling refl) opened h
+  request_keeps CanDoTimeout a timeout is names = can_do_keeps K c (first a) timeout start (asked CanDoTimeout is is_enabling refl) (by_kind CanDoTimeout is is_enabling refl) opened h
+  request_keeps CantDo a timeout is names = cant_do_keeps K c (first a) start (asked CantDo is is_disabling refl) opened h
+  request_keeps ResetAbilities a timeout is names = note_keeps K (notes.Reset c) start refl opened (asked ResetAbilities is is_resetting refl) h
+  request_keeps PreSleep a timeout is names = pre_sleep_keeps K c start (asked PreSleep is is_sleeping refl) opened h
+  request_keeps GrabJob a timeout is names = grab_keeps K c false start (asked GrabJob is is_grab refl) refl opened h
+  request_keeps GrabJobUniq a timeout is names = grab_keeps K c true start (asked GrabJobUniq is is_grab refl) refl opened h
+  request_keeps SubmitJob a timeout is names = submits SubmitJob is Normal false a refl (λ e. absurd cc) (λ e. refl)
+  request_keeps SubmitJobBg a timeout is names = submits SubmitJobBg is Normal true a refl (λ e. refl) (λ e. absurd cc)
+  request_keeps SubmitJobHigh a timeout is names = submits SubmitJobHigh is High false a refl (λ e. absurd cc) (λ e. refl)
+  request_keeps SubmitJobHighBg a timeout is names = submits SubmitJobHighBg is High true a refl (λ e. refl) (λ e. absurd cc)
+  request_keeps SubmitJobLow a timeout is names = submits SubmitJobLow is Low false a refl (λ e. absurd cc) (λ e. refl)
+  request_keeps SubmitJobLowBg a timeout is names = submits SubmitJobLowBg is Low true a refl (λ e. refl) (λ e. absurd cc)
+  request_keeps WorkStatus a timeout is names =
+      works_keeps K c (first a) (record (passing (work_status (first a) (second a) (third a))) { report = Some (second a, third a) }) start
+      (status_other (first a) (second a) (third a)) (λ x y e. by_kind WorkStatus is is_reporting refl) (λ n e r is. absurd cc) opened h
+  request_keeps WorkData a timeout is names = passes WorkData is (first a) (work_data (first a) (second a)) false (data_other (first a) (second a))
+  request_keeps WorkWarning a timeout is names = passes WorkWarning is (first a) (work_warning (first a) (second a)) false (warning_other (first a) (second a))
+  request_keeps WorkException a timeout is names = passes WorkException is (first a) (work_exception (first a) (second a)) true (exception_other (first a) (second a))
+  request_keeps WorkComplete a timeout is names = ends WorkComplete is (first a) (work_complete (first a) (second a)) names refl (complete_other (first a) (second a))
+  request_keeps WorkFail a timeout is names = ends WorkFail is (first a) (work_fail (first a)) names refl (fail_other (first a))
+  request_keeps GetStatus a timeout is names = tells_status (first a) (handled k (first a) start.notes)
+  request_keeps EchoReq a timeout is names = gives_keeps K c (echo_res (first a)) start opened (echo_other (first a)) h
+  request_keeps SetClientId a timeout is names = note_keeps K (notes.Named c (first a)) start refl opened (asked SetClientId is is_naming refl) h
+  request_keeps OptionReq a timeout is names = chooses OptionReq is (first a) refl
+  request_keeps AllYours a timeout is names = h
+
+  read_keeps : (kind : Kind) (o : Option Asked) → kind_of number ≡ Some kind → (o ≡ read_as kind bytes) → Held k I (request_if_read k c o start)
+  read_keeps kind None is read = refuses_keeps K c (codes "bad_arguments") start opened h
+  read_keeps kind (Some asked) is read = request_keeps asked.kind asked.arguments asked.timeout (is ∙ ap Some (sym (kind_read kind bytes asked (sym read))))
+      (λ n e. (asked, ap (λ o. read_kind o bytes) is ∙ ap (λ o. ok_or o BadArguments) (sym read), e))
+
+  pub packet_keeps : (o : Option Kind) → kind_of number ≡ o → Held k I (packet_of k c o bytes start)
+  packet_keeps None is = refuses_keeps K c (codes "unknown_command") start opened h
+  packet_keeps (Some kind) is =
+      read_keeps kind (read_as kind bytes) is refl
+
+-- a packet whose kind is one of these, by what its request does
+pub packet_of_kinds : (P : List Note → Type 0) (k : Settings) (c : ℕ) (kinds : Kind → Bool) (bytes : List ℕ) (start : Past) → P start.notes
+    → ((kind : Kind) (a : List (List ℕ)) (timeout : ℕ) → kinds kind ≡ true → P (request k c kind a timeout start).notes)
+    → (o : Option Kind) → is_one_of kinds o ≡ true → P (packet_of k c o bytes start).notes
+packet_of_kinds P k c kinds bytes start p more None e = absurd cc
+packet_of_kinds P k c kinds bytes start p more (Some kind) e =
+    read_of_kind (read_as kind bytes) refl
+  where
+    read_of_kind : (o : Option Asked) → o ≡ read_as kind bytes → P (request_if_read k c o start).notes
+    read_of_kind None is = p
+    read_of_kind (Some asked) is = more asked.kind asked.arguments asked.timeout (ap kinds (kind_read kind bytes asked (sym is)) ∙ e)
+
+-- ---- lines
+
+module _ {k : Settings} {before : List Note} {s : Step} {I : Past → Type 0} (K : Keeps k before s I) (c : ℕ) (may : is_line s ≡ true) where
+  says : (text : List ℕ) (past : Past) → is_open c past.notes ≡ true → Other text → Held k I past → Held k I (print c text past)
+  says text past opened other h = says_keeps K c text past opened (λ e. absurd (other e)) h
+
+  shut_one_keeps : (d : ℕ) (past : Past) → Held k I past → Held k I (shut_one d past)
+  shut_one_keeps d past h =
+      held_if K (is_open d past.notes && not (is_shut d past.notes)) (noted (notes.Shut d) past) past
+      (λ e. note_keeps K (notes.Shut d) past refl (and_parts (is_open d past.notes) (not (is_shut d past.notes)) e).0 (or_right (has_fault d s) (is_line s) may) h) (λ e. h)
+
+  shut_each_keeps : (slots : List ℕ) (past : Past) → Held k I past → Held k I (shut_each slots past)
+  shut_each_keeps [] past h = h
+  shut_each_keeps (d ∷ slots) past h = shut_each_keeps slots (shut_one d past) (shut_one_keeps d past h)
+
+  went_keeps : (m : Mode) (past : Past) → Held k I past → Held k I (went_graceful m past)
+  went_keeps modes.Running past h = note_keeps K (notes.Went modes.Graceful) past refl tt may h
+  went_keeps modes.Graceful past h = h
+  went_keeps modes.Stopped past h = h
+
+  went_open : (m : Mode) (past : Past) → is_open c past.notes ≡ true → is_open c (went_graceful m past).notes ≡ true
+  went_open modes.Running past opened = opened
+  went_open modes.Graceful past opened = opened
+  went_open modes.Stopped past opened = opened
+
+  shutdown_keeps : (graceful : Bool) (past : Past) → is_open c past.notes ≡ true → Held k I past → Held k I (shutdown k c graceful past)
+  shutdown_keeps true past opened h = says ok_text (went_graceful (mode past.notes) past) (went_open (mode past.notes) past opened) ok_other (went_keeps (mode past.notes) past h)
+  shutdown_keeps false past opened h =
+      shut_each_keeps (slots_from 0 k.slots) (print c ok_text (noted (notes.Went modes.Stopped) past))
+      (says ok_text (noted (notes.Went modes.Stopped) past) opened ok_other (note_keeps K (notes.Went modes.Stopped) past refl tt may h))
+
+  refuses_line : (error : AdminError) (past : Past) → is_open c past.notes ≡ true → Held k I past → Held k I (refuse_line c error past)
+  refuses_line error past opened h = says (error_text error) past opened (refusal_other error) h
+
+  maxqueue_keeps : (f : List ℕ) (size : ℕ) (past : Past) → is_open c past.notes ≡ true → Held k I past → Held k I (maxqueue k c f size past)
+  maxqueue_keeps f size past opened h =
+      held_if K (is_bad_word f) (refuse_line c errors.BadFunction past) _ (λ e. refuses_line errors.BadFunction past opened h)
+      (λ e. held_if K (is_one_too_many k f past.notes) (refuse_line c errors.TooManyFunctions past) _ (λ g. refuses_line errors.TooManyFunctions past opened h)
+      (λ g. says ok_text (noted (notes.Limit f size) (mentioned f past))
+      (kept_if (λ l. is_open c l ≡ true) (is_mentioned f past.notes) past (noted (notes.Mention f) past) opened opened) ok_other
+      (note_keeps K (notes.Limit f size) (mentioned f past) refl tt may
+      (mentions_keeps K f past (or_right (is_request is_submission s || is_request is_enabling s) (is_line s) may) h))))
+
+  pub command_keeps : (r : Result Commanded AdminFault) (past : Past) → is_open c past.notes ≡ true → Held k I past → Held k I (command k c r past)
+  command_keeps (Err fault) past opened h = refuses_line (fault_error fault) past opened h
+  command_keeps (Ok Status) past opened h = says (status_text (status_rows k past.notes)) past opened (list_other (status_rows k past.notes)) h
+  command_keeps (Ok Workers) past opened h = says (workers_text (worker_rows k past.notes)) past opened (rows_other (worker_rows k past.notes)) h
+  command_keeps (Ok (MaxQueue f size)) past opened h = maxqueue_keeps f size past opened h
+  command_keeps (Ok Version) past opened h = says version_text past opened version_other h
+  command_keeps (Ok (Shutdown graceful)) past opened h = shutdown_keeps graceful past opened h
+
+-- ---- closings and ticks
+
+unwanted : (t : Bool) → not t ≡ true → t ≡ false
+unwanted true e = absurd cc
+unwanted false e = refl
+
+module _ {k : Settings} {before : List Note} {c : ℕ} {I : Past → Type 0} (K : Keeps k before (Close c) I) where
+  discard_one_keeps : (n : ℕ) (past : Past) → Held k I past → Held k I (discard_one n past)
+  discard_one_keeps n past h =
+      held_if K (is_waiting (spot n past.notes) && not (is_wanted n past.notes)) (noted (notes.Discarded n) past) past
+      (λ e. let p = and_parts (is_waiting (spot n past.notes)) (not (is_wanted n past.notes)) e in
+      note_keeps K (notes.Discarded n) past refl (or_left (is_waiting (spot n past.notes)) (is_running (spot n past.notes)) p.0, unwanted (is_wanted n past.notes) p.1) refl h)
+      (λ e. h)
+
+  discard_each_keeps : (jobs : List ℕ) (past : Past) → Held k I past → Held k I (discard_each jobs past)
+  discard_each_keeps [] past h = h
+  discard_each_keeps (n ∷ jobs) past h = discard_each_keeps jobs (discard_one n past) (discard_one_keeps n past h)
+
+  wakes_for_keeps : (o : Option Job) (past : Past) → Held k I past → Held k I (wake_for k o past)
+  wakes_for_keeps None past h = h
+  wakes_for_keeps (Some job) past h = wake_keeps K job.function past (λ d older. or_right (is_request is_submission (Close c) || asks is_enabling d (Close c) || asks is_sleeping d (Close c)) (is_closing (Close c)) refl) h
+
+  give_back_one_keeps : (n : ℕ) (past : Past) → Held k I past → Held k I (give_back_one k c n past)
+  give_back_one_keeps n past h =
+      held_if K (is_running_at c (spot n past.notes)) _ past
+      (λ e. let running = runs_somewhere c (spot n past.notes) e in
+      held_if K (is_wanted n past.notes) (wake_for k (job n past.notes) (noted (notes.Returned n) past)) (noted (notes.Discarded n) past)
+      (λ w. wakes_for_keeps (job n past.notes) (noted (notes.Returned n) past) (note_keeps K (notes.Returned n) past refl (running, w) (c, refl, e) h))
+      (λ w. note_keeps K (notes.Discarded n) past refl (or_right (is_waiting (spot n past.notes)) (is_running (spot n past.notes)) running, w) refl h))
+      (λ e. h)
+
+  give_back_each_keeps : (jobs : List ℕ) (past : Past) → Held k I past → Held k I (give_back_each k c jobs past)
+  give_back_each_keeps [] past h = h
+  give_back_each_keeps (n ∷ jobs) past h = give_back_each_keeps jobs (give_back_one k c n past) (give_back_one_keeps n past h)
+
+  gone_keeps : (past : Past) → is_open c past.notes ≡ true → Held k I past → Held k I (gone c past)
+  gone_keeps past opened h =
+      let one = stir c past in
+      let opened_one = kept_if (λ l. is_open c l ≡ true) (is_asleep (phase c past.notes)) (noted (notes.Stirred c) past) past opened opened in
+      let held_one = stir_keeps K c past (or_right (asks is_grab c (Close c)) (closes c (Close c)) (same_number c)) h in
+      ((opened_one, held_one.0), K.by_closing c one opened_one refl held_one.0 held_one.1)
+
+  pub close_keeps : (past : Past) → is_open c past.notes ≡ true → Held k I past → Held k I (close k c past)
+  close_keeps past opened h =
+      give_back_each_keeps (rising past) (discard_each (rising past) (gone c past)) (discard_each_keeps (rising past) (gone c past) (gone_keeps past opened h))
+
+-- past is after start in a tick at now: the deadlines are the same
+record Ticked (start past : Past) (now : ℕ) : Type 0 where
+  deadlines : (n : ℕ) → deadline n past.notes ≡ deadline n start.notes
+  moment_is : moment past.notes ≡ max now (moment start.notes)
+
+module _ {k : Settings} {I : Past → Type 0} (start : Past) (now : ℕ) (K : Keeps k start.notes (Tick now) I) where
+  expire_one_keeps : (n : ℕ) (past : Past) → Ticked start past now → Held k I past → Held k I (expire_one k n past)
+  expire_one_keeps n past t h =
+      let told = tell_all (work_fail (handle k n)) (listeners n past.notes) past in
+      let same = tell_all_notes (work_fail (handle k n)) (listeners n past.notes) past in
+      held_if K (is_running (spot n past.notes) && is_reached (deadline n past.notes) (moment past.notes)) (noted (notes.Ended n) told) past
+      (λ e. let p = and_parts (is_running (spot n past.notes)) (is_reached (deadline n past.notes) (moment past.notes)) e in
+      note_keeps K (notes.Ended n) told refl (subst (λ l. is_running (spot n l) ≡ true) (sym same) p.0)
+      (subst (λ d. is_reached d (max now (moment start.notes)) ≡ true) (t.deadlines n) (subst (λ m. is_reached (deadline n past.notes) m ≡ true) t.moment_is p.1))
+      (tells_keeps K (work_fail (handle k n)) (listeners n past.notes) past (fail_other (handle k n)) (listeners_open k past.notes h.0 n) h))
+      (λ e. h)
+
+  expired_ticked : (n : ℕ) (past : Past) → Ticked start past now → Ticked start (expire_one k n past) now
+  expired_ticked n past t =
+      let told = tell_all (work_fail (handle k n)) (listeners n past.notes) past in
+      let same = tell_all_notes (work_fail (handle k n)) (listeners n past.notes) past in
+      let runs = is_running (spot n past.notes) && is_reached (deadline n past.notes) (moment past.notes) in
+      record {
+        deadlines = λ m. kept_if (λ l. deadline m l ≡ deadline m start.notes) runs (noted (notes.Ended n) told) past (ap (deadline m) same ∙ t.deadlines m) (t.deadlines m);
+        moment_is = kept_if (λ l. moment l ≡ max now (moment start.notes)) runs (noted (notes.Ended n) told) past (ap moment same ∙ t.moment_is) t.moment_is;
+      }
+
+  expire_each_keeps : (jobs : List ℕ) (past : Past) → Ticked start past now → Held k I past → Held k I (expire_each k jobs past)
+  expire_each_keeps [] past t h = h
+  expire_each_keeps (n ∷ jobs) past t h = expire_each_keeps jobs (expire_one k n past) (expired_ticked n past t) (expire_one_keeps n past t h)
+
+  pub tick_keeps : Held k I start → Held k I (tick k now start)
+  tick_keeps h =
+      expire_each_keeps (rising start) (noted (notes.Now (max now (moment start.notes))) start) (record { deadlines = λ n. refl; moment_is = refl })
+      (note_keeps K (notes.Now (max now (moment start.notes))) start refl (omega arith) refl h)
+
+-- ---- steps
+
+pub takes_open : (t : Bool) → unless_not_open t ≡ None → t ≡ true
+takes_open true e = refl
+takes_open false e = absurd cc
+
+pub units_open : (c : ℕ) (l : List Note) → unless_not_open (takes_units c l) ≡ None → is_open c l ≡ true
+units_open c l e = (and_parts (is_open c l) (not (is_shut c l)) (takes_open (takes_units c l) e)).0
+
+owed_is : (t u : Bool) → cond t (cond {A = Option ApplyError} u None (Some NotOwed)) (Some NotOpen) ≡ None → u ≡ true
+owed_is true true e = refl
+owed_is true false e = absurd cc
+owed_is false u e = absurd cc
+
+pub taken_or_not : (I : Past → Type 0) (o : Option ApplyError) (after before : Past) → (o ≡ None → I after) → I before → I (unless o after before)
+taken_or_not I None after before p h = p refl
+taken_or_not I (Some refused) after before p h = h
+
+module _ {k : Settings} {I : Past → Type 0} (start : Past) where
+  opening_keeps : (addr : List ℕ) → Keeps k start.notes (Open addr) I → (o : Option ℕ) → free_slot k start ≡ o → Held k I start → Held k I (opening o addr start)
+  opening_keeps addr K None is h = h
+  opening_keeps addr K (Some c) is h =
+      let f = free_is 0 k.slots start.notes c is in
+      let allowed : Allowed k (notes.Opened c addr) start.notes = (f.1, omega (arith, f.0)) in
+      ((allowed, h.0), K.by_opening c addr start allowed refl h.0 h.1)
+
+  -- what each small change keeps, a step that is taken keeps, if drains do
+  pub add_keeps : (s : Step) → Keeps k start.notes s I → ((c : ℕ) → s ≡ Drain c → History k start.notes → I start → I (flowed (Drained c) start)) → refusal k s start ≡ None → Held k I start → Held k I (add k s start)
+  add_keeps (Open addr) K drains taken h = opening_keeps addr K (free_slot k start) refl h
+  add_keeps (Packet c number bytes) K drains taken h = packet_keeps start c number bytes K (units_open c start.notes taken) h (kind_of number) refl
+  add_keeps (Line c bytes) K drains taken h = command_keeps K c refl (command_of bytes) start (units_open c start.notes taken) h
+  add_keeps (Fault c fault) K drains taken h =
+      let opened = units_open c start.notes taken in
+      note_keeps K (notes.Shut c) (print c (fault_text fault) start) refl opened (or_left (has_fault c (Fault c fault)) (is_line (Fault c fault)) (same_number c)) (says_keeps K c (fault_text fault) start opened (λ e. absurd (fault_other fault e)) h)
+  add_keeps (Close c) K drains taken h = close_keeps K start (takes_open (is_open c start.notes) taken) h
+  add_keeps (Tick now) K drains taken h = tick_keeps start now K h
+  add_keeps (Took c) K drains taken h = note_keeps K (notes.Took c) start refl (owed_is (is_open c start.notes) (is_owed (phase c start.notes)) taken) refl h
+  add_keeps (Withdrew c) K drains taken h = note_keeps K (notes.Withdrew c) start refl (owed_is (is_open c start.notes) (is_owed (phase c start.notes)) taken) refl h
+  add_keeps (Drain c) K drains taken h = (h.0, drains c refl h.0 h.1)
+
+  pub step_keeps : (s : Step) → Keeps k start.notes s I → ((c : ℕ) → s ≡ Drain c → History k start.notes → I start → I (flowed (Drained c) start)) → Held k I start → Held k I (step k s start)
+  step_keeps s K drains h = taken_or_not (Held k I) (refusal k s start) (add k s start) start (λ taken. add_keeps s K drains taken h) h
+
+-- every note of every run was allowed
+pub run_history : (k : Settings) (steps : List Step) → History k (run k steps).notes
+run_history k [] = tt
+run_history k (s ∷ steps) =
+    (step_keeps {k = k} {I = λ past. Unit {0}} (run k steps) s
+    (record { by_note = λ note past i a w h u. tt; by_opening = λ c addr past a w h u. tt; by_closing = λ c past o w h u. tt; by_saying = λ c bytes past o m h u. tt })
+    (λ c e h u. tt) (run_history k steps, tt)).0

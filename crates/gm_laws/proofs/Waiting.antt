@@ -1,0 +1,117 @@
+-- A job that waits is among those that a grab would look at.
+use Rattle.std.proofs.Common.{◌≡◌, ◌⊎◌, inl, inr, ℕ, Bool, true, false, cond, not, ◌||◌, List, [], ◌∷◌, ◌++◌, filter, Option, Some, None, refl, sym, ap, subst, ◌∙◌}
+use Rattle.std.specs.Prelude.{◌==◌}
+use Rattle.std.specs.List.{list_any}
+use Rattle.std.specs.Str.{bytes_eq}
+use Rattle.std.proofs.lemmas.Bool.{and_from}
+use Rattle.std.proofs.lemmas.Slice.Eq.{bytes_eq-Decides}
+use Rattle.gm_notes.specs.declared.note.Note.{Note}
+use Rattle.gm_notes.specs.declared.note.Note.TheVariants as notes
+use Rattle.gm_notes.specs.declared.states.Priority.{Priority}
+use Rattle.gm_notes.specs.declared.states.Priority.TheVariants.{High, Normal, Low}
+use Rattle.gm_notes.specs.Jobs.{Waits, RunsAt, Over, Thrown, Job, Ability, Pick, spot, job, is_waiting, is_job_with, is_queued, same_priority, as_they_came, queue, waiting_for, is_empty, first_of, pick_from, pick, abilities, is_of, is_able}
+use Rattle.gm_laws.proofs.Moving.{moved, from, In}
+
+in_last : (n : ℕ) (ms : List ℕ) → In n (ms ++ n ∷ [])
+in_last n [] = inl refl
+in_last n (m ∷ ms) = inr (in_last n ms)
+
+in_front : (n m : ℕ) (ms : List ℕ) → In n ms → In n (ms ++ m ∷ [])
+in_front n m [] i = absurd i
+in_front n m (x ∷ ms) (inl e) = inl e
+in_front n m (x ∷ ms) (inr i) = inr (in_front n m ms i)
+
+kept_at : (n x m : ℕ) (rest : List ℕ) (t : Bool) → not (x == m) ≡ t → (n == m) ≡ false → (n ≡ x) ⊎ In n rest → In n (cond t (x ∷ rest) rest)
+kept_at n x m rest true is other i = i
+kept_at n x m rest false is other (inr i) = i
+kept_at n x m rest false is other (inl e) =
+    let there : (x == m) ≡ false = subst (λ y. (y == m) ≡ false) e other in
+    let bad : true ≡ false = sym (ap not there) ∙ is in let worse : ⊥ = cc in absurd worse
+
+-- the others stay where one is taken out
+in_others : (n m : ℕ) (ms : List ℕ) → (n == m) ≡ false → In n ms → In n (filter (λ x. not (x == m)) ms)
+in_others n m [] other i = absurd i
+in_others n m (x ∷ ms) other (inl e) = kept_at n x m _ (not (x == m)) refl other (inl e)
+in_others n m (x ∷ ms) other (inr i) = kept_at n x m _ (not (x == m)) refl other (inr (in_others n m ms other i))
+
+-- who waits came
+pub waits_came : (n : ℕ) (l : List Note) → spot n l ≡ Waits → In n (as_they_came l)
+waits_came n [] e = absurd cc
+waits_came n (notes.Made m f p u body ∷ older) e =
+    from (moved n m Waits (spot n older) Waits (n == m) refl e) (λ h. subst (λ x. In n (as_they_came older ++ x ∷ [])) h.0 (in_last n (as_they_came older)))
+    (λ h. in_front n m (as_they_came older) (waits_came n older h.1))
+waits_came n (notes.Returned m ∷ older) e =
+    from (moved n m Waits (spot n older) Waits (n == m) refl e)
+    (λ h. subst (λ x. In n (filter (λ y. not (y == m)) (as_they_came older) ++ x ∷ [])) h.0 (in_last n (filter (λ y. not (y == m)) (as_they_came older))))
+    (λ h. in_front n m (filter (λ y. not (y == m)) (as_they_came older)) (in_others n m (as_they_came older) h.0 (waits_came n older h.1)))
+waits_came n (notes.Assigned m c late ∷ older) e = from (moved n m (RunsAt c) (spot n older) Waits (n == m) refl e) (λ h. absurd (let x = h.1 in cc)) (λ h. waits_came n older h.1)
+waits_came n (notes.Ended m ∷ older) e = from (moved n m Over (spot n older) Waits (n == m) refl e) (λ h. absurd (let x = h.1 in cc)) (λ h. waits_came n older h.1)
+waits_came n (notes.Discarded m ∷ older) e = from (moved n m Thrown (spot n older) Waits (n == m) refl e) (λ h. absurd (let x = h.1 in cc)) (λ h. waits_came n older h.1)
+waits_came n (note ∷ older) e = waits_came n older e
+
+found_at : (test : ℕ → Bool) (n x : ℕ) (rest : List ℕ) (t : Bool) → test x ≡ t → test n ≡ true → (n ≡ x) ⊎ (is_empty rest ≡ false) → is_empty (cond t (x ∷ rest) rest) ≡ false
+found_at test n x rest true is e i = refl
+found_at test n x rest false is e (inr i) = i
+found_at test n x rest false is e (inl same) = let bad : true ≡ false = sym e ∙ (ap test same ∙ is) in let worse : ⊥ = cc in absurd worse
+
+-- where one that passes is in the list, the test leaves some
+some_left : (test : ℕ → Bool) (n : ℕ) (ms : List ℕ) → In n ms → test n ≡ true → is_empty (filter test ms) ≡ false
+some_left test n [] i e = absurd i
+some_left test n (x ∷ ms) (inl same) e = found_at test n x _ (test x) refl e (inl same)
+some_left test n (x ∷ ms) (inr i) e = found_at test n x _ (test x) refl e (inr (some_left test n ms i e))
+
+empty_first : (a b : List ℕ) → is_empty a ≡ false → is_empty (a ++ b) ≡ false
+empty_first [] b e = absurd cc
+empty_first (x ∷ a) b e = refl
+
+empty_second : (a b : List ℕ) → is_empty b ≡ false → is_empty (a ++ b) ≡ false
+empty_second [] b e = e
+empty_second (x ∷ a) b e = refl
+
+in_queue : (p q : Priority) (f : List ℕ) (l : List Note) → is_empty (queue f p l) ≡ false → p ≡ q → is_empty (queue f q l) ≡ false
+in_queue p q f l e same = subst (λ x. is_empty (queue f x l) ≡ false) same e
+
+by_priority : (p : Priority) (f : List ℕ) (l : List Note) → is_empty (queue f p l) ≡ false → is_empty (waiting_for f l) ≡ false
+by_priority High f l e = empty_first (queue f High l ++ queue f Normal l) (queue f Low l) (empty_first (queue f High l) (queue f Normal l) e)
+by_priority Normal f l e = empty_first (queue f High l ++ queue f Normal l) (queue f Low l) (empty_second (queue f High l) (queue f Normal l) e)
+by_priority Low f l e = empty_second (queue f High l ++ queue f Normal l) (queue f Low l) e
+
+priority_same : (p : Priority) → same_priority p p ≡ true
+priority_same High = refl
+priority_same Normal = refl
+priority_same Low = refl
+
+is_queued_here : (n : ℕ) (l : List Note) (what : Job) → spot n l ≡ Waits → job n l ≡ Some what → is_queued what.function what.priority l n ≡ true
+is_queued_here n l what waits is =
+    and_from (is_waiting (spot n l)) (is_job_with what.function what.priority (job n l)) (ap is_waiting waits)
+    (ap (is_job_with what.function what.priority) is
+    ∙ and_from (bytes_eq what.function what.function) (same_priority what.priority what.priority) ((bytes_eq-Decides what.function what.function).1 refl) (priority_same what.priority))
+
+-- for the function of a job that waits, something waits
+pub something_waits : (n : ℕ) (l : List Note) (what : Job) → spot n l ≡ Waits → job n l ≡ Some what → is_empty (waiting_for what.function l) ≡ false
+something_waits n l what waits is =
+    by_priority what.priority what.function l (some_left (is_queued what.function what.priority l) n (as_they_came l) (waits_came n l waits) (is_queued_here n l what waits is))
+
+none_first : (ns : List ℕ) (timeout : ℕ) (rest : Option Pick) → first_of ns timeout rest ≡ None → (is_empty ns ≡ true) × (rest ≡ None)
+none_first [] timeout rest e = (refl, e)
+none_first (n ∷ ns) timeout rest e = absurd cc
+
+none_for : (f : List ℕ) (ability : Ability) (rest : List Ability) (l : List Note) (t : Bool) → is_of f ability ≡ t → is_empty (waiting_for ability.function l) ≡ true → (list_any (is_of f) rest ≡ true → is_empty (waiting_for f l) ≡ true) → (t || list_any (is_of f) rest) ≡ true → is_empty (waiting_for f l) ≡ true
+none_for f ability rest l true is none more e = subst (λ g. is_empty (waiting_for g l) ≡ true) ((bytes_eq-Decides ability.function f).0 is) none
+none_for f ability rest l false is none more e = more e
+
+-- where there is no pick, nothing waits for a function that can be done
+no_pick_from : (abilities : List Ability) (l : List Note) (f : List ℕ) → pick_from abilities l ≡ None → list_any (is_of f) abilities ≡ true → is_empty (waiting_for f l) ≡ true
+no_pick_from [] l f none e = absurd cc
+no_pick_from (ability ∷ abilities) l f none e =
+    let parts = none_first (waiting_for ability.function l) ability.timeout (pick_from abilities l) none in
+    none_for f ability abilities l (is_of f ability) refl parts.0 (no_pick_from abilities l f parts.1) e
+
+is_false : (t : Bool) → (t ≡ true → ⊥) → t ≡ false
+is_false true no_way = absurd (no_way refl)
+is_false false no_way = refl
+
+pub no_pick : (c n : ℕ) (l : List Note) (what : Job) → pick c l ≡ None → spot n l ≡ Waits → job n l ≡ Some what → is_able c what.function l ≡ false
+no_pick c n l what none waits is =
+    is_false (is_able c what.function l)
+    (λ able. let bad : true ≡ false = sym (no_pick_from (abilities c l) l what.function none able) ∙ something_waits n l what waits is in let worse : ⊥ = cc in worse)

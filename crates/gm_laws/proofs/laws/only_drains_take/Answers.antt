@@ -1,0 +1,7 @@
+use Rattle.gm_notes.specs.Steps.{run}
+use Rattle.gm_laws.proofs.StepsKeep.{run_history}
+use Rattle.gm_laws.proofs.ByteLaws.{run_sent, only_drains}
+use Rattle.gm_laws.proofs.laws.only_drains_take.Goals as goal
+
+pub returns : goal.returns
+returns c k steps s = only_drains k s (run k steps) (run_history k steps) (run_sent k steps)

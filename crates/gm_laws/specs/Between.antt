@@ -1,0 +1,27 @@
+-- What holds of the notes between steps.
+use Rattle.std.specs.Prelude.{◌≡◌, ℕ, true, false, List, [], ◌∷◌, Some}
+use Rattle.gm_notes.specs.declared.note.Note.{Note}
+use Rattle.gm_notes.specs.Settings.{Settings}
+use Rattle.gm_notes.specs.Notes.{is_open, phase, is_asleep}
+use Rattle.gm_notes.specs.Jobs.{Job, Waits, RunsAt, spot, job, is_able, is_wanted, listeners}
+
+abbrev pub AllOpen : List ℕ → List Note → Type 0
+AllOpen [] notes = Unit {0}
+AllOpen (c ∷ slots) notes = (is_open c notes ≡ true) × AllOpen slots notes
+
+-- who listens to a job is open
+abbrev pub ListenersAreOpen : Settings → List Note → Type 0
+ListenersAreOpen k notes = (n : ℕ) → AllOpen (listeners n notes) notes
+
+-- the slot where a job runs is open
+abbrev pub RunnersAreOpen : Settings → List Note → Type 0
+RunnersAreOpen k notes = (n c : ℕ) → spot n notes ≡ RunsAt c → is_open c notes ≡ true
+
+-- each waiting job is wanted: a background submission keeps it, or somebody listens to it
+abbrev pub NoWaitingJobIsOrphaned : Settings → List Note → Type 0
+NoWaitingJobIsOrphaned k notes = (n : ℕ) → spot n notes ≡ Waits → is_wanted n notes ≡ true
+
+-- who sleeps can do none of the jobs that wait
+abbrev pub NoOneSleepsBesideWork : Settings → List Note → Type 0
+NoOneSleepsBesideWork k notes = (c n : ℕ) (what : Job) →
+    is_asleep (phase c notes) ≡ true → spot n notes ≡ Waits → job n notes ≡ Some what → is_able c what.function notes ≡ false

@@ -1,7 +1,0 @@
-use Rattle.std.proofs.Common.{arith}
-use Rattle.std.proofs.lemmas.Grind.{common_steps}
-use Rattle.gm_notes.proofs.AbilityLemmas.{abilities_next}
-use Rattle.gm_notes.proofs.abilities.abilities.Goals as goal
-
-pub loop-note-preserved : goal.loop-note-preserved
-loop-note-preserved c = grind (arith, common_steps, abilities_next)

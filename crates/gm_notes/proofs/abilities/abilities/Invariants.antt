@@ -1,7 +1,0 @@
-use Rattle.std.proofs.Common.{◌≡◌, take, reverse, map}
-use Rattle.gm_notes.specs.Jobs.{abilities}
-use Rattle.gm_notes.specs.plain.Searches.{ability_of}
-use Rattle.gm_notes.proofs.abilities.abilities.Given as goal
-
-abbrev pub invariant-loop-note : goal.invariant-loop-note
-invariant-loop-note l = map ability_of l.abilities.items ≡ abilities l.slot (reverse (take l.note-index l.notes))

@@ -1,7 +1,0 @@
-use Rattle.std.proofs.Common.{◌≡◌, drop, map}
-use Rattle.gm_notes.specs.Jobs.{pick_from}
-use Rattle.gm_notes.specs.plain.Searches.{ability_of}
-use Rattle.gm_notes.proofs.abilities.pick_from.Given as goal
-
-abbrev pub invariant-loop-ability : goal.invariant-loop-ability
-invariant-loop-ability l = pick_from (map ability_of l.abilities) l.log.notes ≡ pick_from (map ability_of (drop l.ability-index l.abilities)) l.log.notes

@@ -1,0 +1,14 @@
+pub mod AbilityLemmas
+pub mod Closings
+pub mod Dues
+pub mod LaneLemmas
+pub mod HandleTexts
+pub mod Listening
+pub mod LogLemmas
+pub mod MadeJobs
+pub mod NoteLemmas
+pub mod Picks
+pub mod PlainLemmas
+pub mod PlainLoops
+pub mod ServingLemmas
+pub mod Wakings

@@ -1,0 +1,7 @@
+use Rattle.std.proofs.Common.{arith}
+use Rattle.std.proofs.lemmas.Grind.{common_steps}
+use Rattle.gm_plain.proofs.AbilityLemmas.{abilities_next}
+use Rattle.gm_plain.proofs.abilities.abilities.Goals as goal
+
+pub loop-note-preserved : goal.loop-note-preserved
+loop-note-preserved c = grind (arith, common_steps, abilities_next)

@@ -1,0 +1,245 @@
+//! What notes say of abilities and queues, found by searching them.
+
+ghost use Rattle.std.specs.Prelude.{◌≡◌, ◌<◌, true, map, not, ◌&&◌, [], ◌∷◌, ◌++◌, length, slice_set, find, IfOk, OnOk, IfSome, IfNone};
+ghost use Rattle.std.specs.Option.{option_map};
+ghost use Rattle.gm_notes.specs.Jobs.{spot, job, is_waiting, put, abilities, is_able, as_they_came, is_queued, waiting_for, is_empty, pick, pick_from};
+ghost use Rattle.gm_notes.specs.Notes.{is_open, phase, is_asleep};
+ghost use Rattle.gm_plain.specs.Searches.{says_able, ability_of, pick_of, changed, came, head, wakes_for};
+
+use crate::jobs::{is_job_with, is_waiting, job};
+use crate::log::Log;
+use crate::questions::{is_asleep, is_open};
+use gm_notes::{Note, Priority};
+use std::alloc::{AllocError, Global};
+
+fn says_able(note: &Note, slot: u32, function: &[u8]) -> Option<bool>
+    ensures { result ≡ says_able slot function.now note.now }
+{
+    match note {
+        Note::Opened { slot: c, .. } if *c == slot => Some(false),
+        Note::Closed { slot: c } if *c == slot => Some(false),
+        Note::Reset { slot: c } if *c == slot => Some(false),
+        Note::Can {
+            slot: c,
+            function: f,
+            ..
+        } if *c == slot && f.as_slice() == function => Some(true),
+        Note::Cant {
+            slot: c,
+            function: f,
+        } if *c == slot && f.as_slice() == function => Some(false),
+        _ => None,
+    }
+}
+
+/// Whether the worker in a slot can do a function.
+pub fn is_able(log: &Log, slot: u32, function: &[u8]) -> bool
+    ensures { result ≡ is_able slot function.now log.now.notes }
+{
+    let notes = log.notes();
+    let mut able = false;
+    for note in notes {
+        able = says_able(note, slot, function).unwrap_or(able);
+    }
+    able
+}
+
+/// Whether the worker in a slot is woken by a job: it sleeps, and can do its function.
+pub fn is_to_wake(log: &Log, slot: u32, number: u64) -> bool
+    ensures { result ≡ wakes_for slot (job number log.now.notes) log.now.notes }
+{
+    match job(log, number) {
+        Some(found) => {
+            is_open(log, slot) && is_asleep(log, slot) && is_able(log, slot, found.function)
+        }
+        None => false,
+    }
+}
+
+/// A function that a worker can do, and how many seconds a job of it may take; 0 is no limit.
+#[derive(Clone, Copy, Debug)]
+pub struct Ability<'a> {
+    pub function: &'a [u8],
+    pub timeout: u32,
+}
+
+/// Where an ability for the same function stands.
+fn position(abilities: &[Ability<'_>], ability: &Ability<'_>) -> Option<usize>
+    ensures some { IfSome result (λ i. (i < length abilities.now)
+        × (put ability.now.function.now ability.now.timeout (map ability_of abilities.now)
+        ≡ slice_set (map ability_of abilities.now) i (ability_of ability.now))) }
+    ensures none { IfNone result (put ability.now.function.now ability.now.timeout (map ability_of abilities.now)
+        ≡ map ability_of abilities.now ++ ability_of ability.now ∷ []) }
+{
+    for i in 0..abilities.len() {
+        if abilities[i].function == ability.function {
+            return Some(i);
+        }
+    }
+    None
+}
+
+/// An ability that stands keeps its place and takes the new timeout; another goes to the end.
+fn put<'a>(abilities: &mut Vec<Ability<'a>>, ability: Ability<'a>) -> Result<(), AllocError>
+    ensures { OnOk result (map ability_of abilities.new.items
+        ≡ put ability.entry.function.now ability.entry.timeout (map ability_of abilities.old.items)) }
+{
+    match position(abilities, &ability) {
+        Some(i) => abilities[i] = ability,
+        None => abilities.push(ability)?,
+    }
+    Ok(())
+}
+
+/// What a note changes of the abilities of a slot.
+fn change<'a>(abilities: &mut Vec<Ability<'a>>, note: &'a Note, slot: u32) -> Result<(), AllocError>
+    ensures { OnOk result (map ability_of abilities.new.items ≡ changed slot note.now (map ability_of abilities.old.items)) }
+{
+    match note {
+        Note::Opened { slot: c, .. } if *c == slot => abilities.clear(),
+        Note::Closed { slot: c } if *c == slot => abilities.clear(),
+        Note::Reset { slot: c } if *c == slot => abilities.clear(),
+        Note::Can {
+            slot: c,
+            function,
+            timeout,
+        } if *c == slot => put(
+            abilities,
+            Ability {
+                function: function.as_slice(),
+                timeout: *timeout,
+            },
+        )?,
+        Note::Cant { slot: c, function } if *c == slot => abilities.retain(
+            |ability| ability.function != function.as_slice(),
+        ),
+        _ => {}
+    }
+    Ok(())
+}
+
+/// What the worker in a slot can do, in the order added.
+fn abilities(alloc: Global, log: &Log, slot: u32) -> Result<Vec<Ability<'_>>, AllocError>
+    ensures { IfOk result (λ found. map ability_of found.items ≡ abilities slot log.now.notes) }
+{
+    let notes = log.notes();
+    let mut abilities = Vec::new(alloc);
+    for note in notes {
+        change(&mut abilities, note, slot)?;
+    }
+    Ok(abilities)
+}
+
+/// What a note changes of the order in which jobs came to wait.
+fn come(jobs: &mut Vec<u64>, note: &Note) -> Result<(), AllocError>
+    ensures { OnOk result (jobs.new.items ≡ came note.now jobs.old.items) }
+{
+    match note {
+        Note::Made { job, .. } => jobs.push(*job)?,
+        Note::Returned { job } => {
+            jobs.retain(|other| *other != *job);
+            jobs.push(*job)?;
+        }
+        _ => {}
+    }
+    Ok(())
+}
+
+/// The jobs in the order in which they last came to wait.
+fn as_they_came(alloc: Global, log: &Log) -> Result<Vec<u64>, AllocError>
+    ensures { IfOk result (λ jobs. jobs.items ≡ as_they_came log.now.notes) }
+{
+    let notes = log.notes();
+    let mut jobs = Vec::new(alloc);
+    for note in notes {
+        come(&mut jobs, note)?;
+    }
+    Ok(jobs)
+}
+
+/// Whether a job waits, and is of this function and priority.
+fn is_queued(log: &Log, job: u64, function: &[u8], priority: Priority) -> bool
+    ensures { result ≡ is_queued function.now priority log.now.notes job }
+{
+    is_waiting(log, job) && is_job_with(log, job, function, priority)
+}
+
+/// The first of these jobs that waits for a function with a priority.
+fn first_in(log: &Log, jobs: &[u64], function: &[u8], priority: Priority) -> Option<u64>
+    ensures { result ≡ find (is_queued function.now priority log.now.notes) jobs.now }
+{
+    for job in jobs {
+        if is_queued(log, *job, function, priority) {
+            return Some(*job);
+        }
+    }
+    None
+}
+
+/// The first job that is given out for a function, of jobs in the order in which they came to wait.
+fn first_for(log: &Log, jobs: &[u64], function: &[u8]) -> Option<u64>
+    requires { jobs.now ≡ as_they_came log.now.notes }
+    ensures { result ≡ head (waiting_for function.now log.now.notes) }
+{
+    if let Some(job) = first_in(log, jobs, function, Priority::High) {
+        return Some(job);
+    }
+    if let Some(job) = first_in(log, jobs, function, Priority::Normal) {
+        return Some(job);
+    }
+    first_in(log, jobs, function, Priority::Low)
+}
+
+/// Whether a job waits for a function.
+fn anything_waits(alloc: Global, log: &Log, function: &[u8]) -> Result<bool, AllocError>
+    ensures { IfOk result (λ waits. waits ≡ not (is_empty (waiting_for function.now log.now.notes))) }
+{
+    let jobs = as_they_came(alloc, log)?;
+    Ok(first_for(log, &jobs, function).is_some())
+}
+
+/// Whether a worker that comes to be able to do a function is woken at once: it sleeps, and a job waits.
+pub fn wakes_at_once(
+    alloc: Global,
+    log: &Log,
+    slot: u32,
+    function: &[u8],
+) -> Result<bool, AllocError>
+    ensures { IfOk result (λ wakes. wakes ≡ (is_asleep (phase slot log.now.notes) && not (is_empty (waiting_for function.now log.now.notes)))) }
+{
+    let waits = anything_waits(alloc, log, function)?;
+    Ok(is_asleep(log, slot) && waits)
+}
+
+/// A job to be given out, and the seconds that it may take; 0 is no limit.
+#[derive(Clone, Copy, Debug)]
+pub struct Choice {
+    pub job: u64,
+    pub timeout: u32,
+}
+
+/// The first of these jobs, in the order in which they came to wait, that one of the abilities is for.
+fn pick_from(log: &Log, jobs: &[u64], abilities: &[Ability<'_>]) -> Option<Choice>
+    requires { jobs.now ≡ as_they_came log.now.notes }
+    ensures { option_map pick_of result ≡ pick_from (map ability_of abilities.now) log.now.notes }
+{
+    for ability in abilities {
+        if let Some(job) = first_for(log, jobs, ability.function) {
+            return Some(Choice {
+                job,
+                timeout: ability.timeout,
+            });
+        }
+    }
+    None
+}
+
+/// The job that a grab of a slot gets.
+pub fn pick(alloc: Global, log: &Log, slot: u32) -> Result<Option<Choice>, AllocError>
+    ensures value { IfOk result (λ found. option_map pick_of found ≡ pick slot log.now.notes) }
+    ensures waits { IfOk result (λ found. IfSome found (λ choice. is_waiting (spot choice.job log.now.notes) ≡ true)) }
+{
+    let abilities = abilities(alloc, log, slot)?;
+    let jobs = as_they_came(alloc, log)?;
+    Ok(pick_from(log, &jobs, &abilities))
+}

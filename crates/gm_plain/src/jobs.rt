@@ -1,0 +1,494 @@
+//! What notes say of jobs and functions, found by searching them.
+
+ghost use Rattle.std.specs.Prelude.{◌≡◌, ℕ, ◌<◌, ◌==◌, length, Some, ◌&&◌, not, reverse, slice_get, IfSome, IfOk, OnOk};
+ghost use Rattle.std.specs.Option.{option_map};
+ghost use Rattle.std.specs.List.{All};
+ghost use Rattle.gm_notes.specs.Jobs.{says_spot, spot, is_live, is_waiting, is_running, is_running_at, says_job, job, says_kept, is_kept, listeners, is_wanted, says_report, report, is_job_of, is_job_with, is_job_named, made, functions, is_mentioned, says_limit, limit, joins, is_live_named, joined, next_number, is_live_of, total};
+ghost use Rattle.gm_plain.specs.Logs.{IsCarried, AreNumbers};
+ghost use Rattle.gm_notes.specs.Steps.{newest};
+ghost use Rattle.gm_notes.specs.Submissions.{is_bad_name, is_one_too_many, is_full};
+ghost use Rattle.gm_notes.specs.Servers.{place_of};
+ghost use Rattle.gm_plain.specs.Searches.{said_place, mentions, job_of, heard, says_listening, is_listening, report_of};
+
+use crate::log::Log;
+use gm_notes::{Config, Note, Place, Priority};
+use std::alloc::{AllocError, Global};
+
+fn says_place(note: &Note, job: u64) -> Option<Place>
+    ensures { result ≡ said_place (says_spot job note.now) }
+{
+    match note {
+        Note::Made { job: n, .. } if *n == job => Some(Place::Waiting),
+        Note::Returned { job: n } if *n == job => Some(Place::Waiting),
+        Note::Assigned { job: n, slot, .. } if *n == job => Some(Place::Running(*slot)),
+        Note::Ended { job: n } if *n == job => Some(Place::Gone),
+        Note::Discarded { job: n } if *n == job => Some(Place::Gone),
+        _ => None,
+    }
+}
+
+/// Where a job is.
+pub fn place(log: &Log, job: u64) -> Place
+    ensures { result ≡ place_of (spot job log.now.notes) }
+{
+    let notes = log.notes();
+    let mut place = Place::Unmade;
+    for note in notes {
+        if let Some(answer) = says_place(note, job) {
+            place = answer;
+        }
+    }
+    place
+}
+
+/// Whether a job waits or runs.
+pub fn is_live(log: &Log, job: u64) -> bool
+    ensures { result ≡ is_live (spot job log.now.notes) }
+{
+    match place(log, job) {
+        Place::Waiting => true,
+        Place::Running(_) => true,
+        Place::Unmade => false,
+        Place::Gone => false,
+    }
+}
+
+/// Whether a job waits.
+pub fn is_waiting(log: &Log, job: u64) -> bool
+    ensures { result ≡ is_waiting (spot job log.now.notes) }
+{
+    match place(log, job) {
+        Place::Waiting => true,
+        Place::Running(_) => false,
+        Place::Unmade => false,
+        Place::Gone => false,
+    }
+}
+
+/// Whether a job runs at a slot.
+pub fn is_running_at(log: &Log, job: u64, slot: u32) -> bool
+    ensures { result ≡ is_running_at slot (spot job log.now.notes) }
+{
+    match place(log, job) {
+        Place::Running(at) => slot == at,
+        Place::Waiting => false,
+        Place::Unmade => false,
+        Place::Gone => false,
+    }
+}
+
+/// Whether a job runs.
+pub fn is_running(log: &Log, job: u64) -> bool
+    ensures { result ≡ is_running (spot job log.now.notes) }
+{
+    match place(log, job) {
+        Place::Running(_) => true,
+        Place::Waiting => false,
+        Place::Unmade => false,
+        Place::Gone => false,
+    }
+}
+
+/// What a submission made.
+#[derive(Clone, Copy, Debug)]
+pub struct Submitted<'a> {
+    pub function: &'a [u8],
+    pub priority: Priority,
+    pub unique: &'a [u8],
+    pub body: &'a [u8],
+}
+
+fn says_job(note: &Note, job: u64) -> Option<Submitted<'_>>
+    ensures { option_map (λ found. Some (job_of found)) result ≡ says_job job note.now }
+{
+    match note {
+        Note::Made {
+            job: n,
+            function,
+            priority,
+            unique,
+            body,
+        } if *n == job => Some(Submitted {
+            function: function.as_slice(),
+            priority: *priority,
+            unique: unique.as_slice(),
+            body: body.as_slice(),
+        }),
+        _ => None,
+    }
+}
+
+/// What the job is.
+pub fn job(log: &Log, number: u64) -> Option<Submitted<'_>>
+    ensures value { option_map job_of result ≡ job number log.now.notes }
+    ensures carried { IfSome result (λ found. IsCarried found.function.now found.unique.now found.body.now) }
+{
+    let notes = log.notes();
+    let mut found = None;
+    for note in notes {
+        if let Some(answer) = says_job(note, number) {
+            found = Some(answer);
+        }
+    }
+    found
+}
+
+/// What a note changes of who hears of a job.
+fn hear(slots: &mut Vec<u32>, note: &Note, job: u64) -> Result<(), AllocError>
+    ensures { OnOk result (slots.new.items ≡ heard job note.now slots.old.items) }
+{
+    match note {
+        Note::Made { job: n, .. } if *n == job => slots.clear(),
+        Note::Listens { job: n, slot } if *n == job => slots.push(*slot)?,
+        Note::Closed { slot } => slots.retain(|other| *other != *slot),
+        _ => {}
+    }
+    Ok(())
+}
+
+/// Who hears of a job, in the order in which they came to listen, once for each time.
+pub fn listeners(alloc: Global, log: &Log, job: u64) -> Result<Vec<u32>, AllocError>
+    ensures value { IfOk result (λ slots. slots.items ≡ listeners job log.now.notes) }
+    ensures below { IfOk result (λ slots. All (λ c. c < log.now.slots) slots.items) }
+{
+    let notes = log.notes();
+    let mut slots = Vec::new(alloc);
+    for note in notes {
+        hear(&mut slots, note, job)?;
+    }
+    Ok(slots)
+}
+
+fn says_listening(note: &Note, job: u64, slot: u32) -> Option<bool>
+    ensures { result ≡ says_listening job slot note.now }
+{
+    match note {
+        Note::Made { job: n, .. } if *n == job => Some(false),
+        Note::Listens { job: n, slot: c } if *n == job && *c == slot => Some(true),
+        Note::Closed { slot: c } if *c == slot => Some(false),
+        _ => None,
+    }
+}
+
+/// Whether the connection in a slot hears of a job.
+fn is_listening(log: &Log, job: u64, slot: u32) -> bool
+    ensures { result ≡ is_listening job slot log.now.notes }
+{
+    let notes = log.notes();
+    let mut listens = false;
+    for note in notes {
+        listens = says_listening(note, job, slot).unwrap_or(listens);
+    }
+    listens
+}
+
+/// Whether anybody hears of a job.
+fn is_heard(log: &Log, job: u64) -> bool
+    ensures { result ≡ not (length (listeners job log.now.notes) == 0) }
+{
+    for slot in 0..log.slots() {
+        if is_listening(log, job, slot) {
+            return true;
+        }
+    }
+    false
+}
+
+fn says_kept(note: &Note, job: u64) -> Option<bool>
+    ensures { result ≡ says_kept job note.now }
+{
+    match note {
+        Note::Made { job: n, .. } if *n == job => Some(false),
+        Note::Kept { job: n } if *n == job => Some(true),
+        _ => None,
+    }
+}
+
+/// Whether a background submission made or joined a job.
+fn is_kept(log: &Log, job: u64) -> bool
+    ensures { result ≡ is_kept job log.now.notes }
+{
+    let notes = log.notes();
+    let mut kept = false;
+    for note in notes {
+        kept = says_kept(note, job).unwrap_or(kept);
+    }
+    kept
+}
+
+/// Whether somebody wants a job.
+pub fn is_wanted(log: &Log, job: u64) -> bool
+    ensures { result ≡ is_wanted job log.now.notes }
+{
+    is_kept(log, job) || is_heard(log, job)
+}
+
+/// How far a job is.
+#[derive(Clone, Copy, Debug)]
+pub struct Report<'a> {
+    pub numerator: &'a [u8],
+    pub denominator: &'a [u8],
+}
+
+fn says_report(note: &Note, job: u64) -> Option<Report<'_>>
+    ensures { option_map report_of result ≡ says_report job note.now }
+{
+    match note {
+        Note::Made { job: n, .. } if *n == job => Some(Report {
+            numerator: b"0",
+            denominator: b"0",
+        }),
+        Note::Report {
+            job: n,
+            numerator,
+            denominator,
+        } if *n == job => Some(Report {
+            numerator: numerator.as_slice(),
+            denominator: denominator.as_slice(),
+        }),
+        _ => None,
+    }
+}
+
+/// How far a job is, as its worker said last; `0` and `0` at first.
+pub fn last_report(log: &Log, job: u64) -> Report<'_>
+    ensures value { report_of result ≡ report job log.now.notes }
+    ensures carried { AreNumbers result.numerator.now result.denominator.now }
+{
+    let notes = log.notes();
+    let mut last = Report {
+        numerator: b"0",
+        denominator: b"0",
+    };
+    for note in notes {
+        if let Some(answer) = says_report(note, job) {
+            last = answer;
+        }
+    }
+    last
+}
+
+/// Whether a job is of this function.
+pub fn is_job_of(log: &Log, number: u64, function: &[u8]) -> bool
+    ensures { result ≡ is_job_of function.now (job number log.now.notes) }
+{
+    match job(log, number) {
+        Some(found) => found.function == function,
+        None => false,
+    }
+}
+
+/// Whether a job is of this function and priority.
+pub fn is_job_with(log: &Log, number: u64, function: &[u8], priority: Priority) -> bool
+    ensures { result ≡ is_job_with function.now priority (job number log.now.notes) }
+{
+    match job(log, number) {
+        Some(found) => found.function == function && found.priority == priority,
+        None => false,
+    }
+}
+
+/// Whether a job is of this function, with this unique id.
+fn is_job_named(log: &Log, number: u64, function: &[u8], unique: &[u8]) -> bool
+    ensures { result ≡ is_job_named function.now unique.now (job number log.now.notes) }
+{
+    match job(log, number) {
+        Some(found) => found.function == function && found.unique == unique,
+        None => false,
+    }
+}
+
+/// Whether a job waits or runs, and is of this function, with this unique id.
+fn is_live_named(log: &Log, number: u64, function: &[u8], unique: &[u8]) -> bool
+    ensures { result ≡ is_live_named function.now unique.now log.now.notes number }
+{
+    is_live(log, number) && is_job_named(log, number, function, unique)
+}
+
+/// Whether a unique id joins jobs.
+fn joins(unique: &[u8]) -> bool
+    ensures { result ≡ joins unique.now }
+{
+    !unique.is_empty() && unique != b"-".as_slice()
+}
+
+/// The live job of a function with a unique id that joins.
+pub fn joined(log: &Log, function: &[u8], unique: &[u8]) -> Option<u64>
+    ensures { result ≡ joined function.now unique.now log.now.notes }
+{
+    if !joins(unique) {
+        return None;
+    }
+    let notes = log.notes();
+    let mut found = None;
+    for note in notes {
+        if let Note::Made { job, .. } = note {
+            if is_live_named(log, *job, function, unique) {
+                found = Some(*job);
+            }
+        }
+    }
+    found
+}
+
+/// How many jobs were made.
+pub fn count_made(log: &Log) -> usize
+    ensures { result ≡ length (made log.now.notes) }
+{
+    let notes = log.notes();
+    let mut count = 0;
+    for note in notes {
+        if let Note::Made { .. } = note {
+            count += 1;
+        }
+    }
+    count
+}
+
+/// The job made as the one with this index, from 0.
+pub fn job_at(log: &Log, index: usize) -> Option<u64>
+    ensures { result ≡ slice_get (reverse (made log.now.notes)) index }
+{
+    let notes = log.notes();
+    let mut before = index;
+    for note in notes {
+        if let Note::Made { job, .. } = note {
+            if before == 0 {
+                return Some(*job);
+            }
+            before -= 1;
+        }
+    }
+    None
+}
+
+/// The job made last.
+pub fn newest(log: &Log) -> Option<u64>
+    ensures { result ≡ newest (made log.now.notes) }
+{
+    let notes = log.notes();
+    let mut last = None;
+    for note in notes {
+        if let Note::Made { job, .. } = note {
+            last = Some(*job);
+        }
+    }
+    last
+}
+
+/// The number of the next job, where the first has this number; `None` once the last was given out.
+pub fn next_number(log: &Log, config: &Config) -> Option<u64>
+    ensures { result ≡ next_number config.now log.now.notes }
+{
+    config.first_job().checked_add(count_made(log) as u64)
+}
+
+/// Whether a job waits or runs, and is of this function.
+fn is_live_of(log: &Log, number: u64, function: &[u8]) -> bool
+    ensures { result ≡ is_live_of function.now log.now.notes number }
+{
+    is_live(log, number) && is_job_of(log, number, function)
+}
+
+/// How many jobs of a function wait or run.
+fn total(log: &Log, function: &[u8]) -> usize
+    ensures { result ≡ total function.now log.now.notes }
+{
+    let notes = log.notes();
+    let mut count = 0;
+    for note in notes {
+        if let Note::Made { job, .. } = note {
+            if is_live_of(log, *job, function) {
+                count += 1;
+            }
+        }
+    }
+    count
+}
+
+fn says_limit(note: &Note, function: &[u8]) -> Option<u32>
+    ensures { result ≡ says_limit function.now note.now }
+{
+    match note {
+        Note::Limit {
+            function: limited,
+            size,
+        } if limited.as_slice() == function => Some(*size),
+        _ => None,
+    }
+}
+
+/// How many jobs of a function may be there; 0 is no limit.
+fn limit(log: &Log, function: &[u8]) -> u32
+    ensures { result ≡ limit function.now log.now.notes }
+{
+    let notes = log.notes();
+    let mut limit = 0;
+    for note in notes {
+        if let Some(answer) = says_limit(note, function) {
+            limit = answer;
+        }
+    }
+    limit
+}
+
+/// Whether no more jobs of a function may be there.
+pub fn is_full(log: &Log, function: &[u8]) -> bool
+    ensures { result ≡ is_full function.now log.now.notes }
+{
+    let limit = limit(log, function);
+    limit != 0 && limit as usize <= total(log, function)
+}
+
+fn mentions(note: &Note, function: &[u8]) -> bool
+    ensures { result ≡ mentions function.now note.now }
+{
+    match note {
+        Note::Mention {
+            function: mentioned,
+        } => mentioned.as_slice() == function,
+        _ => false,
+    }
+}
+
+/// Whether a function was mentioned.
+pub fn is_mentioned(log: &Log, function: &[u8]) -> bool
+    ensures { result ≡ is_mentioned function.now log.now.notes }
+{
+    let notes = log.notes();
+    let mut mentioned = false;
+    for note in notes {
+        if mentions(note, function) {
+            mentioned = true;
+        }
+    }
+    mentioned
+}
+
+/// How many functions were mentioned.
+fn count_functions(log: &Log) -> usize
+    ensures { result ≡ length (functions log.now.notes) }
+{
+    let notes = log.notes();
+    let mut count = 0;
+    for note in notes {
+        if let Note::Mention { .. } = note {
+            count += 1;
+        }
+    }
+    count
+}
+
+/// Whether a function can't be known, since there are as many as there may be.
+pub fn is_one_too_many(log: &Log, config: &Config, function: &[u8]) -> bool
+    ensures { result ≡ is_one_too_many config.now function.now log.now.notes }
+{
+    !is_mentioned(log, function) && config.max_functions() as usize <= count_functions(log)
+}
+
+/// Whether a function's name is empty, or has over 512 bytes.
+pub fn is_bad_name(function: &[u8]) -> bool
+    ensures { result ≡ is_bad_name function.now }
+{
+    function.is_empty() || function.len() > 512
+}

@@ -1,0 +1,13 @@
+//! A server that means what the definitions say, and little else: the plain server.
+#![tactic(auto)]
+
+mod abilities;
+mod handles;
+mod jobs;
+mod lanes;
+mod log;
+mod plain;
+mod questions;
+mod refusal;
+
+pub use plain::PlainServer;

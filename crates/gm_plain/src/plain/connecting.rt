@@ -1,0 +1,102 @@
+//! Connections that come, their units, and the NOOPs that they are owed.
+
+ghost use Rattle.std.specs.Prelude.{◌≤◌, List, length};
+ghost use Rattle.gm_notes.specs.Settings.{Settings};
+ghost use Rattle.gm_notes.specs.Steps.{Step, Open, Packet, Fault, Took, Withdrew};
+ghost use Rattle.gm_notes.specs.Servers.{Answers, AnswersAt, steps_after, steps_after_that};
+ghost use Rattle.gm_plain.specs.Holds.{PlainAgrees};
+
+use super::PlainServer;
+use crate::jobs::{count_made, newest};
+use crate::questions::{free_slot, is_open, is_owed, takes_units, welcomes};
+use gm_notes::{ApplyError, Done, Note, Text, UnitFault};
+
+impl PlainServer {
+    /// A connection is given the least slot that isn't open.
+    pub(super) fn open(&mut self, addr: &[u8]) -> Result<Done, ApplyError>
+        ensures { (k : Settings) (steps : List Step) → PlainAgrees self.old k steps
+            → Answers k steps (Open addr.now) result × PlainAgrees self.new k (steps_after result (Open addr.now) steps) }
+    {
+        if !welcomes(&self.log) {
+            return Err(ApplyError::Refusing);
+        }
+        let Some(slot) = free_slot(&self.log) else {
+            return Err(ApplyError::NoSlot);
+        };
+        let addr = Text::copy_of(self.alloc, addr)?;
+        self.make_room(2)?;
+        self.note(Note::Opened { slot, addr });
+        self.begin(slot);
+        Ok(Done {
+            opened: Some(slot),
+            created: None,
+        })
+    }
+
+    pub(super) fn packet(&mut self, slot: u32, kind: u32, bytes: &[u8]) -> Result<Done, ApplyError>
+        requires { length bytes.now ≤ 1073741824 }
+        ensures { (k : Settings) (steps : List Step) → PlainAgrees self.old k steps
+            → Answers k steps (Packet slot kind bytes.now) result × PlainAgrees self.new k (steps_after result (Packet slot kind bytes.now) steps) }
+    {
+        if !takes_units(&self.log, slot) {
+            return Err(ApplyError::NotOpen);
+        }
+        let before = count_made(&self.log);
+        self.read(slot, kind, bytes)?;
+        let created = if count_made(&self.log) == before {
+            None
+        } else {
+            newest(&self.log)
+        };
+        Ok(Done {
+            opened: None,
+            created,
+        })
+    }
+
+    pub(super) fn fault(&mut self, slot: u32, fault: UnitFault) -> Result<Done, ApplyError>
+        ensures { (k : Settings) (steps : List Step) → PlainAgrees self.old k steps
+            → Answers k steps (Fault slot fault) result × PlainAgrees self.new k (steps_after result (Fault slot fault) steps) }
+    {
+        if !takes_units(&self.log, slot) {
+            return Err(ApplyError::NotOpen);
+        }
+        self.make_room(1)?;
+        self.give_fault(slot, fault)?;
+        self.note(Note::Shut { slot });
+        Ok(Done {
+            opened: None,
+            created: None,
+        })
+    }
+
+    /// The NOOP that is owed to a slot was taken.
+    pub(super) fn take_noop(&mut self, slot: u32) -> Result<(), ApplyError>
+        ensures { (k : Settings) (steps : List Step) → PlainAgrees self.old k steps
+            → AnswersAt k steps (Took slot) result × PlainAgrees self.new k (steps_after_that result (Took slot) steps) }
+    {
+        if !is_open(&self.log, slot) {
+            return Err(ApplyError::NotOpen);
+        }
+        if !is_owed(&self.log, slot) {
+            return Err(ApplyError::NotOwed);
+        }
+        self.note(Note::Took { slot });
+        Ok(())
+    }
+
+    /// The NOOP that is owed to a slot was withdrawn.
+    pub(super) fn withdraw_noop(&mut self, slot: u32) -> Result<(), ApplyError>
+        ensures { (k : Settings) (steps : List Step) → PlainAgrees self.old k steps
+            → AnswersAt k steps (Withdrew slot) result × PlainAgrees self.new k (steps_after_that result (Withdrew slot) steps) }
+    {
+        if !is_open(&self.log, slot) {
+            return Err(ApplyError::NotOpen);
+        }
+        if !is_owed(&self.log, slot) {
+            return Err(ApplyError::NotOwed);
+        }
+        self.note(Note::Withdrew { slot });
+        Ok(())
+    }
+}

@@ -1,0 +1,235 @@
+//! The waiting jobs of one function and priority.
+
+ghost use Rattle.std.specs.Prelude.{◌≡◌, ℕ, ◌^◌, ◌<◌, ◌≤◌, ◌⊎◌, ◌↔◌, Some, None, IsTrue, IsSome, IfSome, IfNone, OnOk, OnErr, Contains, length, slice_get};
+ghost use Rattle.std.specs.VecDeque.{deque_len, deque_capacity};
+ghost use Rattle.gm_queues.specs.Queues.{no_jobs, idle, with_place, without_place, with_job, without_first, Leaves, jobs_in};
+
+use crate::hints::Hints;
+use std::alloc::{AllocError, Global};
+use std::collections::VecDeque;
+use std::marker::Model;
+
+/// The waiting jobs of one function and priority in their order, and the places that are reserved.
+///
+/// A job that is taken out of the middle leaves a cleared entry, which `pop` and `first` let go of once
+/// it is the first. Each reserved place that no job uses has room in the ring.
+#[derive(Drop)]
+pub(crate) struct Ring {
+    entries: VecDeque<Option<u64>>,
+    hints: Hints,
+    // How many entries aren't cleared.
+    waiting: usize,
+    places: usize,
+}
+
+impl Model for Ring {
+    ghost use Rattle.std.specs.Prelude.{◌≡◌, ◌+◌, ◌^◌, ◌≤◌, length};
+    ghost use Rattle.std.specs.VecDeque.{deque_len, deque_capacity};
+    ghost use Rattle.gm_queues.specs.Queues.{Queue, jobs_in};
+
+    ghost Value = { Queue };
+
+    ghost view = { λ r. record { jobs = jobs_in r.entries.items; places = r.places } };
+
+    ghost invariant = { λ r. (r.waiting ≡ length (jobs_in r.entries.items))
+        × (r.waiting ≤ r.places)
+        × (deque_len r.entries + r.places ≤ deque_capacity r.entries + r.waiting)
+        × (r.places ≤ 2 ^ 56) };
+}
+
+// No machine has the memory for so many places, and counts of them are easily added.
+const MOST_PLACES: usize = 1 << 56;
+
+// Lets go of the cleared entries at the front.
+fn skip_cleared(entries: &mut VecDeque<Option<u64>>, hints: &mut Hints)
+    ensures jobs { jobs_in entries.new.items ≡ jobs_in entries.old.items }
+    ensures first { (slice_get entries.new.items 0 ≡ None) ⊎ ((job : ℕ) × (slice_get entries.new.items 0 ≡ Some (Some job))) }
+    ensures shorter { deque_len entries.new ≤ deque_len entries.old }
+    ensures capacity { deque_capacity entries.new ≡ deque_capacity entries.old }
+{
+    while let Some(None) = entries.front() {
+        let _cleared = entries.pop_front();
+        hints.pass();
+    }
+}
+
+// Lets go of all cleared entries.
+fn drop_cleared(entries: &mut VecDeque<Option<u64>>, hints: &mut Hints)
+    ensures jobs { jobs_in entries.new.items ≡ jobs_in entries.old.items }
+    ensures len { deque_len entries.new ≡ length (jobs_in entries.old.items) }
+    ensures capacity { deque_capacity entries.new ≡ deque_capacity entries.old }
+{
+    entries.retain(|entry| entry.is_some());
+    hints.learn(entries);
+}
+
+// Makes room for as many entries again, and a few.
+fn grow(
+    alloc: Global,
+    entries: &mut VecDeque<Option<u64>>,
+    hints: &mut Hints,
+) -> Result<(), AllocError>
+    ensures items { entries.new.items ≡ entries.old.items }
+    ensures len { deque_len entries.new ≡ deque_len entries.old }
+    ensures capacity { deque_capacity entries.old ≤ deque_capacity entries.new }
+    ensures ok { OnOk result (deque_capacity entries.old < deque_capacity entries.new) }
+{
+    let room = entries.capacity().saturating_mul(2).saturating_add(4);
+    let mut wider = Hints::with_room(alloc, room)?;
+    entries.reserve_exact(room - entries.len())?;
+    wider.learn(entries);
+    *hints = wider;
+    Ok(())
+}
+
+// Makes room for one place more than these: lets go of the cleared entries, and grows only if half of the
+// ring or more is reserved, so that the next time it is full is as far away as it is long.
+fn make_room(
+    alloc: Global,
+    entries: &mut VecDeque<Option<u64>>,
+    hints: &mut Hints,
+    places: usize,
+) -> Result<(), AllocError>
+    requires { places ≤ deque_capacity entries.old }
+    ensures jobs { jobs_in entries.new.items ≡ jobs_in entries.old.items }
+    ensures len { deque_len entries.new ≡ length (jobs_in entries.old.items) }
+    ensures capacity { deque_capacity entries.old ≤ deque_capacity entries.new }
+    ensures ok { OnOk result (places < deque_capacity entries.new) }
+{
+    drop_cleared(entries, hints);
+    if places < entries.capacity() / 2 {
+        return Ok(());
+    }
+    grow(alloc, entries, hints)
+}
+
+// Where the job stands. The search from end to end is for a job that doesn't wait: a guess leads to every
+// other.
+fn index_of(entries: &VecDeque<Option<u64>>, hints: &Hints, job: u64) -> Option<usize>
+    ensures found { IfSome result (λ i. slice_get entries.now.items i ≡ Some (Some job)) }
+    ensures missing { IfNone result (¬ Contains (jobs_in entries.now.items) job) }
+{
+    if let Some(index) = hints.find(entries, job) {
+        return Some(index);
+    }
+    for index in 0..entries.len() {
+        if entries[index] == Some(job) {
+            return Some(index);
+        }
+    }
+    None
+}
+
+impl Ring {
+    /// A queue with no jobs and no places. It takes no memory.
+    pub(crate) fn new(alloc: Global) -> Ring
+        ensures { result ≡ no_jobs }
+    {
+        Ring {
+            entries: VecDeque::new(alloc),
+            hints: Hints::new(alloc),
+            waiting: 0,
+            places: 0,
+        }
+    }
+
+    /// Reserves one place more.
+    pub(crate) fn reserve_one(&mut self, alloc: Global) -> Result<(), AllocError>
+        ensures ok { OnOk result (self.new ≡ with_place self.old) }
+        ensures free { OnOk result (length self.new.jobs < self.new.places) }
+        ensures err { OnErr result (self.new ≡ self.old) }
+    {
+        if self.places == MOST_PLACES {
+            return Err(AllocError);
+        }
+        if self.entries.len() + (self.places - self.waiting) == self.entries.capacity() {
+            make_room(alloc, &mut self.entries, &mut self.hints, self.places)?;
+        }
+        self.places += 1;
+        Ok(())
+    }
+
+    /// Gives up a place that no waiting job uses.
+    pub(crate) fn release(&mut self)
+        requires { length self.old.jobs < self.old.places }
+        ensures { self.new ≡ without_place self.old }
+    {
+        self.places -= 1;
+    }
+
+    /// Puts the job at the end, in a reserved place.
+    pub(crate) fn push(&mut self, job: u64)
+        requires { length self.old.jobs < self.old.places }
+        ensures { self.new ≡ with_job job self.old }
+    {
+        let _stands = self.entries.push_back(Some(job));
+        self.hints.add(job);
+        self.waiting += 1;
+    }
+
+    /// Takes out the first job, whose place stays reserved.
+    pub(crate) fn pop(&mut self) -> Option<u64>
+        ensures value { result ≡ slice_get self.old.jobs 0 }
+        ensures rest { self.new ≡ without_first self.old }
+        ensures free { IsSome result → length self.new.jobs < self.new.places }
+    {
+        skip_cleared(&mut self.entries, &mut self.hints);
+        let Some(Some(job)) = self.entries.pop_front() else {
+            return None;
+        };
+        self.hints.pass();
+        self.waiting -= 1;
+        Some(job)
+    }
+
+    /// The first job.
+    pub(crate) fn first(&mut self) -> Option<u64>
+        ensures value { result ≡ slice_get self.old.jobs 0 }
+        ensures kept { self.new ≡ self.old }
+    {
+        skip_cleared(&mut self.entries, &mut self.hints);
+        *self.entries.front()?
+    }
+
+    /// Takes out a job that waits, and gives up its place.
+    pub(crate) fn forget(&mut self, job: u64)
+        requires { Contains self.old.jobs job }
+        ensures { Leaves job self.old self.new }
+    {
+        let Some(index) = index_of(&self.entries, &self.hints, job) else {
+            return;
+        };
+        self.entries[index] = None;
+        self.waiting -= 1;
+        self.places -= 1;
+    }
+
+    /// Whether the job waits here.
+    pub(crate) fn contains(&self, job: u64) -> bool
+        ensures { IsTrue result ↔ Contains self.now.jobs job }
+    {
+        index_of(&self.entries, &self.hints, job).is_some()
+    }
+
+    /// How many jobs wait.
+    pub(crate) fn waiting(&self) -> u64
+        ensures value { result ≡ length self.now.jobs }
+        ensures small { result < 2 ^ 62 }
+    {
+        self.waiting as u64
+    }
+
+    /// How many reserved places no waiting job uses.
+    pub(crate) fn idle(&self) -> u64
+        ensures value { result ≡ idle self.now }
+        ensures small { result < 2 ^ 62 }
+    {
+        (self.places - self.waiting) as u64
+    }
+
+    // The entries as they stand.
+    #[cfg(test)]
+    pub(crate) fn entries(&self) -> &VecDeque<Option<u64>> {
+        &self.entries
+    }
+}
