@@ -13,8 +13,8 @@ use std::marker::Model;
 
 /// The connections of a server, by slot.
 ///
-/// A slot must be open for all calls but `new`, `open` and `is_open`. What takes no memory answers no
-/// refusal; what is refused changes nothing.
+/// A call that is given a slot, but for `is_open`, is for a slot that is open. What is refused changes
+/// nothing; calls that answer no refusal take no memory.
 #[derive(Drop)]
 pub struct Conns {
     alloc: Global,

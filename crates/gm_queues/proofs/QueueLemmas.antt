@@ -1,7 +1,9 @@
 -- What is true of the jobs in a ring's entries.
-use Rattle.std.proofs.Common.{◌≡◌, ℕ, zero, suc, ◌+◌, ◌-◌, ◌<◌, ◌≤◌, List, [], ◌∷◌, ◌++◌, length, set, drop, filter, slice_get, Contains, Option, Some, None, IfSome, IfNone, IsTrue, ◌↔◌, is_some, refl, ap, arith, length-append}
+use Rattle.std.proofs.Common.{◌≡◌, ℕ, zero, suc, ◌+◌, ◌-◌, ◌<◌, ◌≤◌, Bool, true, false, cond, not, ◌==◌, if◌then◌else◌, List, [], ◌∷◌, ◌++◌, length, set, drop, filter, count_by, slice_get, Contains, Option, Some, None, IfSome, IfNone, IsTrue, ◌↔◌, is_some, refl, sym, ap, ◌∙◌, arith, length-append}
 use Rattle.std.proofs.lemmas.Bool.{false≢true}
-use Rattle.gm_queues.specs.Queues.{Leaves, jobs_in}
+use Rattle.std.proofs.lemmas.Bool.Decides.{nat_tests}
+use Rattle.std.proofs.lemmas.List.Sums.{sum_by-cons}
+use Rattle.gm_queues.specs.Queues.{Queue, Leaves, jobs_in}
 
 pub jobs_in-append : (xs ys : List (Option ℕ)) → jobs_in (xs ++ ys) ≡ jobs_in xs ++ jobs_in ys
 jobs_in-append [] ys = refl
@@ -72,3 +74,50 @@ pub searched : (xs : List (Option ℕ)) (job : ℕ) (found : Option ℕ) → IfS
     → IsTrue (is_some found) ↔ Contains (jobs_in xs) job
 searched xs job None some none = (λ h. absurd (false≢true h), λ there. absurd (none there))
 searched xs job (Some i) some none = (λ h. jobs_in_some xs i job some, λ there. refl)
+
+-- ---- a job that is queued once
+
+count-cons : (job x : ℕ) (xs : List ℕ) → count_by (λ n. n == job) (x ∷ xs) ≡ (if x == job then 1 else 0) + count_by (λ n. n == job) xs
+count-cons job x xs = sum_by-cons (λ n. cond (n == job) 1 0) x xs
+
+same_job : (n : ℕ) → (n == n) ≡ true
+same_job n = grind (arith, nat_tests)
+
+yes_one : (b : Bool) → b ≡ true → ◌≡◌ {A = ℕ} (if b then 1 else 0) 1
+yes_one b e = ap (λ t. if t then 1 else 0) e
+
+one_at_least : (job : ℕ) (before after : List ℕ) → 1 ≤ count_by (λ n. n == job) (before ++ job ∷ after)
+one_at_least job [] after = omega (arith, count-cons job job after, yes_one (job == job) (same_job job))
+one_at_least job (x ∷ before) after = omega (arith, count-cons job x (before ++ job ∷ after), one_at_least job before after)
+
+-- where the job isn't, nothing goes
+filter-none : (job : ℕ) (xs : List ℕ) → count_by (λ n. n == job) xs ≡ 0 → filter (λ n. not (n == job)) xs ≡ xs
+filter-none job [] e = refl
+filter-none job (x ∷ xs) e = by (x == job) (sym (count-cons job x xs) ∙ e) (λ h. filter-none job xs h)
+  where
+    by : (b : Bool) → ◌≡◌ {A = ℕ} ((if b then 1 else 0) + count_by (λ n. n == job) xs) 0 → (count_by (λ n. n == job) xs ≡ 0 → filter (λ n. not (n == job)) xs ≡ xs)
+        → cond (not b) (x ∷ filter (λ n. not (n == job)) xs) (filter (λ n. not (n == job)) xs) ≡ x ∷ xs
+    by true e rest = absurd (omega arith)
+    by false e rest = ap (λ ns. x ∷ ns) (rest (omega arith))
+
+-- where it is once, it alone goes
+filter-once : (job : ℕ) (before after : List ℕ) → count_by (λ n. n == job) (before ++ job ∷ after) ≡ 1 → filter (λ n. not (n == job)) (before ++ job ∷ after) ≡ before ++ after
+filter-once job [] after e = by (job == job) (same_job job) (sym (count-cons job job after) ∙ e)
+  where
+    by : (b : Bool) → b ≡ true → ◌≡◌ {A = ℕ} ((if b then 1 else 0) + count_by (λ n. n == job) after) 1
+        → cond (not b) (job ∷ filter (λ n. not (n == job)) after) (filter (λ n. not (n == job)) after) ≡ after
+    by true t e = filter-none job after (omega arith)
+    by false t e = absurd (false≢true t)
+filter-once job (x ∷ before) after e = by (x == job) (sym (count-cons job x (before ++ job ∷ after)) ∙ e) (λ h. filter-once job before after h) (one_at_least job before after)
+  where
+    by : (b : Bool) → ◌≡◌ {A = ℕ} ((if b then 1 else 0) + count_by (λ n. n == job) (before ++ job ∷ after)) 1
+        → (count_by (λ n. n == job) (before ++ job ∷ after) ≡ 1 → filter (λ n. not (n == job)) (before ++ job ∷ after) ≡ before ++ after)
+        → 1 ≤ count_by (λ n. n == job) (before ++ job ∷ after)
+        → cond (not b) (x ∷ filter (λ n. not (n == job)) (before ++ job ∷ after)) (filter (λ n. not (n == job)) (before ++ job ∷ after)) ≡ x ∷ (before ++ after)
+    by true e rest some = absurd (omega arith)
+    by false e rest some = ap (λ ns. x ∷ ns) (rest (omega arith))
+
+-- so a job that is queued once leaves the others
+pub Leaves-once : (job : ℕ) (old new : Queue) → Leaves job old new → count_by (λ n. n == job) old.jobs ≡ 1 → new.jobs ≡ filter (λ n. not (n == job)) old.jobs
+Leaves-once job old new gone e =
+    gone.left ∙ sym (filter-once job gone.before gone.after (ap (count_by (λ n. n == job)) (sym gone.was) ∙ e)) ∙ ap (filter (λ n. not (n == job))) (sym gone.was)

@@ -1,6 +1,6 @@
 //! The functions, their limits and their queues.
 
-ghost use Rattle.std.specs.Prelude.{◌≡◌, ℕ, ◌+◌, ◌-◌, ◌*◌, ◌<◌, ◌≤◌, ◌↔◌, ◌++◌, ◌∷◌, [], Some, None, IsSome, IsNone, IsOk, IsTrue, IfSome, IfOk, OnOk, OnErr, Contains, length, map, position, take, slice_get};
+ghost use Rattle.std.specs.Prelude.{◌≡◌, ℕ, ◌+◌, ◌-◌, ◌*◌, ◌<◌, ◌≤◌, ◌↔◌, ◌++◌, ◌∷◌, [], Some, None, IsSome, IsNone, IsOk, IsTrue, IfSome, IfOk, OnOk, OnErr, Contains, length, count_by, filter, not, ◌==◌, map, position, take, slice_get};
 ghost use Rattle.std.specs.Str.{bytes_eq};
 ghost use Rattle.gm_queues.specs.Queues.{Queue, no_jobs, with_place, without_place, with_job, without_first, Leaves};
 ghost use Rattle.std.specs.Vec.{vec_len, vec_capacity};
@@ -272,10 +272,12 @@ impl Functions {
         ring.pop()
     }
 
-    /// Takes out a job that waits, wherever it stands, and gives up its place.
+    /// Takes out a job that waits, wherever it stands, and gives up its place. Of a job that was pushed more
+    /// than once, one of its entries goes.
     pub fn forget(&mut self, f: u32, p: Priority, job: u64)
         requires { Contains (queue self.old f p).jobs job }
-        ensures { ForgetsJob f p job self.old self.new }
+        ensures forgets { ForgetsJob f p job self.old self.new }
+        ensures once { count_by (λ n. n == job) (queue self.old f p).jobs ≡ 1 → (queue self.new f p).jobs ≡ filter (λ n. not (n == job)) (queue self.old f p).jobs }
     {
         let ring = &mut self.rings[ring_of(f, p)];
         ring.forget(job);

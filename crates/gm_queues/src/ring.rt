@@ -1,6 +1,6 @@
 //! The waiting jobs of one function and priority.
 
-ghost use Rattle.std.specs.Prelude.{◌≡◌, ℕ, ◌^◌, ◌<◌, ◌≤◌, ◌⊎◌, ◌↔◌, Some, None, IsTrue, IsSome, IfSome, IfNone, OnOk, OnErr, Contains, length, slice_get};
+ghost use Rattle.std.specs.Prelude.{◌≡◌, ℕ, ◌^◌, ◌<◌, ◌≤◌, ◌⊎◌, ◌↔◌, Some, None, IsTrue, IsSome, IfSome, IfNone, OnOk, OnErr, Contains, length, count_by, filter, not, ◌==◌, slice_get};
 ghost use Rattle.std.specs.VecDeque.{deque_len, deque_capacity};
 ghost use Rattle.gm_queues.specs.Queues.{no_jobs, idle, with_place, without_place, with_job, without_first, Leaves, jobs_in};
 
@@ -194,7 +194,8 @@ impl Ring {
     /// Takes out a job that waits, and gives up its place.
     pub(crate) fn forget(&mut self, job: u64)
         requires { Contains self.old.jobs job }
-        ensures { Leaves job self.old self.new }
+        ensures leaves { Leaves job self.old self.new }
+        ensures once { count_by (λ n. n == job) self.old.jobs ≡ 1 → self.new.jobs ≡ filter (λ n. not (n == job)) self.old.jobs }
     {
         let Some(index) = index_of(&self.entries, &self.hints, job) else {
             return;
