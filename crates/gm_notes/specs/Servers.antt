@@ -12,22 +12,26 @@ use Rattle.gm_notes.specs.Settings.{Settings}
 use Rattle.gm_notes.specs.Notes.{is_open, is_shut, phase, is_owed}
 use Rattle.gm_notes.specs.Jobs.{Spot, Unmade, Waits, RunsAt, Over, Thrown}
 use Rattle.gm_notes.specs.Past.{Past}
-use Rattle.gm_notes.specs.Steps.{Step, Open, Packet, Fault, Close, refusal}
+use Rattle.gm_notes.specs.Steps.{Step, Open, Packet, Line, Fault, Close, Tick, refusal}
 use Rattle.gm_notes.specs.Steps.{done, run}
 
 -- the step that an event is, wherever its bytes lie
 abbrev pub step_of : Event → Step
 step_of (events.Open addr) = Open addr.now
 step_of (events.Packet slot kind bytes) = Packet slot kind bytes.now
+step_of (events.Line slot bytes) = Line slot bytes.now
 step_of (events.Fault slot fault) = Fault slot fault
 step_of (events.Close slot) = Close slot
+step_of (events.Tick now) = Tick now
 
 -- what who hands in an event sees to: a packet has at most 1,073,741,824 bytes of data
 abbrev pub IsSized : Event → Type 0
 IsSized (events.Open addr) = Unit {0}
 IsSized (events.Packet slot kind bytes) = length bytes.now ≤ 1073741824
+IsSized (events.Line slot bytes) = Unit {0}
 IsSized (events.Fault slot fault) = Unit {0}
 IsSized (events.Close slot) = Unit {0}
+IsSized (events.Tick now) = Unit {0}
 
 -- A refusal is the one that stands, but for memory, which is wanting only for a step that would be taken.
 abbrev pub IsRefusal : ApplyError → Option ApplyError → Type 0
@@ -46,8 +50,10 @@ Answers k steps s (Err refused) = IsRefusal refused (refusal k s (run k steps))
 abbrev pub WantsNone : Event → Result Done ApplyError → Type 0
 WantsNone (events.Open addr) result = Unit {0}
 WantsNone (events.Packet slot kind bytes) result = Unit {0}
+WantsNone (events.Line slot bytes) result = Unit {0}
 WantsNone (events.Fault slot fault) result = Unit {0}
 WantsNone (events.Close slot) result = IsErrOf result Memory → ⊥
+WantsNone (events.Tick now) result = Unit {0}
 
 -- the steps taken, once a step is answered so
 abbrev pub steps_after : Result Done ApplyError → Step → List Step → List Step

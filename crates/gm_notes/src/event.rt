@@ -83,6 +83,11 @@ pub enum Event<'a> {
         kind: u32,
         bytes: &'a [u8],
     },
+    /// A text line came, without its newline.
+    Line {
+        slot: u32,
+        bytes: &'a [u8],
+    },
     /// No continuation of what came can be read.
     Fault {
         slot: u32,
@@ -91,6 +96,10 @@ pub enum Event<'a> {
     /// The connection is gone.
     Close {
         slot: u32,
+    },
+    /// The moment is this one, in seconds, or stays as it is where this one is past.
+    Tick {
+        now: u64,
     },
 }
 

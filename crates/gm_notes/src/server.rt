@@ -21,8 +21,8 @@ pub trait JobServer {
     ghost agrees: { Self → Settings → List Step → Type 0 };
 
     /// Lets an event take effect, and answers what it made. For an opening, `Refusing` comes where the
-    /// server takes no new connections, and then `NoSlot` where every slot is open; for a packet or a
-    /// fault, `NotOpen` where its slot isn't open or is shut; for a closing, `NotOpen` where it isn't open;
+    /// server takes no new connections, and then `NoSlot` where every slot is open; for a packet, a line or
+    /// a fault, `NotOpen` where its slot isn't open or is shut; for a closing, `NotOpen` where it isn't open;
     /// `Memory` only for a step that would else be taken, and never for a closing. A packet's data are at
     /// most 1,073,741,824 bytes.
     fn apply(&mut self, event: &Event<'_>) -> Result<Done, ApplyError>
