@@ -48,7 +48,7 @@ pub fn is_able(log: &Log, slot: u32, function: &[u8]) -> bool
 fn is_worker(log: &Log, slot: u32, function: &[u8]) -> bool
     ensures { result ≡ (is_open slot log.now.notes && is_able slot function.now log.now.notes) }
 {
-    is_open(log, slot) && is_able(log, slot, function)
+    is_able(log, slot, function) && is_open(log, slot)
 }
 
 /// How many open connections can do a function.
