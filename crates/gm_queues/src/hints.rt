@@ -31,9 +31,11 @@ pub(crate) struct Hints {
     next: u32,
 }
 
-// Spreads numbers that follow one another over the whole range.
+// Spreads numbers over the whole range, eight that follow one another side by side: they fill a line of the
+// cache, and jobs mostly come and go in the order of their numbers.
 fn spread(job: u64) -> usize {
-    (job.wrapping_mul(0x9E37_79B9_7F4A_7C15) >> 32) as usize
+    let block = (job / 8).wrapping_mul(0x9E37_79B9_7F4A_7C15) >> 32;
+    block.wrapping_mul(8).wrapping_add(job % 8) as usize
 }
 
 impl Hints {
