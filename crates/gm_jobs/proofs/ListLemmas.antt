@@ -1,8 +1,8 @@
 -- What is true of the lists of who listens to what.
-use Rattle.std.proofs.Common.{◌≡◌, ◌≢◌, ℕ, ◌<◌, ◌⊎◌, inl, inr, List, [], length, get_or, set, Contains, slice_index_or, Option, Some, sym, ap, subst, ◌∙◌, arith}
+use Rattle.std.proofs.Common.{◌≡◌, ℕ, ◌<◌, ◌⊎◌, inl, inr, List, [], length, get_or, set, Contains, slice_index_or, Option, sym, ap, subst, ◌∙◌}
 use Rattle.std.proofs.lemmas.List.{get_or-set_other, get_or-set_same, get_or_default}
 use Rattle.std.proofs.lemmas.Bool.{cases_eq}
-use Rattle.gm_jobs.specs.Listening.{Lists, list_of, Heard}
+use Rattle.gm_jobs.specs.Listening.{Heard}
 
 module _ (lists longer : List (List ℕ)) (fresh : Option (ℕ × ℕ)) (same : (c : ℕ) → slice_index_or longer c [] ≡ slice_index_or lists c []) (slot : ℕ) (within : slot < length longer)
     (old new : List ℕ) (was : old ≡ get_or longer slot old) where

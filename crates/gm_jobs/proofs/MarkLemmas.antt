@@ -1,5 +1,5 @@
 -- What is true of marks whose numbers rise.
-use Rattle.std.proofs.Common.{◌≡◌, ◌≢◌, ℕ, zero, suc, ◌+◌, ◌-◌, ◌<◌, ◌≤◌, ◌⊎◌, inl, inr, Bool, true, false, cond, not, ◌&&◌, ◌||◌, List, [], ◌∷◌, ◌++◌, length, get_or, set, insert, take, drop, filter, map, Contains, Option, Some, None, is_some, IsSome, IsTrue, nat_eq, refl, sym, ap, subst, ◌∙◌, arith, length-set}
+use Rattle.std.proofs.Common.{◌≡◌, ◌≢◌, ℕ, zero, suc, ◌+◌, ◌-◌, ◌<◌, ◌≤◌, ◌⊎◌, inl, inr, Bool, true, false, cond, not, ◌&&◌, ◌||◌, List, [], ◌∷◌, length, set, insert, take, drop, filter, map, Contains, Option, Some, None, is_some, IsSome, nat_eq, refl, sym, ap, subst, ◌∙◌, arith}
 use Rattle.std.specs.List.{AllByRecursion, IsDistinct, list_any}
 use Rattle.std.specs.Map.{lookup}
 use Rattle.std.specs.Cmp.{nat_eq_equiv}
@@ -13,7 +13,7 @@ use Rattle.gm_jobs.specs.declared.marks.Query.{Query}
 use Rattle.gm_jobs.specs.declared.marks.Query.TheVariants.{RunBy, Orphan, Due}
 use Rattle.gm_jobs.specs.Live.{Live, is_at, is_orphan}
 use Rattle.gm_jobs.specs.Tables.{find_job, passes}
-use Rattle.gm_jobs.specs.Marks.{Rises, is_marked, mark_of, mark_at, number_at, IsPlaceFor, Marked, MarkedBut, AllLive, IsSoon}
+use Rattle.gm_jobs.specs.Marks.{Rises, is_marked, mark_of, mark_at, number_at, IsPlaceFor, Marked, AllLive}
 use Rattle.gm_jobs.specs.Queries.{meets, may_meet}
 
 all_at : (n : ℕ) (xs : List Mark) (k : ℕ) → AllByRecursion (λ y. n < y.number) xs → k < length xs → n < number_at xs k

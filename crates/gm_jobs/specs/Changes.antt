@@ -1,5 +1,5 @@
 -- What becomes of one job among all.
-use Rattle.std.specs.Prelude.{◌≡◌, ℕ, ◌==◌, ◌⊎◌, if◌then◌else◌, List, length, Option}
+use Rattle.std.specs.Prelude.{◌≡◌, ℕ, ◌==◌, ◌⊎◌, if◌then◌else◌, List, length}
 use Rattle.std.specs.Option.{option_map}
 use Rattle.gm_jobs.specs.declared.jobs.Change.{Change}
 use Rattle.gm_jobs.specs.declared.jobs.Change.TheVariants.{Assign, GiveBack, Keep, Leave}

@@ -1,5 +1,5 @@
 -- What is kept of the jobs that may be asked for by their order.
-use Rattle.std.specs.Prelude.{◌≡◌, ◌≢◌, ◌⊎◌, ℕ, ◌<◌, ◌≤◌, Bool, true, ◌||◌, List, [], ◌∷◌, Contains, length, slice_index_or, is_some, IsSome, Option, Some, None}
+use Rattle.std.specs.Prelude.{◌≡◌, ◌≢◌, ◌⊎◌, ℕ, ◌<◌, ◌≤◌, Bool, true, ◌||◌, List, [], ◌∷◌, Contains, length, slice_index_or, is_some, IsSome, Some, None}
 use Rattle.std.specs.List.{AllByRecursion}
 use Rattle.gm_jobs.specs.declared.marks.Mark.{Mark}
 use Rattle.gm_jobs.specs.Live.{Live, is_orphan}

@@ -1,5 +1,5 @@
 -- What may be asked of a job, to find the next one.
-use Rattle.std.specs.Prelude.{ℕ, Bool, is_some, not}
+use Rattle.std.specs.Prelude.{Bool, is_some, not}
 use Rattle.gm_jobs.specs.declared.marks.Mark.{Mark}
 use Rattle.gm_jobs.specs.declared.marks.Query.{Query}
 use Rattle.gm_jobs.specs.declared.marks.Query.TheVariants.{RunBy, Orphan, Due}

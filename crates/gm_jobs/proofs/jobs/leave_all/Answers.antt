@@ -1,4 +1,4 @@
-use Rattle.std.proofs.Common.{◌≡◌, ℕ, ◌<◌, get_or, below_more, ap, sym, subst, ◌∙◌, arith}
+use Rattle.std.proofs.Common.{get_or, below_more, subst, ◌∙◌, arith}
 use Rattle.std.proofs.lemmas.List.{get_or_default}
 use Rattle.gm_jobs.specs.Changes.{LeavesOne}
 use Rattle.gm_jobs.proofs.JobLemmas.{leaves_one, leaves_some, leaves_more, left_before, left_after}

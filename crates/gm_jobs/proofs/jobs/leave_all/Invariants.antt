@@ -1,4 +1,4 @@
-use Rattle.std.proofs.Common.{◌≡◌, ℕ, ◌<◌, length, get_or}
+use Rattle.std.proofs.Common.{◌≡◌, ℕ, ◌<◌, get_or}
 use Rattle.indexmap.specs.IndexMap.{spare}
 use Rattle.gm_jobs.specs.Changes.{LeavesSome, LeavesOne}
 use Rattle.gm_jobs.specs.Marks.{Marked}

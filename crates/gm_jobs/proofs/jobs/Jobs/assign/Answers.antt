@@ -1,5 +1,5 @@
-use Rattle.std.proofs.Common.{◌≡◌, ◌≤◌, inl, length, unwrap_or, refl, ap, ◌∙◌, arith}
-use Rattle.gm_jobs.specs.Live.{Live, assigned}
+use Rattle.std.proofs.Common.{◌≡◌, inl, unwrap_or, refl, ap, ◌∙◌, arith}
+use Rattle.gm_jobs.specs.Live.{assigned}
 use Rattle.gm_jobs.proofs.JobLemmas.{beside, kept_changed, marked_but, marked_of}
 use Rattle.gm_jobs.proofs.jobs.Jobs.assign.Goals as goal
 

@@ -1,4 +1,4 @@
-use Rattle.std.proofs.Common.{◌≡◌, ℕ, ◌<◌, false, Option, Some, None, refl, subst, arith}
+use Rattle.std.proofs.Common.{◌≡◌, ℕ, false, Option, Some, None, refl, subst, arith}
 use Rattle.gm_jobs.specs.Live.{Live, is_due}
 use Rattle.gm_jobs.specs.Tables.{Table, find_job, passes}
 use Rattle.gm_jobs.proofs.JobLemmas.{beside, marked_of, kept_fewer, not_due}

@@ -1,4 +1,4 @@
-use Rattle.std.proofs.Common.{◌≤◌, arith}
+use Rattle.std.proofs.Common.{arith}
 use Rattle.gm_jobs.proofs.JobLemmas.{beside, removed, kept_fewer}
 use Rattle.gm_jobs.proofs.jobs.Jobs.end.Goals as goal
 

@@ -1,6 +1,6 @@
-use Rattle.std.proofs.Common.{◌≡◌, ◌≤◌, inl, length, refl}
+use Rattle.std.proofs.Common.{inl, refl}
 use Rattle.std.proofs.lemmas.Bool.{false≢true}
-use Rattle.gm_jobs.specs.Live.{Live, returned}
+use Rattle.gm_jobs.specs.Live.{returned}
 use Rattle.gm_jobs.proofs.JobLemmas.{beside, kept_changed, marked_but, marked_of}
 use Rattle.gm_jobs.proofs.jobs.Jobs.give_back.Goals as goal
 

@@ -1,9 +1,9 @@
-use Rattle.std.proofs.Common.{◌≡◌, ℕ, ◌+◌, ◌^◌, ◌<◌, ◌≤◌, ◌==◌, true, if◌then◌else◌, List, Contains, Option, Some, None, IsOk, IfSome, is_some, length, unwrap_or, refl, sym, ap, subst, ◌∙◌, arith}
+use Rattle.std.proofs.Common.{◌≡◌, ℕ, ◌+◌, ◌^◌, ◌≤◌, ◌==◌, true, if◌then◌else◌, Contains, Option, Some, IsOk, is_some, length, unwrap_or, sym, ap, subst, ◌∙◌, arith}
 use Rattle.indexmap.specs.IndexMap.{spare}
 use Rattle.gm_notes.specs.Jobs.{joins}
-use Rattle.gm_jobs.specs.Live.{Live, fresh, is_named, listed}
-use Rattle.gm_jobs.specs.Tables.{Room, Table, IsNamed, find_job, passes}
-use Rattle.gm_jobs.specs.Kept.{Beside, IsReady, IsKept}
+use Rattle.gm_jobs.specs.Live.{Live, is_named}
+use Rattle.gm_jobs.specs.Tables.{Room, Table, find_job, passes}
+use Rattle.gm_jobs.specs.Kept.{IsReady, IsKept}
 use Rattle.gm_jobs.specs.Marks.{MarkedBut}
 use Rattle.gm_jobs.specs.Listening.{Heard}
 use Rattle.gm_jobs.specs.Uniques.{Reaches, digest_of}

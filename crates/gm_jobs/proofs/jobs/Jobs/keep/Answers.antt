@@ -1,7 +1,6 @@
-use Rattle.std.proofs.Common.{◌≡◌, Bool, true, false, not, ◌&&◌, ◌||◌, ◌==◌, Option, is_some, inl, length, refl}
+use Rattle.std.proofs.Common.{◌≡◌, Bool, true, false, not, ◌&&◌, ◌||◌, ◌==◌, is_some, inl, length, refl}
 use Rattle.std.proofs.lemmas.Bool.{false≢true}
-use Rattle.gm_jobs.specs.Live.{Live, kept}
-use Rattle.gm_jobs.specs.Marks.{is_marked}
+use Rattle.gm_jobs.specs.Live.{kept}
 use Rattle.gm_jobs.proofs.JobLemmas.{beside, kept_changed, marked_changed, marked_of}
 use Rattle.gm_jobs.proofs.jobs.Jobs.keep.Goals as goal
 

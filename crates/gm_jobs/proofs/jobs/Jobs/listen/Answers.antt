@@ -1,9 +1,9 @@
-use Rattle.std.proofs.Common.{◌≡◌, ℕ, ◌+◌, ◌≤◌, Bool, true, false, not, ◌&&◌, ◌||◌, ◌==◌, ◌++◌, ◌∷◌, [], inl, inr, Contains, length, is_some, refl, sym, subst, ◌∙◌, arith, length-append}
+use Rattle.std.proofs.Common.{◌≡◌, ℕ, ◌+◌, Bool, true, false, not, ◌&&◌, ◌||◌, ◌==◌, ◌++◌, ◌∷◌, [], inl, inr, Contains, length, is_some, refl, sym, subst, ◌∙◌, arith, length-append}
 use Rattle.std.proofs.lemmas.List.Elements.{Contains-push_cases}
 use Rattle.std.proofs.lemmas.Bool.{false≢true}
 use Rattle.std.proofs.lemmas.Bool.Decides.{nat_tests}
 use Rattle.indexmap.specs.IndexMap.{spare}
-use Rattle.gm_jobs.specs.Live.{Live, with_listener}
+use Rattle.gm_jobs.specs.Live.{with_listener}
 use Rattle.gm_jobs.specs.Listening.{list_of}
 use Rattle.gm_jobs.specs.Kept.{IsKept}
 use Rattle.gm_jobs.proofs.JobLemmas.{beside, kept_changed, kept_room, marked_changed, marked_of, reached_of, either}

@@ -1,6 +1,6 @@
-use Rattle.std.proofs.Common.{◌≡◌, inl, inr, refl, sym, subst}
+use Rattle.std.proofs.Common.{inl, inr, refl, sym, subst}
 use Rattle.indexmap.specs.IndexMap.{spare}
-use Rattle.gm_jobs.specs.Live.{Live, reported}
+use Rattle.gm_jobs.specs.Live.{reported}
 use Rattle.gm_jobs.specs.Kept.{IsKept}
 use Rattle.gm_jobs.proofs.JobLemmas.{beside, kept_changed, marked_changed, marked_of, either}
 use Rattle.gm_jobs.proofs.jobs.Jobs.report.Goals as goal

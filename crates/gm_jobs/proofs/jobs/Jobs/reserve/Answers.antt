@@ -1,8 +1,7 @@
-use Rattle.std.proofs.Common.{◌≡◌, ℕ, ◌<◌, List, Some, is_some, length, sym, ap, subst}
+use Rattle.std.proofs.Common.{ℕ, ◌<◌, List, Some, is_some, length, sym, ap, subst}
 use Rattle.indexmap.specs.IndexMap.{spare}
 use Rattle.gm_jobs.specs.Live.{Live}
-use Rattle.gm_jobs.specs.Tables.{Room}
-use Rattle.gm_jobs.specs.Kept.{Beside, IsKept}
+use Rattle.gm_jobs.specs.Kept.{IsKept}
 use Rattle.gm_jobs.proofs.JobLemmas.{beside, kept_room, kept_ready}
 use Rattle.gm_jobs.proofs.jobs.Jobs.reserve.Goals as goal
 use Rattle.gm_jobs.proofs.jobs.Jobs.reserve.Goals.{After-make_room}

@@ -1,5 +1,4 @@
-use Rattle.std.proofs.Common.{◌≡◌, Contains, OnOk, sym, subst, arith}
-use Rattle.std.proofs.lemmas.List.{get_or_default}
+use Rattle.std.proofs.Common.{Contains, OnOk, sym, subst, arith}
 use Rattle.gm_jobs.specs.Listening.{Lists, Heard}
 use Rattle.gm_jobs.proofs.ListLemmas.{Heard-set, list_of-set}
 use Rattle.gm_jobs.proofs.listening.Listening.add.Goals as goal

@@ -1,5 +1,5 @@
-use Rattle.std.proofs.Common.{◌≡◌, ℕ, ◌⊎◌, inl, inr, Contains, Option, Some, unwrap_or, sym, ap, subst, ◌∙◌}
-use Rattle.gm_jobs.specs.Listening.{Lists, list_of, Heard}
+use Rattle.std.proofs.Common.{◌≡◌, ℕ, inl, inr, Contains, Option, Some, unwrap_or, sym, ap, subst, ◌∙◌}
+use Rattle.gm_jobs.specs.Listening.{Lists, list_of}
 use Rattle.gm_jobs.proofs.listening.Listening.file.Goals as goal
 
 pub returns-in_ok-add-clause-kept : goal.returns-in_ok-add-clause-kept

@@ -1,9 +1,7 @@
-use Rattle.std.proofs.Common.{◌≡◌, ℕ, ◌<◌, ◌≤◌, ◌&&◌, false, length, ap, sym, subst, ◌∙◌, arith}
+use Rattle.std.proofs.Common.{◌≡◌, ℕ, ◌<◌, ◌≤◌, length, ap, sym, subst, ◌∙◌, arith}
 use Rattle.std.proofs.lemmas.List.{get_or_default}
 use Rattle.gm_jobs.specs.declared.marks.Mark.{Mark}
-use Rattle.gm_jobs.specs.Tables.{find_job, passes}
-use Rattle.gm_jobs.specs.Queries.{meets, may_meet}
-use Rattle.gm_jobs.specs.Marks.{MarkTable, Rises, mark_at, number_at, Marked}
+use Rattle.gm_jobs.specs.Marks.{MarkTable, number_at, Marked}
 use Rattle.gm_jobs.proofs.MarkLemmas.{least_next}
 use Rattle.gm_jobs.proofs.marks.Marks.next.Goals as goal
 

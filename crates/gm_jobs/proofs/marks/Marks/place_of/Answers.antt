@@ -1,7 +1,7 @@
 use Rattle.std.proofs.Common.{◌≡◌, ◌-◌, length, ap, sym, subst, ◌∙◌, arith}
 use Rattle.std.proofs.lemmas.List.{get_or_default}
 use Rattle.gm_jobs.specs.declared.marks.Mark.{Mark}
-use Rattle.gm_jobs.specs.Marks.{MarkTable, Rises, number_at, IsPlaceFor}
+use Rattle.gm_jobs.specs.Marks.{MarkTable, Rises, number_at}
 use Rattle.gm_jobs.proofs.MarkLemmas.{below_strictly}
 use Rattle.gm_jobs.proofs.marks.Marks.place_of.Goals as goal
 

@@ -1,8 +1,7 @@
 use Rattle.std.proofs.Common.{◌≡◌, ◌<◌, inl, inr, IsOk, insert, Contains, length, ap, sym, subst, ◌∙◌, arith}
 use Rattle.std.specs.Vec.{vec_len, vec_capacity}
-use Rattle.gm_jobs.specs.declared.marks.Mark.{Mark}
 use Rattle.gm_jobs.specs.Marks.{MarkTable, Rises, number_at, IsPlaceFor}
-use Rattle.gm_jobs.proofs.MarkLemmas.{Rises-set, Contains-set_here, Contains-set_other, Rises-insert, Contains-insert_here, Contains-insert_other, no_number}
+use Rattle.gm_jobs.proofs.MarkLemmas.{Rises-set, Contains-set_other, Rises-insert, Contains-insert_here, Contains-insert_other, no_number}
 use Rattle.gm_jobs.proofs.marks.Marks.put.Goals as goal
 use Rattle.gm_jobs.proofs.marks.Marks.put.Goals.{After-self-1, After-insert-fits}
 

@@ -1,4 +1,4 @@
-use Rattle.std.proofs.Common.{◌≡◌, ◌||◌, Contains, ap, sym, subst, ◌∙◌, arith}
+use Rattle.std.proofs.Common.{◌||◌, Contains, ap, sym, subst, ◌∙◌, arith}
 use Rattle.gm_jobs.specs.declared.marks.Mark.{Mark}
 use Rattle.gm_jobs.specs.Live.{is_orphan}
 use Rattle.gm_jobs.specs.Tables.{find_job}

@@ -1,4 +1,4 @@
-use Rattle.std.proofs.Common.{◌≡◌, ℕ, ◌<◌, ◌%◌, true, length}
+use Rattle.std.proofs.Common.{◌≡◌, ℕ, ◌<◌, true}
 use Rattle.gm_jobs.specs.Live.{is_named}
 use Rattle.gm_jobs.specs.Tables.{find_job, passes}
 use Rattle.gm_jobs.specs.Uniques.{looked_at, is_taken}

@@ -1,4 +1,4 @@
-use Rattle.std.proofs.Common.{◌≡◌, ◌<◌, length, ap, ◌∙◌, sym, subst, arith}
+use Rattle.std.proofs.Common.{◌≡◌, ◌<◌, length, ◌∙◌, sym, subst, arith}
 use Rattle.gm_jobs.specs.Uniques.{Cells}
 use Rattle.gm_jobs.proofs.CellLemmas.{none_free}
 use Rattle.gm_jobs.proofs.uniques.Uniques.free_cell.Goals as goal

@@ -1,4 +1,4 @@
-use Rattle.std.proofs.Common.{◌≡◌, ℕ, ◌<◌, ◌≤◌, ◌*◌, ◌+◌, true, length, slice_get, Some}
+use Rattle.std.proofs.Common.{◌≡◌, ℕ, ◌<◌, ◌≤◌, true, length, slice_get, Some}
 use Rattle.gm_notes.specs.Jobs.{joins}
 use Rattle.gm_jobs.specs.Live.{Live}
 use Rattle.gm_jobs.specs.Uniques.{Reaches, digest_of}
