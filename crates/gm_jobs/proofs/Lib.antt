@@ -1,0 +1,4 @@
+pub mod CellLemmas
+pub mod JobLemmas
+pub mod ListLemmas
+pub mod MarkLemmas

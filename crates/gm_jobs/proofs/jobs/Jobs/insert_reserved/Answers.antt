@@ -1,0 +1,65 @@
+use Rattle.std.proofs.Common.{◌≡◌, ℕ, ◌+◌, ◌^◌, ◌≤◌, ◌==◌, true, if◌then◌else◌, Contains, Option, Some, IsOk, is_some, length, unwrap_or, sym, ap, subst, ◌∙◌, arith}
+use Rattle.indexmap.specs.IndexMap.{spare}
+use Rattle.gm_notes.specs.Jobs.{joins}
+use Rattle.gm_jobs.specs.Live.{Live, is_named}
+use Rattle.gm_jobs.specs.Tables.{Room, Table, find_job, passes}
+use Rattle.gm_jobs.specs.Kept.{IsReady, IsKept}
+use Rattle.gm_jobs.specs.Marks.{MarkedBut}
+use Rattle.gm_jobs.specs.Listening.{Heard}
+use Rattle.gm_jobs.specs.Uniques.{Reaches, digest_of}
+use Rattle.gm_jobs.proofs.CellLemmas.{Reaches-same}
+use Rattle.gm_jobs.proofs.JobLemmas.{beside, marked_of, marked_but_made, kept_made, on_ok, if_ok, one_more, next_is, listed_heard}
+use Rattle.gm_jobs.proofs.jobs.Jobs.insert_reserved.Goals as goal
+use Rattle.gm_jobs.proofs.jobs.Jobs.insert_reserved.Goals.{After-begin}
+
+number : (c : After-begin) → (beside c.self.inside).next ≡ c.unwrap-number.result
+number c = ap (λ o. unwrap_or o (2 ^ 64)) c.unwrap-number.ensures
+
+ready : (c : After-begin) → IsReady (beside c.self.inside) (spare c.self.inside.jobs) (length c.self.inside.jobs.entries)
+ready c = c.self.invariant.ready c.unwrap-space.result (sym c.take.ensures.value ∙ c.unwrap-space.ensures)
+
+fits : (c : After-begin) → IsOk c.insert-fits.result
+fits c = c.insert-fits.ensures.succeeds (ready c).job
+
+adds : (c : After-begin) → (m : ℕ) → find_job c.insert-fits.new.self.entries m ≡ (if (beside c.self.inside).next == m then Some c.fill.result else find_job c.self.inside.jobs.entries m)
+adds c =
+    let updates = on_ok c.insert-fits.result (fits c) c.insert-fits.ensures.updates in
+    subst (λ i. (m : ℕ) → find_job c.insert-fits.new.self.entries m ≡ (if i == m then Some c.fill.result else find_job c.self.inside.jobs.entries m)) (sym (number c)) updates.0
+
+pub mark-requires-clause-others : goal.mark-requires-clause-others
+mark-requires-clause-others c =
+    let d = (goal.at.mark-requires-clause-others c).After-begin in
+    let t = c.self.inside in
+    subst (λ i. MarkedBut i c.insert-fits.new.self.entries t.marks.marks) (number d)
+    (marked_but_made (beside t) t.jobs.entries c.fill.result c.insert-fits.new.self.entries (adds d) t.marks (marked_of (beside t) t.jobs.entries t.space _ c.self.invariant))
+
+made_reached : (c : After-begin) → joins c.fill.result.unique ≡ true → Reaches c.enter.new.self.cells (digest_of c.self.inside.seed c.fill.result.function c.fill.result.unique) (beside c.self.inside).next
+made_reached c good =
+    let unique = ap (λ (l : Live). l.unique) c.fill.ensures in
+    Reaches-same c.enter.new.self.cells c.self.inside.seed c.args.new.f c.fill.result.function c.unwrap-number.result (beside c.self.inside).next c.args.new.unique.now c.fill.result.unique
+    (sym (ap (λ (l : Live). l.function) c.fill.ensures)) (sym unique) (sym (number c)) (c.enter.ensures.stands (ap joins (sym unique) ∙ good))
+
+made_heard : (c : After-begin) (s : ℕ) → Contains c.fill.result.listeners s → Heard c.begin.new.self s (beside c.self.inside).next
+made_heard c s there =
+    subst (λ i. Heard c.begin.new.self s i) (sym (number c))
+    (listed_heard c.args.new.listener c.begin.new.self s c.unwrap-number.result (subst (λ (l : Live). Contains l.listeners s) c.fill.ensures there) c.begin.ensures.stands)
+
+made_single : (c : After-begin) (m : ℕ) (live : Live) → joins c.fill.result.unique ≡ true → find_job c.self.inside.jobs.entries m ≡ Some live → is_named c.fill.result.function c.fill.result.unique live ≡ true → ⊥
+made_single c m live good found named =
+    c.requires.single m (record {
+      joins = ap (λ (l : Live). joins l.unique) (sym c.fill.ensures) ∙ good;
+      named = subst (λ (t : Table). passes (is_named c.args.new.f c.args.new.unique.now) (find_job t.live m) ≡ true) c.self.view_is
+          (ap (passes (is_named c.args.new.f c.args.new.unique.now)) found ∙ ap (λ (l : Live). is_named l.function l.unique live) (sym c.fill.ensures) ∙ named);
+    })
+
+pub invariant_of-self : goal.invariant_of-self
+invariant_of-self c =
+    let d = (goal.at.invariant_of-self c).After-begin in
+    let t = c.self.inside in
+    let next : unwrap_or c.checked_add-self-inside.result (2 ^ 64) ≡ (beside t).next + 1 = next_is c.checked_add-self-inside.result c.unwrap-number.result c.checked_add-self-inside.ensures (omega arith) ∙ ap (λ i. i + 1) (sym (number d)) in
+    let longer = if_ok c.insert-fits.result _ (fits d) c.insert-fits.ensures.len in
+    let more : length c.insert-fits.new.self.entries ≤ length t.jobs.entries + 1 = one_more _ _ longer.0 longer.1 in
+    subst (λ i. IsKept (record (beside t) { next = i; left = is_some c.checked_add-self-inside.result; uniques = c.enter.new.self; marks = c.mark.new.self; listening = c.begin.new.self }) c.take.new.self (spare c.insert-fits.new.self) c.insert-fits.new.self.entries) (sym next)
+    (subst (λ (r : Option Room). IsKept (record (beside t) { next = (beside t).next + 1; left = is_some c.checked_add-self-inside.result; uniques = c.enter.new.self; marks = c.mark.new.self; listening = c.begin.new.self }) r (spare c.insert-fits.new.self) c.insert-fits.new.self.entries) (sym c.take.ensures.after)
+    (kept_made (beside t) t.jobs.entries c.fill.result c.insert-fits.new.self.entries (adds d) (is_some c.checked_add-self-inside.result) t.space c.unwrap-space.result (spare t.jobs) (spare c.insert-fits.new.self) c.enter.new.self c.mark.new.self c.begin.new.self
+    c.self.invariant more (ready d) (made_reached d) c.enter.ensures.kept c.mark.ensures.room c.mark.ensures.marked c.begin.ensures.kept (made_heard d) (ap (λ (l : Live). l.slot) c.fill.ensures) (made_single d)))

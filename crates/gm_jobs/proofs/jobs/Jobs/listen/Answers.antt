@@ -1,0 +1,43 @@
+use Rattle.std.proofs.Common.{◌≡◌, ℕ, ◌+◌, Bool, true, false, not, ◌&&◌, ◌||◌, ◌==◌, ◌++◌, ◌∷◌, [], inl, inr, Contains, length, is_some, refl, sym, subst, ◌∙◌, arith, length-append}
+use Rattle.std.proofs.lemmas.List.Elements.{Contains-push_cases}
+use Rattle.std.proofs.lemmas.Bool.{false≢true}
+use Rattle.std.proofs.lemmas.Bool.Decides.{nat_tests}
+use Rattle.indexmap.specs.IndexMap.{spare}
+use Rattle.gm_jobs.specs.Live.{with_listener}
+use Rattle.gm_jobs.specs.Listening.{list_of}
+use Rattle.gm_jobs.specs.Kept.{IsKept}
+use Rattle.gm_jobs.proofs.JobLemmas.{beside, kept_changed, kept_room, marked_changed, marked_of, reached_of, either}
+use Rattle.gm_jobs.proofs.jobs.Jobs.listen.Goals as goal
+
+-- a job with a listener has a mark only where it runs
+still : (a k : Bool) (n m : ℕ) → m ≡ n + 1 → (a || (not a && not k && (m == 0))) ≡ true → (a || (not a && not k && (n == 0))) ≡ true
+still true k n m h e = refl
+still false true n m h e = absurd (false≢true e)
+still false false n m h e = absurd (let none : (m == 0) ≡ true = e in let zero_is : m ≡ 0 = grind (arith, nat_tests) in omega arith)
+
+pub invariant_of-self : goal.invariant_of-self
+invariant_of-self c =
+    let t = c.self.inside in
+    kept_room (beside t) t.jobs.entries t.uniques t.marks c.add.new.self t.space _ _ c.self.invariant (omega arith) (reached_of (beside t) t.jobs.entries t.space _ c.self.invariant) (λ h. h) refl (omega arith)
+    c.add.ensures.kept (λ e. c.add.ensures.fresh ∙ e)
+
+pub invariant_of-self-2 : goal.invariant_of-self-2
+invariant_of-self-2 c =
+    let t = c.self.inside in
+    elim (either c.listen_job.result c.listen_job.ensures.ok c.listen_job.ensures.err) [
+      | inl change ↦
+          kept_changed (beside t) c.args.n (with_listener c.args.slot) t.jobs.entries c.listen_job.new.jobs.entries t.marks c.add.new.self t.soonest t.space _ _ c.self.invariant change
+          (λ l. refl) (λ l. refl) c.listen_job.ensures.spare refl
+          (marked_changed c.args.n (with_listener c.args.slot) t.jobs.entries c.listen_job.new.jobs.entries t.marks change (marked_of (beside t) t.jobs.entries t.space _ c.self.invariant) (λ l. refl)
+          (λ l e. still (is_some l.slot) l.kept (length l.listeners) (length (l.listeners ++ c.args.slot ∷ [])) (length-append l.listeners (c.args.slot ∷ [])) e))
+          c.add.ensures.kept
+          (λ l d there. elim (Contains-push_cases l.listeners c.args.slot d there) [
+            | inl old ↦ inl old
+            | inr new ↦ inr (inl (subst (λ i. Contains (list_of c.add.new.self i) c.args.n) new c.in_ok-add.ensures.ok))
+          ])
+          (λ e. c.add.ensures.fresh ∙ e) (λ l h. h) (λ l h. h)
+      | inr same ↦
+          subst (λ es. IsKept (record (beside t) { listening = c.add.new.self }) t.space (spare c.listen_job.new.jobs) es) (sym same)
+          (kept_room (beside t) t.jobs.entries t.uniques t.marks c.add.new.self t.space (spare t.jobs) (spare c.listen_job.new.jobs) c.self.invariant (let less = c.listen_job.ensures.spare in omega arith) (reached_of (beside t) t.jobs.entries t.space _ c.self.invariant) (λ h. h) refl (omega arith)
+          c.add.ensures.kept (λ e. c.add.ensures.fresh ∙ e))
+    ]

@@ -1,0 +1,27 @@
+-- What becomes of one job among all.
+use Rattle.std.specs.Prelude.{◌≡◌, ℕ, ◌==◌, ◌⊎◌, if◌then◌else◌, List, length}
+use Rattle.std.specs.Option.{option_map}
+use Rattle.gm_jobs.specs.declared.jobs.Change.{Change}
+use Rattle.gm_jobs.specs.declared.jobs.Change.TheVariants.{Assign, GiveBack, Keep, Leave}
+use Rattle.gm_jobs.specs.Live.{Live, assigned, returned, kept, without_listener}
+use Rattle.gm_jobs.specs.Tables.{find_job}
+
+abbrev pub changed : Change → Live → Live
+changed (Assign slot deadline) live = assigned slot deadline live
+changed GiveBack live = returned live
+changed Keep live = kept live
+changed (Leave slot) live = without_listener slot live
+
+-- The job, if it is live, is what the change makes of it.
+pub record ChangesJob (n : ℕ) (change : Live → Live) (old new : List (ℕ × Live)) : Type 0 where
+  pub jobs : (m : ℕ) → find_job new m ≡ (if n == m then option_map change (find_job old m) else find_job old m)
+  pub len : length new ≡ length old
+
+-- the slot listens no more to the job
+abbrev pub LeavesOne : ℕ → ℕ → List (ℕ × Live) → List (ℕ × Live) → Type 0
+LeavesOne slot n old new = find_job new n ≡ option_map (without_listener slot) (find_job old n)
+
+-- The slot listens no more to some of the jobs.
+pub record LeavesSome (slot : ℕ) (old new : List (ℕ × Live)) : Type 0 where
+  pub jobs : (n : ℕ) → (find_job new n ≡ find_job old n) ⊎ LeavesOne slot n old new
+  pub len : length new ≡ length old

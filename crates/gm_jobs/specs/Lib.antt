@@ -1,0 +1,9 @@
+pub mod Changes
+pub mod Kept
+pub mod Listening
+pub mod Live
+pub mod Marks
+pub mod Numbers
+pub mod Queries
+pub mod Tables
+pub mod Uniques

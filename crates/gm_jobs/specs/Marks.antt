@@ -1,0 +1,55 @@
+-- What is kept of the jobs that may be asked for by their order.
+use Rattle.std.specs.Prelude.{◌≡◌, ◌≢◌, ◌⊎◌, ℕ, ◌<◌, ◌≤◌, Bool, true, ◌||◌, List, [], ◌∷◌, Contains, length, slice_index_or, is_some, IsSome, Some, None}
+use Rattle.std.specs.List.{AllByRecursion}
+use Rattle.gm_jobs.specs.declared.marks.Mark.{Mark}
+use Rattle.gm_jobs.specs.Live.{Live, is_orphan}
+use Rattle.gm_jobs.specs.Tables.{find_job}
+
+-- the marks, and for how many there is room
+pub record MarkTable : Type 0 where
+  pub marks : List Mark
+  pub room : ℕ
+
+-- the numbers rise
+abbrev pub Rises : List Mark → Type 0
+Rises [] = Unit {0}
+Rises (x ∷ xs) = AllByRecursion (λ y. x.number < y.number) xs × Rises xs
+
+-- a job that has a mark: it runs, or nobody wants it
+abbrev pub is_marked : Live → Bool
+is_marked live = is_some live.slot || is_orphan live
+
+abbrev pub mark_of : ℕ → Live → Mark
+mark_of n live = record { number = n; slot = live.slot }
+
+-- Each live job that has a mark is among these.
+abbrev pub Marked : List (ℕ × Live) → List Mark → Type 0
+Marked jobs marks = (n : ℕ) (live : Live) → find_job jobs n ≡ Some live → is_marked live ≡ true → Contains marks (mark_of n live)
+
+-- and so is each but one
+abbrev pub MarkedBut : ℕ → List (ℕ × Live) → List Mark → Type 0
+MarkedBut number jobs marks = (n : ℕ) (live : Live) → n ≢ number → find_job jobs n ≡ Some live → is_marked live ≡ true → Contains marks (mark_of n live)
+
+-- the job of each mark is live
+abbrev pub AllLive : List (ℕ × Live) → List Mark → Type 0
+AllLive jobs marks = (m : Mark) → Contains marks m → IsSome (find_job jobs m.number)
+
+abbrev pub mark_at : List Mark → ℕ → Mark
+mark_at marks k = slice_index_or marks k (record { number = 0; slot = None })
+
+abbrev pub number_at : List Mark → ℕ → ℕ
+number_at marks k = (mark_at marks k).number
+
+-- there is room for one mark more, or one of this number stands
+abbrev pub HasRoomFor : ℕ → MarkTable → Type 0
+HasRoomFor number table = (length table.marks < table.room) ⊎ ((k : ℕ) × (k < length table.marks) × (number_at table.marks k ≡ number))
+
+-- A mark of this number would stand here: those before it have smaller numbers, and the others greater ones.
+pub record IsPlaceFor (marks : List Mark) (number at : ℕ) : Type 0 where
+  pub within : at ≤ length marks
+  pub below : (k : ℕ) → k < at → number_at marks k < number
+  pub above : (k : ℕ) → at ≤ k → k < length marks → number < number_at marks k
+
+-- where the job runs until a deadline, that isn't sooner
+abbrev pub IsSoon : ℕ → Live → Type 0
+IsSoon soonest live = (deadline : ℕ) → is_some live.slot ≡ true → live.deadline ≡ Some deadline → soonest ≤ deadline

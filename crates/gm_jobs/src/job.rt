@@ -1,0 +1,295 @@
+//! What is known of one job.
+
+ghost use Rattle.std.specs.Prelude.{◌≡◌, ◌≤◌, ◌&&◌, not, ◌==◌, ◌↔◌, length, IsTrue, IfOk, OnOk, OnErr, Some, None, is_some};
+ghost use Rattle.std.specs.Option.{option_map};
+ghost use Rattle.gm_jobs.specs.Live.{Live, fresh, assigned, returned, kept, reported, with_listener, without_listener, place_at, is_named, is_run_by, is_orphan, is_due};
+ghost use Rattle.gm_notes.specs.Jobs.{joins};
+ghost use Rattle.gm_jobs.specs.Marks.{is_marked};
+ghost use Rattle.gm_jobs.specs.Tables.{Room};
+
+use gm_notes::{Place, Priority};
+use std::alloc::{AllocError, Global};
+use std::marker::Model;
+
+/// A job to be made: its function by number, and who listens to it from the start, if anybody does.
+#[derive(Clone, Copy)]
+pub struct NewJob<'a> {
+    pub f: u32,
+    pub p: Priority,
+    pub unique: &'a [u8],
+    pub body: &'a [u8],
+    /// Whether a background submission keeps it.
+    pub kept: bool,
+    pub listener: Option<u32>,
+}
+
+// How far a job is.
+#[derive(Drop)]
+struct Report {
+    numerator: Vec<u8>,
+    denominator: Vec<u8>,
+}
+
+/// A live job.
+#[derive(Drop)]
+pub struct Job {
+    f: u32,
+    p: Priority,
+    kept: bool,
+    slot: Option<u32>,
+    deadline: Option<u64>,
+    unique: Vec<u8>,
+    body: Vec<u8>,
+    report: Option<Box<Report>>,
+    listeners: Vec<u32>,
+}
+
+impl Model for Job {
+    ghost use Rattle.std.specs.Option.{option_map};
+    ghost use Rattle.gm_jobs.specs.Live.{Live};
+
+    ghost Value = { Live };
+
+    ghost view = { λ j. record { function = j.f; priority = j.p; unique = j.unique.items; body = j.body.items; kept = j.kept; slot = j.slot; deadline = j.deadline; report = option_map (λ r. (r.value.numerator.items, r.value.denominator.items)) j.report; listeners = j.listeners.items } };
+}
+
+/// Whether a unique id names a job: it isn't empty, and no dash.
+pub(crate) fn joins(unique: &[u8]) -> bool
+    ensures { result ≡ joins unique.now }
+{
+    !unique.is_empty() && unique != b"-".as_slice()
+}
+
+impl Job {
+    /// The function, by number.
+    pub fn f(&self) -> u32
+        ensures { result ≡ self.now.function }
+    {
+        self.f
+    }
+
+    pub fn p(&self) -> Priority
+        ensures { result ≡ self.now.priority }
+    {
+        self.p
+    }
+
+    pub fn unique(&self) -> &[u8]
+        ensures { result.now ≡ self.now.unique }
+    {
+        self.unique.as_slice()
+    }
+
+    pub fn body(&self) -> &[u8]
+        ensures { result.now ≡ self.now.body }
+    {
+        self.body.as_slice()
+    }
+
+    /// Whether a background submission keeps it.
+    pub fn kept(&self) -> bool
+        ensures { result ≡ self.now.kept }
+    {
+        self.kept
+    }
+
+    pub fn place(&self) -> Place
+        ensures { result ≡ place_at self.now.slot }
+    {
+        match self.slot {
+            Some(slot) => Place::Running(slot),
+            None => Place::Waiting,
+        }
+    }
+
+    /// How far it is, once that was told: a numerator and a denominator.
+    pub fn report(&self) -> Option<(&[u8], &[u8])>
+        ensures { option_map (λ r. (r.0.now, r.1.now)) result ≡ self.now.report }
+    {
+        match &self.report {
+            Some(report) => Some((report.numerator.as_slice(), report.denominator.as_slice())),
+            None => None,
+        }
+    }
+
+    /// Who listens to it, in the order in which they came.
+    pub(crate) fn listeners(&self) -> &[u32]
+        ensures { result.now ≡ self.now.listeners }
+    {
+        self.listeners.as_slice()
+    }
+
+    pub(crate) fn slot(&self) -> Option<u32>
+        ensures { result ≡ self.now.slot }
+    {
+        self.slot
+    }
+
+    pub(crate) fn deadline(&self) -> Option<u64>
+        ensures { result ≡ self.now.deadline }
+    {
+        self.deadline
+    }
+
+    pub(crate) fn is_named(&self, f: u32, unique: &[u8]) -> bool
+        ensures { result ≡ is_named f unique.now self.now }
+    {
+        self.f == f && self.unique.as_slice() == unique
+    }
+
+    pub(crate) fn is_run_by(&self, slot: u32) -> bool
+        ensures { result ≡ is_run_by slot self.now }
+    {
+        match self.slot {
+            Some(c) => c == slot,
+            None => false,
+        }
+    }
+
+    pub(crate) fn is_orphan(&self) -> bool
+        ensures { result ≡ is_orphan self.now }
+    {
+        self.slot.is_none() && !self.kept && self.listeners.is_empty()
+    }
+
+    pub(crate) fn is_marked(&self) -> bool
+        ensures { result ≡ is_marked self.now }
+    {
+        self.slot.is_some() || self.is_orphan()
+    }
+
+    pub(crate) fn is_due(&self, now: u64) -> bool
+        ensures { result ≡ is_due now self.now }
+    {
+        match self.deadline {
+            Some(deadline) => self.slot.is_some() && deadline <= now,
+            None => false,
+        }
+    }
+
+    pub(crate) fn assign(&mut self, slot: u32, deadline: Option<u64>)
+        ensures { self.new ≡ assigned slot deadline self.old }
+    {
+        self.slot = Some(slot);
+        self.deadline = deadline;
+    }
+
+    pub(crate) fn give_back(&mut self)
+        ensures { self.new ≡ returned self.old }
+    {
+        self.slot = None;
+        self.deadline = None;
+    }
+
+    pub(crate) fn keep(&mut self)
+        ensures { self.new ≡ kept self.old }
+    {
+        self.kept = true;
+    }
+
+    /// It is so far.
+    pub(crate) fn report_so_far(
+        &mut self,
+        alloc: Global,
+        numerator: &[u8],
+        denominator: &[u8],
+    ) -> Result<(), AllocError>
+        ensures ok { OnOk result (self.new ≡ reported numerator.now denominator.now self.old) }
+        ensures err { OnErr result (self.new ≡ self.old) }
+    {
+        let report = Report {
+            numerator: Vec::from_slice(alloc, numerator)?,
+            denominator: Vec::from_slice(alloc, denominator)?,
+        };
+        self.report = Some(Box::new(alloc, report)?);
+        Ok(())
+    }
+
+    /// The slot listens, once more.
+    pub(crate) fn listen(&mut self, slot: u32) -> Result<(), AllocError>
+        ensures ok { OnOk result (self.new ≡ with_listener slot self.old) }
+        ensures err { OnErr result (self.new ≡ self.old) }
+    {
+        self.listeners.push(slot)?;
+        Ok(())
+    }
+
+    /// The slot listens no more.
+    pub(crate) fn leave(&mut self, slot: u32)
+        ensures { self.new ≡ without_listener slot self.old }
+    {
+        self.listeners.retain(|c| *c != slot);
+    }
+}
+
+/// The memory for one job's texts, and for its first listener.
+#[derive(Drop)]
+pub(crate) struct Space {
+    f: u32,
+    unique: Vec<u8>,
+    body: Vec<u8>,
+    listeners: Vec<u32>,
+}
+
+impl Model for Space {
+    ghost use Rattle.std.specs.Prelude.{◌≡◌, ◌<◌, []};
+    ghost use Rattle.std.specs.Vec.{vec_capacity};
+    ghost use Rattle.gm_jobs.specs.Tables.{Room};
+
+    ghost Value = { Room };
+
+    ghost view = { λ s. record { function = s.f; unique_len = vec_capacity s.unique; body_len = vec_capacity s.body } };
+
+    ghost invariant = { λ s. (s.unique.items ≡ []) × (s.body.items ≡ []) × (s.listeners.items ≡ []) × (0 < vec_capacity s.listeners) };
+}
+
+impl Space {
+    pub(crate) fn new(
+        alloc: Global,
+        f: u32,
+        unique_len: usize,
+        body_len: usize,
+    ) -> Result<Space, AllocError>
+        ensures { IfOk result (λ room. room ≡ record { function = f; unique_len = unique_len; body_len = body_len }) }
+    {
+        Ok(Space {
+            f,
+            unique: Vec::with_capacity(alloc, unique_len)?,
+            body: Vec::with_capacity(alloc, body_len)?,
+            listeners: Vec::with_capacity(alloc, 1)?,
+        })
+    }
+
+    /// The job, in this memory.
+    pub(crate) fn fill(self, alloc: Global, new: NewJob<'_>) -> Job
+        requires unique { length new.unique.now ≤ self.unique_len }
+        requires body { length new.body.now ≤ self.body_len }
+        ensures { result ≡ fresh new.entry.f new.entry.p new.entry.unique.now new.entry.body.now new.entry.kept new.entry.listener }
+    {
+        let Space {
+            f: _,
+            mut unique,
+            mut body,
+            mut listeners,
+        } = self;
+        let _unique = unique.extend_from_slice(new.unique);
+        let _body = body.extend_from_slice(new.body);
+        match new.listener {
+            Some(slot) => {
+                let _listens = listeners.push(slot);
+            }
+            None => listeners = Vec::new(alloc),
+        }
+        Job {
+            f: new.f,
+            p: new.p,
+            kept: new.kept,
+            slot: None,
+            deadline: None,
+            unique,
+            body,
+            report: None,
+            listeners,
+        }
+    }
+}

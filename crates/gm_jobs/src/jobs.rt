@@ -1,0 +1,434 @@
+//! The table of jobs.
+
+ghost use Rattle.std.specs.Prelude.{◌≡◌, ℕ, ◌+◌, ◌<◌, ◌≤◌, ◌^◌, ◌↔◌, Some, None, IsSome, IfSome, IfNone, IfOk, OnOk, OnErr, Err, Contains, length};
+ghost use Rattle.std.specs.Option.{option_copied};
+ghost use Rattle.indexmap.specs.IndexMap.{spare};
+ghost use Rattle.gm_jobs.specs.Live.{fresh, assigned, returned, kept, reported, with_listener, without_listener, is_run_by, is_orphan, is_due};
+ghost use Rattle.gm_jobs.specs.Tables.{no_jobs, job, find_job, is_made, place, listeners_of, IsNamed, HasRoom, with_room, Makes, Changes, Ends, Leaves, IsNext, IsLast};
+ghost use Rattle.gm_jobs.specs.Marks.{Marked};
+ghost use Rattle.gm_jobs.specs.Listening.{Heard};
+ghost use Rattle.gm_jobs.specs.Changes.{changed, ChangesJob, LeavesOne, LeavesSome};
+ghost use Rattle.gm_jobs.specs.Uniques.{Reached};
+
+use crate::job::{Job, NewJob, Space, joins};
+use crate::listening::Listening;
+use crate::marks::{Marks, Query};
+use crate::uniques::{Uniques, digest};
+use gm_notes::Place;
+use indexmap::IndexMap;
+use std::alloc::{AllocError, Global};
+use std::hash::RandomState;
+use std::marker::Model;
+
+/// Why there is no room for a job. What is refused changes nothing.
+#[derive(Clone, Copy, Debug, PartialEq, Eq)]
+pub enum JobError {
+    /// There was no memory for it.
+    Memory = 6,
+    /// The last number was given out.
+    NumbersSpent = 15,
+}
+
+impl JobError {
+    ghost use Rattle.gm_jobs.specs.Numbers.{job_error_number};
+
+    /// The number of this refusal.
+    pub fn number(self) -> u8
+        ensures { result ≡ job_error_number self }
+    {
+        self as u8
+    }
+}
+
+impl From<AllocError> for JobError {
+    ghost use Rattle.gm_jobs.specs.declared.jobs.JobError.TheVariants.{Memory};
+
+    ghost from_gives = { λ _ e. e ≡ Memory };
+
+    fn from(_e: AllocError) -> JobError {
+        JobError::Memory
+    }
+}
+
+/// The live jobs by their numbers.
+///
+/// A call at a number that no live job has changes nothing. Calls that answer no refusal take no memory. Slots are
+/// small numbers: there is a list for each up to the greatest.
+#[derive(Drop)]
+pub struct Jobs {
+    alloc: Global,
+    seed: RandomState,
+    first: u64,
+    // None once the last number was given out.
+    next: Option<u64>,
+    jobs: IndexMap<u64, Job, RandomState>,
+    uniques: Uniques,
+    marks: Marks,
+    listening: Listening,
+    space: Option<Space>,
+    // No deadline of a running job is sooner.
+    soonest: u64,
+}
+
+impl Model for Jobs {
+    ghost use Rattle.std.specs.Prelude.{◌^◌, is_some};
+    ghost use Rattle.std.specs.Option.{unwrap_or};
+    ghost use Rattle.indexmap.specs.IndexMap.{spare};
+    ghost use Rattle.gm_jobs.specs.Tables.{Table};
+    ghost use Rattle.gm_jobs.specs.Kept.{Beside, IsKept};
+
+    ghost Value = { Table };
+
+    ghost view = { λ t. record { first = t.first; next = unwrap_or t.next (2 ^ 64); room = t.space; live = t.jobs.entries } };
+
+    ghost invariant = { λ t. IsKept (record { seed = t.seed; first = t.first; next = unwrap_or t.next (2 ^ 64); left = is_some t.next; uniques = t.uniques; marks = t.marks; listening = t.listening; soonest = t.soonest }) t.space (spare t.jobs) t.jobs.entries };
+}
+
+// What becomes of a job.
+#[derive(Clone, Copy)]
+pub(crate) enum Change {
+    Assign(u32, Option<u64>),
+    GiveBack,
+    Keep,
+    Leave(u32),
+}
+
+// Changes the job of a number, if it is live.
+fn change_job(jobs: &mut IndexMap<u64, Job, RandomState>, number: u64, change: Change)
+    ensures jobs { ChangesJob number (changed change) jobs.old.entries jobs.new.entries }
+    ensures spare { spare jobs.new ≡ spare jobs.old }
+{
+    if let Some(job) = jobs.get_mut(&number) {
+        match change {
+            Change::Assign(slot, deadline) => job.assign(slot, deadline),
+            Change::GiveBack => job.give_back(),
+            Change::Keep => job.keep(),
+            Change::Leave(slot) => job.leave(slot),
+        }
+    }
+}
+
+// The job of a number, if it is live, is so far.
+fn report_job(
+    alloc: Global,
+    jobs: &mut IndexMap<u64, Job, RandomState>,
+    number: u64,
+    numerator: &[u8],
+    denominator: &[u8],
+) -> Result<(), AllocError>
+    ensures ok { OnOk result (ChangesJob number (reported numerator.now denominator.now) jobs.old.entries jobs.new.entries) }
+    ensures err { OnErr result (jobs.new.entries ≡ jobs.old.entries) }
+    ensures spare { spare jobs.new ≡ spare jobs.old }
+{
+    match jobs.get_mut(&number) {
+        Some(job) => job.report_so_far(alloc, numerator, denominator),
+        None => Ok(()),
+    }
+}
+
+// The slot listens to the job of a number, if it is live.
+fn listen_job(
+    jobs: &mut IndexMap<u64, Job, RandomState>,
+    number: u64,
+    slot: u32,
+) -> Result<(), AllocError>
+    ensures ok { OnOk result (ChangesJob number (with_listener slot) jobs.old.entries jobs.new.entries) }
+    ensures err { OnErr result (jobs.new.entries ≡ jobs.old.entries) }
+    ensures spare { spare jobs.new ≡ spare jobs.old }
+{
+    match jobs.get_mut(&number) {
+        Some(job) => job.listen(slot),
+        None => Ok(()),
+    }
+}
+
+// The slot listens no more to the job.
+fn leave_one(jobs: &mut IndexMap<u64, Job, RandomState>, marks: &mut Marks, number: u64, slot: u32)
+    requires room { length jobs.old.entries ≤ marks.old.room }
+    requires marked { Marked jobs.old.entries marks.old.marks }
+    ensures jobs { ChangesJob number (without_listener slot) jobs.old.entries jobs.new.entries }
+    ensures spare { spare jobs.new ≡ spare jobs.old }
+    ensures marked { Marked jobs.new.entries marks.new.marks }
+    ensures room { marks.new.room ≡ marks.old.room }
+{
+    change_job(jobs, number, Change::Leave(slot));
+    marks.mark(jobs, number);
+}
+
+// The slot listens no more to these jobs.
+fn leave_all(
+    jobs: &mut IndexMap<u64, Job, RandomState>,
+    marks: &mut Marks,
+    numbers: &[u64],
+    slot: u32,
+)
+    requires room { length jobs.old.entries ≤ marks.old.room }
+    requires marked { Marked jobs.old.entries marks.old.marks }
+    ensures left { LeavesSome slot jobs.old.entries jobs.new.entries }
+    ensures these { (n : ℕ) → Contains numbers.now n → LeavesOne slot n jobs.old.entries jobs.new.entries }
+    ensures spare { spare jobs.new ≡ spare jobs.old }
+    ensures marked { Marked jobs.new.entries marks.new.marks }
+    ensures room { marks.new.room ≡ marks.old.room }
+{
+    for number in numbers {
+        leave_one(jobs, marks, *number, slot);
+    }
+}
+
+// The slot listens no more to this job, if there is one.
+fn leave_maybe(
+    jobs: &mut IndexMap<u64, Job, RandomState>,
+    marks: &mut Marks,
+    number: Option<u64>,
+    slot: u32,
+)
+    requires room { length jobs.old.entries ≤ marks.old.room }
+    requires marked { Marked jobs.old.entries marks.old.marks }
+    ensures left { LeavesSome slot jobs.old.entries jobs.new.entries }
+    ensures this { (n : ℕ) → number ≡ Some n → LeavesOne slot n jobs.old.entries jobs.new.entries }
+    ensures spare { spare jobs.new ≡ spare jobs.old }
+    ensures marked { Marked jobs.new.entries marks.new.marks }
+    ensures room { marks.new.room ≡ marks.old.room }
+{
+    match number {
+        Some(number) => leave_one(jobs, marks, number, slot),
+        None => {}
+    }
+}
+
+// Makes room for one job more in each table.
+fn make_room(
+    alloc: Global,
+    seed: &RandomState,
+    jobs: &mut IndexMap<u64, Job, RandomState>,
+    uniques: &mut Uniques,
+    marks: &mut Marks,
+    listening: &mut Listening,
+) -> Result<(), AllocError>
+    requires { Reached seed.now jobs.old.entries uniques.old.cells }
+    ensures jobs { jobs.new.entries ≡ jobs.old.entries }
+    ensures spare { spare jobs.old ≤ spare jobs.new }
+    ensures reached { Reached seed.now jobs.old.entries uniques.new.cells }
+    ensures used { uniques.old.used < length uniques.old.cells → uniques.new.used < length uniques.new.cells }
+    ensures marks { marks.new.marks ≡ marks.old.marks }
+    ensures room { marks.old.room ≤ marks.new.room }
+    ensures heard { (c n : ℕ) → IsSome (find_job jobs.old.entries n) → Heard listening.old c n → Heard listening.new c n }
+    ensures fresh { listening.old.fresh ≡ None → listening.new.fresh ≡ None }
+    ensures ok { OnOk result ((0 < spare jobs.new) × (uniques.new.used < length uniques.new.cells) × (length jobs.new.entries < marks.new.room) × (listening.new.fresh ≡ None)) }
+{
+    jobs.reserve(1)?;
+    marks.reserve(jobs.len() + 1)?;
+    if uniques.is_full() {
+        *uniques = Uniques::of_jobs(alloc, seed, jobs)?;
+    }
+    listening.file(jobs)
+}
+
+impl Jobs {
+    /// No jobs. The first to be made gets this number. Unique ids come from strangers, so the tables hash with
+    /// this seed.
+    pub fn new(alloc: Global, seed: RandomState, first_job: u64) -> Result<Jobs, AllocError>
+        ensures { IfOk result (λ table. table ≡ no_jobs first_job) }
+    {
+        Ok(Jobs {
+            alloc,
+            seed,
+            first: first_job,
+            next: Some(first_job),
+            jobs: IndexMap::with_hasher(alloc, seed),
+            uniques: Uniques::new(alloc),
+            marks: Marks::new(alloc),
+            listening: Listening::new(alloc),
+            space: None,
+            soonest: u64::MAX,
+        })
+    }
+
+    /// Makes room for one job more, of this function and with texts of at most these lengths. `NumbersSpent` comes
+    /// where the last number was given out, and else `Memory` where there is no memory for it.
+    pub fn reserve(&mut self, f: u32, unique_len: usize, body_len: usize) -> Result<(), JobError>
+        ensures spent { (result ≡ Err JobError.NumbersSpent) ↔ (self.old.next ≡ 2 ^ 64) }
+        ensures ok { OnOk result (self.new ≡ with_room f unique_len body_len self.old) }
+        ensures err { OnErr result (self.new ≡ self.old) }
+    {
+        let Some(_number) = self.next else {
+            return Err(JobError::NumbersSpent);
+        };
+        let space = Space::new(self.alloc, f, unique_len, body_len)?;
+        make_room(
+            self.alloc,
+            &self.seed,
+            &mut self.jobs,
+            &mut self.uniques,
+            &mut self.marks,
+            &mut self.listening,
+        )?;
+        self.space = Some(space);
+        Ok(())
+    }
+
+    /// Makes a job in the room that is reserved, and gives its number. No live job of its function has its unique
+    /// id, unless that is empty or a dash.
+    pub fn insert_reserved(&mut self, new: NewJob<'_>) -> u64
+        requires room { HasRoom new.f (length new.unique.now) (length new.body.now) self.old }
+        requires single { (n : ℕ) → IsNamed new.f new.unique.now self.old n → ⊥ }
+        ensures number { result ≡ self.old.next }
+        ensures makes { Makes (fresh new.entry.f new.entry.p new.entry.unique.now new.entry.body.now new.entry.kept new.entry.listener) self.old self.new }
+    {
+        let space = self.space.take().unwrap();
+        let number = self.next.unwrap();
+        self.next = number.checked_add(1);
+        let _fits = self.jobs.insert(number, space.fill(self.alloc, new));
+        self.uniques.enter(&self.seed, new.f, new.unique, number);
+        self.listening.begin(new.listener, number);
+        self.marks.mark(&self.jobs, number);
+        number
+    }
+
+    /// The live job of a number.
+    pub fn by_number(&self, n: u64) -> Option<&Job>
+        ensures { option_copied result ≡ job self.now n }
+    {
+        self.jobs.get(&n)
+    }
+
+    /// The live job of this function with this unique id; none where the id is empty or a dash.
+    pub fn by_unique(&self, f: u32, unique: &[u8]) -> Option<u64>
+        ensures found { IfSome result (IsNamed f unique.now self.now) }
+        ensures only { IfSome result (λ n. (m : ℕ) → IsNamed f unique.now self.now m → m ≡ n) }
+        ensures none { IfNone result ((n : ℕ) → IsNamed f unique.now self.now n → ⊥) }
+    {
+        if !joins(unique) {
+            return None;
+        }
+        self.uniques
+            .find(&self.jobs, digest(&self.seed, f, unique), f, unique)
+    }
+
+    // Whether a job of this number was made.
+    fn is_made(&self, n: u64) -> bool
+        ensures { result ≡ is_made self.now n }
+    {
+        match self.next {
+            Some(next) => self.first <= n && n < next,
+            None => self.first <= n,
+        }
+    }
+
+    /// Where the job of a number is.
+    pub fn place(&self, n: u64) -> Place
+        ensures { result ≡ place self.now n }
+    {
+        match self.jobs.get(&n) {
+            Some(job) => job.place(),
+            None => {
+                if self.is_made(n) {
+                    Place::Gone
+                } else {
+                    Place::Unmade
+                }
+            }
+        }
+    }
+
+    /// The job runs at the slot, until the deadline if there is one.
+    pub fn assign(&mut self, n: u64, slot: u32, deadline: Option<u64>)
+        ensures { Changes n (assigned slot deadline) self.old self.new }
+    {
+        change_job(&mut self.jobs, n, Change::Assign(slot, deadline));
+        self.marks.mark(&self.jobs, n);
+        self.soonest = self.soonest.min(deadline.unwrap_or(u64::MAX));
+    }
+
+    /// The job waits again.
+    pub fn give_back(&mut self, n: u64)
+        ensures { Changes n returned self.old self.new }
+    {
+        change_job(&mut self.jobs, n, Change::GiveBack);
+        self.marks.mark(&self.jobs, n);
+    }
+
+    /// The job is live no more.
+    pub fn end(&mut self, n: u64)
+        ensures { Ends n self.old self.new }
+    {
+        let _ended = self.jobs.swap_remove(&n);
+    }
+
+    /// A background submission keeps the job.
+    pub fn keep(&mut self, n: u64)
+        ensures { Changes n kept self.old self.new }
+    {
+        change_job(&mut self.jobs, n, Change::Keep);
+    }
+
+    /// The job is so far: a numerator and a denominator.
+    pub fn report(&mut self, n: u64, numerator: &[u8], denominator: &[u8]) -> Result<(), AllocError>
+        ensures ok { OnOk result (Changes n (reported numerator.now denominator.now) self.old self.new) }
+        ensures err { OnErr result (self.new ≡ self.old) }
+    {
+        report_job(self.alloc, &mut self.jobs, n, numerator, denominator)
+    }
+
+    /// Who listens to the job, in the order in which they came.
+    pub fn listeners(&self, n: u64) -> &[u32]
+        ensures { result.now ≡ listeners_of (job self.now n) }
+    {
+        match self.jobs.get(&n) {
+            Some(job) => job.listeners(),
+            None => &[],
+        }
+    }
+
+    /// The slot listens to the job, once more.
+    pub fn listen(&mut self, n: u64, slot: u32) -> Result<(), AllocError>
+        ensures ok { OnOk result (Changes n (with_listener slot) self.old self.new) }
+        ensures err { OnErr result (self.new ≡ self.old) }
+    {
+        self.listening.add(&self.jobs, slot, n)?;
+        listen_job(&mut self.jobs, n, slot)
+    }
+
+    /// The slot listens to no job any more.
+    pub fn leave(&mut self, slot: u32)
+        ensures { Leaves slot self.old self.new }
+    {
+        let (list, fresh) = self.listening.take(slot);
+        leave_all(&mut self.jobs, &mut self.marks, list.numbers(), slot);
+        leave_maybe(&mut self.jobs, &mut self.marks, fresh, slot);
+        self.marks.tidy(&self.jobs);
+    }
+
+    /// The least number above `after` of a job that runs at the slot.
+    pub fn next_run_by(&self, slot: u32, after: u64) -> Option<u64>
+        ensures next { IfSome result (IsNext (is_run_by slot) after self.now.live) }
+        ensures last { IfNone result (IsLast (is_run_by slot) after self.now.live) }
+    {
+        self.marks.next(&self.jobs, Query::RunBy(slot), after)
+    }
+
+    /// The least number above `after` of a job that waits though nobody wants it: it isn't kept, and nobody
+    /// listens.
+    pub fn next_orphan(&self, after: u64) -> Option<u64>
+        ensures next { IfSome result (IsNext is_orphan after self.now.live) }
+        ensures last { IfNone result (IsLast is_orphan after self.now.live) }
+    {
+        self.marks.next(&self.jobs, Query::Orphan, after)
+    }
+
+    /// The least number above `after` of a running job whose deadline is reached.
+    pub fn due(&mut self, now: u64, after: u64) -> Option<u64>
+        ensures next { IfSome result (IsNext (is_due now) after self.old.live) }
+        ensures last { IfNone result (IsLast (is_due now) after self.old.live) }
+        ensures kept { self.new ≡ self.old }
+    {
+        if now < self.soonest {
+            return None;
+        }
+        let found = self.marks.next(&self.jobs, Query::Due(now), after);
+        if found.is_none() {
+            self.soonest = self.marks.soonest(&self.jobs);
+        }
+        found
+    }
+}

@@ -1,0 +1,258 @@
+//! The jobs that may be asked for by their order.
+
+ghost use Rattle.std.specs.Prelude.{◌≡◌, ℕ, ◌+◌, ◌<◌, ◌≤◌, ◌≢◌, true, false, [], Contains, length, IfSome, IfNone, IfOk, IfErr, OnOk, Some, IsSome};
+ghost use Rattle.gm_jobs.specs.Live.{Live};
+ghost use Rattle.gm_jobs.specs.Tables.{find_job, passes, IsNext, IsLast};
+ghost use Rattle.gm_jobs.specs.Marks.{is_marked, number_at, Rises, IsPlaceFor, HasRoomFor, Marked, MarkedBut, AllLive, IsSoon};
+ghost use Rattle.gm_jobs.specs.Queries.{meets, may_meet};
+
+use crate::job::Job;
+use indexmap::IndexMap;
+use std::alloc::{AllocError, Global};
+use std::hash::RandomState;
+use std::marker::Model;
+
+/// That a job may run at a slot, or, where there is none, that it may wait and nobody want it.
+#[derive(Clone, Copy)]
+pub(crate) struct Mark {
+    number: u64,
+    slot: Option<u32>,
+}
+
+/// What is asked of a job.
+#[derive(Clone, Copy)]
+pub(crate) enum Query {
+    /// Whether it runs at this slot.
+    RunBy(u32),
+    /// Whether it waits and nobody wants it.
+    Orphan,
+    /// Whether it runs and its deadline is reached at this moment.
+    Due(u64),
+}
+
+/// The marks of the jobs that run and of those that nobody wants, in the order of their numbers.
+///
+/// The mark of a job that is neither any more does no harm, since each job that is found is asked itself. Such
+/// marks go once there are as many marks as the limit says, which is twice what was left the last time.
+#[derive(Drop)]
+pub(crate) struct Marks {
+    marks: Vec<Mark>,
+    limit: usize,
+}
+
+impl Model for Marks {
+    ghost use Rattle.std.specs.Vec.{vec_capacity};
+    ghost use Rattle.gm_jobs.specs.Marks.{MarkTable, Rises};
+
+    ghost Value = { MarkTable };
+
+    ghost view = { λ m. record { marks = m.marks.items; room = vec_capacity m.marks } };
+
+    ghost invariant = { λ m. Rises m.marks.items };
+}
+
+// So many marks are kept in any case.
+const FEW: usize = 64;
+
+// Whether the job of a number is live and has a mark.
+fn is_marked(jobs: &IndexMap<u64, Job, RandomState>, number: u64) -> bool
+    ensures { result ≡ passes is_marked (find_job jobs.now.entries number) }
+{
+    match jobs.get(&number) {
+        Some(job) => job.is_marked(),
+        None => false,
+    }
+}
+
+impl Query {
+    // Whether the job of a mark may be what is asked for.
+    fn may_meet(self, mark: Mark) -> bool
+        ensures { result ≡ may_meet self mark }
+    {
+        match self {
+            Query::RunBy(slot) => mark.slot == Some(slot),
+            Query::Orphan => mark.slot.is_none(),
+            Query::Due(_) => mark.slot.is_some(),
+        }
+    }
+
+    // Whether the job of a number is live and what is asked for.
+    fn meets(self, jobs: &IndexMap<u64, Job, RandomState>, number: u64) -> bool
+        ensures { result ≡ passes (meets self) (find_job jobs.now.entries number) }
+    {
+        match jobs.get(&number) {
+            Some(job) => match self {
+                Query::RunBy(slot) => job.is_run_by(slot),
+                Query::Orphan => job.is_orphan(),
+                Query::Due(now) => job.is_due(now),
+            },
+            None => false,
+        }
+    }
+}
+
+impl Marks {
+    /// No marks.
+    pub(crate) fn new(alloc: Global) -> Marks
+        ensures { result.marks ≡ [] }
+    {
+        Marks {
+            marks: Vec::new(alloc),
+            limit: FEW,
+        }
+    }
+
+    /// Makes room for so many marks.
+    pub(crate) fn reserve(&mut self, count: usize) -> Result<(), AllocError>
+        ensures marks { self.new.marks ≡ self.old.marks }
+        ensures room { self.old.room ≤ self.new.room }
+        ensures ok { OnOk result (count ≤ self.new.room) }
+    {
+        let len = self.marks.len();
+        if count > len {
+            self.marks.reserve(count - len)?;
+        }
+        Ok(())
+    }
+
+    // The index of the first mark above a number.
+    fn first_above(&self, number: u64) -> usize
+        ensures within { result ≤ length self.now.marks }
+        ensures below { (k : ℕ) → k < result → number_at self.now.marks k ≤ number }
+        ensures above { (k : ℕ) → result ≤ k → k < length self.now.marks → number < number_at self.now.marks k }
+    {
+        let mut low = 0;
+        let mut high = self.marks.len();
+        while low < high {
+            let middle = low + (high - low) / 2;
+            if self.marks[middle].number <= number {
+                low = middle + 1;
+            } else {
+                high = middle;
+            }
+        }
+        low
+    }
+
+    // Where the mark of a number stands, or where it would stand.
+    fn place_of(&self, number: u64) -> Result<usize, usize>
+        ensures there { IfOk result (λ i. (i < length self.now.marks) × (number_at self.now.marks i ≡ number)) }
+        ensures absent { IfErr result (λ at. IsPlaceFor self.now.marks number at) }
+    {
+        let at = self.first_above(number);
+        if at == 0 {
+            return Err(at);
+        }
+        if self.marks[at - 1].number == number {
+            Ok(at - 1)
+        } else {
+            Err(at)
+        }
+    }
+
+    // Lets go of the marks of jobs that have none any more.
+    fn prune(&mut self, jobs: &IndexMap<u64, Job, RandomState>)
+        ensures kept { (m : Mark) → passes is_marked (find_job jobs.now.entries m.number) ≡ true → Contains self.old.marks m → Contains self.new.marks m }
+        ensures live { AllLive jobs.now.entries self.new.marks }
+        ensures rises { Rises self.new.marks }
+        ensures room { self.new.room ≡ self.old.room }
+    {
+        self.marks.retain(|mark| is_marked(jobs, mark.number));
+        self.limit = self.marks.len().saturating_mul(2).max(FEW);
+    }
+
+    /// Lets go of such marks, unless there are few.
+    pub(crate) fn tidy(&mut self, jobs: &IndexMap<u64, Job, RandomState>)
+        requires { Marked jobs.now.entries self.old.marks }
+        ensures marked { Marked jobs.now.entries self.new.marks }
+        ensures room { self.new.room ≡ self.old.room }
+    {
+        if self.marks.len() > FEW {
+            self.prune(jobs);
+        }
+    }
+
+    // Makes room for a mark of a live job's number, unless it has one.
+    fn make_room(&mut self, jobs: &IndexMap<u64, Job, RandomState>, number: u64)
+        requires room { length jobs.now.entries ≤ self.old.room }
+        requires live { IsSome (find_job jobs.now.entries number) }
+        ensures fits { HasRoomFor number self.new }
+        ensures kept { (m : Mark) → passes is_marked (find_job jobs.now.entries m.number) ≡ true → Contains self.old.marks m → Contains self.new.marks m }
+        ensures room { self.new.room ≡ self.old.room }
+    {
+        if self.marks.len() < self.limit.min(self.marks.capacity()) {
+            return;
+        }
+        self.prune(jobs);
+    }
+
+    // The mark stands, in the place of another of its number.
+    fn put(&mut self, mark: Mark)
+        requires { HasRoomFor mark.number self.old }
+        ensures stands { Contains self.new.marks mark }
+        ensures kept { (m : Mark) → m.number ≢ mark.number → Contains self.old.marks m → Contains self.new.marks m }
+        ensures room { self.new.room ≡ self.old.room }
+    {
+        match self.place_of(mark.number) {
+            Ok(i) => self.marks[i] = mark,
+            Err(at) => {
+                let _fits = self.marks.insert(at, mark);
+            }
+        }
+    }
+
+    /// Marks the job of a number, if it is to have a mark.
+    pub(crate) fn mark(&mut self, jobs: &IndexMap<u64, Job, RandomState>, number: u64)
+        requires room { length jobs.now.entries ≤ self.old.room }
+        requires others { MarkedBut number jobs.now.entries self.old.marks }
+        ensures marked { Marked jobs.now.entries self.new.marks }
+        ensures room { self.new.room ≡ self.old.room }
+    {
+        if let Some(job) = jobs.get(&number) {
+            if job.is_marked() {
+                self.make_room(jobs, number);
+                self.put(Mark {
+                    number,
+                    slot: job.slot(),
+                });
+            }
+        }
+    }
+
+    /// The least number above `after` of a live job that is what is asked for.
+    pub(crate) fn next(
+        &self,
+        jobs: &IndexMap<u64, Job, RandomState>,
+        query: Query,
+        after: u64,
+    ) -> Option<u64>
+        requires { Marked jobs.now.entries self.now.marks }
+        ensures next { IfSome result (IsNext (meets query) after jobs.now.entries) }
+        ensures last { IfNone result (IsLast (meets query) after jobs.now.entries) }
+    {
+        let start = self.first_above(after);
+        for i in start..self.marks.len() {
+            let mark = self.marks[i];
+            if query.may_meet(mark) && query.meets(jobs, mark.number) {
+                return Some(mark.number);
+            }
+        }
+        None
+    }
+
+    /// A moment before which no job's deadline is reached: that of the soonest.
+    pub(crate) fn soonest(&self, jobs: &IndexMap<u64, Job, RandomState>) -> u64
+        requires { Marked jobs.now.entries self.now.marks }
+        ensures { (n : ℕ) (live : Live) → find_job jobs.now.entries n ≡ Some live → IsSoon result live }
+    {
+        let mut soonest = u64::MAX;
+        for i in 0..self.marks.len() {
+            if let Some(job) = jobs.get(&self.marks[i].number) {
+                if let Some(deadline) = job.deadline() {
+                    soonest = soonest.min(deadline);
+                }
+            }
+        }
+        soonest
+    }
+}

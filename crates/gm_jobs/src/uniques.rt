@@ -1,0 +1,197 @@
+//! Where a job with a unique id is found.
+
+ghost use Rattle.std.specs.Prelude.{◌≡◌, ℕ, ◌+◌, ◌-◌, ◌*◌, ◌<◌, ◌≤◌, ◌^◌, nat_lt, if◌then◌else◌, true, false, length, IsTrue, IfSome, IfNone, IfOk, Some};
+ghost use Rattle.gm_notes.specs.Jobs.{joins};
+ghost use Rattle.gm_jobs.specs.Live.{Live, is_named};
+ghost use Rattle.gm_jobs.specs.Tables.{find_job, passes};
+ghost use Rattle.gm_jobs.specs.Uniques.{digest_of, cell_behind, IsFreeFor, Reaches};
+
+use crate::job::{Job, joins};
+use indexmap::IndexMap;
+use std::alloc::{AllocError, Global};
+use std::hash::{BuildHasher, RandomState};
+use std::marker::Model;
+
+// The hash of a function and a unique id, and the number of a job that has them, or had them. A digest of 0
+// is no digest: the cell is free.
+#[derive(Clone, Copy)]
+pub(crate) struct Cell {
+    digest: u64,
+    number: u64,
+}
+
+/// The cells by their digests. A job is looked for from the cell of its digest on, up to one that is free.
+///
+/// The cell of a job that ended stays taken, so that it breaks no chain, until all are made anew. What is found
+/// is compared with the job.
+#[derive(Drop)]
+pub(crate) struct Uniques {
+    cells: Vec<Cell>,
+    used: usize,
+}
+
+impl Model for Uniques {
+    ghost use Rattle.std.specs.Prelude.{◌≤◌, count_by};
+    ghost use Rattle.gm_jobs.specs.Uniques.{Cells, is_taken};
+
+    ghost Value = { Cells };
+
+    ghost view = { λ u. record { cells = u.cells.items; used = u.used } };
+
+    ghost invariant = { λ u. count_by is_taken u.cells.items ≤ u.used };
+}
+
+/// The hash of a function and a unique id, which is never 0.
+pub(crate) fn digest(seed: &RandomState, f: u32, unique: &[u8]) -> u64
+    ensures value { result ≡ digest_of seed.now f unique.now }
+    ensures some { 0 < result }
+{
+    seed.hash_one((f, unique)).max(1)
+}
+
+// The cell that is k behind `home`, where the first follows the last.
+fn cell_behind(home: usize, k: usize, len: usize) -> usize
+    requires home { home < len }
+    requires k { k < len }
+    requires len { len < 2 ^ 63 }
+    ensures value { result ≡ cell_behind home k len }
+    ensures within { result < len }
+{
+    if home + k < len {
+        home + k
+    } else {
+        home + k - len
+    }
+}
+
+// Whether the job of a number is live and has this name.
+fn is_named(jobs: &IndexMap<u64, Job, RandomState>, number: u64, f: u32, unique: &[u8]) -> bool
+    ensures { result ≡ passes (is_named f unique.now) (find_job jobs.now.entries number) }
+{
+    match jobs.get(&number) {
+        Some(job) => job.is_named(f, unique),
+        None => false,
+    }
+}
+
+impl Uniques {
+    /// No cells.
+    pub(crate) fn new(alloc: Global) -> Uniques {
+        Uniques {
+            cells: Vec::new(alloc),
+            used: 0,
+        }
+    }
+
+    // So many free cells.
+    fn with_cells(alloc: Global, len: usize) -> Result<Uniques, AllocError>
+        ensures len { IfOk result (λ u. length u.cells ≡ len) }
+        ensures used { IfOk result (λ u. u.used ≡ 0) }
+    {
+        let free = Cell {
+            digest: 0,
+            number: 0,
+        };
+        Ok(Uniques {
+            cells: Vec::from_elem(alloc, free, len)?,
+            used: 0,
+        })
+    }
+
+    /// Whether so many cells are taken that they should be made anew.
+    pub(crate) fn is_full(&self) -> bool
+        ensures { result ≡ false → self.now.used < length self.now.cells }
+    {
+        self.used >= self.cells.len() - self.cells.len() / 4
+    }
+
+    /// The live job of this function and unique id, which have this digest.
+    pub(crate) fn find(
+        &self,
+        jobs: &IndexMap<u64, Job, RandomState>,
+        digest: u64,
+        f: u32,
+        unique: &[u8],
+    ) -> Option<u64>
+        ensures found { IfSome result (λ n. passes (is_named f unique.now) (find_job jobs.now.entries n) ≡ true) }
+        ensures none { IfNone result ((n : ℕ) → passes (is_named f unique.now) (find_job jobs.now.entries n) ≡ true → Reaches self.now.cells digest n → ⊥) }
+    {
+        let len = self.cells.len();
+        if len == 0 {
+            return None;
+        }
+        let home = (digest % len as u64) as usize;
+        for k in 0..len {
+            let cell = self.cells[cell_behind(home, k, len)];
+            if cell.digest == 0 {
+                return None;
+            }
+            if cell.digest == digest && is_named(jobs, cell.number, f, unique) {
+                return Some(cell.number);
+            }
+        }
+        None
+    }
+
+    // The first free cell in which a digest is looked for.
+    fn free_cell(&self, digest: u64) -> usize
+        requires { self.now.used < length self.now.cells }
+        ensures { IsFreeFor self.now.cells digest result }
+    {
+        let len = self.cells.len();
+        let home = (digest % len as u64) as usize;
+        for k in 0..len {
+            let at = cell_behind(home, k, len);
+            if self.cells[at].digest == 0 {
+                return at;
+            }
+        }
+        home
+    }
+
+    /// The number goes into a free cell, where its digest is looked for.
+    pub(crate) fn put(&mut self, digest: u64, number: u64)
+        requires digest { 0 < digest }
+        requires free { self.old.used < length self.old.cells }
+        ensures stands { Reaches self.new.cells digest number }
+        ensures kept { (d n : ℕ) → Reaches self.old.cells d n → Reaches self.new.cells d n }
+        ensures used { self.new.used ≡ self.old.used + 1 }
+        ensures len { length self.new.cells ≡ length self.old.cells }
+    {
+        let at = self.free_cell(digest);
+        self.cells[at] = Cell { digest, number };
+        self.used += 1;
+    }
+
+    /// The number goes into a free cell, if the unique id names a job.
+    pub(crate) fn enter(&mut self, seed: &RandomState, f: u32, unique: &[u8], number: u64)
+        requires { self.old.used < length self.old.cells }
+        ensures stands { joins unique.now ≡ true → Reaches self.new.cells (digest_of seed.now f unique.now) number }
+        ensures kept { (d n : ℕ) → Reaches self.old.cells d n → Reaches self.new.cells d n }
+        ensures used { self.new.used ≤ self.old.used + 1 }
+        ensures len { length self.new.cells ≡ length self.old.cells }
+    {
+        if joins(unique) {
+            self.put(digest(seed, f, unique), number);
+        }
+    }
+
+    /// Cells for these jobs, with room for as many more.
+    pub(crate) fn of_jobs(
+        alloc: Global,
+        seed: &RandomState,
+        jobs: &IndexMap<u64, Job, RandomState>,
+    ) -> Result<Uniques, AllocError>
+        ensures reached { IfOk result (λ u. (n : ℕ) (live : Live) → find_job jobs.now.entries n ≡ Some live → joins live.unique ≡ true → Reaches u.cells (digest_of seed.now live.function live.unique) n) }
+        ensures free { IfOk result (λ u. u.used < length u.cells) }
+    {
+        let len = jobs.len().saturating_mul(2).saturating_add(8);
+        let mut made = Uniques::with_cells(alloc, len)?;
+        for i in 0..jobs.len() {
+            if let Some((number, job)) = jobs.get_index(i) {
+                made.enter(seed, job.f(), job.unique(), *number);
+            }
+        }
+        Ok(made)
+    }
+}
