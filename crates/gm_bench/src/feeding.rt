@@ -16,7 +16,7 @@ const USUAL_LIMITS: Limits = Limits {
 };
 
 /// What came of feeding.
-#[derive(Clone, Copy, Debug, PartialEq, Eq)]
+#[derive(Clone, Copy)]
 pub struct Outcome {
     /// The tally of the units.
     pub tally: Tally,

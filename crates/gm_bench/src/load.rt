@@ -11,7 +11,7 @@ use std::alloc::{AllocError, Global};
 const LINE: [u8; 20] = *b"maxqueue resize 100\n";
 
 /// Units that are all alike.
-#[derive(Clone, Copy, Debug, PartialEq, Eq)]
+#[derive(Clone, Copy)]
 pub enum Load {
     /// ECHO_REQ packets of 16 bytes.
     SmallPackets,

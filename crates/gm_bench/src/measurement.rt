@@ -16,7 +16,7 @@ use std::alloc::{AllocError, Global};
 const PIECE_LEN: usize = 16_384;
 
 /// What is measured.
-#[derive(Clone, Copy, Debug, PartialEq, Eq)]
+#[derive(Clone, Copy)]
 pub enum Subject {
     /// Units are fed. The count is a number of bytes.
     Units(Load),
@@ -27,7 +27,7 @@ pub enum Subject {
 }
 
 /// What came of a measurement.
-#[derive(Clone, Copy, Debug, PartialEq, Eq)]
+#[derive(Clone, Copy)]
 pub enum Finding {
     /// What was given out, and left over.
     Units(Outcome),
@@ -36,7 +36,7 @@ pub enum Finding {
 }
 
 /// A measurement.
-#[derive(Clone, Copy, Debug, PartialEq, Eq)]
+#[derive(Clone, Copy)]
 pub enum Measurement {
     /// Feeds small packets in pieces of 16,384 bytes.
     FeedSmallPackets,

@@ -7,7 +7,7 @@ ghost use Rattle.gm_bench.specs.Tallies.{ends, said_len, with_unit, IsTallyOf};
 use gm_feeder::Unit;
 
 /// A count of units, of the bytes that they say, and a checksum.
-#[derive(Clone, Copy, Debug, PartialEq, Eq)]
+#[derive(Clone, Copy)]
 pub struct Tally {
     /// How many units.
     pub units: u64,

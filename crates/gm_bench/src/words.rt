@@ -7,7 +7,7 @@ use crate::measurement::Measurement;
 use thiserror::Error;
 
 /// What the words ask for.
-#[derive(Clone, Copy, Debug, PartialEq, Eq)]
+#[derive(Clone, Copy)]
 pub enum Order {
     /// To say what words are understood.
     Help,
@@ -21,7 +21,7 @@ pub enum Order {
 }
 
 /// Why words aren't understood.
-#[derive(Clone, Copy, Debug, PartialEq, Eq, Drop, Error)]
+#[derive(Debug, Drop, Error)]
 pub enum WordsFault {
     /// They are none of the forms.
     #[error("the words are NAME COUNT, --check or --help")]

@@ -1,5 +1,6 @@
 //! The table of connections.
 
+use crate::checks::{must, next_random, same};
 use gm_conns::Conns;
 use gm_notes::{ApplyError, Phase};
 use std::alloc::{AllocError, Global};
@@ -13,51 +14,68 @@ fn put_checked(
     slot: u32,
     bytes: &[u8],
 ) -> Result<(), AllocError> {
-    assert!(rt; conns.is_open(slot));
+    must(rt, conns.is_open(slot));
     conns.reserve_out(slot, bytes.len())?;
-    assert!(rt; conns.is_open(slot) && conns.room(slot) >= bytes.len());
+    must(rt, conns.is_open(slot));
+    assert!(rt; conns.room(slot) >= bytes.len());
     conns.put_out(slot, bytes);
     Ok(())
 }
 
 fn assert_drains(rt: &impl Abort, conns: &mut Conns, slot: u32, bytes: &[u8]) {
-    assert!(rt; conns.is_open(slot));
-    assert_eq!(rt; conns.drain(slot).as_slice(), bytes);
+    must(rt, conns.is_open(slot));
+    same(rt, "what waits", &conns.drain(slot).as_slice(), &bytes);
 }
 
 fn assert_able(rt: &impl Abort, conns: &Conns, slot: u32, i: u32, ability: Option<(u32, u32)>) {
-    assert!(rt; conns.is_open(slot));
-    assert_eq!(rt; conns.able(slot, i), ability);
+    must(rt, conns.is_open(slot));
+    same(rt, "an ability", &conns.able(slot, i), &ability);
 }
 
-fn close_checked(rt: &impl Abort, conns: &mut Conns, slot: u32) {
-    assert!(rt; conns.is_open(slot));
-    conns.close(slot);
-    assert!(rt; !conns.is_open(slot));
+fn add_abilities(rt: &impl Abort, conns: &mut Conns) -> Result<(), AllocError> {
+    for (f, timeout) in [(7, 0), (3, 5), (7, 9)] {
+        must(rt, conns.is_open(0));
+        conns.can_do(0, f, timeout)?;
+    }
+    for (i, ability) in [(0, Some((7, 9))), (1, Some((3, 5))), (2, None)] {
+        assert_able(rt, conns, 0, i, ability);
+    }
+    Ok(())
+}
+
+fn read_abilities(rt: &impl Abort, conns: &Conns) {
+    must(rt, conns.is_open(0));
+    same(rt, "a timeout", &conns.timeout_of(0, 3), &Some(5));
+    same(rt, "a count", &conns.able_count(7), &1);
+}
+
+// Gives an id, sends bytes and closes.
+fn end(rt: &impl Abort, conns: &mut Conns) -> Result<(), AllocError> {
+    must(rt, conns.is_open(0));
+    conns.set_id(0, b"id")?;
+    put_checked(rt, conns, 0, b"hi")?;
+    assert_drains(rt, conns, 0, b"hi");
+    assert_drains(rt, conns, 0, b"");
+    must(rt, conns.is_open(0));
+    conns.close(0);
+    must(rt, !conns.is_open(0));
+    Ok(())
 }
 
 #[test]
 fn conns_ample(rt: HostRuntime) -> Result<(), Fail> {
     let mut conns = Conns::new(rt.alloc(), 2)?;
-    assert!(rt; conns.open(b"a") == Ok(0));
-    assert!(rt; conns.open(b"b") == Ok(1));
-    assert!(rt; conns.open(b"c") == Err(ApplyError::NoSlot));
-    for ability in [(7, 0), (3, 5), (7, 9)] {
-        assert!(rt; conns.is_open(0));
-        conns.can_do(0, ability.0, ability.1)?;
+    for (addr, opened) in [
+        (b"a", Ok(0)),
+        (b"b", Ok(1)),
+        (b"c", Err(ApplyError::NoSlot)),
+    ] {
+        same(&rt, "an opening", &conns.open(addr), &opened);
     }
-    assert_able(&rt, &conns, 0, 0, Some((7, 9)));
-    assert_able(&rt, &conns, 0, 1, Some((3, 5)));
-    assert_able(&rt, &conns, 0, 2, None);
-    assert!(rt; conns.is_open(0));
-    assert_eq!(rt; conns.timeout_of(0, 3), Some(5));
-    assert_eq!(rt; conns.able_count(7), 1);
-    conns.set_id(0, b"id")?;
-    put_checked(&rt, &mut conns, 0, b"hi")?;
-    assert_drains(&rt, &mut conns, 0, b"hi");
-    assert_drains(&rt, &mut conns, 0, b"");
-    close_checked(&rt, &mut conns, 0);
-    assert!(rt; conns.open(b"d") == Ok(0));
+    add_abilities(&rt, &mut conns)?;
+    read_abilities(&rt, &conns);
+    end(&rt, &mut conns)?;
+    same(&rt, "an opening", &conns.open(b"d"), &Ok(0));
     assert_able(&rt, &conns, 0, 0, None);
     Ok(())
 }
@@ -124,12 +142,12 @@ fn open_both(rt: &impl Abort, conns: &mut Conns, plain: &mut Vec<Plain>) {
     let opened = conns.open(b"127.0.0.1");
     for slot in 0..plain.len() {
         if !plain[slot].open {
-            assert!(rt; opened == Ok((slot & 0xff) as u32));
+            same(rt, "an opening", &opened, &Ok((slot & 0xff) as u32));
             plain[slot].begin(true);
             return;
         }
     }
-    assert!(rt; opened == Err(ApplyError::NoSlot));
+    same(rt, "an opening", &opened, &Err(ApplyError::NoSlot));
 }
 
 // One call at an open slot, of the table and of what it means.
@@ -141,7 +159,7 @@ fn call_both(
     choice: u64,
 ) -> Result<(), AllocError> {
     let f = (choice / 8192 % 5) as u32;
-    assert!(rt; conns.is_open(slot));
+    must(rt, conns.is_open(slot));
     match choice % 9 {
         0 => {
             conns.close(slot);
@@ -165,7 +183,7 @@ fn call_both(
             plain.abilities.clear();
         }
         5 => {
-            assert_eq!(rt; conns.drain(slot).as_slice(), plain.waiting.as_slice());
+            assert_drains(rt, conns, slot, plain.waiting.as_slice());
             plain.waiting.clear();
             plain.touched = true;
         }
@@ -202,72 +220,107 @@ fn put_both(
 
 // What the table says of a slot is what it means.
 fn compare(rt: &impl Abort, conns: &Conns, plain: &Plain, slot: u32) {
-    assert_eq!(rt; conns.is_open(slot), plain.open);
+    same(rt, "open", &conns.is_open(slot), &plain.open);
     if !conns.is_open(slot) {
         return;
     }
-    assert_eq!(rt; conns.is_shut(slot), plain.shut);
-    assert_eq!(rt; conns.has_option(slot), plain.option);
-    assert!(rt; conns.phase(slot) == plain.phase);
-    assert_eq!(rt; conns.waiting(slot), plain.waiting.as_slice());
+    let told = (
+        conns.is_shut(slot),
+        conns.has_option(slot),
+        conns.phase(slot),
+    );
+    same(
+        rt,
+        "shut, option, phase",
+        &told,
+        &(plain.shut, plain.option, plain.phase),
+    );
+    same(
+        rt,
+        "what waits",
+        &conns.waiting(slot),
+        &plain.waiting.as_slice(),
+    );
     for i in 0..5 {
-        assert_eq!(rt;
-            conns.able(slot, i),
-            plain.abilities.get(i as usize).copied()
-        );
+        let ability = plain.abilities.get(i as usize).copied();
+        same(rt, "an ability", &conns.able(slot, i), &ability);
     }
+}
+
+fn compare_slot(rt: &impl Abort, conns: &Conns, plain: &Vec<Plain>, slot: u32) {
+    assert!(rt; (slot as usize) < plain.len());
+    compare(rt, conns, &plain[slot as usize], slot);
 }
 
 // What the table says of a function is what the search from end to end finds.
 fn compare_able(rt: &impl Abort, conns: &Conns, plain: &Vec<Plain>, f: u32) {
     let able = plain.iter().filter(|p| p.is_able(f)).count();
-    assert_eq!(rt; u64::from(conns.able_count(f)), able as u64);
+    same(
+        rt,
+        "a count",
+        &u64::from(conns.able_count(f)),
+        &(able as u64),
+    );
     let mut next = 0;
     for (slot, p) in plain.iter().enumerate() {
         if p.is_sleeper(f) {
             let slot = (slot & 0xff) as u32;
-            assert_eq!(rt; conns.next_sleeper(f, next), Some(slot));
+            same(rt, "a sleeper", &conns.next_sleeper(f, next), &Some(slot));
             next = slot + 1;
         }
     }
-    assert_eq!(rt; conns.next_sleeper(f, next), None);
+    same(rt, "a sleeper", &conns.next_sleeper(f, next), &None);
 }
 
 // The touched slots are given out in rising order, and none is missing.
 fn compare_touched(rt: &impl Abort, conns: &mut Conns, plain: &mut Vec<Plain>) {
     for slot in 0..plain.len() {
         if plain[slot].touched {
-            assert_eq!(rt; conns.take_touched(), Some((slot & 0xff) as u32));
+            let touched = Some((slot & 0xff) as u32);
+            same(rt, "a touched slot", &conns.take_touched(), &touched);
             plain[slot].touched = false;
         }
     }
-    assert_eq!(rt; conns.take_touched(), None);
+    same(rt, "a touched slot", &conns.take_touched(), &None);
+}
+
+fn plain_slots(alloc: Global) -> Result<Vec<Plain>, AllocError> {
+    let mut plain = Vec::new(alloc);
+    for _ in 0..SLOTS {
+        plain.push(Plain::new(alloc))?;
+    }
+    Ok(plain)
+}
+
+// One call, chosen by a number, of the table and of what it means.
+fn turn(
+    rt: &impl Abort,
+    conns: &mut Conns,
+    plain: &mut Vec<Plain>,
+    choice: u64,
+) -> Result<(), AllocError> {
+    let slot = (choice / 16 % 70) as u32;
+    assert!(rt; plain.len() == 70);
+    let here = &mut plain[slot as usize];
+    if here.open && choice % 4 != 0 {
+        call_both(rt, conns, here, slot, choice / 4)?;
+    } else {
+        open_both(rt, conns, plain);
+    }
+    compare_slot(rt, conns, plain, slot);
+    Ok(())
 }
 
 #[test]
 fn random_conns(rt: HostRuntime) -> Result<(), Fail> {
     let mut conns = Conns::new(rt.alloc(), SLOTS)?;
-    let mut plain = Vec::new(rt.alloc());
-    for _ in 0..SLOTS {
-        plain.push(Plain::new(rt.alloc()))?;
-    }
-    let mut state = 1u64;
-    for turn in 0..10_000u32 {
-        state = state
-            .wrapping_mul(6364136223846793005)
-            .wrapping_add(1442695040888963407);
-        let choice = state >> 20;
-        let slot = (choice / 16 % 70) as u32;
-        assert_eq!(rt; plain.len(), 70);
-        if plain[slot as usize].open && choice % 4 != 0 {
-            call_both(&rt, &mut conns, &mut plain[slot as usize], slot, choice / 4)?;
-        } else {
-            open_both(&rt, &mut conns, &mut plain);
-        }
-        assert_eq!(rt; plain.len(), 70);
-        compare(&rt, &conns, &plain[slot as usize], slot);
-        compare_able(&rt, &conns, &plain, turn % 5);
-        if turn % 7 == 0 {
+    let mut plain = plain_slots(rt.alloc())?;
+    let mut state = 1;
+    for i in 0..10_000u32 {
+        state = next_random(state);
+        turn(&rt, &mut conns, &mut plain, state >> 20)?;
+        compare_able(&rt, &conns, &plain, i % 5);
+        if i % 7 == 0 {
             compare_touched(&rt, &mut conns, &mut plain);
         }
     }

@@ -1,5 +1,6 @@
 //! Lines and texts that were taken from elsewhere, and one call of each function.
 
+use crate::checks::same;
 use gm_admin::{
     AdminError, AdminFault, Command, StatusRow, WorkerRow, write_fault, write_ok, write_status,
     write_version, write_workers,
@@ -8,7 +9,7 @@ use std::alloc::{AllocError, Global};
 use std::test::Fail;
 
 /// What lines command, and why the others command nothing.
-const LINES: [(&[u8], Result<Command<'static>, AdminFault>); 44] = [
+static LINES: [(&[u8], Result<Command<'static>, AdminFault>); 44] = [
     (b"status", Ok(Command::Status)),
     (b"STATUS", Ok(Command::Status)),
     (b"status x y", Ok(Command::Status)),
@@ -135,12 +136,20 @@ const LINES: [(&[u8], Result<Command<'static>, AdminFault>); 44] = [
 
 #[test]
 fn reads_lines(rt: HostRuntime) {
-    for (line, reading) in LINES {
-        assert_eq!(rt; Command::read(line), reading, "at {line:?}");
+    for (line, reading) in &LINES {
+        same(&rt, *line, &Command::read(line), reading);
     }
-    assert_eq!(rt; AdminFault::UnknownCommand.number(), 7);
-    assert_eq!(rt; AdminFault::MissingName.number(), 8);
-    assert_eq!(rt; AdminFault::BadSize.number(), 9);
+}
+
+#[test]
+fn numbers_of_faults(rt: HostRuntime) {
+    for (fault, number) in [
+        (AdminFault::UnknownCommand, 7),
+        (AdminFault::MissingName, 8),
+        (AdminFault::BadSize, 9),
+    ] {
+        same(&rt, "a fault", &fault.number(), &number);
+    }
 }
 
 /// What `write_status` appends behind a byte that was there before.
@@ -171,15 +180,18 @@ fn writes_status(rt: HostRuntime) -> Result<(), Fail> {
         running: 10,
         workers: u32::MAX,
     };
-    assert_eq!(rt; status_of(rt.alloc(), &[])?.as_slice(), b"<.\n".as_slice());
-    assert_eq!(rt;
-        status_of(rt.alloc(), &[f])?.as_slice(),
-        b"<\x66\x09\x32\x09\x30\x09\x30\x0a\x2e\x0a".as_slice()
-    );
-    assert_eq!(rt;
-        status_of(rt.alloc(), &[f, odd])?.as_slice(),
-        b"<f\t2\t0\t0\na?b??\x80\xff!\t18446744073709551615\t10\t4294967295\n.\n".as_slice()
-    );
+    let texts: [(&[StatusRow<'_>], &[u8]); 3] = [
+        (&[], b"<.\n"),
+        (&[f], b"<\x66\x09\x32\x09\x30\x09\x30\x0a\x2e\x0a"),
+        (
+            &[f, odd],
+            b"<f\t2\t0\t0\na?b??\x80\xff!\t18446744073709551615\t10\t4294967295\n.\n",
+        ),
+    ];
+    for (rows, text) in texts {
+        let out = status_of(rt.alloc(), rows)?;
+        same(&rt, "status", &out.as_slice(), &text);
+    }
     Ok(())
 }
 
@@ -203,11 +215,11 @@ fn writes_workers(rt: HostRuntime) -> Result<(), Fail> {
         id: b" ",
         functions: vec![in rt.alloc(); b"".as_slice(), b"-".as_slice()]?,
     };
-    assert_eq!(rt;
-        workers_of(rt.alloc(), &[idle, able, nowhere])?.as_slice(),
-        b"<0 127.0.0.1 - :\n1 10.0.0.2 w?1 : b a\n4294967295 - ? :  -\n.\n".as_slice()
-    );
-    assert_eq!(rt; workers_of(rt.alloc(), &[])?.as_slice(), b"<.\n".as_slice());
+    let out = workers_of(rt.alloc(), &[idle, able, nowhere])?;
+    let text = b"<0 127.0.0.1 - :\n1 10.0.0.2 w?1 : b a\n4294967295 - ? :  -\n.\n";
+    same(&rt, "workers", &out.as_slice(), &text.as_slice());
+    let out = workers_of(rt.alloc(), &[])?;
+    same(&rt, "no workers", &out.as_slice(), &b"<.\n".as_slice());
     Ok(())
 }
 
@@ -216,19 +228,27 @@ fn writes_single_lines(rt: HostRuntime) -> Result<(), Fail> {
     let mut out = Vec::new(rt.alloc());
     write_ok(&mut out)?;
     write_version(&mut out)?;
-    assert_eq!(rt; out.as_slice(), b"OK\nOK 1.0.0\n".as_slice());
-    let lines: [(AdminError, &[u8]); 6] = [
-        (AdminError::UnknownCommand, b"ERR unknown_command\n"),
-        (AdminError::MissingName, b"ERR missing_name\n"),
-        (AdminError::BadSize, b"ERR bad_size\n"),
-        (AdminError::BadFunction, b"ERR bad_function\n"),
-        (AdminError::TooManyFunctions, b"ERR too_many_functions\n"),
-        (AdminError::LineTooLong, b"ERR line_too_long\n"),
-    ];
-    for (error, line) in lines {
+    same(&rt, "OK", &out.as_slice(), &b"OK\nOK 1.0.0\n".as_slice());
+    Ok(())
+}
+
+/// How a refusal is written.
+static FAULTS: [(AdminError, &[u8]); 6] = [
+    (AdminError::UnknownCommand, b"ERR unknown_command\n"),
+    (AdminError::MissingName, b"ERR missing_name\n"),
+    (AdminError::BadSize, b"ERR bad_size\n"),
+    (AdminError::BadFunction, b"ERR bad_function\n"),
+    (AdminError::TooManyFunctions, b"ERR too_many_functions\n"),
+    (AdminError::LineTooLong, b"ERR line_too_long\n"),
+];
+
+#[test]
+fn writes_faults(rt: HostRuntime) -> Result<(), Fail> {
+    let mut out = Vec::new(rt.alloc());
+    for (error, line) in &FAULTS {
         out.clear();
-        write_fault(error, &mut out)?;
-        assert_eq!(rt; out.as_slice(), line, "at {error:?}");
+        write_fault(*error, &mut out)?;
+        same(&rt, *error, &out.as_slice(), line);
     }
     Ok(())
 }
@@ -241,7 +261,8 @@ fn writes_where_there_is_room(rt: HostRuntime) -> Result<(), Fail> {
     write_workers(&[], &mut out)?;
     write_fault(AdminError::BadSize, &mut out)?;
     write_ok(&mut out)?;
-    assert_eq!(rt; out.as_slice(), b".\n.\nERR bad_size\nOK\n".as_slice());
-    assert_eq!(rt; out.capacity(), 64);
+    let text = b".\n.\nERR bad_size\nOK\n";
+    same(&rt, "all", &out.as_slice(), &text.as_slice());
+    same(&rt, "the room", &out.capacity(), &64);
     Ok(())
 }

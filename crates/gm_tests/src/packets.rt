@@ -1,10 +1,12 @@
 //! Packets against bytes that were taken from elsewhere, and one call of each function.
 
+use crate::checks::{must, same};
 use gm_packet::{
     BadMagic, Header, Kind, Request, RequestFault, Response, read_header, request_fits,
     response_fits, response_len, write_request, write_response,
 };
 use std::alloc::{AllocError, Global};
+use std::process::Abort;
 use std::test::Fail;
 
 /// Rows of bytes and what they say.
@@ -15,7 +17,7 @@ macro_rules! table {
 }
 
 /// What whole packets ask, every type of request once, byte for byte.
-const REQUESTS: [(&[u8], Request<'static>); 24] = table! { Request:
+static REQUESTS: [(&[u8], Request<'static>); 24] = table! { Request:
     b"\0REQ\0\0\0\x01\0\0\0\x01f" => CanDo { function: b"f" };
     b"\0REQ\0\0\0\x02\0\0\0\x01f" => CantDo { function: b"f" };
     b"\0REQ\0\0\0\x03\0\0\0\0" => ResetAbilities;
@@ -43,7 +45,7 @@ const REQUESTS: [(&[u8], Request<'static>); 24] = table! { Request:
 };
 
 /// Whole packets that say a response, every type once and more of two.
-const RESPONSES: [(&[u8], Response<'static>); 18] = table! { Response:
+static RESPONSES: [(&[u8], Response<'static>); 18] = table! { Response:
     b"\0RES\0\0\0\x06\0\0\0\0" => Noop;
     b"\0RES\0\0\0\x08\0\0\0\x07H:gmd:1" => JobCreated { handle: b"H:gmd:1" };
     b"\0RES\0\0\0\x0a\0\0\0\0" => NoJob;
@@ -93,39 +95,69 @@ fn written_response(alloc: Global, response: &Response<'_>) -> Result<Option<Vec
     Ok(Some(out))
 }
 
+/// Data of this type are read so.
+fn assert_reads(
+    rt: &impl Abort,
+    kind: u32,
+    data: &[u8],
+    reading: &Result<Request<'_>, RequestFault>,
+) {
+    same(rt, (kind, data), &Request::read(kind, data), reading);
+}
+
+/// The packet has the size of its data, and is read as the request.
+fn assert_asks(rt: &impl Abort, packet: &[u8], request: Request<'_>) -> Result<(), Fail> {
+    let (header, data) = cut_packet(packet).ok_or("no packet")?;
+    same(rt, packet, &(header.size as usize), &data.len());
+    assert_reads(rt, header.kind, data, &Ok(request));
+    Ok(())
+}
+
+/// The request is written as the packet.
+fn assert_written(
+    rt: &impl Abort,
+    alloc: Global,
+    packet: &[u8],
+    request: &Request<'_>,
+) -> Result<(), Fail> {
+    let out = written_request(alloc, request)?.ok_or("too long")?;
+    same(rt, packet, &out.get(1..), &Some(packet));
+    Ok(())
+}
+
 #[test]
 fn reads_and_writes_each_request(rt: HostRuntime) -> Result<(), Fail> {
-    for (packet, request) in REQUESTS {
-        let (header, data) = cut_packet(packet).ok_or("no packet")?;
-        assert_eq!(rt; header.size as usize, data.len(), "at {header:?}");
-        assert_eq!(rt;
-            Request::read(header.kind, data),
-            Ok(request),
-            "at {header:?}"
-        );
-        let out = written_request(rt.alloc(), &request)?.ok_or("too long")?;
-        assert_eq!(rt; out.get(1..), Some(packet), "at {header:?}");
+    for (packet, request) in &REQUESTS {
+        assert_asks(&rt, packet, *request)?;
+        assert_written(&rt, rt.alloc(), packet, request)?;
     }
+    Ok(())
+}
+
+/// The response is written as the packet.
+fn assert_response(
+    rt: &impl Abort,
+    alloc: Global,
+    packet: &[u8],
+    response: &Response<'_>,
+) -> Result<(), Fail> {
+    same(rt, packet, &response_len(response), &(packet.len() as u64));
+    let out = written_response(alloc, response)?.ok_or("too long")?;
+    same(rt, packet, &out.get(1..), &Some(packet));
     Ok(())
 }
 
 #[test]
 fn writes_each_response(rt: HostRuntime) -> Result<(), Fail> {
-    for (packet, response) in RESPONSES {
-        assert_eq!(rt;
-            response_len(&response),
-            packet.len() as u64,
-            "at {response:?}"
-        );
-        let out = written_response(rt.alloc(), &response)?.ok_or("too long")?;
-        assert_eq!(rt; out.get(1..), Some(packet), "at {response:?}");
+    for (packet, response) in &RESPONSES {
+        assert_response(&rt, rt.alloc(), packet, response)?;
     }
     Ok(())
 }
 
 /// What data of a packet type ask: data that are no request of their type, data that look odd and are right, and
 /// types that no client sends or that nobody knows, whatever the data.
-const READINGS: [(u32, &[u8], Result<Request<'static>, RequestFault>); 51] = [
+static READINGS: [(u32, &[u8], Result<Request<'static>, RequestFault>); 51] = [
     (1, b"f\0\0", Err(RequestFault::BadArguments)),
     (1, b"f\0g", Err(RequestFault::BadArguments)),
     (1, b"\0\0", Err(RequestFault::BadArguments)),
@@ -247,40 +279,37 @@ const READINGS: [(u32, &[u8], Result<Request<'static>, RequestFault>); 51] = [
 
 #[test]
 fn reads_exactly(rt: HostRuntime) {
-    for (kind, data, reading) in READINGS {
-        assert_eq!(rt; Request::read(kind, data), reading, "type {kind}, {data:?}");
+    for (kind, data, reading) in &READINGS {
+        assert_reads(&rt, *kind, data, reading);
     }
 }
 
 #[test]
-fn tells_what_is_no_packet(rt: HostRuntime) -> Result<(), Fail> {
+fn tells_what_is_no_packet(rt: HostRuntime) {
     let res = [0, b'R', b'E', b'S', 0, 0, 0, 6, 0, 0, 0, 0];
-    assert_eq!(rt; read_header(&res), Err(BadMagic));
-    assert_eq!(rt; Kind::of(36), None);
+    same(&rt, "RES", &read_header(&res), &Err(BadMagic));
+    same(&rt, "36", &Kind::of(36), &None);
     for number in 0..40 {
         if let Some(kind) = Kind::of(number) {
-            assert_eq!(rt; kind.number(), number);
+            same(&rt, kind, &kind.number(), &number);
         }
     }
-    let split = Request::SubmitJob {
+}
+
+/// No packet carries a NUL in the function.
+#[test]
+fn refuses_what_would_split(rt: HostRuntime) -> Result<(), Fail> {
+    let request = Request::SubmitJob {
         function: b"f\0",
         unique: b"a",
         body: b"1",
     };
-    assert_eq!(rt;
-        written_request(rt.alloc(), &split)?,
-        None,
-        "a NUL in the function"
-    );
-    let split = Response::JobAssign {
+    must(&rt, written_request(rt.alloc(), &request)?.is_none());
+    let response = Response::JobAssign {
         handle: b"H:gmd:1",
         function: b"f\0",
         body: b"1",
     };
-    assert_eq!(rt;
-        written_response(rt.alloc(), &split)?,
-        None,
-        "a NUL in the function"
-    );
+    must(&rt, written_response(rt.alloc(), &response)?.is_none());
     Ok(())
 }

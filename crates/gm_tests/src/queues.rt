@@ -1,93 +1,172 @@
 //! The table of functions and waiting jobs.
 
+ghost use Rattle.std.specs.Prelude.{◌<◌, length};
+
+use crate::checks::{must, next_random, same};
 use gm_notes::Priority;
 use gm_queues::{Functions, MentionError};
-use std::alloc::AllocError;
+use std::alloc::{AllocError, Global};
 use std::hash::RandomState;
 use std::process::Abort;
 use std::test::Fail;
 
 const PRIORITIES: [Priority; 3] = [Priority::High, Priority::Normal, Priority::Low];
 
+// The test fails where there is no such function.
+fn must_know(rt: &impl Abort, functions: &Functions, f: u32)
+    ensures { f < length functions.now.names }
+{
+    assert!(rt; f < functions.len());
+}
+
 // Puts a job into a place that is reserved for it.
 fn push_checked(rt: &impl Abort, functions: &mut Functions, f: u32, p: Priority, job: u64) {
-    assert!(rt; f < functions.len() && functions.has_place(f, p));
+    must_know(rt, functions, f);
+    must(rt, functions.has_place(f, p));
     functions.push(f, p, job);
-    assert!(rt; f < functions.len() && functions.is_waiting(f, p, job));
+    must_know(rt, functions, f);
+    must(rt, functions.is_waiting(f, p, job));
 }
 
 // Takes a job out from wherever it waits.
 fn forget_checked(rt: &impl Abort, functions: &mut Functions, f: u32, p: Priority, job: u64) {
-    assert!(rt; f < functions.len() && functions.is_waiting(f, p, job));
+    must_know(rt, functions, f);
+    must(rt, functions.is_waiting(f, p, job));
     functions.forget(f, p, job);
-    assert!(rt; f < functions.len() && !functions.is_waiting(f, p, job));
+    must_know(rt, functions, f);
+    must(rt, !functions.is_waiting(f, p, job));
 }
 
 fn release_checked(rt: &impl Abort, functions: &mut Functions, f: u32, p: Priority) {
-    assert!(rt; f < functions.len() && functions.has_place(f, p));
+    must_know(rt, functions, f);
+    must(rt, functions.has_place(f, p));
     functions.release(f, p);
 }
 
+fn assert_pops(
+    rt: &impl Abort,
+    functions: &mut Functions,
+    f: u32,
+    p: Priority,
+    wanted: Option<u64>,
+) {
+    must_know(rt, functions, f);
+    same(rt, "the oldest job", &functions.pop(f, p), &wanted);
+}
+
 fn assert_counts(rt: &impl Abort, functions: &Functions, f: u32, waiting: u64, running: u64) {
-    assert!(rt; f < functions.len());
+    must_know(rt, functions, f);
     let counts = functions.counts(f);
-    assert_eq!(rt; counts.waiting, waiting);
-    assert_eq!(rt; counts.running, running);
+    same(
+        rt,
+        "the counts",
+        &(counts.waiting, counts.running),
+        &(waiting, running),
+    );
+}
+
+fn reserve_checked(
+    rt: &impl Abort,
+    functions: &mut Functions,
+    f: u32,
+    p: Priority,
+) -> Result<(), AllocError> {
+    must_know(rt, functions, f);
+    functions.reserve_one(f, p)
+}
+
+// A table of at most so many functions, with these.
+fn functions_of(
+    alloc: Global,
+    seed: RandomState,
+    most: u32,
+    names: &[&[u8]],
+) -> Result<Functions, Fail> {
+    let mut functions = Functions::new(alloc, seed, most)?;
+    for name in names {
+        let _f = functions.mention(name)?;
+    }
+    Ok(functions)
+}
+
+// A table with room for one function, which was taken in and out again.
+fn emptied(rt: &impl Abort, alloc: Global, seed: RandomState) -> Result<Functions, Fail> {
+    let mut functions = Functions::new(alloc, seed, 1)?;
+    let mentioned = functions.mention(b"e")?;
+    same(rt, "e", &mentioned, &0);
+    functions.unmention();
+    same(rt, "e", &functions.find(b"e"), &None);
+    Ok(functions)
 }
 
 #[test]
 fn names_ample(rt: HostRuntime) -> Result<(), Fail> {
-    let mut functions = Functions::new(rt.alloc(), RandomState::new(&rt)?, 1)?;
-    assert_eq!(rt; functions.mention(b"e")?, 0);
-    functions.unmention();
-    assert_eq!(rt; functions.find(b"e"), None);
-    assert_eq!(rt; functions.mention(b"f")?, 0);
-    assert_eq!(rt; functions.mention(b"f")?, 0);
-    assert!(rt; functions.mention(b"g") == Err(MentionError::TooManyFunctions));
-    assert_eq!(rt; MentionError::TooManyFunctions.number(), 14);
+    let mut functions = emptied(&rt, rt.alloc(), RandomState::new(&rt)?)?;
+    for (name, mentioned) in [
+        (b"f", Ok(0)),
+        (b"f", Ok(0)),
+        (b"g", Err(MentionError::TooManyFunctions)),
+    ] {
+        same(&rt, name, &functions.mention(name), &mentioned);
+    }
+    same(
+        &rt,
+        "a number",
+        &MentionError::TooManyFunctions.number(),
+        &14,
+    );
+    Ok(())
+}
+
+// Three jobs wait, the second is forgotten, and the first comes back behind the third.
+fn go_round(rt: &impl Abort, functions: &mut Functions) {
+    for job in 1..4 {
+        push_checked(rt, functions, 0, Priority::Normal, job);
+    }
+    forget_checked(rt, functions, 0, Priority::Normal, 2);
+    assert_pops(rt, functions, 0, Priority::Normal, Some(1));
+    push_checked(rt, functions, 0, Priority::Normal, 1);
+    for job in [Some(3), Some(1), None] {
+        assert_pops(rt, functions, 0, Priority::Normal, job);
+    }
+}
+
+fn fill_and_go_round(rt: &impl Abort, functions: &mut Functions) -> Result<(), AllocError> {
+    for _ in 0..3 {
+        reserve_checked(rt, functions, 0, Priority::Normal)?;
+    }
+    go_round(rt, functions);
+    assert_counts(rt, functions, 0, 0, 2);
+    release_checked(rt, functions, 0, Priority::Normal);
+    assert_counts(rt, functions, 0, 0, 1);
     Ok(())
 }
 
 #[test]
 fn queues_ample(rt: HostRuntime) -> Result<(), Fail> {
-    let mut functions = Functions::new(rt.alloc(), RandomState::new(&rt)?, 1)?;
-    let _f = functions.mention(b"f")?;
-    for _ in 0..3 {
-        assert!(rt; functions.len() == 1);
-        functions.reserve_one(0, Priority::Normal)?;
+    let mut functions = functions_of(rt.alloc(), RandomState::new(&rt)?, 1, &[b"f"])?;
+    fill_and_go_round(&rt, &mut functions)?;
+    Ok(())
+}
+
+// A job waits all the time, and others come and are forgotten behind it.
+fn forget_often(rt: &impl Abort, functions: &mut Functions) -> Result<(), AllocError> {
+    reserve_checked(rt, functions, 0, Priority::Low)?;
+    push_checked(rt, functions, 0, Priority::Low, 7);
+    for job in 8..10_008 {
+        reserve_checked(rt, functions, 0, Priority::Low)?;
+        push_checked(rt, functions, 0, Priority::Low, job);
+        forget_checked(rt, functions, 0, Priority::Low, job);
+        assert_counts(rt, functions, 0, 1, 0);
     }
-    for job in 1..4 {
-        push_checked(&rt, &mut functions, 0, Priority::Normal, job);
-    }
-    forget_checked(&rt, &mut functions, 0, Priority::Normal, 2);
-    assert!(rt; functions.len() == 1);
-    assert_eq!(rt; functions.pop(0, Priority::Normal), Some(1));
-    push_checked(&rt, &mut functions, 0, Priority::Normal, 1);
-    for job in [Some(3), Some(1), None] {
-        assert!(rt; functions.len() == 1);
-        assert_eq!(rt; functions.pop(0, Priority::Normal), job);
-    }
-    assert_counts(&rt, &functions, 0, 0, 2);
-    release_checked(&rt, &mut functions, 0, Priority::Normal);
-    assert_counts(&rt, &functions, 0, 0, 1);
+    assert_pops(rt, functions, 0, Priority::Low, Some(7));
     Ok(())
 }
 
 #[test]
 fn stale_ring(rt: HostRuntime) -> Result<(), Fail> {
-    let mut functions = Functions::new(rt.alloc(), RandomState::new(&rt)?, 1)?;
-    let _f = functions.mention(b"f")?;
-    functions.reserve_one(0, Priority::Low)?;
-    push_checked(&rt, &mut functions, 0, Priority::Low, 7);
-    for round in 0..10_000 {
-        assert!(rt; functions.len() == 1);
-        functions.reserve_one(0, Priority::Low)?;
-        push_checked(&rt, &mut functions, 0, Priority::Low, 8 + round);
-        forget_checked(&rt, &mut functions, 0, Priority::Low, 8 + round);
-        assert_counts(&rt, &functions, 0, 1, 0);
-    }
-    assert!(rt; functions.len() == 1);
-    assert_eq!(rt; functions.pop(0, Priority::Low), Some(7));
+    let mut functions = functions_of(rt.alloc(), RandomState::new(&rt)?, 1, &[b"f"])?;
+    forget_often(&rt, &mut functions)?;
     Ok(())
 }
 
@@ -164,8 +243,65 @@ impl Plain {
     }
 }
 
+// The oldest job of both comes to run.
+fn pop_both(
+    rt: &impl Abort,
+    functions: &mut Functions,
+    plain: &mut Plain,
+    f: u32,
+    p: Priority,
+) -> Result<(), AllocError> {
+    let first = plain.first_in(f, p);
+    assert_pops(rt, functions, f, p, first);
+    if let Some(first) = first {
+        plain.remove(first);
+        plain.add_idle(f, p)?;
+    }
+    Ok(())
+}
+
+// A place of both is given up, if there is one that no job uses.
+fn release_both(
+    rt: &impl Abort,
+    functions: &mut Functions,
+    plain: &mut Plain,
+    f: u32,
+    p: Priority,
+) {
+    must_know(rt, functions, f);
+    same(
+        rt,
+        "a place",
+        &functions.has_place(f, p),
+        &plain.has_idle(f, p),
+    );
+    if plain.has_idle(f, p) {
+        release_checked(rt, functions, f, p);
+        plain.remove_idle(f, p);
+    }
+}
+
+// A job of both is forgotten, if any waits.
+fn forget_both(rt: &impl Abort, functions: &mut Functions, plain: &mut Plain, choice: u64) {
+    let count = plain.waiting.len() as u64;
+    if count > 0 {
+        let Waiting {
+            function,
+            priority,
+            job,
+        } = plain.waiting[(choice % count) as usize];
+        forget_checked(rt, functions, function, priority, job);
+        plain.remove(job);
+    }
+}
+
+fn assert_first(rt: &impl Abort, functions: &mut Functions, f: u32, wanted: Option<u64>) {
+    must_know(rt, functions, f);
+    same(rt, "the next job", &functions.first(f), &wanted);
+}
+
 // One call, chosen by a number, of the table and of what it means.
-fn turn(
+fn call_both(
     rt: &impl Abort,
     functions: &mut Functions,
     plain: &mut Plain,
@@ -174,28 +310,14 @@ fn turn(
 ) -> Result<(), AllocError> {
     let f = (choice / 8 % 3) as u32;
     let p = PRIORITIES[(choice / 24 % 3) as usize];
-    assert!(rt; functions.len() == 3);
     match choice % 8 {
         0 | 1 | 2 => {
-            functions.reserve_one(f, p)?;
+            reserve_checked(rt, functions, f, p)?;
             push_checked(rt, functions, f, p, job);
             plain.add(f, p, job)?;
         }
-        3 => {
-            let first = functions.pop(f, p);
-            assert_eq!(rt; first, plain.first_in(f, p));
-            if let Some(first) = first {
-                plain.remove(first);
-                plain.add_idle(f, p)?;
-            }
-        }
-        4 => {
-            assert_eq!(rt; functions.has_place(f, p), plain.has_idle(f, p));
-            if plain.has_idle(f, p) {
-                release_checked(rt, functions, f, p);
-                plain.remove_idle(f, p);
-            }
-        }
+        3 => pop_both(rt, functions, plain, f, p)?,
+        4 => release_both(rt, functions, plain, f, p),
         5 => {
             if plain.has_idle(f, p) {
                 push_checked(rt, functions, f, p, job);
@@ -203,15 +325,8 @@ fn turn(
                 plain.add(f, p, job)?;
             }
         }
-        6 => assert_eq!(rt; functions.first(f), plain.first(f)),
-        _ => {
-            let count = plain.waiting.len() as u64;
-            if count > 0 {
-                let chosen = plain.waiting[(choice / 72 % count) as usize];
-                forget_checked(rt, functions, chosen.function, chosen.priority, chosen.job);
-                plain.remove(chosen.job);
-            }
-        }
+        6 => assert_first(rt, functions, f, plain.first(f)),
+        _ => forget_both(rt, functions, plain, choice / 72),
     }
     assert_counts(
         rt,
@@ -223,22 +338,27 @@ fn turn(
     Ok(())
 }
 
+fn call_often(
+    rt: &impl Abort,
+    functions: &mut Functions,
+    plain: &mut Plain,
+) -> Result<(), AllocError> {
+    let mut state = 1;
+    for job in 0..10_000 {
+        state = next_random(state);
+        call_both(rt, functions, plain, state >> 20, job)?;
+    }
+    Ok(())
+}
+
 #[test]
 fn random_queues(rt: HostRuntime) -> Result<(), Fail> {
-    let mut functions = Functions::new(rt.alloc(), RandomState::new(&rt)?, 3)?;
-    for name in [b"a", b"b", b"c"] {
-        let _f = functions.mention(name)?;
-    }
+    let seed = RandomState::new(&rt)?;
+    let mut functions = functions_of(rt.alloc(), seed, 3, &[b"a", b"b", b"c"])?;
     let mut plain = Plain {
         waiting: Vec::new(rt.alloc()),
         idle: Vec::new(rt.alloc()),
     };
-    let mut state = 1u64;
-    for job in 0..10_000 {
-        state = state
-            .wrapping_mul(6364136223846793005)
-            .wrapping_add(1442695040888963407);
-        turn(&rt, &mut functions, &mut plain, state >> 20, job)?;
-    }
+    call_often(&rt, &mut functions, &mut plain)?;
     Ok(())
 }

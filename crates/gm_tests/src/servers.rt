@@ -1,8 +1,10 @@
 //! The plain server, called as a host calls it.
 
+use crate::checks::{must, same};
 use gm_notes::{ApplyError, Config, Done, Event, JobServer, Place};
 use gm_plain::PlainServer;
 use std::alloc::Global;
+use std::process::Abort;
 use std::test::Fail;
 
 /// A server with 64 slots, of which so many are open.
@@ -15,48 +17,56 @@ fn server(alloc: Global, open: u32) -> Result<PlainServer, Fail> {
     Ok(server)
 }
 
+/// The slot is closed, and nothing waits there.
+fn close(rt: &impl Abort, server: &mut PlainServer, slot: u32) {
+    let closed = Done {
+        opened: None,
+        created: None,
+    };
+    same(rt, slot, &server.apply(&Event::Close { slot }), &Ok(closed));
+    must(rt, server.drain(slot).is_empty());
+}
+
+/// The NOOP that is owed to slot 1 is withdrawn.
+fn withdraw(rt: &impl Abort, server: &mut PlainServer) {
+    same(rt, "owed", &server.owed(1), &true);
+    same(rt, "withdrawn", &server.withdrew(1), &Ok(()));
+    same(rt, "owed", &server.owed(1), &false);
+    same(
+        rt,
+        "withdrawn",
+        &server.withdrew(1),
+        &Err(ApplyError::NotOwed),
+    );
+    same(rt, "taken", &server.took(64), &Err(ApplyError::NotOpen));
+    must(rt, server.drain(64).is_empty());
+}
+
 /// A NOOP that is withdrawn isn't owed any longer, and is withdrawn once.
 #[test]
 fn withdrawn_noop(rt: HostRuntime) -> Result<(), Fail> {
     let mut server = server(rt.alloc(), 2)?;
-    let ability = Event::Packet {
-        slot: 1,
-        kind: 1,
-        bytes: b"f",
-    };
-    let sleep = Event::Packet {
-        slot: 1,
-        kind: 4,
-        bytes: b"",
-    };
-    let job = Event::Packet {
-        slot: 0,
-        kind: 18,
-        bytes: b"f\0-\0d",
-    };
-    server.apply(&ability)?;
-    server.apply(&sleep)?;
-    assert!(rt; !server.owed(1));
-    assert_eq!(rt; server.took(1), Err(ApplyError::NotOwed));
-    let made = Done {
-        opened: None,
-        created: Some(1),
-    };
-    assert_eq!(rt; server.apply(&job), Ok(made));
-    assert!(rt; server.owed(1));
-    assert_eq!(rt; server.withdrew(1), Ok(()));
-    assert!(rt; !server.owed(1));
-    assert_eq!(rt; server.withdrew(1), Err(ApplyError::NotOwed));
-    assert_eq!(rt; server.took(64), Err(ApplyError::NotOpen));
-    assert!(rt; server.drain(64).is_empty());
-    assert_eq!(rt;
-        server.apply(&Event::Close { slot: 1 }),
-        Ok(Done {
+    for (slot, kind, bytes, created) in [
+        (1, 1, b"f".as_slice(), None),
+        (1, 4, b"".as_slice(), None),
+        (0, 18, b"f\0-\0d".as_slice(), Some(1)),
+    ] {
+        same(&rt, kind, &server.owed(1), &false);
+        same(&rt, kind, &server.took(1), &Err(ApplyError::NotOwed));
+        let done = Done {
             opened: None,
-            created: None
-        })
-    );
-    assert_eq!(rt; server.place(1), Place::Waiting);
+            created,
+        };
+        same(
+            &rt,
+            kind,
+            &server.apply(&Event::Packet { slot, kind, bytes }),
+            &Ok(done),
+        );
+    }
+    withdraw(&rt, &mut server);
+    close(&rt, &mut server, 1);
+    same(&rt, "the job", &server.place(1), &Place::Waiting);
     Ok(())
 }
 
@@ -69,7 +79,7 @@ struct Request {
 }
 
 /// Jobs that wait, run and are listened to, a worker that sleeps, and one that is owed a NOOP.
-const REQUESTS: [Request; 12] = [
+static REQUESTS: [Request; 12] = [
     Request {
         slot: 1,
         kind: 1,
@@ -144,12 +154,7 @@ fn closings(rt: HostRuntime) -> Result<(), Fail> {
         }
     }
     for slot in 0..3 {
-        let closed = Done {
-            opened: None,
-            created: None,
-        };
-        assert_eq!(rt; server.apply(&Event::Close { slot }), Ok(closed));
-        assert!(rt; server.drain(slot).is_empty());
+        close(&rt, &mut server, slot);
     }
     Ok(())
 }

@@ -1,5 +1,6 @@
 //! Settings, the numbers of refusals, and texts.
 
+use crate::checks::same;
 use gm_notes::{ApplyError, Config, ConfigError, Text, UnitFault};
 use std::alloc::{AllocError, Global};
 use std::test::Fail;
@@ -14,51 +15,66 @@ fn config(
     Ok(Config::new(Vec::from_slice(alloc, name)?, first, slots, functions))
 }
 
+/// Settings that are refused, and the number of the refusal.
+static REFUSED: [(&[u8], u64, u32, u32, u8); 7] = [
+    (b"a:b", 0, 1025, 65537, 17),
+    (b"", 0, 1025, 65537, 17),
+    (b"gmd", 0, 1025, 65537, 18),
+    (b"gmd", 1, 1025, 65537, 19),
+    (b"gmd", 1, 0, 65537, 19),
+    (b"gmd", 1, 1024, 65537, 20),
+    (b"gmd", 1, 1024, 0, 20),
+];
+
 #[test]
 fn settings_are_refused_in_their_order(rt: HostRuntime) -> Result<(), Fail> {
     let alloc = rt.alloc();
-    let refused = [
-        (b"a:b".as_slice(), 0, 1025, 65537, 17),
-        (b"".as_slice(), 0, 1025, 65537, 17),
-        (b"gmd".as_slice(), 0, 1025, 65537, 18),
-        (b"gmd".as_slice(), 1, 1025, 65537, 19),
-        (b"gmd".as_slice(), 1, 0, 65537, 19),
-        (b"gmd".as_slice(), 1, 1024, 65537, 20),
-        (b"gmd".as_slice(), 1, 1024, 0, 20),
-    ];
-    for (name, first, slots, functions, number) in refused {
-        let fault = config(alloc, name, first, slots, functions)?
+    for (name, first, slots, functions, number) in &REFUSED {
+        let fault = config(alloc, name, *first, *slots, *functions)?
             .err()
             .ok_or("taken")?;
-        assert_eq!(rt; fault.number(), number);
+        same(&rt, "a refusal", &fault.number(), number);
     }
-    let taken = config(alloc, b"gmd", 1, 1024, 65536)?
+    Ok(())
+}
+
+#[test]
+fn settings_are_kept(rt: HostRuntime) -> Result<(), Fail> {
+    let taken = config(rt.alloc(), b"gmd", 1, 1024, 65536)?
         .ok()
         .ok_or("refused")?;
-    assert_eq!(rt; taken.name(), b"gmd".as_slice());
-    assert_eq!(rt; taken.first_job(), 1);
-    assert_eq!(rt; taken.slots(), 1024);
-    assert_eq!(rt; taken.max_functions(), 65536);
+    same(&rt, "the name", &taken.name(), &b"gmd".as_slice());
+    same(&rt, "the first job", &taken.first_job(), &1);
+    same(&rt, "the slots", &taken.slots(), &1024);
+    same(&rt, "the functions", &taken.max_functions(), &65536);
     Ok(())
 }
 
 #[test]
 fn numbers_of_refusals(rt: HostRuntime) {
-    assert_eq!(rt; UnitFault::BadMagic.number(), 3);
-    assert_eq!(rt; UnitFault::PacketTooLarge.number(), 4);
-    assert_eq!(rt; UnitFault::LineTooLong.number(), 5);
-    assert_eq!(rt; ApplyError::Memory.number(), 6);
-    assert_eq!(rt; ApplyError::NotOpen.number(), 10);
-    assert_eq!(rt; ApplyError::NoSlot.number(), 11);
-    assert_eq!(rt; ApplyError::NotOwed.number(), 12);
-    assert_eq!(rt; ApplyError::Refusing.number(), 13);
+    for (fault, number) in [
+        (UnitFault::BadMagic, 3),
+        (UnitFault::PacketTooLarge, 4),
+        (UnitFault::LineTooLong, 5),
+    ] {
+        same(&rt, "a fault", &fault.number(), &number);
+    }
+    for (refusal, number) in [
+        (ApplyError::Memory, 6),
+        (ApplyError::NotOpen, 10),
+        (ApplyError::NoSlot, 11),
+        (ApplyError::NotOwed, 12),
+        (ApplyError::Refusing, 13),
+    ] {
+        same(&rt, "a refusal", &refusal.number(), &number);
+    }
 }
 
 #[test]
 fn texts_are_kept(rt: HostRuntime) -> Result<(), Fail> {
     let copied = Text::copy_of(rt.alloc(), b"ab")?;
-    assert_eq!(rt; copied.as_slice(), b"ab".as_slice());
+    same(&rt, "a copy", &copied.as_slice(), &b"ab".as_slice());
     let made = Text::from_vec(Vec::from_slice(rt.alloc(), b"cd")?);
-    assert_eq!(rt; made.as_slice(), b"cd".as_slice());
+    same(&rt, "a text", &made.as_slice(), &b"cd".as_slice());
     Ok(())
 }

@@ -2,8 +2,10 @@
 
 ghost use Rattle.std.specs.Prelude.{◌≡◌, ◌<◌, All, IfSome, length};
 
+use crate::checks::same;
 use gm_word::{BookSeat, PenSeat, Phase, SleepTable, close_words};
 use std::alloc::{AllocError, Global};
+use std::process::Abort;
 use std::test::Fail;
 use std::thread::{join, map_vec};
 
@@ -102,9 +104,10 @@ fn word_ample(rt: HostRuntime) -> Result<(), Fail> {
         (Some(Step::Wake), 1, true),
     ];
     for (step, slot, answer) in turns {
-        assert_eq!(rt; desk.turn(step, slot), Some(answer), "{step:?} at {slot}");
+        same(&rt, (step, slot), &desk.turn(step, slot), &Some(answer));
     }
-    assert_eq!(rt; desk.close(rt.alloc())?.as_slice(), [0, 2].as_slice());
+    let words = desk.close(rt.alloc())?;
+    same(&rt, "the last words", &words.as_slice(), &[0, 2].as_slice());
     Ok(())
 }
 
@@ -122,6 +125,31 @@ struct Keeper<'a> {
 }
 
 impl<'a> Keeper<'a> {
+    fn new(table: &'a SleepTable, book: BookSeat, slots: u32) -> Keeper<'a>
+        requires fits { book.table ≡ table.now }
+        requires wide { length book.lines ≡ slots }
+    {
+        Keeper {
+            table,
+            book,
+            slots,
+            wakes: 0,
+            entered: 0,
+            withdrawals: 0,
+        }
+    }
+
+    // Each waking was taken or withdrawn, and the book has entered each take.
+    fn assert_balance(&self, rt: &impl Abort, takes: u64) {
+        same(
+            rt,
+            "wakes",
+            &self.wakes,
+            &takes.wrapping_add(self.withdrawals),
+        );
+        same(rt, "takes", &takes, &self.entered);
+    }
+
     // Makes the step where the phase of the slot allows it, and counts.
     fn turn(&mut self, step: Step, slot: u32) {
         if slot >= self.slots {
@@ -225,14 +253,7 @@ fn word_two(rt: HostRuntime) -> Result<(), Fail> {
         pens,
         slots,
     } = Desk::new(rt.alloc(), 1)?;
-    let keeper = Keeper {
-        table: &table,
-        book,
-        slots,
-        wakes: 0,
-        entered: 0,
-        withdrawals: 0,
-    };
+    let keeper = Keeper::new(&table, book, slots);
     let mut takers = takers_of(rt.alloc(), &table, pens)?;
     let taker = takers.pop().ok_or("the slot has no pen")?;
     let (keeper, taker) = join(
@@ -240,10 +261,23 @@ fn word_two(rt: HostRuntime) -> Result<(), Fail> {
         || keeper.withdraw_often(0, 100_000),
         || taker.take_often(1_000_000),
     );
-    assert_eq!(rt; keeper.wakes, 100_000);
-    assert_eq!(rt; taker.takes, keeper.entered);
-    assert_eq!(rt; keeper.wakes, taker.takes.wrapping_add(keeper.withdrawals));
+    same(&rt, "wakes", &keeper.wakes, &100_000);
+    keeper.assert_balance(&rt, taker.takes);
     Ok(())
+}
+
+// Each pen takes what is left, the book enters it, and then nothing is owed.
+fn settle(rt: &impl Abort, mut keeper: Keeper<'_>, takers: Vec<Taker<'_>>) {
+    let mut takes = 0u64;
+    for taker in takers {
+        let taker = taker.take_often(1);
+        takes = takes.wrapping_add(taker.takes);
+    }
+    for slot in 0..4 {
+        keeper.turn(Step::Look, slot);
+    }
+    assert!(rt; keeper.wakes > 0);
+    keeper.assert_balance(rt, takes);
 }
 
 // Four pens and the book, each in a thread of its own, try a million times in all. Then nothing is owed.
@@ -255,31 +289,13 @@ fn word_four(rt: HostRuntime) -> Result<(), Fail> {
         pens,
         slots,
     } = Desk::new(rt.alloc(), 4)?;
-    let keeper = Keeper {
-        table: &table,
-        book,
-        slots,
-        wakes: 0,
-        entered: 0,
-        withdrawals: 0,
-    };
+    let keeper = Keeper::new(&table, book, slots);
     let takers = takers_of(rt.alloc(), &table, pens)?;
     let (keeper, takers) = join(
         &rt,
         || keeper.go_round(200_000),
         || map_vec(&rt, takers, &|taker: Taker<'_>| taker.take_often(200_000)),
     );
-    let mut keeper = keeper;
-    let mut takes = 0u64;
-    for taker in takers? {
-        let taker = taker.take_often(1);
-        takes = takes.wrapping_add(taker.takes);
-    }
-    for slot in 0..4 {
-        keeper.turn(Step::Look, slot);
-    }
-    assert!(rt; keeper.wakes > 0);
-    assert_eq!(rt; keeper.wakes, takes.wrapping_add(keeper.withdrawals));
-    assert_eq!(rt; keeper.entered, takes);
+    settle(&rt, keeper, takers?);
     Ok(())
 }
