@@ -126,6 +126,141 @@ impl Conns {
     }
 }
 
+struct Job {
+    unique: Vec<u8>,
+    body: Vec<u8>,
+    kept: bool,
+    runs: Option<(u32, u64)>,
+    listeners: Vec<u32>,
+}
+
+/// Live jobs by number and by unique id, who listens to what, what runs where, and what is due when.
+#[derive(Default)]
+struct Jobs {
+    next: u64,
+    jobs: HashMap<u64, Job>,
+    uniques: HashMap<(u32, Vec<u8>), u64>,
+    listening: HashMap<u32, Vec<u64>>,
+    running: HashMap<u32, BTreeSet<u64>>,
+    dues: BTreeSet<(u64, u64)>,
+    orphans: BTreeSet<u64>,
+}
+
+const BODY: [u8; 16] = [b'x'; 16];
+
+fn id_of(number: u64) -> [u8; 16] {
+    let mut id = *b"unique--12345678";
+    id[8..].copy_from_slice(&number.to_be_bytes());
+    id
+}
+
+impl Jobs {
+    fn new(size: u64, name: &str) -> Jobs {
+        let mut jobs = Jobs { next: 1, ..Jobs::default() };
+        for index in 0..size {
+            let number = jobs.make(index + 1, None);
+            if name == "job_due_nothing" {
+                jobs.assign(number, 9, 1 << 40);
+            }
+        }
+        jobs
+    }
+
+    fn by_unique(&self, unique: &[u8]) -> Option<u64> {
+        self.uniques.get(&(0, unique.to_vec())).copied()
+    }
+
+    fn make(&mut self, number: u64, listener: Option<u32>) -> u64 {
+        let unique = id_of(number);
+        assert!(self.by_unique(&unique).is_none());
+        let number = self.next;
+        self.next += 1;
+        let listeners = listener.into_iter().collect();
+        if let Some(slot) = listener {
+            self.listening.entry(slot).or_default().push(number);
+        }
+        self.uniques.insert((0, unique.to_vec()), number);
+        self.jobs.insert(
+            number,
+            Job { unique: unique.to_vec(), body: BODY.to_vec(), kept: listener.is_none(), runs: None, listeners },
+        );
+        number
+    }
+
+    fn end(&mut self, number: u64) {
+        if let Some(job) = self.jobs.remove(&number) {
+            self.uniques.remove(&(0, job.unique));
+            if let Some((slot, deadline)) = job.runs {
+                self.running.get_mut(&slot).unwrap().remove(&number);
+                self.dues.remove(&(deadline, number));
+            }
+            self.orphans.remove(&number);
+        }
+    }
+
+    fn assign(&mut self, number: u64, slot: u32, deadline: u64) {
+        self.jobs.get_mut(&number).unwrap().runs = Some((slot, deadline));
+        self.running.entry(slot).or_default().insert(number);
+        self.dues.insert((deadline, number));
+    }
+
+    fn give_back(&mut self, number: u64) {
+        if let Some((slot, deadline)) = self.jobs.get_mut(&number).unwrap().runs.take() {
+            self.running.get_mut(&slot).unwrap().remove(&number);
+            self.dues.remove(&(deadline, number));
+        }
+    }
+
+    fn listen(&mut self, number: u64, slot: u32) -> usize {
+        let job = self.jobs.get_mut(&number).unwrap();
+        job.listeners.push(slot);
+        self.listening.entry(slot).or_default().push(number);
+        job.listeners.len()
+    }
+
+    fn leave(&mut self, slot: u32) {
+        for number in self.listening.remove(&slot).unwrap_or_default() {
+            if let Some(job) = self.jobs.get_mut(&number) {
+                job.listeners.retain(|other| *other != slot);
+                if job.listeners.is_empty() && !job.kept && job.runs.is_none() {
+                    self.orphans.insert(number);
+                }
+            }
+        }
+    }
+}
+
+fn job_round(jobs: &mut Jobs, name: &str, next: u64, live: u64) -> u64 {
+    match name {
+        "job_make_end" => {
+            let made = jobs.make(next, None);
+            jobs.end(live);
+            made - next + 1
+        }
+        "job_find" => jobs.by_unique(&id_of(live)).and_then(|found| jobs.jobs.get(&found)).map_or(0, |job| job.body.len() as u64),
+        "job_assign_return" => {
+            jobs.assign(live, 9, 1 << 40);
+            let runs = jobs.running[&9].first() == Some(&live);
+            jobs.give_back(live);
+            u64::from(runs)
+        }
+        "job_listen_leave" => {
+            let count = jobs.listen(live, 7);
+            jobs.leave(7);
+            count as u64
+        }
+        "job_orphan" => {
+            let made = jobs.make(next, Some(7));
+            jobs.leave(7);
+            let found = *jobs.orphans.first().unwrap();
+            jobs.end(found);
+            found - made + 1
+        }
+        "job_due_nothing" => jobs.dues.first().map_or(1, |due| if due.0 <= 5 { due.1 } else { 1 }),
+        _ => panic!("no such measurement"),
+    }
+}
+
 const ANSWER: [u8; 100] = [b'x'; 100];
 
 fn conn_round(conns: &mut Conns, name: &str, slot: u32) -> u64 {
@@ -175,6 +310,15 @@ fn run(name: &str, size: u64, rounds: u64) -> (u64, u128) {
         let start = Instant::now();
         for round in 0..rounds {
             sum = sum.wrapping_add(queue_round(&mut queue, name, 2 * round + (1 << 32)));
+        }
+        return (sum, start.elapsed().as_nanos());
+    }
+    if name.starts_with("job") {
+        let mut jobs = Jobs::new(size, name);
+        let start = Instant::now();
+        for round in 0..rounds {
+            let live = if name == "job_make_end" { round + 1 } else { round.wrapping_mul(7919) % size.max(1) + 1 };
+            sum = sum.wrapping_add(black_box(job_round(&mut jobs, name, size + round + 1, live)));
         }
         return (sum, start.elapsed().as_nanos());
     }

@@ -2,6 +2,7 @@
 #![tactic(auto)]
 
 mod connections;
+mod jobs;
 mod queues;
 mod stop;
 
@@ -19,16 +20,23 @@ gm_bench_tables --help             prints this
 
 Of functions, where SIZE jobs wait: queue_push_pop, queue_forget.
 Of connections, where SIZE slots are open, at most 1024: conn_open_close, conn_sleep_wake, conn_answer, conn_ability.
+Of jobs, where SIZE jobs wait, or run: job_make_end, job_find, job_assign_return, job_listen_leave, job_orphan, job_due_nothing.
 ";
 
 /// What can be measured, in the order in which it is listed.
-const NAMES: [&str; 6] = [
+const NAMES: [&str; 12] = [
     "queue_push_pop",
     "queue_forget",
     "conn_open_close",
     "conn_sleep_wake",
     "conn_answer",
     "conn_ability",
+    "job_make_end",
+    "job_find",
+    "job_assign_return",
+    "job_listen_leave",
+    "job_orphan",
+    "job_due_nothing",
 ];
 
 /// A table to be measured, and how.
@@ -41,6 +49,11 @@ enum Subject {
     Connections {
         conns: gm_conns::Conns,
         turn: connections::Turn,
+    },
+    Jobs {
+        jobs: gm_jobs::Jobs,
+        size: u64,
+        turn: jobs::Turn,
     },
 }
 
@@ -59,6 +72,11 @@ fn of_functions(
     Ok(Subject::Functions { functions, forgets })
 }
 
+fn of_jobs(alloc: Global, seed: RandomState, size: u64, turn: jobs::Turn) -> Result<Subject, Stop> {
+    let jobs = jobs::filled(alloc, seed, size, turn)?;
+    Ok(Subject::Jobs { jobs, size, turn })
+}
+
 /// The table of a measurement, at this size.
 fn prepared(alloc: Global, seed: RandomState, name: &str, size: u64) -> Result<Subject, Stop> {
     match name {
@@ -68,6 +86,12 @@ fn prepared(alloc: Global, seed: RandomState, name: &str, size: u64) -> Result<S
         "conn_sleep_wake" => of_connections(alloc, size, connections::Turn::SleepWake),
         "conn_answer" => of_connections(alloc, size, connections::Turn::Answer),
         "conn_ability" => of_connections(alloc, size, connections::Turn::Ability),
+        "job_make_end" => of_jobs(alloc, seed, size, jobs::Turn::MakeEnd),
+        "job_find" => of_jobs(alloc, seed, size, jobs::Turn::Find),
+        "job_assign_return" => of_jobs(alloc, seed, size, jobs::Turn::AssignReturn),
+        "job_listen_leave" => of_jobs(alloc, seed, size, jobs::Turn::ListenLeave),
+        "job_orphan" => of_jobs(alloc, seed, size, jobs::Turn::Orphan),
+        "job_due_nothing" => of_jobs(alloc, seed, size, jobs::Turn::DueNothing),
         _ => Err(Stop::Words),
     }
 }
@@ -77,6 +101,7 @@ fn run_rounds(subject: &mut Subject, rounds: u64) -> Result<u64, Stop> {
     match subject {
         Subject::Functions { functions, forgets } => queues::rounds(functions, rounds, *forgets),
         Subject::Connections { conns, turn } => connections::rounds(conns, rounds, *turn),
+        Subject::Jobs { jobs, size, turn } => jobs::rounds(jobs, *size, rounds, *turn),
     }
 }
 

@@ -3,6 +3,7 @@
 ghost use Rattle.std.specs.Prelude.{◌≡◌};
 ghost use Rattle.gm_bench_tables.specs.declared.stop.Stop.TheVariants.{Memory};
 
+use gm_jobs::JobError;
 use gm_notes::ApplyError;
 use gm_queues::MentionError;
 use std::alloc::AllocError;
@@ -44,6 +45,14 @@ pub(crate) fn of_opening(error: ApplyError) -> Stop {
     match error {
         ApplyError::Memory => Stop::Memory,
         _ => Stop::Words,
+    }
+}
+
+/// Why no room was made for a job.
+pub(crate) fn of_reserving(error: JobError) -> Stop {
+    match error {
+        JobError::Memory => Stop::Memory,
+        JobError::NumbersSpent => Stop::Broken,
     }
 }
 

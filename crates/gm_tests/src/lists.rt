@@ -1,5 +1,6 @@
 //! The lists for administrators, where there is much to list.
 
+use crate::checks::same;
 use gm_notes::{Config, Event, JobServer};
 use gm_plain::PlainServer;
 use std::alloc::Global;
@@ -38,27 +39,40 @@ fn answer(server: &mut PlainServer, line: &[u8]) -> Result<Vec<u8>, Fail> {
     Ok(server.drain(0))
 }
 
+/// A row for each function: no jobs, and one worker.
+fn functions(alloc: Global) -> Result<Vec<u8>, Fail> {
+    let mut text = Vec::new(alloc);
+    for number in 0..1000 {
+        text.extend_from_slice(&name_of(number))?;
+        text.extend_from_slice(b"\t0\t0\t1\n")?;
+    }
+    text.extend_from_slice(b".\n")?;
+    Ok(text)
+}
+
+/// A row for each connection: its slot, and every 64th function.
+fn connections(alloc: Global) -> Result<Vec<u8>, Fail> {
+    let mut text = Vec::new(alloc);
+    for slot in 0..64 {
+        text.extend_from_slice(format!(in alloc; "{slot} a - :")?.as_bytes())?;
+        for number in (slot..1000).step_by(64) {
+            text.push(b' ')?;
+            text.extend_from_slice(&name_of(number))?;
+        }
+        text.push(b'\n')?;
+    }
+    text.extend_from_slice(b".\n")?;
+    Ok(text)
+}
+
 #[test]
 fn long_lists(rt: HostRuntime) -> Result<(), Fail> {
-    let alloc = rt.alloc();
-    let mut server = crowd(alloc)?;
-    let mut functions = Vec::new(alloc);
-    for number in 0..1000 {
-        functions.extend_from_slice(&name_of(number))?;
-        functions.extend_from_slice(b"\t0\t0\t1\n")?;
+    let mut server = crowd(rt.alloc())?;
+    for (line, text) in [
+        (b"status".as_slice(), functions(rt.alloc())?),
+        (b"workers".as_slice(), connections(rt.alloc())?),
+    ] {
+        same(&rt, line, &answer(&mut server, line)?, &text);
     }
-    functions.extend_from_slice(b".\n")?;
-    assert_eq!(rt; answer(&mut server, b"status")?, functions);
-    let mut connections = Vec::new(alloc);
-    for slot in 0..64 {
-        connections.extend_from_slice(format!(in alloc; "{slot} a - :")?.as_bytes())?;
-        for number in (slot..1000).step_by(64) {
-            connections.push(b' ')?;
-            connections.extend_from_slice(&name_of(number))?;
-        }
-        connections.push(b'\n')?;
-    }
-    connections.extend_from_slice(b".\n")?;
-    assert_eq!(rt; answer(&mut server, b"workers")?, connections);
     Ok(())
 }
