@@ -2,6 +2,7 @@
 
 ghost use Rattle.std.specs.Prelude.{◌≡◌, ◌↔◌, [], ◌∷◌, ◌++◌, ◌+◌, ◌<◌, length, vec_len, vec_capacity, IfOk, IsErrOf, IsTrue, OnOk, OnErr, MatchOption, decimal};
 ghost use Rattle.std.specs.Option.{option_map};
+ghost use Rattle.gm_packet.specs.Kinds.{Empty, Plain, Opaque, shape};
 ghost use Rattle.gm_packet.specs.Requests.{Asks, IsKnown, IsSpelled, read_as, request_of};
 ghost use Rattle.gm_packet.specs.Texts.{texts_of};
 ghost use Rattle.gm_packet.specs.Writing.{Fits, request_packet, request_texts};
@@ -137,35 +138,116 @@ pub enum Request<'a> {
     },
 }
 
+/// What data ask of a kind that has no arguments.
+fn read_bare(kind: Kind, bytes: &[u8]) -> Option<Request<'_>>
+    ensures { shape kind ≡ Empty → option_map asked_of result ≡ read_as kind bytes.now }
+{
+    no_argument(bytes)?;
+    match kind {
+        Kind::ResetAbilities => Some(Request::ResetAbilities),
+        Kind::PreSleep => Some(Request::PreSleep),
+        Kind::GrabJob => Some(Request::GrabJob),
+        Kind::AllYours => Some(Request::AllYours),
+        Kind::GrabJobUniq => Some(Request::GrabJobUniq),
+        _ => None,
+    }
+}
+
+/// What data ask of a kind with one argument that holds no NUL.
+fn read_one(kind: Kind, bytes: &[u8]) -> Option<Request<'_>>
+    ensures { shape kind ≡ Plain 0 → option_map asked_of result ≡ read_as kind bytes.now }
+{
+    let text = one_plain(bytes)?;
+    match kind {
+        Kind::CanDo => Some(Request::CanDo { function: text }),
+        Kind::CantDo => Some(Request::CantDo { function: text }),
+        Kind::WorkFail => Some(Request::WorkFail { handle: text }),
+        Kind::GetStatus => Some(Request::GetStatus { handle: text }),
+        Kind::SetClientId => Some(Request::SetClientId { id: text }),
+        Kind::OptionReq => Some(Request::OptionReq { name: text }),
+        _ => None,
+    }
+}
+
+/// What data ask of a kind with a handle and a body.
+fn read_work(kind: Kind, bytes: &[u8]) -> Option<Request<'_>>
+    ensures { shape kind ≡ Opaque 1 → option_map asked_of result ≡ read_as kind bytes.now }
+{
+    let (handle, body) = two_opaque(bytes)?;
+    match kind {
+        Kind::WorkComplete => Some(Request::WorkComplete { handle, body }),
+        Kind::WorkException => Some(Request::WorkException { handle, body }),
+        Kind::WorkData => Some(Request::WorkData { handle, body }),
+        Kind::WorkWarning => Some(Request::WorkWarning { handle, body }),
+        _ => None,
+    }
+}
+
+/// What data ask of a kind that submits a job.
+fn read_submission(kind: Kind, bytes: &[u8]) -> Option<Request<'_>>
+    ensures { shape kind ≡ Opaque 2 → option_map asked_of result ≡ read_as kind bytes.now }
+{
+    let (function, unique, body) = three_opaque(bytes)?;
+    match kind {
+        Kind::SubmitJob => Some(Request::SubmitJob {
+            function,
+            unique,
+            body,
+        }),
+        Kind::SubmitJobBg => Some(Request::SubmitJobBg {
+            function,
+            unique,
+            body,
+        }),
+        Kind::SubmitJobHigh => Some(Request::SubmitJobHigh {
+            function,
+            unique,
+            body,
+        }),
+        Kind::SubmitJobHighBg => Some(Request::SubmitJobHighBg {
+            function,
+            unique,
+            body,
+        }),
+        Kind::SubmitJobLow => Some(Request::SubmitJobLow {
+            function,
+            unique,
+            body,
+        }),
+        Kind::SubmitJobLowBg => Some(Request::SubmitJobLowBg {
+            function,
+            unique,
+            body,
+        }),
+        _ => None,
+    }
+}
+
 /// What data of a known kind ask, if they spell its arguments.
 fn read_as(kind: Kind, bytes: &[u8]) -> Option<Request<'_>>
     ensures { option_map asked_of result ≡ read_as kind bytes.now }
 {
     match kind {
-        Kind::CanDo => {
-            let function = one_plain(bytes)?;
-            Some(Request::CanDo { function })
+        Kind::ResetAbilities
+        | Kind::PreSleep
+        | Kind::GrabJob
+        | Kind::AllYours
+        | Kind::GrabJobUniq => read_bare(kind, bytes),
+        Kind::CanDo
+        | Kind::CantDo
+        | Kind::WorkFail
+        | Kind::GetStatus
+        | Kind::SetClientId
+        | Kind::OptionReq => read_one(kind, bytes),
+        Kind::WorkComplete | Kind::WorkException | Kind::WorkData | Kind::WorkWarning => {
+            read_work(kind, bytes)
         }
-        Kind::CantDo => {
-            let function = one_plain(bytes)?;
-            Some(Request::CantDo { function })
-        }
-        Kind::WorkFail => {
-            let handle = one_plain(bytes)?;
-            Some(Request::WorkFail { handle })
-        }
-        Kind::GetStatus => {
-            let handle = one_plain(bytes)?;
-            Some(Request::GetStatus { handle })
-        }
-        Kind::SetClientId => {
-            let id = one_plain(bytes)?;
-            Some(Request::SetClientId { id })
-        }
-        Kind::OptionReq => {
-            let name = one_plain(bytes)?;
-            Some(Request::OptionReq { name })
-        }
+        Kind::SubmitJob
+        | Kind::SubmitJobBg
+        | Kind::SubmitJobHigh
+        | Kind::SubmitJobHighBg
+        | Kind::SubmitJobLow
+        | Kind::SubmitJobLowBg => read_submission(kind, bytes),
         Kind::CanDoTimeout => {
             let (function, timeout) = function_and_timeout(bytes)?;
             Some(Request::CanDoTimeout { function, timeout })
@@ -179,90 +261,6 @@ fn read_as(kind: Kind, bytes: &[u8]) -> Option<Request<'_>>
             })
         }
         Kind::EchoReq => Some(Request::EchoReq { body: bytes }),
-        Kind::WorkComplete => {
-            let (handle, body) = two_opaque(bytes)?;
-            Some(Request::WorkComplete { handle, body })
-        }
-        Kind::WorkException => {
-            let (handle, body) = two_opaque(bytes)?;
-            Some(Request::WorkException { handle, body })
-        }
-        Kind::WorkData => {
-            let (handle, body) = two_opaque(bytes)?;
-            Some(Request::WorkData { handle, body })
-        }
-        Kind::WorkWarning => {
-            let (handle, body) = two_opaque(bytes)?;
-            Some(Request::WorkWarning { handle, body })
-        }
-        Kind::SubmitJob => {
-            let (function, unique, body) = three_opaque(bytes)?;
-            Some(Request::SubmitJob {
-                function,
-                unique,
-                body,
-            })
-        }
-        Kind::SubmitJobBg => {
-            let (function, unique, body) = three_opaque(bytes)?;
-            Some(Request::SubmitJobBg {
-                function,
-                unique,
-                body,
-            })
-        }
-        Kind::SubmitJobHigh => {
-            let (function, unique, body) = three_opaque(bytes)?;
-            Some(Request::SubmitJobHigh {
-                function,
-                unique,
-                body,
-            })
-        }
-        Kind::SubmitJobHighBg => {
-            let (function, unique, body) = three_opaque(bytes)?;
-            Some(Request::SubmitJobHighBg {
-                function,
-                unique,
-                body,
-            })
-        }
-        Kind::SubmitJobLow => {
-            let (function, unique, body) = three_opaque(bytes)?;
-            Some(Request::SubmitJobLow {
-                function,
-                unique,
-                body,
-            })
-        }
-        Kind::SubmitJobLowBg => {
-            let (function, unique, body) = three_opaque(bytes)?;
-            Some(Request::SubmitJobLowBg {
-                function,
-                unique,
-                body,
-            })
-        }
-        Kind::ResetAbilities => {
-            no_argument(bytes)?;
-            Some(Request::ResetAbilities)
-        }
-        Kind::PreSleep => {
-            no_argument(bytes)?;
-            Some(Request::PreSleep)
-        }
-        Kind::GrabJob => {
-            no_argument(bytes)?;
-            Some(Request::GrabJob)
-        }
-        Kind::AllYours => {
-            no_argument(bytes)?;
-            Some(Request::AllYours)
-        }
-        Kind::GrabJobUniq => {
-            no_argument(bytes)?;
-            Some(Request::GrabJobUniq)
-        }
     }
 }
 

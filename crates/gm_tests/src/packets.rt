@@ -77,20 +77,20 @@ fn cut_packet(packet: &[u8]) -> Option<(Header, &[u8])> {
 
 /// The packet of a request, if it fits, behind a byte that was there before.
 fn written_request(alloc: Global, request: &Request<'_>) -> Result<Option<Vec<u8>>, AllocError> {
-    let mut out = Vec::from_slice(alloc, b"<")?;
     if !request_fits(request) {
         return Ok(None);
     }
+    let mut out = Vec::from_slice(alloc, b"<")?;
     write_request(request, &mut out)?;
     Ok(Some(out))
 }
 
 /// As `written_request`.
 fn written_response(alloc: Global, response: &Response<'_>) -> Result<Option<Vec<u8>>, AllocError> {
-    let mut out = Vec::from_slice(alloc, b"<")?;
     if !response_fits(response) {
         return Ok(None);
     }
+    let mut out = Vec::from_slice(alloc, b"<")?;
     write_response(response, &mut out)?;
     Ok(Some(out))
 }

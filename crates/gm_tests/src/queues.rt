@@ -8,6 +8,7 @@ use gm_queues::{Functions, MentionError};
 use std::alloc::{AllocError, Global};
 use std::hash::RandomState;
 use std::process::Abort;
+use std::random::RandomSource;
 use std::test::Fail;
 
 const PRIORITIES: [Priority; 3] = [Priority::High, Priority::Normal, Priority::Low];
@@ -77,12 +78,12 @@ fn reserve_checked(
 
 // A table of at most so many functions, with these.
 fn functions_of(
+    rt: &impl RandomSource,
     alloc: Global,
-    seed: RandomState,
     most: u32,
     names: &[&[u8]],
 ) -> Result<Functions, Fail> {
-    let mut functions = Functions::new(alloc, seed, most)?;
+    let mut functions = Functions::new(alloc, RandomState::new(rt)?, most)?;
     for name in names {
         let _f = functions.mention(name)?;
     }
@@ -144,7 +145,7 @@ fn fill_and_go_round(rt: &impl Abort, functions: &mut Functions) -> Result<(), A
 
 #[test]
 fn queues_ample(rt: HostRuntime) -> Result<(), Fail> {
-    let mut functions = functions_of(rt.alloc(), RandomState::new(&rt)?, 1, &[b"f"])?;
+    let mut functions = functions_of(&rt, rt.alloc(), 1, &[b"f"])?;
     fill_and_go_round(&rt, &mut functions)?;
     Ok(())
 }
@@ -165,7 +166,7 @@ fn forget_often(rt: &impl Abort, functions: &mut Functions) -> Result<(), AllocE
 
 #[test]
 fn stale_ring(rt: HostRuntime) -> Result<(), Fail> {
-    let mut functions = functions_of(rt.alloc(), RandomState::new(&rt)?, 1, &[b"f"])?;
+    let mut functions = functions_of(&rt, rt.alloc(), 1, &[b"f"])?;
     forget_often(&rt, &mut functions)?;
     Ok(())
 }
@@ -353,8 +354,7 @@ fn call_often(
 
 #[test]
 fn random_queues(rt: HostRuntime) -> Result<(), Fail> {
-    let seed = RandomState::new(&rt)?;
-    let mut functions = functions_of(rt.alloc(), seed, 3, &[b"a", b"b", b"c"])?;
+    let mut functions = functions_of(&rt, rt.alloc(), 3, &[b"a", b"b", b"c"])?;
     let mut plain = Plain {
         waiting: Vec::new(rt.alloc()),
         idle: Vec::new(rt.alloc()),

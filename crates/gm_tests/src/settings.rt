@@ -3,6 +3,7 @@
 use crate::checks::same;
 use gm_notes::{ApplyError, Config, ConfigError, Text, UnitFault};
 use std::alloc::{AllocError, Global};
+use std::process::Abort;
 use std::test::Fail;
 
 fn config(
@@ -38,15 +39,19 @@ fn settings_are_refused_in_their_order(rt: HostRuntime) -> Result<(), Fail> {
     Ok(())
 }
 
+fn assert_settings(rt: &impl Abort, taken: &Config) {
+    same(rt, "the name", &taken.name(), &b"gmd".as_slice());
+    same(rt, "the first job", &taken.first_job(), &1);
+    same(rt, "the slots", &taken.slots(), &1024);
+    same(rt, "the functions", &taken.max_functions(), &65536);
+}
+
 #[test]
 fn settings_are_kept(rt: HostRuntime) -> Result<(), Fail> {
     let taken = config(rt.alloc(), b"gmd", 1, 1024, 65536)?
         .ok()
         .ok_or("refused")?;
-    same(&rt, "the name", &taken.name(), &b"gmd".as_slice());
-    same(&rt, "the first job", &taken.first_job(), &1);
-    same(&rt, "the slots", &taken.slots(), &1024);
-    same(&rt, "the functions", &taken.max_functions(), &65536);
+    assert_settings(&rt, &taken);
     Ok(())
 }
 
