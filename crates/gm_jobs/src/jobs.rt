@@ -319,7 +319,7 @@ impl Jobs {
     pub fn place(&self, n: u64) -> Place
         ensures { result ≡ place self.now n }
     {
-        match self.jobs.get(&n) {
+        match self.by_number(n) {
             Some(job) => job.place(),
             None => {
                 if self.is_made(n) {
@@ -374,7 +374,7 @@ impl Jobs {
     pub fn listeners(&self, n: u64) -> &[u32]
         ensures { result.now ≡ listeners_of (job self.now n) }
     {
-        match self.jobs.get(&n) {
+        match self.by_number(n) {
             Some(job) => job.listeners(),
             None => &[],
         }
