@@ -1,0 +1,4 @@
+pub mod Places
+pub mod Steps
+pub mod Taking
+pub mod Unloading
