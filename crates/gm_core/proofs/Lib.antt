@@ -1,4 +1,7 @@
-pub mod Places
-pub mod Steps
-pub mod Taking
-pub mod Unloading
+mod Cutting
+mod OneReading
+mod Places
+mod Rests
+mod Steps
+mod Taking
+mod Unloading

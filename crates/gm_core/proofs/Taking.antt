@@ -135,7 +135,7 @@ place_at limits c l rest places false e opened p =
     absurd (let wrong : true ≡ false = sym opened ∙ shut.0 in let bad : ⊥ = cc in bad)
 
 -- the notes of a closing that is taken
-closed_notes : (k : Settings) (c : ℕ) (steps : List Step) → is_open c (run k steps).notes ≡ true → (run k (Close c ∷ steps)).notes ≡ (close k c (run k steps)).notes
+pub closed_notes : (k : Settings) (c : ℕ) (steps : List Step) → is_open c (run k steps).notes ≡ true → (run k (Close c ∷ steps)).notes ≡ (close k c (run k steps)).notes
 closed_notes k c steps opened = ap (λ (o : Bool). (unless (unless_not_open o) (close k c (run k steps)) (run k steps)).notes) opened
 
 -- slot c is closed, and the other places are as the notes before say, or at least their slots were open and shut so
@@ -253,8 +253,8 @@ gives agrees k limits reading c piece created stepped front front' old new h lt 
               limited = t.limited ∙ place.limited;
               fed = λ e. (
                 sym
-                (this_rest c (kept_if (takes_units c (run k steps).notes) rest) reading.rests
-                ∙ ap (λ (b : Bool). kept_if b rest) (takes (is_open c (run k steps).notes) (is_shut c (run k steps).notes) (only.opens c ∙ place.opened) e)),
+                    (this_rest c (kept_if (takes_units c (run k steps).notes) rest) reading.rests
+                    ∙ ap (λ (b : Bool). kept_if b rest) (takes (is_open c (run k steps).notes) (is_shut c (run k steps).notes) (only.opens c ∙ place.opened) e)),
                 sound k c t.fault mid new.feeder.fault (units.opens c ∙ place.opened) t.sound e,
               );
             }));

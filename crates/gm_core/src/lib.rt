@@ -9,6 +9,7 @@ mod connection;
 mod feeding;
 mod front;
 mod input;
+pub mod laws;
 
 pub use front::Front;
 pub use input::{Input, StepError, Stepped};
