@@ -1,5 +1,5 @@
 mod Cutting
-mod OneReading
+pub mod OneReading
 mod Places
 mod Rests
 mod Steps

@@ -38,7 +38,7 @@ one_cut k limits c piece units old a b g h =
     let same = one_front limits (old.rests c ++ piece) g.items h.items (g.count ∙ sym h.count) g.begins h.begins in
     g.adds ∙ (ap (λ (items : List Item). closed c (with_units k c items old.steps) old.rests) same ∙ sym h.adds)
 
-one_adding : (k : Settings) (limits : Limits) (input : Input) (old a b : Reading) → Adds k limits input old a → Adds k limits input old b → a ≡ b
+pub one_adding : (k : Settings) (limits : Limits) (input : Input) (old a b : Reading) → Adds k limits input old a → Adds k limits input old b → a ≡ b
 one_adding k limits (Opens addr) old a b g h = g ∙ sym h
 one_adding k limits (Gives c piece) old a b g h = one_piece k limits c piece old a b g h
 one_adding k limits (Cuts c piece units) old a b g h = one_cut k limits c piece units old a b g h

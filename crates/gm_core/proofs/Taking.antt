@@ -363,6 +363,12 @@ gives_shut agrees k limits reading c piece front front' h server places same clo
       held = held_as agrees k limits reading front front' h server places same;
     }
 
+-- a slot past the last place isn't open
+pub closed_past_end : {S : Type 0} (agrees : S → Settings → List Step → Type 0) (k : Settings) (limits : Limits) (reading : Reading) (c : ℕ) (front : Front S) → IsHeld agrees k limits reading front
+    → length front.places.items ≤ c → is_open c (run k reading.steps).notes ≡ false
+closed_past_end agrees k limits reading c front h far =
+    (subst (λ (p : Option Connection). IsPlace limits c (run k reading.steps).notes (reading.rests c) p) (past_end front.places.items c far) (h.held c)).0
+
 -- ---- lists of inputs
 
 -- what a front agrees with after an answer

@@ -3,6 +3,7 @@
 ghost use Rattle.std.specs.Prelude.{◌≡◌, ◌≤◌, [], ◌∷◌, ℕ, List, IfOk, slice_set};
 ghost use Rattle.gm_feeder.specs.declared.units.Limits.{Limits as Limited};
 ghost use Rattle.gm_notes.specs.Settings.{Settings};
+ghost use Rattle.gm_notes.specs.Notes.{is_open};
 ghost use Rattle.gm_notes.specs.Jobs.{spot};
 ghost use Rattle.gm_notes.specs.Steps.{run};
 ghost use Rattle.gm_notes.specs.Servers.{is_closing, owes, place_of};
@@ -99,6 +100,15 @@ impl<S: JobServer> Front<S> {
             → result ≡ owes slot (run k reading.steps) }
     {
         self.server.owed(slot)
+    }
+
+    /// Whether the slot is open.
+    pub fn is_open(&self, slot: u32) -> bool
+        ensures { (k : Settings) (limits : Limited) (reading : Reading) → IsHeld S.agrees k limits reading self.now
+            → result ≡ is_open slot (run k reading.steps).notes }
+    {
+        let index = slot as usize;
+        index < self.places.len() && self.places[index].is_some()
     }
 
     /// Whether the slot is open and takes no more units.
