@@ -1,5 +1,7 @@
 pub mod AbilityLemmas
 pub mod Closings
+pub mod Commands
+pub mod Counting
 pub mod Dues
 pub mod LaneLemmas
 pub mod HandleTexts
@@ -11,4 +13,5 @@ pub mod Picks
 pub mod PlainLemmas
 pub mod PlainLoops
 pub mod ServingLemmas
+pub mod Ticks
 pub mod Wakings

@@ -1,5 +1,6 @@
 pub mod Holds
 pub mod Lanes
+pub mod Listings
 pub mod Logs
 pub mod Refusals
 pub mod Searches

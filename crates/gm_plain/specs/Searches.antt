@@ -10,7 +10,7 @@ use Rattle.gm_plain.specs.declared.jobs.Report.{Report}
 use Rattle.gm_plain.specs.declared.abilities.Ability.{Ability as FoundAbility}
 use Rattle.gm_plain.specs.declared.abilities.Choice.{Choice}
 use Rattle.gm_notes.specs.Notes.{last_said, said_of, is_open, phase, is_asleep}
-use Rattle.gm_notes.specs.Jobs.{Spot, Job, Ability, Pick, put, is_of, is_able}
+use Rattle.gm_notes.specs.Jobs.{Spot, Job, Ability, Pick, put, is_of, is_able, is_running, is_job_of, spot, job}
 use Rattle.gm_notes.specs.Servers.{place_of}
 
 -- places as servers tell them
@@ -87,6 +87,10 @@ abbrev pub came : Note → List ℕ → List ℕ
 came (Made n f p u body) jobs = jobs ++ n ∷ []
 came (Returned n) jobs = filter (λ m. not (m == n)) jobs ++ n ∷ []
 came note jobs = jobs
+
+-- the job runs, and is of the function
+abbrev pub is_running_of : List ℕ → List Note → ℕ → Bool
+is_running_of f notes n = is_running (spot n notes) && is_job_of f (job n notes)
 
 -- the first of a list
 abbrev pub head : List ℕ → Option ℕ

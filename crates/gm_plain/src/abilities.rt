@@ -2,14 +2,14 @@
 
 ghost use Rattle.std.specs.Prelude.{◌≡◌, ◌<◌, true, map, not, ◌&&◌, [], ◌∷◌, ◌++◌, length, slice_set, find, IfOk, OnOk, IfSome, IfNone};
 ghost use Rattle.std.specs.Option.{option_map};
-ghost use Rattle.gm_notes.specs.Jobs.{spot, job, is_waiting, put, abilities, is_able, as_they_came, is_queued, waiting_for, is_empty, pick, pick_from};
+ghost use Rattle.gm_notes.specs.Jobs.{spot, job, is_waiting, put, abilities, is_able, as_they_came, is_queued, waiting_for, is_empty, pick, pick_from, able};
 ghost use Rattle.gm_notes.specs.Notes.{is_open, phase, is_asleep};
 ghost use Rattle.gm_plain.specs.Searches.{says_able, ability_of, pick_of, changed, came, head, wakes_for};
 
 use crate::jobs::{is_job_with, is_waiting, job};
 use crate::log::Log;
 use crate::questions::{is_asleep, is_open};
-use gm_notes::{Note, Priority};
+use gm_notes::{Config, Note, Priority};
 use std::alloc::{AllocError, Global};
 
 fn says_able(note: &Note, slot: u32, function: &[u8]) -> Option<bool>
@@ -42,6 +42,26 @@ pub fn is_able(log: &Log, slot: u32, function: &[u8]) -> bool
         able = says_able(note, slot, function).unwrap_or(able);
     }
     able
+}
+
+/// Whether a slot is open and its worker can do a function.
+fn is_worker(log: &Log, slot: u32, function: &[u8]) -> bool
+    ensures { result ≡ (is_open slot log.now.notes && is_able slot function.now log.now.notes) }
+{
+    is_able(log, slot, function) && is_open(log, slot)
+}
+
+/// How many open connections can do a function.
+pub fn able(log: &Log, config: &Config, function: &[u8]) -> u32
+    ensures { result ≡ able config.now function.now log.now.notes }
+{
+    let mut count = 0;
+    for slot in 0..config.slots() {
+        if is_worker(log, slot, function) {
+            count += 1;
+        }
+    }
+    count
 }
 
 /// Whether the worker in a slot is woken by a job: it sleeps, and can do its function.
@@ -119,7 +139,7 @@ fn change<'a>(abilities: &mut Vec<Ability<'a>>, note: &'a Note, slot: u32) -> Re
 }
 
 /// What the worker in a slot can do, in the order added.
-fn abilities(alloc: Global, log: &Log, slot: u32) -> Result<Vec<Ability<'_>>, AllocError>
+pub fn abilities(alloc: Global, log: &Log, slot: u32) -> Result<Vec<Ability<'_>>, AllocError>
     ensures { IfOk result (λ found. map ability_of found.items ≡ abilities slot log.now.notes) }
 {
     let notes = log.notes();

@@ -1,16 +1,19 @@
 //! What notes say of jobs and functions, found by searching them.
 
-ghost use Rattle.std.specs.Prelude.{◌≡◌, ℕ, ◌<◌, ◌==◌, length, Some, ◌&&◌, not, reverse, slice_get, IfSome, IfOk, OnOk};
+ghost use Rattle.std.specs.Prelude.{◌≡◌, ℕ, ◌<◌, ◌==◌, length, Some, ◌&&◌, not, reverse, slice_get, map, IfSome, IfOk, OnOk};
 ghost use Rattle.std.specs.Option.{option_map};
 ghost use Rattle.std.specs.List.{All};
-ghost use Rattle.gm_notes.specs.Jobs.{says_spot, spot, is_live, is_waiting, is_running, is_running_at, says_job, job, says_kept, is_kept, listeners, is_wanted, says_report, report, is_job_of, is_job_with, is_job_named, made, functions, is_mentioned, says_limit, limit, joins, is_live_named, joined, next_number, is_live_of, total};
+ghost use Rattle.gm_notes.specs.Jobs.{says_spot, spot, is_live, is_waiting, is_running, is_running_at, says_job, job, says_kept, is_kept, listeners, is_wanted, says_report, report, is_job_of, is_job_with, is_job_named, made, functions, is_mentioned, says_limit, limit, joins, is_live_named, joined, next_number, is_live_of, total, running, says_deadline, deadline};
+ghost use Rattle.gm_notes.specs.Closings.{is_reached};
+ghost use Rattle.gm_notes.specs.Notes.{moment};
 ghost use Rattle.gm_plain.specs.Logs.{IsCarried, AreNumbers};
 ghost use Rattle.gm_notes.specs.Steps.{newest};
 ghost use Rattle.gm_notes.specs.Submissions.{is_bad_name, is_one_too_many, is_full};
 ghost use Rattle.gm_notes.specs.Servers.{place_of};
-ghost use Rattle.gm_plain.specs.Searches.{said_place, mentions, job_of, heard, says_listening, is_listening, report_of};
+ghost use Rattle.gm_plain.specs.Searches.{said_place, mentions, job_of, heard, says_listening, is_listening, report_of, is_running_of};
 
 use crate::log::Log;
+use crate::questions::moment;
 use gm_notes::{Config, Note, Place, Priority};
 use std::alloc::{AllocError, Global};
 
@@ -268,6 +271,45 @@ pub fn last_report(log: &Log, job: u64) -> Report<'_>
     last
 }
 
+fn says_deadline(note: &Note, job: u64) -> Option<Option<u64>>
+    ensures { result ≡ says_deadline job note.now }
+{
+    match note {
+        Note::Made { job: n, .. } if *n == job => Some(None),
+        Note::Returned { job: n } if *n == job => Some(None),
+        Note::Assigned {
+            job: n,
+            deadline,
+            ..
+        } if *n == job => Some(*deadline),
+        _ => None,
+    }
+}
+
+/// The moment at which a job fails, if there is one.
+fn deadline(log: &Log, job: u64) -> Option<u64>
+    ensures { result ≡ deadline job log.now.notes }
+{
+    let notes = log.notes();
+    let mut deadline = None;
+    for note in notes {
+        if let Some(answer) = says_deadline(note, job) {
+            deadline = answer;
+        }
+    }
+    deadline
+}
+
+/// Whether the moment has reached a job's deadline.
+pub fn is_late(log: &Log, job: u64) -> bool
+    ensures { result ≡ is_reached (deadline job log.now.notes) (moment log.now.notes) }
+{
+    match deadline(log, job) {
+        Some(late) => late <= moment(log),
+        None => false,
+    }
+}
+
 /// Whether a job is of this function.
 pub fn is_job_of(log: &Log, number: u64, function: &[u8]) -> bool
     ensures { result ≡ is_job_of function.now (job number log.now.notes) }
@@ -391,7 +433,7 @@ fn is_live_of(log: &Log, number: u64, function: &[u8]) -> bool
 }
 
 /// How many jobs of a function wait or run.
-fn total(log: &Log, function: &[u8]) -> usize
+pub fn total(log: &Log, function: &[u8]) -> usize
     ensures { result ≡ total function.now log.now.notes }
 {
     let notes = log.notes();
@@ -399,6 +441,29 @@ fn total(log: &Log, function: &[u8]) -> usize
     for note in notes {
         if let Note::Made { job, .. } = note {
             if is_live_of(log, *job, function) {
+                count += 1;
+            }
+        }
+    }
+    count
+}
+
+/// Whether a job runs, and is of this function.
+fn is_running_of(log: &Log, number: u64, function: &[u8]) -> bool
+    ensures { result ≡ is_running_of function.now log.now.notes number }
+{
+    is_running(log, number) && is_job_of(log, number, function)
+}
+
+/// How many jobs of a function run.
+pub fn running(log: &Log, function: &[u8]) -> usize
+    ensures { result ≡ running function.now log.now.notes }
+{
+    let notes = log.notes();
+    let mut count = 0;
+    for note in notes {
+        if let Note::Made { job, .. } = note {
+            if is_running_of(log, *job, function) {
                 count += 1;
             }
         }
@@ -463,6 +528,20 @@ pub fn is_mentioned(log: &Log, function: &[u8]) -> bool
         }
     }
     mentioned
+}
+
+/// The functions mentioned, in the order of mention.
+pub fn functions(alloc: Global, log: &Log) -> Result<Vec<&[u8]>, AllocError>
+    ensures { IfOk result (λ found. map (λ name. name.now) found.items ≡ functions log.now.notes) }
+{
+    let notes = log.notes();
+    let mut functions = Vec::new(alloc);
+    for note in notes {
+        if let Note::Mention { function } = note {
+            functions.push(function.as_slice())?;
+        }
+    }
+    Ok(functions)
 }
 
 /// How many functions were mentioned.

@@ -23,6 +23,25 @@ fn write_error(code: &[u8], text: &[u8], out: &mut Vec<u8>) -> Result<(), AllocE
     write_response(&Response::Error { code, text }, out)
 }
 
+/// Appends a text; want of memory leaves the bytes as they were.
+fn append(text: &[u8], out: &mut Vec<u8>) -> Result<(), AllocError>
+    ensures ok { OnOk result (out.new.items ≡ out.old.items ++ text.now) }
+    ensures err { OnErr result (out.new.items ≡ out.old.items) }
+{
+    out.extend_from_slice(text)
+}
+
+/// Copies the bytes of each lane.
+fn copy_each(alloc: Global, lanes: &[Vec<u8>]) -> Result<Vec<Vec<u8>>, AllocError>
+    ensures { IfOk result (λ copy. bytes_of copy.items ≡ bytes_of lanes.now) }
+{
+    let mut copy = Vec::with_capacity(alloc, lanes.len())?;
+    for lane in lanes {
+        copy.push(Vec::from_slice(alloc, lane)?)?;
+    }
+    Ok(copy)
+}
+
 /// Appends what a fault prints; want of memory leaves the bytes as they were.
 fn write_fault(fault: UnitFault, out: &mut Vec<u8>) -> Result<(), AllocError>
     ensures ok { OnOk result (out.new.items ≡ out.old.items ++ fault_text fault) }
@@ -109,6 +128,14 @@ impl Lanes {
         Ok(Lanes { lanes })
     }
 
+    /// The same bytes for each slot.
+    pub fn copy(&self, alloc: Global) -> Result<Lanes, AllocError>
+        ensures { IfOk result (λ lanes. lanes ≡ self.now) }
+    {
+        let lanes = copy_each(alloc, self.lanes.as_slice())?;
+        Ok(Lanes { lanes })
+    }
+
     /// For how many slots bytes can wait.
     pub fn len(&self) -> usize
         ensures { result ≡ length self.now }
@@ -126,6 +153,17 @@ impl Lanes {
     {
         let lane = &mut self.lanes[slot as usize];
         write_response(response, lane)
+    }
+
+    /// Queues a text to a slot; want of memory changes nothing.
+    pub fn give_text(&mut self, slot: u32, text: &[u8]) -> Result<(), AllocError>
+        requires { slot < length self.old }
+        ensures ok { OnOk result (self.new ≡ given slot text.now self.old) }
+        ensures err { OnErr result (self.new ≡ self.old) }
+        ensures len { length self.new ≡ length self.old }
+    {
+        let lane = &mut self.lanes[slot as usize];
+        append(text, lane)
     }
 
     /// Queues what a fault prints to a slot; want of memory changes nothing.

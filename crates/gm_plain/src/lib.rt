@@ -5,6 +5,7 @@ mod abilities;
 mod handles;
 mod jobs;
 mod lanes;
+mod lists;
 mod log;
 mod plain;
 mod questions;

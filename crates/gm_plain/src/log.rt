@@ -1,6 +1,6 @@
 //! The notes, and the room for more.
 
-ghost use Rattle.std.specs.Prelude.{◌≡◌, ◌+◌, ◌≤◌, [], ◌∷◌, reverse, OnOk, IfOk};
+ghost use Rattle.std.specs.Prelude.{◌≡◌, ◌+◌, ◌≤◌, [], ◌∷◌, reverse, OnOk, IfOk, vec_capacity};
 ghost use Rattle.gm_plain.specs.Logs.{NoteFits, AllFit, Stands, AreNumbered, weight, paid, Spends};
 
 use gm_notes::Note;
@@ -32,6 +32,18 @@ fn paid(notes: &[Note]) -> Result<usize, AllocError>
         count = count.checked_add(weight(note)).ok_or(AllocError)?;
     }
     Ok(count)
+}
+
+/// Copies notes, with room for so many in all.
+fn copy_notes(alloc: Global, notes: &[Note], count: usize) -> Result<Vec<Note>, AllocError>
+    ensures value { IfOk result (λ copy. copy.items ≡ notes.now) }
+    ensures room { IfOk result (λ copy. count ≤ vec_capacity copy) }
+{
+    let mut copy = Vec::with_capacity(alloc, count)?;
+    for note in notes {
+        copy.push(note.copy(alloc)?)?;
+    }
+    Ok(copy)
 }
 
 /// The list of all that has happened, the newest last.
@@ -73,6 +85,20 @@ impl Log {
             slots,
             first,
         }
+    }
+
+    /// The same notes, with room for what they were paid for.
+    pub fn copy(&self, alloc: Global) -> Result<Log, AllocError>
+        ensures notes { IfOk result (λ log. log.notes ≡ self.now.notes) }
+        ensures slots { IfOk result (λ log. log.slots ≡ self.now.slots) }
+        ensures first { IfOk result (λ log. log.first ≡ self.now.first) }
+    {
+        let count = paid(self.notes.as_slice())?;
+        Ok(Log {
+            notes: copy_notes(alloc, self.notes.as_slice(), count)?,
+            slots: self.slots,
+            first: self.first,
+        })
     }
 
     /// How many slots there are.

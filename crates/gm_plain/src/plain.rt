@@ -11,9 +11,11 @@ ghost use Rattle.std.specs.List.{All};
 ghost use Rattle.gm_plain.specs.Refusals.{code_of};
 
 mod closing;
+mod commanding;
 mod connecting;
 mod serving;
 mod submitting;
+mod ticking;
 mod work;
 mod working;
 
@@ -107,6 +109,15 @@ impl PlainServer {
         self.lanes.give_fault(slot, fault)
     }
 
+    /// Queues a text to a slot; want of memory changes nothing.
+    fn say(&mut self, slot: u32, text: &[u8]) -> Result<(), AllocError>
+        requires { slot < self.old.config.slots }
+        ensures does { Does self.old result self.new (print slot text.now) }
+        ensures log { self.new.log ≡ self.old.log }
+    {
+        self.lanes.give_text(slot, text)
+    }
+
     /// Lets go of what waited for the slot's connection before.
     fn begin(&mut self, slot: u32)
         requires { slot < self.old.config.slots }
@@ -143,8 +154,10 @@ impl JobServer for PlainServer {
         match *event {
             Event::Open { addr } => self.open(addr),
             Event::Packet { slot, kind, bytes } => self.packet(slot, kind, bytes),
+            Event::Line { slot, bytes } => self.line(slot, bytes),
             Event::Fault { slot, fault } => self.fault(slot, fault),
             Event::Close { slot } => self.close(slot),
+            Event::Tick { now } => self.tick(now),
         }
     }
 

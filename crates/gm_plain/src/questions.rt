@@ -1,7 +1,8 @@
 //! What notes say of connections and of the server, found by searching them.
 
 ghost use Rattle.std.specs.Prelude.{◌≡◌, ◌<◌, true};
-ghost use Rattle.gm_notes.specs.Notes.{says_open, is_open, says_shut, is_shut, takes_units, says_option, has_option, says_phase, phase, is_asleep, is_awake, is_owed, says_moment, moment, says_mode, mode, welcomes};
+ghost use Rattle.std.specs.Option.{option_map};
+ghost use Rattle.gm_notes.specs.Notes.{says_addr, addr, says_id, id, says_open, is_open, says_shut, is_shut, takes_units, says_option, has_option, says_phase, phase, is_asleep, is_awake, is_owed, says_moment, moment, says_mode, mode, welcomes};
 ghost use Rattle.gm_notes.specs.Steps.{free_from};
 
 use crate::log::Log;
@@ -62,6 +63,53 @@ pub fn takes_units(log: &Log, slot: u32) -> bool
     ensures below { result ≡ true → slot < log.now.slots }
 {
     is_open(log, slot) && !is_shut(log, slot)
+}
+
+fn says_addr(note: &Note, slot: u32) -> Option<&[u8]>
+    ensures { option_map (λ text. text.now) result ≡ says_addr slot note.now }
+{
+    match note {
+        Note::Opened { slot: opened, addr } if *opened == slot => Some(addr.as_slice()),
+        _ => None,
+    }
+}
+
+/// Where the connection in a slot comes from.
+pub fn addr(log: &Log, slot: u32) -> &[u8]
+    ensures { result.now ≡ addr slot log.now.notes }
+{
+    let notes = log.notes();
+    let mut addr: &[u8] = b"";
+    for note in notes {
+        if let Some(answer) = says_addr(note, slot) {
+            addr = answer;
+        }
+    }
+    addr
+}
+
+fn says_id(note: &Note, slot: u32) -> Option<&[u8]>
+    ensures { option_map (λ text. text.now) result ≡ says_id slot note.now }
+{
+    match note {
+        Note::Opened { slot: opened, .. } if *opened == slot => Some(b""),
+        Note::Named { slot: named, id } if *named == slot => Some(id.as_slice()),
+        _ => None,
+    }
+}
+
+/// The id that the connection in a slot gave itself.
+pub fn id(log: &Log, slot: u32) -> &[u8]
+    ensures { result.now ≡ id slot log.now.notes }
+{
+    let notes = log.notes();
+    let mut id: &[u8] = b"";
+    for note in notes {
+        if let Some(answer) = says_id(note, slot) {
+            id = answer;
+        }
+    }
+    id
 }
 
 fn says_option(note: &Note, slot: u32) -> Option<bool>

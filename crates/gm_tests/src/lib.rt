@@ -7,6 +7,8 @@ mod conns;
 #[cfg(test)]
 mod lines;
 #[cfg(test)]
+mod lists;
+#[cfg(test)]
 mod packets;
 #[cfg(test)]
 mod queues;

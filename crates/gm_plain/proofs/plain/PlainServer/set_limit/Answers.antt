@@ -1,0 +1,26 @@
+use Rattle.std.proofs.Common.{◌≡◌, ◌<◌, ℕ, List, ap, ap₂, sym, subst, ◌∙◌}
+use Rattle.gm_admin.specs.Answers.{ok_text}
+use Rattle.gm_notes.specs.declared.note.Note.TheVariants.{Limit}
+use Rattle.gm_notes.specs.Past.{Past, print, noted, mentioned}
+use Rattle.gm_plain.proofs.PlainLemmas.{does_not, goes_then, goes_as}
+use Rattle.gm_plain.proofs.Commands.{limit_told}
+use Rattle.gm_plain.proofs.plain.PlainServer.set_limit.Goals as goal
+
+abbrev limited : ℕ → List ℕ → ℕ → Past → Past
+limited slot f size past = print slot ok_text (noted (Limit f size) (mentioned f past))
+
+pub returns-in_err-make_room : goal.returns-in_err-make_room
+returns-in_err-make_room c =
+    does_not c.from_residual-in_err-make_room.result (limited c.args.slot c.args.name.now c.args.size) c.from_residual-in_err-make_room.ensures c.make_room.ensures.goes
+
+pub returns-in_err-say : goal.returns-in_err-say
+returns-in_err-say c =
+    does_not c.from_residual-in_err-say.result (limited c.args.slot c.args.name.now c.args.size) c.from_residual-in_err-say.ensures
+    (goes_then c.make_room.ensures.goes c.in_err-say.ensures.does)
+
+pub returns : goal.returns
+returns c =
+    goes_as (limited c.args.slot c.args.name.now c.args.size) (goes_then (goes_then (goes_then c.make_room.ensures.goes c.in_ok-say.ensures.does) c.mention-2.ensures.goes) c.note.ensures.goes)
+    (λ p keeps.
+    ap₂ (λ (m f : List ℕ). noted (Limit f c.args.size) (mentioned m (print c.args.slot ok_text p))) c.in_ok-mention.ensures c.in_ok-function.ensures
+    ∙ limit_told c.args.slot ok_text c.args.name.now c.args.size p)
