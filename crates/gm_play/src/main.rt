@@ -4,9 +4,7 @@
 //! connections is printed in hexadecimal digits.
 #![tactic(auto)]
 
-mod connection;
 mod error;
-mod feeding;
 pub mod laws;
 mod line;
 mod order;
