@@ -4,7 +4,7 @@ pub mod Handing
 pub mod Hex
 pub mod OneText
 pub mod Outcomes
+pub mod Pieces
 pub mod Printing
 pub mod Scripts
 pub mod Telling
-pub mod Words

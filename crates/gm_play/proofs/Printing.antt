@@ -12,7 +12,7 @@ use Rattle.gm_play.specs.Scripts.{cuts, order_of}
 use Rattle.gm_play.specs.Orders.{cut}
 use Rattle.gm_play.specs.Prints.{Prints}
 use Rattle.gm_play.specs.Players.{IsReady, Writes}
-use Rattle.gm_play.proofs.Words.{pieces_by}
+use Rattle.gm_play.proofs.Pieces.{pieces_by}
 
 -- ---- the lines
 

@@ -5,6 +5,8 @@
 #[cfg(test)]
 mod conns;
 #[cfg(test)]
+mod fronts;
+#[cfg(test)]
 mod lines;
 #[cfg(test)]
 mod lists;
