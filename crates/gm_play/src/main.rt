@@ -25,11 +25,10 @@ use gm_feeder::Limits;
 use gm_notes::Config;
 use playing::{PlaySettings, play};
 use std::alloc::Global;
-use std::env;
 use std::hash::RandomState;
-use std::io;
 use std::io::{BufWriter, Write};
 use std::process::ExitCode;
+use std::{env, io};
 use stop::Stop;
 use words::{Asked, read_words};
 
@@ -43,9 +42,7 @@ fn words_stop(error: io::Error) -> Stop {
 
 /// Says what is wrong with the words, or prints the help that they ask for.
 fn tell(rt: &HostRuntime, error: &clap::Error) -> Result<(), Stop> {
-    error
-        .print(rt)
-        .map_err(|_| Stop::Play(PlayError::Write))?;
+    error.print(rt).map_err(|_| Stop::Play(PlayError::Write))?;
     match error.kind() {
         ErrorKind::DisplayHelp => Ok(()),
         ErrorKind::OutOfMemory => Err(Stop::Play(PlayError::Memory)),

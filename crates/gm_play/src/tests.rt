@@ -10,11 +10,9 @@ use crate::words::{Asked, read_words};
 use gm_feeder::Limits;
 use gm_notes::Config;
 use std::alloc::{AllocError, Global};
-use std::fmt::Write as _;
 use std::hash::RandomState;
 use std::io;
 use std::io::{Error, ErrorKind, Read, Write};
-use std::str;
 use std::test::Fail;
 
 // The settings of a row.
@@ -75,56 +73,6 @@ fn rows(rt: HostRuntime) -> Result<(), Fail> {
     Ok(())
 }
 
-// A script with a line for each byte of its pieces.
-fn byte_by_byte(alloc: Global, script: &str) -> Result<String, Fail> {
-    let mut bytewise = String::new(alloc);
-    for line in script.lines() {
-        if let Some(rest) = line.strip_prefix("bytes ") {
-            let (slot, digits) = rest.split_once(' ').ok_or("no piece")?;
-            for pair in digits.as_bytes().chunks(2) {
-                let pair = str::from_utf8(pair)?;
-                writeln!(bytewise, "bytes {slot} {pair}")?;
-            }
-        } else {
-            writeln!(bytewise, "{line}")?;
-        }
-    }
-    Ok(bytewise)
-}
-
-// A NOOP, as it stands behind what else is printed.
-const NOOP: &str = "005245530000000600000000";
-
-// What was printed for a slot, wherever in the text, but for its NOOPs.
-fn printed_for(alloc: Global, slot: &str, printed: &str) -> Result<String, Fail> {
-    let mut text = String::new(alloc);
-    for line in printed.lines() {
-        if let Some((word, said)) = line.split_once(' ') {
-            if word == slot {
-                text.push_str(said.strip_suffix(NOOP).unwrap_or(said))?;
-            }
-        }
-    }
-    Ok(text)
-}
-
-// Bytes that come one by one print the same for each slot.
-#[test]
-fn rows_byte_by_byte(rt: HostRuntime) -> Result<(), Fail> {
-    let alloc = rt.alloc();
-    for row in ROWS {
-        let script = byte_by_byte(alloc, row.script)?;
-        let out = printed_by(&rt, settings_of(alloc, row.terms)?, script.as_bytes())?;
-        let printed = str::from_utf8(&out)?;
-        for slot in ["0", "1", "2", "3"] {
-            let whole = printed_for(alloc, slot, row.printed)?;
-            let parts = printed_for(alloc, slot, printed)?;
-            assert_eq!(rt; parts.as_str(), whole.as_str(), "{} at {slot}", row.name);
-        }
-    }
-    Ok(())
-}
-
 // What comes of a script of so many bytes like this one: how much is printed.
 fn played_bytes(rt: &HostRuntime, byte: u8, len: u64) -> Result<Result<usize, PlayError>, Fail> {
     let alloc = rt.alloc();
@@ -145,8 +93,10 @@ fn played_bytes(rt: &HostRuntime, byte: u8, len: u64) -> Result<Result<usize, Pl
 #[test]
 fn long_scripts(rt: HostRuntime) -> Result<(), Fail> {
     assert_eq!(rt; played_bytes(&rt, b'x', 16_777_216)?, Ok(9));
-    assert_eq!(rt; played_bytes(&rt, b'\n', 16_777_216)?, Ok(0));
-    assert_eq!(rt; played_bytes(&rt, b'x', 16_777_217)?, Err(PlayError::TooLong));
+    assert_eq!(rt;
+        played_bytes(&rt, b'x', 16_777_217)?,
+        Err(PlayError::TooLong)
+    );
     Ok(())
 }
 

@@ -7,7 +7,8 @@ use gm_plain::PlainServer;
 use std::test::Fail;
 
 /// Three background submissions that join nothing.
-const PIECE: &[u8] = b"\0REQ\0\0\0\x12\0\0\0\x05f\0-\0d\0REQ\0\0\0\x12\0\0\0\x05f\0-\0d\0REQ\0\0\0\x12\0\0\0\x05f\0-\0d";
+const PIECE: &[u8] =
+    b"\0REQ\0\0\0\x12\0\0\0\x05f\0-\0d\0REQ\0\0\0\x12\0\0\0\x05f\0-\0d\0REQ\0\0\0\x12\0\0\0\x05f\0-\0d";
 
 /// A piece makes its three jobs. Where memory is wanting in it, the jobs before that stand, and the slot is closed.
 #[test]
