@@ -5,8 +5,6 @@
 #[cfg(test)]
 mod conns;
 #[cfg(test)]
-mod fronts;
-#[cfg(test)]
 mod lines;
 #[cfg(test)]
 mod lists;
