@@ -53,7 +53,7 @@ unit_not_empty limits whole (APacket kind text) u =
 unit_not_empty limits whole (ALine said) u = omega (arith, ap length u.spelled, length-append u.before (10 ∷ []))
 
 -- and what comes after them is one
-one_after : (limits : Limits) (bytes : List ℕ) (item another : Item) (after other : List ℕ) → IsUnitThen limits bytes item after
+pub one_after : (limits : Limits) (bytes : List ℕ) (item another : Item) (after other : List ℕ) → IsUnitThen limits bytes item after
     → IsUnitThen limits bytes another other → (item ≡ another) × (after ≡ other)
 one_after limits bytes item another after other u v =
     let same = one_unit limits u.whole v.whole after other item another u.unit v.unit (sym u.joined ∙ v.joined) in (
@@ -74,7 +74,7 @@ one_spelling limits stream (item ∷ items) (another ∷ others) rest other s t 
     (ap₂ (λ (i : Item) (l : List Item). i ∷ l) same.0 more.0, more.1)
 
 -- a unit stays at the front when more comes
-unit_stays : (limits : Limits) (bytes more : List ℕ) (item : Item) (after : List ℕ) → IsUnitThen limits bytes item after
+pub unit_stays : (limits : Limits) (bytes more : List ℕ) (item : Item) (after : List ℕ) → IsUnitThen limits bytes item after
     → IsUnitThen limits (bytes ++ more) item (after ++ more)
 unit_stays limits bytes more item after u =
     record { whole = u.whole; unit = u.unit; joined = ap (λ (l : List ℕ). l ++ more) u.joined ∙ append_assoc u.whole after more }

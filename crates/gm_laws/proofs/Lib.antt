@@ -1,4 +1,4 @@
-mod ByteLaws
+pub mod ByteLaws
 mod Finding
 mod JobLaws
 mod Keeping
@@ -9,6 +9,6 @@ mod Orphans
 mod Runners
 mod Sayings
 mod Sleepers
-mod StepLaws
-mod StepsKeep
+pub mod StepLaws
+pub mod StepsKeep
 mod Waiting

@@ -1,14 +1,10 @@
 pub mod Cuts
-pub mod Doing
-pub mod Giving
+pub mod Digits
+pub mod Handing
 pub mod Hex
 pub mod OneText
-pub mod Noops
 pub mod Outcomes
-pub mod Places
+pub mod Pieces
 pub mod Printing
 pub mod Scripts
-pub mod Steps
 pub mod Telling
-pub mod Unloading
-pub mod Words

@@ -6,13 +6,13 @@ use Rattle.std.specs.Io.KnownBytes.{Appends}
 use Rattle.gm_feeder.specs.declared.units.Limits.{Limits}
 use Rattle.gm_notes.specs.Settings.{Settings}
 use Rattle.gm_notes.specs.Steps.{Step}
-use Rattle.gm_play.specs.declared.connection.Connection.{Connection}
-use Rattle.gm_play.specs.Fronts.{Front}
+use Rattle.gm_core.specs.declared.front.Front.{Front}
+use Rattle.gm_core.specs.Inputs.{Reading}
 use Rattle.gm_play.specs.Scripts.{cuts, order_of}
 use Rattle.gm_play.specs.Orders.{cut}
 use Rattle.gm_play.specs.Prints.{Prints}
-use Rattle.gm_play.specs.Connections.{IsReady, Writes}
-use Rattle.gm_play.proofs.Words.{pieces_by}
+use Rattle.gm_play.specs.Players.{IsReady, Writes}
+use Rattle.gm_play.proofs.Pieces.{pieces_by}
 
 -- ---- the lines
 
@@ -51,36 +51,36 @@ appends_more (Some old) (Some mid) (Some new) first second a b = b ∙ (ap (λ (
 -- ---- the loop
 
 -- The lines up to the rest were played from this front on; what the rest prints completes the text.
-pub record Playing {S : Type 0} (agrees : S → Settings → List Step → Type 0) (k : Settings) (limits : Limits) (front : Front) (script : List ℕ) (written : Option (List ℕ)) (rest : List ℕ) (server : S) (places : List (Option Connection)) (now_written : Option (List ℕ)) : Type 0 where
-  pub now : Front
+pub record Playing {S : Type 0} (agrees : S → Settings → List Step → Type 0) (k : Settings) (limits : Limits) (reading : Reading) (script : List ℕ) (written : Option (List ℕ)) (rest : List ℕ) (front : Front S) (told : List Bool) (now_written : Option (List ℕ)) : Type 0 where
+  pub now : Reading
   pub text : List ℕ
-  pub ready : IsReady agrees k limits now server places
+  pub ready : IsReady agrees k limits now front told
   pub printed : Appends written now_written text
-  pub prints : (more : List ℕ) → Prints k limits now (cuts 10 rest) more → Prints k limits front (cuts 10 script) (text ++ more)
+  pub prints : (more : List ℕ) → Prints k limits now (cuts 10 rest) more → Prints k limits reading (cuts 10 script) (text ++ more)
 
-pub begins : {S : Type 0} (agrees : S → Settings → List Step → Type 0) (k : Settings) (limits : Limits) (front : Front) (script : List ℕ) (written : Option (List ℕ)) (server : S) (places : List (Option Connection))
-    → IsReady agrees k limits front server places → Playing agrees k limits front script written script server places written
-begins agrees k limits front script written server places h =
-    record { now = front; text = []; ready = h; printed = appends_nothing written; prints = λ more p. p }
+pub begins : {S : Type 0} (agrees : S → Settings → List Step → Type 0) (k : Settings) (limits : Limits) (reading : Reading) (script : List ℕ) (written : Option (List ℕ)) (front : Front S) (told : List Bool)
+    → IsReady agrees k limits reading front told → Playing agrees k limits reading script written script front told written
+begins agrees k limits reading script written front told h =
+    record { now = reading; text = []; ready = h; printed = appends_nothing written; prints = λ more p. p }
 
-pub goes_on : {S : Type 0} (agrees : S → Settings → List Step → Type 0) (k : Settings) (limits : Limits) (front : Front) (script : List ℕ) (written : Option (List ℕ)) (rest line after : List ℕ) (server server' : S) (places places' : List (Option Connection)) (mid_written new_written : Option (List ℕ))
-    (p : Playing agrees k limits front script written rest server places mid_written) → Some (line, after) ≡ cut 10 rest → Writes agrees k limits p.now (order_of line) mid_written server' places' new_written
-    → Playing agrees k limits front script written after server' places' new_written
-goes_on agrees k limits front script written rest line after server server' places places' mid_written new_written p e w =
+pub goes_on : {S : Type 0} (agrees : S → Settings → List Step → Type 0) (k : Settings) (limits : Limits) (reading : Reading) (script : List ℕ) (written : Option (List ℕ)) (rest line after : List ℕ) (front front' : Front S) (told told' : List Bool) (mid_written new_written : Option (List ℕ))
+    (p : Playing agrees k limits reading script written rest front told mid_written) → Some (line, after) ≡ cut 10 rest → Writes agrees k limits p.now (order_of line) mid_written front' told' new_written
+    → Playing agrees k limits reading script written after front' told' new_written
+goes_on agrees k limits reading script written rest line after front front' told told' mid_written new_written p e w =
     record {
       now = w.new;
       text = p.text ++ w.text;
       ready = w.ready;
       printed = appends_more written mid_written new_written p.text w.text p.printed w.printed;
       prints = λ more q.
-          subst (λ (l : List ℕ). Prints k limits front (cuts 10 script) l) (sym (append_assoc p.text w.text more))
+          subst (λ (l : List ℕ). Prints k limits reading (cuts 10 script) l) (sym (append_assoc p.text w.text more))
           (p.prints (w.text ++ more) (subst (λ (lines : List (List ℕ)). Prints k limits p.now lines (w.text ++ more)) (sym (pieces_by 10 rest (Some (line, after)) e)) (w.text, w.new, more, w.tells, q, refl)));
     }
 
-pub ends : {S : Type 0} (agrees : S → Settings → List Step → Type 0) (k : Settings) (limits : Limits) (front : Front) (script : List ℕ) (written : Option (List ℕ)) (rest : List ℕ) (server server' : S) (places places' : List (Option Connection)) (mid_written new_written : Option (List ℕ))
-    (p : Playing agrees k limits front script written rest server places mid_written) → None ≡ cut 10 rest → Writes agrees k limits p.now (order_of rest) mid_written server' places' new_written
-    → (text : List ℕ) × Prints k limits front (cuts 10 script) text × Appends written new_written text
-ends agrees k limits front script written rest server server' places places' mid_written new_written p e w = (
+pub ends : {S : Type 0} (agrees : S → Settings → List Step → Type 0) (k : Settings) (limits : Limits) (reading : Reading) (script : List ℕ) (written : Option (List ℕ)) (rest : List ℕ) (front front' : Front S) (told told' : List Bool) (mid_written new_written : Option (List ℕ))
+    (p : Playing agrees k limits reading script written rest front told mid_written) → None ≡ cut 10 rest → Writes agrees k limits p.now (order_of rest) mid_written front' told' new_written
+    → (text : List ℕ) × Prints k limits reading (cuts 10 script) text × Appends written new_written text
+ends agrees k limits reading script written rest front front' told told' mid_written new_written p e w = (
   p.text ++ w.text,
   p.prints w.text
       (subst (λ (lines : List (List ℕ)). Prints k limits p.now lines w.text) (sym (pieces_by 10 rest None e)) (w.text, w.new, [], w.tells, refl, sym (append-nil w.text))),

@@ -1,7 +1,5 @@
-pub mod Connections
-pub mod Feeding
-pub mod Fronts
 pub mod Orders
+pub mod Players
 pub mod Prints
 pub mod Scripts
 pub mod Statuses

@@ -6,7 +6,8 @@ use Rattle.gm_play.specs.declared.order.Words.{Words}
 use Rattle.gm_play.specs.declared.order.Words.TheVariants.{Two, Three, Other}
 use Rattle.gm_play.specs.declared.order.Order.{Order as Read}
 use Rattle.gm_play.specs.declared.order.Order.TheVariants as reads
-use Rattle.gm_play.specs.Scripts.{Order, Skip, Bad, Opens, Gives, Closes, words_of, order_of_words}
+use Rattle.gm_core.specs.Inputs.{Opens, Gives, Closes, Ticks}
+use Rattle.gm_play.specs.Scripts.{Order, Skip, Bad, Hands, words_of, order_of_words}
 
 -- the bytes before the first that is this one, and those after it
 abbrev pub cut : ℕ → List ℕ → Option (List ℕ × List ℕ)
@@ -28,6 +29,7 @@ IsReading line Other = order_of_words (words_of line) ≡ Bad
 abbrev pub order_view : Read → Order
 order_view reads.Skip = Skip
 order_view reads.Bad = Bad
-order_view (reads.Open addr) = Opens addr.now
-order_view (reads.Bytes slot piece) = Gives slot piece.items
-order_view (reads.Close slot) = Closes slot
+order_view (reads.Open addr) = Hands (Opens addr.now)
+order_view (reads.Bytes slot piece) = Hands (Gives slot piece.items)
+order_view (reads.Close slot) = Hands (Closes slot)
+order_view (reads.Tick now) = Hands (Ticks now)

@@ -5,17 +5,16 @@ use Rattle.std.specs.Char.{digit_char}
 use Rattle.gm_feeder.specs.declared.units.Limits.{Limits}
 use Rattle.gm_packet.specs.Writing.{noop, answer_packet}
 use Rattle.gm_notes.specs.declared.event.ApplyError.{ApplyError}
-use Rattle.gm_notes.specs.declared.event.ApplyError.TheVariants.{NotOpen}
 use Rattle.gm_notes.specs.Numbers.{apply_error_number}
 use Rattle.gm_notes.specs.Settings.{Settings}
-use Rattle.gm_notes.specs.Notes.{is_open, takes_units}
+use Rattle.gm_notes.specs.Notes.{is_open}
 use Rattle.gm_notes.specs.Flow.{waiting}
 use Rattle.gm_notes.specs.Past.{Past}
-use Rattle.gm_notes.specs.Steps.{Step, Open, Close, Took, Drain, free_slot, refusal}
+use Rattle.gm_notes.specs.Steps.{Step, Took, Drain}
 use Rattle.gm_notes.specs.Steps.{run}
 use Rattle.gm_notes.specs.Servers.{is_closing, owes}
-use Rattle.gm_play.specs.Scripts.{Order, Skip, Bad, Opens, Gives, Closes, order_of, lines_of}
-use Rattle.gm_play.specs.Fronts.{Front, fresh, with_rest, GivesPiece}
+use Rattle.gm_core.specs.Inputs.{Input, Reading, fresh, Adds, refusal_of, opened_by}
+use Rattle.gm_play.specs.Scripts.{Order, Skip, Bad, Hands, order_of, lines_of}
 
 -- ---- printed lines, each with its newline (10)
 
@@ -48,20 +47,16 @@ shut_text c became = if became then decimal c ++ codes " shut" ++ 10 ∷ [] else
 
 -- ---- what comes of a line
 
--- slot c is shut now and wasn't before
-abbrev pub became_shut : ℕ → Past → Past → Bool
-became_shut c before now = is_closing c now && not (is_closing c before)
-
 -- the NOOP, where one is taken
 abbrev pub noop_if : Bool → List ℕ
 noop_if true = answer_packet noop
 noop_if false = []
 
--- what is told of slot c: what waits for it and the NOOP that is owed to it, and whether it became shut; nothing where
--- it isn't open
-abbrev pub told_of : ℕ → Past → Past → List ℕ
-told_of c before now =
-    if is_open c now.notes then bytes_text c (waiting c now.flow ++ noop_if (owes c now)) ++ shut_text c (became_shut c before now) else []
+-- what is told of slot c, which was shut before or wasn't: what waits for it and the NOOP that is owed to it, and whether
+-- it became shut; nothing where it isn't open
+abbrev pub told_of : ℕ → Bool → Past → List ℕ
+told_of c shut now =
+    if is_open c now.notes then bytes_text c (waiting c now.flow ++ noop_if (owes c now)) ++ shut_text c (is_closing c now && not shut) else []
 
 abbrev pub took_if : Bool → ℕ → List Step → List Step
 took_if true c steps = Took c ∷ steps
@@ -74,7 +69,7 @@ drain_of k c steps = if is_open c (run k steps).notes then took_if (owes c (run 
 -- what is told of the n slots from c on, one after another, since it was so before
 abbrev pub told : Settings → Past → ℕ → ℕ → List Step → List ℕ
 told k before c zero steps = []
-told k before c (suc n) steps = told_of c before (run k steps) ++ told k before (suc c) n (drain_of k c steps)
+told k before c (suc n) steps = told_of c (is_closing c before) (run k steps) ++ told k before (suc c) n (drain_of k c steps)
 
 -- the steps once these are drained
 abbrev pub drained : Settings → ℕ → ℕ → List Step → List Step
@@ -82,46 +77,36 @@ drained k c zero steps = steps
 drained k c (suc n) steps = drained k (suc c) n (drain_of k c steps)
 
 -- From old, a line led to mid and printed this at once; then each slot is told of and drained.
-pub record Settles (k : Settings) (old mid : Front) (said text : List ℕ) (new : Front) : Type 0 where
+pub record Settles (k : Settings) (old mid : Reading) (said text : List ℕ) (new : Reading) : Type 0 where
   pub printed : text ≡ said ++ told k (run k old.steps) 0 k.slots mid.steps
   pub taken : new ≡ record mid { steps = drained k 0 k.slots mid.steps }
 
 -- nothing happens but that this is printed
-pub record Only (old : Front) (said text : List ℕ) (new : Front) : Type 0 where
+pub record Only (old : Reading) (said text : List ℕ) (new : Reading) : Type 0 where
   pub printed : text ≡ said
   pub kept : new ≡ old
 
--- an opening from this address is refused, or gets a slot
-abbrev pub Opening : Settings → List ℕ → Front → Option ApplyError → Option ℕ → List ℕ → Front → Type 0
-Opening k addr old (Some refused) slot text new = Only old (refused_text refused) text new
-Opening k addr old None None text new = ⊥
-Opening k addr old None (Some c) text new =
-    Settles k old (record { steps = Open addr ∷ old.steps; rests = with_rest c [] old.rests }) (open_text c) text new
+-- the slot that was given, where one was
+abbrev pub said_of : Option ℕ → List ℕ
+said_of None = []
+said_of (Some c) = open_text c
 
--- a piece for a slot that takes units, or doesn't
-abbrev pub Giving : Settings → Limits → ℕ → List ℕ → Front → Bool → List ℕ → Front → Type 0
-Giving k limits c piece old false text new = Only old (refused_text NotOpen) text new
-Giving k limits c piece old true text new = (mid : Front) × GivesPiece k limits c piece old mid × Settles k old mid [] text new
-
--- a closing of a slot that is open, or isn't; what came of no unit goes with it
-abbrev pub Closing : Settings → ℕ → Front → Bool → List ℕ → Front → Type 0
-Closing k c old false text new = Only old (refused_text NotOpen) text new
-Closing k c old true text new = Settles k old (record { steps = Close c ∷ old.steps; rests = with_rest c [] old.rests }) [] text new
+-- an input is refused, or taken: then each slot is told of
+abbrev pub Handing : Settings → Limits → Input → Option ApplyError → Reading → List ℕ → Reading → Type 0
+Handing k limits input (Some refused) old text new = Only old (refused_text refused) text new
+Handing k limits input None old text new = (mid : Reading) × Adds k limits input old mid × Settles k old mid (said_of (opened_by k input old)) text new
 
 -- from old, the order prints this and leads to new
-abbrev pub Tells : Settings → Limits → Front → Order → List ℕ → Front → Type 0
+abbrev pub Tells : Settings → Limits → Reading → Order → List ℕ → Reading → Type 0
 Tells k limits old Skip text new = Only old [] text new
 Tells k limits old Bad text new = Only old bad_text text new
-Tells k limits old (Opens addr) text new =
-    Opening k addr old (refusal k (Open addr) (run k old.steps)) (free_slot k (run k old.steps)) text new
-Tells k limits old (Gives c piece) text new = Giving k limits c piece old (takes_units c (run k old.steps).notes) text new
-Tells k limits old (Closes c) text new = Closing k c old (is_open c (run k old.steps).notes) text new
+Tells k limits old (Hands input) text new = Handing k limits input (refusal_of k input old) old text new
 
--- from this front on, these lines print this text
-abbrev pub Prints : Settings → Limits → Front → List (List ℕ) → List ℕ → Type 0
-Prints k limits front [] text = text ≡ []
-Prints k limits front (line ∷ lines) text =
-    (said : List ℕ) × (next : Front) × (more : List ℕ) × Tells k limits front (order_of line) said next × Prints k limits next lines more × (text ≡ said ++ more)
+-- from this reading on, these lines print this text
+abbrev pub Prints : Settings → Limits → Reading → List (List ℕ) → List ℕ → Type 0
+Prints k limits reading [] text = text ≡ []
+Prints k limits reading (line ∷ lines) text =
+    (said : List ℕ) × (next : Reading) × (more : List ℕ) × Tells k limits reading (order_of line) said next × Prints k limits next lines more × (text ≡ said ++ more)
 
 -- the text that a script prints, on a server with these settings and feeders with these limits
 abbrev pub IsTextOf : Settings → Limits → List ℕ → List ℕ → Type 0

@@ -4,6 +4,7 @@ use Rattle.std.specs.List.{list_all}
 use Rattle.std.specs.Str.{bytes_eq}
 use Rattle.std.specs.Char.{digit_value, is_ascii_digit}
 use Rattle.std.specs.Str.Parse.{digits_value}
+use Rattle.gm_core.specs.Inputs.{Input, Opens, Gives, Closes, Ticks}
 
 -- ---- pieces between separators
 
@@ -27,14 +28,22 @@ words_of line = cuts 32 line
 
 -- ---- numbers and bytes
 
--- 1 to 10 decimal digits, a value below 2 ^ 32
-abbrev pub is_slot : List ℕ → Bool
-is_slot word =
-    nat_lt 0 (length word) && nat_le (length word) 10 && list_all is_ascii_digit word && nat_lt (digits_value 10 word) (2 ^ 32)
+-- 1 to so many decimal digits
+abbrev pub is_number : ℕ → List ℕ → Bool
+is_number most word = nat_lt 0 (length word) && nat_le (length word) most && list_all is_ascii_digit word
 
--- the slot that a word says
+-- the number that a word of so many digits says, if it is below the limit
+abbrev pub number_below : ℕ → ℕ → List ℕ → Option ℕ
+number_below limit most word =
+    if is_number most word then (if nat_lt (digits_value 10 word) limit then Some (digits_value 10 word) else None) else None
+
+-- the slot that a word says: 1 to 10 digits
 abbrev pub slot_of : List ℕ → Option ℕ
-slot_of word = if is_slot word then Some (digits_value 10 word) else None
+slot_of word = number_below (2 ^ 32) 10 word
+
+-- the moment: 1 to 20 digits
+abbrev pub moment_of : List ℕ → Option ℕ
+moment_of word = number_below (2 ^ 64) 20 word
 
 -- the byte before these bytes, where both are there
 abbrev pub before : Option ℕ → Option (List ℕ) → Option (List ℕ)
@@ -63,24 +72,27 @@ piece_of word = if length word == 0 then None else hex_bytes word
 pub data Order : Type 0 where
   Skip : Order  -- nothing at all
   Bad : Order  -- it isn't understood
-  Opens : List ℕ → Order  -- a connection from this address
-  Gives : ℕ → List ℕ → Order  -- this piece, to this slot
-  Closes : ℕ → Order  -- the connection in this slot goes
+  Hands : Input → Order  -- this input is handed in
 
 abbrev pub giving : Option ℕ → Option (List ℕ) → Order
 giving None piece = Bad
 giving (Some slot) None = Bad
-giving (Some slot) (Some piece) = Gives slot piece
+giving (Some slot) (Some piece) = Hands (Gives slot piece)
 
 abbrev pub closing : Option ℕ → Order
 closing None = Bad
-closing (Some slot) = Closes slot
+closing (Some slot) = Hands (Closes slot)
 
--- two words: `open` and an address, or `close` and a slot
+abbrev pub ticking : Option ℕ → Order
+ticking None = Bad
+ticking (Some now) = Hands (Ticks now)
+
+-- two words: `open` and an address, `close` and a slot, or `tick` and a moment
 abbrev pub order_of_two : List ℕ → List ℕ → Order
 order_of_two verb word =
-    if bytes_eq verb (codes "open") && not (length word == 0) then Opens word
-    else (if bytes_eq verb (codes "close") then closing (slot_of word) else Bad)
+    if bytes_eq verb (codes "open") && not (length word == 0) then Hands (Opens word)
+    else (if bytes_eq verb (codes "close") then closing (slot_of word)
+    else (if bytes_eq verb (codes "tick") then ticking (moment_of word) else Bad))
 
 -- three words: `bytes`, a slot and a piece
 abbrev pub order_of_three : List ℕ → List ℕ → List ℕ → Order

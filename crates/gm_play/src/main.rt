@@ -4,9 +4,7 @@
 //! connections is printed in hexadecimal digits.
 #![tactic(auto)]
 
-mod connection;
 mod error;
-mod feeding;
 pub mod laws;
 mod line;
 mod order;
@@ -17,50 +15,88 @@ mod stop;
 #[cfg(test)]
 mod tests;
 mod text;
+mod words;
 
 ghost use Rattle.std.specs.Prelude.{◌≤◌, IfOk};
 
+use clap::error::ErrorKind;
 use error::PlayError;
 use gm_feeder::Limits;
 use gm_notes::Config;
 use playing::{PlaySettings, play};
 use std::alloc::Global;
-use std::env;
 use std::hash::RandomState;
 use std::io::{BufWriter, Write};
 use std::process::ExitCode;
+use std::{env, io};
 use stop::Stop;
+use words::{Asked, read_words};
 
-/// The settings where none are asked for.
-fn default_settings(alloc: Global) -> Result<PlaySettings, PlayError>
+/// Why the words can't be had: where it isn't for memory, one of them isn't text.
+fn words_stop(error: io::Error) -> Stop {
+    match error.kind() {
+        io::ErrorKind::OutOfMemory => Stop::Play(PlayError::Memory),
+        _ => Stop::Words,
+    }
+}
+
+/// Says what is wrong with the words, or prints the help that they ask for.
+fn tell(rt: &HostRuntime, error: &clap::Error) -> Result<(), Stop> {
+    error.print(rt).map_err(|_| Stop::Play(PlayError::Write))?;
+    match error.kind() {
+        ErrorKind::DisplayHelp => Ok(()),
+        ErrorKind::OutOfMemory => Err(Stop::Play(PlayError::Memory)),
+        _ => Err(Stop::Words),
+    }
+}
+
+/// The settings that are asked for.
+fn settings_of(alloc: Global, asked: Asked) -> Result<PlaySettings, Stop>
+    requires { asked.max_data ≤ 1073741824 }
     ensures { IfOk result (λ settings. settings.limits.max_bytes ≤ 1073741824) }
 {
-    let name = Vec::from_slice(alloc, b"gmd")?;
-    let Ok(config) = Config::new(name, 1, 64, 65536) else {
-        return Err(PlayError::Memory);
+    let Ok(name) = Vec::from_slice(alloc, b"gmd") else {
+        return Err(Stop::Play(PlayError::Memory));
+    };
+    let Ok(config) = Config::new(name, asked.first_job, asked.slots, asked.functions) else {
+        return Err(Stop::Words);
     };
     Ok(PlaySettings {
         config,
         limits: Limits {
-            max_bytes: 67_108_864,
+            max_bytes: asked.max_data,
             max_line: 1024,
         },
-        plain: true,
+        plain: asked.plain,
     })
 }
 
-fn run(rt: &HostRuntime) -> Result<(), Stop> {
-    let mut words = env::args(rt).map_err(|_| Stop::Play(PlayError::Memory))?;
-    if words.nth(1).is_some() {
-        return Err(Stop::Argument);
-    }
+/// Plays the script on standard input.
+fn play_input(rt: &HostRuntime, settings: PlaySettings) -> Result<(), Stop>
+    requires { settings.limits.max_bytes ≤ 1073741824 }
+{
     let seed = RandomState::new(rt).map_err(|_| Stop::Seed)?;
-    let settings = default_settings(rt.alloc()).map_err(Stop::Play)?;
     let mut writer = BufWriter::new(rt.alloc(), rt.stdout()).map_err(|_| Stop::Play(
         PlayError::Memory,
     ))?;
     play(rt.alloc(), seed, settings, &mut rt.stdin(), &mut writer).map_err(Stop::Play)?;
     writer.flush().map_err(|_| Stop::Play(PlayError::Write))
+}
+
+fn run(rt: &HostRuntime) -> Result<(), Stop> {
+    let words = env::args(rt).map_err(words_stop)?;
+    let words: Vec<String> = words
+        .collect(rt.alloc())
+        .map_err(|_| Stop::Play(PlayError::Memory))?;
+    let words: Vec<&str> = words
+        .iter()
+        .map(|word| word.as_str())
+        .collect(rt.alloc())
+        .map_err(|_| Stop::Play(PlayError::Memory))?;
+    match read_words(rt.alloc(), &words) {
+        Ok(asked) => play_input(rt, settings_of(rt.alloc(), asked)?),
+        Err(error) => tell(rt, &error),
+    }
 }
 
 fn main(rt: HostRuntime) -> ExitCode {

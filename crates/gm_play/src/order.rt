@@ -1,11 +1,11 @@
 //! What the lines of a script ask for.
 
-ghost use Rattle.std.specs.Prelude.{◌≡◌, ◌+◌, ◌*◌, ◌<◌, ◌≤◌, ◌==◌, true, ◌∷◌, length, position, IfOk, MatchOption};
+ghost use Rattle.std.specs.Prelude.{◌≡◌, ◌^◌, ◌<◌, ◌==◌, true, ◌∷◌, length, position, IfOk, MatchOption};
 ghost use Rattle.std.specs.Char.{digit_value, is_ascii_digit};
 ghost use Rattle.std.specs.List.{list_all};
-ghost use Rattle.std.specs.Option.{option_map};
+ghost use Rattle.std.specs.Option.{option_map, SomeIff};
 ghost use Rattle.std.specs.Str.Parse.{digits_value};
-ghost use Rattle.gm_play.specs.Scripts.{words_of, slot_of, hex_byte, hex_bytes, piece_of, order_of_two, order_of_three, order_of};
+ghost use Rattle.gm_play.specs.Scripts.{words_of, number_below, slot_of, hex_byte, hex_bytes, piece_of, order_of_two, order_of_three, order_of};
 ghost use Rattle.gm_play.specs.Orders.{cut, SaysDigit, IsReading, order_view};
 
 use std::alloc::{AllocError, Global};
@@ -23,6 +23,8 @@ pub enum Order<'a> {
     Bytes { slot: u32, piece: Vec<u8> },
     /// The connection in this slot goes.
     Close { slot: u32 },
+    /// It is this moment.
+    Tick { now: u64 },
 }
 
 /// The words of a line, where there are as many as some order has.
@@ -72,27 +74,35 @@ fn are_digits(word: &[u8]) -> bool
     word.iter().all(|b| b.is_ascii_digit())
 }
 
-/// The number that at most ten digits write.
-fn value_of(digits: &[u8]) -> u64
-    requires short { length digits.now ≤ 10 }
-    requires decimal { list_all is_ascii_digit digits.now ≡ true }
-    ensures { result ≡ digits_value 10 digits.now }
+/// The number that digits write, if it fits 64 bits.
+fn value_of(digits: &[u8]) -> Option<u64>
+    requires { list_all is_ascii_digit digits.now ≡ true }
+    ensures { SomeIff result (digits_value 10 digits.now < 2 ^ 64) (digits_value 10 digits.now) }
 {
     let mut value: u64 = 0;
     for digit in digits {
-        value = value * 10 + u64::from(*digit - b'0');
+        value = value
+            .checked_mul(10)?
+            .checked_add(u64::from(*digit - b'0'))?;
     }
-    value
+    Some(value)
+}
+
+/// The number that 1 to so many decimal digits say, if it fits 64 bits.
+fn number_of(word: &[u8], most: usize) -> Option<u64>
+    ensures { result ≡ number_below (2 ^ 64) most word.now }
+{
+    if word.is_empty() || word.len() > most || !are_digits(word) {
+        return None;
+    }
+    value_of(word)
 }
 
 /// The slot that 1 to 10 decimal digits say, if it fits 32 bits.
 fn slot_of(word: &[u8]) -> Option<u32>
     ensures { result ≡ slot_of word.now }
 {
-    if word.is_empty() || word.len() > 10 || !are_digits(word) {
-        return None;
-    }
-    u32::try_from(value_of(word)).ok()
+    u32::try_from(number_of(word, 10)?).ok()
 }
 
 /// What a hexadecimal digit of either case says.
@@ -159,11 +169,17 @@ fn order_of_two<'a>(verb: &[u8], word: &'a [u8]) -> Order<'a>
     if verb == b"open".as_slice() && !word.is_empty() {
         return Order::Open { addr: word };
     }
-    if verb != b"close".as_slice() {
+    if verb == b"close".as_slice() {
+        return match slot_of(word) {
+            Some(slot) => Order::Close { slot },
+            None => Order::Bad,
+        };
+    }
+    if verb != b"tick".as_slice() {
         return Order::Bad;
     }
-    match slot_of(word) {
-        Some(slot) => Order::Close { slot },
+    match number_of(word, 20) {
+        Some(now) => Order::Tick { now },
         None => Order::Bad,
     }
 }

@@ -1,22 +1,22 @@
 //! Plays a script.
 
-ghost use Rattle.std.specs.Prelude.{◌≡◌, ◌^◌, ◌<◌, ◌≤◌, ℕ, List, [], length, IfOk, None, slice_index_or, IfSome, IsErrOf, OnOk};
+ghost use Rattle.std.specs.Prelude.{◌≡◌, ◌^◌, ◌<◌, ◌≤◌, ℕ, List, [], length, IfOk, IfSome, IsErrOf, OnOk};
 ghost use Rattle.std.specs.Io.KnownBytes.{Appends};
 ghost use Rattle.gm_notes.specs.Settings.{Settings};
-ghost use Rattle.gm_notes.specs.Steps.{run};
-ghost use Rattle.gm_play.specs.Fronts.{Front, fresh};
+ghost use Rattle.gm_feeder.specs.declared.units.Limits.{Limits as Limited};
+ghost use Rattle.gm_core.specs.Inputs.{Reading};
 ghost use Rattle.gm_play.specs.Prints.{IsTextOf, Prints};
 ghost use Rattle.gm_play.specs.Scripts.{lines_of, order_of};
-ghost use Rattle.gm_play.specs.Connections.{IsReady, Writes};
+ghost use Rattle.gm_play.specs.Players.{IsReady, Writes};
 
-use crate::connection::Connection;
 use crate::error::PlayError;
 use crate::line::play_line;
 use crate::order::cut;
+use gm_core::Front;
 use gm_feeder::Limits;
 use gm_notes::{Config, JobServer};
 use gm_plain::PlainServer;
-use std::alloc::{AllocError, Global};
+use std::alloc::Global;
 use std::hash::RandomState;
 use std::io::{ErrorKind, Read, Write};
 
@@ -52,35 +52,21 @@ fn read_script<R: Read>(alloc: Global, reader: &mut R) -> Result<Vec<u8>, PlayEr
     Ok(script)
 }
 
-/// A place for each slot; none is open.
-fn empty_places(alloc: Global, slots: u32) -> Result<Vec<Option<Connection>>, AllocError>
-    ensures len { IfOk result (λ places. length places.items ≡ slots) }
-    ensures empty { IfOk result (λ places. (c : ℕ) → slice_index_or places.items c None ≡ None) }
-{
-    let mut places = Vec::new(alloc);
-    for _slot in 0..slots {
-        places.push(None)?;
-    }
-    Ok(places)
-}
-
 /// Plays a line, and writes what it prints.
 fn play_and_write<S: JobServer, W: Write>(
     alloc: Global,
-    limits: Limits,
-    server: &mut S,
-    places: &mut [Option<Connection>],
+    front: &mut Front<S>,
+    told: &mut [bool],
     line: &[u8],
     writer: &mut W,
 ) -> Result<(), PlayError>
-    requires limits { limits.max_bytes ≤ 1073741824 }
-    requires count { length places.old < 2 ^ 32 }
-    ensures ok { OnOk result ((k : Settings) (front : Front) → IsReady S.agrees k limits front server.old places.old
-        → Writes S.agrees k limits front (order_of line.now) (W.contents writer.old) server.new places.new (W.contents writer.new)) }
+    requires { length told.old < 2 ^ 32 }
+    ensures ok { OnOk result ((k : Settings) (limits : Limited) (reading : Reading) → IsReady S.agrees k limits reading front.old told.old
+        → Writes S.agrees k limits reading (order_of line.now) (W.contents writer.old) front.new told.new (W.contents writer.new)) }
     ensures short { IsErrOf result PlayError.TooLong → ⊥ }
 {
     let mut text = Vec::new(alloc);
-    play_line(alloc, limits, server, places, line, &mut text)?;
+    play_line(alloc, front, told, line, &mut text)?;
     match writer.write_all(&text) {
         Ok(()) => Ok(()),
         Err(_) => Err(PlayError::Write),
@@ -90,47 +76,46 @@ fn play_and_write<S: JobServer, W: Write>(
 /// Plays each line of a script in turn.
 fn play_lines<S: JobServer, W: Write>(
     alloc: Global,
-    limits: Limits,
-    server: &mut S,
-    places: &mut [Option<Connection>],
+    front: &mut Front<S>,
+    told: &mut [bool],
     script: &[u8],
     writer: &mut W,
 ) -> Result<(), PlayError>
-    requires limits { limits.max_bytes ≤ 1073741824 }
-    requires count { length places.old < 2 ^ 32 }
-    ensures ok { OnOk result ((k : Settings) (front : Front) → IsReady S.agrees k limits front server.old places.old
-        → (text : List ℕ) × Prints k limits front (lines_of script.now) text × Appends (W.contents writer.old) (W.contents writer.new) text) }
+    requires { length told.old < 2 ^ 32 }
+    ensures ok { OnOk result ((k : Settings) (limits : Limited) (reading : Reading) → IsReady S.agrees k limits reading front.old told.old
+        → (text : List ℕ) × Prints k limits reading (lines_of script.now) text × Appends (W.contents writer.old) (W.contents writer.new) text) }
     ensures short { IsErrOf result PlayError.TooLong → ⊥ }
 {
     let mut rest = script;
     while let Some((line, after)) = cut(rest, b'\n') {
-        play_and_write(alloc, limits, server, places, line, writer)?;
+        play_and_write(alloc, front, told, line, writer)?;
         rest = after;
     }
-    play_and_write(alloc, limits, server, places, rest, writer)
+    play_and_write(alloc, front, told, rest, writer)
 }
 
 /// Plays the script that a reader gives on a server with so many slots, and writes what comes of it.
 ///
 /// The server is to have taken no step yet. That a packet's data are at most a gigabyte is for the
 /// caller to see to. What was written before an error isn't said.
-pub fn play_on<S: JobServer, R: Read, W: Write>(
+pub fn play_on<S: JobServer + Drop, R: Read, W: Write>(
     alloc: Global,
-    server: &mut S,
+    server: S,
     limits: Limits,
     slots: u32,
     reader: &mut R,
     writer: &mut W,
 ) -> Result<(), PlayError>
     requires { limits.max_bytes ≤ 1073741824 }
-    ensures text { OnOk result ((k : Settings) → k.slots ≡ slots → S.agrees server.old k []
+    ensures text { OnOk result ((k : Settings) → k.slots ≡ slots → k.slots ≤ 1024 → S.agrees server k []
         → IfSome (R.remaining reader.old) (λ script. (text : List ℕ) × IsTextOf k limits script text
         × Appends (W.contents writer.old) (W.contents writer.new) text)) }
     ensures long { IsErrOf result PlayError.TooLong → IfSome (R.remaining reader.old) (λ script. 16777216 < length script) }
 {
     let script = read_script(alloc, reader)?;
-    let mut places = empty_places(alloc, slots)?;
-    play_lines(alloc, limits, server, &mut places, &script, writer)
+    let mut front = Front::new(alloc, server, limits)?;
+    let mut told = vec![in alloc; false; slots as usize]?;
+    play_lines(alloc, &mut front, &mut told, &script, writer)
 }
 
 /// Plays the script that a reader gives, and writes what comes of it.
@@ -156,6 +141,6 @@ pub fn play<R: Read, W: Write>(
         plain: _,
     } = settings;
     let slots = config.slots();
-    let mut server = PlainServer::new(alloc, config)?;
-    play_on(alloc, &mut server, limits, slots, reader, writer)
+    let server = PlainServer::new(alloc, config)?;
+    play_on(alloc, server, limits, slots, reader, writer)
 }

@@ -9,9 +9,9 @@ use thiserror::Error;
 /// Why the program ends early.
 #[derive(Debug, Drop, Error)]
 pub enum Stop {
-    /// It was given an argument.
-    #[error("no argument is understood")]
-    Argument,
+    /// The words aren't understood, are out of range, or aren't text.
+    #[error("the words aren't understood")]
+    Words,
     /// There are no random bytes to be had.
     #[error("there is no random seed")]
     Seed,
@@ -26,7 +26,7 @@ impl Stop {
         ensures { result ≡ stop_status self.now }
     {
         match self {
-            Stop::Argument => 2,
+            Stop::Words => 2,
             Stop::Seed => 3,
             Stop::Play(PlayError::Read | PlayError::TooLong) => 2,
             Stop::Play(PlayError::Write | PlayError::Memory) => 3,

@@ -5,6 +5,8 @@ ghost use Rattle.std.specs.Prelude.{◌≤◌, IfOk};
 use crate::error::PlayError;
 use crate::playing::{PlaySettings, play};
 use crate::rows::{ROWS, Terms};
+use crate::stop::Stop;
+use crate::words::{Asked, read_words};
 use gm_feeder::Limits;
 use gm_notes::Config;
 use std::alloc::{AllocError, Global};
@@ -71,15 +73,15 @@ fn rows(rt: HostRuntime) -> Result<(), Fail> {
     Ok(())
 }
 
-// What comes of so many bytes `x` in one line.
-fn played_line(rt: &HostRuntime, len: u64) -> Result<Result<usize, PlayError>, Fail> {
+// What comes of a script of so many bytes like this one: how much is printed.
+fn played_bytes(rt: &HostRuntime, byte: u8, len: u64) -> Result<Result<usize, PlayError>, Fail> {
     let alloc = rt.alloc();
     let mut out = Vec::new(alloc);
     let outcome = play(
         alloc,
         RandomState::new(rt)?,
         settings(alloc, 1)?,
-        &mut io::repeat(b'x').take(len),
+        &mut io::repeat(byte).take(len),
         &mut out,
     );
     Ok(match outcome {
@@ -90,8 +92,11 @@ fn played_line(rt: &HostRuntime, len: u64) -> Result<Result<usize, PlayError>, F
 
 #[test]
 fn long_scripts(rt: HostRuntime) -> Result<(), Fail> {
-    assert_eq!(rt; played_line(&rt, 16_777_216)?, Ok(9));
-    assert_eq!(rt; played_line(&rt, 16_777_217)?, Err(PlayError::TooLong));
+    assert_eq!(rt; played_bytes(&rt, b'x', 16_777_216)?, Ok(9));
+    assert_eq!(rt;
+        played_bytes(&rt, b'x', 16_777_217)?,
+        Err(PlayError::TooLong)
+    );
     Ok(())
 }
 
@@ -166,4 +171,67 @@ fn devices_that_fail(rt: HostRuntime) -> Result<(), Fail> {
     );
     assert_eq!(rt; outcome, Ok(()));
     Ok(())
+}
+
+// What is asked for without words.
+const USUAL: Asked = Asked {
+    plain: false,
+    first_job: 1,
+    slots: 64,
+    functions: 65_536,
+    max_data: 67_108_864,
+};
+
+// Words that aren't understood, or are out of range.
+const REFUSED: [&[&str]; 8] = [
+    &["gm_play", "x"],
+    &["gm_play", "--jump"],
+    &["gm_play", "--first-job", "0"],
+    &["gm_play", "--slots", "0"],
+    &["gm_play", "--slots", "1025"],
+    &["gm_play", "--functions", "65537"],
+    &["gm_play", "--max-data", "1073741825"],
+    &["gm_play", "--slots"],
+];
+
+#[test]
+fn words(rt: HostRuntime) -> Result<(), Fail> {
+    let alloc = rt.alloc();
+    assert_eq!(rt; read_words(alloc, &["gm_play"])?, USUAL);
+    let all = [
+        "gm_play",
+        "--plain",
+        "--first-job",
+        "18446744073709551615",
+        "--slots",
+        "1024",
+        "--functions=1",
+        "--max-data",
+        "0",
+    ];
+    let asked = Asked {
+        plain: true,
+        first_job: 18_446_744_073_709_551_615,
+        slots: 1024,
+        functions: 1,
+        max_data: 0,
+    };
+    assert_eq!(rt; read_words(alloc, &all)?, asked);
+    for refused in REFUSED {
+        let status = read_words(alloc, refused).map_err(|error| error.exit_code());
+        assert_eq!(rt; status, Err(2));
+    }
+    let help = read_words(alloc, &["gm_play", "--help"]).map_err(|error| error.exit_code());
+    assert_eq!(rt; help, Err(0));
+    Ok(())
+}
+
+#[test]
+fn statuses(rt: HostRuntime) {
+    assert_eq!(rt; Stop::Words.status(), 2);
+    assert_eq!(rt; Stop::Seed.status(), 3);
+    assert_eq!(rt; Stop::Play(PlayError::Read).status(), 2);
+    assert_eq!(rt; Stop::Play(PlayError::TooLong).status(), 2);
+    assert_eq!(rt; Stop::Play(PlayError::Write).status(), 3);
+    assert_eq!(rt; Stop::Play(PlayError::Memory).status(), 3);
 }

@@ -1,19 +1,21 @@
-use Rattle.std.proofs.Common.{◌+◌, ◌*◌, arith, ap, ◌∙◌}
-use Rattle.gm_packet.proofs.Timeouts.{Step, step}
+use Rattle.std.proofs.Common.{arith}
+use Rattle.gm_play.proofs.Digits.{step}
 use Rattle.gm_play.proofs.order.value_of.Goals as goal
-use Rattle.gm_play.proofs.order.value_of.Goals.{In-loop-digit}
 
--- what one digit more does
-one_more : (c : In-loop-digit) → Step c.args.digits.now c.loop-digit.digit-index c.loop-digit.value
-one_more c = step _ _ _ c.requires.short c.requires.decimal c.loop-digit-test.true c.loop-digit.invariant.value c.loop-digit.invariant.digits
+pub returns-in_err-checked_mul : goal.returns-in_err-checked_mul
+returns-in_err-checked_mul c =
+    let s = step c.args.digits.now c.loop-digit.digit-index c.loop-digit.value c.requires c.loop-digit-test.true c.loop-digit.invariant.value in
+    rw c.from_residual.ensures (λ below. c.in_err-checked_mul.ensures (omega (arith, s.value, s.within, below)))
 
-pub overflow_mul-value : goal.overflow_mul-value
-overflow_mul-value c = omega (arith, (one_more c).small)
-
-pub overflow_add-value : goal.overflow_add-value
-overflow_add-value c = let s = one_more (goal.at-overflow_add-value c).In-loop-digit in omega (arith, s.small, s.high, c.from.ensures)
+pub returns-in_err-value : goal.returns-in_err-value
+returns-in_err-value c =
+    let s = step c.args.digits.now c.loop-digit.digit-index c.loop-digit.value c.requires c.loop-digit-test.true c.loop-digit.invariant.value in
+    rw c.from_residual-in_err-value.ensures (λ below. c.in_err-value.ensures (omega (arith, s.value, s.within, below, c.in_ok-checked_mul.ensures.1, c.from.ensures)))
 
 pub loop-digit-preserved : goal.loop-digit-preserved
 loop-digit-preserved c =
-    let s = one_more (goal.at-loop-digit-preserved c).In-loop-digit in
-    record { value = ap (λ n. c.loop-digit.value * 10 + n) c.from.ensures ∙ s.value; digits = s.digits_so_far }
+    let s = step c.args.digits.now c.loop-digit.digit-index c.loop-digit.value c.requires c.loop-digit-test.true c.loop-digit.invariant.value in
+    record {
+      value = omega (arith, c.in_ok-value.ensures.1, c.in_ok-checked_mul.ensures.1, c.from.ensures, s.value);
+      fits = omega (arith, c.in_ok-value.ensures.0, c.in_ok-value.ensures.1);
+    }

@@ -1,6 +1,6 @@
 use Rattle.std.proofs.Common.{◌∙◌, ap, List, ℕ, ◌∷◌}
 use Rattle.gm_play.specs.Scripts.{order_of_words}
-use Rattle.gm_play.proofs.Words.{pieces_by, too_many}
+use Rattle.gm_play.proofs.Pieces.{pieces_by, too_many}
 use Rattle.gm_play.proofs.order.words_of.Goals as goal
 use Rattle.gm_play.proofs.order.words_of.Goals.{In_default, In_default-cut, In-None, In-Some-cut-2}
 
