@@ -7,6 +7,8 @@
 mod error;
 pub mod laws;
 mod line;
+#[cfg(test)]
+mod line_rows;
 mod order;
 mod playing;
 #[cfg(test)]
