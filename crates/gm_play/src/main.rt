@@ -7,8 +7,6 @@
 mod error;
 pub mod laws;
 mod line;
-#[cfg(test)]
-mod line_rows;
 mod order;
 mod playing;
 #[cfg(test)]

@@ -3,9 +3,8 @@
 ghost use Rattle.std.specs.Prelude.{◌≤◌, IfOk};
 
 use crate::error::PlayError;
-use crate::line_rows::LINE_ROWS;
 use crate::playing::{PlaySettings, play};
-use crate::rows::{ROWS, Row, Terms};
+use crate::rows::{ROWS, Terms};
 use crate::stop::Stop;
 use crate::words::{Asked, read_words};
 use gm_feeder::Limits;
@@ -63,27 +62,14 @@ fn printed_by(rt: &HostRuntime, settings: PlaySettings, script: &[u8]) -> Result
     Ok(out)
 }
 
-// The first of these rows that prints something else than it should.
-fn first_wrong(rt: &HostRuntime, rows: &[Row]) -> Result<Option<&'static str>, Fail> {
-    for row in rows {
-        let settings = settings_of(rt.alloc(), row.terms)?;
-        let out = printed_by(rt, settings, row.script.as_bytes())?;
-        if out.as_slice() != row.printed.as_bytes() {
-            return Ok(Some(row.name));
-        }
-    }
-    Ok(None)
-}
-
+// Each worked row prints what it should.
 #[test]
 fn rows(rt: HostRuntime) -> Result<(), Fail> {
-    assert_eq!(rt; first_wrong(&rt, &ROWS)?, None);
-    Ok(())
-}
-
-#[test]
-fn rows_of_lines_and_ticks(rt: HostRuntime) -> Result<(), Fail> {
-    assert_eq!(rt; first_wrong(&rt, &LINE_ROWS)?, None);
+    for row in ROWS {
+        let settings = settings_of(rt.alloc(), row.terms)?;
+        let out = printed_by(&rt, settings, row.script.as_bytes())?;
+        assert_eq!(rt; out.as_slice(), row.printed.as_bytes(), "{}", row.name);
+    }
     Ok(())
 }
 
