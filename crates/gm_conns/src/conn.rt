@@ -163,11 +163,18 @@ impl Conn {
         Some(f)
     }
 
+    /// How many functions it can do.
+    pub(crate) fn abilities_len(&self) -> usize
+        ensures { result ≡ length self.now.abilities }
+    {
+        self.abilities.len()
+    }
+
     /// The ability at an index, with its timeout.
-    pub(crate) fn able(&self, i: u32) -> Option<(u32, u32)>
+    pub(crate) fn able(&self, i: usize) -> Option<(u32, u32)>
         ensures { result ≡ slice_get self.now.abilities i }
     {
-        match self.abilities.get_index(i as usize) {
+        match self.abilities.get_index(i) {
             Some((f, timeout)) => Some((*f, *timeout)),
             None => None,
         }

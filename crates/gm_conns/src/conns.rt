@@ -202,6 +202,23 @@ impl Conns {
         requires { IsOpen self.now slot }
         ensures { result ≡ slice_get (conn self.now slot).abilities i }
     {
+        self.ability(slot, i as usize)
+    }
+
+    /// How many functions the connection can do.
+    pub fn abilities_len(&self, slot: u32) -> usize
+        requires { IsOpen self.now slot }
+        ensures { result ≡ length (conn self.now slot).abilities }
+    {
+        let conn = &self.conns[slot as usize];
+        conn.abilities_len()
+    }
+
+    /// The ability at an index, as `able` gives it, for any index.
+    pub fn ability(&self, slot: u32, i: usize) -> Option<(u32, u32)>
+        requires { IsOpen self.now slot }
+        ensures { result ≡ slice_get (conn self.now slot).abilities i }
+    {
         let conn = &self.conns[slot as usize];
         conn.able(i)
     }

@@ -305,6 +305,14 @@ impl Jobs {
             .find(&self.jobs, digest(&self.seed, f, unique), f, unique)
     }
 
+    /// The number that the next job gets; none once the last was given out.
+    pub fn next_number(&self) -> Option<u64>
+        ensures some { IfSome result (λ n. n ≡ self.now.next) }
+        ensures none { IfNone result (self.now.next ≡ 2 ^ 64) }
+    {
+        self.next
+    }
+
     // Whether a job of this number was made.
     fn is_made(&self, n: u64) -> bool
         ensures { result ≡ is_made self.now n }

@@ -186,6 +186,7 @@ impl Functions {
         ensures within { IfOk result (λ f. f < length self.new.names) }
         ensures known { IsSome (number_of name.now self.old) → IsOk result × (self.new ≡ self.old) }
         ensures fresh { IsNone (number_of name.now self.old) → OnOk result (ChangesNames (self.old.names ++ name.now ∷ []) self.old self.new) }
+        ensures free { IsNone (number_of name.now self.old) → IfOk result (λ f. IsFree f self.new) }
         ensures full { (result ≡ Err MentionError.TooManyFunctions) ↔ (IsNone (number_of name.now self.old) × (length self.old.names ≡ self.old.most)) }
         ensures err { OnErr result (self.new ≡ self.old) }
     {

@@ -1,0 +1,361 @@
+-- One change of a core after another, and the changes of its connections.
+use Rattle.std.proofs.Common.{◌≡◌, ◌≢◌, ℕ, Bool, true, false, ◌==◌, ◌&&◌, if◌then◌else◌, IsTrue, List, [], ◌∷◌, ◌++◌, length, map, filter, not, Option, Some, None, Result, Ok, Err, refl, sym, ap, subst, ◌∙◌, arith}
+use Rattle.std.specs.Result.{IsErr, IsErrAnd, OnOk, OnErr}
+use Rattle.std.specs.Str.{bytes_eq}
+use Rattle.gm_tables.proofs.PositionLemmas.{position_within}
+use Rattle.gm_tables.proofs.FunctionLemmas.{put_named, taken_out, none_out, able_put, able_out, number_is}
+use Rattle.gm_notes.specs.Jobs.{Ability, abilities, is_of, put, is_empty}
+use Rattle.std.specs.Prelude.{is_some}
+use Rattle.std.specs.Option.{option_map}
+use Rattle.gm_tables.specs.declared.core.abilities.Choice.{Choice}
+use Rattle.gm_notes.specs.Workers.{woken_if, sleep_beside}
+use Rattle.gm_queues.specs.Tables.{number_of, ChangesNames, IsFree}
+use Rattle.gm_tables.proofs.MentionLemmas.{Same, conns_mention, functions_mention, jobs_mention, functions_same, jobs_held_same}
+use Rattle.std.proofs.lemmas.Bool.Decides.{nat_tests}
+use Rattle.gm_notes.specs.declared.event.Done.{Done}
+use Rattle.gm_notes.specs.declared.event.ApplyError.{ApplyError}
+use Rattle.gm_notes.specs.declared.event.ApplyError.TheVariants.{Memory}
+use Rattle.gm_notes.specs.Settings.{Settings}
+use Rattle.gm_notes.specs.Steps.{Step, unless, refusal, made_since, run, add}
+use Rattle.gm_notes.specs.Servers.{IsRefusal, Answers, steps_after}
+use Rattle.std.specs.declared.alloc.AllocError.{AllocError}
+use Rattle.gm_notes.specs.declared.note.Note.{Note}
+use Rattle.gm_notes.specs.declared.states.Phase.{Phase}
+use Rattle.gm_notes.specs.declared.states.Phase.TheVariants.{Awake, Asleep, Owed}
+use Rattle.gm_notes.specs.declared.note.Note.TheVariants.{Shut, Named, OptionSet, Can, Cant, Mention, Slept, Woken, Stirred, Took, Withdrew}
+use Rattle.gm_notes.specs.Past.{Past, noted, flowed, print}
+use Rattle.gm_notes.specs.Flow.{Drained, waiting}
+use Rattle.gm_notes.specs.Notes.{is_open, phase, moment, mode}
+use Rattle.gm_conns.specs.Connections.{Connection, with_room, with_bytes}
+use Rattle.gm_conns.specs.Connections as conns
+use Rattle.gm_conns.specs.Tables.{conn, Changes, IsOpen}
+use Rattle.gm_conns.specs.Tables as tables
+use Rattle.gm_queues.specs.Tables as queues
+use Rattle.gm_jobs.specs.Tables as jobs
+use Rattle.gm_notes.specs.declared.states.Mode.{Mode}
+use Rattle.gm_tables.specs.declared.core.Core.{Core}
+use Rattle.gm_tables.specs.Facts.{Seen, seen, conn_facts, function_facts, job_facts}
+use Rattle.gm_tables.specs.Holds.{Holds, Keeps, AreFunctions, ability_named, shown, HoldsConns, HoldsFunctions, HoldsJobs, Goes, Does, CoreAgrees, unless_wanting, pick_of}
+use Rattle.gm_tables.proofs.ConnLemmas.{conn_changes, same_here, seen_same, phase_seen, shut_seen, option_seen, id_seen, can_seen, cant_seen}
+use Rattle.gm_tables.proofs.ConnLemmas as lemmas
+
+-- ---- one change after another
+
+module _ {a b : Core} where
+  pub goes_nothing : b.config ≡ a.config → b.conns ≡ a.conns → b.functions ≡ a.functions → b.jobs ≡ a.jobs → b.moment ≡ a.moment → b.mode ≡ a.mode
+      → Goes a b (λ past. past)
+  goes_nothing config conns functions jobs moment mode = record {
+    config = config;
+    past = λ p keeps.
+        subst (λ x. Holds b.config b.conns b.functions b.jobs b.moment x p) (sym mode)
+        (subst (λ x. Holds b.config b.conns b.functions b.jobs x a.mode p) (sym moment)
+        (subst (λ x. Holds b.config b.conns b.functions x a.moment a.mode p) (sym jobs)
+        (subst (λ x. Holds b.config b.conns x a.jobs a.moment a.mode p) (sym functions)
+        (subst (λ x. Holds b.config x a.functions a.jobs a.moment a.mode p) (sym conns)
+        (subst (λ x. Holds x a.conns a.functions a.jobs a.moment a.mode p) (sym config) keeps)))));
+  }
+
+  pub goes_then : {c : Core} {f g : Past → Past} → Goes a b f → Goes b c g → Goes a c (λ past. g (f past))
+  goes_then {c} {f} {g} first second = record { config = second.config ∙ first.config; past = λ p keeps. second.past (f p) (first.past p keeps) }
+
+  -- a change that is the same at what is kept
+  pub goes_as : {f : Past → Past} (g : Past → Past) → Goes a b f → ((past : Past) → Keeps a past → f past ≡ g past) → Goes a b g
+  goes_as {f} g goes same = record { config = goes.config; past = λ p keeps. subst (Keeps b) (same p keeps) (goes.past p keeps) }
+
+  pub does_as : {E : Type 0} {f : Past → Past} (result : Result (Unit {0}) E) (g : Past → Past) → Does a result b f
+      → ((past : Past) → Keeps a past → f past ≡ g past) → Does a result b g
+  does_as {E} {f} (Ok done) g goes same = goes_as {f = f} g goes same
+  does_as {E} {f} (Err wanting) g goes same = goes_as {f = λ past. past} (λ past. past) goes (λ p keeps. refl)
+
+  -- where memory was wanting, nothing happened
+  pub does_not : {S : Type 0} (result : Result (Unit {0}) AllocError) (g : Past → Past) → IsErr result × S → Goes a b (λ past. past) → Does a result b g
+  does_not {S} (Ok done) g failed goes = absurd (let wrong : IsErr (let r : Result (Unit {0}) AllocError = Ok done in r) = failed.0 in cc)
+  does_not {S} (Err wanting) g failed goes = goes
+
+-- ---- what is seen of a slot
+
+module _ {k : Settings} {connections : tables.Table} {mentioned : queues.Table} {live : jobs.Table} {now : ℕ} {goes : Mode} {p : Past} (holds : Holds k connections mentioned live now goes p) (c : ℕ) where
+  pub open_is : IsOpen connections c → is_open c p.notes ≡ true
+  open_is opened = sym (holds.conns.opens c) ∙ opened
+
+  pub seen_is : IsOpen connections c → shown mentioned.names (conn connections c) ≡ seen c p.notes
+  seen_is opened = holds.conns.seen c (open_is opened)
+
+  pub phase_is : IsOpen connections c → (conn connections c).phase ≡ phase c p.notes
+  phase_is opened = ap (λ (s : Seen). s.phase) (seen_is opened)
+
+-- ---- steps
+
+-- a step that is taken adds what it adds
+pub run_taken : (k : Settings) (s : Step) (steps : List Step) → refusal k s (run k steps) ≡ None → run k (s ∷ steps) ≡ add k s (run k steps)
+run_taken k s steps taken = ap (λ o. unless o (add k s (run k steps)) (run k steps)) taken
+
+module _ {a b : Core} where
+  pub agrees_next : (k : Settings) (steps : List Step) (s : Step) (f : Past → Past) → CoreAgrees a k steps → Goes a b f → refusal k s (run k steps) ≡ None
+      → f (run k steps) ≡ add k s (run k steps) → CoreAgrees b k (s ∷ steps)
+  agrees_next k steps s f agrees goes taken adds = record {
+    settings = goes.config ∙ agrees.settings;
+    past = subst (Keeps b) (adds ∙ sym (run_taken k s steps taken)) (goes.past (run k steps) agrees.past);
+  }
+
+  pub agrees_kept : (k : Settings) (steps : List Step) → CoreAgrees a k steps → Goes a b (λ past. past) → CoreAgrees b k steps
+  agrees_kept k steps agrees goes = record { settings = goes.config ∙ agrees.settings; past = goes.past (run k steps) agrees.past }
+
+  -- where memory was wanting for a step that would be taken
+  pub agrees_wanting : (k : Settings) (steps : List Step) (s : Step) (result : Result Done ApplyError) → IsErr result × IsErrAnd result (λ e. e ≡ Memory)
+      → refusal k s (run k steps) ≡ None → CoreAgrees a k steps → Goes a b (λ past. past) → Answers k steps s result × CoreAgrees b k (steps_after result s steps)
+  agrees_wanting k steps s (Ok done) wanting taken agrees goes = absurd wanting.1
+  agrees_wanting k steps s (Err e) wanting taken agrees goes = (
+    subst (λ (x : ApplyError). IsRefusal x (refusal k s (run k steps))) (sym wanting.1) taken,
+    agrees_kept k steps agrees goes,
+  )
+
+-- no job was made where there are as many
+pub none_made : (jobs : List ℕ) → made_since jobs jobs ≡ None
+none_made jobs = let same : (length jobs == length jobs) ≡ true = grind (arith, nat_tests) in rw same refl
+
+-- ---- changes of connections
+
+-- only the connections of a core changed
+pub record OnlyConns (old new : Core) : Type 0 where
+  pub config : new.config ≡ old.config
+  pub functions : new.functions ≡ old.functions
+  pub jobs : new.jobs ≡ old.jobs
+  pub moment : new.moment ≡ old.moment
+  pub mode : new.mode ≡ old.mode
+
+-- what a step means for a slot that stays open: what is seen of it and what waits for it changes so, and nothing else
+pub record Touches (c : ℕ) (effect : Seen → Seen) (pour : List ℕ → List ℕ) (step : Past → Past) : Type 0 where
+  pub opens : (p : Past) → (conn_facts (step p).notes).is_open ≡ (conn_facts p.notes).is_open
+  pub seen : (p : Past) (d : ℕ) → (if d == c then effect (seen d p.notes) else seen d p.notes) ≡ seen d (step p).notes
+  pub waiting : (p : Past) (d : ℕ) → (if d == c then pour (waiting d p.flow) else waiting d p.flow) ≡ waiting d (step p).flow
+  pub functions : (p : Past) → function_facts (step p).notes ≡ function_facts p.notes
+  pub jobs : (p : Past) → job_facts (step p).notes ≡ job_facts p.notes
+  pub moment : (p : Past) → moment (step p).notes ≡ moment p.notes
+  pub mode : (p : Past) → mode (step p).notes ≡ mode p.notes
+
+-- what a change of a slot means for what is seen
+pub record Alters (names : List (List ℕ)) (change : Connection → Connection) (effect : Seen → Seen) (pour : List ℕ → List ℕ) : Type 0 where
+  pub opens : (x : Connection) → (change x).is_open ≡ x.is_open
+  pub shown : (x : Connection) → AreFunctions names x.abilities → shown names (change x) ≡ effect (shown names x)
+  pub waiting : (x : Connection) → (change x).waiting ≡ pour x.waiting
+  pub able : (x : Connection) → AreFunctions names x.abilities → AreFunctions names (change x).abilities
+
+pub goes_conn : {old new : Core} {change : Connection → Connection} {told : Bool} (c : ℕ) (effect : Seen → Seen) (pour : List ℕ → List ℕ) (step : Past → Past)
+    → OnlyConns old new → Changes c change told old.conns new.conns
+    → ((p : Past) → Keeps old p → Alters old.functions.names change effect pour) → Touches c effect pour step → Goes old new step
+goes_conn {old} {new} {change} {told} c effect pour step only changes alter touches = record {
+  config = only.config;
+  past = λ p keeps.
+      let alters = alter p keeps in
+      let conns = conn_changes c change effect pour changes alters.opens alters.shown alters.waiting alters.able
+      (λ d. ap (λ (is_open : ℕ → Bool). is_open d) (sym (touches.opens p))) (touches.seen p) (touches.waiting p) keeps.conns in
+      let functions = subst (HoldsFunctions old.config old.functions) (sym (touches.functions p)) keeps.functions in
+      let jobs = subst (λ is_open. HoldsJobs old.config old.functions old.jobs is_open (job_facts (step p).notes)) (sym (touches.opens p))
+      (subst (HoldsJobs old.config old.functions old.jobs (conn_facts p.notes).is_open) (sym (touches.jobs p)) keeps.jobs) in
+      let held : Holds old.config new.conns old.functions old.jobs old.moment old.mode (step p) =
+      record { conns = conns; functions = functions; jobs = jobs; moment = keeps.moment ∙ sym (touches.moment p); mode = keeps.mode ∙ sym (touches.mode p) } in
+      subst (λ x. Holds new.config new.conns new.functions new.jobs new.moment x (step p)) (sym only.mode)
+      (subst (λ x. Holds new.config new.conns new.functions new.jobs x old.mode (step p)) (sym only.moment)
+      (subst (λ x. Holds new.config new.conns new.functions x old.moment old.mode (step p)) (sym only.jobs)
+      (subst (λ x. Holds new.config new.conns x old.jobs old.moment old.mode (step p)) (sym only.functions)
+      (subst (λ x. Holds x new.conns old.functions old.jobs old.moment old.mode (step p)) (sym only.config) held))));
+}
+
+-- ---- room and bytes
+
+abbrev unseen : Seen → Seen
+unseen s = s
+
+abbrev unpoured : List ℕ → List ℕ
+unpoured bytes = bytes
+
+module _ {old new : Core} {told : Bool} (c : ℕ) (only : OnlyConns old new) where
+  -- room is nothing that the past tells of
+  pub goes_room : (n : ℕ) → Changes c (conns.with_room n) told old.conns new.conns → Goes old new (λ past. past)
+  goes_room n changes =
+      goes_conn c unseen unpoured (λ past. past) only changes (λ p keeps. record { opens = λ x. refl; shown = λ x able. refl; waiting = λ x. refl; able = λ x able. able })
+      (record { opens = λ p. refl; seen = λ p d. same_here (d == c) (seen d p.notes); waiting = λ p d. same_here (d == c) (waiting d p.flow); functions = λ p. refl; jobs = λ p. refl; moment = λ p. refl; mode = λ p. refl })
+
+  pub goes_printed : (bytes : List ℕ) → Changes c (conns.with_bytes bytes) told old.conns new.conns → Goes old new (print c bytes)
+  goes_printed bytes changes =
+      goes_conn c unseen (λ w. w ++ bytes) (print c bytes) only changes (λ p keeps. record { opens = λ x. refl; shown = λ x able. refl; waiting = λ x. refl; able = λ x able. able })
+      (record { opens = λ p. refl; seen = λ p d. same_here (d == c) (seen d p.notes); waiting = λ p d. refl; functions = λ p. refl; jobs = λ p. refl; moment = λ p. refl; mode = λ p. refl })
+
+  pub goes_drained : Changes c conns.drained told old.conns new.conns → Goes old new (flowed (Drained c))
+  goes_drained changes =
+      goes_conn c unseen (λ w. []) (flowed (Drained c)) only changes (λ p keeps. record { opens = λ x. refl; shown = λ x able. refl; waiting = λ x. refl; able = λ x able. able })
+      (record { opens = λ p. refl; seen = λ p d. same_here (d == c) (seen d p.notes); waiting = λ p d. refl; functions = λ p. refl; jobs = λ p. refl; moment = λ p. refl; mode = λ p. refl })
+
+  -- ---- notes of one slot
+
+  pub goes_slept : Changes c (conns.with_phase Asleep) told old.conns new.conns → Goes old new (noted (Slept c))
+  goes_slept changes =
+      goes_conn c (lemmas.with_phase Asleep) unpoured (noted (Slept c)) only changes (λ p keeps. record { opens = λ x. refl; shown = λ x able. refl; waiting = λ x. refl; able = λ x able. able })
+      (record { opens = λ p. refl; seen = λ p d. phase_seen Asleep (d == c) (seen d p.notes); waiting = λ p d. same_here (d == c) (waiting d p.flow); functions = λ p. refl; jobs = λ p. refl; moment = λ p. refl; mode = λ p. refl })
+
+  pub goes_woken : Changes c (conns.with_phase Owed) told old.conns new.conns → Goes old new (noted (Woken c))
+  goes_woken changes =
+      goes_conn c (lemmas.with_phase Owed) unpoured (noted (Woken c)) only changes (λ p keeps. record { opens = λ x. refl; shown = λ x able. refl; waiting = λ x. refl; able = λ x able. able })
+      (record { opens = λ p. refl; seen = λ p d. phase_seen Owed (d == c) (seen d p.notes); waiting = λ p d. same_here (d == c) (waiting d p.flow); functions = λ p. refl; jobs = λ p. refl; moment = λ p. refl; mode = λ p. refl })
+
+  pub goes_stirred : Changes c (conns.with_phase Awake) told old.conns new.conns → Goes old new (noted (Stirred c))
+  goes_stirred changes =
+      goes_conn c (lemmas.with_phase Awake) unpoured (noted (Stirred c)) only changes (λ p keeps. record { opens = λ x. refl; shown = λ x able. refl; waiting = λ x. refl; able = λ x able. able })
+      (record { opens = λ p. refl; seen = λ p d. phase_seen Awake (d == c) (seen d p.notes); waiting = λ p d. same_here (d == c) (waiting d p.flow); functions = λ p. refl; jobs = λ p. refl; moment = λ p. refl; mode = λ p. refl })
+
+  pub goes_took : Changes c (conns.with_phase Awake) told old.conns new.conns → Goes old new (noted (Took c))
+  goes_took changes =
+      goes_conn c (lemmas.with_phase Awake) unpoured (noted (Took c)) only changes (λ p keeps. record { opens = λ x. refl; shown = λ x able. refl; waiting = λ x. refl; able = λ x able. able })
+      (record { opens = λ p. refl; seen = λ p d. phase_seen Awake (d == c) (seen d p.notes); waiting = λ p d. same_here (d == c) (waiting d p.flow); functions = λ p. refl; jobs = λ p. refl; moment = λ p. refl; mode = λ p. refl })
+
+  pub goes_withdrew : Changes c (conns.with_phase Awake) told old.conns new.conns → Goes old new (noted (Withdrew c))
+  goes_withdrew changes =
+      goes_conn c (lemmas.with_phase Awake) unpoured (noted (Withdrew c)) only changes (λ p keeps. record { opens = λ x. refl; shown = λ x able. refl; waiting = λ x. refl; able = λ x able. able })
+      (record { opens = λ p. refl; seen = λ p d. phase_seen Awake (d == c) (seen d p.notes); waiting = λ p d. same_here (d == c) (waiting d p.flow); functions = λ p. refl; jobs = λ p. refl; moment = λ p. refl; mode = λ p. refl })
+
+  pub goes_shut : Changes c conns.shut told old.conns new.conns → Goes old new (noted (Shut c))
+  goes_shut changes =
+      goes_conn c lemmas.with_shut unpoured (noted (Shut c)) only changes (λ p keeps. record { opens = λ x. refl; shown = λ x able. refl; waiting = λ x. refl; able = λ x able. able })
+      (record { opens = λ p. refl; seen = λ p d. shut_seen (d == c) (seen d p.notes); waiting = λ p d. same_here (d == c) (waiting d p.flow); functions = λ p. refl; jobs = λ p. refl; moment = λ p. refl; mode = λ p. refl })
+
+  pub goes_option : Changes c conns.with_option told old.conns new.conns → Goes old new (noted (OptionSet c))
+  goes_option changes =
+      goes_conn c lemmas.with_option unpoured (noted (OptionSet c)) only changes (λ p keeps. record { opens = λ x. refl; shown = λ x able. refl; waiting = λ x. refl; able = λ x able. able })
+      (record { opens = λ p. refl; seen = λ p d. option_seen (d == c) (seen d p.notes); waiting = λ p d. same_here (d == c) (waiting d p.flow); functions = λ p. refl; jobs = λ p. refl; moment = λ p. refl; mode = λ p. refl })
+
+  pub goes_named : (id : List ℕ) → Changes c (conns.with_id id) told old.conns new.conns → Goes old new (noted (Named c id))
+  goes_named id changes =
+      goes_conn c (lemmas.with_id id) unpoured (noted (Named c id)) only changes (λ p keeps. record { opens = λ x. refl; shown = λ x able. refl; waiting = λ x. refl; able = λ x able. able })
+      (record { opens = λ p. refl; seen = λ p d. id_seen id (d == c) (seen d p.notes); waiting = λ p d. same_here (d == c) (waiting d p.flow); functions = λ p. refl; jobs = λ p. refl; moment = λ p. refl; mode = λ p. refl })
+
+pub does_set_id : (old new : Core) (told : Bool) (c : ℕ) (id : List ℕ) (result : Result (Unit {0}) AllocError) → OnlyConns old new
+    → OnOk result (Changes c (conns.with_id id) told old.conns new.conns) → OnErr result (new.conns ≡ old.conns) → Does old result new (noted (Named c id))
+does_set_id old new told c id (Ok done) only ok err = goes_named c only id ok
+does_set_id old new told c id (Err wanting) only ok err = goes_nothing only.config err only.functions only.jobs only.moment only.mode
+
+-- ---- abilities
+
+module _ {old new : Core} {told : Bool} (c : ℕ) (only : OnlyConns old new) where
+  pub goes_cant : (name : List ℕ) (f : ℕ) → number_of name old.functions ≡ Some f → Changes c (conns.without_ability f) told old.conns new.conns → Goes old new (noted (Cant c name))
+  goes_cant name f at changes =
+      goes_conn c (lemmas.without_ability name) unpoured (noted (Cant c name)) only changes
+      (λ p keeps.
+      let within = position_within (bytes_eq name) old.functions.names f at in
+      let is = number_is name old.functions f at in
+      record {
+        opens = λ x. refl;
+        shown = λ x able.
+            ap (λ (l : List Ability). lemmas.with_abilities l (shown old.functions.names x))
+            (taken_out keeps.functions f x.abilities able within
+            ∙ ap (λ (g : List ℕ). filter (λ ability. not (is_of g ability)) (map (ability_named old.functions.names) x.abilities)) is);
+        waiting = λ x. refl;
+        able = λ x able. able_out old.functions.names f x.abilities able;
+      })
+      (record { opens = λ p. refl; seen = λ p d. cant_seen name (d == c) (seen d p.notes); waiting = λ p d. same_here (d == c) (waiting d p.flow); functions = λ p. refl; jobs = λ p. refl; moment = λ p. refl; mode = λ p. refl })
+
+  pub goes_can : (name : List ℕ) (f t : ℕ) → number_of name old.functions ≡ Some f → Changes c (conns.with_ability f t) told old.conns new.conns → Goes old new (noted (Can c name t))
+  goes_can name f t at changes =
+      goes_conn c (lemmas.with_ability name t) unpoured (noted (Can c name t)) only changes
+      (λ p keeps.
+      let within = position_within (bytes_eq name) old.functions.names f at in
+      let is = number_is name old.functions f at in
+      record {
+        opens = λ x. refl;
+        shown = λ x able.
+            ap (λ (l : List Ability). lemmas.with_abilities l (shown old.functions.names x))
+            (put_named keeps.functions f t x.abilities able within
+            ∙ ap (λ (g : List ℕ). put g t (map (ability_named old.functions.names) x.abilities)) is);
+        waiting = λ x. refl;
+        able = λ x able. able_put old.functions.names f t x.abilities able within;
+      })
+      (record { opens = λ p. refl; seen = λ p d. can_seen name t (d == c) (seen d p.notes); waiting = λ p d. same_here (d == c) (waiting d p.flow); functions = λ p. refl; jobs = λ p. refl; moment = λ p. refl; mode = λ p. refl })
+
+-- a function that isn't known is none that a worker can do
+pub goes_cant_unknown : (core : Core) (c : ℕ) (name : List ℕ) → number_of name core.functions ≡ None → Goes core core (noted (Cant c name))
+goes_cant_unknown core c name none = record {
+  config = refl;
+  past = λ p keeps. record {
+    conns = seen_same keeps.conns (λ d. refl)
+        (λ d opened.
+        let shows = ap (λ (s : Seen). s.abilities) (keeps.conns.seen d opened) in
+        let same : abilities d p.notes ≡ filter (λ ability. not (is_of name ability)) (abilities d p.notes) =
+        subst (λ (l : List Ability). l ≡ filter (λ ability. not (is_of name ability)) l) shows (none_out keeps.functions name (conn core.conns d).abilities none (keeps.conns.able d)) in
+        ap (λ (l : List Ability). lemmas.with_abilities l (seen d p.notes)) (either_same (d == c) same));
+    functions = keeps.functions;
+    jobs = keeps.jobs;
+    moment = keeps.moment;
+    mode = keeps.mode;
+  };
+}
+  where
+    either_same : {A : Type 0} {x y : A} (t : Bool) → x ≡ y → x ≡ (if t then y else x)
+    either_same true e = e
+    either_same false e = refl
+
+-- ---- functions
+
+-- only the functions of a core changed
+pub record OnlyFunctions (old new : Core) : Type 0 where
+  pub config : new.config ≡ old.config
+  pub conns : new.conns ≡ old.conns
+  pub jobs : new.jobs ≡ old.jobs
+  pub moment : new.moment ≡ old.moment
+  pub mode : new.mode ≡ old.mode
+
+pub goes_functions : (old new : Core) (step : Past → Past) → OnlyFunctions old new
+    → ((p : Past) → Keeps old p → Holds old.config old.conns new.functions old.jobs old.moment old.mode (step p)) → Goes old new step
+goes_functions old new step only holds = record {
+  config = only.config;
+  past = λ p keeps.
+      subst (λ x. Holds new.config new.conns new.functions new.jobs new.moment x (step p)) (sym only.mode)
+      (subst (λ x. Holds new.config new.conns new.functions new.jobs x old.mode (step p)) (sym only.moment)
+      (subst (λ x. Holds new.config new.conns new.functions x old.moment old.mode (step p)) (sym only.jobs)
+      (subst (λ x. Holds new.config x new.functions old.jobs old.moment old.mode (step p)) (sym only.conns)
+      (subst (λ x. Holds x old.conns new.functions old.jobs old.moment old.mode (step p)) (sym only.config) (holds p keeps)))));
+}
+
+pub goes_mention : (old new : Core) (name : List ℕ) → OnlyFunctions old new → number_of name old.functions ≡ None
+    → ChangesNames (old.functions.names ++ name ∷ []) old.functions new.functions → IsFree (length old.functions.names) new.functions
+    → length old.functions.names ≢ old.functions.most → Goes old new (noted (Mention name))
+goes_mention old new name only none changes free room =
+    goes_functions old new (noted (Mention name)) only
+    (λ p keeps. record {
+      conns = subst (λ (l : List (List ℕ)). HoldsConns old.config old.conns l (conn_facts p.notes) (λ c. waiting c p.flow)) (sym changes.names) (conns_mention name keeps.conns);
+      functions = functions_mention old.config old.functions new.functions name none changes free p.notes room keeps.functions;
+      jobs = jobs_mention old.config old.functions new.functions name none changes free old.jobs (conn_facts p.notes).is_open (job_facts p.notes) (function_facts p.notes) keeps.functions keeps.jobs;
+      moment = keeps.moment;
+      mode = keeps.mode;
+    })
+
+-- a function was mentioned and taken back
+pub goes_back : (old new : Core) → OnlyFunctions old new → Same old.functions new.functions → Goes old new (λ past. past)
+goes_back old new only same =
+    goes_functions old new (λ past. past) only
+    (λ p keeps. record {
+      conns = subst (λ (l : List (List ℕ)). HoldsConns old.config old.conns l (conn_facts p.notes) (λ c. waiting c p.flow)) (sym same.names) keeps.conns;
+      functions = functions_same old.config old.functions new.functions same keeps.functions;
+      jobs = jobs_held_same old.config old.functions new.functions same keeps.jobs;
+      moment = keeps.moment;
+      mode = keeps.mode;
+    })
+
+-- nobody is woken where nothing waits
+pub woken_not : (c : ℕ) (asleep : Bool) (l : List ℕ) (p : Past) → l ≡ [] → woken_if (asleep && not (is_empty l)) c p ≡ p
+woken_not c true l p e = rw e refl
+woken_not c false l p e = refl
+
+-- ---- where nothing changed first
+
+pub goes_from : {a b c : Core} {f : Past → Past} → b ≡ a → Goes b c f → Goes a c f
+goes_from {a} {b} {c} {f} same goes = subst (λ (x : Core). Goes x c f) same goes
+
+-- ---- sleep
+
+pub beside_some : (o : Option Choice) (c : ℕ) (p : Past) → is_some o ≡ true → noted (Woken c) p ≡ sleep_beside (option_map pick_of o) c p
+beside_some None c p e = absurd cc
+beside_some (Some found) c p e = refl
+
+pub beside_none : (o : Option Choice) (c : ℕ) (p : Past) → is_some o ≡ false → p ≡ sleep_beside (option_map pick_of o) c p
+beside_none None c p e = refl
+beside_none (Some found) c p e = absurd cc

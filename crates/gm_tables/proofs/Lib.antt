@@ -1,0 +1,6 @@
+pub mod ConnLemmas
+pub mod CoreLemmas
+pub mod StartLemmas
+pub mod FunctionLemmas
+pub mod PositionLemmas
+pub mod MentionLemmas

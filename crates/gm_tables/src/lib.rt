@@ -1,0 +1,7 @@
+//! A job server that answers from tables: what was proved of the abstract server is true of it.
+#![tactic(auto)]
+
+mod core;
+mod refusal;
+
+pub use crate::core::Core;
