@@ -10,6 +10,7 @@ use Rattle.std.specs.Option.{option_map}
 use Rattle.gm_tables.specs.declared.core.abilities.Choice.{Choice}
 use Rattle.gm_notes.specs.Workers.{woken_if, sleep_beside}
 use Rattle.gm_queues.specs.Tables.{number_of, ChangesNames, IsFree}
+use Rattle.gm_tables.proofs.JobLemmas.{jobs_kept, jobs_listen}
 use Rattle.gm_tables.proofs.MentionLemmas.{Same, conns_mention, functions_mention, jobs_mention, functions_same, jobs_held_same}
 use Rattle.std.proofs.lemmas.Bool.Decides.{nat_tests}
 use Rattle.gm_notes.specs.declared.event.Done.{Done}
@@ -22,7 +23,7 @@ use Rattle.std.specs.declared.alloc.AllocError.{AllocError}
 use Rattle.gm_notes.specs.declared.note.Note.{Note}
 use Rattle.gm_notes.specs.declared.states.Phase.{Phase}
 use Rattle.gm_notes.specs.declared.states.Phase.TheVariants.{Awake, Asleep, Owed}
-use Rattle.gm_notes.specs.declared.note.Note.TheVariants.{Shut, Named, OptionSet, Can, Cant, Mention, Slept, Woken, Stirred, Took, Withdrew}
+use Rattle.gm_notes.specs.declared.note.Note.TheVariants.{Shut, Named, OptionSet, Can, Cant, Mention, Kept, Listens, Slept, Woken, Stirred, Took, Withdrew}
 use Rattle.gm_notes.specs.Past.{Past, noted, flowed, print}
 use Rattle.gm_notes.specs.Flow.{Drained, waiting}
 use Rattle.gm_notes.specs.Notes.{is_open, phase, moment, mode}
@@ -359,3 +360,40 @@ beside_some (Some found) c p e = refl
 pub beside_none : (o : Option Choice) (c : ℕ) (p : Past) → is_some o ≡ false → p ≡ sleep_beside (option_map pick_of o) c p
 beside_none None c p e = refl
 beside_none (Some found) c p e = absurd cc
+
+-- ---- jobs
+
+-- only the jobs of a core changed
+pub record OnlyJobs (old new : Core) : Type 0 where
+  pub config : new.config ≡ old.config
+  pub conns : new.conns ≡ old.conns
+  pub functions : new.functions ≡ old.functions
+  pub moment : new.moment ≡ old.moment
+  pub mode : new.mode ≡ old.mode
+
+pub goes_jobs : (old new : Core) (step : Past → Past) → OnlyJobs old new
+    → ((p : Past) → Keeps old p → Holds old.config old.conns old.functions new.jobs old.moment old.mode (step p)) → Goes old new step
+goes_jobs old new step only holds = record {
+  config = only.config;
+  past = λ p keeps.
+      subst (λ x. Holds new.config new.conns new.functions new.jobs new.moment x (step p)) (sym only.mode)
+      (subst (λ x. Holds new.config new.conns new.functions new.jobs x old.mode (step p)) (sym only.moment)
+      (subst (λ x. Holds new.config new.conns x new.jobs old.moment old.mode (step p)) (sym only.functions)
+      (subst (λ x. Holds new.config x old.functions new.jobs old.moment old.mode (step p)) (sym only.conns)
+      (subst (λ x. Holds x old.conns old.functions new.jobs old.moment old.mode (step p)) (sym only.config) (holds p keeps)))));
+}
+
+pub goes_kept : (old new : Core) (n : ℕ) → OnlyJobs old new → jobs.Changes n Rattle.gm_jobs.specs.Live.kept old.jobs new.jobs → Goes old new (noted (Kept n))
+goes_kept old new n only changes =
+    goes_jobs old new (noted (Kept n)) only
+    (λ p keeps. record { conns = keeps.conns; functions = keeps.functions; jobs = jobs_kept p.notes n changes keeps.jobs; moment = keeps.moment; mode = keeps.mode })
+
+pub goes_listens : (old new : Core) (n c : ℕ) → OnlyJobs old new → IsOpen old.conns c → jobs.Changes n (Rattle.gm_jobs.specs.Live.with_listener c) old.jobs new.jobs → Goes old new (noted (Listens n c))
+goes_listens old new n c only opened changes =
+    goes_jobs old new (noted (Listens n c)) only
+    (λ p keeps. record { conns = keeps.conns; functions = keeps.functions; jobs = jobs_listen p.notes n c changes (open_is keeps c opened) keeps.jobs; moment = keeps.moment; mode = keeps.mode })
+
+pub does_listen : (old new : Core) (n c : ℕ) (result : Result (Unit {0}) AllocError) → OnlyJobs old new → IsOpen old.conns c
+    → OnOk result (jobs.Changes n (Rattle.gm_jobs.specs.Live.with_listener c) old.jobs new.jobs) → OnErr result (new.jobs ≡ old.jobs) → Does old result new (noted (Listens n c))
+does_listen old new n c (Ok done) only opened ok err = goes_listens old new n c only opened ok
+does_listen old new n c (Err wanting) only opened ok err = goes_nothing only.config only.conns only.functions err only.moment only.mode

@@ -32,6 +32,7 @@ holds_nothing k table slots ends fits = record {
     most = fits;
     made = refl;
     came = λ P. refl;
+    numbered = λ n found at. absurd cc;
     places = λ n. ap (place_or None) (none_made k.first_job n);
     live = λ n found at. absurd cc;
     queues = λ name p. refl;

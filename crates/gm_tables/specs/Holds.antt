@@ -17,10 +17,12 @@ use Rattle.gm_conns.specs.Tables as conns
 use Rattle.gm_queues.specs.Tables.{number_of, limit, queue}
 use Rattle.gm_queues.specs.Tables as queues
 use Rattle.gm_jobs.specs.Live.{Live}
-use Rattle.gm_jobs.specs.Tables.{job, place}
+use Rattle.gm_jobs.specs.Tables.{job, place, is_made}
 use Rattle.gm_jobs.specs.Tables as jobs
 use Rattle.gm_tables.specs.declared.core.Core.{Core}
+use Rattle.gm_notes.specs.Submissions.{Submission}
 use Rattle.gm_tables.specs.declared.core.abilities.Choice.{Choice}
+use Rattle.gm_tables.specs.declared.core.submitting.Submission.{Submission as Found}
 use Rattle.gm_tables.specs.Facts.{Seen, ConnFacts, FunctionFacts, JobFacts, conn_facts, function_facts, job_facts, queued, running_with}
 
 -- ---- connections
@@ -102,6 +104,7 @@ pub record HoldsJobs (k : Settings) (functions : queues.Table) (table : jobs.Tab
   pub most : table.next ≤ 2 ^ 64
   pub made : facts.made ≡ numbers_down k.first_job (length facts.made)
   pub came : (P : ℕ → Bool) → length (filter P facts.came) ≡ length (filter P facts.made)
+  pub numbered : (n : ℕ) (found : Live) → job table n ≡ Some found → is_made table n ≡ true
   pub places : (n : ℕ) → place table n ≡ place_of (facts.spot n)
   pub live : (n : ℕ) (found : Live) → job table n ≡ Some found → IsJob functions.names found facts is_open n
   pub queues : (name : List ℕ) (p : Priority) → jobs_named (number_of name functions) p functions ≡ queued name p facts
@@ -150,3 +153,8 @@ pick_of found = record { job = found.job; timeout = found.timeout }
 -- a sleeping worker is owed a NOOP at once if a job of the function waits
 abbrev pub woken_for : ℕ → List ℕ → Past → Past
 woken_for c f past = woken_if (is_asleep (phase c past.notes) && not (is_empty (waiting_for f past.notes))) c past
+
+-- what is submitted, wherever its bytes lie
+abbrev pub submission_of : Found → Submission
+submission_of s =
+    record { function = s.function.now; unique = s.unique.now; body = s.body.now; priority = s.priority; background = s.background }

@@ -10,6 +10,7 @@ ghost use Rattle.gm_tables.specs.Refusals.{code_of};
 mod abilities;
 mod connecting;
 mod naming;
+mod submitting;
 
 use crate::refusal::Refusal;
 use gm_conns::Conns;

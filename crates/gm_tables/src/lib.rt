@@ -2,6 +2,7 @@
 #![tactic(auto)]
 
 mod core;
+mod handles;
 mod refusal;
 
 pub use crate::core::Core;
