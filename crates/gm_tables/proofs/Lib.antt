@@ -5,3 +5,5 @@ pub mod FunctionLemmas
 pub mod PositionLemmas
 pub mod MentionLemmas
 pub mod JobLemmas
+pub mod MadeLemmas
+pub mod AddLemmas

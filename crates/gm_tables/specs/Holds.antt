@@ -1,5 +1,5 @@
 -- What a core's tables hold, against the definitions.
-use Rattle.std.specs.Prelude.{◌≡◌, ℕ, zero, suc, ◌+◌, ◌<◌, ◌≤◌, ◌^◌, true, not, ◌&&◌, codes, List, [], ◌∷◌, length, map, filter, slice_get, slice_index_or, Option, Some, None, Bool, Result, Ok, Err}
+use Rattle.std.specs.Prelude.{◌≡◌, ℕ, zero, suc, ◌+◌, ◌<◌, ◌≤◌, ◌^◌, true, false, not, ◌&&◌, codes, List, [], ◌∷◌, length, map, filter, slice_get, slice_index_or, Option, Some, None, Bool, Result, Ok, Err}
 use Rattle.std.specs.Option.{unwrap_or}
 use Rattle.gm_notes.specs.declared.states.Priority.{Priority}
 use Rattle.gm_notes.specs.declared.states.Mode.{Mode}
@@ -7,7 +7,8 @@ use Rattle.gm_notes.specs.Settings.{Settings}
 use Rattle.gm_notes.specs.Notes.{phase, is_asleep, moment, mode}
 use Rattle.gm_notes.specs.Flow.{Flow, waiting}
 use Rattle.gm_notes.specs.Jobs.{Ability, Spot, Waits, RunsAt, Job, Pick, is_empty, waiting_for}
-use Rattle.gm_notes.specs.Past.{Past}
+use Rattle.gm_notes.specs.declared.note.Note.TheVariants.{Made}
+use Rattle.gm_notes.specs.Past.{Past, noted}
 use Rattle.gm_notes.specs.Workers.{woken_if}
 use Rattle.gm_notes.specs.Steps.{Step, run}
 use Rattle.gm_notes.specs.Servers.{place_of}
@@ -20,7 +21,7 @@ use Rattle.gm_jobs.specs.Live.{Live}
 use Rattle.gm_jobs.specs.Tables.{job, place, is_made}
 use Rattle.gm_jobs.specs.Tables as jobs
 use Rattle.gm_tables.specs.declared.core.Core.{Core}
-use Rattle.gm_notes.specs.Submissions.{Submission}
+use Rattle.gm_notes.specs.Submissions.{Submission, wanted}
 use Rattle.gm_tables.specs.declared.core.abilities.Choice.{Choice}
 use Rattle.gm_tables.specs.declared.core.submitting.Submission.{Submission as Found}
 use Rattle.gm_tables.specs.Facts.{Seen, ConnFacts, FunctionFacts, JobFacts, conn_facts, function_facts, job_facts, queued, running_with}
@@ -158,3 +159,12 @@ woken_for c f past = woken_if (is_asleep (phase c past.notes) && not (is_empty (
 abbrev pub submission_of : Found → Submission
 submission_of s =
     record { function = s.function.now; unique = s.unique.now; body = s.body.now; priority = s.priority; background = s.background }
+
+-- a job is made, which somebody wants
+abbrev pub added : ℕ → Submission → ℕ → Past → Past
+added c s n past = wanted c s n (noted (Made n s.function s.priority s.unique s.body) past)
+
+-- who listens to a job from the start: nobody, if it was submitted in the background
+abbrev pub first_listener : Bool → ℕ → Option ℕ
+first_listener true c = None
+first_listener false c = Some c

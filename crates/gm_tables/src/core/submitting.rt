@@ -1,14 +1,18 @@
 //! Submissions.
 
-ghost use Rattle.std.specs.Prelude.{◌≡◌, ◌≤◌, Some, OnOk, length};
+ghost use Rattle.std.specs.Prelude.{◌≡◌, ◌≤◌, ℕ, Some, OnOk, OnErr, length};
 ghost use Rattle.gm_packet.specs.Writing.{job_created, answer_packet};
 ghost use Rattle.gm_conns.specs.Tables.{IsOpen, conn};
+ghost use Rattle.gm_queues.specs.Tables.{number_of};
+ghost use Rattle.gm_jobs.specs.Tables.{IsNamed};
+ghost use Rattle.gm_tables.specs.Holds.{added, first_listener};
 ghost use Rattle.gm_notes.specs.Jobs.{handle, joined};
 ghost use Rattle.gm_notes.specs.Past.{Past};
 ghost use Rattle.gm_notes.specs.Submissions.{wanted, join_or_make};
 
 use super::Core;
 use crate::handles::handle;
+use gm_jobs::NewJob;
 use gm_notes::Priority;
 use gm_packet::Response;
 use std::alloc::AllocError;
@@ -21,6 +25,13 @@ pub(super) struct Submission<'a> {
     pub(super) body: &'a [u8],
     pub(super) priority: Priority,
     pub(super) background: bool,
+}
+
+/// Who listens to a job from the start: nobody, if it was submitted in the background.
+fn first_listener(background: bool, slot: u32) -> Option<u32>
+    ensures { result ≡ first_listener background slot }
+{
+    if background { None } else { Some(slot) }
 }
 
 impl Core {
@@ -64,6 +75,33 @@ impl Core {
             return Ok(());
         }
         self.jobs.listen(job, slot)
+    }
+
+    /// A job comes to wait. No live job of the function has its unique id, if that joins.
+    fn add(&mut self, slot: u32, asked: &Submission<'_>, f: u32) -> Result<(), AllocError>
+        requires open { IsOpen self.old.conns slot }
+        requires found { number_of asked.now.function.now self.old.functions ≡ Some f }
+        requires alone { (n : ℕ) → IsNamed f asked.now.unique.now self.old.jobs n → ⊥ }
+        ensures does { Does self.old result self.new (added slot (submission_of asked.now) self.old.jobs.next) }
+        ensures conns { self.new.conns ≡ self.old.conns }
+        ensures text { self.new.text ≡ self.old.text }
+        ensures names { self.new.functions.names ≡ self.old.functions.names }
+        ensures err { OnErr result (self.new.functions ≡ self.old.functions) }
+    {
+        let Ok(()) = self.jobs.reserve(f, asked.unique.len(), asked.body.len()) else {
+            return Err(AllocError);
+        };
+        self.functions.reserve_one(f, asked.priority)?;
+        let job = self.jobs.insert_reserved(NewJob {
+            f,
+            p: asked.priority,
+            unique: asked.unique,
+            body: asked.body,
+            kept: asked.background,
+            listener: first_listener(asked.background, slot),
+        });
+        self.functions.push(f, asked.priority, job);
+        Ok(())
     }
 
     /// Writes what is answered to a submission, and makes room for it.
