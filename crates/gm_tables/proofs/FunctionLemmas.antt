@@ -163,6 +163,11 @@ module _ (k : Settings) (table : Table) (notes : List Note) (holds : HoldsFuncti
       let many : nat_le k.max_functions (length (functions notes)) ≡ true = (let e = full_is in let m = holds.most in grind (arith, nat_tests)) in
       rw (fresh, many) refl
 
+  pub many_is : number_of name table ≡ None → nat_le k.max_functions (length table.names) ≡ is_one_too_many k name notes
+  many_is none =
+      let fresh = anew k table notes holds name none in
+      rw fresh (ap (nat_le k.max_functions) (sym full_is))
+
   pub not_yet_many : length table.names ≢ table.most → is_one_too_many k name notes ≡ false
   not_yet_many room = by (not (is_mentioned name notes)) (let e = full_is in let m = holds.most in let few = holds.few in grind (arith, nat_tests))
     where

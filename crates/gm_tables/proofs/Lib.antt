@@ -7,3 +7,4 @@ pub mod MentionLemmas
 pub mod JobLemmas
 pub mod MadeLemmas
 pub mod AddLemmas
+pub mod CountLemmas

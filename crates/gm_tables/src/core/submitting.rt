@@ -1,6 +1,6 @@
 //! Submissions.
 
-ghost use Rattle.std.specs.Prelude.{◌≡◌, ◌≤◌, ℕ, Some, OnOk, OnErr, length};
+ghost use Rattle.std.specs.Prelude.{◌≡◌, ◌≤◌, ◌+◌, ◌==◌, ◌&&◌, not, nat_le, ℕ, Some, OnOk, OnErr, length};
 ghost use Rattle.gm_packet.specs.Writing.{job_created, answer_packet};
 ghost use Rattle.gm_conns.specs.Tables.{IsOpen, conn};
 ghost use Rattle.gm_queues.specs.Tables.{number_of};
@@ -8,13 +8,14 @@ ghost use Rattle.gm_jobs.specs.Tables.{IsNamed};
 ghost use Rattle.gm_tables.specs.Holds.{added, first_listener};
 ghost use Rattle.gm_notes.specs.Jobs.{handle, joined};
 ghost use Rattle.gm_notes.specs.Past.{Past};
-ghost use Rattle.gm_notes.specs.Submissions.{wanted, join_or_make};
+ghost use Rattle.gm_notes.specs.Submissions.{is_one_too_many, is_full, wanted, join_or_make};
 
 use super::Core;
 use crate::handles::handle;
 use gm_jobs::NewJob;
 use gm_notes::Priority;
 use gm_packet::Response;
+use gm_queues::Counts;
 use std::alloc::AllocError;
 
 /// What is submitted.
@@ -34,6 +35,14 @@ fn first_listener(background: bool, slot: u32) -> Option<u32>
     if background { None } else { Some(slot) }
 }
 
+/// Whether so many jobs reach a limit; 0 is no limit.
+fn is_limit_reached(limit: u32, counts: Counts) -> bool
+    ensures { result ≡ (not (limit == 0) && nat_le limit (counts.waiting + counts.running)) }
+{
+    let limit = u64::from(limit);
+    limit != 0 && (limit <= counts.waiting || limit - counts.waiting <= counts.running)
+}
+
 impl Core {
     ghost use Rattle.gm_tables.specs.Holds.{Keeps, Goes, Does, submission_of};
 
@@ -44,6 +53,26 @@ impl Core {
         match self.functions.find(function) {
             Some(f) => self.jobs.by_unique(f, unique),
             None => None,
+        }
+    }
+
+    /// Whether no function more can be known.
+    fn is_one_too_many(&self, function: &[u8]) -> bool
+        ensures { (past : Past) → Keeps self.now past → result ≡ is_one_too_many self.now.config function.now past.notes }
+    {
+        match self.functions.find(function) {
+            Some(_) => false,
+            None => self.functions.len() >= self.config.max_functions(),
+        }
+    }
+
+    /// Whether no more jobs of a function may be there.
+    fn is_full(&self, function: &[u8]) -> bool
+        ensures { (past : Past) → Keeps self.now past → result ≡ is_full function.now past.notes }
+    {
+        match self.functions.find(function) {
+            Some(f) => is_limit_reached(self.functions.limit(f), self.functions.counts(f)),
+            None => false,
         }
     }
 
