@@ -10,6 +10,7 @@ ghost use Rattle.gm_tables.specs.Refusals.{code_of};
 mod abilities;
 mod connecting;
 mod naming;
+mod opening;
 
 use crate::refusal::Refusal;
 use gm_conns::Conns;
