@@ -78,9 +78,10 @@ impl Conns {
         self.conns.len() as u32
     }
 
-    /// Whether a connection is in the slot.
+    /// Whether a connection is in the slot. Where none is, nothing is known and nothing waits.
     pub fn is_open(&self, slot: u32) -> bool
-        ensures { result ≡ (conn self.now slot).is_open }
+        ensures value { result ≡ (conn self.now slot).is_open }
+        ensures closed { result ≡ false → conn self.now slot ≡ closed }
     {
         match self.conns.get(slot as usize) {
             Some(conn) => conn.is_open(),
@@ -313,6 +314,8 @@ impl Conns {
     /// The least slot from `from` on that sleeps and can do the function.
     pub fn next_sleeper(&self, f: u32, from: u32) -> Option<u32>
         ensures found { IfSome result (λ slot. (from ≤ slot) × IsTrue (is_sleeper f (conn self.now slot))) }
+        ensures open { IfSome result (λ slot. IsOpen self.now slot) }
+        ensures within { IfSome result (λ slot. (slot < length self.now.conns) × (slot < 1024)) }
         ensures least { IfSome result (λ slot. (c : ℕ) → from ≤ c → c < slot → is_sleeper f (conn self.now c) ≡ false) }
         ensures none { IfNone result ((c : ℕ) → from ≤ c → is_sleeper f (conn self.now c) ≡ false) }
     {

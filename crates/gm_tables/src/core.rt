@@ -11,6 +11,7 @@ mod abilities;
 mod connecting;
 mod naming;
 mod submitting;
+mod opening;
 
 use crate::refusal::Refusal;
 use gm_conns::Conns;

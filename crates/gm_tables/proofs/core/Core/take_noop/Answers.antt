@@ -8,7 +8,7 @@ use Rattle.gm_tables.proofs.core.Core.take_noop.Goals as goal
 
 pub returns : goal.returns
 returns c k steps agrees =
-    let opens = sym c.is_open.ensures ∙ c.if-not-is_open.false in
+    let opens = sym c.is_open.ensures.value ∙ c.if-not-is_open.false in
     let opened : is_open c.args.slot (run k steps).notes ≡ true = open_is agrees.past c.args.slot opens in
     let owed : is_owed (phase c.args.slot (run k steps).notes) ≡ true =
     ap is_owed (sym (phase_is agrees.past c.args.slot opens) ∙ sym c.phase.ensures) ∙ (sym c.is_owed.ensures ∙ c.if-not-is_owed.false) in
