@@ -10,6 +10,7 @@ ghost use Rattle.gm_jobs.specs.Listening.{Heard};
 ghost use Rattle.gm_jobs.specs.Changes.{changed, ChangesJob, LeavesOne, LeavesSome};
 ghost use Rattle.gm_jobs.specs.Uniques.{Reached};
 
+use crate::by_number::{JobMap, NumberHash};
 use crate::job::{Job, NewJob, Space, joins};
 use crate::listening::Listening;
 use crate::marks::{Marks, Query};
@@ -61,7 +62,7 @@ pub struct Jobs {
     first: u64,
     // None once the last number was given out.
     next: Option<u64>,
-    jobs: IndexMap<u64, Job, RandomState>,
+    jobs: JobMap,
     uniques: Uniques,
     marks: Marks,
     listening: Listening,
@@ -94,7 +95,7 @@ pub(crate) enum Change {
 }
 
 // Changes the job of a number, if it is live.
-fn change_job(jobs: &mut IndexMap<u64, Job, RandomState>, number: u64, change: Change)
+fn change_job(jobs: &mut JobMap, number: u64, change: Change)
     ensures jobs { ChangesJob number (changed change) jobs.old.entries jobs.new.entries }
     ensures spare { spare jobs.new ≡ spare jobs.old }
 {
@@ -111,7 +112,7 @@ fn change_job(jobs: &mut IndexMap<u64, Job, RandomState>, number: u64, change: C
 // The job of a number, if it is live, is so far.
 fn report_job(
     alloc: Global,
-    jobs: &mut IndexMap<u64, Job, RandomState>,
+    jobs: &mut JobMap,
     number: u64,
     numerator: &[u8],
     denominator: &[u8],
@@ -127,11 +128,7 @@ fn report_job(
 }
 
 // The slot listens to the job of a number, if it is live.
-fn listen_job(
-    jobs: &mut IndexMap<u64, Job, RandomState>,
-    number: u64,
-    slot: u32,
-) -> Result<(), AllocError>
+fn listen_job(jobs: &mut JobMap, number: u64, slot: u32) -> Result<(), AllocError>
     ensures ok { OnOk result (ChangesJob number (with_listener slot) jobs.old.entries jobs.new.entries) }
     ensures err { OnErr result (jobs.new.entries ≡ jobs.old.entries) }
     ensures spare { spare jobs.new ≡ spare jobs.old }
@@ -143,7 +140,7 @@ fn listen_job(
 }
 
 // The slot listens no more to the job.
-fn leave_one(jobs: &mut IndexMap<u64, Job, RandomState>, marks: &mut Marks, number: u64, slot: u32)
+fn leave_one(jobs: &mut JobMap, marks: &mut Marks, number: u64, slot: u32)
     requires room { length jobs.old.entries ≤ marks.old.room }
     requires marked { Marked jobs.old.entries marks.old.marks }
     ensures jobs { ChangesJob number (without_listener slot) jobs.old.entries jobs.new.entries }
@@ -156,12 +153,7 @@ fn leave_one(jobs: &mut IndexMap<u64, Job, RandomState>, marks: &mut Marks, numb
 }
 
 // The slot listens no more to these jobs.
-fn leave_all(
-    jobs: &mut IndexMap<u64, Job, RandomState>,
-    marks: &mut Marks,
-    numbers: &[u64],
-    slot: u32,
-)
+fn leave_all(jobs: &mut JobMap, marks: &mut Marks, numbers: &[u64], slot: u32)
     requires room { length jobs.old.entries ≤ marks.old.room }
     requires marked { Marked jobs.old.entries marks.old.marks }
     ensures left { LeavesSome slot jobs.old.entries jobs.new.entries }
@@ -176,12 +168,7 @@ fn leave_all(
 }
 
 // The slot listens no more to this job, if there is one.
-fn leave_maybe(
-    jobs: &mut IndexMap<u64, Job, RandomState>,
-    marks: &mut Marks,
-    number: Option<u64>,
-    slot: u32,
-)
+fn leave_maybe(jobs: &mut JobMap, marks: &mut Marks, number: Option<u64>, slot: u32)
     requires room { length jobs.old.entries ≤ marks.old.room }
     requires marked { Marked jobs.old.entries marks.old.marks }
     ensures left { LeavesSome slot jobs.old.entries jobs.new.entries }
@@ -200,7 +187,7 @@ fn leave_maybe(
 fn make_room(
     alloc: Global,
     seed: &RandomState,
-    jobs: &mut IndexMap<u64, Job, RandomState>,
+    jobs: &mut JobMap,
     uniques: &mut Uniques,
     marks: &mut Marks,
     listening: &mut Listening,
@@ -235,7 +222,7 @@ impl Jobs {
             seed,
             first: first_job,
             next: Some(first_job),
-            jobs: IndexMap::with_hasher(alloc, seed),
+            jobs: IndexMap::with_hasher(alloc, NumberHash::new(&seed)),
             uniques: Uniques::new(alloc),
             marks: Marks::new(alloc),
             listening: Listening::new(alloc),

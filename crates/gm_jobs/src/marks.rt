@@ -6,10 +6,8 @@ ghost use Rattle.gm_jobs.specs.Tables.{find_job, passes, IsNext, IsLast};
 ghost use Rattle.gm_jobs.specs.Marks.{is_marked, number_at, Rises, IsPlaceFor, HasRoomFor, Marked, MarkedBut, AllLive, IsSoon};
 ghost use Rattle.gm_jobs.specs.Queries.{meets, may_meet};
 
-use crate::job::Job;
-use indexmap::IndexMap;
+use crate::by_number::JobMap;
 use std::alloc::{AllocError, Global};
-use std::hash::RandomState;
 use std::marker::Model;
 
 /// That a job may run at a slot, or, where there is none, that it may wait and nobody want it.
@@ -55,7 +53,7 @@ impl Model for Marks {
 const FEW: usize = 64;
 
 // Whether the job of a number is live and has a mark.
-fn is_marked(jobs: &IndexMap<u64, Job, RandomState>, number: u64) -> bool
+fn is_marked(jobs: &JobMap, number: u64) -> bool
     ensures { result ≡ passes is_marked (find_job jobs.now.entries number) }
 {
     match jobs.get(&number) {
@@ -77,7 +75,7 @@ impl Query {
     }
 
     // Whether the job of a number is live and what is asked for.
-    fn meets(self, jobs: &IndexMap<u64, Job, RandomState>, number: u64) -> bool
+    fn meets(self, jobs: &JobMap, number: u64) -> bool
         ensures { result ≡ passes (meets self) (find_job jobs.now.entries number) }
     {
         match jobs.get(&number) {
@@ -151,7 +149,7 @@ impl Marks {
     }
 
     // Lets go of the marks of jobs that have none any more.
-    fn prune(&mut self, jobs: &IndexMap<u64, Job, RandomState>)
+    fn prune(&mut self, jobs: &JobMap)
         ensures kept { (m : Mark) → passes is_marked (find_job jobs.now.entries m.number) ≡ true → Contains self.old.marks m → Contains self.new.marks m }
         ensures live { AllLive jobs.now.entries self.new.marks }
         ensures rises { Rises self.new.marks }
@@ -162,7 +160,7 @@ impl Marks {
     }
 
     /// Lets go of such marks, unless there are few.
-    pub(crate) fn tidy(&mut self, jobs: &IndexMap<u64, Job, RandomState>)
+    pub(crate) fn tidy(&mut self, jobs: &JobMap)
         requires { Marked jobs.now.entries self.old.marks }
         ensures marked { Marked jobs.now.entries self.new.marks }
         ensures room { self.new.room ≡ self.old.room }
@@ -173,7 +171,7 @@ impl Marks {
     }
 
     // Makes room for a mark of a live job's number, unless it has one.
-    fn make_room(&mut self, jobs: &IndexMap<u64, Job, RandomState>, number: u64)
+    fn make_room(&mut self, jobs: &JobMap, number: u64)
         requires room { length jobs.now.entries ≤ self.old.room }
         requires live { IsSome (find_job jobs.now.entries number) }
         ensures fits { HasRoomFor number self.new }
@@ -202,7 +200,7 @@ impl Marks {
     }
 
     /// Marks the job of a number, if it is to have a mark.
-    pub(crate) fn mark(&mut self, jobs: &IndexMap<u64, Job, RandomState>, number: u64)
+    pub(crate) fn mark(&mut self, jobs: &JobMap, number: u64)
         requires room { length jobs.now.entries ≤ self.old.room }
         requires others { MarkedBut number jobs.now.entries self.old.marks }
         ensures marked { Marked jobs.now.entries self.new.marks }
@@ -220,12 +218,7 @@ impl Marks {
     }
 
     /// The least number above `after` of a live job that is what is asked for.
-    pub(crate) fn next(
-        &self,
-        jobs: &IndexMap<u64, Job, RandomState>,
-        query: Query,
-        after: u64,
-    ) -> Option<u64>
+    pub(crate) fn next(&self, jobs: &JobMap, query: Query, after: u64) -> Option<u64>
         requires { Marked jobs.now.entries self.now.marks }
         ensures next { IfSome result (IsNext (meets query) after jobs.now.entries) }
         ensures last { IfNone result (IsLast (meets query) after jobs.now.entries) }
@@ -241,7 +234,7 @@ impl Marks {
     }
 
     /// A moment before which no job's deadline is reached: that of the soonest.
-    pub(crate) fn soonest(&self, jobs: &IndexMap<u64, Job, RandomState>) -> u64
+    pub(crate) fn soonest(&self, jobs: &JobMap) -> u64
         requires { Marked jobs.now.entries self.now.marks }
         ensures { (n : ℕ) (live : Live) → find_job jobs.now.entries n ≡ Some live → IsSoon result live }
     {
