@@ -9,7 +9,7 @@ ghost use Rattle.gm_jobs.specs.Uniques.{digest_of, cell_behind, IsFreeFor, Reach
 use crate::by_number::JobMap;
 use crate::job::joins;
 use std::alloc::{AllocError, Global};
-use std::hash::{BuildHasher, RandomState};
+use std::hash::{BuildHasher, Hasher, RandomState};
 use std::marker::Model;
 
 // The hash of a function and a unique id, and the number of a job that has them, or had them. A digest of 0
@@ -46,7 +46,10 @@ pub(crate) fn digest(seed: &RandomState, f: u32, unique: &[u8]) -> u64
     ensures value { result ≡ digest_of seed.now f unique.now }
     ensures some { 0 < result }
 {
-    seed.hash_one((f, unique)).max(1)
+    let mut hasher = seed.build_hasher();
+    hasher.write_u64(u64::from(f));
+    hasher.write(unique);
+    hasher.finish().max(1)
 }
 
 // The cell that is k behind `home`, where the first follows the last.
