@@ -1,5 +1,5 @@
 -- What is true of jobs, and of what is kept beside them.
-use Rattle.std.proofs.Common.{◌≡◌, ◌≢◌, ℕ, zero, suc, ◌+◌, ◌^◌, ◌<◌, ◌≤◌, ◌⊎◌, inl, inr, Bool, true, false, cond, not, ◌==◌, ◌&&◌, if◌then◌else◌, List, [], ◌∷◌, length, filter, Contains, Option, Some, None, IsSome, IfSome, is_some, Result, Ok, Err, IsOk, IfOk, OnOk, OnErr, refl, sym, ap, subst, ◌∙◌, arith}
+use Rattle.std.proofs.Common.{◌≡◌, ◌≢◌, ℕ, zero, suc, ◌+◌, ◌^◌, ◌<◌, ◌≤◌, ◌⊎◌, inl, inr, Bool, true, false, cond, not, ◌==◌, ◌&&◌, ◌||◌, if◌then◌else◌, List, [], ◌∷◌, length, filter, Contains, Option, Some, None, IsSome, IfSome, is_some, Result, Ok, Err, IsOk, IfOk, OnOk, OnErr, refl, sym, ap, subst, ◌∙◌, arith}
 use Rattle.std.specs.Option.{option_map, unwrap_or, SomeIff}
 use Rattle.gm_jobs.specs.declared.jobs.Jobs.TheInside.{Inside}
 use Rattle.std.proofs.lemmas.List.Elements.{All-contains, filter_passes}
@@ -7,12 +7,12 @@ use Rattle.gm_jobs.proofs.MarkLemmas.{Contains-from_filter}
 use Rattle.std.proofs.lemmas.Bool.{cases_lt, cases_eq, true≢false, false≢true}
 use Rattle.std.proofs.lemmas.Bool.Decides.{nat_tests}
 use Rattle.gm_notes.specs.Jobs.{joins}
-use Rattle.gm_jobs.specs.Live.{Live, is_named, is_due, is_reached, listed, without_listener}
+use Rattle.gm_jobs.specs.Live.{Live, is_named, is_due, is_orphan, is_reached, listed, without_listener}
 use Rattle.gm_jobs.specs.Tables.{Room, find_job, passes}
 use Rattle.gm_jobs.specs.Changes.{ChangesJob, LeavesOne, LeavesSome}
 use Rattle.gm_jobs.specs.declared.marks.Mark.{Mark}
 use Rattle.gm_jobs.specs.declared.marks.Sign.{Sign}
-use Rattle.gm_jobs.specs.Marks.{MarkTable, Marked, MarkedBut, is_marked, sign_of, mark_of, IsSoon}
+use Rattle.gm_jobs.specs.Marks.{MarkTable, Marked, MarkedBut, is_marked, sign_at, sign_of, until_of, mark_of, IsSoon}
 use Rattle.gm_jobs.specs.Listening.{Lists, Heard}
 use Rattle.std.specs.Str.{bytes_eq}
 use Rattle.std.proofs.lemmas.Slice.Eq.{bytes_eq-Decides}
@@ -431,6 +431,16 @@ kept_ended b n old new marks room spare spare' k gone shorter more others wide =
         at : (t : Bool) → t ≡ true → find_job new m ≡ (if t then None else find_job old m) → ⊥
         at true is g = cc
         at false is g = absurd (false≢true is)
+
+-- a moment that no mark's is before is no later than a deadline
+pub soon_of : (marks : List Mark) (jobs : List (ℕ × Live)) (soonest : ℕ) → Marked jobs marks → ((m : Mark) → Contains marks m → soonest ≤ until_of m.sign) → (n : ℕ) (live : Live) → find_job jobs n ≡ Some live → IsSoon soonest live
+soon_of marks jobs soonest marked least n live found deadline runs is = at live.slot refl runs
+  where
+    at : (s : Option ℕ) → live.slot ≡ s → is_some s ≡ true → soonest ≤ deadline
+    at None e r = absurd (false≢true r)
+    at (Some c) e r =
+        let same : until_of (sign_of live) ≡ deadline = (λ i. until_of (sign_at (e i) (unwrap_or (is i) 18446744073709551615) (is_orphan live))) in
+        subst (λ d. soonest ≤ d) same (least (mark_of n live) (marked n live found (ap (λ b. b || is_orphan live) runs)))
 
 -- before the soonest deadline none is reached
 pub not_due : (soonest now : ℕ) (live : Live) → IsSoon soonest live → now < soonest → is_due now live ≡ false

@@ -2,6 +2,7 @@
 use Rattle.std.proofs.Common.{◌≡◌, ◌≢◌, ℕ, zero, suc, ◌+◌, ◌-◌, ◌<◌, ◌≤◌, ◌⊎◌, inl, inr, Bool, true, false, cond, not, ◌&&◌, ◌||◌, List, [], ◌∷◌, length, set, insert, take, drop, filter, map, Contains, Option, Some, None, is_some, IsSome, nat_eq, refl, sym, ap, subst, ◌∙◌, arith}
 use Rattle.std.specs.List.{AllByRecursion, IsDistinct, list_any}
 use Rattle.std.specs.Map.{lookup}
+use Rattle.std.specs.Option.{unwrap_or}
 use Rattle.std.specs.Cmp.{nat_eq_equiv}
 use Rattle.std.proofs.lemmas.List.{get_or_default, length-map, take-append-drop}
 use Rattle.std.proofs.lemmas.List.Elements.{Contains-append_left, Contains-append_right, Contains-append_cases}
@@ -14,8 +15,8 @@ use Rattle.gm_jobs.specs.declared.marks.Query.{Query}
 use Rattle.gm_jobs.specs.declared.marks.Query.TheVariants.{RunBy, Orphan, Due}
 use Rattle.gm_jobs.specs.Live.{Live, is_at, is_orphan, is_reached}
 use Rattle.gm_jobs.specs.Tables.{find_job, passes}
-use Rattle.gm_jobs.specs.Marks.{Rises, is_marked, mark_of, sign_at, mark_at, number_at, IsPlaceFor, Marked, AllLive}
-use Rattle.gm_jobs.specs.Queries.{meets, may_meet, runs_at, runs, is_unwanted}
+use Rattle.gm_jobs.specs.Marks.{Rises, is_marked, mark_of, sign_at, runs_until, mark_at, number_at, IsPlaceFor, Marked, AllLive}
+use Rattle.gm_jobs.specs.Queries.{meets, may_meet, runs_at, runs_no_longer_than, is_unwanted}
 
 all_at : (n : ℕ) (xs : List Mark) (k : ℕ) → AllByRecursion (λ y. n < y.number) xs → k < length xs → n < number_at xs k
 all_at n [] k all h = absurd (omega arith)
@@ -256,19 +257,20 @@ meets_marked (Due now) live h = at (is_some live.slot) _ (is_orphan live) h
 meets_may : (q : Query) (n : ℕ) (live : Live) → meets q live ≡ true → may_meet q (mark_of n live) ≡ true
 meets_may (RunBy c) n live h = at live.slot (is_orphan live) h
   where
-    at : (s : Option ℕ) (b : Bool) → is_at c s ≡ true → runs_at c (sign_at s b) ≡ true
+    at : (s : Option ℕ) (b : Bool) → is_at c s ≡ true → runs_at c (sign_at s (runs_until live) b) ≡ true
     at None b e = absurd (false≢true e)
     at (Some d) b e = e
 meets_may Orphan n live h = at live.slot (not live.kept) _ h
   where
-    at : (s : Option ℕ) (b d : Bool) → (not (is_some s) && b && d) ≡ true → is_unwanted (sign_at s (not (is_some s) && b && d)) ≡ true
-    at None b d e = ap (λ o. is_unwanted (sign_at None o)) e
+    at : (s : Option ℕ) (b d : Bool) → (not (is_some s) && b && d) ≡ true → is_unwanted (sign_at s (runs_until live) (not (is_some s) && b && d)) ≡ true
+    at None b d e = ap (λ o. is_unwanted (sign_at None (runs_until live) o)) e
     at (Some c) b d e = absurd (false≢true e)
-meets_may (Due now) n live h = at live.slot (is_reached now live.deadline) (is_orphan live) h
+meets_may (Due now) n live h = at live.slot live.deadline (is_orphan live) h
   where
-    at : (s : Option ℕ) (b o : Bool) → (is_some s && b) ≡ true → runs (sign_at s o) ≡ true
-    at None b o e = absurd (false≢true e)
-    at (Some c) b o e = refl
+    at : (s d : Option ℕ) (o : Bool) → (is_some s && is_reached now d) ≡ true → runs_no_longer_than now (sign_at s (unwrap_or d 18446744073709551615) o) ≡ true
+    at None d o e = absurd (false≢true e)
+    at (Some c) None o e = absurd (false≢true e)
+    at (Some c) (Some d) o e = e
 
 both : (a b : Bool) → a ≡ true → b ≡ true → (a && b) ≡ true
 both true b e f = f

@@ -1,5 +1,5 @@
 -- What may be asked of a job, to find the next one.
-use Rattle.std.specs.Prelude.{ℕ, Bool, true, false, ◌==◌}
+use Rattle.std.specs.Prelude.{ℕ, Bool, true, false, ◌==◌, nat_le}
 use Rattle.gm_jobs.specs.declared.marks.Mark.{Mark}
 use Rattle.gm_jobs.specs.declared.marks.Sign.{Sign}
 use Rattle.gm_jobs.specs.declared.marks.Sign.TheVariants.{Runs, Unwanted, Nothing}
@@ -13,17 +13,17 @@ meets Orphan live = is_orphan live
 meets (Due now) live = is_due now live
 
 abbrev pub runs_at : ℕ → Sign → Bool
-runs_at slot (Runs c) = c == slot
+runs_at slot (Runs c until) = c == slot
 runs_at slot Unwanted = false
 runs_at slot Nothing = false
 
-abbrev pub runs : Sign → Bool
-runs (Runs c) = true
-runs Unwanted = false
-runs Nothing = false
+abbrev pub runs_no_longer_than : ℕ → Sign → Bool
+runs_no_longer_than now (Runs c until) = nat_le until now
+runs_no_longer_than now Unwanted = false
+runs_no_longer_than now Nothing = false
 
 abbrev pub is_unwanted : Sign → Bool
-is_unwanted (Runs c) = false
+is_unwanted (Runs c until) = false
 is_unwanted Unwanted = true
 is_unwanted Nothing = false
 
@@ -31,4 +31,4 @@ is_unwanted Nothing = false
 abbrev pub may_meet : Query → Mark → Bool
 may_meet (RunBy slot) mark = runs_at slot mark.sign
 may_meet Orphan mark = is_unwanted mark.sign
-may_meet (Due now) mark = runs mark.sign
+may_meet (Due now) mark = runs_no_longer_than now mark.sign

@@ -120,12 +120,6 @@ impl Job {
         self.listeners.as_slice()
     }
 
-    pub(crate) fn deadline(&self) -> Option<u64>
-        ensures { result ≡ self.now.deadline }
-    {
-        self.deadline
-    }
-
     pub(crate) fn is_named(&self, f: u32, unique: &[u8]) -> bool
         ensures { result ≡ is_named f unique.now self.now }
     {
@@ -158,7 +152,7 @@ impl Job {
         ensures { result ≡ sign_of self.now }
     {
         match self.slot {
-            Some(slot) => Sign::Runs(slot),
+            Some(slot) => Sign::Runs(slot, self.deadline.unwrap_or(u64::MAX)),
             None => {
                 if self.is_orphan() {
                     Sign::Unwanted

@@ -428,7 +428,7 @@ impl Jobs {
         }
         let found = self.marks.next(&self.jobs, Query::Due(now), after);
         if found.is_none() {
-            self.soonest = self.marks.soonest(&self.jobs);
+            self.soonest = self.marks.soonest();
         }
         found
     }

@@ -4,7 +4,7 @@ ghost use Rattle.std.specs.Prelude.{◌≡◌, ℕ, ◌+◌, ◌<◌, ◌≤◌,
 ghost use Rattle.std.specs.Option.{option_map};
 ghost use Rattle.gm_jobs.specs.Live.{Live};
 ghost use Rattle.gm_jobs.specs.Tables.{find_job, passes, IsNext, IsLast};
-ghost use Rattle.gm_jobs.specs.Marks.{is_marked, sign_of, number_at, Rises, IsPlaceFor, HasRoomFor, Marked, MarkedBut, AllLive, IsSoon};
+ghost use Rattle.gm_jobs.specs.Marks.{is_marked, sign_of, until_of, number_at, Rises, IsPlaceFor, HasRoomFor, Marked, MarkedBut, AllLive};
 ghost use Rattle.gm_jobs.specs.Queries.{meets, may_meet};
 
 use crate::by_number::JobMap;
@@ -14,8 +14,8 @@ use std::marker::Model;
 /// Why a job has a mark.
 #[derive(Clone, Copy)]
 pub(crate) enum Sign {
-    /// It runs at this slot.
-    Runs(u32),
+    /// It runs at this slot, until this moment: the last, where it has no deadline.
+    Runs(u32, u64),
     /// It waits, and nobody wants it.
     Unwanted,
     /// Nothing is asked for at this mark: it stands until there are enough of its kind to go together.
@@ -75,6 +75,18 @@ fn is_marked(jobs: &JobMap, number: u64) -> bool
     }
 }
 
+impl Sign {
+    // The moment until which the job runs.
+    fn until(self) -> u64
+        ensures { result ≡ until_of self }
+    {
+        match self {
+            Sign::Runs(_, until) => until,
+            Sign::Unwanted | Sign::Nothing => u64::MAX,
+        }
+    }
+}
+
 impl Query {
     // Whether the job of a mark may be what is asked for.
     fn may_meet(self, mark: Mark) -> bool
@@ -82,15 +94,15 @@ impl Query {
     {
         match self {
             Query::RunBy(slot) => match mark.sign {
-                Sign::Runs(c) => c == slot,
+                Sign::Runs(c, _) => c == slot,
                 Sign::Unwanted | Sign::Nothing => false,
             },
             Query::Orphan => match mark.sign {
                 Sign::Unwanted => true,
-                Sign::Runs(_) | Sign::Nothing => false,
+                Sign::Runs(_, _) | Sign::Nothing => false,
             },
-            Query::Due(_) => match mark.sign {
-                Sign::Runs(_) => true,
+            Query::Due(now) => match mark.sign {
+                Sign::Runs(_, until) => until <= now,
                 Sign::Unwanted | Sign::Nothing => false,
             },
         }
@@ -257,17 +269,12 @@ impl Marks {
     }
 
     /// A moment before which no job's deadline is reached: that of the soonest.
-    pub(crate) fn soonest(&self, jobs: &JobMap) -> u64
-        requires { Marked jobs.now.entries self.now.marks }
-        ensures { (n : ℕ) (live : Live) → find_job jobs.now.entries n ≡ Some live → IsSoon result live }
+    pub(crate) fn soonest(&self) -> u64
+        ensures { (m : Mark) → Contains self.now.marks m → result ≤ until_of m.sign }
     {
         let mut soonest = u64::MAX;
         for i in 0..self.marks.len() {
-            if let Some(job) = jobs.get(&self.marks[i].number) {
-                if let Some(deadline) = job.deadline() {
-                    soonest = soonest.min(deadline);
-                }
-            }
+            soonest = soonest.min(self.marks[i].sign.until());
         }
         soonest
     }

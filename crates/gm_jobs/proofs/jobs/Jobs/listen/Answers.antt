@@ -21,9 +21,9 @@ never true k n m h = refl
 never false true n m h = refl
 never false false n m h = grind (arith, nat_tests)
 
-same_sign : (s : Option ℕ) (a b : Bool) → a ≡ false → (is_some s || a) ≡ true → sign_at s a ≡ sign_at s b
-same_sign None a b isnt e = absurd (true≢false (sym e ∙ isnt))
-same_sign (Some c) a b isnt e = refl
+same_sign : (s : Option ℕ) (until : ℕ) (a b : Bool) → a ≡ false → (is_some s || a) ≡ true → sign_at s until a ≡ sign_at s until b
+same_sign None until a b isnt e = absurd (true≢false (sym e ∙ isnt))
+same_sign (Some c) until a b isnt e = refl
 
 pub invariant_of-self : goal.invariant_of-self
 invariant_of-self c =
@@ -38,7 +38,7 @@ invariant_of-self-2 c =
       | inl change ↦
           kept_changed (beside t) c.args.n (with_listener c.args.slot) t.jobs.entries c.listen_job.new.jobs.entries t.marks c.add.new.self t.soonest t.space _ _ c.self.invariant change
           (λ l. refl) (λ l. refl) c.listen_job.ensures.spare refl
-          (marked_changed c.args.n (with_listener c.args.slot) t.jobs.entries c.listen_job.new.jobs.entries t.marks change (marked_of (beside t) t.jobs.entries t.space _ c.self.invariant) (λ l e. same_sign l.slot _ _ (never (is_some l.slot) l.kept (length l.listeners) (length (l.listeners ++ c.args.slot ∷ [])) (length-append l.listeners (c.args.slot ∷ []))) e)
+          (marked_changed c.args.n (with_listener c.args.slot) t.jobs.entries c.listen_job.new.jobs.entries t.marks change (marked_of (beside t) t.jobs.entries t.space _ c.self.invariant) (λ l e. same_sign l.slot _ _ _ (never (is_some l.slot) l.kept (length l.listeners) (length (l.listeners ++ c.args.slot ∷ [])) (length-append l.listeners (c.args.slot ∷ []))) e)
           (λ l e. still (is_some l.slot) l.kept (length l.listeners) (length (l.listeners ++ c.args.slot ∷ [])) (length-append l.listeners (c.args.slot ∷ [])) e))
           c.add.ensures.kept
           (λ l d there. elim (Contains-push_cases l.listeners c.args.slot d there) [
