@@ -112,17 +112,28 @@ fn assert_report(rt: &impl Abort, jobs: &Jobs) {
     }
 }
 
+// Each call that may want memory, and what comes of it.
+fn call_each(rt: &impl Abort, jobs: &mut Jobs) -> Result<(), AllocError> {
+    make_two(rt, jobs);
+    find_two(rt, jobs);
+    listen_and_leave(rt, jobs)?;
+    run_and_return(rt, jobs);
+    jobs.report(2, b"3", b"100")?;
+    assert_report(rt, jobs);
+    jobs.end(1);
+    assert_places(rt, jobs);
+    Ok(())
+}
+
+fn call_each_anew(rt: &impl Abort, alloc: Global, seed: RandomState) -> Result<(), AllocError> {
+    let mut jobs = Jobs::new(alloc, seed, 1)?;
+    call_each(rt, &mut jobs)
+}
+
 #[test]
 fn jobs_ample(rt: HostRuntime) -> Result<(), Fail> {
-    let mut jobs = Jobs::new(rt.alloc(), RandomState::new(&rt)?, 1)?;
-    make_two(&rt, &mut jobs);
-    find_two(&rt, &jobs);
-    listen_and_leave(&rt, &mut jobs)?;
-    run_and_return(&rt, &mut jobs);
-    jobs.report(2, b"3", b"100")?;
-    assert_report(&rt, &jobs);
-    jobs.end(1);
-    assert_places(&rt, &jobs);
+    let seed = RandomState::new(&rt)?;
+    call_each_anew(&rt, rt.alloc(), seed)?;
     Ok(())
 }
 
@@ -335,7 +346,7 @@ fn call_often(rt: &impl Abort, jobs: &mut Jobs, plain: &mut Plain) {
     }
 }
 
-fn call_a_new_table(rt: &impl Abort, alloc: Global, seed: RandomState) -> Result<(), AllocError> {
+fn call_often_anew(rt: &impl Abort, alloc: Global, seed: RandomState) -> Result<(), AllocError> {
     let mut jobs = Jobs::new(alloc, seed, 7)?;
     let mut plain = Plain::new(alloc);
     call_often(rt, &mut jobs, &mut plain);
@@ -345,6 +356,6 @@ fn call_a_new_table(rt: &impl Abort, alloc: Global, seed: RandomState) -> Result
 #[test]
 fn random_jobs(rt: HostRuntime) -> Result<(), Fail> {
     let seed = RandomState::new(&rt)?;
-    call_a_new_table(&rt, rt.alloc(), seed)?;
+    call_often_anew(&rt, rt.alloc(), seed)?;
     Ok(())
 }
