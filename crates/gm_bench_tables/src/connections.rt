@@ -1,13 +1,15 @@
 //! Rounds over the table of connections.
 
+ghost use Rattle.std.specs.Prelude.{◌≤◌, IfOk};
+
+use crate::rounds::{Outcome, Rounds, timed};
 use crate::stop::{Stop, of_opening};
 use gm_conns::Conns;
 use gm_notes::Phase;
-use std::alloc::Global;
 
 /// What a round does.
-#[derive(Clone, Copy, Debug, PartialEq, Eq, Drop)]
-pub enum Turn {
+#[derive(Clone, Copy, Drop)]
+pub(crate) enum Turn {
     /// A connection goes, and another comes.
     OpenClose,
     /// A worker sleeps, is found among the sleepers, and is woken.
@@ -18,16 +20,26 @@ pub enum Turn {
     Ability,
 }
 
+/// A table of connections, and what a round does with it.
+#[derive(Drop)]
+struct ConnRounds {
+    conns: Conns,
+    turn: Turn,
+}
+
 /// The function that all connections can do but the first.
 const COMMON: u32 = 1;
 
 /// The function that the first can do.
 const RARE: u32 = 0;
 
-const ANSWER: [u8; 100] = [b'x'; 100];
+static ANSWER: [u8; 100] = [b'x'; 100];
 
 fn open(conns: &mut Conns) -> Result<u32, Stop> {
-    conns.open(b"127.0.0.1").map_err(of_opening)
+    match conns.open(b"127.0.0.1") {
+        Ok(slot) => Ok(slot),
+        Err(error) => Err(of_opening(error)),
+    }
 }
 
 /// The connection in the slot can do a function, and sleeps.
@@ -40,18 +52,25 @@ fn sleeps(conns: &mut Conns, slot: u32, f: u32) -> Result<(), Stop> {
     Ok(())
 }
 
-/// So many connections, each asleep; all can do one function, but the first, which can do another.
-pub(crate) fn crowd(alloc: Global, size: u64) -> Result<Conns, Stop> {
-    let slots = match u32::try_from(size) {
-        Ok(slots) if slots <= 1024 => slots,
-        _ => return Err(Stop::Words),
-    };
-    let mut conns = Conns::new(alloc, slots)?;
+fn open_sleeper(conns: &mut Conns) -> Result<(), Stop> {
+    let slot = open(conns)?;
+    let f = if slot == 0 { RARE } else { COMMON };
+    sleeps(conns, slot, f)
+}
+
+/// So many connections come, each asleep; all can do one function, but the first, which can do another.
+fn crowd(conns: &mut Conns, slots: u32) -> Result<(), Stop> {
     for _ in 0..slots {
-        let slot = open(&mut conns)?;
-        sleeps(&mut conns, slot, if slot == 0 { RARE } else { COMMON })?;
+        open_sleeper(conns)?;
     }
-    Ok(conns)
+    Ok(())
+}
+
+/// No slot is touched any more.
+fn settle(conns: &mut Conns, slots: u32) {
+    for _ in 0..slots {
+        let _touched = conns.take_touched();
+    }
 }
 
 fn open_close(conns: &mut Conns, slot: u32) -> Result<u64, Stop> {
@@ -75,17 +94,30 @@ fn sleep_wake(conns: &mut Conns) -> Result<u64, Stop> {
     }
 }
 
-fn answer(conns: &mut Conns, slot: u32) -> Result<u64, Stop> {
+fn queue_answer(conns: &mut Conns, slot: u32) -> Result<(), Stop> {
     if !conns.is_open(slot) {
         return Err(Stop::Broken);
     }
-    conns.reserve_out(slot, ANSWER.len())?;
-    conns.put_out(slot, &ANSWER);
+    let answer = ANSWER.as_slice();
+    conns.reserve_out(slot, answer.len())?;
+    conns.put_out(slot, answer);
+    Ok(())
+}
+
+fn drained(conns: &mut Conns, slot: u32) -> Result<u64, Stop> {
+    if !conns.is_open(slot) {
+        return Err(Stop::Broken);
+    }
+    Ok(conns.drain(slot).len() as u64)
+}
+
+fn answer(conns: &mut Conns, slot: u32) -> Result<u64, Stop> {
+    queue_answer(conns, slot)?;
     let touched = conns.take_touched();
-    let drained = conns.drain(slot);
+    let drained = drained(conns, slot)?;
     let _again = conns.take_touched();
     match touched {
-        Some(_) => Ok(drained.len() as u64),
+        Some(_) => Ok(drained),
         None => Ok(0),
     }
 }
@@ -109,16 +141,51 @@ fn turn_once(conns: &mut Conns, turn: Turn, slot: u32) -> Result<u64, Stop> {
     }
 }
 
-/// Runs so many rounds at one slot in the middle, and answers the sum of what came of them.
-pub(crate) fn rounds(conns: &mut Conns, rounds: u64, turn: Turn) -> Result<u64, Stop> {
-    let slots = conns.slots();
-    for _ in 0..slots {
-        let _touched = conns.take_touched();
-    }
-    let slot = slots / 2;
+/// Runs so many rounds at one slot, and answers the sum of what came of them.
+fn run(conns: &mut Conns, rounds: u64, turn: Turn, slot: u32) -> Result<u64, Stop> {
     let mut sum: u64 = 0;
     for _ in 0..rounds {
         sum = sum.wrapping_add(turn_once(conns, turn, slot)?);
     }
     Ok(sum)
+}
+
+impl Rounds for ConnRounds {
+    fn run(&mut self, rounds: u64) -> Result<u64, Stop> {
+        let slot = self.conns.slots() / 2;
+        run(&mut self.conns, rounds, self.turn, slot)
+    }
+}
+
+fn fill_and_time(
+    rt: &HostRuntime,
+    table: &mut ConnRounds,
+    slots: u32,
+    rounds: u64,
+) -> Result<Outcome, Stop> {
+    crowd(&mut table.conns, slots)?;
+    settle(&mut table.conns, slots);
+    timed(rt, table, rounds)
+}
+
+fn slots_of(size: u64) -> Result<u32, Stop>
+    ensures { IfOk result (λ slots. slots ≤ 1024) }
+{
+    if size > 1024 {
+        return Err(Stop::Words);
+    }
+    Ok(size as u32)
+}
+
+/// Runs so many rounds on a table where so many slots are open, at one slot in the middle.
+pub(crate) fn measure(
+    rt: &HostRuntime,
+    turn: Turn,
+    size: u64,
+    rounds: u64,
+) -> Result<Outcome, Stop> {
+    let slots = slots_of(size)?;
+    let conns = Conns::new(rt.alloc(), slots)?;
+    let mut table = ConnRounds { conns, turn };
+    fill_and_time(rt, &mut table, slots, rounds)
 }

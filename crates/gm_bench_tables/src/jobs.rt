@@ -1,14 +1,14 @@
 //! Rounds over the table of jobs.
 
+use crate::rounds::{Outcome, Rounds, timed};
 use crate::stop::{Stop, of_reserving};
 use gm_jobs::{Jobs, NewJob};
 use gm_notes::Priority;
-use std::alloc::Global;
 use std::hash::RandomState;
 
 /// What a round does.
-#[derive(Clone, Copy, Debug, PartialEq, Eq, Drop)]
-pub enum Turn {
+#[derive(Clone, Copy, Drop)]
+pub(crate) enum Turn {
     /// A job with a unique id is made, and the oldest ends.
     MakeEnd,
     /// A job is found by its unique id, and looked at.
@@ -23,13 +23,24 @@ pub enum Turn {
     DueNothing,
 }
 
-const BODY: [u8; 16] = [b'x'; 16];
+/// A table of jobs, and what a round does with it.
+#[derive(Drop)]
+struct JobRounds {
+    jobs: Jobs,
+    turn: Turn,
+    size: u64,
+}
+
+static BODY: [u8; 16] = [b'x'; 16];
 
 /// The slot that listens and leaves.
 const LISTENER: u32 = 7;
 
 /// The slot where jobs run.
 const RUNNER: u32 = 9;
+
+/// A moment that is far.
+const FAR: u64 = 1 << 40;
 
 /// A unique id of 16 bytes.
 fn id_of(number: u64) -> [u8; 16] {
@@ -41,47 +52,60 @@ fn id_of(number: u64) -> [u8; 16] {
 /// A job is made, of whose unique id there is none. Where nobody listens it is kept.
 fn make(jobs: &mut Jobs, number: u64, listener: Option<u32>) -> Result<u64, Stop> {
     let unique = id_of(number);
+    jobs.reserve(0, 16, 16).map_err(of_reserving)?;
     if jobs.by_unique(0, &unique).is_some() {
         return Err(Stop::Broken);
     }
-    jobs.reserve(0, 16, 16).map_err(of_reserving)?;
     Ok(jobs.insert_reserved(NewJob {
         f: 0,
         p: Priority::Normal,
         unique: &unique,
-        body: &BODY,
+        body: BODY.as_slice(),
         kept: listener.is_none(),
         listener,
     }))
 }
 
-/// A table where so many jobs wait, from number 1 on. Where nothing is to be due they run, until a moment that is far.
-pub(crate) fn filled(
-    alloc: Global,
-    seed: RandomState,
-    size: u64,
-    turn: Turn,
-) -> Result<Jobs, Stop> {
-    let mut jobs = Jobs::new(alloc, seed, 1)?;
+/// So many jobs come to wait, from number 1 on.
+fn fill(jobs: &mut Jobs, size: u64) -> Result<(), Stop> {
     for index in 0..size {
-        let number = make(&mut jobs, index.wrapping_add(1), None)?;
-        if turn == Turn::DueNothing {
-            jobs.assign(number, RUNNER, Some(1 << 40));
-        }
+        let _number = make(jobs, index.wrapping_add(1), None)?;
     }
-    Ok(jobs)
+    Ok(())
 }
 
-fn orphan(jobs: &mut Jobs, number: u64) -> Result<u64, Stop> {
-    let made = make(jobs, number, Some(LISTENER))?;
-    jobs.leave(LISTENER);
-    match jobs.next_orphan(0) {
-        Some(found) => {
-            jobs.end(found);
-            Ok(found.wrapping_sub(made).wrapping_add(1))
-        }
-        None => Err(Stop::Broken),
+/// These jobs run, until a moment that is far.
+fn assign_all(jobs: &mut Jobs, size: u64) {
+    for index in 0..size {
+        jobs.assign(index.wrapping_add(1), RUNNER, Some(FAR));
     }
+}
+
+fn make_end(jobs: &mut Jobs, next: u64, oldest: u64) -> Result<u64, Stop> {
+    let made = make(jobs, next, None)?;
+    jobs.end(oldest);
+    Ok(made.wrapping_sub(next).wrapping_add(1))
+}
+
+fn body_len(jobs: &Jobs, number: u64) -> u64 {
+    match jobs.by_number(number) {
+        Some(job) => job.body().len() as u64,
+        None => 0,
+    }
+}
+
+fn find(jobs: &Jobs, number: u64) -> u64 {
+    match jobs.by_unique(0, &id_of(number)) {
+        Some(found) => body_len(jobs, found),
+        None => 0,
+    }
+}
+
+fn assign_return(jobs: &mut Jobs, number: u64) -> u64 {
+    jobs.assign(number, RUNNER, Some(FAR));
+    let first = jobs.next_run_by(RUNNER, 0).unwrap_or(0);
+    jobs.give_back(number);
+    u64::from(first == number)
 }
 
 fn listen_leave(jobs: &mut Jobs, number: u64) -> Result<u64, Stop> {
@@ -91,47 +115,72 @@ fn listen_leave(jobs: &mut Jobs, number: u64) -> Result<u64, Stop> {
     Ok(count)
 }
 
-fn find(jobs: &Jobs, number: u64) -> u64 {
-    match jobs.by_unique(0, &id_of(number)) {
-        Some(found) => match jobs.by_number(found) {
-            Some(job) => job.body().len() as u64,
-            None => 0,
-        },
-        None => 0,
+fn orphan(jobs: &mut Jobs, number: u64) -> Result<u64, Stop> {
+    let made = make(jobs, number, Some(LISTENER))?;
+    jobs.leave(LISTENER);
+    let found = jobs.next_orphan(0).unwrap_or(0);
+    jobs.end(found);
+    Ok(found.wrapping_sub(made).wrapping_add(1))
+}
+
+fn due_nothing(jobs: &mut Jobs) -> u64 {
+    jobs.due(5, 0).unwrap_or(1)
+}
+
+/// A round: the number of the round, and that of a job that lives.
+fn turn_once(jobs: &mut Jobs, turn: Turn, next: u64, live: u64) -> Result<u64, Stop> {
+    match turn {
+        Turn::MakeEnd => make_end(jobs, next, live),
+        Turn::Find => Ok(find(jobs, live)),
+        Turn::AssignReturn => Ok(assign_return(jobs, live)),
+        Turn::ListenLeave => listen_leave(jobs, live),
+        Turn::Orphan => orphan(jobs, next),
+        Turn::DueNothing => Ok(due_nothing(jobs)),
     }
 }
 
-/// A round: the next number to be made, and one of those that live.
-fn turn_once(jobs: &mut Jobs, turn: Turn, next: u64, live: u64) -> Result<u64, Stop> {
+/// The job that a round is about: the oldest, or one far from that of the round before.
+fn live_at(turn: Turn, size: u64, round: u64) -> u64 {
     match turn {
-        Turn::MakeEnd => {
-            let made = make(jobs, next, None)?;
-            jobs.end(live);
-            Ok(made.wrapping_sub(next).wrapping_add(1))
-        }
-        Turn::Find => Ok(find(jobs, live)),
-        Turn::AssignReturn => {
-            jobs.assign(live, RUNNER, Some(1 << 40));
-            let runs = u64::from(jobs.next_run_by(RUNNER, 0) == Some(live));
-            jobs.give_back(live);
-            Ok(runs)
-        }
-        Turn::ListenLeave => listen_leave(jobs, live),
-        Turn::Orphan => orphan(jobs, next),
-        Turn::DueNothing => Ok(jobs.due(5, 0).unwrap_or(1)),
+        Turn::MakeEnd => round.wrapping_add(1),
+        _ => (round.wrapping_mul(7919) % size.max(1)).wrapping_add(1),
     }
 }
 
 /// Runs so many rounds, and answers the sum of what came of them.
-pub(crate) fn rounds(jobs: &mut Jobs, size: u64, rounds: u64, turn: Turn) -> Result<u64, Stop> {
+fn run(jobs: &mut Jobs, size: u64, rounds: u64, turn: Turn) -> Result<u64, Stop> {
     let mut sum: u64 = 0;
     for round in 0..rounds {
         let next = size.wrapping_add(round).wrapping_add(1);
-        let live = match turn {
-            Turn::MakeEnd => round.wrapping_add(1),
-            _ => round.wrapping_mul(7919) % size.max(1) + 1,
-        };
-        sum = sum.wrapping_add(turn_once(jobs, turn, next, live)?);
+        let came = turn_once(jobs, turn, next, live_at(turn, size, round))?;
+        sum = sum.wrapping_add(came);
     }
     Ok(sum)
+}
+
+impl Rounds for JobRounds {
+    fn run(&mut self, rounds: u64) -> Result<u64, Stop> {
+        run(&mut self.jobs, self.size, rounds, self.turn)
+    }
+}
+
+fn fill_and_time(rt: &HostRuntime, table: &mut JobRounds, rounds: u64) -> Result<Outcome, Stop> {
+    fill(&mut table.jobs, table.size)?;
+    if let Turn::DueNothing = table.turn {
+        assign_all(&mut table.jobs, table.size);
+    }
+    timed(rt, table, rounds)
+}
+
+/// Runs so many rounds on a table where so many jobs wait. Where nothing is to be due they run.
+pub(crate) fn measure(
+    rt: &HostRuntime,
+    seed: RandomState,
+    turn: Turn,
+    size: u64,
+    rounds: u64,
+) -> Result<Outcome, Stop> {
+    let jobs = Jobs::new(rt.alloc(), seed, 1)?;
+    let mut table = JobRounds { jobs, turn, size };
+    fill_and_time(rt, &mut table, rounds)
 }

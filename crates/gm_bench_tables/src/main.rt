@@ -4,12 +4,12 @@
 mod connections;
 mod jobs;
 mod queues;
+mod rounds;
 mod stop;
 
-use std::alloc::Global;
+use rounds::Outcome;
 use std::hash::RandomState;
 use std::process::ExitCode;
-use std::time::Instant;
 use std::{env, io};
 use stop::Stop;
 
@@ -23,85 +23,67 @@ Of connections, where SIZE slots are open, at most 1024: conn_open_close, conn_s
 Of jobs, where SIZE jobs wait, or run: job_make_end, job_find, job_assign_return, job_listen_leave, job_orphan, job_due_nothing.
 ";
 
+/// A round over one of the tables.
+#[derive(Clone, Copy)]
+enum Round {
+    Queue(queues::Turn),
+    Connection(connections::Turn),
+    Job(jobs::Turn),
+}
+
 /// What can be measured, in the order in which it is listed.
-const NAMES: [&str; 12] = [
-    "queue_push_pop",
-    "queue_forget",
-    "conn_open_close",
-    "conn_sleep_wake",
-    "conn_answer",
-    "conn_ability",
-    "job_make_end",
-    "job_find",
-    "job_assign_return",
-    "job_listen_leave",
-    "job_orphan",
-    "job_due_nothing",
+static ROUNDS: [(&str, Round); 12] = [
+    ("queue_push_pop", Round::Queue(queues::Turn::PushPop)),
+    ("queue_forget", Round::Queue(queues::Turn::Forget)),
+    (
+        "conn_open_close",
+        Round::Connection(connections::Turn::OpenClose),
+    ),
+    (
+        "conn_sleep_wake",
+        Round::Connection(connections::Turn::SleepWake),
+    ),
+    ("conn_answer", Round::Connection(connections::Turn::Answer)),
+    (
+        "conn_ability",
+        Round::Connection(connections::Turn::Ability),
+    ),
+    ("job_make_end", Round::Job(jobs::Turn::MakeEnd)),
+    ("job_find", Round::Job(jobs::Turn::Find)),
+    ("job_assign_return", Round::Job(jobs::Turn::AssignReturn)),
+    ("job_listen_leave", Round::Job(jobs::Turn::ListenLeave)),
+    ("job_orphan", Round::Job(jobs::Turn::Orphan)),
+    ("job_due_nothing", Round::Job(jobs::Turn::DueNothing)),
 ];
 
-/// A table to be measured, and how.
-#[derive(Drop)]
-enum Subject {
-    Functions {
-        functions: gm_queues::Functions,
-        forgets: bool,
-    },
-    Connections {
-        conns: gm_conns::Conns,
-        turn: connections::Turn,
-    },
-    Jobs {
-        jobs: gm_jobs::Jobs,
-        size: u64,
-        turn: jobs::Turn,
-    },
+fn round_of(name: &str) -> Result<Round, Stop> {
+    for (known, round) in &ROUNDS {
+        if *known == name {
+            return Ok(*round);
+        }
+    }
+    Err(Stop::Words)
 }
 
-fn of_connections(alloc: Global, size: u64, turn: connections::Turn) -> Result<Subject, Stop> {
-    let conns = connections::crowd(alloc, size)?;
-    Ok(Subject::Connections { conns, turn })
-}
-
-fn of_functions(
-    alloc: Global,
+/// Makes the table of a round, at this size, and runs so many rounds.
+fn outcome(
+    rt: &HostRuntime,
     seed: RandomState,
+    round: Round,
     size: u64,
-    forgets: bool,
-) -> Result<Subject, Stop> {
-    let functions = queues::queued(alloc, seed, size)?;
-    Ok(Subject::Functions { functions, forgets })
-}
-
-fn of_jobs(alloc: Global, seed: RandomState, size: u64, turn: jobs::Turn) -> Result<Subject, Stop> {
-    let jobs = jobs::filled(alloc, seed, size, turn)?;
-    Ok(Subject::Jobs { jobs, size, turn })
-}
-
-/// The table of a measurement, at this size.
-fn prepared(alloc: Global, seed: RandomState, name: &str, size: u64) -> Result<Subject, Stop> {
-    match name {
-        "queue_push_pop" => of_functions(alloc, seed, size, false),
-        "queue_forget" => of_functions(alloc, seed, size, true),
-        "conn_open_close" => of_connections(alloc, size, connections::Turn::OpenClose),
-        "conn_sleep_wake" => of_connections(alloc, size, connections::Turn::SleepWake),
-        "conn_answer" => of_connections(alloc, size, connections::Turn::Answer),
-        "conn_ability" => of_connections(alloc, size, connections::Turn::Ability),
-        "job_make_end" => of_jobs(alloc, seed, size, jobs::Turn::MakeEnd),
-        "job_find" => of_jobs(alloc, seed, size, jobs::Turn::Find),
-        "job_assign_return" => of_jobs(alloc, seed, size, jobs::Turn::AssignReturn),
-        "job_listen_leave" => of_jobs(alloc, seed, size, jobs::Turn::ListenLeave),
-        "job_orphan" => of_jobs(alloc, seed, size, jobs::Turn::Orphan),
-        "job_due_nothing" => of_jobs(alloc, seed, size, jobs::Turn::DueNothing),
-        _ => Err(Stop::Words),
+    rounds: u64,
+) -> Result<Outcome, Stop> {
+    match round {
+        Round::Queue(turn) => queues::measure(rt, seed, turn, size, rounds),
+        Round::Connection(turn) => connections::measure(rt, turn, size, rounds),
+        Round::Job(turn) => jobs::measure(rt, seed, turn, size, rounds),
     }
 }
 
-/// Runs so many rounds, and answers what came of them.
-fn run_rounds(subject: &mut Subject, rounds: u64) -> Result<u64, Stop> {
-    match subject {
-        Subject::Functions { functions, forgets } => queues::rounds(functions, rounds, *forgets),
-        Subject::Connections { conns, turn } => connections::rounds(conns, rounds, *turn),
-        Subject::Jobs { jobs, size, turn } => jobs::rounds(jobs, *size, rounds, *turn),
+fn written(printed: io::Result<()>) -> Result<(), Stop> {
+    match printed {
+        Ok(()) => Ok(()),
+        Err(_) => Err(Stop::Write),
     }
 }
 
@@ -112,19 +94,19 @@ fn measure(
     size: u64,
     rounds: u64,
 ) -> Result<(), Stop> {
-    let mut subject = prepared(rt.alloc(), seed, name, size)?;
-    let start = Instant::now(rt).map_err(|_| Stop::Clock)?;
-    let sum = run_rounds(&mut subject, rounds)?;
-    let elapsed = start.elapsed(rt).map_err(|_| Stop::Clock)?;
-    let nanos = elapsed.as_nanos() / u128::from(rounds.max(1));
-    println!(rt; "{name} {size} {rounds}: sum {sum}, {nanos} ns a round").map_err(|_| Stop::Write)
+    let Outcome { sum, nanos } = outcome(rt, seed, round_of(name)?, size, rounds)?;
+    let each = nanos / u128::from(rounds.max(1));
+    written(println!(rt; "{name} {size} {rounds}: sum {sum}, {each} ns a round"))
+}
+
+fn check_one(rt: &HostRuntime, seed: RandomState, name: &str, round: Round) -> Result<(), Stop> {
+    let sum = outcome(rt, seed, round, 64, 1000)?.sum;
+    written(println!(rt; "{name} 64 1000: sum {sum}"))
 }
 
 fn check(rt: &HostRuntime, seed: RandomState) -> Result<(), Stop> {
-    for name in NAMES {
-        let mut subject = prepared(rt.alloc(), seed, name, 64)?;
-        let sum = run_rounds(&mut subject, 1000)?;
-        println!(rt; "{name} 64 1000: sum {sum}").map_err(|_| Stop::Write)?;
+    for (name, round) in &ROUNDS {
+        check_one(rt, seed, *name, *round)?;
     }
     Ok(())
 }
@@ -138,7 +120,10 @@ fn words_stop(error: io::Error) -> Stop {
 }
 
 fn number(word: &str) -> Result<u64, Stop> {
-    word.parse().map_err(|_| Stop::Words)
+    match word.parse() {
+        Ok(number) => Ok(number),
+        Err(_) => Err(Stop::Words),
+    }
 }
 
 fn run(rt: &HostRuntime) -> Result<(), Stop> {

@@ -4,20 +4,36 @@ ghost use Rattle.std.specs.Prelude.{◌≡◌, ◌++◌, [], ◌∷◌, OnOk};
 ghost use Rattle.gm_notes.specs.declared.states.Priority.TheVariants.{Normal};
 ghost use Rattle.gm_queues.specs.Tables.{queue};
 
+use crate::rounds::{Outcome, Rounds, timed};
 use crate::stop::{Stop, of_mention};
 use gm_notes::Priority;
 use gm_queues::Functions;
 use std::alloc::Global;
 use std::hash::RandomState;
 
-/// A table of one function, for which these jobs wait: 0 and its successors, so many.
-pub(crate) fn queued(alloc: Global, seed: RandomState, size: u64) -> Result<Functions, Stop> {
+/// What a round does.
+#[derive(Clone, Copy, Drop)]
+pub(crate) enum Turn {
+    /// A job comes to wait, and the first is taken.
+    PushPop,
+    /// Two jobs come to wait, the one before the last is taken out, and so is the first.
+    Forget,
+}
+
+/// A table of one function, and what a round does with it.
+#[derive(Drop)]
+struct QueueRounds {
+    functions: Functions,
+    turn: Turn,
+}
+
+/// A table of one function, for which nothing waits.
+fn empty(alloc: Global, seed: RandomState) -> Result<Functions, Stop> {
     let mut functions = Functions::new(alloc, seed, 1)?;
-    functions.mention(b"f").map_err(of_mention)?;
-    for job in 0..size {
-        push(&mut functions, job)?;
+    match functions.mention(b"f") {
+        Ok(_f) => Ok(functions),
+        Err(error) => Err(of_mention(error)),
     }
-    Ok(functions)
 }
 
 /// A job comes to wait, as the last.
@@ -29,6 +45,14 @@ fn push(functions: &mut Functions, job: u64) -> Result<(), Stop>
     }
     functions.reserve_one(0, Priority::Normal)?;
     functions.push(0, Priority::Normal, job);
+    Ok(())
+}
+
+/// These jobs come to wait: 0 and its successors, so many.
+fn fill(functions: &mut Functions, size: u64) -> Result<(), Stop> {
+    for job in 0..size {
+        push(functions, job)?;
+    }
     Ok(())
 }
 
@@ -46,7 +70,11 @@ fn pop(functions: &mut Functions) -> Result<u64, Stop> {
     }
 }
 
-/// Two jobs come to wait, the one before the last is taken out, and so is the first.
+fn push_pop(functions: &mut Functions, job: u64) -> Result<u64, Stop> {
+    push(functions, job)?;
+    pop(functions)
+}
+
 fn forget(functions: &mut Functions, job: u64) -> Result<u64, Stop> {
     push(functions, job)?;
     push(functions, job.wrapping_add(1))?;
@@ -54,18 +82,48 @@ fn forget(functions: &mut Functions, job: u64) -> Result<u64, Stop> {
     pop(functions)
 }
 
+fn turn_once(functions: &mut Functions, turn: Turn, job: u64) -> Result<u64, Stop> {
+    match turn {
+        Turn::PushPop => push_pop(functions, job),
+        Turn::Forget => forget(functions, job),
+    }
+}
+
 /// Runs so many rounds, and answers the sum of the jobs that were taken.
-pub(crate) fn rounds(functions: &mut Functions, rounds: u64, forgets: bool) -> Result<u64, Stop> {
+fn run(functions: &mut Functions, rounds: u64, turn: Turn) -> Result<u64, Stop> {
     let mut sum: u64 = 0;
     for round in 0..rounds {
         let job = round.wrapping_mul(2).wrapping_add(1 << 32);
-        let taken = if forgets {
-            forget(functions, job)?
-        } else {
-            push(functions, job)?;
-            pop(functions)?
-        };
-        sum = sum.wrapping_add(taken);
+        sum = sum.wrapping_add(turn_once(functions, turn, job)?);
     }
     Ok(sum)
+}
+
+impl Rounds for QueueRounds {
+    fn run(&mut self, rounds: u64) -> Result<u64, Stop> {
+        run(&mut self.functions, rounds, self.turn)
+    }
+}
+
+fn fill_and_time(
+    rt: &HostRuntime,
+    table: &mut QueueRounds,
+    size: u64,
+    rounds: u64,
+) -> Result<Outcome, Stop> {
+    fill(&mut table.functions, size)?;
+    timed(rt, table, rounds)
+}
+
+/// Runs so many rounds on a table where so many jobs wait.
+pub(crate) fn measure(
+    rt: &HostRuntime,
+    seed: RandomState,
+    turn: Turn,
+    size: u64,
+    rounds: u64,
+) -> Result<Outcome, Stop> {
+    let functions = empty(rt.alloc(), seed)?;
+    let mut table = QueueRounds { functions, turn };
+    fill_and_time(rt, &mut table, size, rounds)
 }

@@ -1,5 +1,5 @@
 -- What is true of jobs, and of what is kept beside them.
-use Rattle.std.proofs.Common.{◌≡◌, ◌≢◌, ℕ, zero, suc, ◌+◌, ◌^◌, ◌<◌, ◌≤◌, ◌⊎◌, inl, inr, Bool, true, false, cond, not, ◌==◌, ◌&&◌, if◌then◌else◌, List, [], ◌∷◌, length, filter, Contains, Option, Some, None, IsSome, IfSome, is_some, Result, Ok, Err, IsOk, IfOk, OnOk, OnErr, refl, sym, ap, subst, ◌∙◌, arith}
+use Rattle.std.proofs.Common.{◌≡◌, ◌≢◌, ℕ, zero, suc, ◌+◌, ◌^◌, ◌<◌, ◌≤◌, ◌⊎◌, inl, inr, Bool, true, false, cond, not, ◌==◌, ◌&&◌, ◌||◌, if◌then◌else◌, List, [], ◌∷◌, length, filter, Contains, Option, Some, None, IsSome, IfSome, is_some, Result, Ok, Err, IsOk, IfOk, OnOk, OnErr, refl, sym, ap, subst, ◌∙◌, arith}
 use Rattle.std.specs.Option.{option_map, unwrap_or, SomeIff}
 use Rattle.gm_jobs.specs.declared.jobs.Jobs.TheInside.{Inside}
 use Rattle.std.proofs.lemmas.List.Elements.{All-contains, filter_passes}
@@ -7,10 +7,12 @@ use Rattle.gm_jobs.proofs.MarkLemmas.{Contains-from_filter}
 use Rattle.std.proofs.lemmas.Bool.{cases_lt, cases_eq, true≢false, false≢true}
 use Rattle.std.proofs.lemmas.Bool.Decides.{nat_tests}
 use Rattle.gm_notes.specs.Jobs.{joins}
-use Rattle.gm_jobs.specs.Live.{Live, is_named, is_due, is_reached, listed, without_listener}
+use Rattle.gm_jobs.specs.Live.{Live, is_named, is_due, is_orphan, is_reached, listed, without_listener}
 use Rattle.gm_jobs.specs.Tables.{Room, find_job, passes}
 use Rattle.gm_jobs.specs.Changes.{ChangesJob, LeavesOne, LeavesSome}
-use Rattle.gm_jobs.specs.Marks.{MarkTable, Marked, MarkedBut, is_marked, mark_of, IsSoon}
+use Rattle.gm_jobs.specs.declared.marks.Mark.{Mark}
+use Rattle.gm_jobs.specs.declared.marks.Sign.{Sign}
+use Rattle.gm_jobs.specs.Marks.{MarkTable, Marked, MarkedBut, is_marked, sign_at, sign_of, until_of, mark_of, IsSoon}
 use Rattle.gm_jobs.specs.Listening.{Lists, Heard}
 use Rattle.std.specs.Str.{bytes_eq}
 use Rattle.std.proofs.lemmas.Slice.Eq.{bytes_eq-Decides}
@@ -248,10 +250,10 @@ pub marked_of : (b : Beside) (jobs : List (ℕ × Live)) (room : Option Room) (s
 marked_of b jobs room spare k n live e = (k.known n live e).marked
 
 -- a change that gives no job a mark leaves all marked
-pub marked_changed : (n : ℕ) (f : Live → Live) (old new : List (ℕ × Live)) (marks : MarkTable) → ChangesJob n f old new → Marked old marks.marks → ((l : Live) → (f l).slot ≡ l.slot) → ((l : Live) → is_marked (f l) ≡ true → is_marked l ≡ true) → Marked new marks.marks
-marked_changed n f old new marks change marked slot less =
+pub marked_changed : (n : ℕ) (f : Live → Live) (old new : List (ℕ × Live)) (marks : MarkTable) → ChangesJob n f old new → Marked old marks.marks → ((l : Live) → is_marked (f l) ≡ true → sign_of (f l) ≡ sign_of l) → ((l : Live) → is_marked (f l) ≡ true → is_marked l ≡ true) → Marked new marks.marks
+marked_changed n f old new marks change marked sign less =
     each_changed n f old new change (λ m live. is_marked live ≡ true → Contains marks.marks (mark_of m live)) (λ m live. is_marked live ≡ true → Contains marks.marks (mark_of m live))
-    marked (λ m live h. h) (λ live h is. subst (λ (s : Option ℕ). Contains marks.marks (record { number = n; slot = s })) (sym (slot live)) (h (less live is)))
+    marked (λ m live h. h) (λ live h is. subst (λ (s : Sign). Contains marks.marks (record { number = n; sign = s })) (sym (sign live is)) (h (less live is)))
 
 -- what is kept beside the jobs, where one changed
 pub kept_changed : (b : Beside) (n : ℕ) (f : Live → Live) (old new : List (ℕ × Live)) (marks : MarkTable) (listening : Lists) (soonest : ℕ) (room : Option Room) (spare spare' : ℕ)
@@ -411,6 +413,34 @@ kept_fewer b old new soonest room spare spare' k was shorter more soon =
     kept_names b old new b.marks b.listening soonest room spare spare' k
     (λ n live e. record { old = live; found = was n live e; function = refl; unique = refl }) shorter more refl
     (λ n live e. (k.known n live (was n live e)).marked) (λ n live e. (k.known n live (was n live e)).heard) soon (λ e. e)
+
+pub kept_ended : (b : Beside) (n : ℕ) (old new : List (ℕ × Live)) (marks : MarkTable) (room : Option Room) (spare spare' : ℕ) → IsKept b room spare old → ((m : ℕ) → find_job new m ≡ (if n == m then None else find_job old m))
+    → length new ≤ length old → spare ≤ spare' → ((y : Mark) → y.number ≢ n → Contains b.marks.marks y → Contains marks.marks y) → marks.room ≡ b.marks.room → IsKept (record b { marks = marks }) room spare' new
+kept_ended b n old new marks room spare spare' k gone shorter more others wide =
+    kept_names b old new marks b.listening b.soonest room spare spare' k
+    (λ m live e. record { old = live; found = was m live e; function = refl; unique = refl }) shorter more wide
+    (λ m live e is. others (mark_of m live) (apart m live e) ((k.known m live (was m live e)).marked is))
+    (λ m live e. (k.known m live (was m live e)).heard) (λ m live e. (k.known m live (was m live e)).soon) (λ e. e)
+  where
+    was : (m : ℕ) (live : Live) → find_job new m ≡ Some live → find_job old m ≡ Some live
+    was = removed n old new gone
+
+    apart : (m : ℕ) (live : Live) → find_job new m ≡ Some live → m ≢ n
+    apart m live e same = at (n == m) (let equal : (n == m) ≡ true = grind (arith, nat_tests) in equal) (gone m)
+      where
+        at : (t : Bool) → t ≡ true → find_job new m ≡ (if t then None else find_job old m) → ⊥
+        at true is g = cc
+        at false is g = absurd (false≢true is)
+
+-- a moment that no mark's is before is no later than a deadline
+pub soon_of : (marks : List Mark) (jobs : List (ℕ × Live)) (soonest : ℕ) → Marked jobs marks → ((m : Mark) → Contains marks m → soonest ≤ until_of m.sign) → (n : ℕ) (live : Live) → find_job jobs n ≡ Some live → IsSoon soonest live
+soon_of marks jobs soonest marked least n live found deadline runs is = at live.slot refl runs
+  where
+    at : (s : Option ℕ) → live.slot ≡ s → is_some s ≡ true → soonest ≤ deadline
+    at None e r = absurd (false≢true r)
+    at (Some c) e r =
+        let same : until_of (sign_of live) ≡ deadline = (λ i. until_of (sign_at (e i) (unwrap_or (is i) 18446744073709551615) (is_orphan live))) in
+        subst (λ d. soonest ≤ d) same (least (mark_of n live) (marked n live found (ap (λ b. b || is_orphan live) runs)))
 
 -- before the soonest deadline none is reached
 pub not_due : (soonest now : ℕ) (live : Live) → IsSoon soonest live → now < soonest → is_due now live ≡ false

@@ -2,6 +2,7 @@
 use Rattle.std.proofs.Common.{◌≡◌, ◌≢◌, ℕ, zero, suc, ◌+◌, ◌-◌, ◌<◌, ◌≤◌, ◌⊎◌, inl, inr, Bool, true, false, cond, not, ◌&&◌, ◌||◌, List, [], ◌∷◌, length, set, insert, take, drop, filter, map, Contains, Option, Some, None, is_some, IsSome, nat_eq, refl, sym, ap, subst, ◌∙◌, arith}
 use Rattle.std.specs.List.{AllByRecursion, IsDistinct, list_any}
 use Rattle.std.specs.Map.{lookup}
+use Rattle.std.specs.Option.{unwrap_or}
 use Rattle.std.specs.Cmp.{nat_eq_equiv}
 use Rattle.std.proofs.lemmas.List.{get_or_default, length-map, take-append-drop}
 use Rattle.std.proofs.lemmas.List.Elements.{Contains-append_left, Contains-append_right, Contains-append_cases}
@@ -9,12 +10,13 @@ use Rattle.std.proofs.lemmas.Bool.{cases_lt, cases_eq, true≢false, false≢tru
 use Rattle.std.proofs.lemmas.Bool.Decides.{nat_tests}
 use Rattle.std.proofs.lemmas.Map.Steps.{length-le_from_keys}
 use Rattle.gm_jobs.specs.declared.marks.Mark.{Mark}
+use Rattle.gm_jobs.specs.declared.marks.Sign.TheVariants.{Nothing}
 use Rattle.gm_jobs.specs.declared.marks.Query.{Query}
 use Rattle.gm_jobs.specs.declared.marks.Query.TheVariants.{RunBy, Orphan, Due}
-use Rattle.gm_jobs.specs.Live.{Live, is_at, is_orphan}
+use Rattle.gm_jobs.specs.Live.{Live, is_at, is_orphan, is_reached}
 use Rattle.gm_jobs.specs.Tables.{find_job, passes}
-use Rattle.gm_jobs.specs.Marks.{Rises, is_marked, mark_of, mark_at, number_at, IsPlaceFor, Marked, AllLive}
-use Rattle.gm_jobs.specs.Queries.{meets, may_meet}
+use Rattle.gm_jobs.specs.Marks.{Rises, is_marked, mark_of, sign_at, runs_until, mark_at, number_at, IsPlaceFor, Marked, AllLive}
+use Rattle.gm_jobs.specs.Queries.{meets, may_meet, runs_at, runs_no_longer_than, is_unwanted}
 
 all_at : (n : ℕ) (xs : List Mark) (k : ℕ) → AllByRecursion (λ y. n < y.number) xs → k < length xs → n < number_at xs k
 all_at n [] k all h = absurd (omega arith)
@@ -53,10 +55,10 @@ below_strictly xs at n r some w h ne k below = by (cases_lt k (at - 1))
 
 -- where a mark stands
 pub stands_at : (xs : List Mark) (m : Mark) → Contains xs m → (k : ℕ) × (k < length xs) × (mark_at xs k ≡ m)
-stands_at xs m (k, w, e) = (k, w, get_or_default xs k (record { number = 0; slot = None }) m w ∙ e)
+stands_at xs m (k, w, e) = (k, w, get_or_default xs k (record { number = 0; sign = Nothing }) m w ∙ e)
 
 pub Contains-at : (xs : List Mark) (k : ℕ) → k < length xs → Contains xs (mark_at xs k)
-Contains-at xs k w = (k, w, get_or_default xs k (mark_at xs k) (record { number = 0; slot = None }) w)
+Contains-at xs k w = (k, w, get_or_default xs k (mark_at xs k) (record { number = 0; sign = Nothing }) w)
 
 -- ---- a mark in the place of another
 
@@ -253,17 +255,22 @@ meets_marked (Due now) live h = at (is_some live.slot) _ (is_orphan live) h
 
 -- and its mark says so
 meets_may : (q : Query) (n : ℕ) (live : Live) → meets q live ≡ true → may_meet q (mark_of n live) ≡ true
-meets_may (RunBy c) n live h = h
-meets_may Orphan n live h = at (not (is_some live.slot)) _ _ h
+meets_may (RunBy c) n live h = at live.slot (is_orphan live) h
   where
-    at : (a b d : Bool) → (a && b && d) ≡ true → a ≡ true
-    at true b d e = refl
-    at false b d e = absurd (false≢true e)
-meets_may (Due now) n live h = at (is_some live.slot) _ h
+    at : (s : Option ℕ) (b : Bool) → is_at c s ≡ true → runs_at c (sign_at s (runs_until live) b) ≡ true
+    at None b e = absurd (false≢true e)
+    at (Some d) b e = e
+meets_may Orphan n live h = at live.slot (not live.kept) _ h
   where
-    at : (a b : Bool) → (a && b) ≡ true → a ≡ true
-    at true b e = refl
-    at false b e = absurd (false≢true e)
+    at : (s : Option ℕ) (b d : Bool) → (not (is_some s) && b && d) ≡ true → is_unwanted (sign_at s (runs_until live) (not (is_some s) && b && d)) ≡ true
+    at None b d e = ap (λ o. is_unwanted (sign_at None (runs_until live) o)) e
+    at (Some c) b d e = absurd (false≢true e)
+meets_may (Due now) n live h = at live.slot live.deadline (is_orphan live) h
+  where
+    at : (s d : Option ℕ) (o : Bool) → (is_some s && is_reached now d) ≡ true → runs_no_longer_than now (sign_at s (unwrap_or d 18446744073709551615) o) ≡ true
+    at None d o e = absurd (false≢true e)
+    at (Some c) None o e = absurd (false≢true e)
+    at (Some c) (Some d) o e = e
 
 both : (a b : Bool) → a ≡ true → b ≡ true → (a && b) ≡ true
 both true b e f = f

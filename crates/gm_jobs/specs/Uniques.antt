@@ -12,7 +12,7 @@ use Rattle.gm_jobs.specs.Tables.{find_job}
 
 -- the hash of a function and a unique id, which is never 0
 abbrev pub digest_of : RandomState → ℕ → List ℕ → ℕ
-digest_of seed f unique = max (finish (fold write (initial_hasher seed) (fed.u32 f ++ fed.slice fed.u8 unique))) 1
+digest_of seed f unique = max (finish (write (fold write (initial_hasher seed) (fed.u64 f)) unique)) 1
 
 abbrev pub no_cell : Cell
 no_cell = record { digest = 0; number = 0 }

@@ -4,9 +4,10 @@ ghost use Rattle.std.specs.Prelude.{◌≡◌, ◌≤◌, ◌&&◌, not, ◌==�
 ghost use Rattle.std.specs.Option.{option_map};
 ghost use Rattle.gm_jobs.specs.Live.{Live, fresh, assigned, returned, kept, reported, with_listener, without_listener, place_at, is_named, is_run_by, is_orphan, is_due};
 ghost use Rattle.gm_notes.specs.Jobs.{joins};
-ghost use Rattle.gm_jobs.specs.Marks.{is_marked};
+ghost use Rattle.gm_jobs.specs.Marks.{is_marked, sign_of};
 ghost use Rattle.gm_jobs.specs.Tables.{Room};
 
+use crate::marks::Sign;
 use gm_notes::{Place, Priority};
 use std::alloc::{AllocError, Global};
 use std::marker::Model;
@@ -119,18 +120,6 @@ impl Job {
         self.listeners.as_slice()
     }
 
-    pub(crate) fn slot(&self) -> Option<u32>
-        ensures { result ≡ self.now.slot }
-    {
-        self.slot
-    }
-
-    pub(crate) fn deadline(&self) -> Option<u64>
-        ensures { result ≡ self.now.deadline }
-    {
-        self.deadline
-    }
-
     pub(crate) fn is_named(&self, f: u32, unique: &[u8]) -> bool
         ensures { result ≡ is_named f unique.now self.now }
     {
@@ -156,6 +145,22 @@ impl Job {
         ensures { result ≡ is_marked self.now }
     {
         self.slot.is_some() || self.is_orphan()
+    }
+
+    /// What its mark says.
+    pub(crate) fn sign(&self) -> Sign
+        ensures { result ≡ sign_of self.now }
+    {
+        match self.slot {
+            Some(slot) => Sign::Runs(slot, self.deadline.unwrap_or(u64::MAX)),
+            None => {
+                if self.is_orphan() {
+                    Sign::Unwanted
+                } else {
+                    Sign::Nothing
+                }
+            }
+        }
     }
 
     pub(crate) fn is_due(&self, now: u64) -> bool

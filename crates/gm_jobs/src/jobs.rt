@@ -1,18 +1,19 @@
 //! The table of jobs.
 
 ghost use Rattle.std.specs.Prelude.{◌≡◌, ℕ, ◌+◌, ◌<◌, ◌≤◌, ◌^◌, ◌↔◌, Some, None, IsSome, IfSome, IfNone, IfOk, OnOk, OnErr, Err, Contains, length};
-ghost use Rattle.std.specs.Option.{option_copied};
+ghost use Rattle.std.specs.Option.{option_copied, option_map};
 ghost use Rattle.indexmap.specs.IndexMap.{spare};
 ghost use Rattle.gm_jobs.specs.Live.{fresh, assigned, returned, kept, reported, with_listener, without_listener, is_run_by, is_orphan, is_due};
 ghost use Rattle.gm_jobs.specs.Tables.{no_jobs, job, find_job, is_made, place, listeners_of, IsNamed, HasRoom, with_room, Makes, Changes, Ends, Leaves, IsNext, IsLast};
-ghost use Rattle.gm_jobs.specs.Marks.{Marked};
+ghost use Rattle.gm_jobs.specs.Marks.{Marked, sign_of};
 ghost use Rattle.gm_jobs.specs.Listening.{Heard};
 ghost use Rattle.gm_jobs.specs.Changes.{changed, ChangesJob, LeavesOne, LeavesSome};
 ghost use Rattle.gm_jobs.specs.Uniques.{Reached};
 
+use crate::by_number::{JobMap, NumberHash};
 use crate::job::{Job, NewJob, Space, joins};
 use crate::listening::Listening;
-use crate::marks::{Marks, Query};
+use crate::marks::{Marks, Query, Sign};
 use crate::uniques::{Uniques, digest};
 use gm_notes::Place;
 use indexmap::IndexMap;
@@ -61,7 +62,7 @@ pub struct Jobs {
     first: u64,
     // None once the last number was given out.
     next: Option<u64>,
-    jobs: IndexMap<u64, Job, RandomState>,
+    jobs: JobMap,
     uniques: Uniques,
     marks: Marks,
     listening: Listening,
@@ -93,25 +94,36 @@ pub(crate) enum Change {
     Leave(u32),
 }
 
-// Changes the job of a number, if it is live.
-fn change_job(jobs: &mut IndexMap<u64, Job, RandomState>, number: u64, change: Change)
+// Changes a job, and answers what its mark says then.
+fn make_change(job: &mut Job, change: Change) -> Sign
+    ensures job { job.new ≡ changed change job.old }
+    ensures sign { result ≡ sign_of job.new }
+{
+    match change {
+        Change::Assign(slot, deadline) => job.assign(slot, deadline),
+        Change::GiveBack => job.give_back(),
+        Change::Keep => job.keep(),
+        Change::Leave(slot) => job.leave(slot),
+    }
+    job.sign()
+}
+
+// Changes the job of a number, if it is live, and answers what its mark says then.
+fn change_job(jobs: &mut JobMap, number: u64, change: Change) -> Option<Sign>
     ensures jobs { ChangesJob number (changed change) jobs.old.entries jobs.new.entries }
     ensures spare { spare jobs.new ≡ spare jobs.old }
+    ensures sign { result ≡ option_map sign_of (find_job jobs.new.entries number) }
 {
-    if let Some(job) = jobs.get_mut(&number) {
-        match change {
-            Change::Assign(slot, deadline) => job.assign(slot, deadline),
-            Change::GiveBack => job.give_back(),
-            Change::Keep => job.keep(),
-            Change::Leave(slot) => job.leave(slot),
-        }
+    match jobs.get_mut(&number) {
+        Some(job) => Some(make_change(job, change)),
+        None => None,
     }
 }
 
 // The job of a number, if it is live, is so far.
 fn report_job(
     alloc: Global,
-    jobs: &mut IndexMap<u64, Job, RandomState>,
+    jobs: &mut JobMap,
     number: u64,
     numerator: &[u8],
     denominator: &[u8],
@@ -127,11 +139,7 @@ fn report_job(
 }
 
 // The slot listens to the job of a number, if it is live.
-fn listen_job(
-    jobs: &mut IndexMap<u64, Job, RandomState>,
-    number: u64,
-    slot: u32,
-) -> Result<(), AllocError>
+fn listen_job(jobs: &mut JobMap, number: u64, slot: u32) -> Result<(), AllocError>
     ensures ok { OnOk result (ChangesJob number (with_listener slot) jobs.old.entries jobs.new.entries) }
     ensures err { OnErr result (jobs.new.entries ≡ jobs.old.entries) }
     ensures spare { spare jobs.new ≡ spare jobs.old }
@@ -143,7 +151,7 @@ fn listen_job(
 }
 
 // The slot listens no more to the job.
-fn leave_one(jobs: &mut IndexMap<u64, Job, RandomState>, marks: &mut Marks, number: u64, slot: u32)
+fn leave_one(jobs: &mut JobMap, marks: &mut Marks, number: u64, slot: u32)
     requires room { length jobs.old.entries ≤ marks.old.room }
     requires marked { Marked jobs.old.entries marks.old.marks }
     ensures jobs { ChangesJob number (without_listener slot) jobs.old.entries jobs.new.entries }
@@ -151,17 +159,12 @@ fn leave_one(jobs: &mut IndexMap<u64, Job, RandomState>, marks: &mut Marks, numb
     ensures marked { Marked jobs.new.entries marks.new.marks }
     ensures room { marks.new.room ≡ marks.old.room }
 {
-    change_job(jobs, number, Change::Leave(slot));
-    marks.mark(jobs, number);
+    let sign = change_job(jobs, number, Change::Leave(slot));
+    marks.note(jobs, number, sign);
 }
 
 // The slot listens no more to these jobs.
-fn leave_all(
-    jobs: &mut IndexMap<u64, Job, RandomState>,
-    marks: &mut Marks,
-    numbers: &[u64],
-    slot: u32,
-)
+fn leave_all(jobs: &mut JobMap, marks: &mut Marks, numbers: &[u64], slot: u32)
     requires room { length jobs.old.entries ≤ marks.old.room }
     requires marked { Marked jobs.old.entries marks.old.marks }
     ensures left { LeavesSome slot jobs.old.entries jobs.new.entries }
@@ -176,12 +179,7 @@ fn leave_all(
 }
 
 // The slot listens no more to this job, if there is one.
-fn leave_maybe(
-    jobs: &mut IndexMap<u64, Job, RandomState>,
-    marks: &mut Marks,
-    number: Option<u64>,
-    slot: u32,
-)
+fn leave_maybe(jobs: &mut JobMap, marks: &mut Marks, number: Option<u64>, slot: u32)
     requires room { length jobs.old.entries ≤ marks.old.room }
     requires marked { Marked jobs.old.entries marks.old.marks }
     ensures left { LeavesSome slot jobs.old.entries jobs.new.entries }
@@ -200,7 +198,7 @@ fn leave_maybe(
 fn make_room(
     alloc: Global,
     seed: &RandomState,
-    jobs: &mut IndexMap<u64, Job, RandomState>,
+    jobs: &mut JobMap,
     uniques: &mut Uniques,
     marks: &mut Marks,
     listening: &mut Listening,
@@ -235,7 +233,7 @@ impl Jobs {
             seed,
             first: first_job,
             next: Some(first_job),
-            jobs: IndexMap::with_hasher(alloc, seed),
+            jobs: IndexMap::with_hasher(alloc, NumberHash::new(&seed)),
             uniques: Uniques::new(alloc),
             marks: Marks::new(alloc),
             listening: Listening::new(alloc),
@@ -278,10 +276,12 @@ impl Jobs {
         let space = self.space.take().unwrap();
         let number = self.next.unwrap();
         self.next = number.checked_add(1);
-        let _fits = self.jobs.insert(number, space.fill(self.alloc, new));
+        let job = space.fill(self.alloc, new);
+        let sign = job.sign();
+        let _fits = self.jobs.insert(number, job);
         self.uniques.enter(&self.seed, new.f, new.unique, number);
         self.listening.begin(new.listener, number);
-        self.marks.mark(&self.jobs, number);
+        self.marks.note(&self.jobs, number, Some(sign));
         number
     }
 
@@ -343,8 +343,8 @@ impl Jobs {
     pub fn assign(&mut self, n: u64, slot: u32, deadline: Option<u64>)
         ensures { Changes n (assigned slot deadline) self.old self.new }
     {
-        change_job(&mut self.jobs, n, Change::Assign(slot, deadline));
-        self.marks.mark(&self.jobs, n);
+        let sign = change_job(&mut self.jobs, n, Change::Assign(slot, deadline));
+        self.marks.note(&self.jobs, n, sign);
         self.soonest = self.soonest.min(deadline.unwrap_or(u64::MAX));
     }
 
@@ -352,8 +352,8 @@ impl Jobs {
     pub fn give_back(&mut self, n: u64)
         ensures { Changes n returned self.old self.new }
     {
-        change_job(&mut self.jobs, n, Change::GiveBack);
-        self.marks.mark(&self.jobs, n);
+        let sign = change_job(&mut self.jobs, n, Change::GiveBack);
+        self.marks.note(&self.jobs, n, sign);
     }
 
     /// The job is live no more.
@@ -361,13 +361,15 @@ impl Jobs {
         ensures { Ends n self.old self.new }
     {
         let _ended = self.jobs.swap_remove(&n);
+        self.marks.unmark(n);
     }
 
     /// A background submission keeps the job.
     pub fn keep(&mut self, n: u64)
         ensures { Changes n kept self.old self.new }
     {
-        change_job(&mut self.jobs, n, Change::Keep);
+        let sign = change_job(&mut self.jobs, n, Change::Keep);
+        self.marks.note(&self.jobs, n, sign);
     }
 
     /// The job is so far: a numerator and a denominator.
@@ -404,7 +406,6 @@ impl Jobs {
         let (list, fresh) = self.listening.take(slot);
         leave_all(&mut self.jobs, &mut self.marks, list.numbers(), slot);
         leave_maybe(&mut self.jobs, &mut self.marks, fresh, slot);
-        self.marks.tidy(&self.jobs);
     }
 
     /// The least number above `after` of a job that runs at the slot.
@@ -435,7 +436,7 @@ impl Jobs {
         }
         let found = self.marks.next(&self.jobs, Query::Due(now), after);
         if found.is_none() {
-            self.soonest = self.marks.soonest(&self.jobs);
+            self.soonest = self.marks.soonest();
         }
         found
     }

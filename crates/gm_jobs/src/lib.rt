@@ -6,6 +6,7 @@
 //! each slot the jobs that it listens to. So no call looks at all jobs that wait.
 #![tactic(auto)]
 
+mod by_number;
 mod job;
 mod jobs;
 mod listening;

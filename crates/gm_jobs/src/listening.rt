@@ -5,10 +5,8 @@ ghost use Rattle.std.specs.Vec.{vec_len};
 ghost use Rattle.gm_jobs.specs.Tables.{find_job};
 ghost use Rattle.gm_jobs.specs.Listening.{Lists, list_of, Heard};
 
-use crate::job::Job;
-use indexmap::IndexMap;
+use crate::by_number::JobMap;
 use std::alloc::{AllocError, Global};
-use std::hash::RandomState;
 use std::marker::Model;
 use std::mem;
 
@@ -42,7 +40,7 @@ impl SlotJobs {
     }
 
     // Lets go of the numbers of jobs that ended.
-    fn drop_ended(&mut self, jobs: &IndexMap<u64, Job, RandomState>)
+    fn drop_ended(&mut self, jobs: &JobMap)
         ensures { (n : ℕ) → IsSome (find_job jobs.now.entries n) → Contains self.old n → Contains self.new n }
     {
         self.numbers.retain(|number| jobs.contains_key(number));
@@ -50,7 +48,7 @@ impl SlotJobs {
 
     // Makes room for one number more: lets go of those of jobs that ended, and grows unless that made half of
     // the room free.
-    fn reserve_one(&mut self, jobs: &IndexMap<u64, Job, RandomState>) -> Result<(), AllocError>
+    fn reserve_one(&mut self, jobs: &JobMap) -> Result<(), AllocError>
         ensures { (n : ℕ) → IsSome (find_job jobs.now.entries n) → Contains self.old n → Contains self.new n }
     {
         self.drop_ended(jobs);
@@ -61,7 +59,7 @@ impl SlotJobs {
     }
 
     // One number more.
-    fn add(&mut self, jobs: &IndexMap<u64, Job, RandomState>, number: u64) -> Result<(), AllocError>
+    fn add(&mut self, jobs: &JobMap, number: u64) -> Result<(), AllocError>
         ensures kept { (n : ℕ) → IsSome (find_job jobs.now.entries n) → Contains self.old n → Contains self.new n }
         ensures ok { OnOk result (Contains self.new number) }
     {
@@ -114,12 +112,7 @@ impl Listening {
     }
 
     /// The slot listens to the job.
-    pub(crate) fn add(
-        &mut self,
-        jobs: &IndexMap<u64, Job, RandomState>,
-        slot: u32,
-        number: u64,
-    ) -> Result<(), AllocError>
+    pub(crate) fn add(&mut self, jobs: &JobMap, slot: u32, number: u64) -> Result<(), AllocError>
         ensures kept { (c n : ℕ) → IsSome (find_job jobs.now.entries n) → Heard self.old c n → Heard self.new c n }
         ensures fresh { self.new.fresh ≡ self.old.fresh }
         ensures ok { OnOk result (Contains (list_of self.new slot) number) }
@@ -130,7 +123,7 @@ impl Listening {
     }
 
     /// The slot that listens to the job that was made last comes into its list.
-    pub(crate) fn file(&mut self, jobs: &IndexMap<u64, Job, RandomState>) -> Result<(), AllocError>
+    pub(crate) fn file(&mut self, jobs: &JobMap) -> Result<(), AllocError>
         ensures kept { (c n : ℕ) → IsSome (find_job jobs.now.entries n) → Heard self.old c n → Heard self.new c n }
         ensures ok { OnOk result (self.new.fresh ≡ None) }
         ensures err { self.old.fresh ≡ None → self.new.fresh ≡ None }

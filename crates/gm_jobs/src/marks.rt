@@ -1,22 +1,32 @@
 //! The jobs that may be asked for by their order.
 
 ghost use Rattle.std.specs.Prelude.{◌≡◌, ℕ, ◌+◌, ◌<◌, ◌≤◌, ◌≢◌, true, false, [], Contains, length, IfSome, IfNone, IfOk, IfErr, OnOk, Some, IsSome};
+ghost use Rattle.std.specs.Option.{option_map};
 ghost use Rattle.gm_jobs.specs.Live.{Live};
 ghost use Rattle.gm_jobs.specs.Tables.{find_job, passes, IsNext, IsLast};
-ghost use Rattle.gm_jobs.specs.Marks.{is_marked, number_at, Rises, IsPlaceFor, HasRoomFor, Marked, MarkedBut, AllLive, IsSoon};
+ghost use Rattle.gm_jobs.specs.Marks.{is_marked, sign_of, until_of, number_at, Rises, IsPlaceFor, HasRoomFor, Marked, MarkedBut, AllLive};
 ghost use Rattle.gm_jobs.specs.Queries.{meets, may_meet};
 
-use crate::job::Job;
-use indexmap::IndexMap;
+use crate::by_number::JobMap;
 use std::alloc::{AllocError, Global};
-use std::hash::RandomState;
 use std::marker::Model;
 
-/// That a job may run at a slot, or, where there is none, that it may wait and nobody want it.
+/// Why a job has a mark.
+#[derive(Clone, Copy)]
+pub(crate) enum Sign {
+    /// It runs at this slot, until this moment: the last, where it has no deadline.
+    Runs(u32, u64),
+    /// It waits, and nobody wants it.
+    Unwanted,
+    /// Nothing is asked for at this mark: it stands until there are enough of its kind to go together.
+    Nothing,
+}
+
+/// What may be true of the job of a number.
 #[derive(Clone, Copy)]
 pub(crate) struct Mark {
     number: u64,
-    slot: Option<u32>,
+    sign: Sign,
 }
 
 /// What is asked of a job.
@@ -32,8 +42,9 @@ pub(crate) enum Query {
 
 /// The marks of the jobs that run and of those that nobody wants, in the order of their numbers.
 ///
-/// The mark of a job that is neither any more does no harm, since each job that is found is asked itself. Such
-/// marks go once there are as many marks as the limit says, which is twice what was left the last time.
+/// The mark of a job that is neither any more is passed over, and does no harm where it says more than is so, since
+/// each job that is found is asked itself. Such marks go once there are as many marks as the limit says, which is
+/// twice what was left the last time.
 #[derive(Drop)]
 pub(crate) struct Marks {
     marks: Vec<Mark>,
@@ -55,12 +66,24 @@ impl Model for Marks {
 const FEW: usize = 64;
 
 // Whether the job of a number is live and has a mark.
-fn is_marked(jobs: &IndexMap<u64, Job, RandomState>, number: u64) -> bool
+fn is_marked(jobs: &JobMap, number: u64) -> bool
     ensures { result ≡ passes is_marked (find_job jobs.now.entries number) }
 {
     match jobs.get(&number) {
         Some(job) => job.is_marked(),
         None => false,
+    }
+}
+
+impl Sign {
+    // The moment until which the job runs.
+    fn until(self) -> u64
+        ensures { result ≡ until_of self }
+    {
+        match self {
+            Sign::Runs(_, until) => until,
+            Sign::Unwanted | Sign::Nothing => u64::MAX,
+        }
     }
 }
 
@@ -70,14 +93,23 @@ impl Query {
         ensures { result ≡ may_meet self mark }
     {
         match self {
-            Query::RunBy(slot) => mark.slot == Some(slot),
-            Query::Orphan => mark.slot.is_none(),
-            Query::Due(_) => mark.slot.is_some(),
+            Query::RunBy(slot) => match mark.sign {
+                Sign::Runs(c, _) => c == slot,
+                Sign::Unwanted | Sign::Nothing => false,
+            },
+            Query::Orphan => match mark.sign {
+                Sign::Unwanted => true,
+                Sign::Runs(_, _) | Sign::Nothing => false,
+            },
+            Query::Due(now) => match mark.sign {
+                Sign::Runs(_, until) => until <= now,
+                Sign::Unwanted | Sign::Nothing => false,
+            },
         }
     }
 
     // Whether the job of a number is live and what is asked for.
-    fn meets(self, jobs: &IndexMap<u64, Job, RandomState>, number: u64) -> bool
+    fn meets(self, jobs: &JobMap, number: u64) -> bool
         ensures { result ≡ passes (meets self) (find_job jobs.now.entries number) }
     {
         match jobs.get(&number) {
@@ -151,7 +183,7 @@ impl Marks {
     }
 
     // Lets go of the marks of jobs that have none any more.
-    fn prune(&mut self, jobs: &IndexMap<u64, Job, RandomState>)
+    fn prune(&mut self, jobs: &JobMap)
         ensures kept { (m : Mark) → passes is_marked (find_job jobs.now.entries m.number) ≡ true → Contains self.old.marks m → Contains self.new.marks m }
         ensures live { AllLive jobs.now.entries self.new.marks }
         ensures rises { Rises self.new.marks }
@@ -161,19 +193,8 @@ impl Marks {
         self.limit = self.marks.len().saturating_mul(2).max(FEW);
     }
 
-    /// Lets go of such marks, unless there are few.
-    pub(crate) fn tidy(&mut self, jobs: &IndexMap<u64, Job, RandomState>)
-        requires { Marked jobs.now.entries self.old.marks }
-        ensures marked { Marked jobs.now.entries self.new.marks }
-        ensures room { self.new.room ≡ self.old.room }
-    {
-        if self.marks.len() > FEW {
-            self.prune(jobs);
-        }
-    }
-
     // Makes room for a mark of a live job's number, unless it has one.
-    fn make_room(&mut self, jobs: &IndexMap<u64, Job, RandomState>, number: u64)
+    fn make_room(&mut self, jobs: &JobMap, number: u64)
         requires room { length jobs.now.entries ≤ self.old.room }
         requires live { IsSome (find_job jobs.now.entries number) }
         ensures fits { HasRoomFor number self.new }
@@ -201,31 +222,38 @@ impl Marks {
         }
     }
 
-    /// Marks the job of a number, if it is to have a mark.
-    pub(crate) fn mark(&mut self, jobs: &IndexMap<u64, Job, RandomState>, number: u64)
+    /// Nothing is asked for any more at the mark of a number, if it has one.
+    pub(crate) fn unmark(&mut self, number: u64)
+        ensures kept { (m : Mark) → m.number ≢ number → Contains self.old.marks m → Contains self.new.marks m }
+        ensures room { self.new.room ≡ self.old.room }
+    {
+        if let Ok(i) = self.place_of(number) {
+            self.marks[i] = Mark {
+                number,
+                sign: Sign::Nothing,
+            };
+        }
+    }
+
+    /// The job of a number, if it is live, has this sign now.
+    pub(crate) fn note(&mut self, jobs: &JobMap, number: u64, sign: Option<Sign>)
+        requires sign { sign ≡ option_map sign_of (find_job jobs.now.entries number) }
         requires room { length jobs.now.entries ≤ self.old.room }
         requires others { MarkedBut number jobs.now.entries self.old.marks }
         ensures marked { Marked jobs.now.entries self.new.marks }
         ensures room { self.new.room ≡ self.old.room }
     {
-        if let Some(job) = jobs.get(&number) {
-            if job.is_marked() {
+        match sign {
+            None | Some(Sign::Nothing) => self.unmark(number),
+            Some(sign) => {
                 self.make_room(jobs, number);
-                self.put(Mark {
-                    number,
-                    slot: job.slot(),
-                });
+                self.put(Mark { number, sign });
             }
         }
     }
 
     /// The least number above `after` of a live job that is what is asked for.
-    pub(crate) fn next(
-        &self,
-        jobs: &IndexMap<u64, Job, RandomState>,
-        query: Query,
-        after: u64,
-    ) -> Option<u64>
+    pub(crate) fn next(&self, jobs: &JobMap, query: Query, after: u64) -> Option<u64>
         requires { Marked jobs.now.entries self.now.marks }
         ensures next { IfSome result (IsNext (meets query) after jobs.now.entries) }
         ensures last { IfNone result (IsLast (meets query) after jobs.now.entries) }
@@ -241,17 +269,12 @@ impl Marks {
     }
 
     /// A moment before which no job's deadline is reached: that of the soonest.
-    pub(crate) fn soonest(&self, jobs: &IndexMap<u64, Job, RandomState>) -> u64
-        requires { Marked jobs.now.entries self.now.marks }
-        ensures { (n : ℕ) (live : Live) → find_job jobs.now.entries n ≡ Some live → IsSoon result live }
+    pub(crate) fn soonest(&self) -> u64
+        ensures { (m : Mark) → Contains self.now.marks m → result ≤ until_of m.sign }
     {
         let mut soonest = u64::MAX;
         for i in 0..self.marks.len() {
-            if let Some(job) = jobs.get(&self.marks[i].number) {
-                if let Some(deadline) = job.deadline() {
-                    soonest = soonest.min(deadline);
-                }
-            }
+            soonest = soonest.min(self.marks[i].sign.until());
         }
         soonest
     }

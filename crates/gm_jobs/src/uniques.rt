@@ -6,10 +6,10 @@ ghost use Rattle.gm_jobs.specs.Live.{Live, is_named};
 ghost use Rattle.gm_jobs.specs.Tables.{find_job, passes};
 ghost use Rattle.gm_jobs.specs.Uniques.{digest_of, cell_behind, IsFreeFor, Reaches};
 
-use crate::job::{Job, joins};
-use indexmap::IndexMap;
+use crate::by_number::JobMap;
+use crate::job::joins;
 use std::alloc::{AllocError, Global};
-use std::hash::{BuildHasher, RandomState};
+use std::hash::{BuildHasher, Hasher, RandomState};
 use std::marker::Model;
 
 // The hash of a function and a unique id, and the number of a job that has them, or had them. A digest of 0
@@ -46,7 +46,10 @@ pub(crate) fn digest(seed: &RandomState, f: u32, unique: &[u8]) -> u64
     ensures value { result ≡ digest_of seed.now f unique.now }
     ensures some { 0 < result }
 {
-    seed.hash_one((f, unique)).max(1)
+    let mut hasher = seed.build_hasher();
+    hasher.write_u64(u64::from(f));
+    hasher.write(unique);
+    hasher.finish().max(1)
 }
 
 // The cell that is k behind `home`, where the first follows the last.
@@ -65,7 +68,7 @@ fn cell_behind(home: usize, k: usize, len: usize) -> usize
 }
 
 // Whether the job of a number is live and has this name.
-fn is_named(jobs: &IndexMap<u64, Job, RandomState>, number: u64, f: u32, unique: &[u8]) -> bool
+fn is_named(jobs: &JobMap, number: u64, f: u32, unique: &[u8]) -> bool
     ensures { result ≡ passes (is_named f unique.now) (find_job jobs.now.entries number) }
 {
     match jobs.get(&number) {
@@ -106,13 +109,7 @@ impl Uniques {
     }
 
     /// The live job of this function and unique id, which have this digest.
-    pub(crate) fn find(
-        &self,
-        jobs: &IndexMap<u64, Job, RandomState>,
-        digest: u64,
-        f: u32,
-        unique: &[u8],
-    ) -> Option<u64>
+    pub(crate) fn find(&self, jobs: &JobMap, digest: u64, f: u32, unique: &[u8]) -> Option<u64>
         ensures found { IfSome result (λ n. passes (is_named f unique.now) (find_job jobs.now.entries n) ≡ true) }
         ensures none { IfNone result ((n : ℕ) → passes (is_named f unique.now) (find_job jobs.now.entries n) ≡ true → Reaches self.now.cells digest n → ⊥) }
     {
@@ -180,7 +177,7 @@ impl Uniques {
     pub(crate) fn of_jobs(
         alloc: Global,
         seed: &RandomState,
-        jobs: &IndexMap<u64, Job, RandomState>,
+        jobs: &JobMap,
     ) -> Result<Uniques, AllocError>
         ensures reached { IfOk result (λ u. (n : ℕ) (live : Live) → find_job jobs.now.entries n ≡ Some live → joins live.unique ≡ true → Reaches u.cells (digest_of seed.now live.function live.unique) n) }
         ensures free { IfOk result (λ u. u.used < length u.cells) }

@@ -7,6 +7,8 @@ mod checks;
 #[cfg(test)]
 mod conns;
 #[cfg(test)]
+mod jobs;
+#[cfg(test)]
 mod lines;
 #[cfg(test)]
 mod lists;

@@ -1,7 +1,7 @@
 use Rattle.std.proofs.Common.{◌≡◌, ℕ, false, Option, Some, None, refl, subst, arith}
 use Rattle.gm_jobs.specs.Live.{Live, is_due}
 use Rattle.gm_jobs.specs.Tables.{Table, find_job, passes}
-use Rattle.gm_jobs.proofs.JobLemmas.{beside, marked_of, kept_fewer, not_due}
+use Rattle.gm_jobs.proofs.JobLemmas.{beside, marked_of, kept_fewer, not_due, soon_of}
 use Rattle.gm_jobs.proofs.jobs.Jobs.due.Goals as goal
 use Rattle.gm_jobs.proofs.jobs.Jobs.due.Goals.{Then-now-self}
 
@@ -16,10 +16,8 @@ returns-then-now-self-clause-last c = λ m h.
 pub next-found-requires : goal.next-found-requires
 next-found-requires c = marked_of (beside c.self.inside) c.self.inside.jobs.entries c.self.inside.space _ c.self.invariant
 
-pub soonest-self-inside-requires : goal.soonest-self-inside-requires
-soonest-self-inside-requires c = marked_of (beside c.self.inside) c.self.inside.jobs.entries c.self.inside.space _ c.self.invariant
-
 pub invariant_of-self : goal.invariant_of-self
 invariant_of-self c =
     let t = c.self.inside in
-    kept_fewer (beside t) t.jobs.entries t.jobs.entries c.soonest-self-inside.result t.space _ _ c.self.invariant (λ m live e. e) (omega arith) (omega arith) c.soonest-self-inside.ensures
+    kept_fewer (beside t) t.jobs.entries t.jobs.entries c.soonest-self-inside.result t.space _ _ c.self.invariant (λ m live e. e) (omega arith) (omega arith)
+    (soon_of t.marks.marks t.jobs.entries _ (marked_of (beside t) t.jobs.entries t.space _ c.self.invariant) c.soonest-self-inside.ensures)

@@ -4,14 +4,14 @@ use Rattle.gm_jobs.specs.Live.{returned}
 use Rattle.gm_jobs.proofs.JobLemmas.{beside, kept_changed, marked_but, marked_of}
 use Rattle.gm_jobs.proofs.jobs.Jobs.give_back.Goals as goal
 
-pub mark-requires-clause-others : goal.mark-requires-clause-others
-mark-requires-clause-others c =
+pub note-requires-clause-others : goal.note-requires-clause-others
+note-requires-clause-others c =
     let t = c.self.inside in
-    marked_but c.args.n returned t.jobs.entries c.change_job.new.jobs.entries c.change_job.ensures.jobs t.marks (marked_of (beside t) t.jobs.entries t.space _ c.self.invariant)
+    marked_but c.args.n returned t.jobs.entries c.change_job-sign.new.jobs.entries c.change_job-sign.ensures.jobs t.marks (marked_of (beside t) t.jobs.entries t.space _ c.self.invariant)
 
 pub invariant_of-self : goal.invariant_of-self
 invariant_of-self c =
     let t = c.self.inside in
-    kept_changed (beside t) c.args.n returned t.jobs.entries c.change_job.new.jobs.entries c.mark.new.self t.listening t.soonest t.space _ _ c.self.invariant c.change_job.ensures.jobs (λ l. refl) (λ l. refl) c.change_job.ensures.spare
-    c.mark.ensures.room c.mark.ensures.marked
+    kept_changed (beside t) c.args.n returned t.jobs.entries c.change_job-sign.new.jobs.entries c.note.new.self t.listening t.soonest t.space _ _ c.self.invariant c.change_job-sign.ensures.jobs (λ l. refl) (λ l. refl) c.change_job-sign.ensures.spare
+    c.note.ensures.room c.note.ensures.marked
     (λ d m s h. h) (λ l d there. inl there) (λ e. e) (λ l h. h) (λ l h until runs e. absurd (false≢true runs))

@@ -21,35 +21,35 @@ ready c = c.self.invariant.ready c.unwrap-space.result (sym c.take.ensures.value
 fits : (c : After-begin) → IsOk c.insert-fits.result
 fits c = c.insert-fits.ensures.succeeds (ready c).job
 
-adds : (c : After-begin) → (m : ℕ) → find_job c.insert-fits.new.self.entries m ≡ (if (beside c.self.inside).next == m then Some c.fill.result else find_job c.self.inside.jobs.entries m)
+adds : (c : After-begin) → (m : ℕ) → find_job c.insert-fits.new.self.entries m ≡ (if (beside c.self.inside).next == m then Some c.fill-job.result else find_job c.self.inside.jobs.entries m)
 adds c =
     let updates = on_ok c.insert-fits.result (fits c) c.insert-fits.ensures.updates in
-    subst (λ i. (m : ℕ) → find_job c.insert-fits.new.self.entries m ≡ (if i == m then Some c.fill.result else find_job c.self.inside.jobs.entries m)) (sym (number c)) updates.0
+    subst (λ i. (m : ℕ) → find_job c.insert-fits.new.self.entries m ≡ (if i == m then Some c.fill-job.result else find_job c.self.inside.jobs.entries m)) (sym (number c)) updates.0
 
-pub mark-requires-clause-others : goal.mark-requires-clause-others
-mark-requires-clause-others c =
-    let d = (goal.at.mark-requires-clause-others c).After-begin in
+pub note-requires-clause-others : goal.note-requires-clause-others
+note-requires-clause-others c =
+    let d = (goal.at.note-requires-clause-others c).After-begin in
     let t = c.self.inside in
     subst (λ i. MarkedBut i c.insert-fits.new.self.entries t.marks.marks) (number d)
-    (marked_but_made (beside t) t.jobs.entries c.fill.result c.insert-fits.new.self.entries (adds d) t.marks (marked_of (beside t) t.jobs.entries t.space _ c.self.invariant))
+    (marked_but_made (beside t) t.jobs.entries c.fill-job.result c.insert-fits.new.self.entries (adds d) t.marks (marked_of (beside t) t.jobs.entries t.space _ c.self.invariant))
 
-made_reached : (c : After-begin) → joins c.fill.result.unique ≡ true → Reaches c.enter.new.self.cells (digest_of c.self.inside.seed c.fill.result.function c.fill.result.unique) (beside c.self.inside).next
+made_reached : (c : After-begin) → joins c.fill-job.result.unique ≡ true → Reaches c.enter.new.self.cells (digest_of c.self.inside.seed c.fill-job.result.function c.fill-job.result.unique) (beside c.self.inside).next
 made_reached c good =
-    let unique = ap (λ (l : Live). l.unique) c.fill.ensures in
-    Reaches-same c.enter.new.self.cells c.self.inside.seed c.args.new.f c.fill.result.function c.unwrap-number.result (beside c.self.inside).next c.args.new.unique.now c.fill.result.unique
-    (sym (ap (λ (l : Live). l.function) c.fill.ensures)) (sym unique) (sym (number c)) (c.enter.ensures.stands (ap joins (sym unique) ∙ good))
+    let unique = ap (λ (l : Live). l.unique) c.fill-job.ensures in
+    Reaches-same c.enter.new.self.cells c.self.inside.seed c.args.new.f c.fill-job.result.function c.unwrap-number.result (beside c.self.inside).next c.args.new.unique.now c.fill-job.result.unique
+    (sym (ap (λ (l : Live). l.function) c.fill-job.ensures)) (sym unique) (sym (number c)) (c.enter.ensures.stands (ap joins (sym unique) ∙ good))
 
-made_heard : (c : After-begin) (s : ℕ) → Contains c.fill.result.listeners s → Heard c.begin.new.self s (beside c.self.inside).next
+made_heard : (c : After-begin) (s : ℕ) → Contains c.fill-job.result.listeners s → Heard c.begin.new.self s (beside c.self.inside).next
 made_heard c s there =
     subst (λ i. Heard c.begin.new.self s i) (sym (number c))
-    (listed_heard c.args.new.listener c.begin.new.self s c.unwrap-number.result (subst (λ (l : Live). Contains l.listeners s) c.fill.ensures there) c.begin.ensures.stands)
+    (listed_heard c.args.new.listener c.begin.new.self s c.unwrap-number.result (subst (λ (l : Live). Contains l.listeners s) c.fill-job.ensures there) c.begin.ensures.stands)
 
-made_single : (c : After-begin) (m : ℕ) (live : Live) → joins c.fill.result.unique ≡ true → find_job c.self.inside.jobs.entries m ≡ Some live → is_named c.fill.result.function c.fill.result.unique live ≡ true → ⊥
+made_single : (c : After-begin) (m : ℕ) (live : Live) → joins c.fill-job.result.unique ≡ true → find_job c.self.inside.jobs.entries m ≡ Some live → is_named c.fill-job.result.function c.fill-job.result.unique live ≡ true → ⊥
 made_single c m live good found named =
     c.requires.single m (record {
-      joins = ap (λ (l : Live). joins l.unique) (sym c.fill.ensures) ∙ good;
+      joins = ap (λ (l : Live). joins l.unique) (sym c.fill-job.ensures) ∙ good;
       named = subst (λ (t : Table). passes (is_named c.args.new.f c.args.new.unique.now) (find_job t.live m) ≡ true) c.self.view_is
-          (ap (passes (is_named c.args.new.f c.args.new.unique.now)) found ∙ ap (λ (l : Live). is_named l.function l.unique live) (sym c.fill.ensures) ∙ named);
+          (ap (passes (is_named c.args.new.f c.args.new.unique.now)) found ∙ ap (λ (l : Live). is_named l.function l.unique live) (sym c.fill-job.ensures) ∙ named);
     })
 
 pub invariant_of-self : goal.invariant_of-self
@@ -59,7 +59,7 @@ invariant_of-self c =
     let next : unwrap_or c.checked_add-self-inside.result (2 ^ 64) ≡ (beside t).next + 1 = next_is c.checked_add-self-inside.result c.unwrap-number.result c.checked_add-self-inside.ensures (omega arith) ∙ ap (λ i. i + 1) (sym (number d)) in
     let longer = if_ok c.insert-fits.result _ (fits d) c.insert-fits.ensures.len in
     let more : length c.insert-fits.new.self.entries ≤ length t.jobs.entries + 1 = one_more _ _ longer.0 longer.1 in
-    subst (λ i. IsKept (record (beside t) { next = i; left = is_some c.checked_add-self-inside.result; uniques = c.enter.new.self; marks = c.mark.new.self; listening = c.begin.new.self }) c.take.new.self (spare c.insert-fits.new.self) c.insert-fits.new.self.entries) (sym next)
-    (subst (λ (r : Option Room). IsKept (record (beside t) { next = (beside t).next + 1; left = is_some c.checked_add-self-inside.result; uniques = c.enter.new.self; marks = c.mark.new.self; listening = c.begin.new.self }) r (spare c.insert-fits.new.self) c.insert-fits.new.self.entries) (sym c.take.ensures.after)
-    (kept_made (beside t) t.jobs.entries c.fill.result c.insert-fits.new.self.entries (adds d) (is_some c.checked_add-self-inside.result) t.space c.unwrap-space.result (spare t.jobs) (spare c.insert-fits.new.self) c.enter.new.self c.mark.new.self c.begin.new.self
-    c.self.invariant more (ready d) (made_reached d) c.enter.ensures.kept c.mark.ensures.room c.mark.ensures.marked c.begin.ensures.kept (made_heard d) (ap (λ (l : Live). l.slot) c.fill.ensures) (made_single d)))
+    subst (λ i. IsKept (record (beside t) { next = i; left = is_some c.checked_add-self-inside.result; uniques = c.enter.new.self; marks = c.note.new.self; listening = c.begin.new.self }) c.take.new.self (spare c.insert-fits.new.self) c.insert-fits.new.self.entries) (sym next)
+    (subst (λ (r : Option Room). IsKept (record (beside t) { next = (beside t).next + 1; left = is_some c.checked_add-self-inside.result; uniques = c.enter.new.self; marks = c.note.new.self; listening = c.begin.new.self }) r (spare c.insert-fits.new.self) c.insert-fits.new.self.entries) (sym c.take.ensures.after)
+    (kept_made (beside t) t.jobs.entries c.fill-job.result c.insert-fits.new.self.entries (adds d) (is_some c.checked_add-self-inside.result) t.space c.unwrap-space.result (spare t.jobs) (spare c.insert-fits.new.self) c.enter.new.self c.note.new.self c.begin.new.self
+    c.self.invariant more (ready d) (made_reached d) c.enter.ensures.kept c.note.ensures.room c.note.ensures.marked c.begin.ensures.kept (made_heard d) (ap (λ (l : Live). l.slot) c.fill-job.ensures) (made_single d)))

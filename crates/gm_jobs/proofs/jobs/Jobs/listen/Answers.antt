@@ -1,9 +1,10 @@
-use Rattle.std.proofs.Common.{◌≡◌, ℕ, ◌+◌, Bool, true, false, not, ◌&&◌, ◌||◌, ◌==◌, ◌++◌, ◌∷◌, [], inl, inr, Contains, length, is_some, refl, sym, subst, ◌∙◌, arith, length-append}
+use Rattle.std.proofs.Common.{◌≡◌, ℕ, ◌+◌, Bool, true, false, not, ◌&&◌, ◌||◌, ◌==◌, ◌++◌, ◌∷◌, [], inl, inr, Contains, length, Option, Some, None, is_some, refl, sym, subst, ◌∙◌, arith, length-append}
 use Rattle.std.proofs.lemmas.List.Elements.{Contains-push_cases}
-use Rattle.std.proofs.lemmas.Bool.{false≢true}
+use Rattle.std.proofs.lemmas.Bool.{false≢true, true≢false}
 use Rattle.std.proofs.lemmas.Bool.Decides.{nat_tests}
 use Rattle.indexmap.specs.IndexMap.{spare}
 use Rattle.gm_jobs.specs.Live.{with_listener}
+use Rattle.gm_jobs.specs.Marks.{sign_at}
 use Rattle.gm_jobs.specs.Listening.{list_of}
 use Rattle.gm_jobs.specs.Kept.{IsKept}
 use Rattle.gm_jobs.proofs.JobLemmas.{beside, kept_changed, kept_room, marked_changed, marked_of, reached_of, either}
@@ -14,6 +15,15 @@ still : (a k : Bool) (n m : ℕ) → m ≡ n + 1 → (a || (not a && not k && (m
 still true k n m h e = refl
 still false true n m h e = absurd (false≢true e)
 still false false n m h e = absurd (let none : (m == 0) ≡ true = e in let zero_is : m ≡ 0 = grind (arith, nat_tests) in omega arith)
+
+never : (a k : Bool) (n m : ℕ) → m ≡ n + 1 → (not a && not k && (m == 0)) ≡ false
+never true k n m h = refl
+never false true n m h = refl
+never false false n m h = grind (arith, nat_tests)
+
+same_sign : (s : Option ℕ) (until : ℕ) (a b : Bool) → a ≡ false → (is_some s || a) ≡ true → sign_at s until a ≡ sign_at s until b
+same_sign None until a b isnt e = absurd (true≢false (sym e ∙ isnt))
+same_sign (Some c) until a b isnt e = refl
 
 pub invariant_of-self : goal.invariant_of-self
 invariant_of-self c =
@@ -28,7 +38,7 @@ invariant_of-self-2 c =
       | inl change ↦
           kept_changed (beside t) c.args.n (with_listener c.args.slot) t.jobs.entries c.listen_job.new.jobs.entries t.marks c.add.new.self t.soonest t.space _ _ c.self.invariant change
           (λ l. refl) (λ l. refl) c.listen_job.ensures.spare refl
-          (marked_changed c.args.n (with_listener c.args.slot) t.jobs.entries c.listen_job.new.jobs.entries t.marks change (marked_of (beside t) t.jobs.entries t.space _ c.self.invariant) (λ l. refl)
+          (marked_changed c.args.n (with_listener c.args.slot) t.jobs.entries c.listen_job.new.jobs.entries t.marks change (marked_of (beside t) t.jobs.entries t.space _ c.self.invariant) (λ l e. same_sign l.slot _ _ _ (never (is_some l.slot) l.kept (length l.listeners) (length (l.listeners ++ c.args.slot ∷ [])) (length-append l.listeners (c.args.slot ∷ []))) e)
           (λ l e. still (is_some l.slot) l.kept (length l.listeners) (length (l.listeners ++ c.args.slot ∷ [])) (length-append l.listeners (c.args.slot ∷ [])) e))
           c.add.ensures.kept
           (λ l d there. elim (Contains-push_cases l.listeners c.args.slot d there) [

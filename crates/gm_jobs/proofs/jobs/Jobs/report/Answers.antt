@@ -12,7 +12,7 @@ invariant_of-self c =
       | inl change ↦
           kept_changed (beside t) c.args.n (reported c.args.numerator.now c.args.denominator.now) t.jobs.entries c.report_job.new.jobs.entries t.marks t.listening t.soonest t.space _ _ c.self.invariant change
           (λ l. refl) (λ l. refl) c.report_job.ensures.spare refl
-          (marked_changed c.args.n (reported c.args.numerator.now c.args.denominator.now) t.jobs.entries c.report_job.new.jobs.entries t.marks change (marked_of (beside t) t.jobs.entries t.space _ c.self.invariant) (λ l. refl) (λ l e. e))
+          (marked_changed c.args.n (reported c.args.numerator.now c.args.denominator.now) t.jobs.entries c.report_job.new.jobs.entries t.marks change (marked_of (beside t) t.jobs.entries t.space _ c.self.invariant) (λ l e. refl) (λ l e. e))
           (λ d m s h. h) (λ l d there. inl there) (λ e. e) (λ l h. h) (λ l h. h)
       | inr same ↦
           subst (λ es. IsKept (beside t) t.space (spare c.report_job.new.jobs) es) (sym same) (subst (λ s. IsKept (beside t) t.space s t.jobs.entries) (sym c.report_job.ensures.spare) c.self.invariant)
