@@ -14,7 +14,7 @@ use crate::arguments::{
 use crate::header::REQUEST_MAGIC;
 use crate::kind::Kind;
 use crate::texts::Texts;
-use crate::writing::{fits, put_packet};
+use crate::writing::{fits, put_one, put_three, put_two, put_zero};
 use itoa::Buffer;
 use std::alloc::AllocError;
 
@@ -420,17 +420,74 @@ pub fn write_request(request: &Request<'_>, out: &mut Vec<u8>) -> Result<(), All
     ensures full { OnErr result (vec_capacity out.old < vec_len out.old + length (request_packet (asked_of request.now))) }
 {
     let number = kind(request).number();
-    match timed(request) {
-        None => put_packet(out, &REQUEST_MAGIC, number, texts(request).as_slice()),
-        Some((function, timeout)) => {
+    match *request {
+        Request::ResetAbilities => put_zero(out, &REQUEST_MAGIC, number),
+        Request::PreSleep => put_zero(out, &REQUEST_MAGIC, number),
+        Request::GrabJob => put_zero(out, &REQUEST_MAGIC, number),
+        Request::AllYours => put_zero(out, &REQUEST_MAGIC, number),
+        Request::GrabJobUniq => put_zero(out, &REQUEST_MAGIC, number),
+        Request::CanDo { function } => put_one(out, &REQUEST_MAGIC, number, function),
+        Request::CantDo { function } => put_one(out, &REQUEST_MAGIC, number, function),
+        Request::WorkFail { handle } => put_one(out, &REQUEST_MAGIC, number, handle),
+        Request::GetStatus { handle } => put_one(out, &REQUEST_MAGIC, number, handle),
+        Request::EchoReq { body } => put_one(out, &REQUEST_MAGIC, number, body),
+        Request::SetClientId { id } => put_one(out, &REQUEST_MAGIC, number, id),
+        Request::OptionReq { name } => put_one(out, &REQUEST_MAGIC, number, name),
+        Request::WorkComplete { handle, body } => put_two(
+            out,
+            &REQUEST_MAGIC,
+            number,
+            handle,
+            body,
+        ),
+        Request::WorkException { handle, body } => put_two(
+            out,
+            &REQUEST_MAGIC,
+            number,
+            handle,
+            body,
+        ),
+        Request::WorkData { handle, body } => put_two(out, &REQUEST_MAGIC, number, handle, body),
+        Request::WorkWarning { handle, body } => put_two(out, &REQUEST_MAGIC, number, handle, body),
+        Request::CanDoTimeout { function, timeout } => {
             let mut buffer = Buffer::new();
             let digits = buffer.format(timeout).as_bytes();
-            put_packet(
-                out,
-                &REQUEST_MAGIC,
-                number,
-                Texts::two(function, digits).as_slice(),
-            )
+            put_two(out, &REQUEST_MAGIC, number, function, digits)
         }
+        Request::WorkStatus {
+            handle,
+            numerator,
+            denominator,
+        } => put_three(out, &REQUEST_MAGIC, number, handle, numerator, denominator),
+        Request::SubmitJob {
+            function,
+            unique,
+            body,
+        } => put_three(out, &REQUEST_MAGIC, number, function, unique, body),
+        Request::SubmitJobBg {
+            function,
+            unique,
+            body,
+        } => put_three(out, &REQUEST_MAGIC, number, function, unique, body),
+        Request::SubmitJobHigh {
+            function,
+            unique,
+            body,
+        } => put_three(out, &REQUEST_MAGIC, number, function, unique, body),
+        Request::SubmitJobHighBg {
+            function,
+            unique,
+            body,
+        } => put_three(out, &REQUEST_MAGIC, number, function, unique, body),
+        Request::SubmitJobLow {
+            function,
+            unique,
+            body,
+        } => put_three(out, &REQUEST_MAGIC, number, function, unique, body),
+        Request::SubmitJobLowBg {
+            function,
+            unique,
+            body,
+        } => put_three(out, &REQUEST_MAGIC, number, function, unique, body),
     }
 }

@@ -7,7 +7,7 @@ ghost use Rattle.gm_packet.specs.Answers.{answer_of};
 
 use crate::header::RESPONSE_MAGIC;
 use crate::texts::Texts;
-use crate::writing::{data_len, fits, put_packet};
+use crate::writing::{data_len, fits, put_five, put_four, put_one, put_three, put_two, put_zero};
 use std::alloc::AllocError;
 
 /// A response, its arguments borrowed. What each tells, and whom, says the Gearman PROTOCOL document
@@ -186,10 +186,62 @@ pub fn write_response(response: &Response<'_>, out: &mut Vec<u8>) -> Result<(), 
     // It fails only where room is missing.
     ensures full { OnErr result (vec_capacity out.old < vec_len out.old + length (answer_packet (answer_of response.now))) }
 {
-    put_packet(
-        out,
-        &RESPONSE_MAGIC,
-        kind_of(response),
-        texts(response).as_slice(),
-    )
+    let kind = kind_of(response);
+    match response {
+        Response::Noop => put_zero(out, &RESPONSE_MAGIC, kind),
+        Response::NoJob => put_zero(out, &RESPONSE_MAGIC, kind),
+        Response::JobCreated { handle } => put_one(out, &RESPONSE_MAGIC, kind, handle),
+        Response::WorkFail { handle } => put_one(out, &RESPONSE_MAGIC, kind, handle),
+        Response::EchoRes { body } => put_one(out, &RESPONSE_MAGIC, kind, body),
+        Response::OptionRes { name } => put_one(out, &RESPONSE_MAGIC, kind, name),
+        Response::WorkComplete { handle, body } => put_two(
+            out,
+            &RESPONSE_MAGIC,
+            kind,
+            handle,
+            body,
+        ),
+        Response::WorkException { handle, body } => put_two(
+            out,
+            &RESPONSE_MAGIC,
+            kind,
+            handle,
+            body,
+        ),
+        Response::WorkData { handle, body } => put_two(out, &RESPONSE_MAGIC, kind, handle, body),
+        Response::WorkWarning { handle, body } => put_two(out, &RESPONSE_MAGIC, kind, handle, body),
+        Response::Error { code, text } => put_two(out, &RESPONSE_MAGIC, kind, code, text),
+        Response::JobAssign {
+            handle,
+            function,
+            body,
+        } => put_three(out, &RESPONSE_MAGIC, kind, handle, function, body),
+        Response::WorkStatus {
+            handle,
+            numerator,
+            denominator,
+        } => put_three(out, &RESPONSE_MAGIC, kind, handle, numerator, denominator),
+        Response::JobAssignUniq {
+            handle,
+            function,
+            unique,
+            body,
+        } => put_four(out, &RESPONSE_MAGIC, kind, handle, function, unique, body),
+        Response::StatusRes {
+            handle,
+            known,
+            running,
+            numerator,
+            denominator,
+        } => put_five(
+            out,
+            &RESPONSE_MAGIC,
+            kind,
+            handle,
+            flag(*known),
+            flag(*running),
+            numerator,
+            denominator,
+        ),
+    }
 }
