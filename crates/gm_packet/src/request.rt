@@ -17,6 +17,7 @@ use crate::texts::Texts;
 use crate::writing::{fits, put_one, put_three, put_two, put_zero};
 use itoa::Buffer;
 use std::alloc::AllocError;
+use std::fmt::{self, Debug, Formatter, Write};
 
 /// Why a packet is no request.
 #[derive(Clone, Copy, Debug, PartialEq, Eq)]
@@ -29,7 +30,7 @@ pub enum RequestFault {
 
 /// A request, its arguments borrowed from the data of its packet. What it asks for, and who sends it,
 /// says the Gearman PROTOCOL document under the same names.
-#[derive(Clone, Copy, Debug, PartialEq, Eq)]
+#[derive(Clone, Copy, PartialEq, Eq)]
 pub enum Request<'a> {
     /// A worker can do jobs of this function.
     CanDo {
@@ -391,6 +392,16 @@ fn texts<'a>(request: &Request<'a>) -> Texts<'a>
             unique,
             body,
         } => Texts::three(function, unique, body),
+    }
+}
+
+/// The kind and the arguments.
+impl Debug for Request<'_> {
+    fn fmt<W: Write>(&self, f: &mut Formatter<W>) -> fmt::Result {
+        match timed(self) {
+            None => write!(f, "{:?}{:?}", kind(self), texts(self).as_slice()),
+            Some((function, timeout)) => write!(f, "CanDoTimeout[{function:?}, {timeout}]"),
+        }
     }
 }
 

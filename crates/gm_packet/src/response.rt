@@ -9,10 +9,11 @@ use crate::header::RESPONSE_MAGIC;
 use crate::texts::Texts;
 use crate::writing::{data_len, fits, put_five, put_four, put_one, put_three, put_two, put_zero};
 use std::alloc::AllocError;
+use std::fmt::{self, Debug, Formatter, Write};
 
 /// A response, its arguments borrowed. What each tells, and whom, says the Gearman PROTOCOL document
 /// under the same names.
-#[derive(Clone, Copy, Debug, PartialEq, Eq)]
+#[derive(Clone, Copy, PartialEq, Eq)]
 pub enum Response<'a> {
     /// There is a job for a worker that went to sleep.
     Noop,
@@ -157,6 +158,13 @@ fn texts<'a>(response: &Response<'a>) -> Texts<'a>
             numerator,
             denominator,
         } => { Texts::five(handle, flag(*known), flag(*running), numerator, denominator) }
+    }
+}
+
+/// The packet type and the arguments.
+impl Debug for Response<'_> {
+    fn fmt<W: Write>(&self, f: &mut Formatter<W>) -> fmt::Result {
+        write!(f, "Response {}{:?}", kind_of(self), texts(self).as_slice())
     }
 }
 
