@@ -6,6 +6,7 @@ use Rattle.std.proofs.Math.Seq.{drop-cons}
 use Rattle.std.proofs.Math.Numerals.{add-one, one-add}
 use Rattle.std.proofs.lemmas.List.{take_rest, append-nil, length-append}
 use Rattle.std.specs.Borrow.{Bor}
+use Rattle.std.specs.Int.{w32, to_be_bytes}
 use Rattle.gm_packet.specs.Requests.{has_nul, LackNul}
 
 -- an argument behind its NUL
@@ -48,9 +49,26 @@ pub lacks_exactly : (n : ℕ) (texts : List (Bor (List ℕ))) (r : Bool) → r �
 lacks_exactly n texts true e = ((λ h. absurd cc), (λ h. let f : list_any has_nul (take n (texts_of texts)) ≡ true = list_any-take n texts ∙ sym e in absurd cc))
 lacks_exactly n texts false e = ((λ h. list_any-take n texts ∙ sym e), (λ h. refl))
 
--- four parts put one after the other
-pub four_parts : (old a b c d e w x y z : List ℕ) → a ≡ old → b ≡ a ++ w → c ≡ b ++ x → d ≡ c ++ y → e ≡ d ++ z → e ≡ old ++ (w ++ x ++ y ++ z)
-four_parts old a b c d e w x y z pa pb pc pd pe = rw (pe, pd, pc, pb, pa) (simp append_assoc)
+-- a header and what follows it
+pub header_and_data : (old a b c h m k s d : List ℕ) → a ≡ old → b ≡ a ++ h → h ≡ m ++ k ++ s → c ≡ b ++ d → c ≡ old ++ (m ++ k ++ s ++ d)
+header_and_data old a b c h m k s d pa pb ph pc = rw (pc, pb, ph, pa) (simp append_assoc)
+
+-- four bytes, one by one, before others
+four_bytes : (xs ys : List ℕ) → length xs ≡ 4 → get_or xs 0 0 ∷ get_or xs 1 0 ∷ get_or xs 2 0 ∷ get_or xs 3 0 ∷ ys ≡ xs ++ ys
+four_bytes [] ys four = absurd (omega arith)
+four_bytes (a ∷ []) ys four = absurd (omega arith)
+four_bytes (a ∷ b ∷ []) ys four = absurd (omega arith)
+four_bytes (a ∷ b ∷ c ∷ []) ys four = absurd (omega arith)
+four_bytes (a ∷ b ∷ c ∷ d ∷ []) ys four = refl
+four_bytes (a ∷ b ∷ c ∷ d ∷ e ∷ xs) ys four = absurd (omega arith)
+
+-- a header, byte by byte
+pub twelve_bytes : (m k s : List ℕ) (kind size : ℕ) → length m ≡ 4 → k ≡ to_be_bytes w32 kind → s ≡ to_be_bytes w32 size → get_or m 0 0 ∷ get_or m 1 0 ∷ get_or m 2 0 ∷ get_or m 3 0 ∷ get_or k 0 0 ∷ get_or k 1 0 ∷ get_or k 2 0 ∷ get_or k 3 0 ∷ get_or s 0 0 ∷ get_or s 1 0 ∷ get_or s 2 0 ∷ get_or s 3 0 ∷ [] ≡ m ++ to_be_bytes w32 kind ++ to_be_bytes w32 size
+twelve_bytes m k s kind size four_long is_kind is_size =
+    four_bytes m _ four_long
+    ∙ ap (λ (x : List ℕ). m ++ x) (four_bytes k _ (ap length is_kind) ∙ ap (λ (x : List ℕ). k ++ x) (four_bytes s [] (ap length is_size) ∙ append-nil s))
+    ∙ sym (append_assoc m k s)
+    ∙ ap (λ (x : List ℕ). m ++ x ++ s) is_kind ∙ ap (λ (x : List ℕ). m ++ to_be_bytes w32 kind ++ x) is_size
 
 -- two parts that make a whole
 pub two_parts : (old a b x y whole : List ℕ) → a ≡ old ++ x → b ≡ a ++ y → whole ≡ x ++ y → b ≡ old ++ whole

@@ -14,9 +14,10 @@ use crate::arguments::{
 use crate::header::REQUEST_MAGIC;
 use crate::kind::Kind;
 use crate::texts::Texts;
-use crate::writing::{fits, put_packet};
+use crate::writing::{fits, put_one, put_three, put_two, put_zero};
 use itoa::Buffer;
 use std::alloc::AllocError;
+use std::fmt::{self, Debug, Formatter, Write};
 
 /// Why a packet is no request.
 #[derive(Clone, Copy, Debug, PartialEq, Eq)]
@@ -29,7 +30,7 @@ pub enum RequestFault {
 
 /// A request, its arguments borrowed from the data of its packet. What it asks for, and who sends it,
 /// says the Gearman PROTOCOL document under the same names.
-#[derive(Clone, Copy, Debug, PartialEq, Eq)]
+#[derive(Clone, Copy, PartialEq, Eq)]
 pub enum Request<'a> {
     /// A worker can do jobs of this function.
     CanDo {
@@ -394,6 +395,16 @@ fn texts<'a>(request: &Request<'a>) -> Texts<'a>
     }
 }
 
+/// The kind and the arguments.
+impl Debug for Request<'_> {
+    fn fmt<W: Write>(&self, f: &mut Formatter<W>) -> fmt::Result {
+        match timed(self) {
+            None => write!(f, "{:?}{:?}", kind(self), texts(self).as_slice()),
+            Some((function, timeout)) => write!(f, "CanDoTimeout[{function:?}, {timeout}]"),
+        }
+    }
+}
+
 /// Whether a packet can carry a request: no argument but the last holds NUL, and the length of the
 /// data fits 32 bits.
 pub fn request_fits(request: &Request<'_>) -> bool
@@ -420,17 +431,74 @@ pub fn write_request(request: &Request<'_>, out: &mut Vec<u8>) -> Result<(), All
     ensures full { OnErr result (vec_capacity out.old < vec_len out.old + length (request_packet (asked_of request.now))) }
 {
     let number = kind(request).number();
-    match timed(request) {
-        None => put_packet(out, &REQUEST_MAGIC, number, texts(request).as_slice()),
-        Some((function, timeout)) => {
+    match *request {
+        Request::ResetAbilities => put_zero(out, &REQUEST_MAGIC, number),
+        Request::PreSleep => put_zero(out, &REQUEST_MAGIC, number),
+        Request::GrabJob => put_zero(out, &REQUEST_MAGIC, number),
+        Request::AllYours => put_zero(out, &REQUEST_MAGIC, number),
+        Request::GrabJobUniq => put_zero(out, &REQUEST_MAGIC, number),
+        Request::CanDo { function } => put_one(out, &REQUEST_MAGIC, number, function),
+        Request::CantDo { function } => put_one(out, &REQUEST_MAGIC, number, function),
+        Request::WorkFail { handle } => put_one(out, &REQUEST_MAGIC, number, handle),
+        Request::GetStatus { handle } => put_one(out, &REQUEST_MAGIC, number, handle),
+        Request::EchoReq { body } => put_one(out, &REQUEST_MAGIC, number, body),
+        Request::SetClientId { id } => put_one(out, &REQUEST_MAGIC, number, id),
+        Request::OptionReq { name } => put_one(out, &REQUEST_MAGIC, number, name),
+        Request::WorkComplete { handle, body } => put_two(
+            out,
+            &REQUEST_MAGIC,
+            number,
+            handle,
+            body,
+        ),
+        Request::WorkException { handle, body } => put_two(
+            out,
+            &REQUEST_MAGIC,
+            number,
+            handle,
+            body,
+        ),
+        Request::WorkData { handle, body } => put_two(out, &REQUEST_MAGIC, number, handle, body),
+        Request::WorkWarning { handle, body } => put_two(out, &REQUEST_MAGIC, number, handle, body),
+        Request::CanDoTimeout { function, timeout } => {
             let mut buffer = Buffer::new();
             let digits = buffer.format(timeout).as_bytes();
-            put_packet(
-                out,
-                &REQUEST_MAGIC,
-                number,
-                Texts::two(function, digits).as_slice(),
-            )
+            put_two(out, &REQUEST_MAGIC, number, function, digits)
         }
+        Request::WorkStatus {
+            handle,
+            numerator,
+            denominator,
+        } => put_three(out, &REQUEST_MAGIC, number, handle, numerator, denominator),
+        Request::SubmitJob {
+            function,
+            unique,
+            body,
+        } => put_three(out, &REQUEST_MAGIC, number, function, unique, body),
+        Request::SubmitJobBg {
+            function,
+            unique,
+            body,
+        } => put_three(out, &REQUEST_MAGIC, number, function, unique, body),
+        Request::SubmitJobHigh {
+            function,
+            unique,
+            body,
+        } => put_three(out, &REQUEST_MAGIC, number, function, unique, body),
+        Request::SubmitJobHighBg {
+            function,
+            unique,
+            body,
+        } => put_three(out, &REQUEST_MAGIC, number, function, unique, body),
+        Request::SubmitJobLow {
+            function,
+            unique,
+            body,
+        } => put_three(out, &REQUEST_MAGIC, number, function, unique, body),
+        Request::SubmitJobLowBg {
+            function,
+            unique,
+            body,
+        } => put_three(out, &REQUEST_MAGIC, number, function, unique, body),
     }
 }

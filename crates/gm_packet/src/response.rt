@@ -7,12 +7,13 @@ ghost use Rattle.gm_packet.specs.Answers.{answer_of};
 
 use crate::header::RESPONSE_MAGIC;
 use crate::texts::Texts;
-use crate::writing::{data_len, fits, put_packet};
+use crate::writing::{data_len, fits, put_five, put_four, put_one, put_three, put_two, put_zero};
 use std::alloc::AllocError;
+use std::fmt::{self, Debug, Formatter, Write};
 
 /// A response, its arguments borrowed. What each tells, and whom, says the Gearman PROTOCOL document
 /// under the same names.
-#[derive(Clone, Copy, Debug, PartialEq, Eq)]
+#[derive(Clone, Copy, PartialEq, Eq)]
 pub enum Response<'a> {
     /// There is a job for a worker that went to sleep.
     Noop,
@@ -160,6 +161,13 @@ fn texts<'a>(response: &Response<'a>) -> Texts<'a>
     }
 }
 
+/// The packet type and the arguments.
+impl Debug for Response<'_> {
+    fn fmt<W: Write>(&self, f: &mut Formatter<W>) -> fmt::Result {
+        write!(f, "Response {}{:?}", kind_of(self), texts(self).as_slice())
+    }
+}
+
 /// How many bytes the packet of a response takes, its header among them; the greatest `u64` where it
 /// takes more than that.
 pub fn response_len(response: &Response<'_>) -> u64
@@ -186,10 +194,62 @@ pub fn write_response(response: &Response<'_>, out: &mut Vec<u8>) -> Result<(), 
     // It fails only where room is missing.
     ensures full { OnErr result (vec_capacity out.old < vec_len out.old + length (answer_packet (answer_of response.now))) }
 {
-    put_packet(
-        out,
-        &RESPONSE_MAGIC,
-        kind_of(response),
-        texts(response).as_slice(),
-    )
+    let kind = kind_of(response);
+    match response {
+        Response::Noop => put_zero(out, &RESPONSE_MAGIC, kind),
+        Response::NoJob => put_zero(out, &RESPONSE_MAGIC, kind),
+        Response::JobCreated { handle } => put_one(out, &RESPONSE_MAGIC, kind, handle),
+        Response::WorkFail { handle } => put_one(out, &RESPONSE_MAGIC, kind, handle),
+        Response::EchoRes { body } => put_one(out, &RESPONSE_MAGIC, kind, body),
+        Response::OptionRes { name } => put_one(out, &RESPONSE_MAGIC, kind, name),
+        Response::WorkComplete { handle, body } => put_two(
+            out,
+            &RESPONSE_MAGIC,
+            kind,
+            handle,
+            body,
+        ),
+        Response::WorkException { handle, body } => put_two(
+            out,
+            &RESPONSE_MAGIC,
+            kind,
+            handle,
+            body,
+        ),
+        Response::WorkData { handle, body } => put_two(out, &RESPONSE_MAGIC, kind, handle, body),
+        Response::WorkWarning { handle, body } => put_two(out, &RESPONSE_MAGIC, kind, handle, body),
+        Response::Error { code, text } => put_two(out, &RESPONSE_MAGIC, kind, code, text),
+        Response::JobAssign {
+            handle,
+            function,
+            body,
+        } => put_three(out, &RESPONSE_MAGIC, kind, handle, function, body),
+        Response::WorkStatus {
+            handle,
+            numerator,
+            denominator,
+        } => put_three(out, &RESPONSE_MAGIC, kind, handle, numerator, denominator),
+        Response::JobAssignUniq {
+            handle,
+            function,
+            unique,
+            body,
+        } => put_four(out, &RESPONSE_MAGIC, kind, handle, function, unique, body),
+        Response::StatusRes {
+            handle,
+            known,
+            running,
+            numerator,
+            denominator,
+        } => put_five(
+            out,
+            &RESPONSE_MAGIC,
+            kind,
+            handle,
+            flag(*known),
+            flag(*running),
+            numerator,
+            denominator,
+        ),
+    }
 }

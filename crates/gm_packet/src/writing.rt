@@ -2,6 +2,7 @@
 
 ghost use Rattle.std.specs.Prelude.{◌≡◌, ◌+◌, ◌-◌, ◌^◌, ◌<◌, ◌≤◌, ◌↔◌, ◌++◌, [], ◌∷◌, false, map, min, length, IsTrue, OnOk, OnErr, vec_len, vec_capacity};
 ghost use Rattle.std.specs.List.{list_any, flat_map, join_with_byte};
+ghost use Rattle.std.specs.Int.{w32, to_be_bytes};
 ghost use Rattle.gm_packet.specs.Packets.{packet};
 ghost use Rattle.gm_packet.specs.Requests.{has_nul, LackNul};
 ghost use Rattle.gm_packet.specs.Writing.{Fits};
@@ -10,6 +11,7 @@ use crate::arguments::has_nul;
 use std::alloc::AllocError;
 
 /// How many bytes the arguments after the first take, each behind its NUL; at most the greatest `u64`.
+#[inline(always)]
 fn tail_len(rest: &[&[u8]]) -> u64
     ensures { result ≡ min (length (flat_map (λ text. 0 ∷ text.now) rest.now)) (2 ^ 64 - 1) }
 {
@@ -21,6 +23,7 @@ fn tail_len(rest: &[&[u8]]) -> u64
 }
 
 /// How many bytes the arguments take as data; at most the greatest `u64`.
+#[inline(always)]
 pub fn data_len(texts: &[&[u8]]) -> u64
     ensures { result ≡ min (length (join_with_byte 0 (map (λ text. text.now) texts.now))) (2 ^ 64 - 1) }
 {
@@ -54,7 +57,19 @@ pub fn fits(texts: &[&[u8]]) -> bool
     separable(texts) && data_len(texts) <= u64::from(u32::MAX)
 }
 
+/// The twelve bytes with which a packet begins.
+#[inline(always)]
+fn header(magic: &[u8; 4], kind: u32, size: u32) -> [u8; 12]
+    ensures { result ≡ magic.now ++ to_be_bytes w32 kind ++ to_be_bytes w32 size }
+{
+    let [m0, m1, m2, m3] = *magic;
+    let [k0, k1, k2, k3] = kind.to_be_bytes();
+    let [s0, s1, s2, s3] = size.to_be_bytes();
+    [m0, m1, m2, m3, k0, k1, k2, k3, s0, s1, s2, s3]
+}
+
 /// Appends where there is room.
+#[inline(always)]
 fn put(out: &mut Vec<u8>, bytes: &[u8])
     requires { vec_len out.old + length bytes.now ≤ vec_capacity out.old }
     ensures items { out.new.items ≡ out.old.items ++ bytes.now }
@@ -65,17 +80,19 @@ fn put(out: &mut Vec<u8>, bytes: &[u8])
 }
 
 /// Appends the arguments after the first, each behind its NUL, where there is room.
+#[inline(always)]
 fn put_tail(out: &mut Vec<u8>, rest: &[&[u8]])
     requires { vec_len out.old + length (flat_map (λ text. 0 ∷ text.now) rest.now) ≤ vec_capacity out.old }
     ensures items { out.new.items ≡ out.old.items ++ flat_map (λ text. 0 ∷ text.now) rest.now }
 {
     for text in rest {
-        put(out, &[0]);
+        out.push_reserved(0);
         put(out, text);
     }
 }
 
 /// Appends the data that the arguments spell, where there is room.
+#[inline(always)]
 fn put_data(out: &mut Vec<u8>, texts: &[&[u8]])
     requires { vec_len out.old + length (join_with_byte 0 (map (λ text. text.now) texts.now)) ≤ vec_capacity out.old }
     ensures items { out.new.items ≡ out.old.items ++ join_with_byte 0 (map (λ text. text.now) texts.now) }
@@ -90,8 +107,10 @@ fn put_data(out: &mut Vec<u8>, texts: &[&[u8]])
 }
 
 /// Appends the packet of this type with these arguments, all of it or nothing. It fails only where
-/// `out` lacks the room and none is to be had.
-pub fn put_packet(
+/// `out` lacks the room and none is to be had. It is put in place wherever the number of arguments is
+/// known, and then no loop is left of it.
+#[inline(always)]
+fn put_packet(
     out: &mut Vec<u8>,
     magic: &[u8; 4],
     kind: u32,
@@ -106,9 +125,107 @@ pub fn put_packet(
 {
     let size = data_len(texts) as u32;
     out.reserve(12 + size as usize)?;
-    put(out, magic);
-    put(out, &kind.to_be_bytes());
-    put(out, &size.to_be_bytes());
+    put(out, &header(magic, kind, size));
     put_data(out, texts);
     Ok(())
+}
+
+/// As `put_packet`, with no argument.
+#[inline(never)]
+pub fn put_zero(out: &mut Vec<u8>, magic: &[u8; 4], kind: u32) -> Result<(), AllocError>
+    ensures ok { OnOk result (out.new.items ≡ out.old.items ++ packet magic.now kind (join_with_byte 0 [])) }
+    ensures err { OnErr result (out.new.items ≡ out.old.items) }
+    ensures full { OnErr result (vec_capacity out.old < vec_len out.old + length (packet magic.now kind (join_with_byte 0 []))) }
+{
+    put_packet(out, magic, kind, &[])
+}
+
+/// As `put_packet`, with one argument.
+#[inline(never)]
+pub fn put_one(
+    out: &mut Vec<u8>,
+    magic: &[u8; 4],
+    kind: u32,
+    first: &[u8],
+) -> Result<(), AllocError>
+    requires { length (join_with_byte 0 (first.now ∷ [])) < 2 ^ 32 }
+    ensures ok { OnOk result (out.new.items ≡ out.old.items ++ packet magic.now kind (join_with_byte 0 (first.now ∷ []))) }
+    ensures err { OnErr result (out.new.items ≡ out.old.items) }
+    ensures full { OnErr result (vec_capacity out.old < vec_len out.old + length (packet magic.now kind (join_with_byte 0 (first.now ∷ [])))) }
+{
+    put_packet(out, magic, kind, &[first])
+}
+
+/// As `put_packet`, with two arguments.
+#[inline(never)]
+pub fn put_two(
+    out: &mut Vec<u8>,
+    magic: &[u8; 4],
+    kind: u32,
+    first: &[u8],
+    second: &[u8],
+) -> Result<(), AllocError>
+    requires { length (join_with_byte 0 (first.now ∷ second.now ∷ [])) < 2 ^ 32 }
+    ensures ok { OnOk result (out.new.items ≡ out.old.items ++ packet magic.now kind (join_with_byte 0 (first.now ∷ second.now ∷ []))) }
+    ensures err { OnErr result (out.new.items ≡ out.old.items) }
+    ensures full { OnErr result (vec_capacity out.old < vec_len out.old + length (packet magic.now kind (join_with_byte 0 (first.now ∷ second.now ∷ [])))) }
+{
+    put_packet(out, magic, kind, &[first, second])
+}
+
+/// As `put_packet`, with three arguments.
+#[inline(never)]
+pub fn put_three(
+    out: &mut Vec<u8>,
+    magic: &[u8; 4],
+    kind: u32,
+    first: &[u8],
+    second: &[u8],
+    third: &[u8],
+) -> Result<(), AllocError>
+    requires { length (join_with_byte 0 (first.now ∷ second.now ∷ third.now ∷ [])) < 2 ^ 32 }
+    ensures ok { OnOk result (out.new.items ≡ out.old.items ++ packet magic.now kind (join_with_byte 0 (first.now ∷ second.now ∷ third.now ∷ []))) }
+    ensures err { OnErr result (out.new.items ≡ out.old.items) }
+    ensures full { OnErr result (vec_capacity out.old < vec_len out.old + length (packet magic.now kind (join_with_byte 0 (first.now ∷ second.now ∷ third.now ∷ [])))) }
+{
+    put_packet(out, magic, kind, &[first, second, third])
+}
+
+/// As `put_packet`, with four arguments.
+#[inline(never)]
+pub fn put_four(
+    out: &mut Vec<u8>,
+    magic: &[u8; 4],
+    kind: u32,
+    first: &[u8],
+    second: &[u8],
+    third: &[u8],
+    fourth: &[u8],
+) -> Result<(), AllocError>
+    requires { length (join_with_byte 0 (first.now ∷ second.now ∷ third.now ∷ fourth.now ∷ [])) < 2 ^ 32 }
+    ensures ok { OnOk result (out.new.items ≡ out.old.items ++ packet magic.now kind (join_with_byte 0 (first.now ∷ second.now ∷ third.now ∷ fourth.now ∷ []))) }
+    ensures err { OnErr result (out.new.items ≡ out.old.items) }
+    ensures full { OnErr result (vec_capacity out.old < vec_len out.old + length (packet magic.now kind (join_with_byte 0 (first.now ∷ second.now ∷ third.now ∷ fourth.now ∷ [])))) }
+{
+    put_packet(out, magic, kind, &[first, second, third, fourth])
+}
+
+/// As `put_packet`, with five arguments.
+#[inline(never)]
+pub fn put_five(
+    out: &mut Vec<u8>,
+    magic: &[u8; 4],
+    kind: u32,
+    first: &[u8],
+    second: &[u8],
+    third: &[u8],
+    fourth: &[u8],
+    fifth: &[u8],
+) -> Result<(), AllocError>
+    requires { length (join_with_byte 0 (first.now ∷ second.now ∷ third.now ∷ fourth.now ∷ fifth.now ∷ [])) < 2 ^ 32 }
+    ensures ok { OnOk result (out.new.items ≡ out.old.items ++ packet magic.now kind (join_with_byte 0 (first.now ∷ second.now ∷ third.now ∷ fourth.now ∷ fifth.now ∷ []))) }
+    ensures err { OnErr result (out.new.items ≡ out.old.items) }
+    ensures full { OnErr result (vec_capacity out.old < vec_len out.old + length (packet magic.now kind (join_with_byte 0 (first.now ∷ second.now ∷ third.now ∷ fourth.now ∷ fifth.now ∷ [])))) }
+{
+    put_packet(out, magic, kind, &[first, second, third, fourth, fifth])
 }

@@ -3,7 +3,7 @@ use Rattle.std.specs.Prelude.{Result, Ok, Err, OnErr}
 use Rattle.std.specs.Int.{w32, to_be_bytes}
 use Rattle.std.specs.List.{join_with_byte}
 use Rattle.gm_packet.specs.Packets.{packet}
-use Rattle.gm_packet.proofs.Joins.{four_parts, texts_of}
+use Rattle.gm_packet.proofs.Joins.{header_and_data, texts_of}
 use Rattle.gm_packet.proofs.Packets.{length-packet}
 use Rattle.gm_packet.proofs.writing.put_packet.Goals as goal
 
@@ -11,9 +11,8 @@ pub returns-clause-ok : goal.returns-clause-ok
 unfolding packet
 returns-clause-ok c =
     let exact : c.data_len-size.result ≡ length (join_with_byte 0 (texts_of c.args.texts.now)) = omega (arith, c.data_len-size.ensures, c.requires) in
-    four_parts _ _ _ _ _ _ _ _ _ _ c.in_ok-reserve.ensures.items c.put.ensures.items
-    (c.put-2.ensures.items ∙ ap (λ x. c.put.new.out.items ++ x) c.to_be_bytes.ensures)
-    (c.put-3.ensures.items ∙ ap (λ x. c.put-2.new.out.items ++ x) (c.to_be_bytes-2.ensures ∙ ap (to_be_bytes w32) exact))
+    header_and_data _ _ _ _ _ c.args.magic.now (to_be_bytes w32 c.args.kind) (to_be_bytes w32 (length (join_with_byte 0 (texts_of c.args.texts.now)))) _ c.in_ok-reserve.ensures.items c.put.ensures.items
+    (c.header.ensures ∙ ap (λ n. c.args.magic.now ++ to_be_bytes w32 c.args.kind ++ to_be_bytes w32 n) exact)
     c.put_data.ensures.items
 
 -- a fact that holds anyway
