@@ -1,5 +1,6 @@
 //! A piece in which memory is wanting.
 
+use crate::tests::same;
 use gm_core::{Front, Input, StepError};
 use gm_feeder::Limits;
 use gm_notes::{ApplyError, Config, Place};
@@ -24,7 +25,7 @@ fn opened(alloc: Global) -> Result<Front<PlainServer>, Fail> {
     Ok(front)
 }
 
-// The last job that a piece for slot 0 makes.
+// What comes of a piece for slot 0: the last job that it makes.
 fn give(front: &mut Front<PlainServer>, piece: &[u8]) -> Result<Option<u64>, StepError> {
     match front.step(Input::Piece(0, piece)) {
         Ok(stepped) => Ok(stepped.done.created),
@@ -32,33 +33,42 @@ fn give(front: &mut Front<PlainServer>, piece: &[u8]) -> Result<Option<u64>, Ste
     }
 }
 
-// Where the jobs are of which the first so many were made.
-fn places_after(made: u64) -> [Place; 3] {
-    match made {
-        0 => [Place::Unmade, Place::Unmade, Place::Unmade],
-        1 => [Place::Waiting, Place::Unmade, Place::Unmade],
-        2 => [Place::Waiting, Place::Waiting, Place::Unmade],
-        _ => [Place::Waiting, Place::Waiting, Place::Waiting],
+// How many jobs stand: all three of a piece that was taken, and the units before the cut of one that wasn't.
+fn standing(given: Result<Option<u64>, StepError>) -> Option<usize> {
+    match given {
+        Ok(Some(3)) => Some(3),
+        Err(StepError::Cut { units: 0 }) => Some(0),
+        Err(StepError::Cut { units: 1 }) => Some(1),
+        Err(StepError::Cut { units: 2 }) => Some(2),
+        _ => None,
     }
+}
+
+// Where the three jobs are.
+fn places(front: &Front<PlainServer>) -> [Place; 3] {
+    [front.place(1), front.place(2), front.place(3)]
+}
+
+// Where they are to be when so many stand.
+static PLACES: [[Place; 3]; 4] = [
+    [Place::Unmade, Place::Unmade, Place::Unmade],
+    [Place::Waiting, Place::Unmade, Place::Unmade],
+    [Place::Waiting, Place::Waiting, Place::Unmade],
+    [Place::Waiting, Place::Waiting, Place::Waiting],
+];
+
+// Whether slot 0 takes pieces.
+fn takes_pieces(front: &mut Front<PlainServer>) -> bool {
+    give(front, b"\0") != Err(StepError::Refused(ApplyError::NotOpen))
 }
 
 /// A piece makes its three jobs. Where memory is wanting in it, the jobs before that stand, and the slot is closed.
 #[test]
 fn cut_piece(rt: HostRuntime) -> Result<(), Fail> {
     let mut front = opened(rt.alloc())?;
-    let made = match give(&mut front, PIECE) {
-        Err(StepError::Cut { units }) => {
-            assert!(rt; units <= 2);
-            let again = give(&mut front, b"\0");
-            assert_eq!(rt; again, Err(StepError::Refused(ApplyError::NotOpen)));
-            units
-        }
-        whole => {
-            assert_eq!(rt; whole, Ok(Some(3)));
-            3
-        }
-    };
-    let places = [front.place(1), front.place(2), front.place(3)];
-    assert_eq!(rt; places, places_after(made));
+    let given = give(&mut front, PIECE);
+    let standing = standing(given).ok_or("neither taken nor cut")?;
+    same(&rt, "places", &Some(&places(&front)), &PLACES.get(standing));
+    same(&rt, "open", &takes_pieces(&mut front), &(standing == 3));
     Ok(())
 }

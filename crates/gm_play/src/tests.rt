@@ -14,10 +14,18 @@ use gm_feeder::Limits;
 use gm_notes::Config;
 use std::alloc::{AllocError, Global};
 use std::env::{Env, FillError};
+use std::fmt::Debug;
 use std::hash::RandomState;
 use std::io::{Error, ErrorKind, Read, Write};
+use std::process::Abort;
 use std::test::Fail;
 use std::{io, str};
+
+// The test fails where these aren't the same, and says at what. A call of this costs a proof little; an assertion in its
+// place would be spelled out anew each time.
+pub fn same<T: PartialEq + Debug>(rt: &impl Abort, at: &str, got: &T, wanted: &T) {
+    assert!(rt; got == wanted, "{at}: {got:?}, and not {wanted:?}");
+}
 
 // The settings that terms say.
 fn settings_of(alloc: Global, terms: Terms) -> Result<PlaySettings, Fail>
@@ -138,7 +146,7 @@ fn wrong_row(rt: &HostRuntime, rows: &[Row]) -> Result<Option<&'static str>, Fai
 fn rows(rt: HostRuntime) -> Result<(), Fail> {
     for rows in all() {
         let wrong = wrong_row(&rt, rows)?;
-        assert_eq!(rt; wrong, None);
+        same(&rt, "rows", &wrong, &None);
     }
     Ok(())
 }
@@ -156,16 +164,16 @@ fn printed_bytes(rt: &HostRuntime, byte: u8, len: u64) -> Result<Result<usize, P
 #[test]
 fn long_scripts(rt: HostRuntime) -> Result<(), Fail> {
     let longest = printed_bytes(&rt, b'x', 16_777_216)?;
-    assert_eq!(rt; longest, Ok(9));
+    same(&rt, "longest", &longest, &Ok(9));
     let too_long = printed_bytes(&rt, b'x', 16_777_217)?;
-    assert_eq!(rt; too_long, Err(PlayError::TooLong));
+    same(&rt, "too long", &too_long, &Err(PlayError::TooLong));
     Ok(())
 }
 
 #[test]
 fn newlines_alone(rt: HostRuntime) -> Result<(), Fail> {
     let printed = printed_bytes(&rt, b'\n', 16_777_216)?;
-    assert_eq!(rt; printed, Ok(0));
+    same(&rt, "newlines", &printed, &Ok(0));
     Ok(())
 }
 
@@ -191,7 +199,7 @@ impl Read for BrokenReader {
 fn reader_fails(rt: HostRuntime) -> Result<(), Fail> {
     let mut out = Vec::new(rt.alloc());
     let outcome = outcome(&rt, USUAL, &mut BrokenReader { given: false }, &mut out)?;
-    assert_eq!(rt; outcome, Err(PlayError::Read));
+    same(&rt, "reader", &outcome, &Err(PlayError::Read));
     Ok(())
 }
 
@@ -226,7 +234,7 @@ fn outcome_in(rt: &HostRuntime, room: usize) -> Result<Result<(), PlayError>, Fa
 fn writer_fails(rt: HostRuntime) -> Result<(), Fail> {
     for room in 0..14 {
         let outcome = outcome_in(&rt, room)?;
-        assert_eq!(rt; outcome, Err(PlayError::Write), "room for {room}");
+        same(&rt, "writer", &outcome, &Err(PlayError::Write));
     }
     outcome_in(&rt, 14)??;
     Ok(())
@@ -300,14 +308,14 @@ fn exit_code(alloc: Global, words: &[&str]) -> Option<i32> {
 fn refused_words(rt: HostRuntime) {
     for [word, value] in &REFUSED {
         let code = exit_code(rt.alloc(), &["gm_play", *word, *value]);
-        assert_eq!(rt; code, Some(2), "{word} {value}");
+        same(&rt, word, &code, &Some(2));
     }
 }
 
 #[test]
 fn help(rt: HostRuntime) {
     let code = exit_code(rt.alloc(), &["gm_play", "--help"]);
-    assert_eq!(rt; code, Some(0));
+    same(&rt, "help", &code, &Some(0));
 }
 
 // A program whose only word is a byte that no text has.
@@ -343,7 +351,7 @@ fn words_that_are_no_text(rt: HostRuntime) {
         Ok(_) => 0,
         Err(stop) => stop.status(),
     };
-    assert_eq!(rt; status, 2);
+    same(&rt, "status", &status, &2);
 }
 
 #[test]
@@ -356,5 +364,5 @@ fn statuses(rt: HostRuntime) {
         Stop::Play(PlayError::Write).status(),
         Stop::Play(PlayError::Memory).status(),
     ];
-    assert_eq!(rt; statuses, [2, 3, 2, 2, 3, 3]);
+    same(&rt, "statuses", &statuses, &[2, 3, 2, 2, 3, 3]);
 }
