@@ -1,9 +1,12 @@
 //! A piece in which memory is wanting.
 
-use crate::tests::same;
+ghost use Rattle.std.specs.Prelude.{◌≤◌};
+
+use crate::playing::PlaySettings;
+use crate::rows::USUAL;
+use crate::tests::{same, settings_of};
 use gm_core::{Front, Input, StepError};
-use gm_feeder::Limits;
-use gm_notes::{ApplyError, Config, Place};
+use gm_notes::{ApplyError, Place};
 use gm_plain::PlainServer;
 use std::alloc::Global;
 use std::test::Fail;
@@ -12,15 +15,18 @@ use std::test::Fail;
 const PIECE: &[u8] =
     b"\0REQ\0\0\0\x12\0\0\0\x05f\0-\0d\0REQ\0\0\0\x12\0\0\0\x05f\0-\0d\0REQ\0\0\0\x12\0\0\0\x05f\0-\0d";
 
-// A plain server behind its front, slot 0 open.
+// A plain server behind its front.
+fn front_of(alloc: Global, settings: PlaySettings) -> Result<Front<PlainServer>, Fail>
+    requires { settings.limits.max_bytes ≤ 1073741824 }
+{
+    let server = PlainServer::new(alloc, settings.config)?;
+    Ok(Front::new(alloc, server, settings.limits)?)
+}
+
+// Slot 0 is open.
 fn opened(alloc: Global) -> Result<Front<PlainServer>, Fail> {
-    let config = Config::new(Vec::from_slice(alloc, b"gmd")?, 1, 64, 65536)?;
-    let server = PlainServer::new(alloc, config)?;
-    let limits = Limits {
-        max_bytes: 67_108_864,
-        max_line: 1024,
-    };
-    let mut front = Front::new(alloc, server, limits)?;
+    let settings = settings_of(alloc, USUAL)?;
+    let mut front = front_of(alloc, settings)?;
     front.step(Input::Open(b"127.0.0.1"))?;
     Ok(front)
 }

@@ -1,9 +1,11 @@
 //! Worked rows: scripts, and what they print. The digits are those of the protocol's packets: docs/ROWS.md
 //! says what each row does, and what it shows.
 
-mod jobs;
 mod lines;
-mod units;
+mod packets;
+mod runs;
+mod streams;
+mod submissions;
 mod workers;
 
 /// The first job's number, and how many slots and functions there may be.
@@ -30,7 +32,14 @@ pub const USUAL: Terms = Terms {
     functions: 65536,
 };
 
-/// All rows, by topic. A topic's rows come from a function, so that what goes over them isn't proved over each.
-pub fn all() -> [&'static [Row]; 4] {
-    [units::rows(), jobs::rows(), workers::rows(), lines::rows()]
+/// All rows, by topic. A topic has few, and hands them on by a function: so only its own proof spells them out.
+pub fn all() -> [&'static [Row]; 6] {
+    [
+        packets::rows(),
+        streams::rows(),
+        submissions::rows(),
+        runs::rows(),
+        workers::rows(),
+        lines::rows(),
+    ]
 }

@@ -28,7 +28,7 @@ pub fn same<T: PartialEq + Debug>(rt: &impl Abort, at: &str, got: &T, wanted: &T
 }
 
 // The settings that terms say.
-fn settings_of(alloc: Global, terms: Terms) -> Result<PlaySettings, Fail>
+pub fn settings_of(alloc: Global, terms: Terms) -> Result<PlaySettings, Fail>
     ensures { IfOk result (λ settings. settings.limits.max_bytes ≤ 1073741824) }
 {
     let name = Vec::from_slice(alloc, b"gmd")?;
