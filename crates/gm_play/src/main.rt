@@ -7,6 +7,8 @@
 mod error;
 pub mod laws;
 mod line;
+#[cfg(test)]
+mod memory;
 mod order;
 mod playing;
 #[cfg(test)]
@@ -25,6 +27,7 @@ use gm_feeder::Limits;
 use gm_notes::Config;
 use playing::{PlaySettings, play};
 use std::alloc::Global;
+use std::env::Env;
 use std::hash::RandomState;
 use std::io::{BufWriter, Write};
 use std::process::ExitCode;
@@ -40,9 +43,19 @@ fn words_stop(error: io::Error) -> Stop {
     }
 }
 
+/// The words that the program is given, the first of which is its name.
+fn words_given<R: Env + AllocGlobal>(rt: &R) -> Result<Vec<String>, Stop> {
+    match env::args(rt) {
+        Ok(words) => Ok(words.collect(rt.alloc())?),
+        Err(error) => Err(words_stop(error)),
+    }
+}
+
 /// Says what is wrong with the words, or prints the help that they ask for.
 fn tell(rt: &HostRuntime, error: &clap::Error) -> Result<(), Stop> {
-    error.print(rt).map_err(|_| Stop::Play(PlayError::Write))?;
+    let Ok(()) = error.print(rt) else {
+        return Err(Stop::Play(PlayError::Write));
+    };
     match error.kind() {
         ErrorKind::DisplayHelp => Ok(()),
         ErrorKind::OutOfMemory => Err(Stop::Play(PlayError::Memory)),
@@ -55,9 +68,7 @@ fn settings_of(alloc: Global, asked: Asked) -> Result<PlaySettings, Stop>
     requires { asked.max_data ≤ 1073741824 }
     ensures { IfOk result (λ settings. settings.limits.max_bytes ≤ 1073741824) }
 {
-    let Ok(name) = Vec::from_slice(alloc, b"gmd") else {
-        return Err(Stop::Play(PlayError::Memory));
-    };
+    let name = Vec::from_slice(alloc, b"gmd")?;
     let Ok(config) = Config::new(name, asked.first_job, asked.slots, asked.functions) else {
         return Err(Stop::Words);
     };
@@ -75,24 +86,21 @@ fn settings_of(alloc: Global, asked: Asked) -> Result<PlaySettings, Stop>
 fn play_input(rt: &HostRuntime, settings: PlaySettings) -> Result<(), Stop>
     requires { settings.limits.max_bytes ≤ 1073741824 }
 {
-    let seed = RandomState::new(rt).map_err(|_| Stop::Seed)?;
-    let mut writer = BufWriter::new(rt.alloc(), rt.stdout()).map_err(|_| Stop::Play(
-        PlayError::Memory,
-    ))?;
-    play(rt.alloc(), seed, settings, &mut rt.stdin(), &mut writer).map_err(Stop::Play)?;
-    writer.flush().map_err(|_| Stop::Play(PlayError::Write))
+    let Ok(seed) = RandomState::new(rt) else {
+        return Err(Stop::Seed);
+    };
+    let Ok(mut writer) = BufWriter::new(rt.alloc(), rt.stdout()) else {
+        return Err(Stop::Play(PlayError::Memory));
+    };
+    play(rt.alloc(), seed, settings, &mut rt.stdin(), &mut writer)?;
+    match writer.flush() {
+        Ok(()) => Ok(()),
+        Err(_) => Err(Stop::Play(PlayError::Write)),
+    }
 }
 
 fn run(rt: &HostRuntime) -> Result<(), Stop> {
-    let words = env::args(rt).map_err(words_stop)?;
-    let words: Vec<String> = words
-        .collect(rt.alloc())
-        .map_err(|_| Stop::Play(PlayError::Memory))?;
-    let words: Vec<&str> = words
-        .iter()
-        .map(|word| word.as_str())
-        .collect(rt.alloc())
-        .map_err(|_| Stop::Play(PlayError::Memory))?;
+    let words = words_given(rt)?;
     match read_words(rt.alloc(), &words) {
         Ok(asked) => play_input(rt, settings_of(rt.alloc(), asked)?),
         Err(error) => tell(rt, &error),

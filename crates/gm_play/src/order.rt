@@ -11,7 +11,7 @@ ghost use Rattle.gm_play.specs.Orders.{cut, SaysDigit, IsReading, order_view};
 use std::alloc::{AllocError, Global};
 
 /// What a line asks for.
-#[derive(Debug, Drop)]
+#[derive(Drop)]
 pub enum Order<'a> {
     /// Nothing: the line is empty or a remark.
     Skip,

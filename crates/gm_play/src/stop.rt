@@ -4,6 +4,7 @@ ghost use Rattle.std.specs.Prelude.{◌≡◌};
 ghost use Rattle.gm_play.specs.Statuses.{stop_status};
 
 use crate::error::PlayError;
+use std::alloc::AllocError;
 use thiserror::Error;
 
 /// Why the program ends early.
@@ -17,7 +18,7 @@ pub enum Stop {
     Seed,
     /// The script wasn't played to its end.
     #[error("{0}")]
-    Play(PlayError),
+    Play(#[from] PlayError),
 }
 
 impl Stop {
@@ -31,5 +32,11 @@ impl Stop {
             Stop::Play(PlayError::Read | PlayError::TooLong) => 2,
             Stop::Play(PlayError::Write | PlayError::Memory) => 3,
         }
+    }
+}
+
+impl From<AllocError> for Stop {
+    fn from(_e: AllocError) -> Stop {
+        Stop::Play(PlayError::Memory)
     }
 }

@@ -3,20 +3,32 @@
 ghost use Rattle.std.specs.Prelude.{◌≤◌, IfOk};
 
 use crate::error::PlayError;
+use crate::order::{Order, order_of};
 use crate::playing::{PlaySettings, play};
-use crate::rows::{ROWS, Terms};
+use crate::rows::{Row, Terms, USUAL, all};
 use crate::stop::Stop;
+use crate::text::put_bytes;
 use crate::words::{Asked, read_words};
+use crate::words_given;
 use gm_feeder::Limits;
 use gm_notes::Config;
 use std::alloc::{AllocError, Global};
+use std::env::{Env, FillError};
+use std::fmt::Debug;
 use std::hash::RandomState;
-use std::io;
 use std::io::{Error, ErrorKind, Read, Write};
+use std::process::Abort;
 use std::test::Fail;
+use std::{io, str};
 
-// The settings of a row.
-fn settings_of(alloc: Global, terms: Terms) -> Result<PlaySettings, Fail>
+// The test fails where these aren't the same, and says at what. A call of this costs a proof little; an assertion in its
+// place would be spelled out anew each time.
+pub fn same<T: PartialEq + Debug>(rt: &impl Abort, at: &str, got: &T, wanted: &T) {
+    assert!(rt; got == wanted, "{at}: {got:?}, and not {wanted:?}");
+}
+
+// The settings that terms say.
+pub fn settings_of(alloc: Global, terms: Terms) -> Result<PlaySettings, Fail>
     ensures { IfOk result (λ settings. settings.limits.max_bytes ≤ 1073741824) }
 {
     let name = Vec::from_slice(alloc, b"gmd")?;
@@ -31,72 +43,137 @@ fn settings_of(alloc: Global, terms: Terms) -> Result<PlaySettings, Fail>
     })
 }
 
-// The settings, with so many slots.
-fn settings(alloc: Global, slots: u32) -> Result<PlaySettings, Fail>
-    ensures { IfOk result (λ settings. settings.limits.max_bytes ≤ 1073741824) }
-{
-    settings_of(
-        alloc,
-        Terms {
-            first_job: 1,
-            slots,
-            functions: 65536,
-        },
-    )
+// What comes of a script. That nothing is said of it here keeps the tests' proofs short.
+fn outcome<R: Read, W: Write>(
+    rt: &HostRuntime,
+    terms: Terms,
+    reader: &mut R,
+    writer: &mut W,
+) -> Result<Result<(), PlayError>, Fail> {
+    let alloc = rt.alloc();
+    let seed = RandomState::new(rt)?;
+    let settings = settings_of(alloc, terms)?;
+    Ok(play(alloc, seed, settings, reader, writer))
 }
 
-// What a script prints under settings.
-fn printed_by(rt: &HostRuntime, settings: PlaySettings, script: &[u8]) -> Result<Vec<u8>, Fail>
-    requires { settings.limits.max_bytes ≤ 1073741824 }
-{
-    let alloc = rt.alloc();
-    let mut out = Vec::new(alloc);
+// What a script prints.
+fn printed_by(rt: &HostRuntime, terms: Terms, script: &[u8]) -> Result<Vec<u8>, Fail> {
     let mut reader = script;
-    play(
-        alloc,
-        RandomState::new(rt)?,
-        settings,
-        &mut reader,
-        &mut out,
-    )?;
+    let mut out = Vec::new(rt.alloc());
+    outcome(rt, terms, &mut reader, &mut out)??;
     Ok(out)
 }
 
-// Each worked row prints what it should.
-#[test]
-fn rows(rt: HostRuntime) -> Result<(), Fail> {
-    for row in ROWS {
-        let settings = settings_of(rt.alloc(), row.terms)?;
-        let out = printed_by(&rt, settings, row.script.as_bytes())?;
-        assert_eq!(rt; out.as_slice(), row.printed.as_bytes(), "{}", row.name);
+// Appends a line of a script, its piece cut into bytes.
+fn put_bytewise(alloc: Global, out: &mut Vec<u8>, line: &[u8]) -> Result<(), AllocError> {
+    match order_of(alloc, line)? {
+        Order::Bytes { slot, piece } => put_each(out, slot, &piece),
+        _ => {
+            out.extend_from_slice(line)?;
+            out.extend_from_slice(b"\n")
+        }
+    }
+}
+
+// Appends a line for each byte.
+fn put_each(out: &mut Vec<u8>, slot: u32, piece: &[u8]) -> Result<(), AllocError> {
+    for byte in piece {
+        out.extend_from_slice(b"bytes ")?;
+        put_bytes(out, slot, &[*byte])?;
     }
     Ok(())
 }
 
-// What comes of a script of so many bytes like this one: how much is printed.
-fn played_bytes(rt: &HostRuntime, byte: u8, len: u64) -> Result<Result<usize, PlayError>, Fail> {
-    let alloc = rt.alloc();
+// The script with all its pieces cut into bytes.
+fn bytewise(alloc: Global, script: &str) -> Result<Vec<u8>, AllocError> {
     let mut out = Vec::new(alloc);
-    let outcome = play(
-        alloc,
-        RandomState::new(rt)?,
-        settings(alloc, 1)?,
-        &mut io::repeat(byte).take(len),
-        &mut out,
-    );
-    Ok(match outcome {
-        Ok(()) => Ok(out.len()),
-        Err(fault) => Err(fault),
-    })
+    for line in script.split('\n') {
+        put_bytewise(alloc, &mut out, line.as_bytes())?;
+    }
+    Ok(out)
+}
+
+// The digits of a NOOP.
+const NOOP: &str = "005245530000000600000000";
+
+// What the lines say that begin so, without a NOOP at the end.
+fn said(alloc: Global, printed: &str, start: &str) -> Result<String, AllocError> {
+    let mut text = String::new(alloc);
+    for line in printed.split('\n') {
+        if let Some(rest) = line.strip_prefix(start) {
+            text.push_str(rest.strip_suffix(NOOP).unwrap_or(rest))?;
+        }
+    }
+    Ok(text)
+}
+
+// Whether two printed texts say the same but for where it stands: the same to each slot, and the same of the script's
+// own lines.
+fn say_the_same(alloc: Global, one: &str, other: &str) -> Result<bool, AllocError> {
+    for start in ["0 ", "1 ", "2 ", "3 ", "bad", "refused 11", "refused 13"] {
+        if said(alloc, one, start)? != said(alloc, other, start)? {
+            return Ok(false);
+        }
+    }
+    Ok(true)
+}
+
+// Whether a row prints what it should.
+fn prints(rt: &HostRuntime, row: &Row) -> Result<bool, Fail> {
+    let out = printed_by(rt, row.terms, row.script.as_bytes())?;
+    Ok(out.as_slice() == row.printed.as_bytes())
+}
+
+// Whether a row says the same byte by byte.
+fn prints_bytewise(rt: &HostRuntime, row: &Row) -> Result<bool, Fail> {
+    let script = bytewise(rt.alloc(), row.script)?;
+    let out = printed_by(rt, row.terms, &script)?;
+    let same = say_the_same(rt.alloc(), str::from_utf8(&out)?, row.printed)?;
+    Ok(same)
+}
+
+// The first row that prints something else than it should, whole or byte by byte.
+fn wrong_row(rt: &HostRuntime, rows: &[Row]) -> Result<Option<&'static str>, Fail> {
+    for row in rows {
+        if !prints(rt, row)? || !prints_bytewise(rt, row)? {
+            return Ok(Some(row.name));
+        }
+    }
+    Ok(None)
+}
+
+#[test]
+fn rows(rt: HostRuntime) -> Result<(), Fail> {
+    for rows in all() {
+        let wrong = wrong_row(&rt, rows)?;
+        same(&rt, "rows", &wrong, &None);
+    }
+    Ok(())
+}
+
+// How much is printed of a script of so many bytes like this one.
+fn printed_bytes(rt: &HostRuntime, byte: u8, len: u64) -> Result<Result<usize, PlayError>, Fail> {
+    let mut out = Vec::new(rt.alloc());
+    let mut reader = io::repeat(byte).take(len);
+    match outcome(rt, USUAL, &mut reader, &mut out)? {
+        Ok(()) => Ok(Ok(out.len())),
+        Err(error) => Ok(Err(error)),
+    }
 }
 
 #[test]
 fn long_scripts(rt: HostRuntime) -> Result<(), Fail> {
-    assert_eq!(rt; played_bytes(&rt, b'x', 16_777_216)?, Ok(9));
-    assert_eq!(rt;
-        played_bytes(&rt, b'x', 16_777_217)?,
-        Err(PlayError::TooLong)
-    );
+    let longest = printed_bytes(&rt, b'x', 16_777_216)?;
+    same(&rt, "longest", &longest, &Ok(9));
+    let too_long = printed_bytes(&rt, b'x', 16_777_217)?;
+    same(&rt, "too long", &too_long, &Err(PlayError::TooLong));
+    Ok(())
+}
+
+#[test]
+fn newlines_alone(rt: HostRuntime) -> Result<(), Fail> {
+    let printed = printed_bytes(&rt, b'\n', 16_777_216)?;
+    same(&rt, "newlines", &printed, &Ok(0));
     Ok(())
 }
 
@@ -116,6 +193,14 @@ impl Read for BrokenReader {
         buf[..script.len()].copy_from_slice(script);
         Ok(script.len())
     }
+}
+
+#[test]
+fn reader_fails(rt: HostRuntime) -> Result<(), Fail> {
+    let mut out = Vec::new(rt.alloc());
+    let outcome = outcome(&rt, USUAL, &mut BrokenReader { given: false }, &mut out)?;
+    same(&rt, "reader", &outcome, &Err(PlayError::Read));
+    Ok(())
 }
 
 // Takes two bytes at a time, and fails once it has no room.
@@ -139,42 +224,24 @@ impl Write for BrokenWriter {
     }
 }
 
+// What comes of two openings where there is room for so many bytes.
+fn outcome_in(rt: &HostRuntime, room: usize) -> Result<Result<(), PlayError>, Fail> {
+    let mut script = b"open a\nopen b".as_slice();
+    outcome(rt, USUAL, &mut script, &mut BrokenWriter { room })
+}
+
 #[test]
-fn devices_that_fail(rt: HostRuntime) -> Result<(), Fail> {
-    let alloc = rt.alloc();
-    let seed = RandomState::new(&rt)?;
-    let mut out = Vec::new(alloc);
-    let outcome = play(
-        alloc,
-        seed,
-        settings(alloc, 1)?,
-        &mut BrokenReader { given: false },
-        &mut out,
-    );
-    assert_eq!(rt; outcome, Err(PlayError::Read));
+fn writer_fails(rt: HostRuntime) -> Result<(), Fail> {
     for room in 0..14 {
-        let outcome = play(
-            alloc,
-            seed,
-            settings(alloc, 2)?,
-            &mut b"open a\nopen b".as_slice(),
-            &mut BrokenWriter { room },
-        );
-        assert_eq!(rt; outcome, Err(PlayError::Write), "room for {room}");
+        let outcome = outcome_in(&rt, room)?;
+        same(&rt, "writer", &outcome, &Err(PlayError::Write));
     }
-    let outcome = play(
-        alloc,
-        seed,
-        settings(alloc, 2)?,
-        &mut b"open a\nopen b".as_slice(),
-        &mut BrokenWriter { room: 14 },
-    );
-    assert_eq!(rt; outcome, Ok(()));
+    outcome_in(&rt, 14)??;
     Ok(())
 }
 
 // What is asked for without words.
-const USUAL: Asked = Asked {
+const NO_WORDS: Asked = Asked {
     plain: false,
     first_job: 1,
     slots: 64,
@@ -182,56 +249,120 @@ const USUAL: Asked = Asked {
     max_data: 67_108_864,
 };
 
-// Words that aren't understood, or are out of range.
-const REFUSED: [&[&str]; 8] = [
-    &["gm_play", "x"],
-    &["gm_play", "--jump"],
-    &["gm_play", "--first-job", "0"],
-    &["gm_play", "--slots", "0"],
-    &["gm_play", "--slots", "1025"],
-    &["gm_play", "--functions", "65537"],
-    &["gm_play", "--max-data", "1073741825"],
-    &["gm_play", "--slots"],
+#[test]
+fn words(rt: HostRuntime) -> Result<(), Fail> {
+    let asked = read_words(rt.alloc(), &["gm_play"])?;
+    assert!(rt; asked == NO_WORDS);
+    Ok(())
+}
+
+// Each option.
+static OPTIONS: [&str; 9] = [
+    "gm_play",
+    "--plain",
+    "--first-job",
+    "18446744073709551615",
+    "--slots",
+    "1024",
+    "--functions=1",
+    "--max-data",
+    "0",
 ];
 
 #[test]
-fn words(rt: HostRuntime) -> Result<(), Fail> {
-    let alloc = rt.alloc();
-    assert_eq!(rt; read_words(alloc, &["gm_play"])?, USUAL);
-    let all = [
-        "gm_play",
-        "--plain",
-        "--first-job",
-        "18446744073709551615",
-        "--slots",
-        "1024",
-        "--functions=1",
-        "--max-data",
-        "0",
-    ];
-    let asked = Asked {
+fn options(rt: HostRuntime) -> Result<(), Fail> {
+    let asked = read_words(rt.alloc(), &OPTIONS)?;
+    let wanted = Asked {
         plain: true,
         first_job: 18_446_744_073_709_551_615,
         slots: 1024,
         functions: 1,
         max_data: 0,
     };
-    assert_eq!(rt; read_words(alloc, &all)?, asked);
-    for refused in REFUSED {
-        let status = read_words(alloc, refused).map_err(|error| error.exit_code());
-        assert_eq!(rt; status, Err(2));
-    }
-    let help = read_words(alloc, &["gm_play", "--help"]).map_err(|error| error.exit_code());
-    assert_eq!(rt; help, Err(0));
+    assert!(rt; asked == wanted);
     Ok(())
+}
+
+// Words that aren't understood, or are out of range.
+static REFUSED: [[&str; 2]; 9] = [
+    ["x", "x"],
+    ["--jump", "1"],
+    ["--first-job", "0"],
+    ["--slots", "0"],
+    ["--slots", "1025"],
+    ["--functions", "0"],
+    ["--functions", "65537"],
+    ["--max-data", "1073741825"],
+    ["--plain", "--slots"],
+];
+
+// The status that the reading of words ends with, where they aren't to be played.
+fn exit_code(alloc: Global, words: &[&str]) -> Option<i32> {
+    match read_words(alloc, words) {
+        Ok(_) => None,
+        Err(error) => Some(error.exit_code()),
+    }
+}
+
+#[test]
+fn refused_words(rt: HostRuntime) {
+    for [word, value] in &REFUSED {
+        let code = exit_code(rt.alloc(), &["gm_play", *word, *value]);
+        same(&rt, word, &code, &Some(2));
+    }
+}
+
+#[test]
+fn help(rt: HostRuntime) {
+    let code = exit_code(rt.alloc(), &["gm_play", "--help"]);
+    same(&rt, "help", &code, &Some(0));
+}
+
+// A program whose only word is a byte that no text has.
+#[derive(Drop)]
+struct Byte;
+
+impl Env for Byte {
+    fn arg(&self, i: usize, buf: &mut [u8]) -> Result<usize, FillError> {
+        if i > 0 {
+            return Err(FillError::NotPresent);
+        }
+        match buf.first_mut() {
+            Some(first) => {
+                *first = 0xff;
+                Ok(1)
+            }
+            None => Err(FillError::TooLong),
+        }
+    }
+
+    fn var(&self, _name: &str, _buf: &mut [u8]) -> Result<usize, FillError> {
+        Err(FillError::NotPresent)
+    }
+
+    fn var_at(&self, _i: usize, _buf: &mut [u8]) -> Result<usize, FillError> {
+        Err(FillError::NotPresent)
+    }
+}
+
+#[test]
+fn words_that_are_no_text(rt: HostRuntime) {
+    let status = match words_given(&(Byte, rt.alloc())) {
+        Ok(_) => 0,
+        Err(stop) => stop.status(),
+    };
+    same(&rt, "status", &status, &2);
 }
 
 #[test]
 fn statuses(rt: HostRuntime) {
-    assert_eq!(rt; Stop::Words.status(), 2);
-    assert_eq!(rt; Stop::Seed.status(), 3);
-    assert_eq!(rt; Stop::Play(PlayError::Read).status(), 2);
-    assert_eq!(rt; Stop::Play(PlayError::TooLong).status(), 2);
-    assert_eq!(rt; Stop::Play(PlayError::Write).status(), 3);
-    assert_eq!(rt; Stop::Play(PlayError::Memory).status(), 3);
+    let statuses = [
+        Stop::Words.status(),
+        Stop::Seed.status(),
+        Stop::Play(PlayError::Read).status(),
+        Stop::Play(PlayError::TooLong).status(),
+        Stop::Play(PlayError::Write).status(),
+        Stop::Play(PlayError::Memory).status(),
+    ];
+    same(&rt, "statuses", &statuses, &[2, 3, 2, 2, 3, 3]);
 }

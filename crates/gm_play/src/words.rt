@@ -3,13 +3,14 @@
 ghost use Rattle.std.specs.Prelude.{◌≤◌, IfOk};
 
 use clap::{Arg, ArgAction, Command, Error};
-use std::alloc::Global;
+use std::alloc::{AllocError, Global};
+use std::convert::AsStr;
 
 /// The most data that a packet may have.
 const MOST_DATA: u32 = 1_073_741_824;
 
 /// What the words ask for.
-#[derive(Clone, Copy, Debug, PartialEq, Eq)]
+#[derive(Clone, Copy, PartialEq, Eq)]
 pub struct Asked {
     pub plain: bool,
     pub first_job: u64,
@@ -18,40 +19,67 @@ pub struct Asked {
     pub max_data: u32,
 }
 
-/// The program's command: its options, with the range of each.
-fn command<'a>(alloc: Global) -> Result<Command<'a>, Error> {
-    let plain = Arg::new(alloc, "plain")
+/// The option that takes the plain server.
+fn plain<'a>(alloc: Global) -> Arg<'a> {
+    Arg::new(alloc, "plain")
         .long("plain")
         .action(ArgAction::SetTrue)
-        .help("Plays on the plain server");
-    let first_job = Arg::new(alloc, "first-job")
+        .help("Plays on the plain server")
+}
+
+/// The option that takes the first job's number.
+fn first_job<'a>(alloc: Global) -> Arg<'a> {
+    Arg::new(alloc, "first-job")
         .long("first-job")
         .value_parser(clap::value_parser!(u64).range(1..))
-        .help("The number of the first job, 1 if not given");
-    let slots = Arg::new(alloc, "slots")
-        .long("slots")
-        .value_parser(clap::value_parser!(u32).range(1..=1024))
-        .help("How many connections there may be, 64 if not given");
-    let functions = Arg::new(alloc, "functions")
-        .long("functions")
-        .value_parser(clap::value_parser!(u32).range(1..=65536))
-        .help("How many functions there may be, 65536 if not given");
-    let max_data = Arg::new(alloc, "max-data")
-        .long("max-data")
-        .value_parser(clap::value_parser!(u32).range(0..=1_073_741_824))
-        .help("How many bytes of data a packet may have, 67108864 if not given");
+        .help("The number of the first job, 1 if not given")
+}
+
+/// An option that takes a number in this range.
+fn number<'a>(alloc: Global, name: &'a str, least: i64, most: i64, help: &'a str) -> Arg<'a> {
+    Arg::new(alloc, name)
+        .long(name)
+        .value_parser(clap::value_parser!(u32).range(least..=most))
+        .help(help)
+}
+
+/// The command with the options of the server's sizes.
+fn with_sizes<'a>(alloc: Global, command: Command<'a>) -> Result<Command<'a>, AllocError> {
+    command
+        .arg(number(
+            alloc,
+            "slots",
+            1,
+            1024,
+            "How many connections there may be, 64 if not given",
+        ))?
+        .arg(number(
+            alloc,
+            "functions",
+            1,
+            65536,
+            "How many functions there may be, 65536 if not given",
+        ))?
+        .arg(number(
+            alloc,
+            "max-data",
+            0,
+            1_073_741_824,
+            "How many bytes of data a packet may have, 67108864 if not given",
+        ))
+}
+
+/// The program's command: its options, with the range of each.
+fn command<'a>(alloc: Global) -> Result<Command<'a>, AllocError> {
     let command = Command::new(alloc, "gm_play")
         .about("Plays the script on standard input on a job server, and prints what comes of it")
-        .arg(plain)?
-        .arg(first_job)?
-        .arg(slots)?
-        .arg(functions)?
-        .arg(max_data)?;
-    Ok(command)
+        .arg(plain(alloc))?
+        .arg(first_job(alloc))?;
+    with_sizes(alloc, command)
 }
 
 /// What the words ask for, of which the first is the program's name.
-pub fn read_words<'a>(alloc: Global, words: &'a [&'a str]) -> Result<Asked, Error>
+pub fn read_words<S: AsStr>(alloc: Global, words: &[S]) -> Result<Asked, Error>
     ensures { IfOk result (λ asked. asked.max_data ≤ 1073741824) }
 {
     let matches = command(alloc)?.try_get_matches_from(words)?;
