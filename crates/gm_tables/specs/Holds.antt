@@ -18,7 +18,7 @@ use Rattle.gm_conns.specs.Tables as conns
 use Rattle.gm_queues.specs.Tables.{number_of, limit, queue}
 use Rattle.gm_queues.specs.Tables as queues
 use Rattle.gm_jobs.specs.Live.{Live}
-use Rattle.gm_jobs.specs.Tables.{job, place, is_made}
+use Rattle.gm_jobs.specs.Tables.{job, place, is_made, IsNamed}
 use Rattle.gm_jobs.specs.Tables as jobs
 use Rattle.gm_tables.specs.declared.core.Core.{Core}
 use Rattle.gm_notes.specs.Submissions.{Submission, wanted}
@@ -168,3 +168,7 @@ added c s n past = wanted c s n (noted (Made n s.function s.priority s.unique s.
 abbrev pub first_listener : Bool → ℕ → Option ℕ
 first_listener true c = None
 first_listener false c = Some c
+
+-- no live job of this function has this unique id, if that joins
+abbrev pub IsAlone : List ℕ → List ℕ → queues.Table → jobs.Table → Type 0
+IsAlone f unique mentioned live = (g : ℕ) → number_of f mentioned ≡ Some g → (n : ℕ) → IsNamed g unique live n → ⊥

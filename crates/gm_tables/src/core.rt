@@ -10,8 +10,9 @@ ghost use Rattle.gm_tables.specs.Refusals.{code_of};
 mod abilities;
 mod connecting;
 mod naming;
-mod submitting;
 mod opening;
+mod submitting;
+mod waking;
 
 use crate::refusal::Refusal;
 use gm_conns::Conns;
@@ -83,6 +84,8 @@ impl Core {
         ensures open { IsOpen self.new.conns slot }
         ensures text { OnOk result (self.new.text.items ≡ answer_packet (answer_of response.now)) }
         ensures room { OnOk result (length self.new.text.items ≤ (conn self.new.conns slot).room) }
+        ensures functions { self.new.functions ≡ self.old.functions }
+        ensures jobs { self.new.jobs ≡ self.old.jobs }
     {
         self.text.clear();
         write_response(response, &mut self.text)?;
@@ -95,6 +98,7 @@ impl Core {
         requires room { length self.old.text.items ≤ (conn self.old.conns slot).room }
         ensures goes { Goes self.old self.new (print slot self.old.text.items) }
         ensures open { IsOpen self.new.conns slot }
+        ensures functions { self.new.functions ≡ self.old.functions }
     {
         self.conns.put_out(slot, self.text.as_slice());
     }
