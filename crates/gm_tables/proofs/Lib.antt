@@ -4,3 +4,4 @@ pub mod StartLemmas
 pub mod FunctionLemmas
 pub mod PositionLemmas
 pub mod MentionLemmas
+pub mod WakeLemmas

@@ -11,6 +11,7 @@ mod abilities;
 mod connecting;
 mod naming;
 mod opening;
+mod waking;
 
 use crate::refusal::Refusal;
 use gm_conns::Conns;

@@ -1,11 +1,10 @@
-use Rattle.std.proofs.Common.{◌≡◌, ℕ, true, Option, None, refl, sym, ap, ◌∙◌}
+use Rattle.std.proofs.Common.{◌≡◌, ℕ, Option, None, refl, sym, ap, ◌∙◌}
 use Rattle.gm_notes.specs.declared.note.Note.TheVariants.{Shut}
-use Rattle.gm_notes.specs.Notes.{takes_units}
 use Rattle.gm_notes.specs.Jobs.{made}
 use Rattle.gm_notes.specs.Past.{noted, print}
 use Rattle.gm_notes.specs.Steps.{Fault, refusal, run, unless_not_open}
 use Rattle.gm_notes.specs.Texts.{fault_text}
-use Rattle.gm_tables.proofs.CoreLemmas.{goes_as, goes_then, goes_printed, goes_shut, agrees_next, none_made}
+use Rattle.gm_tables.proofs.CoreLemmas.{goes_then, goes_shut, agrees_next, none_made}
 use Rattle.gm_tables.proofs.core.Core.fault.Goals as goal
 
 pub returns : goal.returns
