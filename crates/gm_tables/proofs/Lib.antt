@@ -5,3 +5,4 @@ pub mod FunctionLemmas
 pub mod PositionLemmas
 pub mod MentionLemmas
 pub mod WakeLemmas
+pub mod OpenLemmas

@@ -47,7 +47,7 @@ pub(super) fn is_owed(phase: Phase) -> bool
 }
 
 /// Whether a server that goes on so takes new connections.
-fn welcomes(mode: Mode) -> bool
+pub(super) fn welcomes(mode: Mode) -> bool
     ensures { result ≡ welcomes mode }
 {
     match mode {

@@ -12,7 +12,7 @@ ghost use Rattle.gm_notes.specs.Servers.{Answers, steps_after, is_closing, owes,
 ghost use Rattle.gm_notes.specs.Texts.{fault_text};
 
 use super::Core;
-use super::connecting::is_owed;
+use super::connecting::{is_owed, welcomes};
 use gm_admin::{AdminError, write_fault};
 use gm_notes::{ApplyError, Done, Mode, Phase, Place, UnitFault};
 use gm_packet::{Response, write_response};
@@ -39,6 +39,21 @@ fn append_fault(fault: UnitFault, out: &mut Vec<u8>) -> Result<(), AllocError>
 
 impl Core {
     ghost use Rattle.gm_tables.specs.Holds.{Goes, CoreAgrees};
+
+    /// A connection from this address is given the least slot that isn't open.
+    pub(super) fn open(&mut self, addr: &[u8]) -> Result<Done, ApplyError>
+        ensures { (k : Settings) (steps : List Step) → CoreAgrees self.old k steps
+            → Answers k steps (Open addr.now) result × CoreAgrees self.new k (steps_after result (Open addr.now) steps) }
+    {
+        if !welcomes(self.mode) {
+            return Err(ApplyError::Refusing);
+        }
+        let slot = self.conns.open(addr)?;
+        Ok(Done {
+            opened: Some(slot),
+            created: None,
+        })
+    }
 
     /// Writes what a fault prints and makes room for it at a slot.
     fn prepare_fault(&mut self, slot: u32, fault: UnitFault) -> Result<(), AllocError>
