@@ -11,7 +11,7 @@ use Rattle.gm_notes.specs.Settings.{Settings}
 use Rattle.gm_notes.specs.Flow.{Began, waiting}
 use Rattle.gm_notes.specs.declared.event.Done.{Done}
 use Rattle.gm_notes.specs.declared.event.ApplyError.{ApplyError}
-use Rattle.gm_notes.specs.declared.event.ApplyError.TheVariants.{NoSlot, Refusing, Memory}
+use Rattle.gm_notes.specs.declared.event.ApplyError.TheVariants.{NoSlot, Memory}
 use Rattle.gm_notes.specs.Notes.{is_open, mode, welcomes}
 use Rattle.gm_notes.specs.Past.{Past, noted, flowed}
 use Rattle.gm_notes.specs.Steps.{Step, free_from, free_slot, if_free, if_welcome, refusal, run}
@@ -70,11 +70,6 @@ pub welcomed : (m : Mode) (o : Option ℕ) → welcomes m ≡ true → if_welcom
 welcomed modes.Running o goes = refl
 welcomed modes.Graceful o goes = absurd cc
 welcomed modes.Stopped o goes = absurd cc
-
-pub not_welcomed : (m : Mode) (o : Option ℕ) → welcomes m ≡ false → if_welcome m o ≡ Some Refusing
-not_welcomed modes.Running o goes = absurd cc
-not_welcomed modes.Graceful o goes = refl
-not_welcomed modes.Stopped o goes = refl
 
 pub free_unless : (o : Option ℕ) → (o ≡ None → ⊥) → if_free o ≡ None
 free_unless None wrong = absurd (wrong refl)
