@@ -15,7 +15,7 @@ use Rattle.gm_queues.specs.Tables.{Table, number_of, queue, limit, is_queue, Cha
 use Rattle.gm_jobs.specs.Live.{fresh, listed}
 use Rattle.gm_jobs.specs.Tables.{Makes, with_room}
 use Rattle.gm_jobs.specs.Tables as jobs
-use Rattle.gm_tables.specs.declared.core.Core.{Core}
+use Rattle.gm_tables.specs.declared.server.Core.{Core}
 use Rattle.gm_tables.specs.Facts.{JobFacts, FunctionFacts, conn_facts, function_facts, job_facts}
 use Rattle.gm_tables.specs.Holds.{Holds, Keeps, AreOpen, HoldsConns, HoldsFunctions, HoldsJobs, Goes, limit_named, added, first_listener}
 use Rattle.gm_tables.proofs.PositionLemmas.{position_within}

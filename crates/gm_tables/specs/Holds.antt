@@ -20,10 +20,10 @@ use Rattle.gm_queues.specs.Tables as queues
 use Rattle.gm_jobs.specs.Live.{Live}
 use Rattle.gm_jobs.specs.Tables.{job, place, is_made, IsNamed}
 use Rattle.gm_jobs.specs.Tables as jobs
-use Rattle.gm_tables.specs.declared.core.Core.{Core}
+use Rattle.gm_tables.specs.declared.server.Core.{Core}
 use Rattle.gm_notes.specs.Submissions.{Submission, wanted}
-use Rattle.gm_tables.specs.declared.core.abilities.Choice.{Choice}
-use Rattle.gm_tables.specs.declared.core.submitting.Submission.{Submission as Found}
+use Rattle.gm_tables.specs.declared.server.abilities.Choice.{Choice}
+use Rattle.gm_tables.specs.declared.server.submitting.Submission.{Submission as Found}
 use Rattle.gm_tables.specs.Facts.{Seen, ConnFacts, FunctionFacts, JobFacts, conn_facts, function_facts, job_facts, queued, running_with}
 
 -- ---- connections

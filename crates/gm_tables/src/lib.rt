@@ -1,8 +1,8 @@
 //! A job server that answers from tables: what was proved of the abstract server is true of it.
 #![tactic(auto)]
 
-mod core;
+mod server;
 mod handles;
 mod refusal;
 
-pub use crate::core::Core;
+pub use server::Core;
