@@ -1,5 +1,5 @@
 -- A job that comes to wait, in the table of jobs and in its queue.
-use Rattle.std.proofs.Common.{◌≡◌, ℕ, ◌<◌, ◌≤◌, ◌^◌, length, Bool, true, false, ◌&&◌, ◌==◌, if◌then◌else◌, List, [], ◌∷◌, ◌++◌, Option, Some, None, unwrap_or, codes, refl, sym, ap, subst, ◌∙◌}
+use Rattle.std.proofs.Common.{◌≡◌, ℕ, ◌<◌, ◌≤◌, ◌^◌, length, Bool, true, false, ◌==◌, if◌then◌else◌, List, [], ◌∷◌, ◌++◌, Option, Some, None, unwrap_or, codes, refl, sym, ap, subst, ◌∙◌}
 use Rattle.gm_notes.specs.declared.note.Note.{Note}
 use Rattle.gm_notes.specs.declared.note.Note.TheVariants.{Made, Kept, Listens}
 use Rattle.gm_notes.specs.declared.states.Priority.{Priority}
@@ -10,14 +10,14 @@ use Rattle.gm_notes.specs.Jobs.{Job, Waits, made, as_they_came, spot, job, is_ke
 use Rattle.gm_notes.specs.Past.{Past}
 use Rattle.gm_notes.specs.Submissions.{Submission}
 use Rattle.gm_conns.specs.Tables.{IsOpen}
-use Rattle.gm_queues.specs.Queues.{Queue, with_job, with_place}
-use Rattle.gm_queues.specs.Tables.{Table, number_of, queue, limit, is_queue, ChangesQueue}
+use Rattle.gm_queues.specs.Queues.{with_job, with_place}
+use Rattle.gm_queues.specs.Tables.{Table, number_of, queue, is_queue, ChangesQueue}
 use Rattle.gm_jobs.specs.Live.{fresh, listed}
 use Rattle.gm_jobs.specs.Tables.{Makes, with_room}
 use Rattle.gm_jobs.specs.Tables as jobs
 use Rattle.gm_tables.specs.declared.server.Core.{Core}
 use Rattle.gm_tables.specs.Facts.{JobFacts, FunctionFacts, conn_facts, function_facts, job_facts}
-use Rattle.gm_tables.specs.Holds.{Holds, Keeps, AreOpen, HoldsConns, HoldsFunctions, HoldsJobs, Goes, limit_named, added, first_listener}
+use Rattle.gm_tables.specs.Holds.{Holds, AreOpen, HoldsConns, HoldsFunctions, HoldsJobs, Goes, limit_named, added, first_listener}
 use Rattle.gm_tables.proofs.PositionLemmas.{position_within}
 use Rattle.gm_tables.proofs.FunctionLemmas.{number_is}
 use Rattle.gm_tables.proofs.MadeLemmas.{with_made, jobs_made}

@@ -5,7 +5,7 @@ use Rattle.gm_notes.specs.declared.states.Priority.{Priority}
 use Rattle.gm_notes.specs.declared.states.Mode.{Mode}
 use Rattle.gm_notes.specs.Settings.{Settings}
 use Rattle.gm_notes.specs.Notes.{phase, is_asleep, moment, mode}
-use Rattle.gm_notes.specs.Flow.{Flow, waiting}
+use Rattle.gm_notes.specs.Flow.{waiting}
 use Rattle.gm_notes.specs.Jobs.{Ability, Spot, Waits, RunsAt, Job, Pick, is_empty, waiting_for}
 use Rattle.gm_notes.specs.declared.note.Note.TheVariants.{Made}
 use Rattle.gm_notes.specs.Past.{Past, noted}

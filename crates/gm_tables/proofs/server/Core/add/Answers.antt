@@ -1,4 +1,4 @@
-use Rattle.std.proofs.Common.{◌≡◌, ◌<◌, ◌^◌, ℕ, Option, length, refl, sym, ap, subst, ◌∙◌}
+use Rattle.std.proofs.Common.{◌≡◌, ◌<◌, ◌^◌, ℕ, Option, length, refl, ap, subst}
 use Rattle.gm_queues.specs.Queues.{with_job}
 use Rattle.gm_queues.specs.Tables.{ChangesQueue}
 use Rattle.gm_jobs.specs.Live.{fresh}

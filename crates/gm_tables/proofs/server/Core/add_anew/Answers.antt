@@ -1,4 +1,4 @@
-use Rattle.std.proofs.Common.{◌≡◌, ◌≢◌, ℕ, length, Some, None, refl, sym, ap, subst, ◌∙◌, take, ◌-◌}
+use Rattle.std.proofs.Common.{◌≡◌, ◌≢◌, length, refl, sym, subst, ◌∙◌, take, ◌-◌}
 use Rattle.gm_queues.specs.Tables.{Table, number_of, IsFree, ChangesNames}
 use Rattle.gm_tables.proofs.FunctionLemmas.{is_none_of, some_same}
 use Rattle.gm_tables.proofs.MentionLemmas.{taken_back, number_here}

@@ -1,4 +1,4 @@
-use Rattle.std.proofs.Common.{◌≡◌, true, false, List, ℕ, Some, refl, sym, ap, ◌∙◌}
+use Rattle.std.proofs.Common.{◌≡◌, false, List, ℕ, Some, refl, sym, ap, ◌∙◌}
 use Rattle.gm_notes.specs.declared.note.Note.TheVariants.{Can}
 use Rattle.gm_notes.specs.Past.{noted}
 use Rattle.gm_notes.specs.Submissions.{is_bad_name}

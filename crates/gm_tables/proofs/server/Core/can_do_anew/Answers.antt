@@ -1,11 +1,9 @@
-use Rattle.std.proofs.Common.{◌≡◌, ◌≢◌, ℕ, true, false, not, ◌&&◌, ◌==◌, nat_le, List, length, codes, Some, None, Err, refl, sym, ap, subst, ◌∙◌, arith}
-use Rattle.std.proofs.lemmas.Bool.Decides.{nat_tests}
+use Rattle.std.proofs.Common.{◌≡◌, ◌≢◌, length, codes, Err, refl, sym, ap, subst, ◌∙◌}
 use Rattle.gm_notes.specs.declared.note.Note.TheVariants.{Can, Mention}
-use Rattle.gm_notes.specs.Jobs.{is_mentioned, waiting_for}
+use Rattle.gm_notes.specs.Jobs.{waiting_for}
 use Rattle.gm_notes.specs.Notes.{phase, is_asleep}
 use Rattle.gm_notes.specs.Past.{noted, refuse}
 use Rattle.gm_queues.specs.Tables.{number_of, IsFree}
-use Rattle.gm_notes.specs.Submissions.{is_one_too_many}
 use Rattle.gm_notes.specs.Workers.{can_do}
 use Rattle.gm_tables.proofs.MentionLemmas.{taken_back, number_here}
 use Rattle.gm_tables.proofs.FunctionLemmas.{anew, nothing_waits, too_many, not_yet_many, is_none_of, some_same}

@@ -1,4 +1,4 @@
-use Rattle.std.proofs.Common.{◌≡◌, false, refl, sym, ap, ◌∙◌}
+use Rattle.std.proofs.Common.{◌≡◌, false, refl, sym, ◌∙◌}
 use Rattle.gm_notes.specs.Submissions.{is_bad_name}
 use Rattle.gm_notes.specs.Workers.{cant_do}
 use Rattle.gm_tables.proofs.CoreLemmas.{goes_as, goes_cant, goes_cant_unknown}

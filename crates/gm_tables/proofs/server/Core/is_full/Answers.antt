@@ -1,10 +1,7 @@
-use Rattle.std.proofs.Common.{◌≡◌, ◌+◌, ◌==◌, ◌&&◌, not, nat_le, ℕ, List, Option, Some, length, refl, sym, ap, ◌∙◌}
+use Rattle.std.proofs.Common.{◌≡◌, ◌+◌, ◌==◌, ◌&&◌, not, nat_le, ℕ, List, refl, sym, ap, ◌∙◌}
 use Rattle.gm_notes.specs.Jobs.{limit, total}
-use Rattle.gm_notes.specs.Submissions.{is_full}
-use Rattle.gm_queues.specs.Tables as queues
 use Rattle.gm_tables.specs.Facts.{conn_facts, function_facts}
-use Rattle.gm_tables.specs.Holds.{name_at, limit_named}
-use Rattle.gm_tables.proofs.PositionLemmas.{position_within}
+use Rattle.gm_tables.specs.Holds.{limit_named}
 use Rattle.gm_tables.proofs.FunctionLemmas.{number_is}
 use Rattle.gm_tables.proofs.CountLemmas.{total_is}
 use Rattle.gm_tables.proofs.server.Core.is_full.Goals as goal

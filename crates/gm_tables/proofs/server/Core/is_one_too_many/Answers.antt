@@ -1,5 +1,5 @@
-use Rattle.std.proofs.Common.{◌≡◌, refl, sym, ap, ◌∙◌}
-use Rattle.std.specs.Prelude.{nat_le, length}
+use Rattle.std.proofs.Common.{sym, ◌∙◌}
+use Rattle.std.specs.Prelude.{nat_le}
 use Rattle.gm_tables.proofs.FunctionLemmas.{not_too_many, many_is}
 use Rattle.gm_tables.proofs.server.Core.is_one_too_many.Goals as goal
 

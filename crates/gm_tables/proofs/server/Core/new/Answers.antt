@@ -1,4 +1,4 @@
-use Rattle.std.proofs.Common.{◌≡◌, ◌≤◌, ◌^◌, ℕ, refl, sym, ap, subst, ◌∙◌, arith}
+use Rattle.std.proofs.Common.{◌≤◌, ◌^◌, refl, sym, ap, subst, ◌∙◌}
 use Rattle.gm_notes.specs.declared.states.Mode.TheVariants.{Running}
 use Rattle.gm_notes.specs.Past.{nothing}
 use Rattle.gm_queues.specs.Tables as queues

@@ -1,4 +1,4 @@
-use Rattle.std.proofs.Common.{◌≡◌, ◌<◌, ◌≤◌, ℕ, suc, ◌+◌, List, length, map, drop, Option, Some, None, refl, sym, ap, subst, ◌∙◌, arith}
+use Rattle.std.proofs.Common.{◌≡◌, ◌<◌, ℕ, suc, length, map, drop, Option, Some, sym, ap, subst, ◌∙◌}
 use Rattle.std.specs.Prelude.{slice_get}
 use Rattle.std.proofs.Math.Numerals.{add-one}
 use Rattle.gm_notes.specs.Jobs.{pick, pick_from}
@@ -8,7 +8,7 @@ use Rattle.gm_queues.specs.Tables as queues
 use Rattle.gm_tables.specs.declared.server.Core.{Core}
 use Rattle.gm_tables.specs.Facts.{Seen}
 use Rattle.gm_tables.specs.Holds.{Keeps, ability_named}
-use Rattle.gm_tables.proofs.FunctionLemmas.{pick_at, pick_past, past_end, pick_or, not_some}
+use Rattle.gm_tables.proofs.FunctionLemmas.{pick_at, pick_or}
 use Rattle.gm_tables.proofs.CoreLemmas.{seen_is}
 use Rattle.gm_tables.proofs.server.Core.pick.Goals as goal
 

@@ -1,8 +1,6 @@
 use Rattle.std.proofs.Common.{◌≡◌, true, refl, sym, ap, ◌∙◌}
-use Rattle.std.specs.Option.{option_map}
 use Rattle.gm_notes.specs.declared.note.Note.TheVariants.{Slept}
 use Rattle.gm_notes.specs.Notes.{phase, is_awake}
-use Rattle.gm_notes.specs.Jobs.{pick}
 use Rattle.gm_notes.specs.Past.{noted}
 use Rattle.gm_notes.specs.Workers.{pre_sleep, sleep_beside}
 use Rattle.gm_tables.proofs.CoreLemmas.{goes_as, goes_then, goes_from, goes_slept, goes_woken, phase_is, beside_some, beside_none}
