@@ -1,5 +1,5 @@
 -- A job that comes to wait, in the table of jobs and in its queue.
-use Rattle.std.proofs.Common.{◌≡◌, ℕ, ◌<◌, ◌≤◌, ◌^◌, length, Bool, true, false, ◌&&◌, ◌==◌, if◌then◌else◌, List, [], ◌∷◌, ◌++◌, Option, Some, None, unwrap_or, codes, refl, sym, ap, subst, ◌∙◌}
+use Rattle.std.proofs.Common.{◌≡◌, ℕ, ◌<◌, ◌≤◌, ◌^◌, length, Bool, true, false, ◌==◌, if◌then◌else◌, List, [], ◌∷◌, ◌++◌, Option, Some, None, unwrap_or, codes, refl, sym, ap, subst, ◌∙◌}
 use Rattle.gm_notes.specs.declared.note.Note.{Note}
 use Rattle.gm_notes.specs.declared.note.Note.TheVariants.{Made, Kept, Listens}
 use Rattle.gm_notes.specs.declared.states.Priority.{Priority}
@@ -10,18 +10,19 @@ use Rattle.gm_notes.specs.Jobs.{Job, Waits, made, as_they_came, spot, job, is_ke
 use Rattle.gm_notes.specs.Past.{Past}
 use Rattle.gm_notes.specs.Submissions.{Submission}
 use Rattle.gm_conns.specs.Tables.{IsOpen}
-use Rattle.gm_queues.specs.Queues.{Queue, with_job, with_place}
-use Rattle.gm_queues.specs.Tables.{Table, number_of, queue, limit, is_queue, ChangesQueue}
+use Rattle.gm_queues.specs.Queues.{with_job, with_place}
+use Rattle.gm_queues.specs.Tables.{Table, number_of, queue, is_queue, ChangesQueue}
 use Rattle.gm_jobs.specs.Live.{fresh, listed}
 use Rattle.gm_jobs.specs.Tables.{Makes, with_room}
 use Rattle.gm_jobs.specs.Tables as jobs
-use Rattle.gm_tables.specs.declared.core.Core.{Core}
+use Rattle.gm_tables.specs.declared.server.Core.{Core}
 use Rattle.gm_tables.specs.Facts.{JobFacts, FunctionFacts, conn_facts, function_facts, job_facts}
-use Rattle.gm_tables.specs.Holds.{Holds, Keeps, AreOpen, HoldsConns, HoldsFunctions, HoldsJobs, Goes, limit_named, added, first_listener}
+use Rattle.gm_tables.specs.Holds.{Holds, AreOpen, HoldsConns, HoldsFunctions, HoldsJobs, Goes, limit_named, added, first_listener}
 use Rattle.gm_tables.proofs.PositionLemmas.{position_within}
 use Rattle.gm_tables.proofs.FunctionLemmas.{number_is}
 use Rattle.gm_tables.proofs.MadeLemmas.{with_made, jobs_made}
-use Rattle.gm_tables.proofs.CoreLemmas.{open_is, goes_then, goes_jobs, goes_nothing}
+use Rattle.gm_tables.proofs.MentionLemmas.{Same}
+use Rattle.gm_tables.proofs.CoreLemmas.{open_is, goes_then, goes_jobs, goes_back, goes_nothing}
 use Rattle.std.specs.Prelude.{slice_get, slice_index}
 use Rattle.std.specs.Str.{bytes_eq}
 
@@ -180,3 +181,29 @@ goes_roomed old new f u b config conns functions jobs now goes =
     (goes_jobs old (record old { jobs = with_room f u b old.jobs }) (λ past. past) (record { config = refl; conns = refl; functions = refl; moment = refl; mode = refl })
     (λ p keeps. record { conns = keeps.conns; functions = keeps.functions; jobs = jobs_roomed f u b keeps.jobs; moment = keeps.moment; mode = keeps.mode }))
     (goes_nothing {a = record old { jobs = with_room f u b old.jobs }} {b = new} config conns functions jobs now goes)
+
+-- a function was mentioned and taken back, and room was made for a job
+pub goes_undone : (old new : Core) → new.config ≡ old.config → new.conns ≡ old.conns → Same old.functions new.functions → new.jobs ≡ record old.jobs { room = new.jobs.room }
+    → new.moment ≡ old.moment → new.mode ≡ old.mode → Goes old new (λ past. past)
+goes_undone old new config conns same roomed now goes =
+    goes_then (goes_back old (record old { functions = new.functions }) (record { config = refl; conns = refl; jobs = refl; moment = refl; mode = refl }) same)
+    (goes_then {a = record old { functions = new.functions }} {b = record old { functions = new.functions; jobs = record old.jobs { room = new.jobs.room } }}
+    (goes_jobs (record old { functions = new.functions }) (record old { functions = new.functions; jobs = record old.jobs { room = new.jobs.room } }) (λ past. past)
+    (record { config = refl; conns = refl; functions = refl; moment = refl; mode = refl })
+    (λ p keeps. record { conns = keeps.conns; functions = keeps.functions; jobs = any_room old.jobs new.jobs.room keeps.jobs; moment = keeps.moment; mode = keeps.mode }))
+    (goes_nothing {b = new} config conns refl roomed now goes))
+  where
+    any_room : {k : Settings} {functions : Table} {is_open : ℕ → Bool} {facts : JobFacts} (table : jobs.Table) (room : Option jobs.Room) → HoldsJobs k functions table is_open facts
+        → HoldsJobs k functions (record table { room = room }) is_open facts
+    any_room table room holds = record {
+      first = holds.first;
+      next = holds.next;
+      most = holds.most;
+      made = holds.made;
+      came = holds.came;
+      numbered = holds.numbered;
+      places = holds.places;
+      live = holds.live;
+      queues = holds.queues;
+      room = holds.room;
+    }

@@ -1,15 +1,12 @@
 -- How the table of connections holds the facts of connections, after a slot changes.
-use Rattle.std.proofs.Common.{◌≡◌, ◌≢◌, ℕ, zero, suc, ◌+◌, ◌<◌, ◌≤◌, Bool, true, false, not, ◌&&◌, ◌==◌, if◌then◌else◌, IsTrue, List, [], ◌∷◌, ◌++◌, length, get_or, map, filter, Option, Some, None, unwrap_or, refl, sym, ap, subst, ◌∙◌, arith}
-use Rattle.std.specs.List.{All}
+use Rattle.std.proofs.Common.{◌≡◌, ℕ, Bool, true, false, not, ◌==◌, if◌then◌else◌, List, filter, Some, None, unwrap_or, refl, sym, ap, subst, ◌∙◌, arith}
 use Rattle.std.proofs.lemmas.Bool.Decides.{nat_tests}
-use Rattle.std.proofs.lemmas.Bool.{false≢true}
-use Rattle.gm_notes.specs.declared.note.Note.{Note}
 use Rattle.gm_notes.specs.declared.states.Phase.{Phase}
 use Rattle.gm_notes.specs.Settings.{Settings}
 use Rattle.gm_notes.specs.Jobs.{Ability, is_of, put}
 use Rattle.gm_conns.specs.Connections.{Connection}
 use Rattle.gm_conns.specs.Tables.{Table, conn, Changes}
-use Rattle.gm_tables.specs.Facts.{Seen, ConnFacts, seen}
+use Rattle.gm_tables.specs.Facts.{Seen, ConnFacts}
 use Rattle.gm_tables.specs.Holds.{AreFunctions, HoldsConns, shown}
 
 -- what is so in the slot and elsewhere is so wherever

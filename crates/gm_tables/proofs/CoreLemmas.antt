@@ -1,5 +1,5 @@
 -- One change of a core after another, and the changes of its connections.
-use Rattle.std.proofs.Common.{◌≡◌, ◌≢◌, ℕ, Bool, true, false, ◌==◌, ◌&&◌, if◌then◌else◌, IsTrue, List, [], ◌∷◌, ◌++◌, length, map, filter, not, Option, Some, None, Result, Ok, Err, refl, sym, ap, subst, ◌∙◌, arith}
+use Rattle.std.proofs.Common.{◌≡◌, ◌≢◌, ℕ, Bool, true, false, ◌==◌, ◌&&◌, if◌then◌else◌, List, [], ◌∷◌, ◌++◌, length, map, filter, not, Option, Some, None, Result, Ok, Err, refl, sym, ap, subst, ◌∙◌, arith}
 use Rattle.std.specs.Result.{IsErr, IsErrAnd, OnOk, OnErr}
 use Rattle.std.specs.Str.{bytes_eq}
 use Rattle.gm_tables.proofs.PositionLemmas.{position_within}
@@ -7,7 +7,7 @@ use Rattle.gm_tables.proofs.FunctionLemmas.{put_named, taken_out, none_out, able
 use Rattle.gm_notes.specs.Jobs.{Ability, abilities, is_of, put, is_empty}
 use Rattle.std.specs.Prelude.{is_some}
 use Rattle.std.specs.Option.{option_map}
-use Rattle.gm_tables.specs.declared.core.abilities.Choice.{Choice}
+use Rattle.gm_tables.specs.declared.server.abilities.Choice.{Choice}
 use Rattle.gm_notes.specs.Workers.{woken_if, sleep_beside}
 use Rattle.gm_queues.specs.Tables.{number_of, ChangesNames, IsFree}
 use Rattle.gm_tables.proofs.JobLemmas.{jobs_kept, jobs_listen}
@@ -20,8 +20,6 @@ use Rattle.gm_notes.specs.Settings.{Settings}
 use Rattle.gm_notes.specs.Steps.{Step, unless, refusal, made_since, run, add}
 use Rattle.gm_notes.specs.Servers.{IsRefusal, Answers, steps_after}
 use Rattle.std.specs.declared.alloc.AllocError.{AllocError}
-use Rattle.gm_notes.specs.declared.note.Note.{Note}
-use Rattle.gm_notes.specs.declared.states.Phase.{Phase}
 use Rattle.gm_notes.specs.declared.states.Phase.TheVariants.{Awake, Asleep, Owed}
 use Rattle.gm_notes.specs.declared.note.Note.TheVariants.{Shut, Named, OptionSet, Can, Cant, Mention, Kept, Listens, Slept, Woken, Stirred, Took, Withdrew}
 use Rattle.gm_notes.specs.Past.{Past, noted, flowed, print}
@@ -34,9 +32,9 @@ use Rattle.gm_conns.specs.Tables as tables
 use Rattle.gm_queues.specs.Tables as queues
 use Rattle.gm_jobs.specs.Tables as jobs
 use Rattle.gm_notes.specs.declared.states.Mode.{Mode}
-use Rattle.gm_tables.specs.declared.core.Core.{Core}
+use Rattle.gm_tables.specs.declared.server.Core.{Core}
 use Rattle.gm_tables.specs.Facts.{Seen, seen, conn_facts, function_facts, job_facts}
-use Rattle.gm_tables.specs.Holds.{Holds, Keeps, AreFunctions, ability_named, shown, HoldsConns, HoldsFunctions, HoldsJobs, Goes, Does, CoreAgrees, unless_wanting, pick_of}
+use Rattle.gm_tables.specs.Holds.{Holds, Keeps, AreFunctions, ability_named, shown, HoldsConns, HoldsFunctions, HoldsJobs, Goes, Does, CoreAgrees, pick_of}
 use Rattle.gm_tables.proofs.ConnLemmas.{conn_changes, same_here, seen_same, phase_seen, shut_seen, option_seen, id_seen, can_seen, cant_seen}
 use Rattle.gm_tables.proofs.ConnLemmas as lemmas
 

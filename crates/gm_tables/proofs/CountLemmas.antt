@@ -1,7 +1,6 @@
 -- How many jobs of a function there are.
-use Rattle.std.proofs.Common.{◌≡◌, ℕ, ◌+◌, ◌<◌, ◌≤◌, Bool, true, false, not, ◌&&◌, ◌==◌, nat_le, if◌then◌else◌, List, [], ◌∷◌, ◌++◌, length, filter, Option, Some, None, refl, sym, ap, subst, ◌∙◌, arith, length-append}
+use Rattle.std.proofs.Common.{◌≡◌, ℕ, ◌+◌, ◌<◌, Bool, true, false, ◌&&◌, if◌then◌else◌, List, [], ◌∷◌, ◌++◌, length, filter, Option, Some, None, refl, sym, ap, ◌∙◌, arith, length-append}
 use Rattle.std.specs.Str.{bytes_eq}
-use Rattle.std.proofs.lemmas.Bool.Decides.{nat_tests}
 use Rattle.gm_notes.specs.declared.note.Note.{Note}
 use Rattle.gm_notes.specs.declared.states.Priority.{Priority}
 use Rattle.gm_notes.specs.declared.states.Priority.TheVariants.{High, Normal, Low}
@@ -10,7 +9,7 @@ use Rattle.gm_notes.specs.Jobs.{Spot, Unmade, Waits, RunsAt, Over, Thrown, Job, 
 use Rattle.gm_queues.specs.Queues.{idle}
 use Rattle.gm_queues.specs.Tables.{Table, queue, waiting_for, running_of}
 use Rattle.gm_jobs.specs.Tables as jobs
-use Rattle.gm_tables.specs.Facts.{FunctionFacts, JobFacts, job_facts, waits_with, runs_with, queued, running_with}
+use Rattle.gm_tables.specs.Facts.{FunctionFacts, job_facts, waits_with, runs_with}
 use Rattle.gm_tables.specs.Holds.{name_at, jobs_named, HoldsFunctions, HoldsJobs}
 use Rattle.gm_tables.proofs.FunctionLemmas.{named}
 

@@ -1,5 +1,5 @@
 -- Functions by number and by name.
-use Rattle.std.proofs.Common.{◌≡◌, ◌≢◌, ℕ, zero, suc, ◌+◌, ◌<◌, ◌≤◌, Bool, true, false, not, ◌&&◌, ◌||◌, ◌==◌, nat_eq, nat_le, if◌then◌else◌, List, [], ◌∷◌, ◌++◌, length, get_or, map, filter, drop, Option, Some, None, refl, sym, ap, subst, ◌∙◌, arith}
+use Rattle.std.proofs.Common.{◌≡◌, ◌≢◌, ℕ, zero, suc, ◌<◌, ◌≤◌, Bool, true, false, not, ◌&&◌, ◌||◌, ◌==◌, nat_eq, nat_le, if◌then◌else◌, List, [], ◌∷◌, ◌++◌, length, get_or, map, filter, drop, Option, Some, None, refl, sym, ap, subst, ◌∙◌, arith}
 use Rattle.std.specs.Prelude.{slice_get, is_some, IsNone}
 use Rattle.std.proofs.Math.Seq.{drop-nil}
 use Rattle.std.specs.Str.{bytes_eq}
@@ -19,7 +19,7 @@ use Rattle.gm_tables.proofs.PositionLemmas.{position_passes, position_any}
 use Rattle.gm_queues.specs.Tables.{Table, number_of}
 use Rattle.gm_queues.specs.Tables as queues
 use Rattle.gm_jobs.specs.Tables as jobs
-use Rattle.gm_tables.specs.Facts.{FunctionFacts, JobFacts, function_facts, job_facts}
+use Rattle.gm_tables.specs.Facts.{FunctionFacts, function_facts, job_facts}
 use Rattle.gm_tables.specs.Holds.{name_at, ability_named, AreFunctions, HoldsFunctions, HoldsJobs, jobs_named}
 
 -- what stands at an index

@@ -1,5 +1,5 @@
 -- How the table of jobs holds the facts of jobs, after one of them changes.
-use Rattle.std.proofs.Common.{◌≡◌, ◌≢◌, ℕ, zero, suc, ◌+◌, ◌<◌, ◌≤◌, ◌^◌, Bool, true, false, not, ◌&&◌, ◌==◌, nat_le, nat_lt, nat_eq, if◌then◌else◌, List, [], ◌∷◌, ◌++◌, length, find, filter, Option, Some, None, refl, sym, ap, subst, ◌∙◌, arith}
+use Rattle.std.proofs.Common.{◌≡◌, ◌≢◌, ℕ, zero, suc, ◌+◌, ◌<◌, ◌≤◌, ◌^◌, Bool, true, false, ◌==◌, nat_le, nat_lt, if◌then◌else◌, List, [], ◌∷◌, ◌++◌, length, find, filter, Option, Some, None, refl, sym, ap, subst, ◌∙◌, arith}
 use Rattle.std.specs.Option.{option_map}
 use Rattle.std.specs.Prelude.{IfSome, IfNone, unwrap_or}
 use Rattle.std.proofs.lemmas.Bool.{and_parts}
@@ -10,14 +10,14 @@ use Rattle.gm_notes.specs.declared.note.Note.{Note}
 use Rattle.gm_notes.specs.declared.note.Note.TheVariants.{Kept, Listens}
 use Rattle.gm_notes.specs.declared.states.Priority.{Priority}
 use Rattle.gm_notes.specs.Settings.{Settings}
-use Rattle.gm_notes.specs.Jobs.{Spot, Unmade, Waits, RunsAt, Over, Thrown, Job, is_live, is_live_named, is_job_named, joins, joined, made, spot, is_kept, listeners}
+use Rattle.gm_notes.specs.Jobs.{Spot, Unmade, Waits, RunsAt, Over, Thrown, is_live, is_live_named, joins, joined, made, spot, is_kept, listeners}
 use Rattle.gm_notes.specs.Servers.{place_of}
 use Rattle.gm_queues.specs.Tables.{number_of}
 use Rattle.gm_queues.specs.Tables as queues
 use Rattle.gm_jobs.specs.Live.{Live, kept, with_listener, is_named, place_at}
-use Rattle.gm_jobs.specs.Tables.{Table, job, place, place_or, is_made, passes, IsNamed, Changes}
-use Rattle.gm_tables.specs.Facts.{FunctionFacts, JobFacts, function_facts, job_facts, queued, running_with}
-use Rattle.gm_tables.specs.Holds.{name_at, described, spot_at, numbers_down, AreOpen, HoldsFunctions, HoldsJobs, IsJob}
+use Rattle.gm_jobs.specs.Tables.{Table, job, place_or, is_made, passes, IsNamed, Changes}
+use Rattle.gm_tables.specs.Facts.{JobFacts, function_facts, job_facts, queued, running_with}
+use Rattle.gm_tables.specs.Holds.{name_at, spot_at, numbers_down, AreOpen, HoldsFunctions, HoldsJobs, IsJob}
 use Rattle.gm_tables.proofs.FunctionLemmas.{apart, number_is, some_same, unknown}
 use Rattle.gm_tables.proofs.PositionLemmas.{position_within}
 

@@ -8,3 +8,5 @@ pub mod JobLemmas
 pub mod MadeLemmas
 pub mod AddLemmas
 pub mod CountLemmas
+pub mod WakeLemmas
+pub mod OpenLemmas

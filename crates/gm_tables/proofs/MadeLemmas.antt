@@ -1,23 +1,20 @@
 -- A job that is made.
-use Rattle.std.proofs.Common.{◌≡◌, ◌≢◌, ℕ, zero, suc, ◌+◌, ◌<◌, ◌≤◌, ◌^◌, Bool, true, false, not, ◌&&◌, ◌==◌, nat_le, nat_lt, nat_eq, if◌then◌else◌, List, [], ◌∷◌, ◌++◌, length, filter, Option, Some, None, unwrap_or, codes, refl, sym, ap, subst, ◌∙◌, arith, length-append}
+use Rattle.std.proofs.Common.{◌≡◌, ℕ, zero, suc, ◌+◌, ◌<◌, ◌≤◌, ◌^◌, Bool, true, false, ◌&&◌, ◌==◌, if◌then◌else◌, List, [], ◌∷◌, ◌++◌, length, filter, Option, Some, None, codes, refl, sym, ap, subst, ◌∙◌, arith, length-append}
 use Rattle.std.proofs.lemmas.Bool.Decides.{nat_tests}
-use Rattle.std.proofs.lemmas.Bool.{false≢true}
 use Rattle.std.proofs.lemmas.List.Elements.{filter-append}
 use Rattle.std.proofs.lemmas.List.{append-nil}
 use Rattle.std.specs.Str.{bytes_eq}
-use Rattle.gm_notes.specs.declared.note.Note.{Note}
-use Rattle.gm_notes.specs.declared.note.Note.TheVariants.{Made, Kept, Listens}
 use Rattle.gm_notes.specs.declared.states.Priority.{Priority}
 use Rattle.gm_notes.specs.Settings.{Settings}
-use Rattle.gm_notes.specs.Jobs.{Spot, Waits, Job, is_waiting, is_running, is_job_with, same_priority}
+use Rattle.gm_notes.specs.Jobs.{Waits, Job, same_priority}
 use Rattle.gm_notes.specs.Servers.{place_of}
 use Rattle.gm_queues.specs.Queues.{Queue, with_job, with_place}
 use Rattle.gm_queues.specs.Tables.{number_of, queue, is_queue}
 use Rattle.gm_queues.specs.Tables as queues
 use Rattle.gm_jobs.specs.Live.{Live, fresh, listed}
-use Rattle.gm_jobs.specs.Tables.{Table, job, place, place_or, is_made, Makes}
-use Rattle.gm_tables.specs.Facts.{FunctionFacts, JobFacts, function_facts, job_facts, waits_with, runs_with, queued, running_with}
-use Rattle.gm_tables.specs.Holds.{name_at, described, spot_at, numbers_down, jobs_named, AreOpen, HoldsFunctions, HoldsJobs, IsJob}
+use Rattle.gm_jobs.specs.Tables.{Table, job, place_or, is_made, Makes}
+use Rattle.gm_tables.specs.Facts.{FunctionFacts, JobFacts, waits_with, runs_with, queued, running_with}
+use Rattle.gm_tables.specs.Holds.{name_at, numbers_down, jobs_named, AreOpen, HoldsFunctions, HoldsJobs, IsJob}
 use Rattle.gm_tables.proofs.FunctionLemmas.{apart, unknown, number_is, some_same}
 use Rattle.gm_tables.proofs.PositionLemmas.{position_within}
 

@@ -1,16 +1,15 @@
 -- A function that is mentioned for the first time.
-use Rattle.std.proofs.Common.{◌≡◌, ◌≢◌, ℕ, zero, suc, ◌+◌, ◌<◌, ◌≤◌, Bool, true, false, not, ◌&&◌, ◌==◌, if◌then◌else◌, ◌⊎◌, inl, inr, List, [], ◌∷◌, ◌++◌, length, get_or, map, filter, Option, Some, None, refl, sym, ap, subst, ◌∙◌, arith, length-append, take, ◌-◌}
+use Rattle.std.proofs.Common.{◌≡◌, ◌≢◌, ℕ, zero, suc, ◌+◌, ◌<◌, ◌≤◌, Bool, true, false, ◌&&◌, ◌⊎◌, inl, inr, List, [], ◌∷◌, ◌++◌, length, map, filter, Option, Some, None, refl, sym, ap, subst, ◌∙◌, arith, length-append, take, ◌-◌}
 use Rattle.std.specs.Prelude.{slice_get}
 use Rattle.std.specs.Str.{bytes_eq}
 use Rattle.std.proofs.lemmas.Bool.{cases_lt}
 use Rattle.std.proofs.lemmas.List.{get_or_append_left, get_or_push}
-use Rattle.std.proofs.lemmas.Bool.Decides.{nat_tests}
 use Rattle.std.proofs.lemmas.Slice.Eq.{bytes_eq-Decides}
 use Rattle.gm_notes.specs.declared.note.Note.TheVariants.{Mention}
 use Rattle.gm_notes.specs.declared.note.Note.{Note}
 use Rattle.gm_notes.specs.declared.states.Priority.{Priority}
 use Rattle.gm_notes.specs.Settings.{Settings}
-use Rattle.gm_notes.specs.Jobs.{Ability, Spot, Job, Unmade, Waits, RunsAt, Over, Thrown, is_running, is_job_with, same_priority}
+use Rattle.gm_notes.specs.Jobs.{Ability, Spot, Unmade, Waits, RunsAt, Over, Thrown, is_running, is_job_with}
 use Rattle.gm_notes.specs.Servers.{place_of}
 use Rattle.gm_conns.specs.Connections.{Connection}
 use Rattle.gm_conns.specs.Tables.{conn}
@@ -21,9 +20,9 @@ use Rattle.gm_queues.proofs.NameLemmas.{position-push}
 use Rattle.gm_jobs.specs.Live.{Live}
 use Rattle.gm_jobs.specs.Tables.{job, place, place_or, is_made}
 use Rattle.gm_jobs.specs.Tables as jobs
-use Rattle.gm_tables.specs.Facts.{Seen, ConnFacts, FunctionFacts, JobFacts, function_facts, runs_with, running_with, queued}
+use Rattle.gm_tables.specs.Facts.{ConnFacts, FunctionFacts, JobFacts, function_facts, runs_with, running_with}
 use Rattle.gm_tables.specs.Holds.{name_at, ability_named, shown, described, AreFunctions, HoldsConns, HoldsFunctions, HoldsJobs, IsJob, limit_named, jobs_named}
-use Rattle.gm_tables.proofs.PositionLemmas.{position_stays, position_misses, position_within}
+use Rattle.gm_tables.proofs.PositionLemmas.{position_stays, position_misses}
 use Rattle.gm_tables.proofs.FunctionLemmas.{unknown, some_same}
 
 -- a name that stood keeps its number

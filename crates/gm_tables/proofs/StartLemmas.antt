@@ -1,15 +1,13 @@
 -- A core to which nothing has happened.
-use Rattle.std.proofs.Common.{◌≡◌, ℕ, ◌+◌, ◌<◌, ◌≤◌, ◌^◌, Bool, true, false, ◌&&◌, nat_le, nat_lt, List, [], length, Option, Some, None, refl, sym, ap, subst, ◌∙◌, arith}
+use Rattle.std.proofs.Common.{◌≡◌, ℕ, ◌≤◌, ◌^◌, false, ◌&&◌, nat_le, nat_lt, [], length, None, refl, sym, ap, subst, arith}
 use Rattle.std.proofs.lemmas.Bool.Decides.{nat_tests}
 use Rattle.gm_notes.specs.declared.states.Mode.TheVariants.{Running}
-use Rattle.gm_notes.specs.declared.states.Place.{Place}
-use Rattle.gm_notes.specs.declared.states.Place.TheVariants.{Unmade}
 use Rattle.gm_notes.specs.Settings.{Settings}
 use Rattle.gm_notes.specs.Past.{nothing}
 use Rattle.gm_conns.specs.Connections.{Connection, closed}
 use Rattle.gm_conns.specs.Tables.{Table, conn}
 use Rattle.gm_queues.specs.Tables.{no_functions}
-use Rattle.gm_jobs.specs.Tables.{no_jobs, place, place_or}
+use Rattle.gm_jobs.specs.Tables.{no_jobs, place_or}
 use Rattle.gm_tables.specs.Holds.{AreFunctions, Holds}
 
 none_made : (first n : ℕ) → (nat_le first n && nat_lt n first) ≡ false

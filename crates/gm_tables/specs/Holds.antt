@@ -5,7 +5,7 @@ use Rattle.gm_notes.specs.declared.states.Priority.{Priority}
 use Rattle.gm_notes.specs.declared.states.Mode.{Mode}
 use Rattle.gm_notes.specs.Settings.{Settings}
 use Rattle.gm_notes.specs.Notes.{phase, is_asleep, moment, mode}
-use Rattle.gm_notes.specs.Flow.{Flow, waiting}
+use Rattle.gm_notes.specs.Flow.{waiting}
 use Rattle.gm_notes.specs.Jobs.{Ability, Spot, Waits, RunsAt, Job, Pick, is_empty, waiting_for}
 use Rattle.gm_notes.specs.declared.note.Note.TheVariants.{Made}
 use Rattle.gm_notes.specs.Past.{Past, noted}
@@ -18,12 +18,12 @@ use Rattle.gm_conns.specs.Tables as conns
 use Rattle.gm_queues.specs.Tables.{number_of, limit, queue}
 use Rattle.gm_queues.specs.Tables as queues
 use Rattle.gm_jobs.specs.Live.{Live}
-use Rattle.gm_jobs.specs.Tables.{job, place, is_made}
+use Rattle.gm_jobs.specs.Tables.{job, place, is_made, IsNamed}
 use Rattle.gm_jobs.specs.Tables as jobs
-use Rattle.gm_tables.specs.declared.core.Core.{Core}
+use Rattle.gm_tables.specs.declared.server.Core.{Core}
 use Rattle.gm_notes.specs.Submissions.{Submission, wanted}
-use Rattle.gm_tables.specs.declared.core.abilities.Choice.{Choice}
-use Rattle.gm_tables.specs.declared.core.submitting.Submission.{Submission as Found}
+use Rattle.gm_tables.specs.declared.server.abilities.Choice.{Choice}
+use Rattle.gm_tables.specs.declared.server.submitting.Submission.{Submission as Found}
 use Rattle.gm_tables.specs.Facts.{Seen, ConnFacts, FunctionFacts, JobFacts, conn_facts, function_facts, job_facts, queued, running_with}
 
 -- ---- connections
@@ -168,3 +168,7 @@ added c s n past = wanted c s n (noted (Made n s.function s.priority s.unique s.
 abbrev pub first_listener : Bool → ℕ → Option ℕ
 first_listener true c = None
 first_listener false c = Some c
+
+-- no live job of this function has this unique id, if that joins
+abbrev pub IsAlone : List ℕ → List ℕ → queues.Table → jobs.Table → Type 0
+IsAlone f unique mentioned live = (g : ℕ) → number_of f mentioned ≡ Some g → (n : ℕ) → IsNamed g unique live n → ⊥

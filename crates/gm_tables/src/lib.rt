@@ -1,8 +1,8 @@
 //! A job server that answers from tables: what was proved of the abstract server is true of it.
 #![tactic(auto)]
 
-mod core;
 mod handles;
 mod refusal;
+mod server;
 
-pub use crate::core::Core;
+pub use server::Core;
