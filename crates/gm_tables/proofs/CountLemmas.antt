@@ -13,11 +13,11 @@ use Rattle.gm_tables.specs.Facts.{FunctionFacts, job_facts, waits_with, runs_wit
 use Rattle.gm_tables.specs.Holds.{name_at, jobs_named, HoldsFunctions, HoldsJobs}
 use Rattle.gm_tables.proofs.FunctionLemmas.{named}
 
-abbrev one : Bool → ℕ
+abbrev pub one : Bool → ℕ
 one true = 1
 one false = 0
 
-counted : (P : ℕ → Bool) (x : ℕ) (xs : List ℕ) → length (filter P (x ∷ xs)) ≡ one (P x) + length (filter P xs)
+pub counted : (P : ℕ → Bool) (x : ℕ) (xs : List ℕ) → length (filter P (x ∷ xs)) ≡ one (P x) + length (filter P xs)
 counted P x xs = by (P x)
   where
     by : (t : Bool) → length (if t then x ∷ filter P xs else filter P xs) ≡ one t + length (filter P xs)
@@ -30,7 +30,7 @@ with_priority true Normal = refl
 with_priority true Low = refl
 with_priority false p = refl
 
-of_job : (f : List ℕ) (o : Option Job) → one (is_job_of f o) ≡ one (is_job_with f High o) + one (is_job_with f Normal o) + one (is_job_with f Low o)
+pub of_job : (f : List ℕ) (o : Option Job) → one (is_job_of f o) ≡ one (is_job_with f High o) + one (is_job_with f Normal o) + one (is_job_with f Low o)
 of_job f None = refl
 of_job f (Some found) = with_priority (bytes_eq found.function f) found.priority
 
@@ -70,7 +70,7 @@ module _ (k : Settings) (functions : Table) (table : jobs.Table) (is_open : ℕ 
       ap (λ (l : List ℕ). length l) (sym (ap (λ o. jobs_named o p functions) (named known f within)) ∙ holds.queues name p)
       ∙ holds.came (waits_with name p (job_facts notes))
 
-  runs : (p : Priority) → idle (queue functions f p) ≡ length (filter (runs_with name p (job_facts notes)) (made notes))
+  pub runs : (p : Priority) → idle (queue functions f p) ≡ length (filter (runs_with name p (job_facts notes)) (made notes))
   runs p = let e = holds.room f p within in omega (arith, e)
 
   -- what waits and what runs is all there is of the function

@@ -21,7 +21,7 @@ use Rattle.gm_tables.specs.Holds.{name_at, spot_at, numbers_down, AreOpen, Holds
 use Rattle.gm_tables.proofs.FunctionLemmas.{apart, number_is, some_same, unknown}
 use Rattle.gm_tables.proofs.PositionLemmas.{position_within}
 
-turned : (n m : ℕ) (t : Bool) → (n == m) ≡ t → (m == n) ≡ t
+pub turned : (n m : ℕ) (t : Bool) → (n == m) ≡ t → (m == n) ≡ t
 turned n m t e = grind (arith, nat_tests)
 
 -- ---- a job changes in what its place and its queue don't depend on
@@ -32,18 +32,18 @@ stays_at change same true made (Some l) = ap place_at (same l)
 stays_at change same false made o = refl
 
 -- a job that was live, and what became of it
-record Was (change : Live → Live) (t : Bool) (o : Option Live) (found : Live) : Type 0 where
-  before : Live
-  is : o ≡ Some before
-  became : (if t then change before else before) ≡ found
+pub record Was (change : Live → Live) (t : Bool) (o : Option Live) (found : Live) : Type 0 where
+  pub before : Live
+  pub is : o ≡ Some before
+  pub became : (if t then change before else before) ≡ found
 
-was_live : (change : Live → Live) (t : Bool) (o : Option Live) (found : Live) → (if t then option_map change o else o) ≡ Some found → Was change t o found
+pub was_live : (change : Live → Live) (t : Bool) (o : Option Live) (found : Live) → (if t then option_map change o else o) ≡ Some found → Was change t o found
 was_live change true None found e = absurd cc
 was_live change true (Some l) found e = record { before = l; is = refl; became = some_same (change l) found e }
 was_live change false None found e = absurd cc
 was_live change false (Some l) found e = record { before = l; is = refl; became = some_same l found e }
 
-made_same : (old new : Table) (n : ℕ) → new.first ≡ old.first → new.next ≡ old.next → is_made new n ≡ is_made old n
+pub made_same : (old new : Table) (n : ℕ) → new.first ≡ old.first → new.next ≡ old.next → is_made new n ≡ is_made old n
 made_same old new n first next = rw (first, next) refl
 
 module _ {k : Settings} {functions : queues.Table} {old new : Table} {is_open : ℕ → Bool} {facts now : JobFacts} (n : ℕ) (change : Live → Live) (changes : Changes n change old new)
@@ -56,6 +56,7 @@ module _ {k : Settings} {functions : queues.Table} {old new : Table} {is_open : 
     most = subst (λ x. x ≤ 2 ^ 64) (sym changes.next) holds.most;
     made = made ∙ (holds.made ∙ ap (λ (l : List ℕ). numbers_down k.first_job (length l)) (sym made));
     came = λ P. ap (λ (l : List ℕ). length (filter P l)) came ∙ (holds.came P ∙ ap (λ (l : List ℕ). length (filter P l)) (sym made));
+    begins = holds.begins;
     numbered = λ m found e.
         let was = was_live change (n == m) (job old m) found (sym (changes.jobs m) ∙ e) in
         made_same old new m changes.first changes.next ∙ holds.numbered m was.before was.is;

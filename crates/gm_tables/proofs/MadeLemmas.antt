@@ -190,6 +190,7 @@ module _ (k : Settings) (functions grown : queues.Table) (old new : Table) (is_o
     most = let next = makes.next in omega (arith, next, fits);
     made = let was = holds.next in ap (λ (l : List ℕ). n ∷ l) holds.made ∙ ap (λ x. x ∷ numbers_down k.first_job (length facts.made)) was;
     came = λ P. last_counted P facts.came facts.made n (holds.came P);
+    begins = holds.begins;
     numbered = λ m found e. numbered m (m == n) found refl (sym (jobs_at m) ∙ e);
     places = λ m. ap (λ o. place_or o (is_made new m)) (jobs_at m) ∙ (placed m (m == n) refl);
     live = λ m found e. subst (λ (l : List (List ℕ)). IsJob l found now is_open m) (sym names_same) (each m (m == n) found refl (sym (jobs_at m) ∙ e));

@@ -160,6 +160,7 @@ module _ (k : Settings) (old new : Table) (name : List ℕ) (none : number_of na
       most = holds.most;
       made = holds.made;
       came = holds.came;
+      begins = holds.begins;
       numbered = holds.numbered;
       places = holds.places;
       live = λ n found e.
@@ -247,6 +248,7 @@ module _ (k : Settings) (old new : Table) (same : Same old new) where
     most = holds.most;
     made = holds.made;
     came = holds.came;
+    begins = holds.begins;
     numbered = holds.numbered;
     places = holds.places;
     live = λ n found e. subst (λ (l : List (List ℕ)). IsJob l found facts is_open n) (sym same.names) (holds.live n found e);

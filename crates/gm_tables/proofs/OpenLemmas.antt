@@ -129,6 +129,7 @@ jobs_opened k functions table before after facts more holds = record {
   next = holds.next;
   most = holds.most;
   made = holds.made;
+  begins = holds.begins;
   numbered = holds.numbered;
   came = holds.came;
   places = holds.places;

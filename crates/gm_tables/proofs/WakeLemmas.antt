@@ -49,7 +49,7 @@ sleeps_is Owed = refl
 
 module _ {k : Settings} {table : queues.Table} {facts : FunctionFacts} (holds : HoldsFunctions k table facts) (f : ℕ) (within : f < length table.names) where
   -- whether a worker can do a function
-  able_is : (xs : List (ℕ × ℕ)) → AreFunctions table.names xs → list_any (is_of (name_at table.names f)) (map (ability_named table.names) xs) ≡ is_some (lookup (nat_eq f) xs)
+  pub able_is : (xs : List (ℕ × ℕ)) → AreFunctions table.names xs → list_any (is_of (name_at table.names f)) (map (ability_named table.names) xs) ≡ is_some (lookup (nat_eq f) xs)
   able_is [] all = refl
   able_is (x ∷ xs) all = by (nat_eq f x.0) refl (able_is xs all.1)
     where

@@ -3,12 +3,15 @@ use Rattle.std.specs.Prelude.{◌≡◌, ℕ, zero, suc, ◌+◌, ◌<◌, ◌�
 use Rattle.std.specs.Option.{unwrap_or}
 use Rattle.gm_notes.specs.declared.states.Priority.{Priority}
 use Rattle.gm_notes.specs.declared.states.Mode.{Mode}
+use Rattle.gm_notes.specs.declared.states.Place.{Place}
+use Rattle.gm_notes.specs.declared.states.Place.TheVariants.{Unmade, Waiting, Running, Gone}
 use Rattle.gm_notes.specs.Settings.{Settings}
 use Rattle.gm_notes.specs.Notes.{phase, is_asleep, moment, mode}
 use Rattle.gm_notes.specs.Flow.{waiting}
-use Rattle.gm_notes.specs.Jobs.{Ability, Spot, Waits, RunsAt, Job, Pick, is_empty, waiting_for}
+use Rattle.gm_notes.specs.Jobs.{Ability, Spot, Waits, RunsAt, Job, Pick, spot, is_running, report, is_empty, waiting_for}
 use Rattle.gm_notes.specs.declared.note.Note.TheVariants.{Made}
-use Rattle.gm_notes.specs.Past.{Past, noted}
+use Rattle.gm_packet.specs.Writing.{status_res}
+use Rattle.gm_notes.specs.Past.{Past, noted, give}
 use Rattle.gm_notes.specs.Workers.{woken_if}
 use Rattle.gm_notes.specs.Steps.{Step, run}
 use Rattle.gm_notes.specs.Servers.{place_of}
@@ -100,6 +103,7 @@ pub record IsJob (names : List (List ℕ)) (live : Live) (facts : JobFacts) (is_
   pub heard : AreOpen is_open live.listeners
 
 pub record HoldsJobs (k : Settings) (functions : queues.Table) (table : jobs.Table) (is_open : ℕ → Bool) (facts : JobFacts) : Type 0 where
+  pub begins : 0 < k.first_job
   pub first : table.first ≡ k.first_job
   pub next : table.next ≡ k.first_job + length facts.made
   pub most : table.next ≤ 2 ^ 64
@@ -172,3 +176,26 @@ first_listener false c = Some c
 -- no live job of this function has this unique id, if that joins
 abbrev pub IsAlone : List ℕ → List ℕ → queues.Table → jobs.Table → Type 0
 IsAlone f unique mentioned live = (g : ℕ) → number_of f mentioned ≡ Some g → (n : ℕ) → IsNamed g unique live n → ⊥
+
+-- a job of this place was made
+abbrev pub is_made_at : Place → Bool
+is_made_at Unmade = false
+is_made_at Waiting = true
+is_made_at (Running c) = true
+is_made_at Gone = true
+
+-- a job of this place runs
+abbrev pub is_running_at_place : Place → Bool
+is_running_at_place Unmade = false
+is_running_at_place Waiting = false
+is_running_at_place (Running c) = true
+is_running_at_place Gone = false
+
+-- what is told of a live job
+abbrev pub known_told : ℕ → List ℕ → ℕ → Past → Past
+known_told c text n past =
+    give c (status_res text true (is_running (spot n past.notes)) (report n past.notes).0 (report n past.notes).1) past
+
+-- what is told of any other
+abbrev pub unknown_told : ℕ → List ℕ → Past → Past
+unknown_told c text past = give c (status_res text false false (codes "0") (codes "0")) past

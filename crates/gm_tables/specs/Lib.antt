@@ -1,3 +1,6 @@
 pub mod Facts
 pub mod Holds
 pub mod Refusals
+pub mod Listings
+pub mod Telling
+pub mod Serving

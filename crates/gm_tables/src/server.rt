@@ -8,11 +8,18 @@ ghost use Rattle.gm_notes.specs.Past.{print, give, refuse};
 ghost use Rattle.gm_tables.specs.Refusals.{code_of};
 
 mod abilities;
+mod asking;
+mod closing;
+mod commanding;
 mod connecting;
+mod grabbing;
+mod lists;
 mod naming;
 mod opening;
+mod serving;
 mod submitting;
 mod waking;
+mod working;
 
 use crate::refusal::Refusal;
 use gm_conns::Conns;
@@ -99,6 +106,8 @@ impl Core {
         ensures goes { Goes self.old self.new (print slot self.old.text.items) }
         ensures open { IsOpen self.new.conns slot }
         ensures functions { self.new.functions ≡ self.old.functions }
+        ensures jobs { self.new.jobs ≡ self.old.jobs }
+        ensures moment { self.new.moment ≡ self.old.moment }
     {
         self.conns.put_out(slot, self.text.as_slice());
     }

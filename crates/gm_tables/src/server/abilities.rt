@@ -1,6 +1,6 @@
 //! What workers can do, how they sleep, and the job that each gets.
 
-ghost use Rattle.std.specs.Prelude.{◌≡◌, ◌<◌, ◌≤◌, false, None, IfSome, length, slice_get};
+ghost use Rattle.std.specs.Prelude.{◌≡◌, ◌<◌, ◌≤◌, false, Some, None, IfSome, length, slice_get};
 ghost use Rattle.std.specs.Option.{option_map};
 ghost use Rattle.gm_conns.specs.Tables.{IsOpen};
 ghost use Rattle.gm_queues.specs.Tables.{number_of, waiting_for};
@@ -54,6 +54,8 @@ impl Core {
     pub(super) fn pick(&mut self, slot: u32) -> Option<Choice>
         requires { IsOpen self.old.conns slot }
         ensures value { (past : Past) → Keeps self.old past → option_map pick_of result ≡ pick slot past.notes }
+        ensures first { IfSome result (λ found. slice_get (waiting_for self.old.functions found.function) 0 ≡ Some found.job) }
+        ensures within { IfSome result (λ found. found.function < length self.old.functions.names) }
         ensures kept { self.new ≡ self.old }
     {
         for i in 0..self.conns.abilities_len(slot) {

@@ -72,6 +72,9 @@ impl Core {
         requires { IsOpen self.old.conns slot }
         ensures goes { Goes self.old self.new (stir slot) }
         ensures open { IsOpen self.new.conns slot }
+        ensures functions { self.new.functions ≡ self.old.functions }
+        ensures jobs { self.new.jobs ≡ self.old.jobs }
+        ensures moment { self.new.moment ≡ self.old.moment }
     {
         if is_asleep(self.conns.phase(slot)) {
             self.conns.set_phase(slot, Phase::Awake);

@@ -128,7 +128,7 @@ impl Core {
     }
 
     /// Whether no function more can be known.
-    fn is_one_too_many(&self, function: &[u8]) -> bool
+    pub(super) fn is_one_too_many(&self, function: &[u8]) -> bool
         ensures { (past : Past) → Keeps self.now past → result ≡ is_one_too_many self.now.config function.now past.notes }
     {
         match self.functions.find(function) {

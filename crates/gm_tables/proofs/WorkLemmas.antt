@@ -1,0 +1,169 @@
+-- What workers say of their jobs.
+use Rattle.std.proofs.Common.{◌≡◌, ℕ, Bool, true, false, ◌&&◌, ◌==◌, if◌then◌else◌, List, [], ◌∷◌, filter, Option, Some, None, unwrap_or, codes, Result, Ok, Err, refl, sym, ap, subst, ◌∙◌}
+use Rattle.std.specs.Option.{option_map}
+use Rattle.std.specs.Prelude.{IsSome}
+use Rattle.std.specs.Result.{OnOk, OnErr}
+use Rattle.std.specs.declared.alloc.AllocError.{AllocError}
+use Rattle.std.proofs.lemmas.Bool.{false≢true}
+use Rattle.gm_packet.specs.Writing.{Answer}
+use Rattle.gm_notes.specs.declared.note.Note.{Note}
+use Rattle.gm_notes.specs.declared.note.Note.TheVariants.{Report}
+use Rattle.gm_notes.specs.Settings.{Settings}
+use Rattle.gm_notes.specs.Notes.{is_open, has_option}
+use Rattle.gm_notes.specs.Jobs.{Spot, Unmade, Waits, RunsAt, Over, Thrown, spot, is_running_at, listeners, report}
+use Rattle.gm_notes.specs.Servers.{place_of}
+use Rattle.gm_notes.specs.Past.{Past, noted, refuse, tell_all}
+use Rattle.gm_notes.specs.Workers.{Work, hearers, report_kept, ended_if, tell_work, work_on}
+use Rattle.gm_queues.specs.Tables as queues
+use Rattle.gm_conns.specs.Tables.{conn}
+use Rattle.gm_conns.specs.Tables as conns
+use Rattle.gm_jobs.specs.Live.{Live, reported, place_at}
+use Rattle.gm_jobs.specs.Tables.{Table, job, place_or, listeners_of, Changes}
+use Rattle.gm_tables.specs.declared.server.Core.{Core}
+use Rattle.gm_tables.specs.Facts.{Seen, conn_facts, job_facts}
+use Rattle.gm_tables.specs.Holds.{Does, AreOpen, HoldsConns, HoldsJobs, IsJob}
+use Rattle.gm_tables.specs.Telling.{hears, is_place_at, running_there, IsRunning}
+use Rattle.gm_tables.proofs.JobLemmas.{quietly, turned}
+use Rattle.gm_tables.proofs.FunctionLemmas.{some_same}
+use Rattle.gm_tables.proofs.OnceLemmas.{filter_alike}
+use Rattle.gm_tables.proofs.CoreLemmas.{OnlyJobs, goes_jobs, goes_nothing}
+
+-- ---- where it runs
+
+pub place_there : (c : ℕ) (at : Spot) → is_place_at c (place_of at) ≡ is_running_at c at
+place_there c Unmade = refl
+place_there c Waits = refl
+place_there c (RunsAt d) = refl
+place_there c Over = refl
+place_there c Thrown = refl
+
+-- ---- reports
+
+reported_each : (names : List (List ℕ)) (notes : List Note) (is_open : ℕ → Bool) (n m : ℕ) (a b : List ℕ) (t : Bool) (l : Live) → (n == m) ≡ t → IsJob names l (job_facts notes) is_open m
+    → IsJob names (if t then reported a b l else l) (job_facts (Report n a b ∷ notes)) is_open m
+reported_each names notes is_open n m a b true l e is =
+    record { function = is.function; job = is.job; spot = is.spot; kept = is.kept; listeners = is.listeners; report = said (m == n) (turned n m true e); deadline = is.deadline; heard = is.heard }
+  where
+    said : (s : Bool) → s ≡ true → unwrap_or (if s then Some (a, b) else None) (report m notes) ≡ (a, b)
+    said true e = refl
+    said false e = absurd (false≢true e)
+reported_each names notes is_open n m a b false l e is =
+    record { function = is.function; job = is.job; spot = is.spot; kept = is.kept; listeners = is.listeners; report = said (m == n) (turned n m false e); deadline = is.deadline; heard = is.heard }
+  where
+    said : (s : Bool) → s ≡ false → unwrap_or (if s then Some (a, b) else None) (report m notes) ≡ unwrap_or l.report (codes "0", codes "0")
+    said false e = is.report
+    said true e = absurd (false≢true (sym e))
+
+jobs_reported : {k : Settings} {functions : queues.Table} {old new : Table} {is_open : ℕ → Bool} (notes : List Note) (n : ℕ) (a b : List ℕ) → Changes n (reported a b) old new
+    → HoldsJobs k functions old is_open (job_facts notes) → HoldsJobs k functions new is_open (job_facts (Report n a b ∷ notes))
+jobs_reported {k} {functions} {old} {new} {is_open} notes n a b changes holds =
+    quietly {facts = job_facts notes} {now = job_facts (Report n a b ∷ notes)} n (reported a b) changes (λ l. refl) refl refl refl refl
+    (λ m l is. reported_each functions.names notes is_open n m a b (n == m) l refl is) holds
+
+pub does_report : (old new : Core) (n : ℕ) (a b : List ℕ) (result : Result (Unit {0}) AllocError) → OnlyJobs old new
+    → OnOk result (Changes n (reported a b) old.jobs new.jobs) → OnErr result (new.jobs ≡ old.jobs) → Does old result new (noted (Report n a b))
+does_report old new n a b (Ok done) only ok err =
+    goes_jobs old new (noted (Report n a b)) only
+    (λ p keeps. record { conns = keeps.conns; functions = keeps.functions; jobs = jobs_reported p.notes n a b ok keeps.jobs; moment = keeps.moment; mode = keeps.mode })
+does_report old new n a b (Err wanting) only ok err = goes_nothing only.config only.conns only.functions err only.moment only.mode
+
+-- a report changes no listeners
+pub reported_listeners : (old new : Table) (n : ℕ) (a b : List ℕ) (result : Result (Unit {0}) AllocError) → OnOk result (Changes n (reported a b) old new) → OnErr result (new ≡ old)
+    → listeners_of (job new n) ≡ listeners_of (job old n)
+reported_listeners old new n a b (Ok done) ok err = ap listeners_of (ok.jobs n) ∙ by (n == n) (job old n)
+  where
+    by : (t : Bool) (o : Option Live) → listeners_of (if t then option_map (reported a b) o else o) ≡ listeners_of o
+    by true None = refl
+    by true (Some l) = refl
+    by false o = refl
+reported_listeners old new n a b (Err wanting) ok err = ap (λ (t : Table). listeners_of (job t n)) err
+
+-- ---- who hears
+
+module _ (k : Settings) (table : conns.Table) (names : List (List ℕ)) (notes : List Note) (w : ℕ → List ℕ) (holds : HoldsConns k table names (conn_facts notes) w) where
+  hears_all : (c : ℕ) → is_open c notes ≡ true → hears table false c ≡ true
+  hears_all c opened = let is = holds.opens c ∙ opened in rw is refl
+
+  all_hear : (slots : List ℕ) → AreOpen (λ c. is_open c notes) slots → filter (hears table false) slots ≡ slots
+  all_hear [] opened = refl
+  all_hear (c ∷ slots) opened = let here = hears_all c opened.0 in rw here (ap (λ (l : List ℕ). c ∷ l) (all_hear slots opened.1))
+
+  hears_some : (c : ℕ) → hears table true c ≡ (is_open c notes && has_option c notes)
+  hears_some c = by (is_open c notes) refl
+    where
+      by : (t : Bool) → is_open c notes ≡ t → hears table true c ≡ (t && has_option c notes)
+      by true e =
+          let is = holds.opens c ∙ e in
+          let option = ap (λ (s : Seen). s.has_option) (holds.seen c e) in
+          rw (is, option) refl
+      by false e = let is = holds.opens c ∙ e in rw is refl
+
+  pub hearers_are : (exceptions_only : Bool) (slots : List ℕ) → AreOpen (λ c. is_open c notes) slots → filter (hears table exceptions_only) slots ≡ hearers exceptions_only slots notes
+  hearers_are true slots opened = filter_alike (hears table true) (λ c. is_open c notes && has_option c notes) slots hears_some
+  hearers_are false slots opened = all_hear slots opened
+
+-- ---- jobs that run
+
+pub runs_from : (c : ℕ) (o : Option Live) (made : Bool) → is_place_at c (place_or o made) ≡ true → IsRunning o
+runs_from c None true e = absurd (false≢true e)
+runs_from c None false e = absurd (false≢true e)
+runs_from c (Some l) made e = by l.slot e
+  where
+    by : (s : Option ℕ) → is_place_at c (place_at s) ≡ true → IsSome s
+    by None e = absurd (false≢true e)
+    by (Some d) e = refl
+
+pub reported_runs : (old new : Table) (n : ℕ) (a b : List ℕ) (result : Result (Unit {0}) AllocError) → OnOk result (Changes n (reported a b) old new) → OnErr result (new ≡ old)
+    → IsRunning (job old n) → IsRunning (job new n)
+reported_runs old new n a b (Ok done) ok err runs = subst IsRunning (sym (ok.jobs n)) (by (n == n) (job old n) runs)
+  where
+    by : (t : Bool) (o : Option Live) → IsRunning o → IsRunning (if t then option_map (reported a b) o else o)
+    by true (Some l) runs = runs
+    by true None runs = runs
+    by false o runs = runs
+reported_runs old new n a b (Err wanting) ok err runs = subst (λ (t : Table). IsRunning (job t n)) (sym err) runs
+
+-- what is asked of a job that runs
+pub record Runs (table : Table) (n : ℕ) : Type 0 where
+  pub live : Live
+  pub slot : ℕ
+  pub at : job table n ≡ Some live
+  pub runs : live.slot ≡ Some slot
+
+pub running : (table : Table) (n : ℕ) → IsRunning (job table n) → Runs table n
+running table n runs = by (job table n) refl runs
+  where
+    at_slot : (l : Live) (s : Option ℕ) → job table n ≡ Some l → l.slot ≡ s → IsSome s → Runs table n
+    at_slot l (Some c) e is some = record { live = l; slot = c; at = e; runs = is }
+    at_slot l None e is some = absurd (false≢true some)
+
+    by : (o : Option Live) → job table n ≡ o → IsRunning o → Runs table n
+    by (Some l) e runs = at_slot l l.slot e refl runs
+    by None e runs = absurd runs
+
+-- ---- what is said
+
+-- a report that is kept changes nothing of who hears
+pub told_after : (ends : Bool) (n : ℕ) (answer : Answer) (exceptions_only : Bool) (told : Option (List ℕ × List ℕ)) (p : Past)
+    → ended_if ends n (tell_all answer (hearers exceptions_only (listeners n (report_kept n told p).notes) (report_kept n told p).notes) (report_kept n told p))
+    ≡ ended_if ends n (tell_all answer (hearers exceptions_only (listeners n p.notes) p.notes) (report_kept n told p))
+told_after ends n answer true None p = refl
+told_after ends n answer false None p = refl
+told_after ends n answer true (Some numbers) p = refl
+told_after ends n answer false (Some numbers) p = refl
+
+pub works_there : (c : ℕ) (w : Work) (n : ℕ) (o : Option ℕ) (p : Past) → Some n ≡ running_there c o p.notes → tell_work w n p ≡ work_on c w o p
+works_there c w n None p e = absurd cc
+works_there c w n (Some m) p e = by (is_running_at c (spot m p.notes)) e
+  where
+    by : (t : Bool) → Some n ≡ (if t then Some m else None) → tell_work w n p ≡ (if t then tell_work w m p else refuse c (codes "job_not_found") p)
+    by true e = ap (λ (x : ℕ). tell_work w x p) (some_same n m e)
+    by false e = absurd cc
+
+pub works_nowhere : (c : ℕ) (w : Work) (o : Option ℕ) (p : Past) → (let none : Option ℕ = None in none) ≡ running_there c o p.notes → refuse c (codes "job_not_found") p ≡ work_on c w o p
+works_nowhere c w None p e = refl
+works_nowhere c w (Some m) p e = by (is_running_at c (spot m p.notes)) e
+  where
+    by : (t : Bool) → (let none : Option ℕ = None in none) ≡ (if t then Some m else None) → refuse c (codes "job_not_found") p ≡ (if t then tell_work w m p else refuse c (codes "job_not_found") p)
+    by true e = absurd cc
+    by false e = refl

@@ -1,0 +1,51 @@
+use Rattle.std.proofs.Common.{ℕ, refl, sym, ap, subst, ◌∙◌, arith}
+use Rattle.std.proofs.lemmas.Bool.{false≢true}
+use Rattle.gm_notes.specs.declared.states.Priority.{Priority}
+use Rattle.gm_notes.specs.declared.note.Note.TheVariants.{Discarded}
+use Rattle.gm_notes.specs.Past.{noted}
+use Rattle.gm_queues.specs.Queues.{without_place}
+use Rattle.gm_queues.specs.Tables.{HasPlace, ChangesQueue}
+use Rattle.gm_jobs.specs.Live.{is_run_by}
+use Rattle.gm_jobs.specs.Tables.{passes}
+use Rattle.gm_tables.specs.Facts.{conn_facts, function_facts}
+use Rattle.gm_tables.proofs.EndLemmas.{jobs_released, place_for, run_there, goes_moved}
+use Rattle.gm_tables.proofs.server.Core.discard_running.Goals as goal
+
+pub returns-then-f-len : goal.returns-then-f-len
+returns-then-f-len c = record {
+  config = refl;
+  past = λ p keeps.
+      let is = keeps.jobs.live c.args.job c.in-Some.found.now (sym c.in-Some.ensures) in
+      let within = is.function in
+      absurd (omega (arith, within, c.if-f-len.true, c.f-f.ensures, c.len.ensures.value));
+}
+
+pub returns-then-not-has_place : goal.returns-then-not-has_place
+returns-then-not-has_place c = record {
+  config = refl;
+  past = λ p keeps.
+      let at = sym c.in-Some.ensures in
+      let functions = c.args.self.now.functions in
+      let runs = run_there c.args.slot c.in-Some.found.now (ap (passes (is_run_by c.args.slot)) c.in-Some.ensures ∙ c.requires) in
+      let place = place_for c.args.self.now.config functions c.args.self.now.jobs (conn_facts p.notes).is_open p.notes (function_facts p.notes) keeps.functions keeps.jobs c.args.job c.in-Some.found.now at c.args.slot runs in
+      let here : HasPlace functions c.f-f.result c.p-p.result =
+      subst (λ (g : ℕ). HasPlace functions g c.p-p.result) (sym c.f-f.ensures)
+      (subst (λ (q : Priority). HasPlace functions c.in-Some.found.now.function q) (sym c.p-p.ensures) place) in
+      absurd (false≢true (sym c.if-not-has_place.true ∙ c.has_place.ensures.1 here));
+}
+
+pub returns : goal.returns
+returns c =
+    let at = sym c.in-Some.ensures in
+    let functions = c.args.self.now.functions in
+    let n = c.args.job in
+    let after = c.release.new.self in
+    let runs = run_there c.args.slot c.in-Some.found.now (ap (passes (is_run_by c.args.slot)) c.in-Some.ensures ∙ c.requires) in
+    let changes : ChangesQueue c.in-Some.found.now.function c.in-Some.found.now.priority without_place functions after =
+    subst (λ (g : ℕ). ChangesQueue g c.in-Some.found.now.priority without_place functions after) c.f-f.ensures
+    (subst (λ (q : Priority). ChangesQueue c.f-f.result q without_place functions after) c.p-p.ensures c.release.ensures) in
+    goes_moved (noted (Discarded n)) (record { config = refl; conns = refl; moment = refl; mode = refl; most = changes.most; names = changes.names; limits = changes.limits })
+    (record { conns = λ p. refl; flow = λ p. refl; functions = λ p. refl; moment = λ p. refl; mode = λ p. refl })
+    (λ p keeps.
+    jobs_released c.args.self.now.config functions c.args.self.now.jobs (conn_facts p.notes).is_open p.notes (function_facts p.notes) keeps.functions keeps.jobs n c.in-Some.found.now at c.args.slot runs after c.end.new.self
+    changes c.end.ensures)

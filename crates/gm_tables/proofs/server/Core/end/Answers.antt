@@ -1,0 +1,32 @@
+use Rattle.std.proofs.Common.{◌≡◌, ℕ, Option, refl, sym, ap, subst, ◌∙◌}
+use Rattle.std.specs.Option.{option_map}
+use Rattle.gm_notes.specs.declared.states.Priority.{Priority}
+use Rattle.gm_queues.specs.Queues.{without_place}
+use Rattle.gm_queues.specs.Tables.{ChangesQueue}
+use Rattle.gm_jobs.specs.Live.{Live}
+use Rattle.gm_tables.specs.Facts.{conn_facts, function_facts}
+use Rattle.gm_tables.proofs.FunctionLemmas.{some_same}
+use Rattle.gm_tables.proofs.AssignLemmas.{functions_popped, conns_popped}
+use Rattle.gm_tables.proofs.WorkLemmas.{running}
+use Rattle.gm_tables.proofs.OverLemmas.{jobs_ended}
+use Rattle.gm_tables.proofs.server.Core.end.Goals as goal
+
+pub returns-in-Some : goal.returns-in-Some
+returns-in-Some c = record {
+  config = refl;
+  past = λ past keeps.
+      let old = c.args.self.now in
+      let it = running old.jobs c.args.job c.requires in
+      let both : (it.live.function, it.live.priority) ≡ (c.in-Some.f, c.in-Some.priority) =
+      some_same (it.live.function, it.live.priority) (c.in-Some.f, c.in-Some.priority)
+      (sym (ap (λ (o : Option Live). option_map (λ (l : Live). (l.function, l.priority)) o) it.at) ∙ c.in-Some.ensures.live) in
+      let frees : ChangesQueue it.live.function it.live.priority without_place old.functions c.release.new.self =
+      subst (λ (at : ℕ × Priority). ChangesQueue at.0 at.1 without_place old.functions c.release.new.self) (sym both) c.release.ensures in
+      record {
+        conns = conns_popped old.config c.release.ensures keeps.conns;
+        functions = functions_popped old.config c.release.ensures keeps.functions;
+        jobs = jobs_ended old.config old.functions c.release.new.self old.jobs c.end.new.self (conn_facts past.notes).is_open past.notes (function_facts past.notes) keeps.functions keeps.jobs c.args.job it.slot it.live it.at it.runs frees c.end.ensures;
+        moment = keeps.moment;
+        mode = keeps.mode;
+      };
+}

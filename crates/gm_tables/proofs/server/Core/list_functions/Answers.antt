@@ -1,0 +1,11 @@
+use Rattle.std.proofs.Common.{List, ℕ, ap, ◌∙◌}
+use Rattle.gm_admin.specs.Answers.{status_text}
+use Rattle.gm_notes.specs.Past.{print}
+use Rattle.gm_notes.specs.Lines.{status_rows}
+use Rattle.gm_tables.proofs.CoreLemmas.{does_as}
+use Rattle.gm_tables.proofs.server.Core.list_functions.Goals as goal
+
+pub returns : goal.returns
+returns c =
+    does_as c.say.result (λ past. print c.args.slot (status_text (status_rows c.args.self.now.config past.notes)) past) c.say.ensures.does
+    (λ p keeps. ap (λ (text : List ℕ). print c.args.slot text p) (c.deref.ensures.value ∙ c.in_ok-text.ensures p keeps))

@@ -1,0 +1,16 @@
+use Rattle.std.proofs.Common.{◌≡◌, ◌≤◌, ℕ, List, length, drop, filter}
+use Rattle.gm_notes.specs.Settings.{Settings}
+use Rattle.gm_conns.specs.Tables.{conn}
+use Rattle.gm_tables.specs.Facts.{ConnFacts}
+use Rattle.gm_tables.specs.Holds.{HoldsConns}
+use Rattle.gm_tables.specs.Telling.{hears, needed}
+use Rattle.gm_tables.proofs.TellLemmas.{Pouring}
+use Rattle.gm_tables.proofs.telling.put_each.Given as goal
+
+abbrev pub invariant-loop-slot : goal.invariant-loop-slot
+invariant-loop-slot l = record {
+  hear : (c : ℕ) → hears l.conns l.exceptions_only c ≡ hears l.fn.conns l.exceptions_only c;
+  room : (c : ℕ) → needed (length l.text) c (filter (hears l.fn.conns l.exceptions_only) (drop l.slot-index l.slots)) ≤ (conn l.conns c).room;
+  holds : (k : Settings) (names : List (List ℕ)) (facts : ConnFacts) (bytes : ℕ → List ℕ) → HoldsConns k l.fn.conns names facts bytes
+      → Pouring k l.conns names facts l.text (filter (hears l.fn.conns l.exceptions_only) l.slots) (filter (hears l.fn.conns l.exceptions_only) (drop l.slot-index l.slots)) bytes;
+}
