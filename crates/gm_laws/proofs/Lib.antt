@@ -1,3 +1,4 @@
+mod Alike
 pub mod ByteLaws
 mod Finding
 mod JobLaws
@@ -6,8 +7,10 @@ mod Listeners
 mod Moving
 mod NumberLaws
 mod Orphans
+mod PutOff
 mod Runners
 mod Sayings
+mod SideBySide
 mod Sleepers
 pub mod StepLaws
 pub mod StepsKeep

@@ -49,7 +49,7 @@ read_at : (kind : Kind) (o : Option (List (List ℕ) × ℕ)) (asked : Asked) �
 read_at kind None asked e = absurd cc
 read_at kind (Some found) asked e = let same : record { kind = kind; arguments = found.0; timeout = found.1 } ≡ asked = cc in ap (λ (a : Asked). a.kind) (sym same)
 
-kind_read : (kind : Kind) (bytes : List ℕ) (asked : Asked) → read_as kind bytes ≡ Some asked → asked.kind ≡ kind
+pub kind_read : (kind : Kind) (bytes : List ℕ) (asked : Asked) → read_as kind bytes ≡ Some asked → asked.kind ≡ kind
 kind_read kind bytes asked e = read_at kind (arguments_of (shape kind) bytes) asked e
 
 -- ---- requests

@@ -1,16 +1,17 @@
 -- What holds after any steps, under any settings.
-use Rattle.std.specs.Prelude.{◌≡◌, ℕ, ◌+◌, ◌<◌, ◌^◌, ◌&&◌, ◌==◌, ◌⊎◌, Bool, true, false, if◌then◌else◌, List, [], ◌∷◌, ◌++◌, length, Some}
-use Rattle.std.specs.List.{list_any}
+use Rattle.std.specs.Prelude.{◌≡◌, ℕ, ◌+◌, ◌<◌, ◌^◌, ◌&&◌, ◌==◌, ◌⊎◌, Bool, true, false, not, if◌then◌else◌, List, [], ◌∷◌, ◌++◌, length, Some, None}
+use Rattle.std.specs.List.{list_any, list_all}
 use Rattle.gm_packet.specs.Kinds.{kind_of}
 use Rattle.gm_notes.specs.declared.note.Note.{Note}
 use Rattle.gm_notes.specs.Settings.{Settings}
-use Rattle.gm_notes.specs.Notes.{is_open, takes_units}
+use Rattle.gm_notes.specs.Notes.{is_open, takes_units, mode}
 use Rattle.gm_notes.specs.Flow.{Flow, Began, Queued, Drained, Emptied, sent, waiting}
 use Rattle.gm_notes.specs.Jobs.{Spot, Pick, pick, Unmade, RunsAt, Over, Thrown, spot, is_live, is_wanted, job, is_job_named, joins, made}
-use Rattle.gm_notes.specs.Steps.{Step, Packet, Close, Drain, run}
+use Rattle.gm_notes.specs.Steps.{Step, Packet, Close, Took, Withdrew, Drain, refusal, done, step, run}
 use Rattle.gm_notes.specs.Past.{Past}
+use Rattle.gm_notes.specs.Servers.{owes, is_closing as has_shut, place_of}
 use Rattle.gm_laws.specs.History.{Gets}
-use Rattle.gm_laws.specs.Causes.{Ends, AllCaused, AllSaid, asks, is_grab, is_one_of, is_closing}
+use Rattle.gm_laws.specs.Causes.{Ends, AllCaused, AllSaid, asks, is_grab, is_sleeping, is_one_of, is_closing}
 
 -- P holds of the notes after any steps
 abbrev pub AfterAnySteps : (Settings → List Note → Type 0) → Type 0
@@ -128,3 +129,44 @@ takes_from c other = false
 
 abbrev pub OnlyDrainsTake : Settings → Past → Step → Past → Type 0
 OnlyDrainsTake k before s after = (c : ℕ) → takes_from c s ≡ false → IsFront (waiting c before.flow) (waiting c after.flow)
+
+-- ---- when a NOOP is taken
+
+-- a step lets the taking of slot c's NOOP pass: it is no PRE_SLEEP and no closing of the slot, and no taking and no
+-- withdrawal of its NOOP
+abbrev pub lets_pass : ℕ → Step → Bool
+lets_pass c (Packet d number bytes) = not (asks is_sleeping c (Packet d number bytes))
+lets_pass c (Close d) = not (c == d)
+lets_pass c (Took d) = not (c == d)
+lets_pass c (Withdrew d) = not (c == d)
+lets_pass c other = true
+
+-- after both pasts a step is refused alike, answers the same, adds the same notes, and leaves the same flow of bytes
+abbrev pub GoesAlike : Settings → Step → Past → Past → Type 0
+GoesAlike k s a b =
+    (refusal k s a ≡ refusal k s b) × (done k s a ≡ done k s b) × ((step k s a).flow ≡ (step k s b).flow)
+    × (newer : List Note) × ((step k s a).notes ≡ newer ++ a.notes) × ((step k s b).notes ≡ newer ++ b.notes)
+
+-- so does each of the newer steps, after these and after those
+abbrev pub AllGoAlike : Settings → List Step → List Step → List Step → Type 0
+AllGoAlike k [] these those = Unit {0}
+AllGoAlike k (s ∷ newer) these those = GoesAlike k s (run k (newer ++ these)) (run k (newer ++ those)) × AllGoAlike k newer these those
+
+-- what a server is asked of either past it answers alike: who is owed a NOOP, who is shut, whether it goes on, where jobs are,
+-- and which bytes wait
+abbrev pub TellAlike : Past → Past → Type 0
+TellAlike a b =
+    ((c : ℕ) → owes c a ≡ owes c b) × ((c : ℕ) → has_shut c a ≡ has_shut c b) × (mode a.notes ≡ mode b.notes)
+    × ((n : ℕ) → place_of (spot n a.notes) ≡ place_of (spot n b.notes)) × ((c : ℕ) → waiting c a.flow ≡ waiting c b.flow)
+
+-- a NOOP that can be taken can as well be taken later, after steps that let its taking pass: they go alike, and so does
+-- whatever comes after them and the taking
+abbrev pub MayBeTakenLater : Type 0
+MayBeTakenLater = (k : Settings) (c : ℕ) (before between after : List Step) →
+    refusal k (Took c) (run k before) ≡ None → list_all (lets_pass c) between ≡ true →
+    let late = Took c ∷ between ++ before in
+    let early = between ++ Took c ∷ before in
+    (refusal k (Took c) (run k (between ++ before)) ≡ None)
+    × AllGoAlike k between before (Took c ∷ before)
+    × AllGoAlike k after late early
+    × TellAlike (run k (after ++ late)) (run k (after ++ early))

@@ -3,7 +3,7 @@
 
 ghost use Rattle.gm_notes.specs.Jobs.{made};
 ghost use Rattle.gm_laws.specs.History.{History};
-ghost use Rattle.gm_laws.specs.Laws.{AfterAnySteps, AreNumbers, AreSlots, HavePlaces, AreOne, StayGone, AllIsSent, BytesArrive, InEachStep, NotesAreCaused, DiscardsTheUnwanted, EndsWithItsWorker, GivesThePick, GrabsGetThePick, SaysNoJobWhereNoneIs, OnlyDrainsTake};
+ghost use Rattle.gm_laws.specs.Laws.{AfterAnySteps, AreNumbers, AreSlots, HavePlaces, AreOne, StayGone, AllIsSent, BytesArrive, InEachStep, NotesAreCaused, DiscardsTheUnwanted, EndsWithItsWorker, GivesThePick, GrabsGetThePick, SaysNoJobWhereNoneIs, OnlyDrainsTake, MayBeTakenLater};
 ghost use Rattle.gm_laws.specs.Between.{ListenersAreOpen, RunnersAreOpen, NoWaitingJobIsOrphaned, NoOneSleepsBesideWork};
 
 /// Every note of the past was allowed when it was added: only a waiting job was given out, and only to whose
@@ -103,4 +103,12 @@ pub fn no_waiting_job_is_orphaned()
 /// Who sleeps can do none of the jobs that wait.
 pub fn no_one_sleeps_beside_work()
     ensures { AfterAnySteps NoOneSleepsBesideWork }
+{}
+
+/// A NOOP that can be taken can as well be taken later, after steps that are no PRE_SLEEP and no closing of its slot,
+/// and no taking and no withdrawal of it. Each of these steps, and whatever comes after them and the taking, is refused
+/// alike, answers the same, adds the same notes and leaves the same flow of bytes either way; and afterwards the same
+/// NOOPs are owed, the same slots are shut, the same bytes wait, and each job is in the same place.
+pub fn may_be_taken_later()
+    ensures { MayBeTakenLater }
 {}
