@@ -1,6 +1,7 @@
 //! The rounds of gm_bench_tables on std's collections, to compare with: `rustc -O tables.rs`.
 
-use std::collections::{BTreeSet, HashMap, VecDeque};
+use std::cmp::Reverse;
+use std::collections::{BTreeSet, BinaryHeap, HashMap, VecDeque};
 use std::env;
 use std::hint::black_box;
 use std::time::Instant;
@@ -142,7 +143,9 @@ struct Jobs {
     uniques: HashMap<(u32, Vec<u8>), u64>,
     listening: HashMap<u32, Vec<u64>>,
     running: HashMap<u32, BTreeSet<u64>>,
-    dues: BTreeSet<(u64, u64)>,
+    // Deadlines and numbers, and those that were reached the other way round, among others that don't hold any more.
+    dues: BinaryHeap<Reverse<(u64, u64)>>,
+    reached: BinaryHeap<Reverse<(u64, u64)>>,
     orphans: BTreeSet<u64>,
 }
 
@@ -159,7 +162,7 @@ impl Jobs {
         let mut jobs = Jobs { next: 1, ..Jobs::default() };
         for index in 0..size {
             let number = jobs.make(index + 1, None);
-            if name == "job_due_nothing" {
+            if name.starts_with("job_due") {
                 jobs.assign(number, 9, 1 << 40);
             }
         }
@@ -190,9 +193,8 @@ impl Jobs {
     fn end(&mut self, number: u64) {
         if let Some(job) = self.jobs.remove(&number) {
             self.uniques.remove(&(0, job.unique));
-            if let Some((slot, deadline)) = job.runs {
+            if let Some((slot, _)) = job.runs {
                 self.running.get_mut(&slot).unwrap().remove(&number);
-                self.dues.remove(&(deadline, number));
             }
             self.orphans.remove(&number);
         }
@@ -201,14 +203,41 @@ impl Jobs {
     fn assign(&mut self, number: u64, slot: u32, deadline: u64) {
         self.jobs.get_mut(&number).unwrap().runs = Some((slot, deadline));
         self.running.entry(slot).or_default().insert(number);
-        self.dues.insert((deadline, number));
+        if self.dues.len() > 2 * self.jobs.len() + 64 {
+            self.dues.clear();
+            self.dues.extend(self.jobs.iter().filter_map(|(number, job)| job.runs.map(|runs| Reverse((runs.1, *number)))));
+        }
+        self.dues.push(Reverse((deadline, number)));
     }
 
     fn give_back(&mut self, number: u64) {
-        if let Some((slot, deadline)) = self.jobs.get_mut(&number).unwrap().runs.take() {
+        if let Some((slot, _)) = self.jobs.get_mut(&number).unwrap().runs.take() {
             self.running.get_mut(&slot).unwrap().remove(&number);
-            self.dues.remove(&(deadline, number));
         }
+    }
+
+    fn runs_until(&self, number: u64, deadline: u64) -> bool {
+        self.jobs.get(&number).is_some_and(|job| job.runs.is_some_and(|runs| runs.1 == deadline))
+    }
+
+    fn due(&mut self, now: u64, after: u64) -> Option<u64> {
+        while let Some(&Reverse((deadline, number))) = self.dues.peek() {
+            if deadline > now {
+                break;
+            }
+            self.dues.pop();
+            if self.runs_until(number, deadline) {
+                self.reached.push(Reverse((number, deadline)));
+            }
+        }
+        while let Some(&Reverse((number, deadline))) = self.reached.peek() {
+            if self.runs_until(number, deadline) {
+                let later = |due: &&Reverse<(u64, u64)>| due.0.0 > after && self.runs_until(due.0.0, due.0.1);
+                return if number > after { Some(number) } else { self.reached.iter().filter(later).map(|due| due.0.0).min() };
+            }
+            self.reached.pop();
+        }
+        None
     }
 
     fn listen(&mut self, number: u64, slot: u32) -> usize {
@@ -256,7 +285,15 @@ fn job_round(jobs: &mut Jobs, name: &str, next: u64, live: u64) -> u64 {
             jobs.end(found);
             found - made + 1
         }
-        "job_due_nothing" => jobs.dues.first().map_or(1, |due| if due.0 <= 5 { due.1 } else { 1 }),
+        "job_due_nothing" => jobs.due(5, 0).unwrap_or(1),
+        "job_due_some" => {
+            jobs.assign(live, 9, next);
+            let found = jobs.due(next, 0).unwrap();
+            jobs.give_back(found);
+            let more = jobs.due(next, found);
+            jobs.assign(found, 9, 1 << 40);
+            u64::from(found == live && more.is_none())
+        }
         _ => panic!("no such measurement"),
     }
 }

@@ -21,6 +21,18 @@ pub(crate) enum Turn {
     Orphan,
     /// Looks for a job whose deadline is reached, where none is.
     DueNothing,
+    /// The deadline of one of the jobs that run is reached: it is found, comes back, and is given out until later.
+    DueSome,
+}
+
+impl Turn {
+    /// Whether it is about jobs that run, and not about such as wait.
+    fn runs(self) -> bool {
+        match self {
+            Turn::DueNothing | Turn::DueSome => true,
+            _ => false,
+        }
+    }
 }
 
 /// A table of jobs, and what a round does with it.
@@ -127,6 +139,16 @@ fn due_nothing(jobs: &mut Jobs) -> u64 {
     jobs.due(5, 0).unwrap_or(1)
 }
 
+/// The deadline of a job that runs is `now`.
+fn due_some(jobs: &mut Jobs, number: u64, now: u64) -> u64 {
+    jobs.assign(number, RUNNER, Some(now));
+    let found = jobs.due(now, 0).unwrap_or(0);
+    jobs.give_back(found);
+    let more = jobs.due(now, found);
+    jobs.assign(found, RUNNER, Some(FAR));
+    u64::from(found == number && more.is_none())
+}
+
 /// A round: the number of the round, and that of a job that lives.
 fn turn_once(jobs: &mut Jobs, turn: Turn, next: u64, live: u64) -> Result<u64, Stop> {
     match turn {
@@ -136,6 +158,7 @@ fn turn_once(jobs: &mut Jobs, turn: Turn, next: u64, live: u64) -> Result<u64, S
         Turn::ListenLeave => listen_leave(jobs, live),
         Turn::Orphan => orphan(jobs, next),
         Turn::DueNothing => Ok(due_nothing(jobs)),
+        Turn::DueSome => Ok(due_some(jobs, live, next)),
     }
 }
 
@@ -166,13 +189,13 @@ impl Rounds for JobRounds {
 
 fn fill_and_time(rt: &HostRuntime, table: &mut JobRounds, rounds: u64) -> Result<Outcome, Stop> {
     fill(&mut table.jobs, table.size)?;
-    if let Turn::DueNothing = table.turn {
+    if table.turn.runs() {
         assign_all(&mut table.jobs, table.size);
     }
     timed(rt, table, rounds)
 }
 
-/// Runs so many rounds on a table where so many jobs wait. Where nothing is to be due they run.
+/// Runs so many rounds on a table where so many jobs wait. Where deadlines are asked for they run.
 pub(crate) fn measure(
     rt: &HostRuntime,
     seed: RandomState,

@@ -20,7 +20,7 @@ gm_bench_tables --help             prints this
 
 Of functions, where SIZE jobs wait: queue_push_pop, queue_forget.
 Of connections, where SIZE slots are open, at most 1024: conn_open_close, conn_sleep_wake, conn_answer, conn_ability.
-Of jobs, where SIZE jobs wait, or run: job_make_end, job_find, job_assign_return, job_listen_leave, job_orphan, job_due_nothing.
+Of jobs, where SIZE jobs wait, or run: job_make_end, job_find, job_assign_return, job_listen_leave, job_orphan, job_due_nothing, job_due_some.
 ";
 
 /// A round over one of the tables.
@@ -32,7 +32,7 @@ enum Round {
 }
 
 /// What can be measured, in the order in which it is listed.
-static ROUNDS: [(&str, Round); 12] = [
+static ROUNDS: [(&str, Round); 13] = [
     ("queue_push_pop", Round::Queue(queues::Turn::PushPop)),
     ("queue_forget", Round::Queue(queues::Turn::Forget)),
     (
@@ -54,6 +54,7 @@ static ROUNDS: [(&str, Round); 12] = [
     ("job_listen_leave", Round::Job(jobs::Turn::ListenLeave)),
     ("job_orphan", Round::Job(jobs::Turn::Orphan)),
     ("job_due_nothing", Round::Job(jobs::Turn::DueNothing)),
+    ("job_due_some", Round::Job(jobs::Turn::DueSome)),
 ];
 
 fn round_of(name: &str) -> Result<Round, Stop> {

@@ -1,5 +1,5 @@
 -- What is true of jobs, and of what is kept beside them.
-use Rattle.std.proofs.Common.{◌≡◌, ◌≢◌, ℕ, zero, suc, ◌+◌, ◌^◌, ◌<◌, ◌≤◌, ◌⊎◌, inl, inr, Bool, true, false, cond, not, ◌==◌, ◌&&◌, ◌||◌, if◌then◌else◌, List, [], ◌∷◌, length, filter, Contains, Option, Some, None, IsSome, IfSome, is_some, Result, Ok, Err, IsOk, IfOk, OnOk, OnErr, refl, sym, ap, subst, ◌∙◌, arith}
+use Rattle.std.proofs.Common.{◌≡◌, ◌≢◌, ℕ, zero, suc, ◌+◌, ◌^◌, ◌<◌, ◌≤◌, ◌⊎◌, inl, inr, Bool, true, false, cond, not, ◌==◌, ◌&&◌, if◌then◌else◌, List, [], ◌∷◌, length, filter, Contains, Option, Some, None, IsSome, IfSome, is_some, Result, Ok, Err, IsOk, IfOk, OnOk, OnErr, refl, sym, ap, subst, ◌∙◌, arith}
 use Rattle.std.specs.Option.{option_map, unwrap_or, SomeIff}
 use Rattle.gm_jobs.specs.declared.jobs.Jobs.TheInside.{Inside}
 use Rattle.std.proofs.lemmas.List.Elements.{All-contains, filter_passes}
@@ -7,12 +7,13 @@ use Rattle.gm_jobs.proofs.MarkLemmas.{Contains-from_filter}
 use Rattle.std.proofs.lemmas.Bool.{cases_lt, cases_eq, true≢false, false≢true}
 use Rattle.std.proofs.lemmas.Bool.Decides.{nat_tests}
 use Rattle.gm_notes.specs.Jobs.{joins}
-use Rattle.gm_jobs.specs.Live.{Live, is_named, is_due, is_orphan, is_reached, listed, without_listener}
+use Rattle.gm_jobs.specs.Live.{Live, is_named, listed, without_listener}
 use Rattle.gm_jobs.specs.Tables.{Room, find_job, passes}
 use Rattle.gm_jobs.specs.Changes.{ChangesJob, LeavesOne, LeavesSome}
 use Rattle.gm_jobs.specs.declared.marks.Mark.{Mark}
 use Rattle.gm_jobs.specs.declared.marks.Sign.{Sign}
-use Rattle.gm_jobs.specs.Marks.{MarkTable, Marked, MarkedBut, is_marked, sign_at, sign_of, until_of, mark_of, IsSoon}
+use Rattle.gm_jobs.specs.Marks.{MarkTable, Marked, MarkedBut, is_marked, sign_of, mark_of}
+use Rattle.gm_jobs.specs.Dues.{DueTable, IsListed, AllListed}
 use Rattle.gm_jobs.specs.Listening.{Lists, Heard}
 use Rattle.std.specs.Str.{bytes_eq}
 use Rattle.std.proofs.lemmas.Slice.Eq.{bytes_eq-Decides}
@@ -95,13 +96,13 @@ names_changed n f old new change function unique =
 
 module _ (b : Beside) (old : List (ℕ × Live)) where
   -- what is kept beside jobs with the same names
-  pub kept_names : (new : List (ℕ × Live)) (marks : MarkTable) (listening : Lists) (soonest : ℕ) (room : Option Room) (spare spare' : ℕ)
+  pub kept_names : (new : List (ℕ × Live)) (marks : MarkTable) (listening : Lists) (dues : DueTable) (room : Option Room) (spare spare' : ℕ)
       → IsKept b room spare old → SameNames old new → length new ≤ length old → spare ≤ spare' → marks.room ≡ b.marks.room → Marked new marks.marks
       → ((m : ℕ) (live : Live) → find_job new m ≡ Some live → (c : ℕ) → Contains live.listeners c → Heard listening c m)
-      → ((m : ℕ) (live : Live) → find_job new m ≡ Some live → IsSoon soonest live)
+      → AllListed new dues
       → (b.listening.fresh ≡ None → listening.fresh ≡ None)
-      → IsKept (record b { marks = marks; listening = listening; soonest = soonest }) room spare' new
-  kept_names new marks listening soonest room spare spare' k names shorter more wide marked heard soon fresh = record {
+      → IsKept (record b { marks = marks; listening = listening; dues = dues }) room spare' new
+  kept_names new marks listening dues room spare spare' k names shorter more wide marked heard listed fresh = record {
     known = λ n live e.
         let w = names n live e in
         let known = k.known n w.old w.found in
@@ -111,7 +112,7 @@ module _ (b : Beside) (old : List (ℕ × Live)) where
           reached = λ good. Reaches-same b.uniques.cells b.seed w.old.function live.function n n w.old.unique live.unique w.function w.unique refl (known.reached (ap joins w.unique ∙ good));
           marked = marked n live e;
           heard = heard n live e;
-          soon = soon n live e;
+          listed = listed n live e;
         };
     single = λ n m live other e e' good same.
         let w = names n live e in
@@ -130,12 +131,13 @@ module _ (b : Beside) (old : List (ℕ × Live)) where
   }
 
   -- and where there is more room
-  pub kept_room : (uniques : Cells) (marks : MarkTable) (listening : Lists) (room : Option Room) (spare spare' : ℕ)
+  pub kept_room : (uniques : Cells) (marks : MarkTable) (listening : Lists) (dues : DueTable) (room : Option Room) (spare spare' : ℕ)
       → IsKept b room spare old → spare ≤ spare' → Reached b.seed old uniques.cells → (b.uniques.used < length b.uniques.cells → uniques.used < length uniques.cells)
       → marks.marks ≡ b.marks.marks → b.marks.room ≤ marks.room
       → ((c n : ℕ) → IsSome (find_job old n) → Heard b.listening c n → Heard listening c n) → (b.listening.fresh ≡ None → listening.fresh ≡ None)
-      → IsKept (record b { uniques = uniques; marks = marks; listening = listening }) room spare' old
-  kept_room uniques marks listening room spare spare' k more reached used same wide heard fresh = record {
+      → ((n : ℕ) (live : Live) → (is_marked live ≡ true → Contains b.marks.marks (mark_of n live)) → IsListed b.dues n live → IsListed dues n live)
+      → IsKept (record b { uniques = uniques; marks = marks; listening = listening; dues = dues }) room spare' old
+  kept_room uniques marks listening dues room spare spare' k more reached used same wide heard fresh stays = record {
     known = λ n live e.
         let known = k.known n live e in
         record {
@@ -144,7 +146,7 @@ module _ (b : Beside) (old : List (ℕ × Live)) where
           reached = reached n live e;
           marked = λ is. subst (λ ms. Contains ms (mark_of n live)) (sym same) (known.marked is);
           heard = λ c there. heard c n (ap is_some e) (known.heard c there);
-          soon = known.soon;
+          listed = stays n live known.marked known.listed;
         };
     single = k.single;
     marks = omega (arith, k.marks);
@@ -217,7 +219,7 @@ module _ (b : Beside) (old : List (ℕ × Live)) where
               reached = λ good. kept _ n (was.reached good);
               marked = marked n live e;
               heard = λ c there. heard c n (was.heard c there);
-              soon = was.soon;
+              listed = was.listed;
             }
         known n live e (inl is) =
             let same : made ≡ live = some_same made live (sym made_here ∙ ap (find_job new) (sym is) ∙ e) in
@@ -227,7 +229,7 @@ module _ (b : Beside) (old : List (ℕ × Live)) where
               reached = λ good. subst (λ i. Reaches uniques.cells (digest_of b.seed live.function live.unique) i) (sym is) (subst (λ (l : Live). Reaches uniques.cells (digest_of b.seed l.function l.unique) b.next) same (reached (ap (λ (l : Live). joins l.unique) same ∙ good)));
               marked = marked n live e;
               heard = λ c there. subst (λ i. Heard listening c i) (sym is) (first c (subst (λ (l : Live). Contains l.listeners c) (sym same) there));
-              soon = λ deadline runs until. absurd (let none : is_some made.slot ≡ false = ap is_some waits in true≢false (sym (ap (λ (l : Live). is_some l.slot) same ∙ runs) ∙ none));
+              listed = λ whole d runs until less. absurd (let none : is_some made.slot ≡ false = ap is_some waits in true≢false (sym (ap (λ (l : Live). is_some l.slot) same ∙ runs) ∙ none));
             }
 
         single : (n m : ℕ) (live other : Live) → find_job new n ≡ Some live → find_job new m ≡ Some other → joins live.unique ≡ true → is_named live.function live.unique other ≡ true
@@ -244,7 +246,7 @@ module _ (b : Beside) (old : List (ℕ × Live)) where
 
 -- what stands beside the jobs of a table
 abbrev pub beside : Inside → Beside
-beside t = record { seed = t.seed; first = t.first; next = unwrap_or t.next (2 ^ 64); left = is_some t.next; uniques = t.uniques; marks = t.marks; listening = t.listening; soonest = t.soonest }
+beside t = record { seed = t.seed; first = t.first; next = unwrap_or t.next (2 ^ 64); left = is_some t.next; uniques = t.uniques; marks = t.marks; listening = t.listening; dues = t.dues }
 
 pub marked_of : (b : Beside) (jobs : List (ℕ × Live)) (room : Option Room) (spare : ℕ) → IsKept b room spare jobs → Marked jobs b.marks.marks
 marked_of b jobs room spare k n live e = (k.known n live e).marked
@@ -255,18 +257,38 @@ marked_changed n f old new marks change marked sign less =
     each_changed n f old new change (λ m live. is_marked live ≡ true → Contains marks.marks (mark_of m live)) (λ m live. is_marked live ≡ true → Contains marks.marks (mark_of m live))
     marked (λ m live h. h) (λ live h is. subst (λ (s : Sign). Contains marks.marks (record { number = n; sign = s })) (sym (sign live is)) (h (less live is)))
 
+-- a change that gives no job a deadline leaves all listed
+pub listed_changed : (n : ℕ) (f : Live → Live) (old new : List (ℕ × Live)) (dues : DueTable) → ChangesJob n f old new → AllListed old dues → ((l : Live) → IsListed dues n l → IsListed dues n (f l)) → AllListed new dues
+listed_changed n f old new dues change all here =
+    each_changed n f old new change (λ m live. IsListed dues m live) (λ m live. IsListed dues m live) all (λ m live h. h) here
+
+-- a job that gets a deadline is listed where its mark stands, and so are the others still
+pub listed_assigned : (n : ℕ) (f : Live → Live) (old new : List (ℕ × Live)) (before after : DueTable) (marks : List Mark) → ChangesJob n f old new → AllListed old before → Marked new marks
+    → ((m : ℕ) (live : Live) → (is_marked live ≡ true → Contains marks (mark_of m live)) → IsListed before m live → IsListed after m live)
+    → ((l : Live) → (is_marked (f l) ≡ true → Contains marks (mark_of n (f l))) → IsListed after n (f l)) → AllListed new after
+listed_assigned n f old new before after marks change all marked stays here m live found = by (cases_eq m n)
+  where
+    by : (m ≡ n) ⊎ (m ≡ n → ⊥) → IsListed after m live
+    by (inr ne) = stays m live (marked m live found) (all m live (sym (other_job n f old new change m ne) ∙ found))
+    by (inl e) =
+        let found_n : find_job new n ≡ Some live = ap (find_job new) (sym e) ∙ found in
+        let was = mapped n f old new change (find_job old n) live (sym (this_job n f old new change) ∙ found_n) in
+        subst (λ i. IsListed after i live) (sym e) (subst (λ l. IsListed after n l) was.2 (here was.0 (subst (λ l. is_marked l ≡ true → Contains marks (mark_of n l)) (sym was.2) (marked n live found_n))))
+
+pub listed_of : (b : Beside) (jobs : List (ℕ × Live)) (room : Option Room) (spare : ℕ) → IsKept b room spare jobs → AllListed jobs b.dues
+listed_of b jobs room spare k n live e = (k.known n live e).listed
+
 -- what is kept beside the jobs, where one changed
-pub kept_changed : (b : Beside) (n : ℕ) (f : Live → Live) (old new : List (ℕ × Live)) (marks : MarkTable) (listening : Lists) (soonest : ℕ) (room : Option Room) (spare spare' : ℕ)
+pub kept_changed : (b : Beside) (n : ℕ) (f : Live → Live) (old new : List (ℕ × Live)) (marks : MarkTable) (listening : Lists) (dues : DueTable) (room : Option Room) (spare spare' : ℕ)
     → IsKept b room spare old → ChangesJob n f old new → ((l : Live) → (f l).function ≡ l.function) → ((l : Live) → (f l).unique ≡ l.unique) → spare' ≡ spare → marks.room ≡ b.marks.room → Marked new marks.marks
     → ((c m : ℕ) → IsSome (find_job old m) → Heard b.listening c m → Heard listening c m) → ((l : Live) (c : ℕ) → Contains (f l).listeners c → Contains l.listeners c ⊎ Heard listening c n) → (b.listening.fresh ≡ None → listening.fresh ≡ None)
-    → ((l : Live) → IsSoon b.soonest l → IsSoon soonest l) → ((l : Live) → IsSoon b.soonest l → IsSoon soonest (f l))
-    → IsKept (record b { marks = marks; listening = listening; soonest = soonest }) room spare' new
-kept_changed b n f old new marks listening soonest room spare spare' k change function unique same wide marked heard first fresh sooner here =
-    kept_names b old new marks listening soonest room spare spare' k (names_changed n f old new change function unique) (omega (arith, change.len)) (omega arith) wide marked
+    → AllListed new dues
+    → IsKept (record b { marks = marks; listening = listening; dues = dues }) room spare' new
+kept_changed b n f old new marks listening dues room spare spare' k change function unique same wide marked heard first fresh all =
+    kept_names b old new marks listening dues room spare spare' k (names_changed n f old new change function unique) (omega (arith, change.len)) (omega arith) wide marked
     (each_changed n f old new change (λ m live. (c : ℕ) → Contains live.listeners c → Heard listening c m) (λ m live. (c : ℕ) → Contains live.listeners c → Heard listening c m)
     (λ m live e c there. heard c m (ap is_some e) ((k.known m live e).heard c there)) (λ m live h. h) (λ live h c there. at live c h (first live c there)))
-    (each_changed n f old new change (λ m live. IsSoon b.soonest live) (λ m live. IsSoon soonest live) (λ m live e. (k.known m live e).soon) (λ m live h. sooner live h) (λ live h. here live h))
-    fresh
+    all fresh
   where
     at : (live : Live) (c : ℕ) → ((c : ℕ) → Contains live.listeners c → Heard listening c n) → Contains live.listeners c ⊎ Heard listening c n → Heard listening c n
     at live c h (inl old) = h c old
@@ -371,14 +393,14 @@ module _ (slot : ℕ) where
         → ((c n : ℕ) → c ≢ slot → Heard b.listening c n → Heard listening c n) → (b.listening.fresh ≡ None → listening.fresh ≡ None)
         → IsKept (record b { marks = marks; listening = listening }) room spare' new
     kept_left b marks listening room spare spare' k same wide marked heard fresh =
-        kept_names b old new marks listening b.soonest room spare spare' k
+        kept_names b old new marks listening b.dues room spare spare' k
         (λ n live e. let w = was_left n live e in record { old = w.0; found = w.1; function = ap (λ (l : Live). l.function) w.2; unique = ap (λ (l : Live). l.unique) w.2 })
         (omega (arith, some.len)) (omega arith) wide marked
         (λ n live e c there.
         let w = was_left n live e in
         let s = stays w.0.listeners c (subst (λ (l : Live). Contains l.listeners c) (sym w.2) there) in
         heard c n s.0 ((k.known n w.0 w.1).heard c s.1))
-        (λ n live e. let w = was_left n live e in subst (λ (l : Live). IsSoon b.soonest l) w.2 (k.known n w.0 w.1).soon)
+        (λ n live e. let w = was_left n live e in subst (λ (l : Live). IsListed b.dues n l) w.2 (k.known n w.0 w.1).listed)
         fresh
 
 -- ---- results
@@ -398,7 +420,7 @@ if_some_map (Some x) P Q f h = f x h
 pub reached_of : (b : Beside) (jobs : List (ℕ × Live)) (room : Option Room) (spare : ℕ) → IsKept b room spare jobs → Reached b.seed jobs b.uniques.cells
 reached_of b jobs room spare k n live e good = (k.known n live e).reached good
 
--- ---- a job ends, and a deadline moves on
+-- ---- a job ends
 
 pub removed : (n : ℕ) (old new : List (ℕ × Live)) → ((m : ℕ) → find_job new m ≡ (if n == m then None else find_job old m)) → (m : ℕ) (live : Live) → find_job new m ≡ Some live → find_job old m ≡ Some live
 removed n old new gone m live e = at (n == m) (sym (gone m) ∙ e)
@@ -407,20 +429,19 @@ removed n old new gone m live e = at (n == m) (sym (gone m) ∙ e)
     at true h = cc
     at false h = h
 
-pub kept_fewer : (b : Beside) (old new : List (ℕ × Live)) (soonest : ℕ) (room : Option Room) (spare spare' : ℕ) → IsKept b room spare old → ((m : ℕ) (live : Live) → find_job new m ≡ Some live → find_job old m ≡ Some live)
-    → length new ≤ length old → spare ≤ spare' → ((m : ℕ) (live : Live) → find_job new m ≡ Some live → IsSoon soonest live) → IsKept (record b { soonest = soonest }) room spare' new
-kept_fewer b old new soonest room spare spare' k was shorter more soon =
-    kept_names b old new b.marks b.listening soonest room spare spare' k
-    (λ n live e. record { old = live; found = was n live e; function = refl; unique = refl }) shorter more refl
-    (λ n live e. (k.known n live (was n live e)).marked) (λ n live e. (k.known n live (was n live e)).heard) soon (λ e. e)
+pub kept_dues : (b : Beside) (jobs : List (ℕ × Live)) (dues : DueTable) (room : Option Room) (spare : ℕ) → IsKept b room spare jobs → AllListed jobs dues → IsKept (record b { dues = dues }) room spare jobs
+kept_dues b jobs dues room spare k all =
+    kept_names b jobs jobs b.marks b.listening dues room spare spare k
+    (λ n live e. record { old = live; found = e; function = refl; unique = refl }) (omega arith) (omega arith) refl
+    (λ n live e. (k.known n live e).marked) (λ n live e. (k.known n live e).heard) all (λ e. e)
 
 pub kept_ended : (b : Beside) (n : ℕ) (old new : List (ℕ × Live)) (marks : MarkTable) (room : Option Room) (spare spare' : ℕ) → IsKept b room spare old → ((m : ℕ) → find_job new m ≡ (if n == m then None else find_job old m))
     → length new ≤ length old → spare ≤ spare' → ((y : Mark) → y.number ≢ n → Contains b.marks.marks y → Contains marks.marks y) → marks.room ≡ b.marks.room → IsKept (record b { marks = marks }) room spare' new
 kept_ended b n old new marks room spare spare' k gone shorter more others wide =
-    kept_names b old new marks b.listening b.soonest room spare spare' k
+    kept_names b old new marks b.listening b.dues room spare spare' k
     (λ m live e. record { old = live; found = was m live e; function = refl; unique = refl }) shorter more wide
     (λ m live e is. others (mark_of m live) (apart m live e) ((k.known m live (was m live e)).marked is))
-    (λ m live e. (k.known m live (was m live e)).heard) (λ m live e. (k.known m live (was m live e)).soon) (λ e. e)
+    (λ m live e. (k.known m live (was m live e)).heard) (λ m live e. (k.known m live (was m live e)).listed) (λ e. e)
   where
     was : (m : ℕ) (live : Live) → find_job new m ≡ Some live → find_job old m ≡ Some live
     was = removed n old new gone
@@ -431,25 +452,6 @@ kept_ended b n old new marks room spare spare' k gone shorter more others wide =
         at : (t : Bool) → t ≡ true → find_job new m ≡ (if t then None else find_job old m) → ⊥
         at true is g = cc
         at false is g = absurd (false≢true is)
-
--- a moment that no mark's is before is no later than a deadline
-pub soon_of : (marks : List Mark) (jobs : List (ℕ × Live)) (soonest : ℕ) → Marked jobs marks → ((m : Mark) → Contains marks m → soonest ≤ until_of m.sign) → (n : ℕ) (live : Live) → find_job jobs n ≡ Some live → IsSoon soonest live
-soon_of marks jobs soonest marked least n live found deadline runs is = at live.slot refl runs
-  where
-    at : (s : Option ℕ) → live.slot ≡ s → is_some s ≡ true → soonest ≤ deadline
-    at None e r = absurd (false≢true r)
-    at (Some c) e r =
-        let same : until_of (sign_of live) ≡ deadline = (λ i. until_of (sign_at (e i) (unwrap_or (is i) 18446744073709551615) (is_orphan live))) in
-        subst (λ d. soonest ≤ d) same (least (mark_of n live) (marked n live found (ap (λ b. b || is_orphan live) runs)))
-
--- before the soonest deadline none is reached
-pub not_due : (soonest now : ℕ) (live : Live) → IsSoon soonest live → now < soonest → is_due now live ≡ false
-not_due soonest now live soon before = by (is_some live.slot) refl live.deadline refl
-  where
-    by : (b : Bool) → is_some live.slot ≡ b → (d : Option ℕ) → live.deadline ≡ d → (b && is_reached now d) ≡ false
-    by false e d h = refl
-    by true e None h = refl
-    by true e (Some d) h = let later : soonest ≤ d = soon d e h in grind (arith, nat_tests)
 
 -- ---- a job is found by its name
 

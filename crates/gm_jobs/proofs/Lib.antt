@@ -1,4 +1,6 @@
 pub mod CellLemmas
+pub mod DueLemmas
 pub mod JobLemmas
 pub mod ListLemmas
 pub mod MarkLemmas
+pub mod RollLemmas

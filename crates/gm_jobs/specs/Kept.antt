@@ -4,7 +4,8 @@ use Rattle.std.specs.declared.hash.RandomState.{RandomState}
 use Rattle.gm_notes.specs.Jobs.{joins}
 use Rattle.gm_jobs.specs.Live.{Live, is_named}
 use Rattle.gm_jobs.specs.Tables.{Room, find_job}
-use Rattle.gm_jobs.specs.Marks.{MarkTable, is_marked, mark_of, IsSoon}
+use Rattle.gm_jobs.specs.Marks.{MarkTable, is_marked, mark_of}
+use Rattle.gm_jobs.specs.Dues.{DueTable, IsListed}
 use Rattle.gm_jobs.specs.Listening.{Lists, Heard}
 use Rattle.gm_jobs.specs.Uniques.{Cells, Reaches, digest_of}
 
@@ -17,7 +18,7 @@ pub record Beside : Type 0 where
   pub uniques : Cells
   pub marks : MarkTable
   pub listening : Lists
-  pub soonest : ℕ
+  pub dues : DueTable
 
 -- A live job is known to all that stands beside it.
 pub record IsKnown (b : Beside) (n : ℕ) (live : Live) : Type 0 where
@@ -26,7 +27,7 @@ pub record IsKnown (b : Beside) (n : ℕ) (live : Live) : Type 0 where
   pub reached : joins live.unique ≡ true → Reaches b.uniques.cells (digest_of b.seed live.function live.unique) n
   pub marked : is_marked live ≡ true → Contains b.marks.marks (mark_of n live)
   pub heard : (c : ℕ) → Contains live.listeners c → Heard b.listening c n
-  pub soon : IsSoon b.soonest live
+  pub listed : IsListed b.dues n live
 
 -- Where room is reserved, there is a place for the job in each table.
 pub record IsReady (b : Beside) (spare count : ℕ) : Type 0 where

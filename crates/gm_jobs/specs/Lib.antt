@@ -1,9 +1,11 @@
 pub mod Changes
+pub mod Dues
 pub mod Kept
 pub mod Listening
 pub mod Live
 pub mod Marks
 pub mod Numbers
 pub mod Queries
+pub mod Roll
 pub mod Tables
 pub mod Uniques

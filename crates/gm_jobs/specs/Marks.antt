@@ -71,7 +71,3 @@ pub record IsPlaceFor (marks : List Mark) (number at : ℕ) : Type 0 where
   pub within : at ≤ length marks
   pub below : (k : ℕ) → k < at → number_at marks k < number
   pub above : (k : ℕ) → at ≤ k → k < length marks → number < number_at marks k
-
--- where the job runs until a deadline, that isn't sooner
-abbrev pub IsSoon : ℕ → Live → Type 0
-IsSoon soonest live = (deadline : ℕ) → is_some live.slot ≡ true → live.deadline ≡ Some deadline → soonest ≤ deadline

@@ -120,6 +120,13 @@ impl Job {
         self.listeners.as_slice()
     }
 
+    /// Until when it runs, if it has a deadline.
+    pub(crate) fn deadline(&self) -> Option<u64>
+        ensures { result ≡ self.now.deadline }
+    {
+        self.deadline
+    }
+
     pub(crate) fn is_named(&self, f: u32, unique: &[u8]) -> bool
         ensures { result ≡ is_named f unique.now self.now }
     {

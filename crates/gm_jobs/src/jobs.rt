@@ -1,16 +1,18 @@
 //! The table of jobs.
 
-ghost use Rattle.std.specs.Prelude.{◌≡◌, ℕ, ◌+◌, ◌<◌, ◌≤◌, ◌^◌, ◌↔◌, Some, None, IsSome, IfSome, IfNone, IfOk, OnOk, OnErr, Err, Contains, length};
+ghost use Rattle.std.specs.Prelude.{◌≡◌, ℕ, ◌+◌, ◌<◌, ◌≤◌, ◌^◌, ◌↔◌, true, Some, None, IsSome, IfSome, IfNone, IfOk, OnOk, OnErr, Err, Contains, length};
 ghost use Rattle.std.specs.Option.{option_copied, option_map};
 ghost use Rattle.indexmap.specs.IndexMap.{spare};
-ghost use Rattle.gm_jobs.specs.Live.{fresh, assigned, returned, kept, reported, with_listener, without_listener, is_run_by, is_orphan, is_due};
+ghost use Rattle.gm_jobs.specs.Live.{Live, fresh, assigned, returned, kept, reported, with_listener, without_listener, is_run_by, is_orphan, is_due};
 ghost use Rattle.gm_jobs.specs.Tables.{no_jobs, job, find_job, is_made, place, listeners_of, IsNamed, HasRoom, with_room, Makes, Changes, Ends, Leaves, IsNext, IsLast};
-ghost use Rattle.gm_jobs.specs.Marks.{Marked, sign_of};
+ghost use Rattle.gm_jobs.specs.Marks.{Marked, is_marked, mark_of, sign_of};
+ghost use Rattle.gm_jobs.specs.Dues.{IsListed};
 ghost use Rattle.gm_jobs.specs.Listening.{Heard};
 ghost use Rattle.gm_jobs.specs.Changes.{changed, ChangesJob, LeavesOne, LeavesSome};
 ghost use Rattle.gm_jobs.specs.Uniques.{Reached};
 
 use crate::by_number::{JobMap, NumberHash};
+use crate::dues::{Dues, Known};
 use crate::job::{Job, NewJob, Space, joins};
 use crate::listening::Listening;
 use crate::marks::{Marks, Query, Sign};
@@ -66,9 +68,8 @@ pub struct Jobs {
     uniques: Uniques,
     marks: Marks,
     listening: Listening,
+    dues: Dues,
     space: Option<Space>,
-    // No deadline of a running job is sooner.
-    soonest: u64,
 }
 
 impl Model for Jobs {
@@ -82,7 +83,7 @@ impl Model for Jobs {
 
     ghost view = { λ t. record { first = t.first; next = unwrap_or t.next (2 ^ 64); room = t.space; live = t.jobs.entries } };
 
-    ghost invariant = { λ t. IsKept (record { seed = t.seed; first = t.first; next = unwrap_or t.next (2 ^ 64); left = is_some t.next; uniques = t.uniques; marks = t.marks; listening = t.listening; soonest = t.soonest }) t.space (spare t.jobs) t.jobs.entries };
+    ghost invariant = { λ t. IsKept (record { seed = t.seed; first = t.first; next = unwrap_or t.next (2 ^ 64); left = is_some t.next; uniques = t.uniques; marks = t.marks; listening = t.listening; dues = t.dues }) t.space (spare t.jobs) t.jobs.entries };
 }
 
 // What becomes of a job.
@@ -201,6 +202,7 @@ fn make_room(
     jobs: &mut JobMap,
     uniques: &mut Uniques,
     marks: &mut Marks,
+    dues: &mut Dues,
     listening: &mut Listening,
 ) -> Result<(), AllocError>
     requires { Reached seed.now jobs.old.entries uniques.old.cells }
@@ -210,12 +212,14 @@ fn make_room(
     ensures used { uniques.old.used < length uniques.old.cells → uniques.new.used < length uniques.new.cells }
     ensures marks { marks.new.marks ≡ marks.old.marks }
     ensures room { marks.old.room ≤ marks.new.room }
+    ensures listed { (n : ℕ) (live : Live) → (is_marked live ≡ true → Contains marks.old.marks (mark_of n live)) → IsListed dues.old n live → IsListed dues.new n live }
     ensures heard { (c n : ℕ) → IsSome (find_job jobs.old.entries n) → Heard listening.old c n → Heard listening.new c n }
     ensures fresh { listening.old.fresh ≡ None → listening.new.fresh ≡ None }
     ensures ok { OnOk result ((0 < spare jobs.new) × (uniques.new.used < length uniques.new.cells) × (length jobs.new.entries < marks.new.room) × (listening.new.fresh ≡ None)) }
 {
     jobs.reserve(1)?;
     marks.reserve(jobs.len() + 1)?;
+    dues.reserve(marks, jobs.len() + 1)?;
     if uniques.is_full() {
         *uniques = Uniques::of_jobs(alloc, seed, jobs)?;
     }
@@ -237,8 +241,8 @@ impl Jobs {
             uniques: Uniques::new(alloc),
             marks: Marks::new(alloc),
             listening: Listening::new(alloc),
+            dues: Dues::new(alloc),
             space: None,
-            soonest: u64::MAX,
         })
     }
 
@@ -259,6 +263,7 @@ impl Jobs {
             &mut self.jobs,
             &mut self.uniques,
             &mut self.marks,
+            &mut self.dues,
             &mut self.listening,
         )?;
         self.space = Some(space);
@@ -345,7 +350,7 @@ impl Jobs {
     {
         let sign = change_job(&mut self.jobs, n, Change::Assign(slot, deadline));
         self.marks.note(&self.jobs, n, sign);
-        self.soonest = self.soonest.min(deadline.unwrap_or(u64::MAX));
+        self.dues.note(&self.marks, n, deadline);
     }
 
     /// The job waits again.
@@ -431,13 +436,10 @@ impl Jobs {
         ensures last { IfNone result (IsLast (is_due now) after self.old.live) }
         ensures kept { self.new ≡ self.old }
     {
-        if now < self.soonest {
-            return None;
+        match self.dues.next(&self.jobs, now, after) {
+            Known::Next(n) => Some(n),
+            Known::Last => None,
+            Known::Nothing => self.marks.next(&self.jobs, Query::Due(now), after),
         }
-        let found = self.marks.next(&self.jobs, Query::Due(now), after);
-        if found.is_none() {
-            self.soonest = self.marks.soonest();
-        }
-        found
     }
 }

@@ -6,8 +6,10 @@ ghost use Rattle.gm_jobs.specs.Live.{Live};
 ghost use Rattle.gm_jobs.specs.Tables.{find_job, passes, IsNext, IsLast};
 ghost use Rattle.gm_jobs.specs.Marks.{is_marked, sign_of, until_of, number_at, Rises, IsPlaceFor, HasRoomFor, Marked, MarkedBut, AllLive};
 ghost use Rattle.gm_jobs.specs.Queries.{meets, may_meet};
+ghost use Rattle.gm_jobs.specs.Roll.{Has};
 
 use crate::by_number::JobMap;
+use crate::roll::Roll;
 use std::alloc::{AllocError, Global};
 use std::marker::Model;
 
@@ -108,8 +110,8 @@ impl Query {
         }
     }
 
-    // Whether the job of a number is live and what is asked for.
-    fn meets(self, jobs: &JobMap, number: u64) -> bool
+    /// Whether the job of a number is live and what is asked for.
+    pub(crate) fn meets(self, jobs: &JobMap, number: u64) -> bool
         ensures { result ≡ passes (meets self) (find_job jobs.now.entries number) }
     {
         match jobs.get(&number) {
@@ -121,6 +123,18 @@ impl Query {
             None => false,
         }
     }
+}
+
+// The moment until which the job of a mark runs goes into the roll, unless it is the last. Answers whether there was room.
+fn list_deadline(roll: &mut Roll, mark: Mark) -> bool
+    ensures kept { (a b : ℕ) → Has roll.old a b → Has roll.new a b }
+    ensures stands { result ≡ true → until_of mark.sign < 18446744073709551615 → Has roll.new (until_of mark.sign) mark.number }
+{
+    let until = mark.sign.until();
+    if until == u64::MAX {
+        return true;
+    }
+    roll.put(until, mark.number)
 }
 
 impl Marks {
@@ -268,14 +282,16 @@ impl Marks {
         None
     }
 
-    /// A moment before which no job's deadline is reached: that of the soonest.
-    pub(crate) fn soonest(&self) -> u64
-        ensures { (m : Mark) → Contains self.now.marks m → result ≤ until_of m.sign }
+    /// The moments until which jobs run go into the roll with their numbers, but for those that run until the last.
+    /// Answers whether there was room for all.
+    pub(crate) fn list_deadlines(&self, roll: &mut Roll) -> bool
+        ensures { result ≡ true → (m : Mark) → Contains self.now.marks m → until_of m.sign < 18446744073709551615 → Has roll.new (until_of m.sign) m.number }
     {
-        let mut soonest = u64::MAX;
         for i in 0..self.marks.len() {
-            soonest = soonest.min(self.marks[i].sign.until());
+            if !list_deadline(roll, self.marks[i]) {
+                return false;
+            }
         }
-        soonest
+        true
     }
 }

@@ -1,6 +1,6 @@
-use Rattle.std.proofs.Common.{◌≡◌, inl, unwrap_or, refl, ap, ◌∙◌, arith}
+use Rattle.std.proofs.Common.{inl, refl}
 use Rattle.gm_jobs.specs.Live.{assigned}
-use Rattle.gm_jobs.proofs.JobLemmas.{beside, kept_changed, marked_but, marked_of}
+use Rattle.gm_jobs.proofs.JobLemmas.{beside, kept_changed, listed_of, listed_assigned, marked_but, marked_of}
 use Rattle.gm_jobs.proofs.jobs.Jobs.assign.Goals as goal
 
 pub note-requires-clause-others : goal.note-requires-clause-others
@@ -11,8 +11,8 @@ note-requires-clause-others c =
 pub invariant_of-self : goal.invariant_of-self
 invariant_of-self c =
     let t = c.self.inside in
-    kept_changed (beside t) c.args.n (assigned c.args.slot c.args.deadline) t.jobs.entries c.change_job-sign.new.jobs.entries c.note.new.self t.listening c.min-self-inside.result t.space _ _ c.self.invariant
+    kept_changed (beside t) c.args.n (assigned c.args.slot c.args.deadline) t.jobs.entries c.change_job-sign.new.jobs.entries c.note.new.self t.listening c.note-2.new.self t.space _ _ c.self.invariant
     c.change_job-sign.ensures.jobs (λ l. refl) (λ l. refl) c.change_job-sign.ensures.spare c.note.ensures.room c.note.ensures.marked
     (λ d m s h. h) (λ l d there. inl there) (λ e. e)
-    (λ l h d runs e. omega (arith, h d runs e, c.min-self-inside.ensures))
-    (λ l h d runs e. let until : c.unwrap_or.result ≡ d = c.unwrap_or.ensures ∙ ap (λ o. unwrap_or o 18446744073709551615) e in omega (arith, c.min-self-inside.ensures))
+    (listed_assigned c.args.n (assigned c.args.slot c.args.deadline) t.jobs.entries c.change_job-sign.new.jobs.entries t.dues c.note-2.new.self c.note.new.self.marks c.change_job-sign.ensures.jobs
+    (listed_of (beside t) t.jobs.entries t.space _ c.self.invariant) c.note.ensures.marked c.note-2.ensures.kept (λ l there. c.note-2.ensures.stands (assigned c.args.slot c.args.deadline l) there refl))

@@ -1,7 +1,7 @@
 use Rattle.std.proofs.Common.{inl, refl}
 use Rattle.std.proofs.lemmas.Bool.{false≢true}
 use Rattle.gm_jobs.specs.Live.{returned}
-use Rattle.gm_jobs.proofs.JobLemmas.{beside, kept_changed, marked_but, marked_of}
+use Rattle.gm_jobs.proofs.JobLemmas.{beside, kept_changed, listed_changed, listed_of, marked_but, marked_of}
 use Rattle.gm_jobs.proofs.jobs.Jobs.give_back.Goals as goal
 
 pub note-requires-clause-others : goal.note-requires-clause-others
@@ -12,6 +12,7 @@ note-requires-clause-others c =
 pub invariant_of-self : goal.invariant_of-self
 invariant_of-self c =
     let t = c.self.inside in
-    kept_changed (beside t) c.args.n returned t.jobs.entries c.change_job-sign.new.jobs.entries c.note.new.self t.listening t.soonest t.space _ _ c.self.invariant c.change_job-sign.ensures.jobs (λ l. refl) (λ l. refl) c.change_job-sign.ensures.spare
+    kept_changed (beside t) c.args.n returned t.jobs.entries c.change_job-sign.new.jobs.entries c.note.new.self t.listening t.dues t.space _ _ c.self.invariant c.change_job-sign.ensures.jobs (λ l. refl) (λ l. refl) c.change_job-sign.ensures.spare
     c.note.ensures.room c.note.ensures.marked
-    (λ d m s h. h) (λ l d there. inl there) (λ e. e) (λ l h. h) (λ l h until runs e. absurd (false≢true runs))
+    (λ d m s h. h) (λ l d there. inl there) (λ e. e)
+    (listed_changed c.args.n returned t.jobs.entries c.change_job-sign.new.jobs.entries t.dues c.change_job-sign.ensures.jobs (listed_of (beside t) t.jobs.entries t.space _ c.self.invariant) (λ l h whole until runs. absurd (false≢true runs)))

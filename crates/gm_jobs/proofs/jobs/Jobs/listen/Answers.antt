@@ -7,7 +7,7 @@ use Rattle.gm_jobs.specs.Live.{with_listener}
 use Rattle.gm_jobs.specs.Marks.{sign_at}
 use Rattle.gm_jobs.specs.Listening.{list_of}
 use Rattle.gm_jobs.specs.Kept.{IsKept}
-use Rattle.gm_jobs.proofs.JobLemmas.{beside, kept_changed, kept_room, marked_changed, marked_of, reached_of, either}
+use Rattle.gm_jobs.proofs.JobLemmas.{beside, kept_changed, kept_room, listed_changed, listed_of, marked_changed, marked_of, reached_of, either}
 use Rattle.gm_jobs.proofs.jobs.Jobs.listen.Goals as goal
 
 -- a job with a listener has a mark only where it runs
@@ -28,15 +28,15 @@ same_sign (Some c) until a b isnt e = refl
 pub invariant_of-self : goal.invariant_of-self
 invariant_of-self c =
     let t = c.self.inside in
-    kept_room (beside t) t.jobs.entries t.uniques t.marks c.add.new.self t.space _ _ c.self.invariant (omega arith) (reached_of (beside t) t.jobs.entries t.space _ c.self.invariant) (λ h. h) refl (omega arith)
-    c.add.ensures.kept (λ e. c.add.ensures.fresh ∙ e)
+    kept_room (beside t) t.jobs.entries t.uniques t.marks c.add.new.self t.dues t.space _ _ c.self.invariant (omega arith) (reached_of (beside t) t.jobs.entries t.space _ c.self.invariant) (λ h. h) refl (omega arith)
+    c.add.ensures.kept (λ e. c.add.ensures.fresh ∙ e) (λ n live m h. h)
 
 pub invariant_of-self-2 : goal.invariant_of-self-2
 invariant_of-self-2 c =
     let t = c.self.inside in
     elim (either c.listen_job.result c.listen_job.ensures.ok c.listen_job.ensures.err) [
       | inl change ↦
-          kept_changed (beside t) c.args.n (with_listener c.args.slot) t.jobs.entries c.listen_job.new.jobs.entries t.marks c.add.new.self t.soonest t.space _ _ c.self.invariant change
+          kept_changed (beside t) c.args.n (with_listener c.args.slot) t.jobs.entries c.listen_job.new.jobs.entries t.marks c.add.new.self t.dues t.space _ _ c.self.invariant change
           (λ l. refl) (λ l. refl) c.listen_job.ensures.spare refl
           (marked_changed c.args.n (with_listener c.args.slot) t.jobs.entries c.listen_job.new.jobs.entries t.marks change (marked_of (beside t) t.jobs.entries t.space _ c.self.invariant) (λ l e. same_sign l.slot _ _ _ (never (is_some l.slot) l.kept (length l.listeners) (length (l.listeners ++ c.args.slot ∷ [])) (length-append l.listeners (c.args.slot ∷ []))) e)
           (λ l e. still (is_some l.slot) l.kept (length l.listeners) (length (l.listeners ++ c.args.slot ∷ [])) (length-append l.listeners (c.args.slot ∷ [])) e))
@@ -45,9 +45,10 @@ invariant_of-self-2 c =
             | inl old ↦ inl old
             | inr new ↦ inr (inl (subst (λ i. Contains (list_of c.add.new.self i) c.args.n) new c.in_ok-add.ensures.ok))
           ])
-          (λ e. c.add.ensures.fresh ∙ e) (λ l h. h) (λ l h. h)
+          (λ e. c.add.ensures.fresh ∙ e)
+          (listed_changed c.args.n (with_listener c.args.slot) t.jobs.entries c.listen_job.new.jobs.entries t.dues change (listed_of (beside t) t.jobs.entries t.space _ c.self.invariant) (λ l h. h))
       | inr same ↦
           subst (λ es. IsKept (record (beside t) { listening = c.add.new.self }) t.space (spare c.listen_job.new.jobs) es) (sym same)
-          (kept_room (beside t) t.jobs.entries t.uniques t.marks c.add.new.self t.space (spare t.jobs) (spare c.listen_job.new.jobs) c.self.invariant (let less = c.listen_job.ensures.spare in omega arith) (reached_of (beside t) t.jobs.entries t.space _ c.self.invariant) (λ h. h) refl (omega arith)
-          c.add.ensures.kept (λ e. c.add.ensures.fresh ∙ e))
+          (kept_room (beside t) t.jobs.entries t.uniques t.marks c.add.new.self t.dues t.space (spare t.jobs) (spare c.listen_job.new.jobs) c.self.invariant (let less = c.listen_job.ensures.spare in omega arith) (reached_of (beside t) t.jobs.entries t.space _ c.self.invariant) (λ h. h) refl (omega arith)
+          c.add.ensures.kept (λ e. c.add.ensures.fresh ∙ e) (λ n live m h. h))
     ]

@@ -7,22 +7,22 @@ use Rattle.gm_jobs.proofs.jobs.Jobs.reserve.Goals as goal
 use Rattle.gm_jobs.proofs.jobs.Jobs.reserve.Goals.{After-make_room}
 
 -- room in each table leaves what is kept
-roomy : (c : After-make_room) → IsKept (record (beside c.self.inside) { uniques = c.make_room.new.uniques; marks = c.make_room.new.marks; listening = c.make_room.new.listening }) c.self.inside.space (spare c.make_room.new.jobs) c.self.inside.jobs.entries
+roomy : (c : After-make_room) → IsKept (record (beside c.self.inside) { uniques = c.make_room.new.uniques; marks = c.make_room.new.marks; listening = c.make_room.new.listening; dues = c.make_room.new.dues }) c.self.inside.space (spare c.make_room.new.jobs) c.self.inside.jobs.entries
 roomy c =
     let t = c.self.inside in
     let e = c.make_room.ensures in
-    kept_room (beside t) t.jobs.entries c.make_room.new.uniques c.make_room.new.marks c.make_room.new.listening t.space _ _ c.self.invariant e.spare e.reached e.used e.marks e.room e.heard e.fresh
+    kept_room (beside t) t.jobs.entries c.make_room.new.uniques c.make_room.new.marks c.make_room.new.listening c.make_room.new.dues t.space _ _ c.self.invariant e.spare e.reached e.used e.marks e.room e.heard e.fresh e.listed
 
 pub invariant_of-self : goal.invariant_of-self
 invariant_of-self c =
     let t = c.self.inside in
-    subst (λ es. IsKept (record (beside t) { uniques = c.make_room.new.uniques; marks = c.make_room.new.marks; listening = c.make_room.new.listening }) t.space (spare c.make_room.new.jobs) es) (sym c.make_room.ensures.jobs)
+    subst (λ es. IsKept (record (beside t) { uniques = c.make_room.new.uniques; marks = c.make_room.new.marks; listening = c.make_room.new.listening; dues = c.make_room.new.dues }) t.space (spare c.make_room.new.jobs) es) (sym c.make_room.ensures.jobs)
     (roomy (goal.at.invariant_of-self c).After-make_room)
 
 pub invariant_of-self-2 : goal.invariant_of-self-2
 invariant_of-self-2 c =
     let t = c.self.inside in
-    let b = record (beside t) { uniques = c.make_room.new.uniques; marks = c.make_room.new.marks; listening = c.make_room.new.listening } in
+    let b = record (beside t) { uniques = c.make_room.new.uniques; marks = c.make_room.new.marks; listening = c.make_room.new.listening; dues = c.make_room.new.dues } in
     let roomy = roomy (goal.at.invariant_of-self-2 c).After-make_room in
     let ok = c.in_ok-make_room.ensures.ok in
     subst (λ es. IsKept b (Some c.in_ok-space.space) (spare c.make_room.new.jobs) es) (sym c.make_room.ensures.jobs)
