@@ -18,6 +18,7 @@ use Rattle.gm_jobs.specs.Tables as jobs
 use Rattle.gm_tables.specs.declared.server.Core.{Core}
 use Rattle.gm_tables.specs.Facts.{JobFacts, FunctionFacts, conn_facts, function_facts, job_facts}
 use Rattle.gm_tables.specs.Holds.{Holds, AreOpen, HoldsConns, HoldsFunctions, HoldsJobs, Goes, limit_named, added, first_listener}
+use Rattle.gm_tables.proofs.ConnLemmas.{touched_same}
 use Rattle.gm_tables.proofs.PositionLemmas.{position_within}
 use Rattle.gm_tables.proofs.FunctionLemmas.{number_is}
 use Rattle.gm_tables.proofs.MadeLemmas.{with_made, jobs_made}
@@ -110,6 +111,7 @@ pub goes_added : (old new : Core) (middle : Table) (c : ℕ) (s : Submission) (f
     → Makes (fresh f s.priority s.unique s.body s.background (first_listener s.background c)) old.jobs new.jobs → Goes old new (added c s old.jobs.next)
 goes_added old new middle c s f only opened number fits place push makes = record {
   config = only.config;
+  touched = touched_same only.conns;
   past = λ p keeps.
       let n = old.jobs.next in
       let within = position_within (bytes_eq s.function) old.functions.names f number in

@@ -26,6 +26,7 @@ use Rattle.gm_jobs.specs.Tables as jobs
 use Rattle.gm_tables.specs.declared.server.Core.{Core}
 use Rattle.gm_tables.specs.Facts.{JobFacts, conn_facts, function_facts, job_facts}
 use Rattle.gm_tables.specs.Holds.{name_at, limit_named, jobs_named, HoldsConns, HoldsFunctions, HoldsJobs, Holds, Keeps, Goes}
+use Rattle.gm_tables.proofs.ConnLemmas.{touched_same}
 use Rattle.gm_tables.proofs.FunctionLemmas.{number_is, some_same, is_none_of, known, anew}
 use Rattle.gm_tables.proofs.MentionLemmas.{number_here}
 use Rattle.gm_tables.proofs.CoreLemmas.{OnlyFunctions, goes_functions, goes_as, goes_nothing, goes_mention}
@@ -43,6 +44,7 @@ pub record OnlyMode (old new : Core) : Type 0 where
 pub goes_went : (old new : Core) (m : Mode) → OnlyMode old new → new.mode ≡ m → Goes old new (noted (Went m))
 goes_went old new m only is = record {
   config = only.config;
+  touched = touched_same only.conns;
   past = λ p keeps.
       let step : Past = noted (Went m) p in
       let held : Holds old.config old.conns old.functions old.jobs old.moment m step =

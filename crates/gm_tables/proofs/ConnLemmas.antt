@@ -1,13 +1,14 @@
 -- How the table of connections holds the facts of connections, after a slot changes.
-use Rattle.std.proofs.Common.{◌≡◌, ℕ, Bool, true, false, not, ◌==◌, if◌then◌else◌, List, filter, Some, None, unwrap_or, refl, sym, ap, subst, ◌∙◌, arith}
+use Rattle.std.proofs.Common.{◌≡◌, ℕ, Bool, true, false, not, ◌&&◌, ◌||◌, ◌==◌, if◌then◌else◌, List, filter, Some, None, unwrap_or, refl, sym, ap, subst, ◌∙◌, arith}
+use Rattle.std.proofs.lemmas.Bool.{false≢true}
 use Rattle.std.proofs.lemmas.Bool.Decides.{nat_tests}
 use Rattle.gm_notes.specs.declared.states.Phase.{Phase}
 use Rattle.gm_notes.specs.Settings.{Settings}
 use Rattle.gm_notes.specs.Jobs.{Ability, is_of, put}
 use Rattle.gm_conns.specs.Connections.{Connection}
-use Rattle.gm_conns.specs.Tables.{Table, conn, Changes}
+use Rattle.gm_conns.specs.Tables.{Table, conn, is_touched, Changes}
 use Rattle.gm_tables.specs.Facts.{Seen, ConnFacts}
-use Rattle.gm_tables.specs.Holds.{AreFunctions, HoldsConns, shown}
+use Rattle.gm_tables.specs.Holds.{AreFunctions, HoldsConns, shown, lane, AllTouched}
 
 -- what is so in the slot and elsewhere is so wherever
 pub either : {A : Type 0} (f : Connection → A) (t : Bool) (now then_not : Connection) (x y : A) → (t ≡ true → f now ≡ x) → (t ≡ false → f then_not ≡ y)
@@ -109,3 +110,39 @@ pub seen_same : {k : Settings} {table : Table} {names : List (List ℕ)} {facts 
     → ((d : ℕ) → facts.is_open d ≡ now.is_open d) → ((d : ℕ) → facts.is_open d ≡ true → facts.seen d ≡ now.seen d) → HoldsConns k table names now w
 seen_same {k} {table} {names} {facts} {now} {w} holds opens sees =
     record { slots = holds.slots; opens = λ d. holds.opens d ∙ opens d; seen = λ d e. holds.seen d (opens d ∙ e) ∙ sees d (opens d ∙ e); waiting = holds.waiting; able = holds.able }
+
+-- ---- slots that are touched
+
+pub touched_same : {old new : Table} → new ≡ old → AllTouched old new
+touched_same {old} {new} same =
+    record { others = λ c untouched. (ap (λ (t : Table). is_touched t c) (sym same) ∙ untouched, ap (λ (t : Table). lane (conn t c)) same) }
+
+pub touched_then : {a b c : Table} → AllTouched a b → AllTouched b c → AllTouched a c
+touched_then {a} {b} {c} first second = record {
+  others = λ d untouched.
+      let later = second.others d untouched in
+      let sooner = first.others d later.0 in
+      (sooner.0, later.1 ∙ sooner.1);
+}
+
+-- a change that is told, or that leaves the lane as it is
+module _ {old new : Table} {change : Connection → Connection} (c : ℕ) where
+  pub touched_told : Changes c change true old new → AllTouched old new
+  touched_told changes = record { others = λ d untouched. by d (d == c) (sym (changes.touched d) ∙ untouched) (changes.conns d) }
+    where
+      by : (d : ℕ) (t : Bool) → (t || is_touched old d) ≡ false → conn new d ≡ (if t then change (conn old d) else conn old d) → (is_touched old d ≡ false) × (lane (conn new d) ≡ lane (conn old d))
+      by d true e is = absurd (false≢true (sym e))
+      by d false e is = (e, ap lane is)
+
+  pub touched_apart : {told : Bool} → ((x : Connection) → lane (change x) ≡ lane x) → Changes c change told old new → AllTouched old new
+  touched_apart {told} same changes = record {
+    others = λ d untouched. (or_false (told && (d == c)) (is_touched old d) (sym (changes.touched d) ∙ untouched), ap lane (changes.conns d) ∙ by d (d == c));
+  }
+    where
+      by : (d : ℕ) (t : Bool) → lane (if t then change (conn old d) else conn old d) ≡ lane (conn old d)
+      by d true = same (conn old d)
+      by d false = refl
+
+      or_false : (a b : Bool) → (a || b) ≡ false → b ≡ false
+      or_false true b e = absurd (false≢true (sym e))
+      or_false false b e = e

@@ -34,8 +34,8 @@ use Rattle.gm_jobs.specs.Tables as jobs
 use Rattle.gm_notes.specs.declared.states.Mode.{Mode}
 use Rattle.gm_tables.specs.declared.server.Core.{Core}
 use Rattle.gm_tables.specs.Facts.{Seen, seen, conn_facts, function_facts, job_facts}
-use Rattle.gm_tables.specs.Holds.{Holds, Keeps, AreFunctions, ability_named, shown, HoldsConns, HoldsFunctions, HoldsJobs, Goes, Does, CoreAgrees, pick_of}
-use Rattle.gm_tables.proofs.ConnLemmas.{conn_changes, same_here, seen_same, phase_seen, shut_seen, option_seen, id_seen, can_seen, cant_seen}
+use Rattle.gm_tables.specs.Holds.{Holds, Keeps, AreFunctions, ability_named, shown, HoldsConns, HoldsFunctions, HoldsJobs, AllTouched, Goes, Does, CoreAgrees, pick_of}
+use Rattle.gm_tables.proofs.ConnLemmas.{touched_same, touched_then, touched_told, touched_apart, conn_changes, same_here, seen_same, phase_seen, shut_seen, option_seen, id_seen, can_seen, cant_seen}
 use Rattle.gm_tables.proofs.ConnLemmas as lemmas
 
 -- ---- one change after another
@@ -52,14 +52,15 @@ module _ {a b : Core} where
         (subst (λ x. Holds b.config b.conns x a.jobs a.moment a.mode p) (sym functions)
         (subst (λ x. Holds b.config x a.functions a.jobs a.moment a.mode p) (sym conns)
         (subst (λ x. Holds x a.conns a.functions a.jobs a.moment a.mode p) (sym config) keeps)))));
+    touched = touched_same conns;
   }
 
   pub goes_then : {c : Core} {f g : Past → Past} → Goes a b f → Goes b c g → Goes a c (λ past. g (f past))
-  goes_then {c} {f} {g} first second = record { config = second.config ∙ first.config; past = λ p keeps. second.past (f p) (first.past p keeps) }
+  goes_then {c} {f} {g} first second = record { config = second.config ∙ first.config; past = λ p keeps. second.past (f p) (first.past p keeps); touched = touched_then first.touched second.touched }
 
   -- a change that is the same at what is kept
   pub goes_as : {f : Past → Past} (g : Past → Past) → Goes a b f → ((past : Past) → Keeps a past → f past ≡ g past) → Goes a b g
-  goes_as {f} g goes same = record { config = goes.config; past = λ p keeps. subst (Keeps b) (same p keeps) (goes.past p keeps) }
+  goes_as {f} g goes same = record { config = goes.config; past = λ p keeps. subst (Keeps b) (same p keeps) (goes.past p keeps); touched = goes.touched }
 
   pub does_as : {E : Type 0} {f : Past → Past} (result : Result (Unit {0}) E) (g : Past → Past) → Does a result b f
       → ((past : Past) → Keeps a past → f past ≡ g past) → Does a result b g
@@ -141,10 +142,11 @@ pub record Alters (names : List (List ℕ)) (change : Connection → Connection)
   pub able : (x : Connection) → AreFunctions names x.abilities → AreFunctions names (change x).abilities
 
 pub goes_conn : {old new : Core} {change : Connection → Connection} {told : Bool} (c : ℕ) (effect : Seen → Seen) (pour : List ℕ → List ℕ) (step : Past → Past)
-    → OnlyConns old new → Changes c change told old.conns new.conns
+    → OnlyConns old new → Changes c change told old.conns new.conns → AllTouched old.conns new.conns
     → ((p : Past) → Keeps old p → Alters old.functions.names change effect pour) → Touches c effect pour step → Goes old new step
-goes_conn {old} {new} {change} {told} c effect pour step only changes alter touches = record {
+goes_conn {old} {new} {change} {told} c effect pour step only changes touched alter touches = record {
   config = only.config;
+  touched = touched;
   past = λ p keeps.
       let alters = alter p keeps in
       let conns = conn_changes c change effect pour changes alters.opens alters.shown alters.waiting alters.able
@@ -169,63 +171,63 @@ unseen s = s
 abbrev unpoured : List ℕ → List ℕ
 unpoured bytes = bytes
 
-module _ {old new : Core} {told : Bool} (c : ℕ) (only : OnlyConns old new) where
+module _ {old new : Core} (c : ℕ) (only : OnlyConns old new) where
   -- room is nothing that the past tells of
-  pub goes_room : (n : ℕ) → Changes c (conns.with_room n) told old.conns new.conns → Goes old new (λ past. past)
-  goes_room n changes =
-      goes_conn c unseen unpoured (λ past. past) only changes (λ p keeps. record { opens = λ x. refl; shown = λ x able. refl; waiting = λ x. refl; able = λ x able. able })
+  pub goes_room : {told : Bool} (n : ℕ) → Changes c (conns.with_room n) told old.conns new.conns → Goes old new (λ past. past)
+  goes_room {told} n changes =
+      goes_conn c unseen unpoured (λ past. past) only changes (touched_apart c (λ x. refl) changes) (λ p keeps. record { opens = λ x. refl; shown = λ x able. refl; waiting = λ x. refl; able = λ x able. able })
       (record { opens = λ p. refl; seen = λ p d. same_here (d == c) (seen d p.notes); waiting = λ p d. same_here (d == c) (waiting d p.flow); functions = λ p. refl; jobs = λ p. refl; moment = λ p. refl; mode = λ p. refl })
 
-  pub goes_printed : (bytes : List ℕ) → Changes c (conns.with_bytes bytes) told old.conns new.conns → Goes old new (print c bytes)
+  pub goes_printed : (bytes : List ℕ) → Changes c (conns.with_bytes bytes) true old.conns new.conns → Goes old new (print c bytes)
   goes_printed bytes changes =
-      goes_conn c unseen (λ w. w ++ bytes) (print c bytes) only changes (λ p keeps. record { opens = λ x. refl; shown = λ x able. refl; waiting = λ x. refl; able = λ x able. able })
+      goes_conn c unseen (λ w. w ++ bytes) (print c bytes) only changes (touched_told c changes) (λ p keeps. record { opens = λ x. refl; shown = λ x able. refl; waiting = λ x. refl; able = λ x able. able })
       (record { opens = λ p. refl; seen = λ p d. same_here (d == c) (seen d p.notes); waiting = λ p d. refl; functions = λ p. refl; jobs = λ p. refl; moment = λ p. refl; mode = λ p. refl })
 
-  pub goes_drained : Changes c conns.drained told old.conns new.conns → Goes old new (flowed (Drained c))
+  pub goes_drained : Changes c conns.drained true old.conns new.conns → Goes old new (flowed (Drained c))
   goes_drained changes =
-      goes_conn c unseen (λ w. []) (flowed (Drained c)) only changes (λ p keeps. record { opens = λ x. refl; shown = λ x able. refl; waiting = λ x. refl; able = λ x able. able })
+      goes_conn c unseen (λ w. []) (flowed (Drained c)) only changes (touched_told c changes) (λ p keeps. record { opens = λ x. refl; shown = λ x able. refl; waiting = λ x. refl; able = λ x able. able })
       (record { opens = λ p. refl; seen = λ p d. same_here (d == c) (seen d p.notes); waiting = λ p d. refl; functions = λ p. refl; jobs = λ p. refl; moment = λ p. refl; mode = λ p. refl })
 
   -- ---- notes of one slot
 
-  pub goes_slept : Changes c (conns.with_phase Asleep) told old.conns new.conns → Goes old new (noted (Slept c))
+  pub goes_slept : Changes c (conns.with_phase Asleep) true old.conns new.conns → Goes old new (noted (Slept c))
   goes_slept changes =
-      goes_conn c (lemmas.with_phase Asleep) unpoured (noted (Slept c)) only changes (λ p keeps. record { opens = λ x. refl; shown = λ x able. refl; waiting = λ x. refl; able = λ x able. able })
+      goes_conn c (lemmas.with_phase Asleep) unpoured (noted (Slept c)) only changes (touched_told c changes) (λ p keeps. record { opens = λ x. refl; shown = λ x able. refl; waiting = λ x. refl; able = λ x able. able })
       (record { opens = λ p. refl; seen = λ p d. phase_seen Asleep (d == c) (seen d p.notes); waiting = λ p d. same_here (d == c) (waiting d p.flow); functions = λ p. refl; jobs = λ p. refl; moment = λ p. refl; mode = λ p. refl })
 
-  pub goes_woken : Changes c (conns.with_phase Owed) told old.conns new.conns → Goes old new (noted (Woken c))
+  pub goes_woken : Changes c (conns.with_phase Owed) true old.conns new.conns → Goes old new (noted (Woken c))
   goes_woken changes =
-      goes_conn c (lemmas.with_phase Owed) unpoured (noted (Woken c)) only changes (λ p keeps. record { opens = λ x. refl; shown = λ x able. refl; waiting = λ x. refl; able = λ x able. able })
+      goes_conn c (lemmas.with_phase Owed) unpoured (noted (Woken c)) only changes (touched_told c changes) (λ p keeps. record { opens = λ x. refl; shown = λ x able. refl; waiting = λ x. refl; able = λ x able. able })
       (record { opens = λ p. refl; seen = λ p d. phase_seen Owed (d == c) (seen d p.notes); waiting = λ p d. same_here (d == c) (waiting d p.flow); functions = λ p. refl; jobs = λ p. refl; moment = λ p. refl; mode = λ p. refl })
 
-  pub goes_stirred : Changes c (conns.with_phase Awake) told old.conns new.conns → Goes old new (noted (Stirred c))
+  pub goes_stirred : Changes c (conns.with_phase Awake) true old.conns new.conns → Goes old new (noted (Stirred c))
   goes_stirred changes =
-      goes_conn c (lemmas.with_phase Awake) unpoured (noted (Stirred c)) only changes (λ p keeps. record { opens = λ x. refl; shown = λ x able. refl; waiting = λ x. refl; able = λ x able. able })
+      goes_conn c (lemmas.with_phase Awake) unpoured (noted (Stirred c)) only changes (touched_told c changes) (λ p keeps. record { opens = λ x. refl; shown = λ x able. refl; waiting = λ x. refl; able = λ x able. able })
       (record { opens = λ p. refl; seen = λ p d. phase_seen Awake (d == c) (seen d p.notes); waiting = λ p d. same_here (d == c) (waiting d p.flow); functions = λ p. refl; jobs = λ p. refl; moment = λ p. refl; mode = λ p. refl })
 
-  pub goes_took : Changes c (conns.with_phase Awake) told old.conns new.conns → Goes old new (noted (Took c))
+  pub goes_took : Changes c (conns.with_phase Awake) true old.conns new.conns → Goes old new (noted (Took c))
   goes_took changes =
-      goes_conn c (lemmas.with_phase Awake) unpoured (noted (Took c)) only changes (λ p keeps. record { opens = λ x. refl; shown = λ x able. refl; waiting = λ x. refl; able = λ x able. able })
+      goes_conn c (lemmas.with_phase Awake) unpoured (noted (Took c)) only changes (touched_told c changes) (λ p keeps. record { opens = λ x. refl; shown = λ x able. refl; waiting = λ x. refl; able = λ x able. able })
       (record { opens = λ p. refl; seen = λ p d. phase_seen Awake (d == c) (seen d p.notes); waiting = λ p d. same_here (d == c) (waiting d p.flow); functions = λ p. refl; jobs = λ p. refl; moment = λ p. refl; mode = λ p. refl })
 
-  pub goes_withdrew : Changes c (conns.with_phase Awake) told old.conns new.conns → Goes old new (noted (Withdrew c))
+  pub goes_withdrew : Changes c (conns.with_phase Awake) true old.conns new.conns → Goes old new (noted (Withdrew c))
   goes_withdrew changes =
-      goes_conn c (lemmas.with_phase Awake) unpoured (noted (Withdrew c)) only changes (λ p keeps. record { opens = λ x. refl; shown = λ x able. refl; waiting = λ x. refl; able = λ x able. able })
+      goes_conn c (lemmas.with_phase Awake) unpoured (noted (Withdrew c)) only changes (touched_told c changes) (λ p keeps. record { opens = λ x. refl; shown = λ x able. refl; waiting = λ x. refl; able = λ x able. able })
       (record { opens = λ p. refl; seen = λ p d. phase_seen Awake (d == c) (seen d p.notes); waiting = λ p d. same_here (d == c) (waiting d p.flow); functions = λ p. refl; jobs = λ p. refl; moment = λ p. refl; mode = λ p. refl })
 
-  pub goes_shut : Changes c conns.shut told old.conns new.conns → Goes old new (noted (Shut c))
+  pub goes_shut : Changes c conns.shut true old.conns new.conns → Goes old new (noted (Shut c))
   goes_shut changes =
-      goes_conn c lemmas.with_shut unpoured (noted (Shut c)) only changes (λ p keeps. record { opens = λ x. refl; shown = λ x able. refl; waiting = λ x. refl; able = λ x able. able })
+      goes_conn c lemmas.with_shut unpoured (noted (Shut c)) only changes (touched_told c changes) (λ p keeps. record { opens = λ x. refl; shown = λ x able. refl; waiting = λ x. refl; able = λ x able. able })
       (record { opens = λ p. refl; seen = λ p d. shut_seen (d == c) (seen d p.notes); waiting = λ p d. same_here (d == c) (waiting d p.flow); functions = λ p. refl; jobs = λ p. refl; moment = λ p. refl; mode = λ p. refl })
 
-  pub goes_option : Changes c conns.with_option told old.conns new.conns → Goes old new (noted (OptionSet c))
-  goes_option changes =
-      goes_conn c lemmas.with_option unpoured (noted (OptionSet c)) only changes (λ p keeps. record { opens = λ x. refl; shown = λ x able. refl; waiting = λ x. refl; able = λ x able. able })
+  pub goes_option : {told : Bool} → Changes c conns.with_option told old.conns new.conns → Goes old new (noted (OptionSet c))
+  goes_option {told} changes =
+      goes_conn c lemmas.with_option unpoured (noted (OptionSet c)) only changes (touched_apart c (λ x. refl) changes) (λ p keeps. record { opens = λ x. refl; shown = λ x able. refl; waiting = λ x. refl; able = λ x able. able })
       (record { opens = λ p. refl; seen = λ p d. option_seen (d == c) (seen d p.notes); waiting = λ p d. same_here (d == c) (waiting d p.flow); functions = λ p. refl; jobs = λ p. refl; moment = λ p. refl; mode = λ p. refl })
 
-  pub goes_named : (id : List ℕ) → Changes c (conns.with_id id) told old.conns new.conns → Goes old new (noted (Named c id))
-  goes_named id changes =
-      goes_conn c (lemmas.with_id id) unpoured (noted (Named c id)) only changes (λ p keeps. record { opens = λ x. refl; shown = λ x able. refl; waiting = λ x. refl; able = λ x able. able })
+  pub goes_named : {told : Bool} (id : List ℕ) → Changes c (conns.with_id id) told old.conns new.conns → Goes old new (noted (Named c id))
+  goes_named {told} id changes =
+      goes_conn c (lemmas.with_id id) unpoured (noted (Named c id)) only changes (touched_apart c (λ x. refl) changes) (λ p keeps. record { opens = λ x. refl; shown = λ x able. refl; waiting = λ x. refl; able = λ x able. able })
       (record { opens = λ p. refl; seen = λ p d. id_seen id (d == c) (seen d p.notes); waiting = λ p d. same_here (d == c) (waiting d p.flow); functions = λ p. refl; jobs = λ p. refl; moment = λ p. refl; mode = λ p. refl })
 
 pub does_set_id : (old new : Core) (told : Bool) (c : ℕ) (id : List ℕ) (result : Result (Unit {0}) AllocError) → OnlyConns old new
@@ -235,10 +237,10 @@ does_set_id old new told c id (Err wanting) only ok err = goes_nothing only.conf
 
 -- ---- abilities
 
-module _ {old new : Core} {told : Bool} (c : ℕ) (only : OnlyConns old new) where
-  pub goes_cant : (name : List ℕ) (f : ℕ) → number_of name old.functions ≡ Some f → Changes c (conns.without_ability f) told old.conns new.conns → Goes old new (noted (Cant c name))
-  goes_cant name f at changes =
-      goes_conn c (lemmas.without_ability name) unpoured (noted (Cant c name)) only changes
+module _ {old new : Core} (c : ℕ) (only : OnlyConns old new) where
+  pub goes_cant : {told : Bool} (name : List ℕ) (f : ℕ) → number_of name old.functions ≡ Some f → Changes c (conns.without_ability f) told old.conns new.conns → Goes old new (noted (Cant c name))
+  goes_cant {told} name f at changes =
+      goes_conn c (lemmas.without_ability name) unpoured (noted (Cant c name)) only changes (touched_apart c (λ x. refl) changes)
       (λ p keeps.
       let within = position_within (bytes_eq name) old.functions.names f at in
       let is = number_is name old.functions f at in
@@ -253,9 +255,9 @@ module _ {old new : Core} {told : Bool} (c : ℕ) (only : OnlyConns old new) whe
       })
       (record { opens = λ p. refl; seen = λ p d. cant_seen name (d == c) (seen d p.notes); waiting = λ p d. same_here (d == c) (waiting d p.flow); functions = λ p. refl; jobs = λ p. refl; moment = λ p. refl; mode = λ p. refl })
 
-  pub goes_can : (name : List ℕ) (f t : ℕ) → number_of name old.functions ≡ Some f → Changes c (conns.with_ability f t) told old.conns new.conns → Goes old new (noted (Can c name t))
-  goes_can name f t at changes =
-      goes_conn c (lemmas.with_ability name t) unpoured (noted (Can c name t)) only changes
+  pub goes_can : {told : Bool} (name : List ℕ) (f t : ℕ) → number_of name old.functions ≡ Some f → Changes c (conns.with_ability f t) told old.conns new.conns → Goes old new (noted (Can c name t))
+  goes_can {told} name f t at changes =
+      goes_conn c (lemmas.with_ability name t) unpoured (noted (Can c name t)) only changes (touched_apart c (λ x. refl) changes)
       (λ p keeps.
       let within = position_within (bytes_eq name) old.functions.names f at in
       let is = number_is name old.functions f at in
@@ -274,6 +276,7 @@ module _ {old new : Core} {told : Bool} (c : ℕ) (only : OnlyConns old new) whe
 pub goes_cant_unknown : (core : Core) (c : ℕ) (name : List ℕ) → number_of name core.functions ≡ None → Goes core core (noted (Cant c name))
 goes_cant_unknown core c name none = record {
   config = refl;
+  touched = touched_same refl;
   past = λ p keeps. record {
     conns = seen_same keeps.conns (λ d. refl)
         (λ d opened.
@@ -306,6 +309,7 @@ pub goes_functions : (old new : Core) (step : Past → Past) → OnlyFunctions o
     → ((p : Past) → Keeps old p → Holds old.config old.conns new.functions old.jobs old.moment old.mode (step p)) → Goes old new step
 goes_functions old new step only holds = record {
   config = only.config;
+  touched = touched_same only.conns;
   past = λ p keeps.
       subst (λ x. Holds new.config new.conns new.functions new.jobs new.moment x (step p)) (sym only.mode)
       (subst (λ x. Holds new.config new.conns new.functions new.jobs x old.mode (step p)) (sym only.moment)
@@ -373,6 +377,7 @@ pub goes_jobs : (old new : Core) (step : Past → Past) → OnlyJobs old new
     → ((p : Past) → Keeps old p → Holds old.config old.conns old.functions new.jobs old.moment old.mode (step p)) → Goes old new step
 goes_jobs old new step only holds = record {
   config = only.config;
+  touched = touched_same only.conns;
   past = λ p keeps.
       subst (λ x. Holds new.config new.conns new.functions new.jobs new.moment x (step p)) (sym only.mode)
       (subst (λ x. Holds new.config new.conns new.functions new.jobs x old.mode (step p)) (sym only.moment)

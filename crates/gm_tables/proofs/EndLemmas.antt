@@ -24,6 +24,7 @@ use Rattle.gm_jobs.specs.Tables.{Table, job, passes, Ends, Changes}
 use Rattle.gm_tables.specs.declared.server.Core.{Core}
 use Rattle.gm_tables.specs.Facts.{ConnFacts, FunctionFacts, JobFacts, conn_facts, function_facts, job_facts, waits_with, runs_with, queued, running_with}
 use Rattle.gm_tables.specs.Holds.{name_at, spot_at, limit_named, HoldsConns, HoldsFunctions, HoldsJobs, IsJob, Holds, Keeps, Goes}
+use Rattle.gm_tables.proofs.ConnLemmas.{touched_same}
 use Rattle.gm_tables.proofs.JobLemmas.{turned}
 use Rattle.gm_tables.proofs.FunctionLemmas.{some_same}
 use Rattle.gm_tables.proofs.OnceLemmas.{times, filter_alike, one_more, same_number}
@@ -412,6 +413,7 @@ pub goes_moved : {old new : Core} (step : Past → Past) → OnlyQueues old new 
     → ((p : Past) → Keeps old p → HoldsJobs old.config new.functions new.jobs (conn_facts p.notes).is_open (job_facts (step p).notes)) → Goes old new step
 goes_moved {old} {new} step only moves jobs_hold = record {
   config = only.config;
+  touched = touched_same only.conns;
   past = λ p keeps.
       let connections = subst (λ (x : ConnFacts). HoldsConns old.config old.conns new.functions.names x (λ c. waiting c (step p).flow)) (sym (moves.conns p))
       (subst (λ (x : List Flow). HoldsConns old.config old.conns new.functions.names (conn_facts p.notes) (λ c. waiting c x)) (sym (moves.flow p))

@@ -18,6 +18,7 @@ use Rattle.gm_jobs.specs.Tables as jobs
 use Rattle.gm_tables.specs.declared.server.Core.{Core}
 use Rattle.gm_tables.specs.Facts.{Seen, seen, conn_facts, job_facts}
 use Rattle.gm_tables.specs.Holds.{AreFunctions, AreOpen, HoldsConns, HoldsJobs, IsJob, Holds, Goes, shown}
+use Rattle.gm_tables.proofs.ConnLemmas.{touched_told}
 use Rattle.gm_tables.proofs.JobLemmas.{was_live, made_same}
 
 pub conns_closed : (k : Settings) (old new : Table) (names : List (List ℕ)) (c : ℕ) (told : Bool) (p : Past) → Changes c (λ _. closed) told old new
@@ -106,15 +107,16 @@ pub record OnlyConnsAndJobs (old new : Core) : Type 0 where
   pub moment : new.moment ≡ old.moment
   pub mode : new.mode ≡ old.mode
 
-pub goes_closed : {old new : Core} {told : Bool} (c : ℕ) → OnlyConnsAndJobs old new → Changes c (λ _. closed) told old.conns new.conns → Leaves c old.jobs new.jobs
+pub goes_closed : {old new : Core} (c : ℕ) → OnlyConnsAndJobs old new → Changes c (λ _. closed) true old.conns new.conns → Leaves c old.jobs new.jobs
     → Goes old new (λ past. flowed (Emptied c) (noted (Closed c) past))
-goes_closed {old} {new} {told} c only changes leaves = record {
+goes_closed {old} {new} c only changes leaves = record {
   config = only.config;
+  touched = touched_told c changes;
   past = λ p keeps.
       let step : Past = flowed (Emptied c) (noted (Closed c) p) in
       let held : Holds old.config new.conns old.functions new.jobs old.moment old.mode step =
       record {
-        conns = conns_closed old.config old.conns new.conns old.functions.names c told p changes keeps.conns;
+        conns = conns_closed old.config old.conns new.conns old.functions.names c true p changes keeps.conns;
         functions = keeps.functions;
         jobs = jobs_closed old.config old.functions old.jobs new.jobs p.notes c leaves keeps.jobs;
         moment = keeps.moment;

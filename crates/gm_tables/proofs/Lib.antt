@@ -27,3 +27,4 @@ pub mod EndLemmas
 pub mod LeaveLemmas
 pub mod ClosingLemmas
 pub mod RisingLemmas
+pub mod TickLemmas

@@ -23,6 +23,7 @@ use Rattle.gm_jobs.specs.Tables as jobs
 use Rattle.gm_tables.specs.declared.server.Core.{Core}
 use Rattle.gm_tables.specs.Facts.{Seen, JobFacts, seen, conn_facts, job_facts}
 use Rattle.gm_tables.specs.Holds.{AreFunctions, AreOpen, HoldsConns, HoldsJobs, Keeps, Holds, Goes, CoreAgrees, shown}
+use Rattle.gm_tables.proofs.ConnLemmas.{touched_told}
 use Rattle.gm_tables.proofs.CoreLemmas.{OnlyConns, open_is}
 
 -- ---- the slot
@@ -149,15 +150,16 @@ jobs_opened k functions table before after facts more holds = record {
   room = holds.room;
 }
 
-pub goes_opened : {old new : Core} {told : Bool} (c : ℕ) (addr : List ℕ) → OnlyConns old new → Changes c (λ _. opened addr) told old.conns new.conns
+pub goes_opened : {old new : Core} (c : ℕ) (addr : List ℕ) → OnlyConns old new → Changes c (λ _. opened addr) true old.conns new.conns
     → Goes old new (λ past. flowed (Began c) (noted (Opened c addr) past))
-goes_opened {old} {new} {told} c addr only changes = record {
+goes_opened {old} {new} c addr only changes = record {
   config = only.config;
+  touched = touched_told c changes;
   past = λ p keeps.
       let step : Past = flowed (Began c) (noted (Opened c addr) p) in
       let held : Holds old.config new.conns old.functions old.jobs old.moment old.mode step =
       record {
-        conns = conns_opened old.config old.conns new.conns old.functions.names c addr told p changes keeps.conns;
+        conns = conns_opened old.config old.conns new.conns old.functions.names c addr true p changes keeps.conns;
         functions = keeps.functions;
         jobs = jobs_opened old.config old.functions old.jobs (λ d. is_open d p.notes) (λ d. is_open d step.notes) (job_facts p.notes) (λ d e. still_open (d == c) (is_open d p.notes) e) keeps.jobs;
         moment = keeps.moment;

@@ -17,6 +17,7 @@ use Rattle.gm_queues.specs.Tables as queues
 use Rattle.gm_jobs.specs.Live.{Live}
 use Rattle.gm_jobs.specs.Tables.{Table, job, place_or, is_made, Ends}
 use Rattle.gm_tables.specs.Facts.{FunctionFacts, JobFacts, job_facts, waits_with, runs_with, queued, running_with}
+use Rattle.gm_tables.specs.Ticks.{OthersStay}
 use Rattle.gm_tables.specs.Holds.{name_at, spot_at, jobs_named, HoldsFunctions, HoldsJobs, IsJob}
 use Rattle.gm_tables.proofs.FunctionLemmas.{apart}
 use Rattle.gm_tables.proofs.JobLemmas.{made_same, turned}
@@ -175,3 +176,11 @@ module _ (k : Settings) (functions freed : queues.Table) (old new : Table) (is_o
           let here = subst (λ (l : List (List ℕ)). g < length l) frees.names inside in
           room_now g q here ∙ ap (λ (l : List (List ℕ)). length (queue freed g q).jobs + running_with (name_at l g) q now) (sym frees.names);
     }
+
+-- only the job that ends changes
+pub others_stay : (n : ℕ) (old new : Table) → Ends n old new → OthersStay n old new
+others_stay n old new ends m differs = ends.jobs m ∙ by (n == m) refl
+  where
+    by : (t : Bool) → (n == m) ≡ t → (if t then None else job old m) ≡ job old m
+    by true e = let same : m ≡ n = grind (arith, nat_tests) in absurd (differs same)
+    by false e = refl

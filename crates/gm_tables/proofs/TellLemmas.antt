@@ -12,7 +12,7 @@ use Rattle.gm_notes.specs.Past.{Past, give, tell_all}
 use Rattle.gm_conns.specs.Connections.{Connection, with_room, with_bytes}
 use Rattle.gm_conns.specs.Tables.{Table, conn, Changes}
 use Rattle.gm_tables.specs.Facts.{ConnFacts}
-use Rattle.gm_tables.specs.Holds.{HoldsConns}
+use Rattle.gm_tables.specs.Holds.{lane, AllTouched, HoldsConns}
 use Rattle.gm_tables.proofs.ConnLemmas.{conn_changes, same_here}
 use Rattle.gm_tables.specs.Telling.{hears, poured, needed, Roomed}
 
@@ -35,21 +35,23 @@ told_notes answer (c ∷ slots) past = told_notes answer slots (give c answer pa
 -- ---- room
 
 pub roomed_nothing : (table : Table) → Roomed table table
-roomed_nothing table = record { slots = refl; conns = λ c. refl; more = λ c. omega arith }
+roomed_nothing table = record { slots = refl; conns = λ c. refl; more = λ c. omega arith; touched = λ c. refl }
 
 pub roomed_then : (a b c : Table) → Roomed a b → Roomed b c → Roomed a c
 roomed_then a b c first second = record {
   slots = second.slots ∙ first.slots;
   conns = λ d. second.conns d ∙ ap (λ (x : Connection). record x { room = (conn c d).room }) (first.conns d);
   more = λ d. (let one = first.more d in let two = second.more d in omega (arith, one, two));
+  touched = λ d. second.touched d ∙ first.touched d;
 }
 
 -- room that grows at one slot
-pub roomed_one : {told : Bool} (old new : Table) (c n : ℕ) → Changes c (with_room n) told old new → Roomed old new
+pub roomed_one : (old new : Table) (c n : ℕ) → Changes c (with_room n) false old new → Roomed old new
 roomed_one old new c n changes = record {
   slots = changes.slots;
   conns = λ d. here d (d == c) (changes.conns d);
   more = λ d. grown d (d == c) (ap (λ (x : Connection). x.room) (changes.conns d));
+  touched = changes.touched;
 }
   where
     here : (d : ℕ) (t : Bool) → conn new d ≡ (if t then with_room n (conn old d) else conn old d) → conn new d ≡ record (conn old d) { room = (conn new d).room }
@@ -59,6 +61,10 @@ roomed_one old new c n changes = record {
     grown : (d : ℕ) (t : Bool) → (conn new d).room ≡ (if t then with_room n (conn old d) else conn old d).room → (conn old d).room ≤ (conn new d).room
     grown d true e = grind (arith, e)
     grown d false e = omega (arith, e)
+
+-- room touches no slot
+pub touched_roomed : {old new : Table} → Roomed old new → AllTouched old new
+touched_roomed {old} {new} roomed = record { others = λ c untouched. (sym (roomed.touched c) ∙ untouched, ap lane (roomed.conns c)) }
 
 -- room is nothing that is seen
 pub holds_roomed : {k : Settings} {old new : Table} {names : List (List ℕ)} {facts : ConnFacts} {w : ℕ → List ℕ} → Roomed old new → HoldsConns k old names facts w → HoldsConns k new names facts w
@@ -86,15 +92,18 @@ needed_last count c x t (y ∷ xs) = by (y == c) (needed_last count c x t xs)
 
 pub reserve_step : (first mid new : Table) (e : Bool) (count : ℕ) (slots : List ℕ) (i : ℕ) → i < length slots → Roomed first mid → Roomed mid new
     → (IsTrue (hears mid e (get_or slots i 0)) → (conn mid (get_or slots i 0)).room + count ≤ (conn new (get_or slots i 0)).room)
-    → ((c : ℕ) → needed count c (filter (hears first e) (take i slots)) ≤ (conn mid c).room)
-    → (d : ℕ) → needed count d (filter (hears first e) (take (i + 1) slots)) ≤ (conn new d).room
+    → ((c : ℕ) → (conn first c).room + needed count c (filter (hears first e) (take i slots)) ≤ (conn mid c).room)
+    → (d : ℕ) → (conn first d).room + needed count d (filter (hears first e) (take (i + 1) slots)) ≤ (conn new d).room
 reserve_step first mid new e count slots i lt before step grows so_far d =
-    subst (λ (l : List ℕ). needed count d (filter (hears first e) l) ≤ (conn new d).room) (sym (take_more slots i 0 lt))
-    (subst (λ (l : List ℕ). needed count d l ≤ (conn new d).room) (sym (filter-append (hears first e) (take i slots) (get_or slots i 0 ∷ [])))
+    subst (λ (l : List ℕ). base + needed count d (filter (hears first e) l) ≤ (conn new d).room) (sym (take_more slots i 0 lt))
+    (subst (λ (l : List ℕ). base + needed count d l ≤ (conn new d).room) (sym (filter-append (hears first e) (take i slots) (get_or slots i 0 ∷ [])))
     (by (hears first e (get_or slots i 0)) refl))
   where
+    base : ℕ
+    base = (conn first d).room
+
     at : (t : Bool) → (get_or slots i 0 == d) ≡ t → (conn mid (get_or slots i 0)).room + count ≤ (conn new (get_or slots i 0)).room
-        → needed count d (filter (hears first e) (take i slots)) + (if t then count + 0 else 0) ≤ (conn new d).room
+        → base + (needed count d (filter (hears first e) (take i slots)) + (if t then count + 0 else 0)) ≤ (conn new d).room
     at true same more =
         let is : get_or slots i 0 ≡ d = grind (arith, nat_tests) in
         let here : (conn mid d).room + count ≤ (conn new d).room = subst (λ y. (conn mid y).room + count ≤ (conn new y).room) is more in
@@ -103,10 +112,10 @@ reserve_step first mid new e count slots i lt before step grows so_far d =
     at false other more = let was = so_far d in let grown = step.more d in omega (arith, was, grown)
 
     by : (t : Bool) → hears first e (get_or slots i 0) ≡ t
-        → needed count d (filter (hears first e) (take i slots) ++ (if t then get_or slots i 0 ∷ [] else [])) ≤ (conn new d).room
+        → base + needed count d (filter (hears first e) (take i slots) ++ (if t then get_or slots i 0 ∷ [] else [])) ≤ (conn new d).room
     by true h =
         let heard : IsTrue (hears mid e (get_or slots i 0)) = hears_roomed first mid e before (get_or slots i 0) ∙ h in
-        subst (λ y. y ≤ (conn new d).room) (sym (needed_last count d (get_or slots i 0) true (filter (hears first e) (take i slots)))) (at (get_or slots i 0 == d) refl (grows heard))
+        subst (λ y. base + y ≤ (conn new d).room) (sym (needed_last count d (get_or slots i 0) true (filter (hears first e) (take i slots)))) (at (get_or slots i 0 == d) refl (grows heard))
     by false h =
         let was = so_far d in
         let grown = step.more d in
@@ -138,6 +147,24 @@ module _ {told : Bool} (old new : Table) (c : ℕ) (text : List ℕ) (changes : 
           let turned : (c == d) ≡ false = grind (arith, nat_tests) in
           let same : needed (length text) d rest ≤ (conn old d).room = rw turned at fits in
           omega (arith, same, is)
+
+  -- what is used of the room is what came
+  pub put_left : (rest : List ℕ) (first all : ℕ → ℕ) → ((d : ℕ) → needed (length text) d (c ∷ rest) ≤ (conn old d).room)
+      → ((d : ℕ) → first d + needed (length text) d (c ∷ rest) ≤ (conn old d).room + all d) → (d : ℕ) → first d + needed (length text) d rest ≤ (conn new d).room + all d
+  put_left rest first all room left d = by (d == c) refl (room d) (left d) (ap (λ (x : Connection). x.room) (changes.conns d))
+    where
+      by : (t : Bool) → (d == c) ≡ t → (if c == d then length text + needed (length text) d rest else needed (length text) d rest) ≤ (conn old d).room
+          → first d + (if c == d then length text + needed (length text) d rest else needed (length text) d rest) ≤ (conn old d).room + all d
+          → (conn new d).room ≡ (if t then with_bytes text (conn old d) else conn old d).room → first d + needed (length text) d rest ≤ (conn new d).room + all d
+      by true e fits was is =
+          let turned : (c == d) ≡ true = grind (arith, nat_tests) in
+          let more : length text + needed (length text) d rest ≤ (conn old d).room = rw turned at fits in
+          let so : first d + (length text + needed (length text) d rest) ≤ (conn old d).room + all d = rw turned at was in
+          omega (arith, more, so, is)
+      by false e fits was is =
+          let turned : (c == d) ≡ false = grind (arith, nat_tests) in
+          let so : first d + needed (length text) d rest ≤ (conn old d).room + all d = rw turned at was in
+          omega (arith, so, is)
 
   pub put_holds : {k : Settings} {names : List (List ℕ)} {facts : ConnFacts} {w : ℕ → List ℕ} → HoldsConns k old names facts w
       → HoldsConns k new names facts (λ d. if d == c then w d ++ text else w d)

@@ -5,11 +5,12 @@ use Rattle.std.specs.Prelude.{IsSome}
 use Rattle.std.specs.Result.{OnOk, OnErr}
 use Rattle.std.specs.declared.alloc.AllocError.{AllocError}
 use Rattle.std.proofs.lemmas.Bool.{false≢true}
-use Rattle.gm_packet.specs.Writing.{Answer}
+use Rattle.gm_packet.specs.Writing.{Answer, answer_packet}
 use Rattle.gm_notes.specs.declared.note.Note.{Note}
 use Rattle.gm_notes.specs.declared.note.Note.TheVariants.{Report}
 use Rattle.gm_notes.specs.Settings.{Settings}
-use Rattle.gm_notes.specs.Notes.{is_open, has_option}
+use Rattle.gm_notes.specs.Notes.{is_open, has_option, moment as moment_of, mode as mode_of}
+use Rattle.gm_notes.specs.Flow.{waiting}
 use Rattle.gm_notes.specs.Jobs.{Spot, Unmade, Waits, RunsAt, Over, Thrown, spot, is_running_at, listeners, report}
 use Rattle.gm_notes.specs.Servers.{place_of}
 use Rattle.gm_notes.specs.Past.{Past, noted, refuse, tell_all}
@@ -20,13 +21,14 @@ use Rattle.gm_conns.specs.Tables as conns
 use Rattle.gm_jobs.specs.Live.{Live, reported, place_at}
 use Rattle.gm_jobs.specs.Tables.{Table, job, place_or, listeners_of, Changes}
 use Rattle.gm_tables.specs.declared.server.Core.{Core}
-use Rattle.gm_tables.specs.Facts.{Seen, conn_facts, job_facts}
-use Rattle.gm_tables.specs.Holds.{Does, AreOpen, HoldsConns, HoldsJobs, IsJob}
-use Rattle.gm_tables.specs.Telling.{hears, is_place_at, running_there, IsRunning}
+use Rattle.gm_tables.specs.Facts.{Seen, ConnFacts, conn_facts, function_facts, job_facts}
+use Rattle.gm_tables.specs.Holds.{AllTouched, Goes, Does, AreOpen, HoldsConns, HoldsFunctions, HoldsJobs, IsJob}
+use Rattle.gm_tables.specs.Telling.{Roomed, hears, poured, is_place_at, running_there, IsRunning}
+use Rattle.gm_tables.proofs.TellLemmas.{touched_roomed, holds_roomed, poured_is, told_notes}
 use Rattle.gm_tables.proofs.JobLemmas.{quietly, turned}
 use Rattle.gm_tables.proofs.FunctionLemmas.{some_same}
 use Rattle.gm_tables.proofs.OnceLemmas.{filter_alike}
-use Rattle.gm_tables.proofs.CoreLemmas.{OnlyJobs, goes_jobs, goes_nothing}
+use Rattle.gm_tables.proofs.CoreLemmas.{OnlyConns, goes_then, OnlyJobs, goes_jobs, goes_nothing}
 
 -- ---- where it runs
 
@@ -167,3 +169,43 @@ works_nowhere c w (Some m) p e = by (is_running_at c (spot m p.notes)) e
     by : (t : Bool) → (let none : Option ℕ = None in none) ≡ (if t then Some m else None) → refuse c (codes "job_not_found") p ≡ (if t then tell_work w m p else refuse c (codes "job_not_found") p)
     by true e = absurd cc
     by false e = refl
+
+-- room is nothing that the past tells of
+pub goes_with_room : {old new : Core} → OnlyConns old new → Roomed old.conns new.conns → Goes old new (λ past. past)
+goes_with_room {old} {new} only roomed =
+    goes_then {a = old} {b = record old { conns = new.conns }}
+    (record {
+      config = refl;
+      touched = touched_roomed roomed;
+      past = λ p keeps. record { conns = holds_roomed roomed keeps.conns; functions = keeps.functions; jobs = keeps.jobs; moment = keeps.moment; mode = keeps.mode };
+    })
+    (goes_nothing {a = record old { conns = new.conns }} {b = new} only.config refl only.functions only.jobs only.moment only.mode)
+
+-- what is told to those who listen to a job that runs is told in the past
+pub told_goes : (old : Core) (told : conns.Table) (n : ℕ) (e : Bool) (text slots : List ℕ) → IsRunning (job old.jobs n) → slots ≡ listeners_of (job old.jobs n) → AllTouched old.conns told
+    → ((k : Settings) (names : List (List ℕ)) (facts : ConnFacts) (bytes : ℕ → List ℕ) → HoldsConns k old.conns names facts bytes
+    → HoldsConns k told names facts (poured text (filter (hears old.conns e) slots) bytes))
+    → (answer : Answer) → text ≡ answer_packet answer → Goes old (record old { conns = told }) (λ past. tell_all answer (hearers e (listeners n past.notes) past.notes) past)
+told_goes old told n e text slots runs listening touched pours answer is_text = record {
+  config = refl;
+  touched = touched;
+  past = λ p keeps.
+      let it = running old.jobs n runs in
+      let is = keeps.jobs.live n it.live it.at in
+      let heard = hearers e (listeners n p.notes) p.notes in
+      let who : filter (hears old.conns e) slots ≡ heard =
+      ap (filter (hears old.conns e)) (listening ∙ ap listeners_of it.at)
+      ∙ (hearers_are old.config old.conns old.functions.names p.notes (λ d. waiting d p.flow) keeps.conns e it.live.listeners is.heard
+      ∙ ap (λ (l : List ℕ). hearers e l p.notes) (sym is.listeners)) in
+      let notes : (tell_all answer heard p).notes ≡ p.notes = told_notes answer heard p in
+      let held = subst (λ (w : ℕ → List ℕ). HoldsConns old.config told old.functions.names (conn_facts p.notes) w)
+      ((λ i. poured (is_text i) (who i) (λ d. waiting d p.flow)) ∙ poured_is answer heard p)
+      (pours old.config old.functions.names (conn_facts p.notes) (λ d. waiting d p.flow) keeps.conns) in
+      record {
+        conns = subst (λ (l : List Note). HoldsConns old.config told old.functions.names (conn_facts l) (λ d. waiting d (tell_all answer heard p).flow)) (sym notes) held;
+        functions = subst (λ (l : List Note). HoldsFunctions old.config old.functions (function_facts l)) (sym notes) keeps.functions;
+        jobs = subst (λ (l : List Note). HoldsJobs old.config old.functions old.jobs (conn_facts l).is_open (job_facts l)) (sym notes) keeps.jobs;
+        moment = keeps.moment ∙ ap moment_of (sym notes);
+        mode = keeps.mode ∙ ap mode_of (sym notes);
+      };
+}

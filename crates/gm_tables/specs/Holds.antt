@@ -2,6 +2,7 @@
 use Rattle.std.specs.Prelude.{◌≡◌, ℕ, zero, suc, ◌+◌, ◌<◌, ◌≤◌, ◌^◌, true, false, not, ◌&&◌, codes, List, [], ◌∷◌, length, map, filter, slice_get, slice_index_or, Option, Some, None, Bool, Result, Ok, Err}
 use Rattle.std.specs.Option.{unwrap_or}
 use Rattle.gm_notes.specs.declared.states.Priority.{Priority}
+use Rattle.gm_notes.specs.declared.states.Phase.{Phase}
 use Rattle.gm_notes.specs.declared.states.Mode.{Mode}
 use Rattle.gm_notes.specs.declared.states.Place.{Place}
 use Rattle.gm_notes.specs.declared.states.Place.TheVariants.{Unmade, Waiting, Running, Gone}
@@ -16,7 +17,7 @@ use Rattle.gm_notes.specs.Workers.{woken_if}
 use Rattle.gm_notes.specs.Steps.{Step, run}
 use Rattle.gm_notes.specs.Servers.{place_of}
 use Rattle.gm_conns.specs.Connections.{Connection}
-use Rattle.gm_conns.specs.Tables.{conn}
+use Rattle.gm_conns.specs.Tables.{conn, is_touched}
 use Rattle.gm_conns.specs.Tables as conns
 use Rattle.gm_queues.specs.Tables.{number_of, limit, queue}
 use Rattle.gm_queues.specs.Tables as queues
@@ -136,10 +137,19 @@ pub record CoreAgrees (core : Core) (k : Settings) (steps : List Step) : Type 0 
 
 -- ---- what a call does
 
--- the past changes so, whatever it is, and the settings stay
+-- what its caller looks after at a connection: the bytes that wait, the phase, and whether it is shut
+abbrev pub lane : Connection → List ℕ × Phase × Bool
+lane conn = (conn.waiting, conn.phase, conn.is_shut)
+
+-- each slot where that changed is touched, and so is each that was
+pub record AllTouched (old new : conns.Table) : Type 0 where
+  pub others : (c : ℕ) → is_touched new c ≡ false → (is_touched old c ≡ false) × (lane (conn new c) ≡ lane (conn old c))
+
+-- the past changes so, whatever it is, and the settings stay; where a slot's lane changes, the slot is touched
 pub record Goes (old new : Core) (change : Past → Past) : Type 0 where
   pub config : new.config ≡ old.config
   pub past : (past : Past) → Keeps old past → Keeps new (change past)
+  pub touched : AllTouched old.conns new.conns
 
 abbrev pub unless_wanting : {E : Type 0} → Result (Unit {0}) E → (Past → Past) → Past → Past
 unless_wanting (Ok done) change past = change past

@@ -3,4 +3,5 @@ pub mod Holds
 pub mod Refusals
 pub mod Listings
 pub mod Telling
+pub mod Ticks
 pub mod Serving

@@ -1,17 +1,23 @@
 -- The requests in groups: submissions, what workers say of their jobs, what they say of what they can do, and the others.
-use Rattle.std.specs.Prelude.{ℕ, Bool, true, false, List, [], ◌∷◌, Option, Some, None}
+use Rattle.std.specs.Prelude.{◌≡◌, ◌⊎◌, max, ℕ, Bool, true, false, List, [], ◌∷◌, Option, Some, None}
 use Rattle.gm_packet.specs.declared.kind.Kind.{Kind}
+use Rattle.gm_packet.specs.declared.kind.Kind.TheVariants as kinds
 use Rattle.gm_packet.specs.declared.request.Request.{Request}
 use Rattle.gm_packet.specs.declared.request.Request.TheVariants.{CanDo, CantDo, ResetAbilities, PreSleep, CanDoTimeout, SubmitJob, SubmitJobBg, SubmitJobHigh, SubmitJobHighBg, SubmitJobLow, SubmitJobLowBg, WorkStatus, WorkData, WorkWarning, WorkException, WorkComplete, WorkFail}
 use Rattle.gm_packet.specs.Answers.{answer_of}
 use Rattle.gm_packet.specs.Requests.{Asked}
 use Rattle.gm_packet.specs.Writing.{work_status, work_complete, work_fail, work_data, work_warning, work_exception}
 use Rattle.gm_notes.specs.declared.states.Priority.TheVariants.{High, Normal, Low}
+use Rattle.gm_notes.specs.declared.event.Event.{Event}
+use Rattle.gm_notes.specs.declared.event.Event.TheVariants as events
 use Rattle.gm_notes.specs.Settings.{Settings}
 use Rattle.gm_notes.specs.Past.{Past}
 use Rattle.gm_notes.specs.Submissions.{Submission}
 use Rattle.gm_notes.specs.Requests.{submission, passing, ending, request}
 use Rattle.gm_notes.specs.Workers.{Work}
+use Rattle.gm_jobs.specs.Live.{is_due}
+use Rattle.gm_jobs.specs.Tables.{IsLast}
+use Rattle.gm_tables.specs.declared.server.Core.{Core}
 use Rattle.gm_tables.specs.declared.asked.About.{About}
 use Rattle.gm_tables.specs.declared.asked.Said.{Said}
 use Rattle.gm_tables.specs.declared.asked.Report.{Report}
@@ -63,6 +69,23 @@ is_of_abilities (CantDo function) = true
 is_of_abilities ResetAbilities = true
 is_of_abilities PreSleep = true
 is_of_abilities request = false
+
+-- whether a request needs no memory
+abbrev pub is_spare : Kind → Bool
+is_spare kinds.ResetAbilities = true
+is_spare kinds.PreSleep = true
+is_spare kind = false
+
+-- a packet of such a request: RESET_ABILITIES or PRE_SLEEP, which have no data
+abbrev pub IsSpare : ℕ → List ℕ → Type 0
+IsSpare number bytes = ((number ≡ 3) ⊎ (number ≡ 4)) × (bytes ≡ [])
+
+-- an event that needs no memory: such a packet, a closing, and a tick that reaches no deadline
+abbrev pub NeedsNone : Core → Event → Type 0
+NeedsNone core (events.Packet slot number bytes) = IsSpare number bytes.now
+NeedsNone core (events.Close slot) = Unit {0}
+NeedsNone core (events.Tick now) = IsLast (is_due (max now core.moment)) 0 core.jobs.live
+NeedsNone core event = ⊥
 
 -- what a worker says of its job, wherever its bytes lie
 abbrev pub said_report : Option Report → Option (List ℕ × List ℕ)

@@ -6,7 +6,8 @@ use Rattle.gm_notes.specs.declared.note.Note.{Note}
 use Rattle.gm_notes.specs.Jobs.{spot, is_running_at}
 use Rattle.std.specs.Prelude.{IsSome}
 use Rattle.gm_jobs.specs.Live.{Live}
-use Rattle.gm_conns.specs.Tables.{Table, conn}
+use Rattle.gm_conns.specs.Tables.{Table, conn, is_touched}
+use Rattle.gm_tables.specs.Holds.{AllTouched}
 
 -- whether slot c hears: it is open, and wants exceptions where only those who do hear
 abbrev pub hears : Table → Bool → ℕ → Bool
@@ -27,6 +28,13 @@ pub record Roomed (old new : Table) : Type 0 where
   pub slots : length new.conns ≡ length old.conns
   pub conns : (c : ℕ) → conn new c ≡ record (conn old c) { room = (conn new c).room }
   pub more : (c : ℕ) → (conn old c).room ≤ (conn new c).room
+  pub touched : (c : ℕ) → is_touched new c ≡ is_touched old c
+
+-- so many bytes came for each of these slots, once for each time that it stands there, into room that was reserved
+pub record Poured (count : ℕ) (slots : List ℕ) (old new : Table) : Type 0 where
+  pub hear : (exceptions_only : Bool) (c : ℕ) → hears new exceptions_only c ≡ hears old exceptions_only c
+  pub room : (c : ℕ) → (conn old c).room ≤ (conn new c).room + needed count c slots
+  pub touched : AllTouched old new
 
 -- a job of this place runs at slot c
 abbrev pub is_place_at : ℕ → Place → Bool

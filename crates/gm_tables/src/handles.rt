@@ -16,7 +16,8 @@ pub fn handle(alloc: Global, config: &Config, job: u64) -> Result<Vec<u8>, Alloc
     ensures short { IfOk result (λ text. length text.items ≤ 64) }
 {
     let mut buffer = Buffer::new();
-    let mut text = Vec::from_slice(alloc, b"H:")?;
+    let mut text = Vec::with_capacity(alloc, 64)?;
+    text.extend_from_slice(b"H:")?;
     text.extend_from_slice(config.name())?;
     text.extend_from_slice(b":")?;
     text.extend_from_slice(buffer.format(job).as_bytes())?;

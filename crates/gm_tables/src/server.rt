@@ -1,9 +1,13 @@
 //! The fast server: connections, functions and live jobs in tables.
 
-ghost use Rattle.std.specs.Prelude.{◌≡◌, ◌≤◌, ◌<◌, ◌^◌, [], IfOk, OnOk, length};
+ghost use Rattle.std.specs.Prelude.{◌≡◌, ℕ, ◌≤◌, ◌<◌, ◌^◌, ◌==◌, ◌&&◌, not, false, List, [], ◌∷◌, IfOk, OnOk, IfSome, IfNone, IsTrue, IsErrOf, length};
 ghost use Rattle.gm_packet.specs.Answers.{answer_of};
 ghost use Rattle.gm_packet.specs.Writing.{Fits, answer_packet};
-ghost use Rattle.gm_conns.specs.Tables.{IsOpen, conn};
+ghost use Rattle.gm_conns.specs.Tables.{IsOpen, conn, is_touched};
+ghost use Rattle.gm_notes.specs.Flow.{waiting};
+ghost use Rattle.gm_notes.specs.Settings.{Settings};
+ghost use Rattle.gm_notes.specs.Steps.{Step, Took, Withdrew, Drain, run};
+ghost use Rattle.gm_notes.specs.Servers.{step_of, IsSized, Answers, AnswersAt, steps_after, steps_after_that, WantsNone};
 ghost use Rattle.gm_notes.specs.Past.{print, give, refuse};
 ghost use Rattle.gm_tables.specs.Refusals.{code_of};
 
@@ -18,13 +22,14 @@ mod naming;
 mod opening;
 mod serving;
 mod submitting;
+mod ticking;
 mod waking;
 mod working;
 
 use crate::refusal::Refusal;
 use gm_conns::Conns;
 use gm_jobs::Jobs;
-use gm_notes::{Config, Mode};
+use gm_notes::{ApplyError, Config, Done, Event, JobServer, Mode, Place};
 use gm_packet::{Response, write_response};
 use gm_queues::Functions;
 use std::alloc::{AllocError, Global};
@@ -53,7 +58,7 @@ fn first_job(config: &Config) -> u64
 }
 
 impl Core {
-    ghost use Rattle.gm_tables.specs.Holds.{Goes, Does, CoreAgrees};
+    ghost use Rattle.gm_tables.specs.Holds.{lane, Holds, Goes, Does, CoreAgrees};
 
     /// A server to which nothing has happened. Names and ids come from strangers, so its tables hash with this seed.
     pub fn new(alloc: Global, seed: RandomState, config: Config) -> Result<Core, AllocError>
@@ -74,13 +79,28 @@ impl Core {
         })
     }
 
-    /// The tables that it answers from.
+    /// The tables that it answers from: after any steps that the core agrees with they hold what the definitions give.
     pub fn parts(&self) -> (&Conns, &Functions, &Jobs)
         ensures conns { result.0.now ≡ self.now.conns }
         ensures functions { result.1.now ≡ self.now.functions }
         ensures jobs { result.2.now ≡ self.now.jobs }
+        ensures held { (k : Settings) (steps : List Step) → CoreAgrees self.now k steps
+            → Holds k result.0.now result.1.now result.2.now self.now.moment self.now.mode (run k steps) }
     {
         (&self.conns, &self.functions, &self.jobs)
+    }
+
+    /// The least slot that was touched since it was last taken, which is taken out. Whatever the core is asked, a slot
+    /// is touched where its waiting bytes, its phase or whether it is shut change.
+    pub fn take_touched(&mut self) -> Option<u32>
+        ensures found { IfSome result (λ slot. IsTrue (is_touched self.old.conns slot)) }
+        ensures least { IfSome result (λ slot. (c : ℕ) → c < slot → is_touched self.old.conns c ≡ false) }
+        ensures rest { IfSome result (λ slot. (c : ℕ) → is_touched self.new.conns c ≡ (not (c == slot) && is_touched self.old.conns c)) }
+        ensures none { IfNone result ((c : ℕ) → is_touched self.old.conns c ≡ false) }
+        ensures lanes { (c : ℕ) → lane (conn self.new.conns c) ≡ lane (conn self.old.conns c) }
+        ensures agrees { (k : Settings) (steps : List Step) → CoreAgrees self.old k steps → CoreAgrees self.new k steps }
+    {
+        self.conns.take_touched()
     }
 
     /// Writes a packet and makes room for it at a slot.
@@ -130,5 +150,71 @@ impl Core {
         ensures { Does self.old result self.new (refuse slot (code_of refusal)) }
     {
         self.give(slot, &refusal.response())
+    }
+}
+
+impl JobServer for Core {
+    ghost use Rattle.gm_tables.specs.Holds.{AllTouched, CoreAgrees};
+    ghost use Rattle.gm_tables.specs.Serving.{NeedsNone};
+
+    ghost agrees = { CoreAgrees };
+
+    fn apply(&mut self, event: &Event<'_>) -> Result<Done, ApplyError>
+        requires { IsSized event.now }
+        ensures answers { (k : Settings) (steps : List Step) → CoreAgrees self.old k steps
+            → Answers k steps (step_of event.now) result
+            × CoreAgrees self.new k (steps_after result (step_of event.now) steps) }
+        ensures memory { WantsNone event.now result }
+        ensures spare { NeedsNone self.old event.now → IsErrOf result ApplyError.Memory → ⊥ }
+        ensures touched { AllTouched self.old.conns self.new.conns }
+    {
+        match *event {
+            Event::Open { addr } => self.open(addr),
+            Event::Packet { slot, kind, bytes } => self.packet(slot, kind, bytes),
+            Event::Line { slot, bytes } => self.line(slot, bytes),
+            Event::Fault { slot, fault } => self.fault(slot, fault),
+            Event::Close { slot } => self.close(slot),
+            Event::Tick { now } => self.tick(now),
+        }
+    }
+
+    fn owed(&self, slot: u32) -> bool {
+        self.is_owed_to(slot)
+    }
+
+    fn shut(&self, slot: u32) -> bool {
+        self.is_closing(slot)
+    }
+
+    fn mode(&self) -> Mode {
+        self.goes_on()
+    }
+
+    fn place(&self, job: u64) -> Place {
+        self.place_of(job)
+    }
+
+    fn took(&mut self, slot: u32) -> Result<(), ApplyError>
+        ensures answers { (k : Settings) (steps : List Step) → CoreAgrees self.old k steps
+            → AnswersAt k steps (Took slot) result × CoreAgrees self.new k (steps_after_that result (Took slot) steps) }
+        ensures touched { AllTouched self.old.conns self.new.conns }
+    {
+        self.take_noop(slot)
+    }
+
+    fn withdrew(&mut self, slot: u32) -> Result<(), ApplyError>
+        ensures answers { (k : Settings) (steps : List Step) → CoreAgrees self.old k steps
+            → AnswersAt k steps (Withdrew slot) result × CoreAgrees self.new k (steps_after_that result (Withdrew slot) steps) }
+        ensures touched { AllTouched self.old.conns self.new.conns }
+    {
+        self.withdraw_noop(slot)
+    }
+
+    fn drain(&mut self, slot: u32) -> Vec<u8>
+        ensures answers { (k : Settings) (steps : List Step) → CoreAgrees self.old k steps
+            → (result.items ≡ waiting slot (run k steps).flow) × CoreAgrees self.new k (Drain slot ∷ steps) }
+        ensures touched { AllTouched self.old.conns self.new.conns }
+    {
+        self.drain_slot(slot)
     }
 }

@@ -5,7 +5,7 @@ ghost use Rattle.gm_notes.specs.Settings.{Settings};
 ghost use Rattle.gm_conns.specs.Tables.{IsOpen, conn};
 ghost use Rattle.gm_tables.specs.Facts.{ConnFacts};
 ghost use Rattle.gm_tables.specs.Holds.{HoldsConns};
-ghost use Rattle.gm_tables.specs.Telling.{hears, poured, needed, Roomed};
+ghost use Rattle.gm_tables.specs.Telling.{hears, poured, needed, Roomed, Poured};
 
 use gm_conns::Conns;
 use std::alloc::AllocError;
@@ -35,7 +35,7 @@ fn reserve_one(
     conns.reserve_out(slot, room)
 }
 
-/// Makes room for so many bytes at each of these slots that hears, once for each time that it stands there.
+/// Makes room for so many bytes more at each of these slots that hears, once for each time that it stands there.
 pub fn reserve_each(
     conns: &mut Conns,
     slots: &[u32],
@@ -43,7 +43,7 @@ pub fn reserve_each(
     count: usize,
 ) -> Result<(), AllocError>
     ensures roomed { Roomed conns.old conns.new }
-    ensures room { OnOk result ((c : ℕ) → needed count c (filter (hears conns.old exceptions_only) slots.now) ≤ (conn conns.new c).room) }
+    ensures room { OnOk result ((c : ℕ) → (conn conns.old c).room + needed count c (filter (hears conns.old exceptions_only) slots.now) ≤ (conn conns.new c).room) }
 {
     for slot in slots {
         reserve_one(conns, *slot, exceptions_only, count)?;
@@ -54,7 +54,8 @@ pub fn reserve_each(
 /// Queues a text to each of these slots that hears, where there is room.
 pub fn put_each(conns: &mut Conns, slots: &[u32], exceptions_only: bool, text: &[u8])
     requires { (c : ℕ) → needed (length text.now) c (filter (hears conns.old exceptions_only) slots.now) ≤ (conn conns.old c).room }
-    ensures { (k : Settings) (names : List (List ℕ)) (facts : ConnFacts) (bytes : ℕ → List ℕ) → HoldsConns k conns.old names facts bytes
+    ensures poured { Poured (length text.now) (filter (hears conns.old exceptions_only) slots.now) conns.old conns.new }
+    ensures holds { (k : Settings) (names : List (List ℕ)) (facts : ConnFacts) (bytes : ℕ → List ℕ) → HoldsConns k conns.old names facts bytes
         → HoldsConns k conns.new names facts (poured text.now (filter (hears conns.old exceptions_only) slots.now) bytes) }
 {
     for slot in slots {

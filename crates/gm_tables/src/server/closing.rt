@@ -19,7 +19,7 @@ use super::Core;
 use gm_notes::{ApplyError, Done};
 
 impl Core {
-    ghost use Rattle.gm_tables.specs.Holds.{Goes, CoreAgrees};
+    ghost use Rattle.gm_tables.specs.Holds.{Goes, AllTouched, CoreAgrees};
 
     /// A waiting job that nobody wants is discarded. It needs no memory.
     fn discard(&mut self, job: u64)
@@ -137,6 +137,7 @@ impl Core {
     pub(super) fn close(&mut self, slot: u32) -> Result<Done, ApplyError>
         ensures answers { (k : Settings) (steps : List Step) → CoreAgrees self.old k steps
             → Answers k steps (Close slot) result × CoreAgrees self.new k (steps_after result (Close slot) steps) }
+        ensures touched { AllTouched self.old.conns self.new.conns }
         ensures memory { IsErrOf result Memory → ⊥ }
     {
         if !self.conns.is_open(slot) {

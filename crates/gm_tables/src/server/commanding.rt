@@ -47,12 +47,13 @@ fn is_bad_word(word: &[u8]) -> bool
 }
 
 impl Core {
-    ghost use Rattle.gm_tables.specs.Holds.{Goes, Does, CoreAgrees};
+    ghost use Rattle.gm_tables.specs.Holds.{Goes, Does, AllTouched, CoreAgrees};
 
     /// A text line of a slot.
     pub(super) fn line(&mut self, slot: u32, bytes: &[u8]) -> Result<Done, ApplyError>
-        ensures { (k : Settings) (steps : List Step) → CoreAgrees self.old k steps
+        ensures answers { (k : Settings) (steps : List Step) → CoreAgrees self.old k steps
             → Answers k steps (Line slot bytes.now) result × CoreAgrees self.new k (steps_after result (Line slot bytes.now) steps) }
+        ensures touched { AllTouched self.old.conns self.new.conns }
     {
         if !self.takes_units(slot) {
             return Err(ApplyError::NotOpen);

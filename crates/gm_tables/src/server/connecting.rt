@@ -57,7 +57,7 @@ pub(super) fn welcomes(mode: Mode) -> bool
 }
 
 impl Core {
-    ghost use Rattle.gm_tables.specs.Holds.{Keeps, Goes, Does, CoreAgrees};
+    ghost use Rattle.gm_tables.specs.Holds.{Keeps, Goes, Does, AllTouched, CoreAgrees};
 
     /// Whether a slot takes units.
     pub(super) fn takes_units(&self, slot: u32) -> bool
@@ -83,8 +83,9 @@ impl Core {
 
     /// The NOOP that is owed to a slot was taken.
     pub(super) fn take_noop(&mut self, slot: u32) -> Result<(), ApplyError>
-        ensures { (k : Settings) (steps : List Step) → CoreAgrees self.old k steps
+        ensures answers { (k : Settings) (steps : List Step) → CoreAgrees self.old k steps
             → AnswersAt k steps (Took slot) result × CoreAgrees self.new k (steps_after_that result (Took slot) steps) }
+        ensures touched { AllTouched self.old.conns self.new.conns }
     {
         if !self.conns.is_open(slot) {
             return Err(ApplyError::NotOpen);
@@ -98,8 +99,9 @@ impl Core {
 
     /// The NOOP that is owed to a slot was withdrawn.
     pub(super) fn withdraw_noop(&mut self, slot: u32) -> Result<(), ApplyError>
-        ensures { (k : Settings) (steps : List Step) → CoreAgrees self.old k steps
+        ensures answers { (k : Settings) (steps : List Step) → CoreAgrees self.old k steps
             → AnswersAt k steps (Withdrew slot) result × CoreAgrees self.new k (steps_after_that result (Withdrew slot) steps) }
+        ensures touched { AllTouched self.old.conns self.new.conns }
     {
         if !self.conns.is_open(slot) {
             return Err(ApplyError::NotOpen);

@@ -38,12 +38,13 @@ fn append_fault(fault: UnitFault, out: &mut Vec<u8>) -> Result<(), AllocError>
 }
 
 impl Core {
-    ghost use Rattle.gm_tables.specs.Holds.{Goes, CoreAgrees};
+    ghost use Rattle.gm_tables.specs.Holds.{Goes, AllTouched, CoreAgrees};
 
     /// A connection from this address is given the least slot that isn't open.
     pub(super) fn open(&mut self, addr: &[u8]) -> Result<Done, ApplyError>
-        ensures { (k : Settings) (steps : List Step) → CoreAgrees self.old k steps
+        ensures answers { (k : Settings) (steps : List Step) → CoreAgrees self.old k steps
             → Answers k steps (Open addr.now) result × CoreAgrees self.new k (steps_after result (Open addr.now) steps) }
+        ensures touched { AllTouched self.old.conns self.new.conns }
     {
         if !welcomes(self.mode) {
             return Err(ApplyError::Refusing);
@@ -70,8 +71,9 @@ impl Core {
 
     /// Nothing that can be read follows in a slot: it is told why, and takes no more units.
     pub(super) fn fault(&mut self, slot: u32, fault: UnitFault) -> Result<Done, ApplyError>
-        ensures { (k : Settings) (steps : List Step) → CoreAgrees self.old k steps
+        ensures answers { (k : Settings) (steps : List Step) → CoreAgrees self.old k steps
             → Answers k steps (Fault slot fault) result × CoreAgrees self.new k (steps_after result (Fault slot fault) steps) }
+        ensures touched { AllTouched self.old.conns self.new.conns }
     {
         if !self.takes_units(slot) {
             return Err(ApplyError::NotOpen);
@@ -87,8 +89,9 @@ impl Core {
 
     /// Takes the bytes that wait for a slot; none where it isn't open.
     pub(super) fn drain_slot(&mut self, slot: u32) -> Vec<u8>
-        ensures { (k : Settings) (steps : List Step) → CoreAgrees self.old k steps
+        ensures answers { (k : Settings) (steps : List Step) → CoreAgrees self.old k steps
             → (result.items ≡ waiting slot (run k steps).flow) × CoreAgrees self.new k (Drain slot ∷ steps) }
+        ensures touched { AllTouched self.old.conns self.new.conns }
     {
         if !self.conns.is_open(slot) {
             return Vec::new(self.alloc);

@@ -1,6 +1,6 @@
 //! Requests as they come.
 
-ghost use Rattle.std.specs.Prelude.{◌≡◌, ◌↔◌, ◌^◌, List, true, false, None};
+ghost use Rattle.std.specs.Prelude.{IsErrOf, OnErr, ◌≡◌, ◌↔◌, ◌^◌, List, true, false, None};
 ghost use Rattle.std.specs.Option.{option_map, unwrap_or};
 ghost use Rattle.gm_packet.specs.Kinds.{kind_of};
 ghost use Rattle.gm_packet.specs.Views.{asked_of};
@@ -12,7 +12,7 @@ ghost use Rattle.gm_notes.specs.Servers.{Answers, steps_after};
 ghost use Rattle.gm_notes.specs.Settings.{Settings};
 ghost use Rattle.gm_notes.specs.Steps.{Step, Packet};
 ghost use Rattle.gm_tables.specs.Holds.{submission_of};
-ghost use Rattle.gm_tables.specs.Serving.{serve, unread, foreground_by, background_by, said_by, about_of, is_of_abilities};
+ghost use Rattle.gm_tables.specs.Serving.{serve, is_spare, IsSpare, unread, foreground_by, background_by, said_by, about_of, is_of_abilities};
 
 use super::Core;
 use super::grabbing::prepare_at;
@@ -185,12 +185,14 @@ fn is_same(one: Option<u64>, other: Option<u64>) -> bool
 }
 
 impl Core {
-    ghost use Rattle.gm_tables.specs.Holds.{Does, CoreAgrees};
+    ghost use Rattle.gm_tables.specs.Holds.{Does, AllTouched, CoreAgrees};
 
     /// A packet of a slot.
     pub(super) fn packet(&mut self, slot: u32, kind: u32, bytes: &[u8]) -> Result<Done, ApplyError>
-        ensures { (k : Settings) (steps : List Step) → CoreAgrees self.old k steps
+        ensures answers { (k : Settings) (steps : List Step) → CoreAgrees self.old k steps
             → Answers k steps (Packet slot kind bytes.now) result × CoreAgrees self.new k (steps_after result (Packet slot kind bytes.now) steps) }
+        ensures spare { IsSpare kind bytes.now → IsErrOf result ApplyError.Memory → ⊥ }
+        ensures touched { AllTouched self.old.conns self.new.conns }
     {
         if !self.takes_units(slot) {
             return Err(ApplyError::NotOpen);
@@ -211,7 +213,8 @@ impl Core {
     /// Does what a packet of a slot asks.
     fn read(&mut self, slot: u32, kind: u32, bytes: &[u8]) -> Result<(), AllocError>
         requires { IsOpen self.old.conns slot }
-        ensures { Does self.old result self.new (packet_of self.old.config slot (kind_of kind) bytes.now) }
+        ensures does { Does self.old result self.new (packet_of self.old.config slot (kind_of kind) bytes.now) }
+        ensures spare { IsSpare kind bytes.now → OnErr result ⊥ }
     {
         match Request::read(kind, bytes) {
             Ok(request) => self.serve(slot, &request),
@@ -222,7 +225,8 @@ impl Core {
     /// Does what a request of a slot asks.
     fn serve(&mut self, slot: u32, request: &Request<'_>) -> Result<(), AllocError>
         requires { IsOpen self.old.conns slot }
-        ensures { Does self.old result self.new (serve self.old.config slot (asked_of request.now)) }
+        ensures does { Does self.old result self.new (serve self.old.config slot (asked_of request.now)) }
+        ensures spare { is_spare (asked_of request.now).kind ≡ true → OnErr result ⊥ }
     {
         if let Some(asked) = in_foreground(request) {
             return self.submit(slot, &asked);
@@ -257,7 +261,8 @@ impl Core {
         requires no_foreground { foreground_by request.now ≡ None }
         requires no_background { background_by request.now ≡ None }
         requires no_work { said_by request.now ≡ None }
-        ensures { Does self.old result self.new (serve self.old.config slot (asked_of request.now)) }
+        ensures does { Does self.old result self.new (serve self.old.config slot (asked_of request.now)) }
+        ensures spare { is_spare (asked_of request.now).kind ≡ true → OnErr result ⊥ }
     {
         match *request {
             Request::CanDo { function } => self.can_do(slot, function, 0),

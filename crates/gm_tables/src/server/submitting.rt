@@ -1,6 +1,6 @@
 //! Submissions.
 
-ghost use Rattle.std.specs.Prelude.{◌≡◌, ◌<◌, ◌≤◌, None, IfNone, ◌+◌, ◌==◌, ◌&&◌, not, nat_le, ℕ, Some, OnOk, OnErr, IfOk, length};
+ghost use Rattle.std.specs.Prelude.{◌≡◌, ◌<◌, ◌≤◌, None, IfNone, ◌+◌, ◌==◌, ◌&&◌, not, nat_le, ℕ, Some, IfSome, List, OnOk, OnErr, IfOk, length};
 ghost use Rattle.gm_packet.specs.Writing.{job_created, answer_packet};
 ghost use Rattle.gm_conns.specs.Tables.{IsOpen, conn};
 ghost use Rattle.gm_queues.specs.Tables.{number_of};
@@ -57,38 +57,54 @@ impl Core {
         if is_bad_name(asked.function) {
             return self.refuse(slot, Refusal::BadFunction);
         }
-        match self.joined(asked.function, asked.unique) {
+        let found = self.functions.find(asked.function);
+        match self.joined(found, asked.unique) {
             Some(job) => self.join(slot, asked, job),
-            None => self.make_new(slot, asked),
+            None => self.make_new(slot, asked, found),
         }
     }
 
     /// A job is made, unless a limit refuses it.
-    fn make_new(&mut self, slot: u32, asked: &Submission<'_>) -> Result<(), AllocError>
+    fn make_new(
+        &mut self,
+        slot: u32,
+        asked: &Submission<'_>,
+        found: Option<u32>,
+    ) -> Result<(), AllocError>
         requires open { IsOpen self.old.conns slot }
+        requires found { number_of asked.now.function.now self.old.functions ≡ found }
+        requires within { IfSome found (λ f. f < length self.old.functions.names) }
         requires alone { IsAlone asked.now.function.now asked.now.unique.now self.old.functions self.old.jobs }
         ensures { Does self.old result self.new (join_or_make self.old.config slot (submission_of asked.now) None) }
     {
-        if self.is_one_too_many(asked.function) {
+        if self.has_no_place(found) {
             return self.refuse(slot, Refusal::TooManyFunctions);
         }
-        if self.is_full(asked.function) {
+        if self.is_full(found) {
             return self.refuse(slot, Refusal::QueueFull);
         }
         match self.jobs.next_number() {
-            Some(job) => self.make(slot, asked, job),
+            Some(job) => self.make(slot, asked, found, job),
             None => self.refuse(slot, Refusal::NoNumbers),
         }
     }
 
     /// A job is made under the next number.
-    fn make(&mut self, slot: u32, asked: &Submission<'_>, job: u64) -> Result<(), AllocError>
+    fn make(
+        &mut self,
+        slot: u32,
+        asked: &Submission<'_>,
+        found: Option<u32>,
+        job: u64,
+    ) -> Result<(), AllocError>
         requires open { IsOpen self.old.conns slot }
+        requires found { number_of asked.now.function.now self.old.functions ≡ found }
+        requires within { IfSome found (λ f. f < length self.old.functions.names) }
         requires alone { IsAlone asked.now.function.now asked.now.unique.now self.old.functions self.old.jobs }
         requires number { job ≡ self.old.jobs.next }
         ensures { Does self.old result self.new (make self.old.config slot (submission_of asked.now) (Some job)) }
     {
-        match self.functions.find(asked.function) {
+        match found {
             Some(f) => self.make_known(slot, asked, f, job),
             None => self.make_anew(slot, asked, job),
         }
@@ -116,12 +132,12 @@ impl Core {
         Ok(())
     }
 
-    /// The live job of a function with a unique id that joins.
-    pub(super) fn joined(&self, function: &[u8], unique: &[u8]) -> Option<u64>
-        ensures value { (past : Past) → Keeps self.now past → result ≡ joined function.now unique.now past.notes }
-        ensures alone { IfNone result (IsAlone function.now unique.now self.now.functions self.now.jobs) }
+    /// The live job of a function with a unique id that joins, if the function has this number.
+    fn joined(&self, found: Option<u32>, unique: &[u8]) -> Option<u64>
+        ensures value { (function : List ℕ) (past : Past) → number_of function self.now.functions ≡ found → Keeps self.now past → result ≡ joined function unique.now past.notes }
+        ensures alone { IfNone result ((function : List ℕ) → number_of function self.now.functions ≡ found → IsAlone function unique.now self.now.functions self.now.jobs) }
     {
-        match self.functions.find(function) {
+        match found {
             Some(f) => self.jobs.by_unique(f, unique),
             None => None,
         }
@@ -131,17 +147,25 @@ impl Core {
     pub(super) fn is_one_too_many(&self, function: &[u8]) -> bool
         ensures { (past : Past) → Keeps self.now past → result ≡ is_one_too_many self.now.config function.now past.notes }
     {
-        match self.functions.find(function) {
+        self.has_no_place(self.functions.find(function))
+    }
+
+    /// Whether no function more can be known, where one has this number.
+    fn has_no_place(&self, found: Option<u32>) -> bool
+        ensures { (function : List ℕ) (past : Past) → number_of function self.now.functions ≡ found → Keeps self.now past → result ≡ is_one_too_many self.now.config function past.notes }
+    {
+        match found {
             Some(_) => false,
             None => self.functions.len() >= self.config.max_functions(),
         }
     }
 
-    /// Whether no more jobs of a function may be there.
-    fn is_full(&self, function: &[u8]) -> bool
-        ensures { (past : Past) → Keeps self.now past → result ≡ is_full function.now past.notes }
+    /// Whether no more jobs of the function with this number may be there.
+    fn is_full(&self, found: Option<u32>) -> bool
+        requires { IfSome found (λ f. f < length self.now.functions.names) }
+        ensures { (function : List ℕ) (past : Past) → number_of function self.now.functions ≡ found → Keeps self.now past → result ≡ is_full function past.notes }
     {
-        match self.functions.find(function) {
+        match found {
             Some(f) => is_limit_reached(self.functions.limit(f), self.functions.counts(f)),
             None => false,
         }

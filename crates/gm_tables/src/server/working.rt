@@ -12,6 +12,7 @@ ghost use Rattle.gm_notes.specs.Past.{Past, noted, tell_all};
 ghost use Rattle.gm_notes.specs.declared.note.Note.TheVariants.{Ended};
 ghost use Rattle.gm_notes.specs.Workers.{hearers, report_kept, ended_if, tell_work, work};
 ghost use Rattle.gm_tables.specs.Serving.{said_report, work_of};
+ghost use Rattle.gm_tables.specs.Ticks.{OthersStay};
 ghost use Rattle.gm_tables.specs.Telling.{hears, needed, IsRunning, is_place_at, running_there};
 
 use super::Core;
@@ -141,7 +142,10 @@ impl Core {
     /// A running job ends: its place in its queue is given up.
     pub(super) fn end(&mut self, job: u64)
         requires { IsRunning (job_of self.old.jobs job) }
-        ensures { Goes self.old self.new (noted (Ended job)) }
+        ensures goes { Goes self.old self.new (noted (Ended job)) }
+        ensures conns { self.new.conns ≡ self.old.conns }
+        ensures moment { self.new.moment ≡ self.old.moment }
+        ensures jobs { OthersStay job self.old.jobs self.new.jobs }
     {
         if let Some((f, priority)) = self.running_place(job) {
             self.functions.release(f, priority);

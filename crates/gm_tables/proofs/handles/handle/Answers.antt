@@ -2,12 +2,12 @@ use Rattle.std.proofs.Common.{◌≡◌, ◌++◌, [], ◌∷◌, refl, ap, ◌�
 use Rattle.gm_packet.specs.Requests.{has_nul}
 use Rattle.gm_notes.proofs.NameLemmas.{decimal_plain, joined_plain, joined_short}
 use Rattle.gm_tables.proofs.handles.handle.Goals as goal
-use Rattle.gm_tables.proofs.handles.handle.Goals.{In_ok-extend_from_slice-3}
+use Rattle.gm_tables.proofs.handles.handle.Goals.{In_ok-extend_from_slice-4}
 
-parts : (c : In_ok-extend_from_slice-3) → c.extend_from_slice-3.new.self.items ≡ (((72 ∷ 58 ∷ []) ++ c.name.result.now) ++ 58 ∷ []) ++ c.format.result.now
+parts : (c : In_ok-extend_from_slice-4) → c.extend_from_slice-4.new.self.items ≡ (((72 ∷ 58 ∷ []) ++ c.name.result.now) ++ 58 ∷ []) ++ c.format.result.now
 parts c =
-    c.in_ok-extend_from_slice-3.ensures.items
-    ∙ ap (λ l. l ++ c.as_bytes.result.now) (c.in_ok-extend_from_slice-2.ensures.items ∙ ap (λ l. l ++ 58 ∷ []) (c.in_ok-extend_from_slice.ensures.items ∙ ap (λ l. l ++ c.name.result.now) c.in_ok-text.ensures.items))
+    c.in_ok-extend_from_slice-4.ensures.items
+    ∙ ap (λ l. l ++ c.as_bytes.result.now) (c.in_ok-extend_from_slice-3.ensures.items ∙ ap (λ l. l ++ 58 ∷ []) (c.in_ok-extend_from_slice-2.ensures.items ∙ ap (λ l. l ++ c.name.result.now) (c.in_ok-extend_from_slice.ensures.items ∙ ap (λ l. l ++ 72 ∷ 58 ∷ []) c.in_ok-text.ensures.items)))
     ∙ ap (λ l. (((72 ∷ 58 ∷ []) ++ c.name.result.now) ++ 58 ∷ []) ++ l) c.as_bytes.ensures.value
 
 pub returns-clause-plain : goal.returns-clause-plain

@@ -6,6 +6,7 @@ use Rattle.gm_notes.specs.Past.{noted}
 use Rattle.gm_queues.specs.Tables.{queue, ForgetsJob}
 use Rattle.gm_jobs.specs.Live.{is_orphan}
 use Rattle.gm_jobs.specs.Tables.{passes}
+use Rattle.gm_tables.proofs.ConnLemmas.{touched_same}
 use Rattle.gm_tables.specs.Facts.{conn_facts, function_facts}
 use Rattle.gm_tables.proofs.EndLemmas.{jobs_discarded, stands_in, orphan_waits, goes_moved}
 use Rattle.gm_tables.proofs.server.Core.discard.Goals as goal
@@ -13,6 +14,7 @@ use Rattle.gm_tables.proofs.server.Core.discard.Goals as goal
 pub returns-then-f-len : goal.returns-then-f-len
 returns-then-f-len c = record {
   config = refl;
+  touched = touched_same refl;
   past = λ p keeps.
       let is = keeps.jobs.live c.args.job c.in-Some.found.now (sym c.in-Some.ensures) in
       let within = is.function in
@@ -22,6 +24,7 @@ returns-then-f-len c = record {
 pub returns-then-not-is_waiting : goal.returns-then-not-is_waiting
 returns-then-not-is_waiting c = record {
   config = refl;
+  touched = touched_same refl;
   past = λ p keeps.
       let at = sym c.in-Some.ensures in
       let functions = c.args.self.now.functions in

@@ -2,6 +2,7 @@ use Rattle.std.proofs.Common.{refl, subst, ◌∙◌}
 use Rattle.gm_notes.specs.Past.{Past}
 use Rattle.gm_notes.specs.Closings.{discard_each, discard_one}
 use Rattle.gm_jobs.specs.Live.{is_orphan}
+use Rattle.gm_tables.proofs.ConnLemmas.{touched_same, touched_then}
 use Rattle.gm_tables.specs.Holds.{Keeps}
 use Rattle.gm_tables.proofs.ClosingLemmas.{discard_made}
 use Rattle.gm_tables.proofs.RisingLemmas.{rising_begins, rising_on, rising_done, stays_so, discards_so}
@@ -10,12 +11,14 @@ use Rattle.gm_tables.proofs.server.Core.discard_each.Goals as goal
 pub loop-job-init : goal.loop-job-init
 loop-job-init c = record {
   config = refl;
+  touched = touched_same refl;
   past = λ past keeps. rising_begins discard_each discard_one (λ p. refl) (λ n jobs p. refl) c.args.self.now past 0 keeps.jobs.begins keeps;
 }
 
 pub loop-job-preserved : goal.loop-job-preserved
 loop-job-preserved c = record {
   config = c.discard.ensures.config ∙ c.loop-job.invariant.config;
+  touched = touched_then c.loop-job.invariant.touched c.discard.ensures.touched;
   past = λ past keeps.
       let t = c.loop-job.invariant.past past keeps in
       let n = c.in-Some.job in
@@ -27,6 +30,7 @@ loop-job-preserved c = record {
 pub returns : goal.returns
 returns c = record {
   config = c.loop-job.invariant.config;
+  touched = c.loop-job.invariant.touched;
   past = λ past keeps.
       let t = c.loop-job.invariant.past past keeps in
       rising_done discard_each discard_one (λ p. refl) (λ n jobs p. refl) is_orphan c.args.self.now c.loop-job.self c.loop-job.invariant.config c.loop-job.after past t

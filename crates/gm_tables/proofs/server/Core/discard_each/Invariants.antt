@@ -1,13 +1,14 @@
 use Rattle.std.proofs.Common.{◌≡◌, ◌-◌, ◌^◌}
 use Rattle.gm_notes.specs.Past.{Past}
 use Rattle.gm_notes.specs.Closings.{discard_each}
-use Rattle.gm_tables.specs.Holds.{Keeps}
+use Rattle.gm_tables.specs.Holds.{AllTouched, Keeps}
 use Rattle.gm_tables.proofs.RisingLemmas.{Rising}
 use Rattle.gm_tables.proofs.server.Core.discard_each.Given as goal
 
 abbrev pub invariant-loop-job : goal.invariant-loop-job
 invariant-loop-job l = record {
   config : l.self.config ≡ l.fn.self.config;
+  touched : AllTouched l.fn.self.conns l.self.conns;
   past : (past : Past) → Keeps l.fn.self past → Rising l.self discard_each l.fn.self.config.first_job l.after past;
 }
 

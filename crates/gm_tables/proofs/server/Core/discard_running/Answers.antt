@@ -7,6 +7,7 @@ use Rattle.gm_queues.specs.Queues.{without_place}
 use Rattle.gm_queues.specs.Tables.{HasPlace, ChangesQueue}
 use Rattle.gm_jobs.specs.Live.{is_run_by}
 use Rattle.gm_jobs.specs.Tables.{passes}
+use Rattle.gm_tables.proofs.ConnLemmas.{touched_same}
 use Rattle.gm_tables.specs.Facts.{conn_facts, function_facts}
 use Rattle.gm_tables.proofs.EndLemmas.{jobs_released, place_for, run_there, goes_moved}
 use Rattle.gm_tables.proofs.server.Core.discard_running.Goals as goal
@@ -14,6 +15,7 @@ use Rattle.gm_tables.proofs.server.Core.discard_running.Goals as goal
 pub returns-then-f-len : goal.returns-then-f-len
 returns-then-f-len c = record {
   config = refl;
+  touched = touched_same refl;
   past = λ p keeps.
       let is = keeps.jobs.live c.args.job c.in-Some.found.now (sym c.in-Some.ensures) in
       let within = is.function in
@@ -23,6 +25,7 @@ returns-then-f-len c = record {
 pub returns-then-not-has_place : goal.returns-then-not-has_place
 returns-then-not-has_place c = record {
   config = refl;
+  touched = touched_same refl;
   past = λ p keeps.
       let at = sym c.in-Some.ensures in
       let functions = c.args.self.now.functions in

@@ -4,16 +4,18 @@ use Rattle.gm_notes.specs.declared.states.Priority.{Priority}
 use Rattle.gm_queues.specs.Queues.{without_place}
 use Rattle.gm_queues.specs.Tables.{ChangesQueue}
 use Rattle.gm_jobs.specs.Live.{Live}
+use Rattle.gm_tables.proofs.ConnLemmas.{touched_same}
 use Rattle.gm_tables.specs.Facts.{conn_facts, function_facts}
 use Rattle.gm_tables.proofs.FunctionLemmas.{some_same}
 use Rattle.gm_tables.proofs.AssignLemmas.{functions_popped, conns_popped}
 use Rattle.gm_tables.proofs.WorkLemmas.{running}
-use Rattle.gm_tables.proofs.OverLemmas.{jobs_ended}
+use Rattle.gm_tables.proofs.OverLemmas.{jobs_ended, others_stay}
 use Rattle.gm_tables.proofs.server.Core.end.Goals as goal
 
-pub returns-in-Some : goal.returns-in-Some
-returns-in-Some c = record {
+pub returns-in-Some-clause-goes : goal.returns-in-Some-clause-goes
+returns-in-Some-clause-goes c = record {
   config = refl;
+  touched = touched_same refl;
   past = λ past keeps.
       let old = c.args.self.now in
       let it = running old.jobs c.args.job c.requires in
@@ -30,3 +32,6 @@ returns-in-Some c = record {
         mode = keeps.mode;
       };
 }
+
+pub returns-in-Some-clause-jobs : goal.returns-in-Some-clause-jobs
+returns-in-Some-clause-jobs c = others_stay c.args.job c.args.self.now.jobs c.end.new.self c.end.ensures

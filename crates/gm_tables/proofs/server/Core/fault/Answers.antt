@@ -7,8 +7,8 @@ use Rattle.gm_notes.specs.Texts.{fault_text}
 use Rattle.gm_tables.proofs.CoreLemmas.{goes_then, goes_shut, agrees_next, none_made}
 use Rattle.gm_tables.proofs.server.Core.fault.Goals as goal
 
-pub returns : goal.returns
-returns c k steps agrees =
+pub returns-clause-answers : goal.returns-clause-answers
+returns-clause-answers c k steps agrees =
     let slot = c.args.slot in
     let text = fault_text c.args.fault in
     let taken : refusal k (Fault slot c.args.fault) (run k steps) ≡ None =

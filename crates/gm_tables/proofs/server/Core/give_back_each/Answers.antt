@@ -2,6 +2,7 @@ use Rattle.std.proofs.Common.{refl, subst, ◌∙◌}
 use Rattle.gm_notes.specs.Settings.{Settings}
 use Rattle.gm_notes.specs.Closings.{give_back_each, give_back_one}
 use Rattle.gm_jobs.specs.Live.{is_run_by}
+use Rattle.gm_tables.proofs.ConnLemmas.{touched_same, touched_then}
 use Rattle.gm_tables.specs.Holds.{Keeps}
 use Rattle.gm_tables.proofs.ClosingLemmas.{give_back_made}
 use Rattle.gm_tables.proofs.RisingLemmas.{rising_begins, rising_on, rising_done, runs_on}
@@ -13,6 +14,7 @@ loop-job-init c =
     let slot = c.args.slot in
     record {
       config = refl;
+      touched = touched_same refl;
       past = λ past keeps. rising_begins (give_back_each k slot) (give_back_one k slot) (λ p. refl) (λ n jobs p. refl) c.args.self.now past 0 keeps.jobs.begins keeps;
     }
 
@@ -23,6 +25,7 @@ loop-job-preserved c =
     let n = c.in-Some.job in
     record {
       config = c.give_back_one.ensures.config ∙ c.loop-job.invariant.config;
+      touched = touched_then c.loop-job.invariant.touched c.give_back_one.ensures.touched;
       past = λ past keeps.
           let t = c.loop-job.invariant.past past keeps in
           rising_on (give_back_each k slot) (give_back_one k slot) (λ p. refl) (λ n jobs p. refl) (is_run_by slot) c.args.self.now c.loop-job.self c.loop-job.invariant.config c.loop-job.after past t
@@ -36,6 +39,7 @@ returns c =
     let slot = c.args.slot in
     record {
       config = c.loop-job.invariant.config;
+      touched = c.loop-job.invariant.touched;
       past = λ past keeps.
           let t = c.loop-job.invariant.past past keeps in
           rising_done (give_back_each k slot) (give_back_one k slot) (λ p. refl) (λ n jobs p. refl) (is_run_by slot) c.args.self.now c.loop-job.self c.loop-job.invariant.config c.loop-job.after past t

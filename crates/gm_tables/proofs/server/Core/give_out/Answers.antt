@@ -6,6 +6,7 @@ use Rattle.gm_queues.specs.Queues.{without_first}
 use Rattle.gm_queues.specs.Tables.{ChangesQueue}
 use Rattle.gm_jobs.specs.Live.{Live, assigned}
 use Rattle.gm_jobs.specs.Tables.{Changes}
+use Rattle.gm_tables.proofs.ConnLemmas.{touched_same}
 use Rattle.gm_tables.specs.Facts.{conn_facts, function_facts}
 use Rattle.gm_tables.proofs.FunctionLemmas.{some_same}
 use Rattle.gm_tables.proofs.AssignLemmas.{jobs_assigned, functions_popped, conns_popped}
@@ -15,6 +16,7 @@ use Rattle.gm_tables.proofs.server.Core.give_out.Goals as goal
 pub returns : goal.returns
 returns c = record {
   config = refl;
+  touched = touched_same refl;
   past = λ past keeps.
       let old = c.args.self.now in
       let n = c.args.found.job in

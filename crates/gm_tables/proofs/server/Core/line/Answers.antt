@@ -8,14 +8,14 @@ use Rattle.gm_tables.proofs.CoreLemmas.{agrees_next, agrees_wanting, none_made}
 use Rattle.gm_tables.proofs.CommandLemmas.{command_made}
 use Rattle.gm_tables.proofs.server.Core.line.Goals as goal
 
-pub returns-in_err-command : goal.returns-in_err-command
-returns-in_err-command c k steps agrees =
+pub returns-in_err-command-clause-answers : goal.returns-in_err-command-clause-answers
+returns-in_err-command-clause-answers c k steps agrees =
     let taken : refusal k (Line c.args.slot c.args.bytes.now) (run k steps) ≡ None =
     ap unless_not_open (sym (c.takes_units.ensures.value (run k steps) agrees.past) ∙ c.if-not-takes_units.false) in
     agrees_wanting k steps (Line c.args.slot c.args.bytes.now) c.from_residual.result c.from_residual.ensures taken agrees c.in_err-command.ensures
 
-pub returns : goal.returns
-returns c k steps agrees =
+pub returns-clause-answers : goal.returns-clause-answers
+returns-clause-answers c k steps agrees =
     let past = run k steps in
     let taken : refusal k (Line c.args.slot c.args.bytes.now) (run k steps) ≡ None =
     ap unless_not_open (sym (c.takes_units.ensures.value (run k steps) agrees.past) ∙ c.if-not-takes_units.false) in

@@ -9,8 +9,8 @@ use Rattle.gm_tables.proofs.CoreLemmas.{agrees_next, agrees_kept, goes_nothing, 
 use Rattle.gm_tables.proofs.OpenLemmas.{welcomed, slot_found, no_slot, refused, is_err, goes_opened}
 use Rattle.gm_tables.proofs.server.Core.open.Goals as goal
 
-pub returns-in_err-slot : goal.returns-in_err-slot
-returns-in_err-slot c k steps agrees =
+pub returns-in_err-slot-clause-answers : goal.returns-in_err-slot-clause-answers
+returns-in_err-slot-clause-answers c k steps agrees =
     let past = run k steps in
     let e = c.in_err-slot.field-0.0 in
     let goes : welcomes (mode past.notes) ≡ true = ap welcomes (sym agrees.past.mode) ∙ (sym c.welcomes.ensures ∙ c.if-not-welcomes.false) in
@@ -18,8 +18,8 @@ returns-in_err-slot c k steps agrees =
     (no_slot c.args.self.now k past agrees.settings agrees.past e c.in_err-slot.ensures.refusal (λ is. c.in_err-slot.ensures.full.0 (ap Err is)) (λ full. is_err (c.in_err-slot.ensures.full.1 full)) goes)
     (agrees_kept k steps agrees (goes_nothing refl c.in_err-slot.ensures.err refl refl refl refl))
 
-pub returns : goal.returns
-returns c k steps agrees =
+pub returns-clause-answers : goal.returns-clause-answers
+returns-clause-answers c k steps agrees =
     let past = run k steps in
     let slot = c.in_ok-slot.slot in
     let addr = c.args.addr.now in

@@ -1,5 +1,6 @@
 use Rattle.std.proofs.Common.{◌+◌, ◌-◌, sym, subst, ◌∙◌, arith}
 use Rattle.gm_notes.specs.Lines.{shut_one}
+use Rattle.gm_tables.proofs.ConnLemmas.{touched_then}
 use Rattle.gm_tables.specs.Holds.{Keeps}
 use Rattle.gm_tables.proofs.CommandLemmas.{shut_next, shut_none}
 use Rattle.gm_tables.proofs.server.Core.shut_each.Goals as goal
@@ -10,6 +11,7 @@ loop-slot-preserved c =
     let end = c.slots-slot-end.ensures.value in
     record {
       config = c.shut_one.ensures.config ∙ c.loop-slot.invariant.config;
+      touched = touched_then c.loop-slot.invariant.touched c.shut_one.ensures.touched;
       past = λ past keeps.
           let t = c.loop-slot.invariant.past past keeps in
           record {
@@ -23,6 +25,7 @@ loop-slot-preserved c =
 pub returns : goal.returns
 returns c = record {
   config = c.loop-slot.invariant.config;
+  touched = c.loop-slot.invariant.touched;
   past = λ past keeps.
       let t = c.loop-slot.invariant.past past keeps in
       let done = shut_none c.loop-slot.slot (c.args.self.now.config.slots - c.loop-slot.slot) t.now (omega (arith, c.loop-slot-test.false, c.slots-slot-end.ensures.value)) in

@@ -6,8 +6,8 @@ use Rattle.gm_notes.specs.Steps.{Took, refusal, run}
 use Rattle.gm_tables.proofs.CoreLemmas.{agrees_next, goes_took, open_is, phase_is}
 use Rattle.gm_tables.proofs.server.Core.take_noop.Goals as goal
 
-pub returns : goal.returns
-returns c k steps agrees =
+pub returns-clause-answers : goal.returns-clause-answers
+returns-clause-answers c k steps agrees =
     let opens = sym c.is_open.ensures.value ∙ c.if-not-is_open.false in
     let opened : is_open c.args.slot (run k steps).notes ≡ true = open_is agrees.past c.args.slot opens in
     let owed : is_owed (phase c.args.slot (run k steps).notes) ≡ true =

@@ -1,4 +1,5 @@
 use Rattle.std.proofs.Common.{◌+◌, ◌≤◌, refl, arith}
+use Rattle.gm_tables.proofs.ConnLemmas.{touched_then}
 use Rattle.gm_tables.proofs.WakeLemmas.{waking_on, waking_done}
 use Rattle.gm_tables.proofs.CoreLemmas.{goes_woken}
 use Rattle.gm_tables.proofs.server.Core.wake.Goals as goal
@@ -11,6 +12,7 @@ loop-slot-preserved c =
     let goes = goes_woken c.in-Some.slot (record { config = refl; functions = refl; jobs = refl; moment = refl; mode = refl }) c.set_phase.ensures in
     record {
       config = c.loop-slot.invariant.config;
+      touched = touched_then c.loop-slot.invariant.touched goes.touched;
       functions = c.loop-slot.invariant.functions;
       most = most;
       past = λ past keeps.
@@ -21,6 +23,7 @@ loop-slot-preserved c =
 pub returns : goal.returns
 returns c = record {
   config = c.loop-slot.invariant.config;
+  touched = c.loop-slot.invariant.touched;
   past = λ past keeps.
       waking_done c.args.self.now c.loop-slot.self c.args.f c.loop-slot.from c.loop-slot.invariant.config c.loop-slot.invariant.functions c.requires past (c.loop-slot.invariant.past past keeps)
       c.in_default.ensures.none;
