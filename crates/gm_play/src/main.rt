@@ -12,6 +12,8 @@ mod memory;
 mod order;
 mod playing;
 #[cfg(test)]
+mod random;
+#[cfg(test)]
 mod rows;
 mod stop;
 #[cfg(test)]

@@ -25,7 +25,7 @@ fn front_of(alloc: Global, settings: PlaySettings) -> Result<Front<PlainServer>,
 
 // Slot 0 is open.
 fn opened(alloc: Global) -> Result<Front<PlainServer>, Fail> {
-    let settings = settings_of(alloc, USUAL)?;
+    let settings = settings_of(alloc, USUAL, true)?;
     let mut front = front_of(alloc, settings)?;
     front.step(Input::Open(b"127.0.0.1"))?;
     Ok(front)

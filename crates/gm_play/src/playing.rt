@@ -16,6 +16,7 @@ use gm_core::Front;
 use gm_feeder::Limits;
 use gm_notes::{Config, JobServer};
 use gm_plain::PlainServer;
+use gm_tables::Core;
 use std::alloc::Global;
 use std::hash::RandomState;
 use std::io::{ErrorKind, Read, Write};
@@ -30,7 +31,7 @@ pub struct PlaySettings {
     pub config: Config,
     /// How large a unit may be.
     pub limits: Limits,
-    /// Whether the plain server is used.
+    /// Whether the plain server is used, in place of the one on tables.
     pub plain: bool,
 }
 
@@ -124,7 +125,7 @@ pub fn play_on<S: JobServer + Drop, R: Read, W: Write>(
 /// error isn't said.
 pub fn play<R: Read, W: Write>(
     alloc: Global,
-    _seed: RandomState,
+    seed: RandomState,
     settings: PlaySettings,
     reader: &mut R,
     writer: &mut W,
@@ -138,9 +139,13 @@ pub fn play<R: Read, W: Write>(
     let PlaySettings {
         config,
         limits,
-        plain: _,
+        plain,
     } = settings;
     let slots = config.slots();
-    let server = PlainServer::new(alloc, config)?;
+    if plain {
+        let server = PlainServer::new(alloc, config)?;
+        return play_on(alloc, server, limits, slots, reader, writer);
+    }
+    let server = Core::new(alloc, seed, config)?;
     play_on(alloc, server, limits, slots, reader, writer)
 }

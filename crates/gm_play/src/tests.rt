@@ -28,7 +28,7 @@ pub fn same<T: PartialEq + Debug>(rt: &impl Abort, at: &str, got: &T, wanted: &T
 }
 
 // The settings that terms say.
-pub fn settings_of(alloc: Global, terms: Terms) -> Result<PlaySettings, Fail>
+pub fn settings_of(alloc: Global, terms: Terms, plain: bool) -> Result<PlaySettings, Fail>
     ensures { IfOk result (λ settings. settings.limits.max_bytes ≤ 1073741824) }
 {
     let name = Vec::from_slice(alloc, b"gmd")?;
@@ -39,28 +39,34 @@ pub fn settings_of(alloc: Global, terms: Terms) -> Result<PlaySettings, Fail>
             max_bytes: 67_108_864,
             max_line: 1024,
         },
-        plain: true,
+        plain,
     })
 }
 
-// What comes of a script. That nothing is said of it here keeps the tests' proofs short.
+// What comes of a script on one of the two servers. That nothing is said of it here keeps the tests' proofs short.
 fn outcome<R: Read, W: Write>(
     rt: &HostRuntime,
     terms: Terms,
+    plain: bool,
     reader: &mut R,
     writer: &mut W,
 ) -> Result<Result<(), PlayError>, Fail> {
     let alloc = rt.alloc();
     let seed = RandomState::new(rt)?;
-    let settings = settings_of(alloc, terms)?;
+    let settings = settings_of(alloc, terms, plain)?;
     Ok(play(alloc, seed, settings, reader, writer))
 }
 
 // What a script prints.
-fn printed_by(rt: &HostRuntime, terms: Terms, script: &[u8]) -> Result<Vec<u8>, Fail> {
+pub fn printed_by(
+    rt: &HostRuntime,
+    terms: Terms,
+    plain: bool,
+    script: &[u8],
+) -> Result<Vec<u8>, Fail> {
     let mut reader = script;
     let mut out = Vec::new(rt.alloc());
-    outcome(rt, terms, &mut reader, &mut out)??;
+    outcome(rt, terms, plain, &mut reader, &mut out)??;
     Ok(out)
 }
 
@@ -119,23 +125,23 @@ fn say_the_same(alloc: Global, one: &str, other: &str) -> Result<bool, AllocErro
 }
 
 // Whether a row prints what it should.
-fn prints(rt: &HostRuntime, row: &Row) -> Result<bool, Fail> {
-    let out = printed_by(rt, row.terms, row.script.as_bytes())?;
+fn prints(rt: &HostRuntime, row: &Row, plain: bool) -> Result<bool, Fail> {
+    let out = printed_by(rt, row.terms, plain, row.script.as_bytes())?;
     Ok(out.as_slice() == row.printed.as_bytes())
 }
 
 // Whether a row says the same byte by byte.
-fn prints_bytewise(rt: &HostRuntime, row: &Row) -> Result<bool, Fail> {
+fn prints_bytewise(rt: &HostRuntime, row: &Row, plain: bool) -> Result<bool, Fail> {
     let script = bytewise(rt.alloc(), row.script)?;
-    let out = printed_by(rt, row.terms, &script)?;
+    let out = printed_by(rt, row.terms, plain, &script)?;
     let same = say_the_same(rt.alloc(), str::from_utf8(&out)?, row.printed)?;
     Ok(same)
 }
 
 // The first row that prints something else than it should, whole or byte by byte.
-fn wrong_row(rt: &HostRuntime, rows: &[Row]) -> Result<Option<&'static str>, Fail> {
+fn wrong_row(rt: &HostRuntime, rows: &[Row], plain: bool) -> Result<Option<&'static str>, Fail> {
     for row in rows {
-        if !prints(rt, row)? || !prints_bytewise(rt, row)? {
+        if !prints(rt, row, plain)? || !prints_bytewise(rt, row, plain)? {
             return Ok(Some(row.name));
         }
     }
@@ -145,8 +151,10 @@ fn wrong_row(rt: &HostRuntime, rows: &[Row]) -> Result<Option<&'static str>, Fai
 #[test]
 fn rows(rt: HostRuntime) -> Result<(), Fail> {
     for rows in all() {
-        let wrong = wrong_row(&rt, rows)?;
+        let wrong = wrong_row(&rt, rows, false)?;
         same(&rt, "rows", &wrong, &None);
+        let wrong = wrong_row(&rt, rows, true)?;
+        same(&rt, "rows on the plain server", &wrong, &None);
     }
     Ok(())
 }
@@ -155,7 +163,7 @@ fn rows(rt: HostRuntime) -> Result<(), Fail> {
 fn printed_bytes(rt: &HostRuntime, byte: u8, len: u64) -> Result<Result<usize, PlayError>, Fail> {
     let mut out = Vec::new(rt.alloc());
     let mut reader = io::repeat(byte).take(len);
-    match outcome(rt, USUAL, &mut reader, &mut out)? {
+    match outcome(rt, USUAL, false, &mut reader, &mut out)? {
         Ok(()) => Ok(Ok(out.len())),
         Err(error) => Ok(Err(error)),
     }
@@ -198,7 +206,13 @@ impl Read for BrokenReader {
 #[test]
 fn reader_fails(rt: HostRuntime) -> Result<(), Fail> {
     let mut out = Vec::new(rt.alloc());
-    let outcome = outcome(&rt, USUAL, &mut BrokenReader { given: false }, &mut out)?;
+    let outcome = outcome(
+        &rt,
+        USUAL,
+        false,
+        &mut BrokenReader { given: false },
+        &mut out,
+    )?;
     same(&rt, "reader", &outcome, &Err(PlayError::Read));
     Ok(())
 }
@@ -227,7 +241,7 @@ impl Write for BrokenWriter {
 // What comes of two openings where there is room for so many bytes.
 fn outcome_in(rt: &HostRuntime, room: usize) -> Result<Result<(), PlayError>, Fail> {
     let mut script = b"open a\nopen b".as_slice();
-    outcome(rt, USUAL, &mut script, &mut BrokenWriter { room })
+    outcome(rt, USUAL, false, &mut script, &mut BrokenWriter { room })
 }
 
 #[test]
