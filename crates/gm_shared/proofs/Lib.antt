@@ -1,0 +1,5 @@
+mod SlotLemmas
+mod Phases
+mod Noops
+mod Following
+mod Applying
