@@ -1,5 +1,4 @@
 pub mod AbilityLemmas
-pub mod Closings
 pub mod Commands
 pub mod Counting
 pub mod Dues
@@ -12,6 +11,4 @@ pub mod NoteLemmas
 pub mod Picks
 pub mod PlainLemmas
 pub mod PlainLoops
-pub mod ServingLemmas
-pub mod Ticks
 pub mod Wakings

@@ -11,7 +11,8 @@ use Rattle.gm_notes.specs.Notes.{is_open}
 use Rattle.gm_notes.specs.Jobs.{Job, job, report, listeners}
 use Rattle.gm_plain.specs.declared.jobs.Submitted.{Submitted}
 use Rattle.gm_plain.specs.Searches.{job_of, heard}
-use Rattle.gm_plain.specs.Logs.{AllFit, AreNumbers, IsCarried}
+use Rattle.gm_plain.specs.Logs.{AllFit}
+use Rattle.gm_requests.specs.Carried.{AreNumbers, IsCarried}
 
 -- ---- slots
 

@@ -31,8 +31,9 @@ use Rattle.gm_notes.specs.Servers.{IsRefusal, Answers, steps_after}
 use Rattle.gm_notes.specs.Closings.{wake_for}
 use Rattle.gm_plain.proofs.NoteLemmas.{self}
 use Rattle.gm_plain.specs.Holds.{Holds, Agrees, Changes, unless_wanting, wake_one_for}
-use Rattle.gm_notes.specs.Steps.{Step, unless, refusal, if_free, if_welcome, unless_not_open, made_since}
+use Rattle.gm_notes.specs.Steps.{Step, refusal, if_free, if_welcome, unless_not_open}
 use Rattle.gm_notes.specs.Steps.{run, add}
+use Rattle.gm_requests.proofs.JobsMade.{run_taken}
 
 -- ---- one change after another
 
@@ -116,19 +117,11 @@ holds_drained notes lanes past slot holds lt =
 
 -- ---- steps
 
--- a step that is taken adds what it adds
-pub run_taken : (k : Settings) (s : Step) (steps : List Step) → refusal k s (run k steps) ≡ None → run k (s ∷ steps) ≡ add k s (run k steps)
-run_taken k s steps taken = ap (λ o. unless o (add k s (run k steps)) (run k steps)) taken
-
 -- who takes new connections and has a free slot
 pub welcome : (m : Mode) (o : Option ℕ) (slot : ℕ) → welcomes m ≡ true → o ≡ Some slot → if_welcome m o ≡ None
 welcome modes.Running o slot goes free = ap if_free free
 welcome modes.Graceful o slot goes free = absurd cc
 welcome modes.Stopped o slot goes free = absurd cc
-
--- no job was made where there are as many
-pub none_made : (jobs : List ℕ) → made_since jobs jobs ≡ None
-none_made jobs = let same : (length jobs == length jobs) ≡ true = grind (arith, nat_tests) in rw same refl
 
 -- ---- requests
 

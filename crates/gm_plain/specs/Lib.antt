@@ -2,6 +2,4 @@ pub mod Holds
 pub mod Lanes
 pub mod Listings
 pub mod Logs
-pub mod Refusals
 pub mod Searches
-pub mod Serving

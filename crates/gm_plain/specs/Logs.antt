@@ -1,13 +1,12 @@
 -- The notes as a plain server keeps them: what fits among them, and the room for those that must come without memory.
 use Rattle.std.specs.Prelude.{◌≡◌, ℕ, zero, suc, ◌+◌, ◌<◌, ◌≤◌, ◌^◌, Bool, true, false, List, [], ◌∷◌, length}
-use Rattle.std.specs.List.{join_with_byte}
-use Rattle.gm_packet.specs.Requests.{LackNul}
 use Rattle.gm_notes.specs.declared.states.Phase.{Phase}
 use Rattle.gm_notes.specs.declared.states.Phase.TheVariants.{Awake, Asleep, Owed}
 use Rattle.gm_notes.specs.declared.note.Note.{Note}
 use Rattle.gm_notes.specs.declared.note.Note.TheVariants.{Opened, Closed, Slept, Woken, Stirred, Took, Withdrew, Made, Listens, Assigned, Returned, Ended, Discarded, Report}
 use Rattle.gm_notes.specs.Notes.{is_open, phase, is_asleep, is_owed}
 use Rattle.gm_notes.specs.Jobs.{Spot, Unmade, Waits, RunsAt, Over, Thrown, spot, is_waiting, is_running, is_live, made}
+use Rattle.gm_requests.specs.Carried.{IsCarried, AreNumbers}
 
 -- the notes, the newest first; the number of slots; the first job's number; and for how many notes that events
 -- find memory for there is some
@@ -16,16 +15,6 @@ pub record Logged : Type 0 where
   pub slots : ℕ
   pub first : ℕ
   pub free : ℕ
-
--- a function, a unique id and a body that came in one packet: a packet can carry them again, with a handle
-pub record IsCarried (function unique body : List ℕ) : Type 0 where
-  pub separable : LackNul 2 (function ∷ unique ∷ body ∷ [])
-  pub sized : length (join_with_byte 0 (function ∷ unique ∷ body ∷ [])) ≤ 1073741824
-
--- a numerator and a denominator that a packet can carry, with a handle
-pub record AreNumbers (numerator denominator : List ℕ) : Type 0 where
-  pub separable : LackNul 1 (numerator ∷ denominator ∷ [])
-  pub sized : length (join_with_byte 0 (numerator ∷ denominator ∷ [])) ≤ 1073741824
 
 -- what a note names can be answered to: slots that there are, and texts that a packet can carry
 abbrev pub NoteFits : ℕ → Note → Type 0

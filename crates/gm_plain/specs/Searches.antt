@@ -6,7 +6,6 @@ use Rattle.gm_notes.specs.declared.states.Place.{Place}
 use Rattle.gm_notes.specs.declared.note.Note.{Note}
 use Rattle.gm_notes.specs.declared.note.Note.TheVariants.{Opened, Closed, Can, Cant, Reset, Made, Listens, Returned, Mention}
 use Rattle.gm_plain.specs.declared.jobs.Submitted.{Submitted}
-use Rattle.gm_plain.specs.declared.jobs.Report.{Report}
 use Rattle.gm_plain.specs.declared.abilities.Ability.{Ability as FoundAbility}
 use Rattle.gm_plain.specs.declared.abilities.Choice.{Choice}
 use Rattle.gm_notes.specs.Notes.{last_said, said_of, is_open, phase, is_asleep}
@@ -72,10 +71,6 @@ says_listening n c note = None
 
 abbrev pub is_listening : ℕ → ℕ → List Note → Bool
 is_listening n c notes = last_said (says_listening n c) false notes
-
--- how far a job is, wherever the bytes lie
-abbrev pub report_of : Report → List ℕ × List ℕ
-report_of found = (found.numerator.now, found.denominator.now)
 
 -- whether the worker in slot c is woken by such a job
 abbrev pub wakes_for : ℕ → Option Job → List Note → Bool

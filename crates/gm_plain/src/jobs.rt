@@ -6,15 +6,17 @@ ghost use Rattle.std.specs.List.{All};
 ghost use Rattle.gm_notes.specs.Jobs.{says_spot, spot, is_live, is_waiting, is_running, is_running_at, says_job, job, says_kept, is_kept, listeners, is_wanted, says_report, report, is_job_of, is_job_with, is_job_named, made, functions, is_mentioned, says_limit, limit, joins, is_live_named, joined, next_number, is_live_of, total, running, says_deadline, deadline};
 ghost use Rattle.gm_notes.specs.Closings.{is_reached};
 ghost use Rattle.gm_notes.specs.Notes.{moment};
-ghost use Rattle.gm_plain.specs.Logs.{IsCarried, AreNumbers};
+ghost use Rattle.gm_requests.specs.Actions.{report_of};
+ghost use Rattle.gm_requests.specs.Carried.{IsCarried, AreNumbers};
 ghost use Rattle.gm_notes.specs.Steps.{newest};
-ghost use Rattle.gm_notes.specs.Submissions.{is_bad_name, is_one_too_many, is_full};
+ghost use Rattle.gm_notes.specs.Submissions.{is_one_too_many, is_full};
 ghost use Rattle.gm_notes.specs.Servers.{place_of};
-ghost use Rattle.gm_plain.specs.Searches.{said_place, mentions, job_of, heard, says_listening, is_listening, report_of, is_running_of};
+ghost use Rattle.gm_plain.specs.Searches.{said_place, mentions, job_of, heard, says_listening, is_listening, is_running_of};
 
 use crate::log::Log;
 use crate::questions::moment;
 use gm_notes::{Config, Note, Place, Priority};
+use gm_requests::Report;
 use std::alloc::{AllocError, Global};
 
 fn says_place(note: &Note, job: u64) -> Option<Place>
@@ -224,13 +226,6 @@ pub fn is_wanted(log: &Log, job: u64) -> bool
     ensures { result ≡ is_wanted job log.now.notes }
 {
     is_kept(log, job) || is_heard(log, job)
-}
-
-/// How far a job is.
-#[derive(Clone, Copy, Debug)]
-pub struct Report<'a> {
-    pub numerator: &'a [u8],
-    pub denominator: &'a [u8],
 }
 
 fn says_report(note: &Note, job: u64) -> Option<Report<'_>>
@@ -563,11 +558,4 @@ pub fn is_one_too_many(log: &Log, config: &Config, function: &[u8]) -> bool
     ensures { result ≡ is_one_too_many config.now function.now log.now.notes }
 {
     !is_mentioned(log, function) && config.max_functions() as usize <= count_functions(log)
-}
-
-/// Whether a function's name is empty, or has over 512 bytes.
-pub fn is_bad_name(function: &[u8]) -> bool
-    ensures { result ≡ is_bad_name function.now }
-{
-    function.is_empty() || function.len() > 512
 }

@@ -1,27 +1,18 @@
 //! The bytes that wait for each slot.
 
-ghost use Rattle.std.specs.Prelude.{◌≡◌, ℕ, ◌+◌, ◌*◌, ◌<◌, ◌≤◌, ◌++◌, [], ◌∷◌, length, replicate, slice_set, IfOk, OnOk, OnErr};
+ghost use Rattle.std.specs.Prelude.{◌≡◌, ℕ, ◌+◌, ◌*◌, ◌<◌, ◌≤◌, ◌++◌, [], length, replicate, slice_set, IfOk, OnOk, OnErr};
 ghost use Rattle.std.specs.List.{All, slice_index_or};
 ghost use Rattle.gm_plain.specs.Lanes.{bytes_of, room_at, given, given_all};
 ghost use Rattle.gm_packet.specs.Answers.{answer_of};
-ghost use Rattle.gm_packet.specs.Writing.{Fits, answer_packet, error};
+ghost use Rattle.gm_packet.specs.Writing.{Fits, answer_packet};
 ghost use Rattle.gm_notes.specs.Texts.{fault_text};
 
-use gm_admin::AdminError;
 use gm_notes::UnitFault;
 use gm_packet::{Response, write_response};
+use gm_requests::append_fault;
 use std::alloc::{AllocError, Global};
 use std::marker::Model;
 use std::mem;
-
-/// Appends an ERROR packet; want of memory leaves the bytes as they were.
-fn write_error(code: &[u8], text: &[u8], out: &mut Vec<u8>) -> Result<(), AllocError>
-    requires { Fits (code.now ∷ text.now ∷ []) }
-    ensures ok { OnOk result (out.new.items ≡ out.old.items ++ answer_packet (error code.now text.now)) }
-    ensures err { OnErr result (out.new.items ≡ out.old.items) }
-{
-    write_response(&Response::Error { code, text }, out)
-}
 
 /// Appends a text; want of memory leaves the bytes as they were.
 fn append(text: &[u8], out: &mut Vec<u8>) -> Result<(), AllocError>
@@ -40,18 +31,6 @@ fn copy_each(alloc: Global, lanes: &[Vec<u8>]) -> Result<Vec<Vec<u8>>, AllocErro
         copy.push(Vec::from_slice(alloc, lane)?)?;
     }
     Ok(copy)
-}
-
-/// Appends what a fault prints; want of memory leaves the bytes as they were.
-fn write_fault(fault: UnitFault, out: &mut Vec<u8>) -> Result<(), AllocError>
-    ensures ok { OnOk result (out.new.items ≡ out.old.items ++ fault_text fault) }
-    ensures err { OnErr result (out.new.items ≡ out.old.items) }
-{
-    match fault {
-        UnitFault::BadMagic => write_error(b"bad_magic", b"bad magic", out),
-        UnitFault::PacketTooLarge => write_error(b"packet_too_large", b"packet too large", out),
-        UnitFault::LineTooLong => gm_admin::write_fault(AdminError::LineTooLong, out),
-    }
 }
 
 /// Finds room for so many bytes more in a lane.
@@ -174,7 +153,7 @@ impl Lanes {
         ensures len { length self.new ≡ length self.old }
     {
         let lane = &mut self.lanes[slot as usize];
-        write_fault(fault, lane)
+        append_fault(fault, lane)
     }
 
     /// Queues a response to each of these slots, once for each time that it stands there; want of memory

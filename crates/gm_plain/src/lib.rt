@@ -9,6 +9,5 @@ mod lists;
 mod log;
 mod plain;
 mod questions;
-mod refusal;
 
 pub use plain::PlainServer;

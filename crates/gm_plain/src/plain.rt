@@ -8,7 +8,7 @@ ghost use Rattle.gm_notes.specs.Past.{noted, flowed, print, give, refuse, tell_a
 ghost use Rattle.gm_notes.specs.Flow.{Began, Emptied};
 ghost use Rattle.gm_notes.specs.Texts.{fault_text};
 ghost use Rattle.std.specs.List.{All};
-ghost use Rattle.gm_plain.specs.Refusals.{code_of};
+ghost use Rattle.gm_requests.specs.Refusals.{code_of};
 
 mod closing;
 mod commanding;
@@ -23,9 +23,9 @@ use crate::jobs::place;
 use crate::lanes::Lanes;
 use crate::log::Log;
 use crate::questions::{is_open, is_owed, is_shut, mode};
-use crate::refusal::Refusal;
 use gm_notes::{ApplyError, Config, Done, Event, JobServer, Mode, Note, Place, UnitFault};
 use gm_packet::Response;
+use gm_requests::Refusal;
 use std::alloc::{AllocError, Global};
 
 /// The plain server: it keeps the list of all that has happened, and answers by searching it. It is for

@@ -1,5 +1,5 @@
 -- One change of a core after another, and the changes of its connections.
-use Rattle.std.proofs.Common.{◌≡◌, ◌≢◌, ℕ, Bool, true, false, ◌==◌, ◌&&◌, if◌then◌else◌, List, [], ◌∷◌, ◌++◌, length, map, filter, not, Option, Some, None, Result, Ok, Err, refl, sym, ap, subst, ◌∙◌, arith}
+use Rattle.std.proofs.Common.{◌≡◌, ◌≢◌, ℕ, Bool, true, false, ◌==◌, ◌&&◌, if◌then◌else◌, List, [], ◌∷◌, ◌++◌, length, map, filter, not, Option, Some, None, Result, Ok, Err, refl, sym, ap, subst, ◌∙◌}
 use Rattle.std.specs.Result.{IsErr, IsErrAnd, OnOk, OnErr}
 use Rattle.std.specs.Str.{bytes_eq}
 use Rattle.gm_tables.proofs.PositionLemmas.{position_within}
@@ -12,12 +12,11 @@ use Rattle.gm_notes.specs.Workers.{woken_if, sleep_beside}
 use Rattle.gm_queues.specs.Tables.{number_of, ChangesNames, IsFree}
 use Rattle.gm_tables.proofs.JobLemmas.{jobs_kept, jobs_listen}
 use Rattle.gm_tables.proofs.MentionLemmas.{Same, conns_mention, functions_mention, jobs_mention, functions_same, jobs_held_same}
-use Rattle.std.proofs.lemmas.Bool.Decides.{nat_tests}
 use Rattle.gm_notes.specs.declared.event.Done.{Done}
 use Rattle.gm_notes.specs.declared.event.ApplyError.{ApplyError}
 use Rattle.gm_notes.specs.declared.event.ApplyError.TheVariants.{Memory}
 use Rattle.gm_notes.specs.Settings.{Settings}
-use Rattle.gm_notes.specs.Steps.{Step, unless, refusal, made_since, run, add}
+use Rattle.gm_notes.specs.Steps.{Step, refusal, run, add}
 use Rattle.gm_notes.specs.Servers.{IsRefusal, Answers, steps_after}
 use Rattle.std.specs.declared.alloc.AllocError.{AllocError}
 use Rattle.gm_notes.specs.declared.states.Phase.TheVariants.{Awake, Asleep, Owed}
@@ -37,6 +36,7 @@ use Rattle.gm_tables.specs.Facts.{Seen, seen, conn_facts, function_facts, job_fa
 use Rattle.gm_tables.specs.Holds.{Holds, Keeps, AreFunctions, ability_named, shown, HoldsConns, HoldsFunctions, HoldsJobs, AllTouched, Goes, Does, CoreAgrees, pick_of}
 use Rattle.gm_tables.proofs.ConnLemmas.{touched_same, touched_then, touched_told, touched_apart, conn_changes, same_here, seen_same, phase_seen, shut_seen, option_seen, id_seen, can_seen, cant_seen}
 use Rattle.gm_tables.proofs.ConnLemmas as lemmas
+use Rattle.gm_requests.proofs.JobsMade.{run_taken}
 
 -- ---- one change after another
 
@@ -86,10 +86,6 @@ module _ {k : Settings} {connections : tables.Table} {mentioned : queues.Table} 
 
 -- ---- steps
 
--- a step that is taken adds what it adds
-pub run_taken : (k : Settings) (s : Step) (steps : List Step) → refusal k s (run k steps) ≡ None → run k (s ∷ steps) ≡ add k s (run k steps)
-run_taken k s steps taken = ap (λ o. unless o (add k s (run k steps)) (run k steps)) taken
-
 module _ {a b : Core} where
   pub agrees_next : (k : Settings) (steps : List Step) (s : Step) (f : Past → Past) → CoreAgrees a k steps → Goes a b f → refusal k s (run k steps) ≡ None
       → f (run k steps) ≡ add k s (run k steps) → CoreAgrees b k (s ∷ steps)
@@ -109,10 +105,6 @@ module _ {a b : Core} where
     subst (λ (x : ApplyError). IsRefusal x (refusal k s (run k steps))) (sym wanting.1) taken,
     agrees_kept k steps agrees goes,
   )
-
--- no job was made where there are as many
-pub none_made : (jobs : List ℕ) → made_since jobs jobs ≡ None
-none_made jobs = let same : (length jobs == length jobs) ≡ true = grind (arith, nat_tests) in rw same refl
 
 -- ---- changes of connections
 

@@ -10,7 +10,8 @@ use Rattle.gm_jobs.specs.Live.{Live, place_at}
 use Rattle.gm_jobs.specs.Tables.{Table, job, place, place_or, is_made}
 use Rattle.gm_tables.specs.Facts.{job_facts}
 use Rattle.gm_tables.specs.Holds.{spot_at, is_made_at, is_running_at_place, HoldsJobs}
-use Rattle.gm_tables.proofs.HandleTexts.{AllSmall, small_down, none_found, one_found, any_down}
+use Rattle.gm_requests.proofs.HandleTexts.{AllSmall, none_found, one_found}
+use Rattle.gm_tables.proofs.Ranges.{small_down, any_down}
 
 pub when_none : {A : Type 0} (B : ℕ → Type 0) (o : Option ℕ) → o ≡ None → MatchOption o A B → A
 when_none B None e held = held

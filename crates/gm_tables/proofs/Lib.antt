@@ -13,11 +13,10 @@ pub mod OpenLemmas
 pub mod OnceLemmas
 pub mod AssignLemmas
 pub mod GrabLemmas
-pub mod HandleTexts
+pub mod Ranges
 pub mod HandledLemmas
 pub mod CommandLemmas
 pub mod ListLemmas
-pub mod ServingLemmas
 pub mod PacketLemmas
 pub mod TellLemmas
 pub mod WorkLemmas
@@ -25,6 +24,5 @@ pub mod OverLemmas
 pub mod CloseLemmas
 pub mod EndLemmas
 pub mod LeaveLemmas
-pub mod ClosingLemmas
 pub mod RisingLemmas
 pub mod TickLemmas

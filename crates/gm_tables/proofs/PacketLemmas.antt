@@ -6,38 +6,24 @@ use Rattle.std.proofs.lemmas.Bool.Decides.{nat_tests}
 use Rattle.gm_packet.specs.declared.kind.Kind.{Kind}
 use Rattle.gm_packet.specs.declared.kind.Kind.TheVariants.{CanDo, CantDo, ResetAbilities, PreSleep, SubmitJob, GrabJob, WorkStatus, WorkComplete, WorkFail, GetStatus, EchoReq, SubmitJobBg, SubmitJobHigh, SetClientId, CanDoTimeout, AllYours, WorkException, OptionReq, WorkData, WorkWarning, GrabJobUniq, SubmitJobHighBg, SubmitJobLow, SubmitJobLowBg}
 use Rattle.gm_packet.specs.Requests.{Asked, read_as}
-use Rattle.gm_packet.specs.Writing.{Answer, option_res, status_res, work_status, work_complete, work_fail, work_data, work_warning, work_exception}
-use Rattle.gm_notes.specs.declared.note.Note.TheVariants.{Mention, Made, Kept, Listens, OptionSet, Can, Cant, Slept, Woken, Stirred, Assigned}
+use Rattle.gm_packet.specs.Writing.{option_res, status_res, work_status, work_complete, work_fail, work_data, work_warning, work_exception}
+use Rattle.gm_notes.specs.declared.note.Note.TheVariants.{Mention, Made, Kept, Listens, OptionSet, Can, Cant, Slept, Assigned}
 use Rattle.gm_notes.specs.declared.states.Priority.TheVariants.{High, Normal, Low}
 use Rattle.gm_notes.specs.Settings.{Settings}
-use Rattle.gm_notes.specs.Notes.{phase, is_asleep, is_awake, moment, slots_from}
+use Rattle.gm_notes.specs.Notes.{phase, is_awake, moment, slots_from}
 use Rattle.gm_notes.specs.Jobs.{Job, Pick, job, made, spot, is_mentioned, is_live, is_running, is_running_at, listeners, report, joined, next_number, handled, pick}
-use Rattle.gm_notes.specs.Past.{Past, noted, give, refuse, mentioned, tell_all, wake_one, wake_each}
+use Rattle.gm_notes.specs.Past.{Past, noted, give, refuse, mentioned, tell_all}
 use Rattle.gm_notes.specs.Submissions.{Submission, is_bad_name, is_one_too_many, is_full, wanted, make, join_or_make, submit}
 use Rattle.gm_notes.specs.Steps.{made_since}
 use Rattle.gm_notes.specs.Workers.{Work, woken_if, made_able, can_do, cant_do, sleep_beside, pre_sleep, stir, tell_assigned, give_out, grab, deadline_after, report_kept, ended_if, hearers, tell_work, work_on}
 use Rattle.gm_notes.specs.Requests.{first, second, third, submission, passing, ending, tell_status, set_option, request, request_if_read, packet_of}
+use Rattle.gm_requests.proofs.JobsMade.{either, stir_made, tell_made, wake_made}
 use Rattle.gm_tables.specs.Holds.{numbers_down}
 
 -- ---- what makes no job
 
-either : (t : Bool) (jobs : List ℕ) (a b : Past) → made a.notes ≡ jobs → made b.notes ≡ jobs → made (if t then a else b).notes ≡ jobs
-either true jobs a b x y = x
-either false jobs a b x y = y
-
 mentioned_made : (f : List ℕ) (past : Past) → made (mentioned f past).notes ≡ made past.notes
 mentioned_made f past = either (is_mentioned f past.notes) (made past.notes) past (noted (Mention f) past) refl refl
-
-wake_one_made : (f : List ℕ) (c : ℕ) (past : Past) → made (wake_one f c past).notes ≡ made past.notes
-wake_one_made f c past = either _ (made past.notes) (noted (Woken c) past) past refl refl
-
-wake_made : (f : List ℕ) (slots : List ℕ) (past : Past) → made (wake_each f slots past).notes ≡ made past.notes
-wake_made f [] past = refl
-wake_made f (c ∷ slots) past = wake_made f slots (wake_one f c past) ∙ wake_one_made f c past
-
-tell_made : (answer : Answer) (slots : List ℕ) (past : Past) → made (tell_all answer slots past).notes ≡ made past.notes
-tell_made answer [] past = refl
-tell_made answer (c ∷ slots) past = tell_made answer slots (give c answer past)
 
 woken_made : (t : Bool) (c : ℕ) (past : Past) → made (woken_if t c past).notes ≡ made past.notes
 woken_made true c past = refl
@@ -62,9 +48,6 @@ pre_sleep_made : (c : ℕ) (past : Past) → made (pre_sleep c past).notes ≡ m
 pre_sleep_made c past =
     let slept : Past = noted (Slept c) past in
     either (is_awake (phase c past.notes)) (made past.notes) (sleep_beside (pick c past.notes) c slept) past (beside_made (pick c past.notes) c slept) refl
-
-stir_made : (c : ℕ) (past : Past) → made (stir c past).notes ≡ made past.notes
-stir_made c past = either (is_asleep (phase c past.notes)) (made past.notes) (noted (Stirred c) past) past refl refl
 
 assigned_made : (k : Settings) (c : ℕ) (uniq : Bool) (n : ℕ) (found : Option Job) (past : Past) → made (tell_assigned k c uniq n found past).notes ≡ made past.notes
 assigned_made k c uniq n None past = refl

@@ -1,5 +1,5 @@
 -- Ticks, and jobs whose deadlines are reached.
-use Rattle.std.proofs.Common.{◌≡◌, ◌≢◌, ℕ, suc, ◌+◌, ◌<◌, ◌≤◌, Bool, true, false, ◌&&◌, if◌then◌else◌, List, [], ◌∷◌, ◌++◌, filter, length, drop, get_or, append_assoc, Option, Some, None, refl, sym, ap, subst, ◌∙◌, arith}
+use Rattle.std.proofs.Common.{◌≡◌, ◌≢◌, ℕ, suc, ◌+◌, ◌<◌, ◌≤◌, Bool, true, false, ◌&&◌, List, [], ◌∷◌, ◌++◌, filter, length, drop, get_or, append_assoc, Option, Some, None, refl, sym, ap, subst, ◌∙◌, arith}
 use Rattle.std.specs.Prelude.{is_some, IsSome, max}
 use Rattle.std.proofs.lemmas.Bool.{false≢true, and_parts}
 use Rattle.std.proofs.Math.Seq.{drop-cons}
@@ -8,10 +8,10 @@ use Rattle.gm_packet.specs.Writing.{work_fail, answer_packet}
 use Rattle.gm_notes.specs.declared.note.Note.TheVariants.{Ended, Now}
 use Rattle.gm_notes.specs.Settings.{Settings}
 use Rattle.gm_notes.specs.Notes.{moment}
-use Rattle.gm_notes.specs.Jobs.{Spot, Unmade, Waits, RunsAt, Over, Thrown, spot, made, is_running, deadline, listeners, handle}
+use Rattle.gm_notes.specs.Jobs.{Spot, Unmade, Waits, RunsAt, Over, Thrown, spot, is_running, deadline, listeners, handle}
 use Rattle.gm_notes.specs.Past.{Past, noted, tell_all}
 use Rattle.gm_notes.specs.Servers.{place_of}
-use Rattle.gm_notes.specs.Closings.{is_reached, expire_one, expire_each, rising, tick}
+use Rattle.gm_notes.specs.Closings.{is_reached, expire_one, expire_each, rising}
 use Rattle.gm_conns.specs.Tables.{conn}
 use Rattle.gm_conns.specs.Tables as conns
 use Rattle.gm_jobs.specs.Live.{Live, is_due, is_reached as is_past}
@@ -21,27 +21,10 @@ use Rattle.gm_tables.specs.declared.server.ticking.Late.{Late}
 use Rattle.gm_tables.specs.Holds.{spot_at, Keeps, AllTouched, Goes}
 use Rattle.gm_tables.specs.Telling.{hears, needed, IsRunning, Roomed, Poured}
 use Rattle.gm_tables.specs.Ticks.{AreLate, late_bytes, OthersStay}
+use Rattle.gm_requests.proofs.JobsMade.{expired_made}
 use Rattle.gm_tables.proofs.ConnLemmas.{touched_same, touched_then}
-use Rattle.gm_tables.proofs.TellLemmas.{told_notes, hears_roomed}
+use Rattle.gm_tables.proofs.TellLemmas.{hears_roomed}
 use Rattle.gm_tables.proofs.RisingLemmas.{Rising, rising_begins, rising_on, rising_done}
-
--- ---- ticks make no jobs
-
-either : (t : Bool) (jobs : List ℕ) (a b : Past) → made a.notes ≡ jobs → made b.notes ≡ jobs → made (if t then a else b).notes ≡ jobs
-either true jobs a b x y = x
-either false jobs a b x y = y
-
-pub expired_made : (k : Settings) (n : ℕ) (past : Past) → made (expire_one k n past).notes ≡ made past.notes
-expired_made k n past =
-    either (is_running (spot n past.notes) && is_reached (deadline n past.notes) (moment past.notes)) (made past.notes)
-    (noted (Ended n) (tell_all (work_fail (handle k n)) (listeners n past.notes) past)) past (ap made (told_notes (work_fail (handle k n)) (listeners n past.notes) past)) refl
-
-expire_made : (k : Settings) (jobs : List ℕ) (past : Past) → made (expire_each k jobs past).notes ≡ made past.notes
-expire_made k [] past = refl
-expire_made k (n ∷ jobs) past = expire_made k jobs (expire_one k n past) ∙ expired_made k n past
-
-pub tick_made : (k : Settings) (now : ℕ) (past : Past) → made (tick k now past).notes ≡ made past.notes
-tick_made k now past = expire_made k (rising past) (noted (Now (max now (moment past.notes))) past)
 
 -- ---- whose deadlines are reached
 

@@ -27,7 +27,6 @@ use Rattle.gm_jobs.specs.Tables as jobs
 use Rattle.gm_tables.specs.declared.server.Core.{Core}
 use Rattle.gm_notes.specs.Submissions.{Submission, wanted}
 use Rattle.gm_tables.specs.declared.server.abilities.Choice.{Choice}
-use Rattle.gm_tables.specs.declared.server.submitting.Submission.{Submission as Found}
 use Rattle.gm_tables.specs.Facts.{Seen, ConnFacts, FunctionFacts, JobFacts, conn_facts, function_facts, job_facts, queued, running_with}
 
 -- ---- connections
@@ -168,11 +167,6 @@ pick_of found = record { job = found.job; timeout = found.timeout }
 -- a sleeping worker is owed a NOOP at once if a job of the function waits
 abbrev pub woken_for : ℕ → List ℕ → Past → Past
 woken_for c f past = woken_if (is_asleep (phase c past.notes) && not (is_empty (waiting_for f past.notes))) c past
-
--- what is submitted, wherever its bytes lie
-abbrev pub submission_of : Found → Submission
-submission_of s =
-    record { function = s.function.now; unique = s.unique.now; body = s.body.now; priority = s.priority; background = s.background }
 
 -- a job is made, which somebody wants
 abbrev pub added : ℕ → Submission → ℕ → Past → Past

@@ -1,7 +1,6 @@
 pub mod Facts
 pub mod Holds
-pub mod Refusals
 pub mod Listings
 pub mod Telling
 pub mod Ticks
-pub mod Serving
+pub mod Spare

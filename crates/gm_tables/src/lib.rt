@@ -1,9 +1,6 @@
 //! A job server that answers from tables: what was proved of the abstract server is true of it.
 #![tactic(auto)]
 
-mod asked;
-mod handles;
-mod refusal;
 mod server;
 mod telling;
 

@@ -9,7 +9,7 @@ ghost use Rattle.gm_notes.specs.Settings.{Settings};
 ghost use Rattle.gm_notes.specs.Steps.{Step, Took, Withdrew, Drain, run};
 ghost use Rattle.gm_notes.specs.Servers.{step_of, IsSized, Answers, AnswersAt, steps_after, steps_after_that, WantsNone};
 ghost use Rattle.gm_notes.specs.Past.{print, give, refuse};
-ghost use Rattle.gm_tables.specs.Refusals.{code_of};
+ghost use Rattle.gm_requests.specs.Refusals.{code_of};
 
 mod abilities;
 mod asking;
@@ -26,12 +26,12 @@ mod ticking;
 mod waking;
 mod working;
 
-use crate::refusal::Refusal;
 use gm_conns::Conns;
 use gm_jobs::Jobs;
 use gm_notes::{ApplyError, Config, Done, Event, JobServer, Mode, Place};
 use gm_packet::{Response, write_response};
 use gm_queues::Functions;
+use gm_requests::Refusal;
 use std::alloc::{AllocError, Global};
 use std::hash::RandomState;
 
@@ -155,7 +155,7 @@ impl Core {
 
 impl JobServer for Core {
     ghost use Rattle.gm_tables.specs.Holds.{AllTouched, CoreAgrees};
-    ghost use Rattle.gm_tables.specs.Serving.{NeedsNone};
+    ghost use Rattle.gm_tables.specs.Spare.{NeedsNone};
 
     ghost agrees = { CoreAgrees };
 

@@ -1,52 +1,28 @@
 //! What administrators command in text lines.
 
-ghost use Rattle.std.specs.Prelude.{◌≡◌, ◌==◌, ◌<◌, ◌≤◌, true, false, List, Ok};
-ghost use Rattle.std.specs.List.{list_any};
+ghost use Rattle.std.specs.Prelude.{◌≡◌, ◌<◌, ◌≤◌, true, false, List, Ok};
 ghost use Rattle.gm_admin.specs.Answers.{status_text, workers_text, ok_text, version_text};
 ghost use Rattle.gm_admin.specs.Commands.{command_of};
 ghost use Rattle.gm_admin.specs.Views.{asked_of};
 ghost use Rattle.gm_notes.specs.Settings.{Settings};
 ghost use Rattle.gm_notes.specs.Notes.{mode, slots_from};
 ghost use Rattle.gm_notes.specs.Past.{print, noted, mentioned};
-ghost use Rattle.gm_notes.specs.Lines.{refuse_line, fault_error, status_rows, worker_rows, is_bad_word, maxqueue, shut_one, shut_each, shutdown, command};
+ghost use Rattle.gm_notes.specs.Lines.{refuse_line, status_rows, worker_rows, is_bad_word, maxqueue, shut_one, shut_each, shutdown, command};
 ghost use Rattle.gm_notes.specs.Steps.{Step, Line};
 ghost use Rattle.gm_notes.specs.Servers.{Answers, steps_after};
 ghost use Rattle.gm_notes.specs.declared.note.Note.TheVariants.{Limit};
 ghost use Rattle.gm_plain.specs.Holds.{Goes, Does, PlainAgrees};
 ghost use Rattle.gm_plain.specs.Logs.{Spends};
+ghost use Rattle.gm_requests.specs.Lines.{NamesFunction};
 
 use super::PlainServer;
 use crate::jobs::is_one_too_many;
 use crate::lists::{status_text, workers_text};
 use crate::questions::{takes_units, welcomes};
-use gm_admin::{AdminError, AdminFault, Command, write_fault};
+use gm_admin::{AdminError, Command, write_fault};
 use gm_notes::{ApplyError, Done, Mode, Note, Text};
+use gm_requests::read_line;
 use std::alloc::AllocError;
-
-/// What is answered to a line that is no command.
-fn error_of(fault: AdminFault) -> AdminError
-    ensures { result ≡ fault_error fault }
-{
-    match fault {
-        AdminFault::UnknownCommand => AdminError::UnknownCommand,
-        AdminFault::MissingName => AdminError::MissingName,
-        AdminFault::BadSize => AdminError::BadSize,
-    }
-}
-
-/// Whether a NUL is among the bytes.
-fn has_nul(bytes: &[u8]) -> bool
-    ensures { result ≡ list_any (λ b. b == 0) bytes.now }
-{
-    bytes.iter().any(|b| *b == 0)
-}
-
-/// Whether a word can't be a function's name: it has over 512 bytes, or a NUL.
-fn is_bad_word(word: &[u8]) -> bool
-    ensures { result ≡ is_bad_word word.now }
-{
-    word.len() > 512 || has_nul(word)
-}
 
 impl PlainServer {
     /// A text line of a slot.
@@ -68,14 +44,15 @@ impl PlainServer {
         requires { slot < self.old.config.slots }
         ensures { Does self.old result self.new (command self.old.config slot (command_of bytes.now)) }
     {
-        match Command::read(bytes) {
+        match read_line(bytes) {
             Ok(asked) => self.obey(slot, &asked),
-            Err(fault) => self.refuse_line(slot, error_of(fault)),
+            Err(error) => self.refuse_line(slot, error),
         }
     }
 
     fn obey(&mut self, slot: u32, asked: &Command<'_>) -> Result<(), AllocError>
-        requires { slot < self.old.config.slots }
+        requires slot { slot < self.old.config.slots }
+        requires named { NamesFunction asked.now }
         ensures { Does self.old result self.new (command self.old.config slot (Ok (asked_of asked.now))) }
     {
         match *asked {
@@ -116,12 +93,10 @@ impl PlainServer {
 
     /// At most so many jobs of a function may be there; 0 is no limit.
     fn maxqueue(&mut self, slot: u32, name: &[u8], size: u32) -> Result<(), AllocError>
-        requires { slot < self.old.config.slots }
+        requires slot { slot < self.old.config.slots }
+        requires named { is_bad_word name.now ≡ false }
         ensures { Does self.old result self.new (maxqueue self.old.config slot name.now size) }
     {
-        if is_bad_word(name) {
-            return self.refuse_line(slot, AdminError::BadFunction);
-        }
         if is_one_too_many(&self.log, &self.config, name) {
             return self.refuse_line(slot, AdminError::TooManyFunctions);
         }

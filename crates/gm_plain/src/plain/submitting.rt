@@ -6,39 +6,28 @@ ghost use Rattle.gm_packet.specs.Requests.{has_nul};
 ghost use Rattle.gm_packet.specs.Writing.{job_created};
 ghost use Rattle.gm_notes.specs.Notes.{phase};
 ghost use Rattle.gm_notes.specs.Jobs.{handle, next_number, made};
-ghost use Rattle.gm_plain.specs.Logs.{Spends, IsCarried};
+ghost use Rattle.gm_plain.specs.Logs.{Spends};
+ghost use Rattle.gm_requests.specs.Actions.{submission_of};
+ghost use Rattle.gm_requests.specs.Carried.{IsCarried};
 ghost use Rattle.gm_notes.specs.Past.{give, mentioned};
-ghost use Rattle.gm_plain.specs.Holds.{Goes, Does, submission_of};
-ghost use Rattle.gm_notes.specs.Submissions.{wanted, make, join_or_make, submit};
+ghost use Rattle.gm_plain.specs.Holds.{Goes, Does};
+ghost use Rattle.gm_notes.specs.Submissions.{is_bad_name, wanted, make, join_or_make, submit};
 
 use super::PlainServer;
-use crate::handles::handle;
-use crate::jobs::{is_bad_name, is_full, is_mentioned, is_one_too_many, joined, next_number};
-use crate::refusal::Refusal;
-use gm_notes::{Note, Priority, Text};
+use crate::jobs::{is_full, is_mentioned, is_one_too_many, joined, next_number};
+use gm_notes::{Note, Text};
 use gm_packet::Response;
+use gm_requests::{Refusal, Submission, handle};
 use std::alloc::AllocError;
-
-/// What is submitted.
-#[derive(Clone, Copy, Debug)]
-pub(super) struct Submission<'a> {
-    pub(super) function: &'a [u8],
-    pub(super) unique: &'a [u8],
-    pub(super) body: &'a [u8],
-    pub(super) priority: Priority,
-    pub(super) background: bool,
-}
 
 impl PlainServer {
     /// Joins a job, or makes one.
     pub(super) fn submit(&mut self, slot: u32, asked: &Submission<'_>) -> Result<(), AllocError>
         requires slot { slot < self.old.config.slots }
+        requires named { is_bad_name asked.now.function.now ≡ false }
         requires carried { IsCarried asked.now.function.now asked.now.unique.now asked.now.body.now }
         ensures { Does self.old result self.new (submit self.old.config slot (submission_of asked.now)) }
     {
-        if is_bad_name(asked.function) {
-            return self.refuse(slot, Refusal::BadFunction);
-        }
         match joined(&self.log, asked.function, asked.unique) {
             Some(job) => self.join(slot, asked, job),
             None => self.make_new(slot, asked),

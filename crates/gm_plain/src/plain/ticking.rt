@@ -9,11 +9,11 @@ ghost use Rattle.gm_notes.specs.Servers.{Answers, steps_after};
 ghost use Rattle.gm_plain.specs.Holds.{Goes, Does, PlainAgrees};
 
 use super::PlainServer;
-use crate::handles::handle;
 use crate::jobs::{count_made, is_late, is_running, job_at, listeners};
 use crate::questions::moment;
 use gm_notes::{ApplyError, Done, Note};
 use gm_packet::Response;
+use gm_requests::handle;
 use std::alloc::AllocError;
 
 impl PlainServer {

@@ -7,30 +7,22 @@ ghost use Rattle.gm_packet.specs.Answers.{answer_of};
 ghost use Rattle.gm_packet.specs.Requests.{has_nul};
 ghost use Rattle.gm_packet.specs.Writing.{Fits};
 ghost use Rattle.gm_notes.specs.Jobs.{spot, is_running, listeners, handled};
-ghost use Rattle.gm_plain.specs.Logs.{AreNumbers, Spends};
-ghost use Rattle.gm_plain.specs.Holds.{Goes, Does, SaidFits, ReportFits, work_of, kept_of, said_report, known_told, unknown_told};
+ghost use Rattle.gm_plain.specs.Logs.{Spends};
+ghost use Rattle.gm_plain.specs.Holds.{Goes, Does, kept_of, known_told, unknown_told};
+ghost use Rattle.gm_requests.specs.Actions.{SaidFits, ReportFits, work_of, said_report};
+ghost use Rattle.gm_requests.specs.Carried.{AreNumbers};
 ghost use Rattle.gm_notes.specs.Requests.{tell_status};
 ghost use Rattle.gm_notes.specs.Workers.{hearers, report_kept, ended_if, work, tell_work};
 
 use super::PlainServer;
 use crate::handles::handled;
-use crate::jobs::{Report, is_live, is_running, is_running_at, last_report, listeners};
+use crate::jobs::{is_live, is_running, is_running_at, last_report, listeners};
 use crate::log::Log;
 use crate::questions::{has_option, is_open};
-use crate::refusal::Refusal;
 use gm_notes::{Note, Text};
 use gm_packet::Response;
+use gm_requests::{Refusal, Report, Said};
 use std::alloc::{AllocError, Global};
-
-/// What a worker says of its job: the packet that is passed on, whether only to those who want exceptions,
-/// how far the job is, if it says so, and whether the job ends with it.
-#[derive(Clone, Copy, Debug)]
-pub(super) struct Said<'a> {
-    pub(super) response: Response<'a>,
-    pub(super) exceptions_only: bool,
-    pub(super) report: Option<Report<'a>>,
-    pub(super) ends: bool,
-}
 
 /// A report that is kept.
 #[derive(Drop)]

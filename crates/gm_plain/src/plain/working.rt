@@ -7,7 +7,9 @@ ghost use Rattle.gm_packet.specs.Requests.{has_nul};
 ghost use Rattle.gm_packet.specs.Writing.{Fits};
 ghost use Rattle.gm_notes.specs.Notes.{is_open};
 ghost use Rattle.gm_notes.specs.Jobs.{spot, job, is_waiting, handle};
-ghost use Rattle.gm_plain.specs.Logs.{Spends, IsCarried};
+ghost use Rattle.gm_plain.specs.Logs.{Spends};
+ghost use Rattle.gm_requests.specs.Carried.{IsCarried};
+ghost use Rattle.gm_notes.specs.Submissions.{is_bad_name};
 ghost use Rattle.gm_notes.specs.Past.{noted, give};
 ghost use Rattle.gm_plain.specs.Holds.{Goes, Does};
 ghost use Rattle.gm_notes.specs.Requests.{set_option};
@@ -18,31 +20,12 @@ ghost use Rattle.gm_notes.specs.declared.note.Note.TheVariants.{Named, Reset};
 
 use super::PlainServer;
 use crate::abilities::{Choice, pick, wakes_at_once};
-use crate::handles::handle;
-use crate::jobs::{Submitted, is_bad_name, is_one_too_many, job};
+use crate::jobs::{Submitted, is_one_too_many, job};
 use crate::questions::{is_asleep, is_awake, moment};
-use crate::refusal::Refusal;
 use gm_notes::{Note, Text};
 use gm_packet::Response;
+use gm_requests::{Refusal, deadline_after, handle};
 use std::alloc::AllocError;
-
-/// The moment plus so many seconds, at most the greatest of 64 bits; none for 0.
-fn deadline_after(moment: u64, timeout: u32) -> Option<u64>
-    ensures { result ≡ deadline_after moment timeout }
-{
-    if timeout == 0 {
-        None
-    } else {
-        Some(moment.saturating_add(u64::from(timeout)))
-    }
-}
-
-/// Whether there is an option of this name: there is one.
-fn is_option(name: &[u8]) -> bool
-    ensures { result ≡ bytes_eq name.now (codes "exceptions") }
-{
-    name == b"exceptions".as_slice()
-}
 
 impl PlainServer {
     /// The worker in a slot can do a function.
@@ -52,12 +35,10 @@ impl PlainServer {
         function: &[u8],
         timeout: u32,
     ) -> Result<(), AllocError>
-        requires { slot < self.old.config.slots }
+        requires slot { slot < self.old.config.slots }
+        requires named { is_bad_name function.now ≡ false }
         ensures { Does self.old result self.new (can_do self.old.config slot function.now timeout) }
     {
-        if is_bad_name(function) {
-            return self.refuse(slot, Refusal::BadFunction);
-        }
         if is_one_too_many(&self.log, &self.config, function) {
             return self.refuse(slot, Refusal::TooManyFunctions);
         }
@@ -86,12 +67,10 @@ impl PlainServer {
 
     /// The worker in a slot can't do a function any longer.
     pub(super) fn cant_do(&mut self, slot: u32, function: &[u8]) -> Result<(), AllocError>
-        requires { slot < self.old.config.slots }
+        requires slot { slot < self.old.config.slots }
+        requires named { is_bad_name function.now ≡ false }
         ensures { Does self.old result self.new (cant_do slot function.now) }
     {
-        if is_bad_name(function) {
-            return self.refuse(slot, Refusal::BadFunction);
-        }
         let function = Text::copy_of(self.alloc, function)?;
         self.make_room(1)?;
         self.note(Note::Cant { slot, function });
@@ -134,14 +113,12 @@ impl PlainServer {
         Ok(())
     }
 
-    /// The connection in a slot sets an option: there is one, `exceptions`.
+    /// The connection in a slot sets the option that there is, `exceptions`.
     pub(super) fn set_option(&mut self, slot: u32, name: &[u8]) -> Result<(), AllocError>
-        requires { slot < self.old.config.slots }
+        requires slot { slot < self.old.config.slots }
+        requires named { bytes_eq name.now (codes "exceptions") ≡ true }
         ensures { Does self.old result self.new (set_option slot name.now) }
     {
-        if !is_option(name) {
-            return self.refuse(slot, Refusal::UnknownOption);
-        }
         self.make_room(1)?;
         self.give(slot, &Response::OptionRes { name })?;
         self.note(Note::OptionSet { slot });

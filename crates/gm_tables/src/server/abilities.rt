@@ -13,18 +13,11 @@ ghost use Rattle.gm_tables.specs.Holds.{name_at, pick_of, woken_for};
 
 use super::Core;
 use super::connecting::{is_asleep, is_awake};
-use crate::refusal::Refusal;
 use gm_conns::Conns;
 use gm_notes::Phase;
 use gm_queues::{Functions, MentionError};
+use gm_requests::Refusal;
 use std::alloc::AllocError;
-
-/// Whether a function's name is empty, or has over 512 bytes.
-pub(super) fn is_bad_name(function: &[u8]) -> bool
-    ensures { result ≡ is_bad_name function.now }
-{
-    function.is_empty() || function.len() > 512
-}
 
 /// A job to be given out, its function, and the seconds that it may take; 0 is no limit.
 #[derive(Clone, Copy, Debug)]
@@ -101,12 +94,10 @@ impl Core {
         function: &[u8],
         timeout: u32,
     ) -> Result<(), AllocError>
-        requires { IsOpen self.old.conns slot }
+        requires open { IsOpen self.old.conns slot }
+        requires named { is_bad_name function.now ≡ false }
         ensures { Does self.old result self.new (can_do self.old.config slot function.now timeout) }
     {
-        if is_bad_name(function) {
-            return self.refuse(slot, Refusal::BadFunction);
-        }
         match self.functions.find(function) {
             Some(f) => {
                 self.conns.can_do(slot, f, timeout)?;
@@ -120,7 +111,7 @@ impl Core {
     /// The worker in a slot can do a function that wasn't mentioned yet, so that no job waits for it.
     fn can_do_anew(&mut self, slot: u32, function: &[u8], timeout: u32) -> Result<(), AllocError>
         requires open { IsOpen self.old.conns slot }
-        requires good { is_bad_name function.now ≡ false }
+        requires named { is_bad_name function.now ≡ false }
         requires anew { number_of function.now self.old.functions ≡ None }
         ensures { Does self.old result self.new (can_do self.old.config slot function.now timeout) }
     {
@@ -152,16 +143,13 @@ impl Core {
     }
 
     /// The worker in a slot can't do a function any longer.
-    pub(super) fn cant_do(&mut self, slot: u32, function: &[u8]) -> Result<(), AllocError>
-        requires { IsOpen self.old.conns slot }
-        ensures { Does self.old result self.new (cant_do slot function.now) }
+    pub(super) fn cant_do(&mut self, slot: u32, function: &[u8])
+        requires open { IsOpen self.old.conns slot }
+        requires named { is_bad_name function.now ≡ false }
+        ensures { Goes self.old self.new (cant_do slot function.now) }
     {
-        if is_bad_name(function) {
-            return self.refuse(slot, Refusal::BadFunction);
-        }
         if let Some(f) = self.functions.find(function) {
             self.conns.cant_do(slot, f);
         }
-        Ok(())
     }
 }

@@ -10,10 +10,10 @@ ghost use Rattle.gm_notes.specs.Requests.{tell_status};
 
 use super::Core;
 use super::grabbing::prepare_at;
-use crate::handles::number_in;
 use gm_jobs::Job;
 use gm_notes::Place;
 use gm_packet::Response;
+use gm_requests::number_in;
 use std::alloc::AllocError;
 
 /// Whether a job of this place was made.

@@ -1,7 +1,6 @@
 //! What administrators command in text lines.
 
-ghost use Rattle.std.specs.Prelude.{◌≡◌, ◌==◌, ◌<◌, ◌≤◌, true, false, List, Ok, OnOk, OnErr, IfOk, Some, length};
-ghost use Rattle.std.specs.List.{list_any};
+ghost use Rattle.std.specs.Prelude.{◌≡◌, ◌<◌, ◌≤◌, true, false, List, Ok, OnOk, OnErr, IfOk, Some, length};
 ghost use Rattle.gm_admin.specs.Answers.{ok_text, error_text};
 ghost use Rattle.gm_admin.specs.Commands.{command_of};
 ghost use Rattle.gm_admin.specs.Views.{asked_of};
@@ -12,39 +11,16 @@ ghost use Rattle.gm_notes.specs.Settings.{Settings};
 ghost use Rattle.gm_notes.specs.Steps.{Step, Line};
 ghost use Rattle.gm_notes.specs.Servers.{Answers, steps_after};
 ghost use Rattle.gm_notes.specs.Past.{print, noted, mentioned};
-ghost use Rattle.gm_notes.specs.Lines.{refuse_line, fault_error, is_bad_word, maxqueue, went_graceful, shut_one, shut_each, shutdown, command};
+ghost use Rattle.gm_notes.specs.Lines.{refuse_line, is_bad_word, maxqueue, went_graceful, shut_one, shut_each, shutdown, command};
 ghost use Rattle.gm_notes.specs.declared.note.Note.TheVariants.{Limit};
+ghost use Rattle.gm_requests.specs.Lines.{NamesFunction};
 
 use super::Core;
 use super::connecting::welcomes;
-use gm_admin::{AdminError, AdminFault, Command, write_fault};
+use gm_admin::{AdminError, Command, write_fault};
 use gm_notes::{ApplyError, Done, Mode};
+use gm_requests::read_line;
 use std::alloc::AllocError;
-
-/// What is answered to a line that is no command.
-fn error_of(fault: AdminFault) -> AdminError
-    ensures { result ≡ fault_error fault }
-{
-    match fault {
-        AdminFault::UnknownCommand => AdminError::UnknownCommand,
-        AdminFault::MissingName => AdminError::MissingName,
-        AdminFault::BadSize => AdminError::BadSize,
-    }
-}
-
-/// Whether a NUL is among the bytes.
-fn has_nul(bytes: &[u8]) -> bool
-    ensures { result ≡ list_any (λ b. b == 0) bytes.now }
-{
-    bytes.iter().any(|b| *b == 0)
-}
-
-/// Whether a word can't be a function's name: it has over 512 bytes, or a NUL.
-fn is_bad_word(word: &[u8]) -> bool
-    ensures { result ≡ is_bad_word word.now }
-{
-    word.len() > 512 || has_nul(word)
-}
 
 impl Core {
     ghost use Rattle.gm_tables.specs.Holds.{Goes, Does, AllTouched, CoreAgrees};
@@ -70,15 +46,16 @@ impl Core {
         requires { IsOpen self.old.conns slot }
         ensures { Does self.old result self.new (command self.old.config slot (command_of bytes.now)) }
     {
-        match Command::read(bytes) {
+        match read_line(bytes) {
             Ok(asked) => self.obey(slot, &asked),
-            Err(fault) => self.refuse_line(slot, error_of(fault)),
+            Err(error) => self.refuse_line(slot, error),
         }
     }
 
     /// A command of a slot is done.
     fn obey(&mut self, slot: u32, asked: &Command<'_>) -> Result<(), AllocError>
-        requires { IsOpen self.old.conns slot }
+        requires open { IsOpen self.old.conns slot }
+        requires named { NamesFunction asked.now }
         ensures { Does self.old result self.new (command self.old.config slot (Ok (asked_of asked.now))) }
     {
         match *asked {
@@ -140,12 +117,10 @@ impl Core {
 
     /// At most so many jobs of a function may be there; 0 is no limit.
     fn maxqueue(&mut self, slot: u32, name: &[u8], size: u32) -> Result<(), AllocError>
-        requires { IsOpen self.old.conns slot }
+        requires open { IsOpen self.old.conns slot }
+        requires named { is_bad_word name.now ≡ false }
         ensures { Does self.old result self.new (maxqueue self.old.config slot name.now size) }
     {
-        if is_bad_word(name) {
-            return self.refuse_line(slot, AdminError::BadFunction);
-        }
         if self.is_one_too_many(name) {
             return self.refuse_line(slot, AdminError::TooManyFunctions);
         }

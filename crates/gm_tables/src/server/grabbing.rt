@@ -18,23 +18,12 @@ ghost use Rattle.gm_notes.specs.Workers.{deadline_after, assignment, give_out, s
 
 use super::Core;
 use super::abilities::Choice;
-use crate::handles::handle;
 use gm_conns::Conns;
 use gm_jobs::Job;
 use gm_notes::Priority;
 use gm_packet::{Response, response_fits, write_response};
+use gm_requests::{deadline_after, handle};
 use std::alloc::AllocError;
-
-/// The moment plus so many seconds, at most the greatest of 64 bits; none for 0.
-fn deadline_after(moment: u64, timeout: u32) -> Option<u64>
-    ensures { result ≡ deadline_after moment timeout }
-{
-    if timeout == 0 {
-        None
-    } else {
-        Some(moment.saturating_add(u64::from(timeout)))
-    }
-}
 
 /// What a worker gets to know of a job, with its unique id if it asked for it.
 fn assignment<'a>(

@@ -1,7 +1,6 @@
 //! Connections that are opened, their faults, what waits for them, and what is asked of them and of the server.
 
-ghost use Rattle.std.specs.Prelude.{◌≡◌, ◌≤◌, ◌++◌, List, [], ◌∷◌, OnOk, IsTrue, length};
-ghost use Rattle.gm_packet.specs.Writing.{Fits, answer_packet, error};
+ghost use Rattle.std.specs.Prelude.{◌≡◌, ◌≤◌, List, ◌∷◌, OnOk, IsTrue, length};
 ghost use Rattle.gm_conns.specs.Tables.{IsOpen, conn};
 ghost use Rattle.gm_notes.specs.Settings.{Settings};
 ghost use Rattle.gm_notes.specs.Flow.{waiting};
@@ -13,29 +12,9 @@ ghost use Rattle.gm_notes.specs.Texts.{fault_text};
 
 use super::Core;
 use super::connecting::{is_owed, welcomes};
-use gm_admin::{AdminError, write_fault};
 use gm_notes::{ApplyError, Done, Mode, Phase, Place, UnitFault};
-use gm_packet::{Response, write_response};
+use gm_requests::append_fault;
 use std::alloc::AllocError;
-
-/// Appends an ERROR packet.
-fn append_error(code: &[u8], text: &[u8], out: &mut Vec<u8>) -> Result<(), AllocError>
-    requires { Fits (code.now ∷ text.now ∷ []) }
-    ensures { OnOk result (out.new.items ≡ out.old.items ++ answer_packet (error code.now text.now)) }
-{
-    write_response(&Response::Error { code, text }, out)
-}
-
-/// Appends what a fault prints.
-fn append_fault(fault: UnitFault, out: &mut Vec<u8>) -> Result<(), AllocError>
-    ensures { OnOk result (out.new.items ≡ out.old.items ++ fault_text fault) }
-{
-    match fault {
-        UnitFault::BadMagic => append_error(b"bad_magic", b"bad magic", out),
-        UnitFault::PacketTooLarge => append_error(b"packet_too_large", b"packet too large", out),
-        UnitFault::LineTooLong => write_fault(AdminError::LineTooLong, out),
-    }
-}
 
 impl Core {
     ghost use Rattle.gm_tables.specs.Holds.{Goes, AllTouched, CoreAgrees};

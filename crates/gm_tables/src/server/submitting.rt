@@ -1,6 +1,6 @@
 //! Submissions.
 
-ghost use Rattle.std.specs.Prelude.{◌≡◌, ◌<◌, ◌≤◌, None, IfNone, ◌+◌, ◌==◌, ◌&&◌, not, nat_le, ℕ, Some, IfSome, List, OnOk, OnErr, IfOk, length};
+ghost use Rattle.std.specs.Prelude.{◌≡◌, ◌<◌, ◌≤◌, false, None, IfNone, ◌+◌, ◌==◌, ◌&&◌, not, nat_le, ℕ, Some, IfSome, List, OnOk, OnErr, IfOk, length};
 ghost use Rattle.gm_packet.specs.Writing.{job_created, answer_packet};
 ghost use Rattle.gm_conns.specs.Tables.{IsOpen, conn};
 ghost use Rattle.gm_queues.specs.Tables.{number_of};
@@ -9,27 +9,16 @@ ghost use Rattle.gm_tables.specs.Holds.{IsAlone, added, first_listener};
 ghost use Rattle.gm_notes.specs.Jobs.{handle, joined};
 ghost use Rattle.gm_notes.specs.declared.note.Note.TheVariants.{Mention};
 ghost use Rattle.gm_notes.specs.Past.{Past, noted};
-ghost use Rattle.gm_notes.specs.Submissions.{is_one_too_many, is_full, wanted, make, join_or_make, submit};
+ghost use Rattle.gm_requests.specs.Actions.{submission_of};
+ghost use Rattle.gm_notes.specs.Submissions.{is_bad_name, is_one_too_many, is_full, wanted, make, join_or_make, submit};
 
 use super::Core;
-use super::abilities::is_bad_name;
-use crate::handles::handle;
-use crate::refusal::Refusal;
 use gm_jobs::NewJob;
 use gm_notes::Priority;
 use gm_packet::Response;
 use gm_queues::Counts;
+use gm_requests::{Refusal, Submission, handle};
 use std::alloc::AllocError;
-
-/// What is submitted.
-#[derive(Clone, Copy, Debug)]
-pub(super) struct Submission<'a> {
-    pub(super) function: &'a [u8],
-    pub(super) unique: &'a [u8],
-    pub(super) body: &'a [u8],
-    pub(super) priority: Priority,
-    pub(super) background: bool,
-}
 
 /// Who listens to a job from the start: nobody, if it was submitted in the background.
 fn first_listener(background: bool, slot: u32) -> Option<u32>
@@ -47,16 +36,14 @@ fn is_limit_reached(limit: u32, counts: Counts) -> bool
 }
 
 impl Core {
-    ghost use Rattle.gm_tables.specs.Holds.{Keeps, Goes, Does, submission_of};
+    ghost use Rattle.gm_tables.specs.Holds.{Keeps, Goes, Does};
 
     /// Joins a job, or makes one.
     pub(super) fn submit(&mut self, slot: u32, asked: &Submission<'_>) -> Result<(), AllocError>
-        requires { IsOpen self.old.conns slot }
+        requires open { IsOpen self.old.conns slot }
+        requires named { is_bad_name asked.now.function.now ≡ false }
         ensures { Does self.old result self.new (submit self.old.config slot (submission_of asked.now)) }
     {
-        if is_bad_name(asked.function) {
-            return self.refuse(slot, Refusal::BadFunction);
-        }
         let found = self.functions.find(asked.function);
         match self.joined(found, asked.unique) {
             Some(job) => self.join(slot, asked, job),

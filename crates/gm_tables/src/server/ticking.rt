@@ -14,10 +14,10 @@ ghost use Rattle.gm_tables.specs.Telling.{hears, needed, Roomed, Poured};
 ghost use Rattle.gm_tables.specs.Ticks.{AreLate, late_bytes, OthersStay};
 
 use super::Core;
-use crate::handles::handle;
 use crate::telling::{put_each, reserve_each};
 use gm_notes::{ApplyError, Done};
 use gm_packet::{Response, write_response};
+use gm_requests::handle;
 use std::alloc::AllocError;
 
 /// A job whose deadline is reached, and the packet that tells of its failure.

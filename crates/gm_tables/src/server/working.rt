@@ -11,16 +11,15 @@ ghost use Rattle.gm_notes.specs.Jobs.{handled, listeners};
 ghost use Rattle.gm_notes.specs.Past.{Past, noted, tell_all};
 ghost use Rattle.gm_notes.specs.declared.note.Note.TheVariants.{Ended};
 ghost use Rattle.gm_notes.specs.Workers.{hearers, report_kept, ended_if, tell_work, work};
-ghost use Rattle.gm_tables.specs.Serving.{said_report, work_of};
+ghost use Rattle.gm_requests.specs.Actions.{said_report, work_of};
 ghost use Rattle.gm_tables.specs.Ticks.{OthersStay};
 ghost use Rattle.gm_tables.specs.Telling.{hears, needed, IsRunning, is_place_at, running_there};
 
 use super::Core;
-use crate::asked::{Report, Said};
-use crate::refusal::Refusal;
 use crate::telling::{put_each, reserve_each};
 use gm_notes::{Place, Priority};
 use gm_packet::{response_fits, write_response};
+use gm_requests::{Refusal, Report, Said};
 use std::alloc::AllocError;
 
 /// Whether a job of this place runs at the slot.

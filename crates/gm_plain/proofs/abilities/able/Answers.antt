@@ -1,8 +1,8 @@
-use Rattle.std.proofs.Common.{◌≡◌, ◌+◌, ◌-◌, ◌∙◌, sym, ap, arith, length, filter, refl}
+use Rattle.std.proofs.Common.{◌+◌, ◌-◌, ◌∙◌, sym, ap, arith, length, filter}
 use Rattle.std.specs.Prelude.{◌&&◌}
 use Rattle.gm_notes.specs.Notes.{is_open, slots_from}
 use Rattle.gm_notes.specs.Jobs.{is_able}
-use Rattle.gm_plain.proofs.Counting.{counted_here, counted_not, counted_end}
+use Rattle.gm_plain.proofs.Counting.{counted_here, counted_not}
 use Rattle.gm_plain.proofs.abilities.able.Goals as goal
 use Rattle.gm_plain.proofs.abilities.able.Goals.{then-is_worker, else-is_worker}
 

@@ -1,8 +1,8 @@
 use Rattle.std.proofs.Common.{◌≡◌, List, ℕ, arith, sym, subst}
 use Rattle.std.proofs.lemmas.Grind.{common_steps}
 use Rattle.gm_notes.specs.Jobs.{report}
-use Rattle.gm_plain.specs.Logs.{AreNumbers}
-use Rattle.gm_plain.specs.Searches.{report_of}
+use Rattle.gm_requests.specs.Carried.{AreNumbers}
+use Rattle.gm_requests.specs.Actions.{report_of}
 use Rattle.gm_plain.proofs.LogLemmas.{report_carried}
 use Rattle.gm_plain.proofs.jobs.last_report.Goals as goal
 

@@ -1,4 +1,4 @@
-use Rattle.std.proofs.Common.{◌≡◌, ◌+◌, ◌-◌, ◌++◌, ◌∙◌, List, sym, ap, arith, map, filter}
+use Rattle.std.proofs.Common.{◌+◌, ◌-◌, ◌++◌, ◌∙◌, List, sym, ap, arith, map, filter}
 use Rattle.gm_admin.specs.declared.rows.WorkerRow.{WorkerRow}
 use Rattle.gm_admin.specs.Views.{worker_row}
 use Rattle.gm_notes.specs.Notes.{is_open, slots_from}

@@ -6,8 +6,8 @@ use Rattle.gm_plain.proofs.plain.PlainServer.can_do.Goals as goal
 
 pub returns-then-is_one_too_many : goal.returns-then-is_one_too_many
 returns-then-is_one_too_many c =
-    let good : is_bad_name c.args.function.now ≡ false = sym c.is_bad_name.ensures ∙ c.if-is_bad_name.false in
-    does_as c.refuse-then-is_one_too_many.result (can_do c.args.self.now.config c.args.slot c.args.function.now c.args.timeout) c.refuse-then-is_one_too_many.ensures
+    let good : is_bad_name c.args.function.now ≡ false = c.requires.named in
+    does_as c.refuse.result (can_do c.args.self.now.config c.args.slot c.args.function.now c.args.timeout) c.refuse.ensures
     (λ p keeps.
     let test : is_one_too_many c.args.self.now.config c.args.function.now p.notes ≡ true =
     ap (is_one_too_many c.args.self.now.config c.args.function.now) (sym keeps.notes_are) ∙ (sym c.is_one_too_many.ensures ∙ c.if-is_one_too_many.true) in
@@ -15,7 +15,7 @@ returns-then-is_one_too_many c =
 
 pub returns : goal.returns
 returns c =
-    let good : is_bad_name c.args.function.now ≡ false = sym c.is_bad_name.ensures ∙ c.if-is_bad_name.false in
+    let good : is_bad_name c.args.function.now ≡ false = c.requires.named in
     does_as c.add_ability.result (can_do c.args.self.now.config c.args.slot c.args.function.now c.args.timeout) c.add_ability.ensures
     (λ p keeps.
     let test : is_one_too_many c.args.self.now.config c.args.function.now p.notes ≡ false =

@@ -1,4 +1,4 @@
-use Rattle.std.proofs.Common.{◌≡◌, List, ℕ, false, ap, sym, ◌∙◌}
+use Rattle.std.proofs.Common.{◌≡◌, List, ℕ, false, ap}
 use Rattle.gm_notes.specs.declared.note.Note.TheVariants.{Cant}
 use Rattle.gm_notes.specs.Past.{noted}
 use Rattle.gm_notes.specs.Submissions.{is_bad_name}
@@ -12,6 +12,6 @@ returns-in_err-make_room c =
 
 pub returns : goal.returns
 returns c =
-    let good : is_bad_name c.args.function.now ≡ false = sym c.is_bad_name.ensures ∙ c.if-is_bad_name.false in
+    let good : is_bad_name c.args.function.now ≡ false = c.requires.named in
     goes_as (cant_do c.args.slot c.args.function.now) (goes_then c.make_room.ensures.goes c.note.ensures.goes)
     (λ p keeps. rw good (ap (λ (f : List ℕ). noted (Cant c.args.slot f) p) c.in_ok-function.ensures))

@@ -4,8 +4,9 @@ use Rattle.gm_notes.specs.Notes.{is_open}
 use Rattle.gm_notes.specs.Jobs.{made}
 use Rattle.gm_notes.specs.Closings.{give_back_each, discard_each, rising, gone, close}
 use Rattle.gm_notes.specs.Steps.{Close, refusal, unless_not_open, made_since, run}
-use Rattle.gm_plain.proofs.PlainLemmas.{goes_then, agrees_next, none_made}
-use Rattle.gm_plain.proofs.Closings.{close_is, close_made}
+use Rattle.gm_plain.proofs.PlainLemmas.{goes_then, agrees_next}
+use Rattle.gm_requests.proofs.JobsMade.{none_made}
+use Rattle.gm_requests.proofs.JobsMade.{close_is, close_made}
 use Rattle.gm_plain.proofs.plain.PlainServer.close.Goals as goal
 
 pub returns-clause-answers : goal.returns-clause-answers

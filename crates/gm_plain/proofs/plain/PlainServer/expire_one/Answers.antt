@@ -1,9 +1,9 @@
-use Rattle.std.proofs.Common.{◌≡◌, true, List, ℕ, refl, sym, ap, ap₂, ◌∙◌}
+use Rattle.std.proofs.Common.{◌≡◌, true, List, ℕ, sym, ap, ap₂, ◌∙◌}
 use Rattle.gm_packet.specs.Writing.{work_fail}
 use Rattle.gm_notes.specs.declared.note.Note.{Note}
 use Rattle.gm_notes.specs.declared.note.Note.TheVariants.{Ended}
 use Rattle.gm_notes.specs.Notes.{moment}
-use Rattle.gm_notes.specs.Jobs.{spot, is_running, deadline, listeners, handle}
+use Rattle.gm_notes.specs.Jobs.{spot, is_running, deadline, listeners}
 use Rattle.gm_notes.specs.Past.{noted, tell_all}
 use Rattle.gm_notes.specs.Closings.{is_reached, expire_one}
 use Rattle.gm_plain.proofs.PlainLemmas.{goes_then, goes_as}

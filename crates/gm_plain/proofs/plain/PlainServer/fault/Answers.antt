@@ -6,7 +6,8 @@ use Rattle.gm_notes.specs.Past.{noted, print}
 use Rattle.gm_notes.specs.Steps.{Fault}
 use Rattle.gm_notes.specs.Steps.{run}
 use Rattle.gm_notes.specs.Texts.{fault_text}
-use Rattle.gm_plain.proofs.PlainLemmas.{goes_then, agrees_next, agrees_wanting, units_taken, none_made}
+use Rattle.gm_plain.proofs.PlainLemmas.{goes_then, agrees_next, agrees_wanting, units_taken}
+use Rattle.gm_requests.proofs.JobsMade.{none_made}
 use Rattle.gm_plain.proofs.plain.PlainServer.fault.Goals as goal
 use Rattle.gm_plain.proofs.plain.PlainServer.fault.Goals.{Else-not-takes_units}
 

@@ -4,7 +4,7 @@ use Rattle.gm_notes.specs.Settings.{Settings}
 use Rattle.gm_notes.specs.Jobs.{handle}
 use Rattle.gm_notes.specs.Past.{give}
 use Rattle.gm_notes.specs.Submissions.{wanted, join_or_make}
-use Rattle.gm_plain.specs.Holds.{submission_of}
+use Rattle.gm_requests.specs.Actions.{submission_of}
 use Rattle.gm_plain.proofs.PlainLemmas.{does_not, goes_then, goes_as, give_wanted}
 use Rattle.gm_plain.proofs.plain.PlainServer.join.Goals as goal
 

@@ -1,4 +1,4 @@
-use Rattle.std.proofs.Common.{◌≡◌, ℕ, true, Option, None, refl, sym, ap, ◌∙◌}
+use Rattle.std.proofs.Common.{◌≡◌, ℕ, true, Option, None, sym, ap, ◌∙◌}
 use Rattle.gm_admin.specs.Commands.{command_of}
 use Rattle.gm_notes.specs.Settings.{Settings}
 use Rattle.gm_notes.specs.Notes.{takes_units}
@@ -6,8 +6,9 @@ use Rattle.gm_notes.specs.Jobs.{made}
 use Rattle.gm_notes.specs.Lines.{command}
 use Rattle.gm_notes.specs.Steps.{Line, made_since}
 use Rattle.gm_notes.specs.Steps.{run}
-use Rattle.gm_plain.proofs.PlainLemmas.{agrees_next, agrees_wanting, units_taken, none_made}
-use Rattle.gm_plain.proofs.Commands.{command_made}
+use Rattle.gm_plain.proofs.PlainLemmas.{agrees_next, agrees_wanting, units_taken}
+use Rattle.gm_requests.proofs.JobsMade.{none_made}
+use Rattle.gm_requests.proofs.JobsMade.{command_made}
 use Rattle.gm_plain.proofs.plain.PlainServer.line.Goals as goal
 use Rattle.gm_plain.proofs.plain.PlainServer.line.Goals.{Else-not-takes_units}
 

@@ -1,6 +1,6 @@
 use Rattle.std.proofs.Common.{Some}
 use Rattle.gm_notes.specs.Submissions.{make}
-use Rattle.gm_plain.specs.Holds.{submission_of}
+use Rattle.gm_requests.specs.Actions.{submission_of}
 use Rattle.gm_plain.proofs.PlainLemmas.{does_not, goes_then, goes_as, make_is}
 use Rattle.gm_plain.proofs.plain.PlainServer.make.Goals as goal
 

@@ -1,7 +1,7 @@
 use Rattle.std.proofs.Common.{◌≡◌, true, false, Some, None, refl, sym, ap, ◌∙◌}
 use Rattle.gm_notes.specs.Jobs.{next_number}
 use Rattle.gm_notes.specs.Submissions.{make, is_one_too_many, is_full, join_or_make}
-use Rattle.gm_plain.specs.Holds.{submission_of}
+use Rattle.gm_requests.specs.Actions.{submission_of}
 use Rattle.gm_plain.proofs.PlainLemmas.{does_as}
 use Rattle.gm_plain.proofs.plain.PlainServer.make_new.Goals as goal
 use Rattle.gm_plain.proofs.plain.PlainServer.make_new.Goals.{Else-is_full}

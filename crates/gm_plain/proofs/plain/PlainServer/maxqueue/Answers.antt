@@ -1,22 +1,14 @@
-use Rattle.std.proofs.Common.{◌≡◌, true, false, List, refl, sym, ap, ◌∙◌}
-use Rattle.gm_notes.specs.declared.note.Note.{Note}
+use Rattle.std.proofs.Common.{◌≡◌, true, false, refl, sym, ap, ◌∙◌}
 use Rattle.gm_notes.specs.Submissions.{is_one_too_many}
 use Rattle.gm_notes.specs.Lines.{is_bad_word, maxqueue}
 use Rattle.gm_plain.proofs.PlainLemmas.{does_as}
 use Rattle.gm_plain.proofs.plain.PlainServer.maxqueue.Goals as goal
 
-pub returns-then-is_bad_word : goal.returns-then-is_bad_word
-returns-then-is_bad_word c =
-    does_as c.refuse_line.result (maxqueue c.args.self.now.config c.args.slot c.args.name.now c.args.size) c.refuse_line.ensures
-    (λ p keeps.
-    let bad : is_bad_word c.args.name.now ≡ true = sym c.is_bad_word.ensures ∙ c.if-is_bad_word.true in
-    rw bad refl)
-
 pub returns-then-is_one_too_many : goal.returns-then-is_one_too_many
 returns-then-is_one_too_many c =
-    does_as c.refuse_line-then-is_one_too_many.result (maxqueue c.args.self.now.config c.args.slot c.args.name.now c.args.size) c.refuse_line-then-is_one_too_many.ensures
+    does_as c.refuse_line.result (maxqueue c.args.self.now.config c.args.slot c.args.name.now c.args.size) c.refuse_line.ensures
     (λ p keeps.
-    let good : is_bad_word c.args.name.now ≡ false = sym c.is_bad_word.ensures ∙ c.if-is_bad_word.false in
+    let good : is_bad_word c.args.name.now ≡ false = c.requires.named in
     let many : is_one_too_many c.args.self.now.config c.args.name.now p.notes ≡ true =
     ap (is_one_too_many c.args.self.now.config c.args.name.now) (sym keeps.notes_are) ∙ (sym c.is_one_too_many.ensures ∙ c.if-is_one_too_many.true) in
     rw (good, many) refl)
@@ -25,7 +17,7 @@ pub returns : goal.returns
 returns c =
     does_as c.set_limit.result (maxqueue c.args.self.now.config c.args.slot c.args.name.now c.args.size) c.set_limit.ensures
     (λ p keeps.
-    let good : is_bad_word c.args.name.now ≡ false = sym c.is_bad_word.ensures ∙ c.if-is_bad_word.false in
+    let good : is_bad_word c.args.name.now ≡ false = c.requires.named in
     let few : is_one_too_many c.args.self.now.config c.args.name.now p.notes ≡ false =
     ap (is_one_too_many c.args.self.now.config c.args.name.now) (sym keeps.notes_are) ∙ (sym c.is_one_too_many.ensures ∙ c.if-is_one_too_many.false) in
     rw (good, few) refl)

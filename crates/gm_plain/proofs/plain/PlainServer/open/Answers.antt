@@ -8,7 +8,8 @@ use Rattle.gm_notes.specs.Past.{Past, noted, flowed}
 use Rattle.gm_notes.specs.Steps.{Open, free_from, free_slot, opening, made_since, if_welcome}
 use Rattle.gm_notes.specs.Steps.{run}
 use Rattle.gm_notes.proofs.FreeSlots.{free_is}
-use Rattle.gm_plain.proofs.PlainLemmas.{goes_then, agrees_next, agrees_wanting, welcome, none_made}
+use Rattle.gm_plain.proofs.PlainLemmas.{goes_then, agrees_next, agrees_wanting, welcome}
+use Rattle.gm_requests.proofs.JobsMade.{none_made}
 use Rattle.gm_plain.proofs.plain.PlainServer.open.Goals as goal
 use Rattle.gm_plain.proofs.plain.PlainServer.open.Goals.{In-Some}
 

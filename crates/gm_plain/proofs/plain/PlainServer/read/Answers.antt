@@ -1,21 +1,14 @@
-use Rattle.std.proofs.Common.{ap, ◌∙◌}
 use Rattle.gm_packet.specs.Kinds.{kind_of}
-use Rattle.gm_packet.specs.Views.{asked_of}
-use Rattle.gm_notes.specs.Past.{refuse}
-use Rattle.gm_plain.specs.Refusals.{code_of}
 use Rattle.gm_notes.specs.Requests.{packet_of}
 use Rattle.gm_plain.proofs.PlainLemmas.{does_as}
-use Rattle.gm_plain.proofs.ServingLemmas.{read_taken, read_refused}
 use Rattle.gm_plain.proofs.plain.PlainServer.read.Goals as goal
 
 pub returns-in-Ok : goal.returns-in-Ok
 returns-in-Ok c =
-    does_as c.serve.result (packet_of c.args.self.now.config c.args.slot (kind_of c.args.kind) c.args.bytes.now) c.serve.ensures
-    (λ p keeps. read_taken c.args.self.now.config c.args.slot (kind_of c.args.kind) c.args.bytes.now (asked_of c.in-Ok.request) p c.in-Ok.ensures.exact)
+    does_as c.act.result (packet_of c.args.self.now.config c.args.slot (kind_of c.args.kind) c.args.bytes.now) c.act.ensures
+    (λ p keeps. c.in-Ok.ensures.does c.args.self.now.config c.args.slot p)
 
 pub returns-in-Err : goal.returns-in-Err
 returns-in-Err c =
     does_as c.refuse.result (packet_of c.args.self.now.config c.args.slot (kind_of c.args.kind) c.args.bytes.now) c.refuse.ensures
-    (λ p keeps.
-    ap (λ r. refuse c.args.slot (code_of r) p) c.fault.ensures
-    ∙ read_refused c.args.self.now.config c.args.slot (kind_of c.args.kind) c.args.bytes.now c.in-Err.field-0 p c.in-Err.ensures.exact)
+    (λ p keeps. c.in-Err.ensures.does c.args.self.now.config c.args.slot p)

@@ -1,4 +1,4 @@
-use Rattle.std.proofs.Common.{◌≡◌, ◌<◌, ℕ, List, ap, ap₂, sym, subst, ◌∙◌}
+use Rattle.std.proofs.Common.{ℕ, List, ap₂, ◌∙◌}
 use Rattle.gm_admin.specs.Answers.{ok_text}
 use Rattle.gm_notes.specs.declared.note.Note.TheVariants.{Limit}
 use Rattle.gm_notes.specs.Past.{Past, print, noted, mentioned}

@@ -1,4 +1,4 @@
-use Rattle.std.proofs.Common.{◌≡◌, true, refl, sym, ◌∙◌, codes}
+use Rattle.std.proofs.Common.{◌≡◌, true, refl, codes}
 use Rattle.std.specs.Str.{bytes_eq}
 use Rattle.gm_notes.specs.Requests.{set_option}
 use Rattle.gm_plain.proofs.PlainLemmas.{does_not, goes_then, goes_as}
@@ -14,5 +14,5 @@ returns-in_err-give c =
 
 pub returns : goal.returns
 returns c =
-    let known : bytes_eq c.args.name.now (codes "exceptions") ≡ true = sym c.is_option.ensures ∙ c.if-not-is_option.false in
+    let known : bytes_eq c.args.name.now (codes "exceptions") ≡ true = c.requires.named in
     goes_as (set_option c.args.slot c.args.name.now) (goes_then (goes_then c.make_room.ensures.goes c.in_ok-give.ensures.does) c.note.ensures.goes) (λ p keeps. rw known refl)

@@ -1,7 +1,7 @@
-use Rattle.std.proofs.Common.{◌+◌, ◌-◌, ◌≤◌, sym, subst, ◌∙◌, arith}
+use Rattle.std.proofs.Common.{◌+◌, ◌-◌, sym, subst, ◌∙◌, arith}
 use Rattle.gm_notes.specs.Lines.{shut_one}
 use Rattle.gm_plain.specs.Holds.{Keeps}
-use Rattle.gm_plain.proofs.Commands.{shut_next, shut_none}
+use Rattle.gm_requests.proofs.JobsMade.{shut_next, shut_none}
 use Rattle.gm_plain.proofs.plain.PlainServer.shut_each.Goals as goal
 
 pub loop-slot-preserved : goal.loop-slot-preserved

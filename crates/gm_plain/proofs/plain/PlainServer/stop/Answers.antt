@@ -1,4 +1,4 @@
-use Rattle.std.proofs.Common.{◌≡◌, false, refl, ap, ◌∙◌}
+use Rattle.std.proofs.Common.{false, ap, ◌∙◌}
 use Rattle.gm_admin.specs.Answers.{ok_text}
 use Rattle.gm_notes.specs.declared.note.Note.TheVariants.{Went}
 use Rattle.gm_notes.specs.declared.states.Mode.TheVariants.{Stopped}

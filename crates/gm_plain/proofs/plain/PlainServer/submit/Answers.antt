@@ -1,14 +1,14 @@
-use Rattle.std.proofs.Common.{◌≡◌, false, Some, None, sym, ap, ◌∙◌}
+use Rattle.std.proofs.Common.{◌≡◌, false, Some, None, ap, ◌∙◌}
 use Rattle.gm_notes.specs.Jobs.{joined}
 use Rattle.gm_notes.specs.Submissions.{is_bad_name, join_or_make, submit}
-use Rattle.gm_plain.specs.Holds.{submission_of}
+use Rattle.gm_requests.specs.Actions.{submission_of}
 use Rattle.gm_plain.proofs.PlainLemmas.{does_as}
 use Rattle.gm_plain.proofs.plain.PlainServer.submit.Goals as goal
 
 pub returns-in-Some : goal.returns-in-Some
 returns-in-Some c =
     let s = submission_of c.args.asked.now in
-    let good : is_bad_name c.args.asked.now.function.now ≡ false = sym c.is_bad_name.ensures ∙ c.if-is_bad_name.false in
+    let good : is_bad_name c.args.asked.now.function.now ≡ false = c.requires.named in
     does_as c.join.result (submit c.args.self.now.config c.args.slot s) c.join.ensures
     (λ p keeps.
     let found : Some c.in-Some.job ≡ joined c.args.asked.now.function.now c.args.asked.now.unique.now p.notes =
@@ -18,7 +18,7 @@ returns-in-Some c =
 pub returns-in-None : goal.returns-in-None
 returns-in-None c =
     let s = submission_of c.args.asked.now in
-    let good : is_bad_name c.args.asked.now.function.now ≡ false = sym c.is_bad_name.ensures ∙ c.if-is_bad_name.false in
+    let good : is_bad_name c.args.asked.now.function.now ≡ false = c.requires.named in
     does_as c.make_new.result (submit c.args.self.now.config c.args.slot s) c.make_new.ensures
     (λ p keeps.
     let found : None ≡ joined c.args.asked.now.function.now c.args.asked.now.unique.now p.notes =

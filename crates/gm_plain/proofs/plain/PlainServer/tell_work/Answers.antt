@@ -3,7 +3,7 @@ use Rattle.gm_notes.specs.declared.note.Note.{Note}
 use Rattle.gm_notes.specs.Jobs.{listeners}
 use Rattle.gm_notes.specs.Past.{tell_all}
 use Rattle.gm_notes.specs.Workers.{hearers, report_kept, ended_if, tell_work}
-use Rattle.gm_plain.specs.Holds.{work_of}
+use Rattle.gm_requests.specs.Actions.{work_of}
 use Rattle.gm_plain.proofs.PlainLemmas.{does_not, goes_then, goes_as, kept_told}
 use Rattle.gm_plain.proofs.plain.PlainServer.tell_work.Goals as goal
 

@@ -1,16 +1,16 @@
-use Rattle.std.proofs.Common.{◌≡◌, ℕ, List, Option, None, refl, sym, ap, ap₂, ◌∙◌}
+use Rattle.std.proofs.Common.{◌≡◌, ℕ, Option, None, refl, sym, ap, ap₂, ◌∙◌}
 use Rattle.std.specs.Prelude.{max}
-use Rattle.gm_notes.specs.declared.note.Note.{Note}
 use Rattle.gm_notes.specs.declared.note.Note.TheVariants.{Now}
 use Rattle.gm_notes.specs.Settings.{Settings}
 use Rattle.gm_notes.specs.Notes.{moment}
 use Rattle.gm_notes.specs.Jobs.{made}
-use Rattle.gm_notes.specs.Past.{Past, noted}
+use Rattle.gm_notes.specs.Past.{noted}
 use Rattle.gm_notes.specs.Closings.{expire_each, rising, tick}
 use Rattle.gm_notes.specs.Steps.{Tick, made_since}
 use Rattle.gm_notes.specs.Steps.{run}
-use Rattle.gm_plain.proofs.PlainLemmas.{goes_then, agrees_next, agrees_wanting, none_made}
-use Rattle.gm_plain.proofs.Ticks.{tick_made}
+use Rattle.gm_plain.proofs.PlainLemmas.{goes_then, agrees_next, agrees_wanting}
+use Rattle.gm_requests.proofs.JobsMade.{none_made}
+use Rattle.gm_requests.proofs.JobsMade.{tick_made}
 use Rattle.gm_plain.proofs.plain.PlainServer.tick.Goals as goal
 
 pub returns-in_err-make_room : goal.returns-in_err-make_room

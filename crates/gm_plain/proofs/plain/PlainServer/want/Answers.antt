@@ -1,6 +1,6 @@
 use Rattle.std.proofs.Common.{refl}
 use Rattle.gm_notes.specs.Submissions.{wanted}
-use Rattle.gm_plain.specs.Holds.{submission_of}
+use Rattle.gm_requests.specs.Actions.{submission_of}
 use Rattle.gm_plain.proofs.PlainLemmas.{goes_as}
 use Rattle.gm_plain.proofs.plain.PlainServer.want.Goals as goal
 

@@ -2,7 +2,7 @@ use Rattle.std.proofs.Common.{◌≡◌, true, false, List, Some, None, refl, sy
 use Rattle.gm_notes.specs.declared.note.Note.{Note}
 use Rattle.gm_notes.specs.Jobs.{spot, is_running_at, handled}
 use Rattle.gm_notes.specs.Workers.{work, work_on}
-use Rattle.gm_plain.specs.Holds.{work_of}
+use Rattle.gm_requests.specs.Actions.{work_of}
 use Rattle.gm_plain.proofs.PlainLemmas.{does_as}
 use Rattle.gm_plain.proofs.plain.PlainServer.work.Goals as goal
 

@@ -4,7 +4,8 @@ use Rattle.gm_queues.specs.Tables.{ChangesQueue}
 use Rattle.gm_jobs.specs.Live.{fresh}
 use Rattle.gm_jobs.specs.Tables.{Makes}
 use Rattle.gm_jobs.specs.Tables as jobs
-use Rattle.gm_tables.specs.Holds.{submission_of, added}
+use Rattle.gm_requests.specs.Actions.{submission_of}
+use Rattle.gm_tables.specs.Holds.{added}
 use Rattle.gm_tables.proofs.CoreLemmas.{goes_then, goes_as, does_not}
 use Rattle.gm_tables.proofs.AddLemmas.{goes_roomed, goes_added}
 use Rattle.gm_tables.proofs.server.Core.add.Goals as goal

@@ -14,7 +14,7 @@ returns-in_ok-can_do-in-Some c =
     let k = c.args.self.now.config in
     let name = c.args.function.now in
     let table = c.args.self.now.functions in
-    let good : is_bad_name name ≡ false = sym c.is_bad_name.ensures ∙ c.if-is_bad_name.false in
+    let good : is_bad_name name ≡ false = c.requires.named in
     let at : number_of name table ≡ Some c.in-Some.f = sym c.find.ensures.value ∙ c.in-Some.is in
     goes_as (can_do k c.args.slot name c.args.timeout) (goes_then (goes_can c.args.slot (record { config = refl; functions = refl; jobs = refl; moment = refl; mode = refl }) name c.in-Some.f c.args.timeout at c.in_ok-can_do-in-Some.ensures.ok) c.wake_at_once.ensures)
     (λ p keeps.

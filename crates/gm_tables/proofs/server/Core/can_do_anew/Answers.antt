@@ -24,7 +24,7 @@ returns-in-Ok-can_do c =
     (goes_mention c.args.self.now (record c.args.self.now { functions = c.mention.new.self }) name (record { config = refl; conns = refl; jobs = refl; moment = refl; mode = refl }) c.requires.anew (c.in-Ok.ensures.fresh none) free room)
     (goes_can c.args.slot (record { config = refl; functions = refl; jobs = refl; moment = refl; mode = refl }) name c.in-Ok.f c.args.timeout c.in-Ok.ensures.found c.in-Ok-can_do.ensures.ok))
     (λ p keeps.
-    let good = c.requires.good in
+    let good = c.requires.named in
     let fresh = anew k table p.notes keeps.functions name c.requires.anew in
     let few = not_yet_many k table p.notes keeps.functions name room in
     let nothing = nothing_waits p.notes name c.requires.anew keeps.jobs in
@@ -43,6 +43,6 @@ returns-in-Err-TooManyFunctions c =
     does_as {f = refuse c.args.slot (codes "too_many_functions")} c.refuse.result (can_do k c.args.slot name c.args.timeout)
     (goes_then (goes_nothing refl refl c.in-Err-TooManyFunctions.ensures.err refl refl refl) c.refuse.ensures)
     (λ p keeps.
-    let good = c.requires.good in
+    let good = c.requires.named in
     let many = too_many k table p.notes keeps.functions name c.requires.anew (c.in-Err-TooManyFunctions.ensures.full.0 (ap Err c.in-Err-TooManyFunctions.field-0-is)).1 in
     rw (good, many) refl)

@@ -4,7 +4,7 @@ use Rattle.gm_notes.specs.Closings.{discard_each, discard_one}
 use Rattle.gm_jobs.specs.Live.{is_orphan}
 use Rattle.gm_tables.proofs.ConnLemmas.{touched_same, touched_then}
 use Rattle.gm_tables.specs.Holds.{Keeps}
-use Rattle.gm_tables.proofs.ClosingLemmas.{discard_made}
+use Rattle.gm_requests.proofs.JobsMade.{discard_made}
 use Rattle.gm_tables.proofs.RisingLemmas.{rising_begins, rising_on, rising_done, stays_so, discards_so}
 use Rattle.gm_tables.proofs.server.Core.discard_each.Goals as goal
 

@@ -4,7 +4,8 @@ use Rattle.gm_notes.specs.Jobs.{made}
 use Rattle.gm_notes.specs.Past.{noted, print}
 use Rattle.gm_notes.specs.Steps.{Fault, refusal, run, unless_not_open}
 use Rattle.gm_notes.specs.Texts.{fault_text}
-use Rattle.gm_tables.proofs.CoreLemmas.{goes_then, goes_shut, agrees_next, none_made}
+use Rattle.gm_tables.proofs.CoreLemmas.{goes_then, goes_shut, agrees_next}
+use Rattle.gm_requests.proofs.JobsMade.{none_made}
 use Rattle.gm_tables.proofs.server.Core.fault.Goals as goal
 
 pub returns-clause-answers : goal.returns-clause-answers

@@ -4,7 +4,7 @@ use Rattle.gm_notes.specs.Closings.{give_back_each, give_back_one}
 use Rattle.gm_jobs.specs.Live.{is_run_by}
 use Rattle.gm_tables.proofs.ConnLemmas.{touched_same, touched_then}
 use Rattle.gm_tables.specs.Holds.{Keeps}
-use Rattle.gm_tables.proofs.ClosingLemmas.{give_back_made}
+use Rattle.gm_requests.proofs.JobsMade.{give_back_made}
 use Rattle.gm_tables.proofs.RisingLemmas.{rising_begins, rising_on, rising_done, runs_on}
 use Rattle.gm_tables.proofs.server.Core.give_back_each.Goals as goal
 

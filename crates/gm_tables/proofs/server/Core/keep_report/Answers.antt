@@ -2,7 +2,7 @@ use Rattle.std.proofs.Common.{refl, sym, ap}
 use Rattle.gm_notes.specs.declared.note.Note.TheVariants.{Report}
 use Rattle.gm_notes.specs.Past.{noted}
 use Rattle.gm_notes.specs.Workers.{report_kept}
-use Rattle.gm_tables.specs.Serving.{said_report}
+use Rattle.gm_requests.specs.Actions.{said_report}
 use Rattle.gm_tables.proofs.CoreLemmas.{does_as}
 use Rattle.gm_tables.proofs.WorkLemmas.{does_report}
 use Rattle.gm_tables.proofs.server.Core.keep_report.Goals as goal

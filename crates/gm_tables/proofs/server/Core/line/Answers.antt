@@ -4,8 +4,9 @@ use Rattle.gm_notes.specs.Settings.{Settings}
 use Rattle.gm_notes.specs.Jobs.{made}
 use Rattle.gm_notes.specs.Lines.{command}
 use Rattle.gm_notes.specs.Steps.{Line, refusal, run, made_since, unless_not_open}
-use Rattle.gm_tables.proofs.CoreLemmas.{agrees_next, agrees_wanting, none_made}
-use Rattle.gm_tables.proofs.CommandLemmas.{command_made}
+use Rattle.gm_tables.proofs.CoreLemmas.{agrees_next, agrees_wanting}
+use Rattle.gm_requests.proofs.JobsMade.{none_made}
+use Rattle.gm_requests.proofs.JobsMade.{command_made}
 use Rattle.gm_tables.proofs.server.Core.line.Goals as goal
 
 pub returns-in_err-command-clause-answers : goal.returns-in_err-command-clause-answers

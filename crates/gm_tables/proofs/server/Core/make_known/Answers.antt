@@ -3,7 +3,8 @@ use Rattle.gm_notes.specs.Past.{print, wake}
 use Rattle.gm_notes.specs.Submissions.{make}
 use Rattle.gm_queues.specs.Tables as queues
 use Rattle.gm_jobs.specs.Tables as jobs
-use Rattle.gm_tables.specs.Holds.{name_at, submission_of, added}
+use Rattle.gm_requests.specs.Actions.{submission_of}
+use Rattle.gm_tables.specs.Holds.{name_at, added}
 use Rattle.gm_tables.proofs.FunctionLemmas.{known, number_is}
 use Rattle.gm_tables.proofs.CoreLemmas.{goes_as, goes_then}
 use Rattle.gm_tables.proofs.server.Core.make_known.Goals as goal

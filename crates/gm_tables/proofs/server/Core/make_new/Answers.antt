@@ -2,7 +2,7 @@ use Rattle.std.proofs.Common.{◌≡◌, ◌+◌, ◌<◌, ◌^◌, nat_lt, true
 use Rattle.std.proofs.lemmas.Bool.Decides.{nat_tests}
 use Rattle.gm_notes.specs.Jobs.{made, next_number}
 use Rattle.gm_notes.specs.Submissions.{is_one_too_many, is_full, join_or_make}
-use Rattle.gm_tables.specs.Holds.{submission_of}
+use Rattle.gm_requests.specs.Actions.{submission_of}
 use Rattle.gm_tables.proofs.CoreLemmas.{does_as}
 use Rattle.gm_tables.proofs.server.Core.make_new.Goals as goal
 

@@ -4,18 +4,11 @@ use Rattle.gm_notes.specs.Lines.{is_bad_word, maxqueue}
 use Rattle.gm_tables.proofs.CoreLemmas.{does_as}
 use Rattle.gm_tables.proofs.server.Core.maxqueue.Goals as goal
 
-pub returns-then-is_bad_word : goal.returns-then-is_bad_word
-returns-then-is_bad_word c =
-    does_as c.refuse_line.result (maxqueue c.args.self.now.config c.args.slot c.args.name.now c.args.size) c.refuse_line.ensures
-    (λ p keeps.
-    let bad : is_bad_word c.args.name.now ≡ true = sym c.is_bad_word.ensures ∙ c.if-is_bad_word.true in
-    rw bad refl)
-
 pub returns-then-is_one_too_many : goal.returns-then-is_one_too_many
 returns-then-is_one_too_many c =
-    does_as c.refuse_line-then-is_one_too_many.result (maxqueue c.args.self.now.config c.args.slot c.args.name.now c.args.size) c.refuse_line-then-is_one_too_many.ensures
+    does_as c.refuse_line.result (maxqueue c.args.self.now.config c.args.slot c.args.name.now c.args.size) c.refuse_line.ensures
     (λ p keeps.
-    let good : is_bad_word c.args.name.now ≡ false = sym c.is_bad_word.ensures ∙ c.if-is_bad_word.false in
+    let good : is_bad_word c.args.name.now ≡ false = c.requires.named in
     let many : is_one_too_many c.args.self.now.config c.args.name.now p.notes ≡ true = sym (c.is_one_too_many.ensures p keeps) ∙ c.if-is_one_too_many.true in
     rw (good, many) refl)
 
@@ -23,6 +16,6 @@ pub returns : goal.returns
 returns c =
     does_as c.set_limit.result (maxqueue c.args.self.now.config c.args.slot c.args.name.now c.args.size) c.set_limit.ensures
     (λ p keeps.
-    let good : is_bad_word c.args.name.now ≡ false = sym c.is_bad_word.ensures ∙ c.if-is_bad_word.false in
+    let good : is_bad_word c.args.name.now ≡ false = c.requires.named in
     let few : is_one_too_many c.args.self.now.config c.args.name.now p.notes ≡ false = sym (c.is_one_too_many.ensures p keeps) ∙ c.if-is_one_too_many.false in
     rw (good, few) refl)

@@ -5,7 +5,8 @@ use Rattle.gm_notes.specs.Notes.{mode, welcomes}
 use Rattle.gm_notes.specs.Jobs.{made}
 use Rattle.gm_notes.specs.Past.{noted, flowed}
 use Rattle.gm_notes.specs.Steps.{Open, free_slot, if_free, if_welcome, made_since, opening, run}
-use Rattle.gm_tables.proofs.CoreLemmas.{agrees_next, agrees_kept, goes_nothing, none_made}
+use Rattle.gm_tables.proofs.CoreLemmas.{agrees_next, agrees_kept, goes_nothing}
+use Rattle.gm_requests.proofs.JobsMade.{none_made}
 use Rattle.gm_tables.proofs.OpenLemmas.{welcomed, slot_found, no_slot, refused, is_err, goes_opened}
 use Rattle.gm_tables.proofs.server.Core.open.Goals as goal
 

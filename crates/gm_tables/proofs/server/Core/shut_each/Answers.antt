@@ -2,7 +2,7 @@ use Rattle.std.proofs.Common.{◌+◌, ◌-◌, sym, subst, ◌∙◌, arith}
 use Rattle.gm_notes.specs.Lines.{shut_one}
 use Rattle.gm_tables.proofs.ConnLemmas.{touched_then}
 use Rattle.gm_tables.specs.Holds.{Keeps}
-use Rattle.gm_tables.proofs.CommandLemmas.{shut_next, shut_none}
+use Rattle.gm_requests.proofs.JobsMade.{shut_next, shut_none}
 use Rattle.gm_tables.proofs.server.Core.shut_each.Goals as goal
 
 pub loop-slot-preserved : goal.loop-slot-preserved

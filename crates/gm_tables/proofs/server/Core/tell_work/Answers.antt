@@ -1,7 +1,7 @@
 use Rattle.std.proofs.Common.{ap, ◌∙◌}
 use Rattle.gm_packet.specs.Answers.{answer_of}
 use Rattle.gm_notes.specs.Workers.{tell_work}
-use Rattle.gm_tables.specs.Serving.{said_report, work_of}
+use Rattle.gm_requests.specs.Actions.{said_report, work_of}
 use Rattle.gm_tables.proofs.CoreLemmas.{goes_as, goes_then}
 use Rattle.gm_tables.proofs.WorkLemmas.{told_after}
 use Rattle.gm_tables.proofs.server.Core.tell_work.Goals as goal

@@ -7,8 +7,10 @@ use Rattle.gm_notes.specs.Jobs.{made}
 use Rattle.gm_notes.specs.Past.{noted}
 use Rattle.gm_notes.specs.Closings.{expire_each, rising, tick}
 use Rattle.gm_notes.specs.Steps.{Tick, made_since, run}
-use Rattle.gm_tables.proofs.CoreLemmas.{goes_then, agrees_next, none_made}
-use Rattle.gm_tables.proofs.TickLemmas.{tick_made, goes_now}
+use Rattle.gm_tables.proofs.CoreLemmas.{goes_then, agrees_next}
+use Rattle.gm_requests.proofs.JobsMade.{none_made}
+use Rattle.gm_tables.proofs.TickLemmas.{goes_now}
+use Rattle.gm_requests.proofs.JobsMade.{tick_made}
 use Rattle.gm_tables.proofs.server.Core.tick.Goals as goal
 
 pub returns-clause-answers : goal.returns-clause-answers

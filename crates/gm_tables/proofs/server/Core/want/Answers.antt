@@ -2,7 +2,7 @@ use Rattle.std.proofs.Common.{refl}
 use Rattle.gm_notes.specs.declared.note.Note.TheVariants.{Listens}
 use Rattle.gm_notes.specs.Past.{noted}
 use Rattle.gm_notes.specs.Submissions.{wanted}
-use Rattle.gm_tables.specs.Holds.{submission_of}
+use Rattle.gm_requests.specs.Actions.{submission_of}
 use Rattle.gm_tables.proofs.CoreLemmas.{goes_as, does_as, goes_kept, does_listen}
 use Rattle.gm_tables.proofs.server.Core.want.Goals as goal
 

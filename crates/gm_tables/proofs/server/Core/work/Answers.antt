@@ -2,7 +2,7 @@ use Rattle.std.proofs.Common.{codes, sym, ◌∙◌}
 use Rattle.gm_notes.specs.Past.{refuse}
 use Rattle.gm_notes.specs.Jobs.{handled}
 use Rattle.gm_notes.specs.Workers.{tell_work, work}
-use Rattle.gm_tables.specs.Serving.{work_of}
+use Rattle.gm_requests.specs.Actions.{work_of}
 use Rattle.gm_tables.proofs.CoreLemmas.{does_as}
 use Rattle.gm_tables.proofs.WorkLemmas.{works_there, works_nowhere}
 use Rattle.gm_tables.proofs.server.Core.work.Goals as goal

@@ -1,0 +1,3 @@
+pub mod HandleTexts
+pub mod JobsMade
+mod ReadingLemmas

@@ -1,0 +1,5 @@
+pub mod Actions
+pub mod Carried
+pub mod Groups
+pub mod Lines
+pub mod Refusals
