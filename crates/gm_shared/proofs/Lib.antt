@@ -3,3 +3,4 @@ mod Phases
 mod Noops
 mod Following
 mod Applying
+mod Keeping

@@ -1,16 +1,27 @@
-//! The book of a job server that threads share: its core and the book's seat at the sleep words, as one value.
+//! The book of a job server that threads share: its core and the book's seat at the sleep words, as one value under a
+//! lock.
 //!
-//! A lock is to guard the book. What is done in one holding of it is one call here: `Booked::apply` looks at the
-//! word of the event's slot, takes back the NOOP that is owed there where the event wants that, lets the event take
-//! effect, and sees to it that the words follow. Nothing here looks at all slots.
+//! What is done in one holding of the lock is one call: `Booked::apply` looks at the word of the event's slot, takes
+//! back the NOOP that is owed there where the event wants that, lets the event take effect, and sees to it that the
+//! words follow. Nothing here looks at all slots.
+//!
+//! `Shared::open` makes of a `Blank` what threads share, with a `Desk` and a `Pen` for each slot: at a desk events are
+//! handed in, a pen takes out what waits for its slot. A pen takes an owed NOOP without the lock.
 #![tactic(auto)]
 
+mod blank;
 mod book;
 mod events;
+mod kept;
+mod name;
 mod receipt;
+mod shared;
 mod touched;
 mod words;
 
+pub use blank::Blank;
 pub use book::Booked;
+pub use name::BookName;
 pub use receipt::{Drained, Receipt};
+pub use shared::{Desk, Pen, Shared};
 pub use touched::SlotSet;

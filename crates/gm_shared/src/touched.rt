@@ -40,14 +40,14 @@ fn first_bit(word: u64, from: u32) -> Option<u32>
 
 impl SlotSet {
     /// The empty set.
-    pub(crate) fn new() -> SlotSet
+    pub fn new() -> SlotSet
         ensures { (i : ℕ) → has result i ≡ false }
     {
         SlotSet { words: [0; 16] }
     }
 
-    /// Puts a slot in.
-    pub(crate) fn insert(&mut self, slot: u32)
+    /// Puts a slot in, which is below 1,024.
+    pub fn insert(&mut self, slot: u32)
         requires { slot < 1024 }
         ensures { (i : ℕ) → has self.new i ≡ ((i == slot) || has self.old i) }
     {

@@ -1,0 +1,65 @@
+//! What the lock guards.
+
+ghost use Rattle.std.specs.Prelude.{◌≡◌};
+ghost use Rattle.gm_notes.specs.Servers.{step_of, IsSized};
+ghost use Rattle.gm_shared.specs.Books.{ClosesAlways};
+ghost use Rattle.gm_shared.specs.Shared.{IsKept, Applied, Emptied};
+
+use crate::book::Booked;
+use crate::name::BookName;
+use crate::receipt::{Drained, Receipt};
+use gm_notes::{ApplyError, Event};
+use gm_word::SleepTable;
+use std::marker::{Model, PhantomData};
+
+/// A book under its lock: it agrees with some settings and some list of steps, and its words are in the table that
+/// `K` names.
+#[derive(Drop)]
+pub(crate) struct Kept<K: BookName> {
+    booked: Booked,
+    of: PhantomData<K>,
+}
+
+impl<K: BookName> Model for Kept<K> {
+    ghost use Rattle.gm_shared.specs.declared.book.Booked.{Booked};
+    ghost use Rattle.gm_shared.specs.Shared.{IsKept};
+
+    ghost Value = { Booked };
+
+    ghost view = { λ kept. kept.booked };
+
+    ghost invariant = { λ kept. IsKept K.table kept.booked };
+}
+
+impl<K: BookName> Kept<K> {
+    pub(crate) fn new(booked: Booked) -> Kept<K>
+        requires { IsKept K.table booked }
+    {
+        Kept {
+            booked,
+            of: PhantomData,
+        }
+    }
+
+    /// `Booked::apply`, in one holding of the lock.
+    pub(crate) fn apply(
+        &mut self,
+        table: &SleepTable,
+        desk: u32,
+        event: &Event<'_>,
+    ) -> Result<Receipt, ApplyError>
+        requires size { IsSized event.now }
+        requires table { table.now ≡ K.table }
+        ensures applied { Applied (step_of event.now) result }
+        ensures memory { ClosesAlways (step_of event.now) result }
+    {
+        self.booked.apply(table, desk, event)
+    }
+
+    /// `Booked::drain`, in one holding of the lock.
+    pub(crate) fn drain(&mut self, slot: u32) -> Result<Drained, ApplyError>
+        ensures { Emptied slot result }
+    {
+        self.booked.drain(slot)
+    }
+}

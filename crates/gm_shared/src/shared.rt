@@ -1,0 +1,149 @@
+//! The book that threads share, and what each of them has of its own: desks, at which events are handed in, and pens,
+//! which take out what waits for a slot.
+
+ghost use Rattle.std.specs.Prelude.{◌≡◌, ◌+◌, IfOk, MatchBool, map};
+ghost use Rattle.gm_notes.specs.Servers.{step_of, IsSized};
+ghost use Rattle.gm_word.specs.Seats.{fresh_pens};
+ghost use Rattle.gm_shared.specs.Books.{ClosesAlways};
+ghost use Rattle.gm_shared.specs.Shared.{Applied, Emptied, numbers_below};
+
+use crate::blank::Blank;
+use crate::kept::Kept;
+use crate::name::BookName;
+use crate::receipt::{Drained, Receipt};
+use gm_notes::{ApplyError, Event};
+use gm_word::{PenSeat, SleepTable};
+use std::alloc::{AllocError, Global};
+use std::marker::PhantomData;
+use std::sync::{Mutex, Wait};
+
+/// The book of a job server, which threads share: the sleep words, and the core under its lock.
+#[derive(Drop)]
+pub struct Shared<K: BookName> {
+    table: SleepTable,
+    book: Mutex<Kept<K>>,
+    ghost named: { table ≡ K.table },
+}
+
+/// Where one thread hands in events. Desks have numbers: one for each slot, and that of the control desk is the
+/// number of slots.
+#[derive(Drop)]
+pub struct Desk<K: BookName> {
+    number: u32,
+    of: PhantomData<K>,
+}
+
+/// What takes out of the book what waits for one slot: its NOOP, and its bytes.
+#[derive(Drop)]
+pub struct Pen<K: BookName> {
+    slot: u32,
+    seat: PenSeat,
+    of: PhantomData<K>,
+    ghost named: { seat.table ≡ K.table },
+    ghost sits: { seat.slot ≡ slot },
+}
+
+impl<K: BookName> Shared<K> {
+    /// Opens a book: what is shared, a desk and a pen for each slot in their order, and the control desk.
+    pub fn open(
+        alloc: Global,
+        blank: Blank,
+    ) -> Result<(Shared<K>, Vec<Desk<K>>, Vec<Pen<K>>, Desk<K>), AllocError>
+        requires { blank.table ≡ K.table }
+        ensures desks { IfOk result (λ made. map (λ desk. desk.number) made.1.items ≡ numbers_below blank.slots) }
+        ensures pens { IfOk result (λ made. map (λ pen. pen.slot) made.2.items ≡ numbers_below blank.slots) }
+        ensures control { IfOk result (λ made. made.3.number ≡ blank.slots) }
+    {
+        let slots = blank.slots;
+        let desks = new_desks(alloc, slots)?;
+        let pens = new_pens(alloc, blank.seats, slots)?;
+        let shared = Shared {
+            table: blank.table,
+            book: Mutex::new(Kept::new(blank.booked)),
+        };
+        Ok((shared, desks, pens, Desk::new(slots)))
+    }
+}
+
+impl<K: BookName> Desk<K> {
+    fn new(number: u32) -> Desk<K>
+        ensures { result.number ≡ number }
+    {
+        Desk {
+            number,
+            of: PhantomData,
+        }
+    }
+
+    /// Hands in an event, which takes effect in one holding of the lock, as `Booked::apply` says. It may wait for the
+    /// lock. A closing never wants memory.
+    pub fn apply(
+        &mut self,
+        rt: &impl Wait,
+        shared: &Shared<K>,
+        event: Event<'_>,
+    ) -> Result<Receipt, ApplyError>
+        requires { IsSized event }
+        ensures applied { Applied (step_of event.entry) result }
+        ensures memory { ClosesAlways (step_of event.entry) result }
+        ensures number { self.new.number ≡ self.old.number }
+    {
+        shared
+            .book
+            .lock(rt)
+            .apply(&shared.table, self.number, &event)
+    }
+}
+
+impl<K: BookName> Pen<K> {
+    /// Takes the NOOP that the slot is owed, and says whether it did. It tries once, and never waits. The book enters
+    /// the taking when it next looks at the slot.
+    pub fn take(&mut self, shared: &Shared<K>) -> bool
+        ensures slot { self.new.slot ≡ self.old.slot }
+        ensures takes { MatchBool result (self.new.seat.takes ≡ self.old.seat.takes + 1) (self.new.seat.takes ≡ self.old.seat.takes) }
+    {
+        self.seat.take(&shared.table)
+    }
+
+    /// Takes the bytes that wait for the slot, which wait no more, and tells whether it is shut. `NotOpen` comes where
+    /// the slot isn't open; it changes nothing. It may wait for the lock, and needs no memory.
+    pub fn drain(&mut self, rt: &impl Wait, shared: &Shared<K>) -> Result<Drained, ApplyError>
+        ensures emptied { Emptied self.old.slot result }
+        ensures same { self.new ≡ self.old }
+    {
+        shared.book.lock(rt).drain(self.slot)
+    }
+}
+
+// A desk for each slot, in their order.
+fn new_desks<K: BookName>(alloc: Global, slots: u32) -> Result<Vec<Desk<K>>, AllocError>
+    ensures { IfOk result (λ made. map (λ desk. desk.number) made.items ≡ numbers_below slots) }
+{
+    let mut desks = Vec::with_capacity(alloc, slots as usize)?;
+    for number in 0..slots {
+        desks.push_reserved(Desk::new(number));
+    }
+    Ok(desks)
+}
+
+// A pen for each seat, in their order.
+fn new_pens<K: BookName>(
+    alloc: Global,
+    seats: Vec<PenSeat>,
+    slots: u32,
+) -> Result<Vec<Pen<K>>, AllocError>
+    requires { seats.items ≡ fresh_pens K.table slots }
+    ensures { IfOk result (λ made. map (λ pen. pen.slot) made.items ≡ numbers_below slots) }
+{
+    let mut pens = Vec::with_capacity(alloc, slots as usize)?;
+    let mut slot = 0;
+    for seat in seats {
+        pens.push_reserved(Pen {
+            slot,
+            seat,
+            of: PhantomData,
+        });
+        slot += 1;
+    }
+    Ok(pens)
+}

@@ -1,0 +1,5 @@
+use Rattle.gm_thread_tests.proofs.crowds.crowd_anew.Given as goal
+
+-- the table of the book that was just made
+abbrev pub ghosts-crowd : goal.ghosts-crowd
+ghosts-crowd g a = record { table = a.blank.table }

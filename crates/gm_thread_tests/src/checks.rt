@@ -1,0 +1,19 @@
+//! What tests ask of values. A call of one of these costs a proof little; an assertion in its place would be spelled out
+//! anew each time.
+
+ghost use Rattle.std.specs.Prelude.{IsTrue};
+
+use std::fmt::Debug;
+use std::process::Abort;
+
+/// The test fails where this doesn't hold.
+pub fn must(rt: &impl Abort, holds: bool)
+    ensures { IsTrue holds }
+{
+    assert!(rt; holds);
+}
+
+/// The test fails where these aren't the same, and says at what.
+pub fn same<A: Debug + Copy, T: PartialEq + Debug>(rt: &impl Abort, at: A, got: &T, wanted: &T) {
+    assert!(rt; got == wanted, "at {at:?}: {got:?}, and not {wanted:?}");
+}
