@@ -1,0 +1,151 @@
+//! The control thread: it takes connections, and tells the time.
+
+use crate::connection::start;
+use crate::error::ServeError;
+use crate::gate::Gate;
+use crate::serving::Serving;
+use gm_notes::Event;
+use gm_shared::{BookName, Desk};
+use std::alloc::AllocError;
+use std::io::ErrorKind;
+use std::net::{SocketAddr, TcpListener, TcpStream};
+use std::os::fd::OwnedFd;
+use std::sync::{Arc, Wait};
+use std::thread::{Scope, Threads};
+use std::time::{Clock, Duration, Instant};
+use std::{io, thread};
+
+/// How many milliseconds the control thread waits for somebody to call. It is what a tick and the end may be late by.
+const CALL: u64 = 50;
+
+/// Has `accept` return where nobody calls for a while.
+pub(crate) fn limit_waiting(listener: &TcpListener) -> io::Result<()> {
+    let same = listener.try_clone()?;
+    TcpStream::from(OwnedFd::from(same)).set_read_timeout(Some(Duration::from_millis(CALL)))
+}
+
+/// Sets up an accepted socket, which has its listener's timeout at first.
+fn prepare(stream: &TcpStream) -> io::Result<()> {
+    stream.set_read_timeout(None)?;
+    stream.set_nodelay(true)
+}
+
+/// Whether a listener that failed so goes on.
+fn goes_on(error: &io::Error) -> bool {
+    !matches!(
+        error.kind(),
+        ErrorKind::InvalidInput | ErrorKind::Unsupported
+    )
+}
+
+/// Whether nobody called, or the one who did is gone.
+fn is_usual(error: &io::Error) -> bool {
+    matches!(
+        error.kind(),
+        ErrorKind::WouldBlock
+            | ErrorKind::TimedOut
+            | ErrorKind::Interrupted
+            | ErrorKind::ConnectionAborted
+    )
+}
+
+/// What the control thread works with.
+#[derive(Drop)]
+pub(crate) struct Control<'s, K: BookName> {
+    serving: &'s Serving<K>,
+    desk: Desk<K>,
+    /// How many connections were opened.
+    opened: u64,
+    begun: Option<Instant>,
+    /// The last second that was told.
+    second: u64,
+}
+
+impl<'s, K: BookName + Send + Sync> Control<'s, K> {
+    pub(crate) fn new(rt: &impl Clock, serving: &'s Serving<K>, desk: Desk<K>) -> Control<'s, K> {
+        Control {
+            serving,
+            desk,
+            opened: 0,
+            begun: Instant::now(rt).ok(),
+            second: 0,
+        }
+    }
+
+    /// Tells the book the second, if it is another. A clock that can't be read tells nothing.
+    fn tick<R: Wait + Clock>(&mut self, rt: &R) {
+        let Some(begun) = &self.begun else {
+            return;
+        };
+        let Ok(elapsed) = begun.elapsed(rt) else {
+            return;
+        };
+        let now = elapsed.as_secs();
+        if now != self.second {
+            self.second = now;
+            self.serving.apply(rt, &mut self.desk, Event::Tick { now });
+        }
+    }
+
+    /// Opens a connection. One that is refused is closed without a byte.
+    fn admit<E, R: Threads + Wait + Sync, G: Gate>(
+        &mut self,
+        scope: &Scope<'s, E>,
+        rt: &'s R,
+        gate: &'s G,
+        stream: TcpStream,
+        peer: SocketAddr,
+    ) -> Result<(), AllocError> {
+        let Ok(()) = prepare(&stream) else {
+            return Ok(());
+        };
+        let alloc = self.serving.alloc();
+        let ip = peer.ip();
+        let addr = format!(in alloc; "{ip}")?;
+        let stream = Arc::new(alloc, stream)?;
+        let opening = Event::Open {
+            addr: addr.as_bytes(),
+        };
+        let Some(slot) = self.serving.apply(rt, &mut self.desk, opening) else {
+            return Ok(());
+        };
+        self.opened = self.opened.saturating_add(1);
+        if !start(scope, rt, self.serving, gate, slot, stream) {
+            self.serving
+                .apply(rt, &mut self.desk, Event::Close { slot });
+        }
+        Ok(())
+    }
+
+    /// Takes connections and tells the time until the server is over. It answers how many connections were opened.
+    pub(crate) fn run<E, R: Threads + Wait + Clock + Sync, G: Gate>(
+        mut self,
+        scope: &Scope<'s, E>,
+        rt: &'s R,
+        gate: &'s G,
+        listener: &TcpListener,
+    ) -> Result<u64, ServeError> {
+        for _ in rt.forever() {
+            self.tick(rt);
+            match listener.accept() {
+                Ok((stream, peer)) => {
+                    // Where memory is wanting, the connection is closed, and the server goes on.
+                    let _ = self.admit(scope, rt, gate, stream, peer);
+                }
+                Err(error) if is_usual(&error) => {}
+                Err(error) if goes_on(&error) => {
+                    // There may be too many open files, which others have to close first.
+                    thread::sleep(rt, Duration::from_millis(CALL));
+                }
+                Err(_) => {
+                    self.serving.stop();
+                    return Err(ServeError::Listen);
+                }
+            }
+            if self.serving.is_over() {
+                break;
+            }
+        }
+        Ok(self.opened)
+    }
+}

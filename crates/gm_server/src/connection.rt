@@ -1,0 +1,46 @@
+//! The threads of a connection.
+
+use crate::gate::Gate;
+use crate::serving::Serving;
+use gm_shared::BookName;
+use std::alloc::Global;
+use std::net::TcpStream;
+use std::sync::{Arc, Wait};
+use std::thread::{Scope, Threads};
+
+/// Starts the reader and the writer of a connection, and says whether it could.
+pub(crate) fn start<'s, E, K: BookName + Send + Sync, G: Gate, R: Threads + Wait + Sync>(
+    scope: &Scope<'s, E>,
+    rt: &'s R,
+    serving: &'s Serving<K>,
+    gate: &'s G,
+    slot: u32,
+    stream: Arc<TcpStream, Global>,
+) -> bool {
+    let Some(lane) = serving.lane(slot) else {
+        return false;
+    };
+    let Ok(sending) = Arc::try_clone(&stream) else {
+        return false;
+    };
+    lane.begin(rt, sending);
+    if scope
+        .spawn(move || lane.run_writer(rt, serving.shared()))
+        .is_err()
+    {
+        lane.release(rt);
+        return false;
+    }
+    serving.begin();
+    let reader = move || {
+        serving.run_reader(rt, gate, slot, &stream);
+        drop(stream);
+        serving.end();
+    };
+    if scope.spawn(reader).is_err() {
+        lane.end(rt);
+        serving.end();
+        return false;
+    }
+    true
+}

@@ -1,0 +1,269 @@
+//! What a slot has of its own: where its connection's events are handed in, and the way of its bytes to the socket.
+
+use crate::turn::{Halt, noop_if, write_both};
+use crossbeam_utils::sync::{Parker, Unparker};
+use gm_shared::{BookName, Desk, Pen, Shared};
+use std::alloc::{AllocError, Global};
+use std::io::Write;
+use std::net::{Shutdown, TcpStream};
+use std::sync::atomic::{AtomicBool, Ordering};
+use std::sync::{Arc, Condvar, Mutex, Wait};
+use std::time::Duration;
+
+/// How many milliseconds a write waits that isn't the writer's: about the least that a system can wait.
+const AT_ONCE: u64 = 1;
+
+/// How many milliseconds a write of the writer waits at a time, for a peer that takes nothing.
+const PATIENT: u64 = 250;
+
+/// How many such waits in turn end a connection that is to end, where the peer takes nothing at all.
+const LAST_WAITS: u32 = 8;
+
+/// What is being sent: drained bytes, and then a NOOP where one was taken.
+#[derive(Drop)]
+struct Turn {
+    bytes: Vec<u8>,
+    took: bool,
+    written: usize,
+}
+
+impl Turn {
+    /// Sends what isn't written yet.
+    fn send<W: Write>(&mut self, w: &mut W) -> Result<(), Halt> {
+        let noop = noop_if(self.took);
+        let first = self.written.min(self.bytes.len());
+        let second = (self.written - first).min(noop.len());
+        match write_both(&self.bytes[first..], &noop[second..], w) {
+            Ok(()) => Ok(()),
+            Err(halt) => {
+                self.written = self.written.saturating_add(halt.written);
+                Err(halt)
+            }
+        }
+    }
+}
+
+/// What came of a delivery.
+#[derive(Clone, Copy, PartialEq, Eq)]
+pub(crate) enum Delivery {
+    /// All was sent.
+    Done,
+    /// The peer takes nothing at present; what is left waits in the lane.
+    Late,
+    /// There is no connection to send to.
+    Over,
+}
+
+/// What is to be sent to a connection, and where.
+#[derive(Drop)]
+pub(crate) struct Outgoing<K: BookName> {
+    pen: Pen<K>,
+    stream: Option<Arc<TcpStream, Global>>,
+    left: Option<Turn>,
+    has_writer: bool,
+}
+
+impl<K: BookName> Outgoing<K> {
+    /// Ends the connection, so that its reader ends.
+    fn hang_up(&mut self) {
+        if let Some(stream) = &self.stream {
+            // Where it fails, the peer is gone already.
+            let _ = stream.shutdown(Shutdown::Both);
+        }
+        self.left = None;
+    }
+
+    /// How much of the present turn is written.
+    fn written(&self) -> Option<usize> {
+        match &self.left {
+            Some(turn) => Some(turn.written),
+            None => None,
+        }
+    }
+
+    /// Sets how many milliseconds a write waits.
+    fn set_patience(&self, patience: u64) {
+        if let Some(stream) = &self.stream {
+            // Where it fails, writes fail too.
+            let _ = stream.set_write_timeout(Some(Duration::from_millis(patience)));
+        }
+    }
+
+    /// Sends what is left of the present turn.
+    fn send_left(&mut self) -> Delivery {
+        let Some(stream) = &self.stream else {
+            return Delivery::Over;
+        };
+        let Some(turn) = &mut self.left else {
+            return Delivery::Done;
+        };
+        let mut socket: &TcpStream = stream;
+        match turn.send(&mut socket) {
+            Ok(()) => {
+                self.left = None;
+                Delivery::Done
+            }
+            Err(halt) if halt.late => Delivery::Late,
+            Err(_) => {
+                self.hang_up();
+                Delivery::Over
+            }
+        }
+    }
+
+    /// Sends what was left, and then what waits in the book: the bytes, and a NOOP where one is owed. Where the slot
+    /// is shut and all is sent, the connection ends.
+    fn deliver(&mut self, rt: &impl Wait, shared: &Shared<K>) -> Delivery {
+        let before = self.send_left();
+        if before != Delivery::Done {
+            return before;
+        }
+        let took = self.pen.take(shared);
+        let Ok(drained) = self.pen.drain(rt, shared) else {
+            self.hang_up();
+            return Delivery::Over;
+        };
+        let shut = drained.shut;
+        if took || !drained.bytes.is_empty() {
+            self.left = Some(Turn {
+                bytes: drained.bytes,
+                took,
+                written: 0,
+            });
+        }
+        let sent = self.send_left();
+        if shut && sent == Delivery::Done {
+            self.hang_up();
+            return Delivery::Over;
+        }
+        sent
+    }
+}
+
+/// What a slot has of its own. Each part is behind a lock: the desk is the reader's while a connection has the slot,
+/// the parker the writer's, and what is to be sent is whose turn it is.
+#[derive(Drop)]
+pub(crate) struct Lane<K: BookName> {
+    pub(crate) desk: Mutex<Desk<K>>,
+    outgoing: Mutex<Outgoing<K>>,
+    parker: Mutex<Parker>,
+    unparker: Unparker,
+    // The writer let go of the connection.
+    released: Condvar,
+    // The connection is to end.
+    is_ending: AtomicBool,
+}
+
+impl<K: BookName> Lane<K> {
+    pub(crate) fn new(alloc: Global, desk: Desk<K>, pen: Pen<K>) -> Result<Lane<K>, AllocError> {
+        let parker = Parker::new(alloc)?;
+        let unparker = parker.unparker().clone()?;
+        Ok(Lane {
+            desk: Mutex::new(desk),
+            outgoing: Mutex::new(Outgoing {
+                pen,
+                stream: None,
+                left: None,
+                has_writer: false,
+            }),
+            parker: Mutex::new(parker),
+            unparker,
+            released: Condvar::new(),
+            is_ending: AtomicBool::new(false),
+        })
+    }
+
+    /// Takes a connection, for which a writer is about to start.
+    pub(crate) fn begin(&self, rt: &impl Wait, stream: Arc<TcpStream, Global>) {
+        self.is_ending.store(false, Ordering::SeqCst);
+        let mut outgoing = self.outgoing.lock(rt);
+        outgoing.stream = Some(stream);
+        outgoing.left = None;
+        outgoing.has_writer = true;
+        outgoing.set_patience(AT_ONCE);
+    }
+
+    /// Ends the connection, and lets go of it. The writer is at its end, or was never made.
+    pub(crate) fn release(&self, rt: &impl Wait) {
+        let mut outgoing = self.outgoing.lock(rt);
+        outgoing.hang_up();
+        outgoing.stream = None;
+        outgoing.has_writer = false;
+        drop(outgoing);
+        self.released.notify_all();
+    }
+
+    /// Has the writer send what there is, and end the connection.
+    pub(crate) fn hurry(&self) {
+        self.is_ending.store(true, Ordering::SeqCst);
+        self.unparker.unpark();
+    }
+
+    /// Has the writer send what there is, and waits until it has let go of the connection.
+    pub(crate) fn end(&self, rt: &impl Wait) {
+        self.hurry();
+        let outgoing = self
+            .released
+            .wait_while(rt, self.outgoing.lock(rt), |outgoing| outgoing.has_writer);
+        drop(outgoing);
+    }
+
+    /// Delivers, if nobody else does and the peer isn't slow; else it has the writer do so.
+    pub(crate) fn try_deliver(&self, rt: &impl Wait, shared: &Shared<K>) {
+        let Some(mut outgoing) = self.outgoing.try_lock() else {
+            // Who has the lock may have looked before there was anything to send.
+            self.unparker.unpark();
+            return;
+        };
+        // What is left is the writer's to send, which was told when it was left.
+        if outgoing.left.is_some() {
+            return;
+        }
+        let delivery = outgoing.deliver(rt, shared);
+        drop(outgoing);
+        if delivery == Delivery::Late {
+            self.unparker.unpark();
+        }
+    }
+
+    /// Delivers, and waits for a slow peer; where the connection is to end, not for long.
+    fn deliver_patiently(&self, rt: &impl Wait, shared: &Shared<K>) {
+        let mut outgoing = self.outgoing.lock(rt);
+        if outgoing.deliver(rt, shared) != Delivery::Late {
+            return;
+        }
+        outgoing.set_patience(PATIENT);
+        let mut waits = 0u32;
+        for _ in rt.forever() {
+            let before = outgoing.written();
+            if outgoing.deliver(rt, shared) != Delivery::Late {
+                break;
+            }
+            if outgoing.written() != before {
+                waits = 0;
+            } else if self.is_ending.load(Ordering::SeqCst) {
+                waits = waits.saturating_add(1);
+            }
+            if waits >= LAST_WAITS {
+                outgoing.hang_up();
+                break;
+            }
+        }
+        outgoing.set_patience(AT_ONCE);
+    }
+
+    /// Runs the writer of a connection.
+    pub(crate) fn run_writer(&self, rt: &impl Wait, shared: &Shared<K>) {
+        let parker = self.parker.lock(rt);
+        for _ in rt.forever() {
+            let is_last = self.is_ending.load(Ordering::SeqCst);
+            self.deliver_patiently(rt, shared);
+            if is_last {
+                break;
+            }
+            parker.park(rt);
+        }
+        drop(parker);
+        self.release(rt);
+    }
+}

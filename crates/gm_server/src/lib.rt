@@ -1,0 +1,28 @@
+//! A job server over sockets: what one connection reads and writes, the threads that run them, and the words that the
+//! program `gmd` is given.
+//!
+//! A connection has two threads. Its reader cuts what it reads into units and hands them to the book; its writer
+//! waits until something is to be sent that nobody else sent. What is to be sent to a connection lies behind a lock of
+//! that connection: whoever finds it free sends, and whoever doesn't wakes the writer.
+#![tactic(auto)]
+
+mod accepting;
+mod connection;
+mod error;
+mod gate;
+mod lane;
+mod run;
+mod server;
+mod serving;
+mod session;
+mod settings;
+mod turn;
+mod words;
+
+pub use error::ServeError;
+pub use gate::{Gate, OpenGate};
+pub use run::run_words;
+pub use server::serve;
+pub use session::{SessionEnd, read_session};
+pub use settings::{Served, Settings};
+pub use turn::{WriteFault, write_turn};

@@ -1,0 +1,174 @@
+//! What all threads of a server share.
+
+ghost use Rattle.std.specs.Prelude.{◌≡◌, ◌≤◌};
+ghost use Rattle.gm_notes.specs.Servers.{IsSized};
+
+use crate::gate::Gate;
+use crate::lane::Lane;
+use crate::session::{MOST_SLOTS, Notify, Told, run_session};
+use gm_feeder::Limits;
+use gm_notes::{Event, Mode};
+use gm_shared::{BookName, Desk, Pen, Shared};
+use std::alloc::{AllocError, Global};
+use std::net::TcpStream;
+use std::sync::Wait;
+use std::sync::atomic::{AtomicBool, AtomicU64, Ordering};
+
+/// What all threads of a server share.
+#[derive(Drop)]
+pub(crate) struct Serving<K: BookName> {
+    alloc: Global,
+    shared: Shared<K>,
+    lanes: Vec<Lane<K>>,
+    limits: Limits,
+    // How many connections are open.
+    connections: AtomicU64,
+    // The server takes no new connections, and ends once there are none.
+    is_ending: AtomicBool,
+    // Each connection was told to end.
+    is_stopped: AtomicBool,
+    ghost sized: { limits.max_bytes ≤ 1073741824 },
+}
+
+/// A lane for each slot, in their order.
+fn new_lanes<K: BookName>(
+    alloc: Global,
+    desks: Vec<Desk<K>>,
+    pens: Vec<Pen<K>>,
+) -> Result<Vec<Lane<K>>, AllocError> {
+    let mut lanes = Vec::with_capacity(alloc, desks.len())?;
+    for (desk, pen) in desks.into_iter().zip(pens) {
+        lanes.push(Lane::new(alloc, desk, pen)?)?;
+    }
+    Ok(lanes)
+}
+
+impl<K: BookName> Serving<K> {
+    /// What the threads of a new server share.
+    pub(crate) fn new(
+        alloc: Global,
+        shared: Shared<K>,
+        desks: Vec<Desk<K>>,
+        pens: Vec<Pen<K>>,
+        limits: Limits,
+    ) -> Result<Serving<K>, AllocError>
+        requires { limits.max_bytes ≤ 1073741824 }
+    {
+        let lanes = new_lanes(alloc, desks, pens)?;
+        Ok(Serving {
+            alloc,
+            shared,
+            lanes,
+            limits,
+            connections: AtomicU64::new(0),
+            is_ending: AtomicBool::new(false),
+            is_stopped: AtomicBool::new(false),
+        })
+    }
+
+    pub(crate) fn alloc(&self) -> Global {
+        self.alloc
+    }
+
+    pub(crate) fn shared(&self) -> &Shared<K> {
+        &self.shared
+    }
+
+    pub(crate) fn lane(&self, slot: u32) -> Option<&Lane<K>> {
+        self.lanes.get(slot as usize)
+    }
+
+    /// Whether the server takes no new connections, and has none.
+    pub(crate) fn is_over(&self) -> bool {
+        self.is_ending.load(Ordering::SeqCst) && self.connections.load(Ordering::SeqCst) == 0
+    }
+
+    /// Counts a connection that is about to start.
+    pub(crate) fn begin(&self) {
+        self.connections.fetch_add(1, Ordering::SeqCst);
+    }
+
+    /// Counts a connection that is gone.
+    pub(crate) fn end(&self) {
+        self.connections.fetch_sub(1, Ordering::SeqCst);
+    }
+
+    /// Has each connection end.
+    pub(crate) fn stop(&self) {
+        if self.is_stopped.swap(true, Ordering::SeqCst) {
+            return;
+        }
+        for lane in &self.lanes {
+            lane.hurry();
+        }
+    }
+
+    /// Delivers to each of the slots.
+    fn deliver(&self, rt: &impl Wait, told: &Told) {
+        let mut from = 0;
+        for _ in 0..MOST_SLOTS {
+            let Some(slot) = told.touched.next(from) else {
+                return;
+            };
+            if let Some(lane) = self.lane(slot) {
+                lane.try_deliver(rt, &self.shared);
+            }
+            from = slot + 1;
+        }
+    }
+
+    /// Applies an event at a desk, and tells what came of it. It answers the slot that was opened.
+    pub(crate) fn apply<R: Wait>(&self, rt: &R, desk: &mut Desk<K>, event: Event<'_>) -> Option<u32>
+        requires { IsSized event }
+    {
+        let Ok(receipt) = desk.apply(rt, &self.shared, event) else {
+            return None;
+        };
+        let mut told = Told::new();
+        told.add(&receipt.touched, receipt.mode);
+        self.notify(rt, &told);
+        receipt.done.opened
+    }
+
+    /// Runs the reader of a connection, and ends the connection with it.
+    pub(crate) fn run_reader<R: Wait, G: Gate>(
+        &self,
+        rt: &R,
+        gate: &G,
+        slot: u32,
+        stream: &TcpStream,
+    ) {
+        let Some(lane) = self.lane(slot) else {
+            return;
+        };
+        let mut desk = lane.desk.lock(rt);
+        let mut reader = stream;
+        run_session(
+            rt,
+            self.alloc,
+            &mut reader,
+            &self.shared,
+            &mut desk,
+            slot,
+            self.limits,
+            gate,
+            self,
+        );
+        lane.end(rt);
+        self.apply(rt, &mut desk, Event::Close { slot });
+    }
+}
+
+impl<K: BookName> Notify for Serving<K> {
+    fn notify<R: Wait>(&self, rt: &R, told: &Told) {
+        match told.mode {
+            Mode::Running => {}
+            Mode::Graceful => self.is_ending.store(true, Ordering::SeqCst),
+            Mode::Stopped => {
+                self.is_ending.store(true, Ordering::SeqCst);
+                self.stop();
+            }
+        }
+        self.deliver(rt, told);
+    }
+}

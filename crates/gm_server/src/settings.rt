@@ -1,0 +1,24 @@
+//! What a server is asked to be, and what it was.
+
+use gm_feeder::Limits;
+use gm_notes::Config;
+
+/// What a server is asked to be.
+#[derive(Drop)]
+pub struct Settings {
+    /// The book's settings.
+    pub config: Config,
+    /// How large a unit may be.
+    pub limits: Limits,
+    /// Whether a tape is kept of what happens. None is kept yet.
+    pub tape: bool,
+}
+
+/// What a server did until it ended.
+#[derive(Clone, Copy, Debug, PartialEq, Eq)]
+pub struct Served {
+    /// How many connections were opened; at the greatest `u64` it stays there.
+    pub connections: u64,
+    /// How many entries the tape has; 0 where none was kept.
+    pub entries: u64,
+}

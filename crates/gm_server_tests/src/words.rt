@@ -1,0 +1,67 @@
+//! The program's words.
+
+use crate::checks::same;
+use gm_server::run_words;
+use std::alloc::AllocError;
+use std::net::{Net, TcpListener, TcpStream};
+use std::random::RandomSource;
+use std::sync::Wait;
+use std::test::Fail;
+use std::thread::Threads;
+use std::time::Clock;
+
+/// The status for these words after the program's name, and what is printed.
+fn outcome<
+    R: Threads
+        + Wait
+        + Clock
+        + RandomSource
+        + Net<Listener = TcpListener, Stream = TcpStream>
+        + Eprint
+        + AllocGlobal
+        + Sync,
+>(rt: &R, words: &[&str]) -> Result<(u8, Vec<u8>), AllocError> {
+    let alloc = rt.alloc();
+    let mut all = Vec::new(alloc);
+    all.push(String::from_str(alloc, "gmd")?)?;
+    for word in words {
+        all.push(String::from_str(alloc, word)?)?;
+    }
+    let mut printed = Vec::new(alloc);
+    let status = run_words(rt, &all, &mut printed);
+    Ok((status, printed))
+}
+
+/// Words, and the status.
+static STATUSES: [(&[&str], u8); 13] = [
+    (&["--check"], 0),
+    (&["--help"], 0),
+    (&["--version"], 0),
+    (&["--check", "--slots", "0"], 2),
+    (&["--check", "--slots", "1025"], 2),
+    (&["--check", "--port", "65536"], 2),
+    (&["--check", "--port", "0"], 2),
+    (&["--check", "--name", "a:b"], 2),
+    (&["--check", "--max-data", "1073741825"], 2),
+    (&["--check", "--tape"], 2),
+    (&["--jump"], 2),
+    (&["here"], 2),
+    (&["--listen", "203.0.113.1"], 3),
+];
+
+#[test]
+fn statuses(rt: HostRuntime) -> Result<(), Fail> {
+    for (words, status) in &STATUSES {
+        let (found, _) = outcome(&rt, words)?;
+        same(&rt, words, &found, status);
+    }
+    Ok(())
+}
+
+#[test]
+fn check_line(rt: HostRuntime) -> Result<(), Fail> {
+    let (_, printed) = outcome(&rt, &["--check", "--port", "1", "--name", "a.b-c"])?;
+    let line = b"port=1 listen=0.0.0.0 slots=64 name=a.b-c max-data=67108864 tape=0\n";
+    same(&rt, "the settings", &printed.as_slice(), &line.as_slice());
+    Ok(())
+}
