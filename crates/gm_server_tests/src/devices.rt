@@ -85,7 +85,7 @@ fn write_turns(rt: HostRuntime) -> std::result::Result<(), Fail> {
 }
 
 #[test]
-fn failing_writer(rt: HostRuntime) {
+fn device_fails(rt: HostRuntime) {
     for room in 0..15 {
         let (outcome, taken) = turn_in(rt.alloc(), room, true, b"abc");
         same(&rt, "a fault", &outcome, &Err(WriteFault { written: room }));
