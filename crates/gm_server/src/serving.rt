@@ -11,8 +11,8 @@ use gm_notes::{Event, Mode};
 use gm_shared::{BookName, Desk, Pen, Shared};
 use std::alloc::{AllocError, Global};
 use std::net::TcpStream;
-use std::sync::Wait;
 use std::sync::atomic::{AtomicBool, AtomicU64, Ordering};
+use std::sync::{Mutex, Wait};
 
 /// What all threads of a server share.
 #[derive(Drop)]
@@ -21,6 +21,8 @@ pub(crate) struct Serving<K: BookName> {
     shared: Shared<K>,
     lanes: Vec<Lane<K>>,
     limits: Limits,
+    // Long pieces pass it one after another.
+    turnstile: Mutex<()>,
     // How many connections are open.
     connections: AtomicU64,
     // The server takes no new connections, and ends once there are none.
@@ -60,6 +62,7 @@ impl<K: BookName> Serving<K> {
             shared,
             lanes,
             limits,
+            turnstile: Mutex::new(()),
             connections: AtomicU64::new(0),
             is_ending: AtomicBool::new(false),
             is_stopped: AtomicBool::new(false),
@@ -152,6 +155,7 @@ impl<K: BookName> Serving<K> {
             slot,
             self.limits,
             gate,
+            &self.turnstile,
             self,
         );
         lane.end(rt);

@@ -11,10 +11,13 @@ use gm_notes::{ApplyError, Event, Mode, UnitFault};
 use gm_shared::{BookName, Desk, Shared, SlotSet};
 use std::alloc::Global;
 use std::io::{ErrorKind, Read};
-use std::sync::Wait;
+use std::sync::{Mutex, Wait};
 
 /// The most bytes that are read at a time.
 const PIECE: usize = 16_384;
+
+/// The most bytes of a piece that doesn't wait for others: a few requests without data.
+const SHORT_PIECE: usize = 256;
 
 /// The most pieces that a session reads.
 const TURNS: u64 = 1_099_511_627_776;
@@ -108,6 +111,7 @@ struct Session<'s, K: BookName, G> {
     desk: &'s mut Desk<K>,
     slot: u32,
     gate: &'s G,
+    turnstile: &'s Mutex<()>,
     turn: u64,
 }
 
@@ -211,7 +215,16 @@ impl<'s, K: BookName, G: Gate> Session<'s, K, G> {
             return Some(Stop::Memory);
         };
         let mut told = Told::new();
-        let end = self.unload(rt, feeder, &mut told);
+        let end = if piece.len() > SHORT_PIECE {
+            // Many units in a row, of several connections at once, would wake and sleep at the book's lock at each unit.
+            let turnstile = self.turnstile;
+            let held = turnstile.lock(rt);
+            let end = self.unload(rt, feeder, &mut told);
+            drop(held);
+            end
+        } else {
+            self.unload(rt, feeder, &mut told)
+        };
         notify.notify(rt, &told);
         end
     }
@@ -252,6 +265,7 @@ pub(crate) fn run_session<K: BookName, S: Wait, R: Read, G: Gate, N: Notify>(
     slot: u32,
     limits: Limits,
     gate: &G,
+    turnstile: &Mutex<()>,
     notify: &N,
 ) -> SessionEnd
     requires { limits.max_bytes ≤ 1073741824 }
@@ -262,6 +276,7 @@ pub(crate) fn run_session<K: BookName, S: Wait, R: Read, G: Gate, N: Notify>(
         desk,
         slot,
         gate,
+        turnstile,
         turn: 0,
     };
     let mut feeder = Feeder::new(alloc, limits);
@@ -298,5 +313,8 @@ pub fn read_session<K: BookName, S: Wait, R: Read, G: Gate>(
     requires { limits.max_bytes ≤ 1073741824 }
     ensures { result ≡ SessionEnd.Ended → IsAtEnd (R.remaining reader.new) }
 {
-    run_session(rt, alloc, reader, shared, desk, slot, limits, gate, &Nobody)
+    let turnstile = Mutex::new(());
+    run_session(
+        rt, alloc, reader, shared, desk, slot, limits, gate, &turnstile, &Nobody,
+    )
 }
