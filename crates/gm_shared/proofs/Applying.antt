@@ -26,7 +26,7 @@ use Rattle.gm_shared.specs.declared.events.Noop.TheVariants.{Left, Taken, Withdr
 use Rattle.gm_shared.specs.declared.book.Booked.{Booked}
 use Rattle.gm_shared.specs.Words.{worded}
 use Rattle.gm_shared.specs.Events.{MayFind, entered}
-use Rattle.gm_shared.specs.Books.{takings, withdrawals, WordsAgree, BookedAgrees, FollowsCore}
+use Rattle.gm_shared.specs.Books.{takings, withdrawals, WordsAgree, Holds, FollowsCore}
 use Rattle.gm_shared.proofs.Phases.{Spares, awake_unless_open, awake_when_new, open_stays, owed_stays}
 use Rattle.gm_shared.proofs.Noops.{words_owed, owes_if, past_slots, took_awake, withdrew_awake}
 
@@ -94,7 +94,7 @@ phase_if_open core k steps h c e = ap (λ (x : Seen). x.phase) (h.past.conns.see
 
 -- ---- an event
 
-module _ (k : Settings) (e : Event) (steps : List Step) (mid after new : Booked) (told : List ℕ) (h : BookedAgrees mid k steps) (seat : after.seat ≡ mid.seat) (slots : after.slots ≡ mid.slots)
+module _ (k : Settings) (e : Event) (steps : List Step) (mid after new : Booked) (told : List ℕ) (h : Holds mid k steps) (seat : after.seat ≡ mid.seat) (slots : after.slots ≡ mid.slots)
     (core : CoreAgrees after.core k (step_of e ∷ steps)) (touched : AllTouched mid.core.conns after.core.conns) (follows : FollowsCore (step_of e) told after new)
     (calm : (c : ℕ) → step_of e ≡ Close c → phase c (run k steps).notes ≡ Owed → ⊥) where
   before : ℕ → Phase
@@ -148,7 +148,7 @@ module _ (k : Settings) (e : Event) (steps : List Step) (mid after new : Booked)
   taken_back c true is = (follows.follows.here c is).withdrawals
   taken_back c false is = ap (λ (l : WordLine). l.withdrawals) (follows.follows.elsewhere c is)
 
-  pub agrees_after : BookedAgrees new k (step_of e ∷ steps)
+  pub agrees_after : Holds new k (step_of e ∷ steps)
   agrees_after = record {
     core = follows.follows.agrees k (step_of e ∷ steps) core;
     slots = follows.follows.slots ∙ (slots ∙ h.slots);

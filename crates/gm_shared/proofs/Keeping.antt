@@ -1,5 +1,5 @@
 -- What the lock keeps after a holding, and the pens that it is opened with.
-use Rattle.std.proofs.Common.{◌≡◌, ℕ, zero, suc, ◌<◌, List, [], ◌∷◌, ◌++◌, ◌+◌, length, map, Result, Ok, Err, refl, sym, ap, ◌∙◌, arith, add-one}
+use Rattle.std.proofs.Common.{◌≡◌, ℕ, Bool, zero, suc, ◌<◌, List, [], ◌∷◌, ◌++◌, ◌+◌, length, map, Result, Ok, Err, refl, sym, ap, subst, ◌∙◌, arith, add-one}
 use Rattle.std.proofs.lemmas.List.{map-append}
 use Rattle.atomic_table.specs.Seated.{TableId}
 use Rattle.gm_notes.specs.declared.event.ApplyError.{ApplyError}
@@ -7,22 +7,32 @@ use Rattle.gm_notes.specs.Settings.{Settings}
 use Rattle.gm_notes.specs.Steps.{Step, Drain}
 use Rattle.gm_word.specs.Seats.{PenState, fresh_pen, fresh_pens}
 use Rattle.gm_shared.specs.declared.book.Booked.{Booked}
-use Rattle.gm_shared.specs.declared.events.Noop.{Noop}
+use Rattle.gm_shared.specs.declared.tape.Told.{Told}
 use Rattle.gm_shared.specs.declared.receipt.Receipt.{Receipt}
 use Rattle.gm_shared.specs.declared.receipt.Drained.{Drained}
 use Rattle.gm_shared.specs.Events.{entered}
-use Rattle.gm_shared.specs.Books.{Holding, Drains}
+use Rattle.gm_shared.specs.Books.{Held, asked, unasked, Drains}
 use Rattle.gm_shared.specs.Shared.{IsKept, numbers_below}
 
-pub applied_keeps : (table : TableId) (k : Settings) (steps : List Step) (s : Step) (noop : Noop) (result : Result Receipt ApplyError) (old new : Booked)
-    → Holding k steps s noop result old new → new.seat.table ≡ table → IsKept table new
-applied_keeps table k steps s noop (Ok receipt) old new h same = record { settings = k; steps = s ∷ entered noop steps; agrees = h.event.agrees; table_is = same }
-applied_keeps table k steps s noop (Err refused) old new h same = record { settings = k; steps = entered noop steps; agrees = h.event.1; table_is = same }
+pub held_so : {k : Settings} {steps : List Step} {s : Step} {desk : ℕ} {result same : Result Receipt ApplyError} {old new : Booked} {told : List Told}
+    → result ≡ same → Held k steps s desk same old new told → Held k steps s desk result old new told
+held_so {k} {steps} {s} {desk} {result} {same} {old} {new} {told} e h = subst (λ r. Held k steps s desk r old new told) (sym e) h
 
-pub drained_keeps : (table : TableId) (k : Settings) (steps : List Step) (slot : ℕ) (result : Result Drained ApplyError) (new : Booked)
-    → Drains k steps slot result new → new.seat.table ≡ table → IsKept table new
-drained_keeps table k steps slot (Ok drained) new h same = record { settings = k; steps = Drain slot ∷ steps; agrees = h.agrees; table_is = same }
-drained_keeps table k steps slot (Err refused) new h same = record { settings = k; steps = steps; agrees = h.2; table_is = same }
+pub applied_keeps : (table : TableId) (taped : Bool) (k : Settings) (steps : List Step) (s : Step) (desk : ℕ) (result : Result Receipt ApplyError) (old new : Booked) (told : List Told)
+    → Held k steps s desk result old new told → new.seat.table ≡ table → old.tape.on ≡ taped → IsKept table taped new
+applied_keeps table taped k steps s desk (Ok receipt) old new told (asked noop h) same on =
+    record { settings = k; steps = s ∷ entered noop steps; agrees = h.event.agrees; table_is = same; on = h.tape.on ∙ on }
+applied_keeps table taped k steps s desk (Err refused) old new told (asked noop h) same on =
+    record { settings = k; steps = entered noop steps; agrees = h.event.1; table_is = same; on = h.tape.on ∙ on }
+applied_keeps table taped k steps s desk result old new told (unasked h) same on =
+    record { settings = k; steps = steps; agrees = h.agrees; table_is = same; on = h.tape.on ∙ on }
+
+pub drained_keeps : (table : TableId) (taped : Bool) (k : Settings) (steps : List Step) (pen slot : ℕ) (result : Result Drained ApplyError) (old new : Booked) (told : List Told)
+    → Drains k steps pen slot result old new told → new.seat.table ≡ table → old.tape.on ≡ taped → IsKept table taped new
+drained_keeps table taped k steps pen slot (Ok drained) old new told h same on =
+    record { settings = k; steps = Drain slot ∷ steps; agrees = h.agrees; table_is = same; on = h.tape.on ∙ on }
+drained_keeps table taped k steps pen slot (Err refused) old new told h same on =
+    record { settings = k; steps = steps; agrees = h.1; table_is = same; on = h.2.on ∙ on }
 
 -- ---- the pens that a book is opened with
 

@@ -3,4 +3,8 @@ mod Phases
 mod Noops
 mod Following
 mod Applying
+mod Taping
+mod Sharing
+mod Comparing
+mod Ending
 mod Keeping

@@ -26,7 +26,7 @@ use Rattle.gm_word.specs.Seats.{BookState, with_line}
 use Rattle.gm_word.specs.Steps.{line_at, at_slot}
 use Rattle.gm_shared.specs.declared.book.Booked.{Booked}
 use Rattle.gm_shared.specs.Words.{worded}
-use Rattle.gm_shared.specs.Books.{takings, withdrawals, WordsAgree, BookedAgrees}
+use Rattle.gm_shared.specs.Books.{takings, withdrawals, WordsAgree, Holds}
 use Rattle.gm_shared.proofs.Phases.{awake_unless_open}
 
 same_slot : (c : ℕ) → (c == c) ≡ true
@@ -127,12 +127,12 @@ allowed_agrees k s steps core (Err refused) is h = let bad : None ≡ Some refus
 -- ---- books
 
 -- no slot beyond the book's is open
-pub past_slots : (booked : Booked) (k : Settings) (steps : List Step) → BookedAgrees booked k steps → (c : ℕ) → booked.slots ≤ c → is_open c (run k steps).notes ≡ false
+pub past_slots : (booked : Booked) (k : Settings) (steps : List Step) → Holds booked k steps → (c : ℕ) → booked.slots ≤ c → is_open c (run k steps).notes ≡ false
 past_slots booked k steps h c le =
     sym (h.core.past.conns.opens c)
     ∙ ap (λ (x : Connection). x.is_open) (get_or_past booked.core.conns.conns c closed (omega (arith, h.core.past.conns.slots, h.slots, ap (λ (x : Settings). x.slots) h.core.settings)))
 
-module _ (booked : Booked) (k : Settings) (steps : List Step) (h : BookedAgrees booked k steps) (c : ℕ) (lt : c < booked.slots) (owed : (line_at c booked.seat.lines).phase ≡ words.Owed)
+module _ (booked : Booked) (k : Settings) (steps : List Step) (h : Holds booked k steps) (c : ℕ) (lt : c < booked.slots) (owed : (line_at c booked.seat.lines).phase ≡ words.Owed)
     (seat : BookState) (core : Core) (r : Result (Unit {0}) ApplyError) where
   is_owed_here : phase c (run k steps).notes ≡ Owed
   is_owed_here = words_owed (phase c (run k steps).notes) (sym (h.words.phases c) ∙ owed)

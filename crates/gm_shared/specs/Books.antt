@@ -1,5 +1,5 @@
 -- What a book agrees with, and what one holding of it does.
-use Rattle.std.specs.Prelude.{◌≡◌, ℕ, ◌+◌, ◌<◌, true, false, ◌==◌, if◌then◌else◌, List, [], ◌∷◌, None, Result, Ok, Err}
+use Rattle.std.specs.Prelude.{◌≡◌, ℕ, ◌+◌, ◌<◌, Bool, true, false, ◌==◌, if◌then◌else◌, List, [], ◌∷◌, None, Result, Ok, Err}
 use Rattle.std.specs.Result.{IsErrOf}
 use Rattle.gm_notes.specs.declared.event.ApplyError.{ApplyError}
 use Rattle.gm_notes.specs.declared.event.ApplyError.TheVariants.{Memory, NotOpen}
@@ -20,6 +20,10 @@ use Rattle.gm_shared.specs.declared.receipt.Receipt.{Receipt}
 use Rattle.gm_shared.specs.declared.receipt.Drained.{Drained}
 use Rattle.gm_shared.specs.Words.{worded, Follows}
 use Rattle.gm_shared.specs.Events.{MayFind, entered}
+use Rattle.gm_shared.specs.declared.tape.Tape.{Tape}
+use Rattle.gm_shared.specs.declared.tape.Told.{Told}
+use Rattle.gm_shared.specs.Tapes.{TapeIs, Grows, noop_entries, holding_entries, drain_entry, place_behind}
+use Rattle.gm_notes.specs.Past.{Past}
 
 -- ---- the book
 
@@ -42,10 +46,15 @@ pub record WordsAgree (lines : List WordLine) (k : Settings) (steps : List Step)
   pub withdrawn : (c : ℕ) → (line_at c lines).withdrawals ≡ withdrawals c steps
 
 -- the core holds what these steps give under these settings, and so does the book's seat
-pub record BookedAgrees (booked : Booked) (k : Settings) (steps : List Step) : Type 0 where
+pub record Holds (booked : Booked) (k : Settings) (steps : List Step) : Type 0 where
   pub core : CoreAgrees booked.core k steps
   pub slots : booked.slots ≡ k.slots
   pub words : WordsAgree booked.seat.lines k steps
+
+-- and the tape, if one is kept, is one history, of these steps
+pub record BookedAgrees (booked : Booked) (k : Settings) (steps : List Step) : Type 0 where
+  pub holds : Holds booked k steps
+  pub tape : TapeIs booked.tape.on booked.tape.entries.items k steps
 
 -- ---- one holding
 
@@ -54,7 +63,6 @@ pub record IsTaken (k : Settings) (steps : List Step) (s : Step) (receipt : Rece
   pub taken : refusal k s (run k steps) ≡ None
   pub done_is : receipt.done ≡ done k s (run k steps)
   pub mode_is : receipt.mode ≡ mode (run k (s ∷ steps)).notes
-  pub no_place : receipt.at ≡ None
   pub agrees : BookedAgrees new k (s ∷ steps)
   -- whose waiting bytes, phase or shut changed is among the slots told
   pub touched : (c : ℕ) → has receipt.touched c ≡ false → lane (conn new.core.conns c) ≡ lane (conn old.core.conns c)
@@ -63,27 +71,53 @@ abbrev pub IsDone : Settings → List Step → Step → Result Receipt ApplyErro
 IsDone k steps s (Ok receipt) old new = IsTaken k steps s receipt old new
 IsDone k steps s (Err refused) old new = IsRefusal refused (refusal k s (run k steps)) × BookedAgrees new k steps
 
+-- the receipt tells the event's place, behind what was entered of the NOOP
+abbrev pub TellsPlace : ℕ → Noop → Result Receipt ApplyError → Tape → Type 0
+TellsPlace desk noop (Ok receipt) tape = receipt.at ≡ place_behind (noop_entries desk noop) tape
+TellsPlace desk noop (Err refused) tape = Unit {0}
+
 -- What a holding did: it found this of the NOOP, and entered it; after that the event was taken, or was refused and changed
--- nothing.
-pub record Holding (k : Settings) (steps : List Step) (s : Step) (noop : Noop) (result : Result Receipt ApplyError) (old new : Booked) : Type 0 where
+-- nothing. Both stand on the tape, if one is kept, and the desk is told so.
+pub record Holding (k : Settings) (steps : List Step) (s : Step) (desk : ℕ) (noop : Noop) (result : Result Receipt ApplyError) (old new : Booked) (told : List Told) : Type 0 where
   pub found : MayFind noop s (run k steps)
   pub event : IsDone k (entered noop steps) s result old new
+  pub tape : Grows (holding_entries desk noop s result) old.tape new.tape told
+  pub place : TellsPlace desk noop result old.tape
 
--- a closing never wants memory
-abbrev pub ClosesAlways : Step → Result Receipt ApplyError → Type 0
-ClosesAlways (Close c) result = IsErrOf result Memory → ⊥
-ClosesAlways other result = Unit {0}
+-- A tape is kept, and there was no room for what is entered: then the book wasn't asked, and nothing changed.
+pub record NoRoom (k : Settings) (steps : List Step) (result : Result Receipt ApplyError) (old new : Booked) (told : List Told) : Type 0 where
+  pub on : old.tape.on ≡ true
+  pub wanting : result ≡ Err Memory
+  pub agrees : BookedAgrees new k steps
+  pub tape : Grows [] old.tape new.tape told
+
+pub data Held (k : Settings) (steps : List Step) (s : Step) (desk : ℕ) (result : Result Receipt ApplyError) (old new : Booked) (told : List Told) : Type 0 where
+  asked : (noop : Noop) → Holding k steps s desk noop result old new told → Held k steps s desk result old new told
+  unasked : NoRoom k steps result old new told → Held k steps s desk result old new told
+
+-- without a tape a closing never wants memory
+abbrev pub ClosesAlways : Bool → Step → Result Receipt ApplyError → Type 0
+ClosesAlways on (Close c) result = on ≡ false → IsErrOf result Memory → ⊥
+ClosesAlways on other result = Unit {0}
 
 -- what the drain of a slot did
-pub record IsDrained (k : Settings) (steps : List Step) (slot : ℕ) (drained : Drained) (new : Booked) : Type 0 where
+pub record IsDrained (k : Settings) (steps : List Step) (pen slot : ℕ) (drained : Drained) (old new : Booked) (told : List Told) : Type 0 where
   pub opened : is_open slot (run k steps).notes ≡ true
   pub bytes_are : drained.bytes.items ≡ waiting slot (run k steps).flow
   pub shut_is : drained.shut ≡ is_closing slot (run k steps)
   pub agrees : BookedAgrees new k (Drain slot ∷ steps)
+  pub tape : Grows (drain_entry pen slot drained.bytes.items ∷ []) old.tape new.tape told
 
-abbrev pub Drains : Settings → List Step → ℕ → Result Drained ApplyError → Booked → Type 0
-Drains k steps slot (Ok drained) new = IsDrained k steps slot drained new
-Drains k steps slot (Err refused) new = (refused ≡ NotOpen) × (is_open slot (run k steps).notes ≡ false) × BookedAgrees new k steps
+-- a drain is refused where the slot isn't open; for memory only with a tape
+abbrev pub IsDrainRefusal : ApplyError → ℕ → Past → Bool → Type 0
+IsDrainRefusal Memory slot past on = on ≡ true
+IsDrainRefusal NotOpen slot past on = is_open slot past.notes ≡ false
+IsDrainRefusal other slot past on = ⊥
+
+abbrev pub Drains : Settings → List Step → ℕ → ℕ → Result Drained ApplyError → Booked → Booked → List Told → Type 0
+Drains k steps pen slot (Ok drained) old new told = IsDrained k steps pen slot drained old new told
+Drains k steps pen slot (Err refused) old new told =
+    IsDrainRefusal refused slot (run k steps) old.tape.on × BookedAgrees new k steps × Grows [] old.tape new.tape told
 
 -- ---- following the core
 

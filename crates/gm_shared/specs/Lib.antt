@@ -1,3 +1,4 @@
+pub mod Tapes
 pub mod Words
 pub mod Events
 pub mod Books

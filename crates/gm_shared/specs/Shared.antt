@@ -1,20 +1,27 @@
 -- What the lock keeps, and what callers of a shared book see.
-use Rattle.std.specs.Prelude.{◌≡◌, ℕ, zero, suc, List, [], ◌∷◌, ◌++◌, Result}
+use Rattle.std.specs.Prelude.{◌≡◌, ◌⊎◌, ℕ, zero, suc, ◌+◌, Bool, true, if◌then◌else◌, List, [], ◌∷◌, ◌++◌, All, Result, Ok, Err}
 use Rattle.atomic_table.specs.Seated.{TableId}
 use Rattle.gm_notes.specs.declared.event.ApplyError.{ApplyError}
 use Rattle.gm_notes.specs.Settings.{Settings}
-use Rattle.gm_notes.specs.Steps.{Step}
+use Rattle.gm_notes.specs.Steps.{Step, run}
+use Rattle.gm_notes.specs.Servers.{owes}
+use Rattle.gm_tables.specs.declared.server.Core.{Core}
+use Rattle.gm_tables.specs.Holds.{CoreAgrees}
 use Rattle.gm_word.specs.Seats.{PenState, fresh_pens}
 use Rattle.gm_shared.specs.declared.book.Booked.{Booked}
-use Rattle.gm_shared.specs.declared.events.Noop.{Noop}
+use Rattle.gm_shared.specs.declared.tape.Actor.{Actor}
+use Rattle.gm_shared.specs.declared.tape.Entry.{Entry}
+use Rattle.gm_shared.specs.declared.tape.Told.{Told}
 use Rattle.gm_shared.specs.declared.receipt.Receipt.{Receipt}
 use Rattle.gm_shared.specs.declared.receipt.Drained.{Drained}
-use Rattle.gm_shared.specs.Books.{BookedAgrees, Holding, Drains}
+use Rattle.gm_shared.specs.Tapes.{TapeIs, AddUp, events_told}
+use Rattle.gm_shared.specs.Books.{takings, BookedAgrees, Held, Drains}
 
--- a book that nobody shares yet
+-- a book that nobody shares yet, and whether it keeps a tape
 pub record BlankState : Type 0 where
   pub table : TableId
   pub slots : ℕ
+  pub taped : Bool
 
 -- nothing has happened to it, its words are in its table, and there is a pen for each slot, which has taken nothing
 pub record IsBlank (table : TableId) (slots : ℕ) (booked : Booked) (seats : List PenState) : Type 0 where
@@ -24,30 +31,68 @@ pub record IsBlank (table : TableId) (slots : ℕ) (booked : Booked) (seats : Li
   pub table_is : booked.seat.table ≡ table
   pub seats_are : seats ≡ fresh_pens table slots
 
--- What the lock keeps: the book agrees with some settings and some list of steps, and its words are in this table.
-pub record IsKept (table : TableId) (booked : Booked) : Type 0 where
+-- What the lock keeps: the book agrees with some settings and some list of steps, its words are in this table, and it keeps a
+-- tape or not.
+pub record IsKept (table : TableId) (taped : Bool) (booked : Booked) : Type 0 where
   pub settings : Settings
   pub steps : List Step
   pub agrees : BookedAgrees booked settings steps
   pub table_is : booked.seat.table ≡ table
+  pub on : booked.tape.on ≡ taped
 
--- The answer is that of one holding of a book that agreed with some settings and some list of steps.
-pub record Applied (s : Step) (result : Result Receipt ApplyError) : Type 0 where
+-- The answer is that of one holding of a book that agreed with some settings and some list of steps, and what the desk was told
+-- of its tape was added to the desk's share.
+pub record Applied (taped : Bool) (s : Step) (desk : ℕ) (result : Result Receipt ApplyError) (share after : List Told) : Type 0 where
   pub settings : Settings
   pub steps : List Step
   pub old : Booked
   pub new : Booked
+  pub on : old.tape.on ≡ taped
   pub agrees : BookedAgrees old settings steps
-  pub noop : Noop
-  pub holding : Holding settings steps s noop result old new
+  pub told : List Told
+  pub held : Held settings steps s desk result old new told
+  pub share_is : after ≡ share ++ told
 
-pub record Emptied (slot : ℕ) (result : Result Drained ApplyError) : Type 0 where
+pub record Emptied (taped : Bool) (pen slot : ℕ) (result : Result Drained ApplyError) (share after : List Told) : Type 0 where
   pub settings : Settings
   pub steps : List Step
   pub old : Booked
   pub new : Booked
+  pub on : old.tape.on ≡ taped
   pub agrees : BookedAgrees old settings steps
-  pub drains : Drains settings steps slot result new
+  pub told : List Told
+  pub drains : Drains settings steps pen slot result old new told
+  pub share_is : after ≡ share ++ told
+
+-- With a tape a desk is told of each event that is taken, in order. Takings and withdrawals of NOOPs stand between them.
+abbrev pub AddsEvent : Bool → Step → Result Receipt ApplyError → List Told → List Told → Type 0
+AddsEvent taped s (Ok receipt) share after = events_told after ≡ (if taped then events_told share ++ s ∷ [] else events_told share)
+AddsEvent taped s (Err refused) share after = events_told after ≡ events_told share
+
+-- ---- the end
+
+-- a pen took the NOOPs that were entered as taken, or one more, where its slot is said to be owed one still
+abbrev pub TookThose : Settings → List Step → PenState → Type 0
+TookThose k steps pen =
+    (pen.takes ≡ takings pen.slot steps) ⊎ ((pen.takes ≡ takings pen.slot steps + 1) × (owes pen.slot (run k steps) ≡ true))
+
+-- What a book was when it ended: the core agrees with some list of steps, of which the tape is the history; the shares add up; and
+-- the pens took what was entered.
+pub record IsSettled (taped : Bool) (core : Core) (entries : List Entry) (shares : List (Actor × List Told)) (pens : List PenState) : Type 0 where
+  pub settings : Settings
+  pub steps : List Step
+  pub agrees : CoreAgrees core settings steps
+  pub tape : TapeIs taped entries settings steps
+  pub up : AddUp entries shares
+  pub takes : All (TookThose settings steps) pens
+
+-- The tape is one history, of which the shares aren't.
+pub record Differing (taped : Bool) (shares : List (Actor × List Told)) : Type 0 where
+  pub settings : Settings
+  pub steps : List Step
+  pub entries : List Entry
+  pub tape : TapeIs taped entries settings steps
+  pub apart : AddUp entries shares → ⊥
 
 -- the numbers below a number, in their order
 abbrev pub numbers_below : ℕ → List ℕ

@@ -3,6 +3,7 @@
 ghost use Rattle.std.specs.Prelude.{◌≡◌, IfOk};
 
 use crate::book::Booked;
+use crate::tape::TapeMode;
 use gm_notes::Config;
 use gm_word::{PenSeat, SleepTable};
 use std::alloc::{AllocError, Global};
@@ -24,19 +25,27 @@ impl Model for Blank {
 
     ghost Value = { BlankState };
 
-    ghost view = { λ b. record { table = b.table; slots = b.slots } };
+    ghost view = { λ b. record { table = b.table; slots = b.slots; taped = b.booked.tape.on } };
 
     ghost invariant = { λ b. IsBlank b.table b.slots b.booked b.seats.items };
 }
 
 impl Blank {
-    /// The book of a new server under these settings. Names and ids come from strangers, so its tables hash with this
+    ghost use Rattle.gm_shared.specs.Tapes.{is_on};
+
+    /// The book of a new server under these settings, with a tape where that is asked. Names and ids come from strangers, so its tables hash with this
     /// seed.
-    pub fn new(alloc: Global, seed: RandomState, config: Config) -> Result<Blank, AllocError>
-        ensures { IfOk result (λ blank. blank.slots ≡ config.slots) }
+    pub fn new(
+        alloc: Global,
+        seed: RandomState,
+        config: Config,
+        tape: TapeMode,
+    ) -> Result<Blank, AllocError>
+        ensures slots { IfOk result (λ blank. blank.slots ≡ config.slots) }
+        ensures taped { IfOk result (λ blank. blank.taped ≡ is_on tape) }
     {
         let slots = config.slots();
-        let (booked, table, seats) = Booked::new(alloc, seed, config)?;
+        let (booked, table, seats) = Booked::new(alloc, seed, config, tape)?;
         Ok(Blank {
             table,
             booked,

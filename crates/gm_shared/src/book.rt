@@ -1,6 +1,6 @@
 //! The book.
 
-ghost use Rattle.std.specs.Prelude.{◌≡◌, ◌<◌, ◌≤◌, ℕ, [], List, IfOk, false, length};
+ghost use Rattle.std.specs.Prelude.{◌≡◌, ◌<◌, ◌≤◌, ◌++◌, ℕ, [], List, IfOk, false, length};
 ghost use Rattle.gm_conns.specs.Slots.{has};
 ghost use Rattle.gm_conns.specs.Tables.{is_touched};
 ghost use Rattle.gm_word.specs.Seats.{fresh_pens};
@@ -11,6 +11,7 @@ ghost use Rattle.gm_tables.specs.Holds.{AllTouched, CoreAgrees};
 
 use crate::events::{Noop, asks_a_job, slot_of};
 use crate::receipt::{Drained, Receipt};
+use crate::tape::{Entry, Tape, TapeMode, Told};
 use crate::touched::SlotSet;
 use crate::words::{bring, phase_in};
 use gm_laws::laws::may_be_taken_later;
@@ -20,34 +21,40 @@ use gm_word::{BookSeat, PenSeat, Phase, SleepTable};
 use std::alloc::{AllocError, Global};
 use std::hash::RandomState;
 
-/// What the lock guards: the core, and the seat at the sleep words.
+/// What the lock guards: the core, the seat at the sleep words, and the tape, if one is kept.
 ///
-/// A book agrees with settings and with lists of steps, the newest first, as its core does; and the phases that its
-/// seat knows are those that the steps give.
+/// A book agrees with settings and with lists of steps, the newest first, as its core does; the phases that its seat
+/// knows are those that the steps give; and the tape that it keeps is one history, of these steps.
 #[derive(Drop)]
 pub struct Booked {
+    alloc: Global,
     core: Core,
     seat: BookSeat,
     slots: u32,
+    tape: Tape,
     ghost wide: { length seat.lines ≡ slots },
     ghost most: { slots ≤ 1024 },
 }
 
 impl Booked {
     ghost use Rattle.gm_laws.specs.Laws.{MayBeTakenLater};
-    ghost use Rattle.gm_shared.specs.Books.{BookedAgrees, Holding, ClosesAlways, Drains, FollowsAt, FollowsCore};
+    ghost use Rattle.gm_shared.specs.Books.{Holds, BookedAgrees, Held, ClosesAlways, Drains, FollowsAt, FollowsCore};
     ghost use Rattle.gm_shared.specs.Events.{takes_back, MayFind, entered};
+    ghost use Rattle.gm_shared.specs.Tapes.{is_on};
 
     /// The book of a server to which nothing has happened, the table of its sleep words, and a pen for each slot, in
-    /// their order. Names and ids come from strangers, so the core's tables hash with this seed.
+    /// their order; where that is asked, it keeps a tape. Names and ids come from strangers, so the core's tables hash
+    /// with this seed.
     pub fn new(
         alloc: Global,
         seed: RandomState,
         config: Config,
+        tape: TapeMode,
     ) -> Result<(Booked, SleepTable, Vec<PenSeat>), AllocError>
         ensures book { IfOk result (λ made. BookedAgrees made.0 config []) }
         ensures table { IfOk result (λ made. made.0.seat.table ≡ made.1) }
         ensures pens { IfOk result (λ made. made.2.items ≡ fresh_pens made.1 config.slots) }
+        ensures tape { IfOk result (λ made. made.0.tape.on ≡ is_on tape) }
     {
         let slots = config.slots();
         // A config has at least one slot, which the table wants to know.
@@ -56,35 +63,67 @@ impl Booked {
         }
         let (table, seat, pens) = SleepTable::new(alloc, slots)?;
         let core = Core::new(alloc, seed, config)?;
-        Ok((Booked { core, seat, slots }, table, pens))
+        let booked = Booked {
+            alloc,
+            core,
+            seat,
+            slots,
+            tape: Tape::new(alloc, tape),
+        };
+        Ok((booked, table, pens))
     }
 
     /// Lets an event take effect, in one holding. A NOOP that the event's slot is owed and that was taken is entered
     /// first; so is one that is still owed and that the event takes back, as taken or as withdrawn. What is refused
     /// changes nothing but that; a refusal is one of `JobServer::apply`.
     ///
-    /// The desk is the one that hands the event in; without a tape it doesn't matter. The table is the book's.
+    /// With a tape room for what it enters is found first, and copies of the bytes: where that fails `Memory` comes
+    /// and nothing changes, also where the event would be refused. The desk is the one that hands the event in. The
+    /// table is the book's.
     pub fn apply(
         &mut self,
         table: &SleepTable,
-        _desk: u32,
+        desk: u32,
         event: &Event<'_>,
     ) -> Result<Receipt, ApplyError>
         requires size { IsSized event.now }
         requires table { self.old.seat.table ≡ table.now }
         ensures holding { (k : Settings) (steps : List Step) → BookedAgrees self.old k steps
-            → (noop : Noop) × Holding k steps (step_of event.now) noop result self.old self.new }
-        ensures memory { ClosesAlways (step_of event.now) result }
+            → (told : List Told) × Held k steps (step_of event.now) desk result self.old self.new told }
+        ensures memory { ClosesAlways self.old.tape.on (step_of event.now) result }
         ensures table { self.new.seat.table ≡ self.old.seat.table }
         // That a taking is entered only when the book next looks at the slot changes no other step.
         ensures later { MayBeTakenLater }
     {
         may_be_taken_later();
-        let _noop = self.settle(table, event);
+        let mut share = Vec::new(self.alloc);
+        self.hold(table, desk, event, &mut share)
+    }
+
+    /// `apply`, which adds what the desk is told of the tape to its share.
+    pub(crate) fn hold(
+        &mut self,
+        table: &SleepTable,
+        desk: u32,
+        event: &Event<'_>,
+        share: &mut Vec<Told>,
+    ) -> Result<Receipt, ApplyError>
+        requires size { IsSized event.now }
+        requires table { self.old.seat.table ≡ table.now }
+        ensures holding { (k : Settings) (steps : List Step) → BookedAgrees self.old k steps
+            → (told : List Told) × (share.new.items ≡ share.old.items ++ told)
+            × Held k steps (step_of event.now) desk result self.old self.new told }
+        ensures memory { ClosesAlways self.old.tape.on (step_of event.now) result }
+        ensures table { self.new.seat.table ≡ self.old.seat.table }
+    {
+        let copies = self.tape.room_for(self.alloc, share, event)?;
+        let noop = self.settle(table, event);
+        self.tape.enter_noop(share, desk, noop);
         let done = self.core.apply(event)?;
+        let at = self.tape.enter_event(share, desk, copies, done);
         let touched = self.follow(table, event);
         Ok(Receipt {
-            at: None,
+            at,
             done,
             mode: self.core.mode(),
             touched,
@@ -92,20 +131,51 @@ impl Booked {
     }
 
     /// Takes the bytes that wait for a slot, which wait no more. `NotOpen` comes where the slot isn't open; it
-    /// changes nothing. It needs no memory.
-    pub fn drain(&mut self, slot: u32) -> Result<Drained, ApplyError>
-        ensures drains { (k : Settings) (steps : List Step) → BookedAgrees self.old k steps → Drains k steps slot result self.new }
+    /// changes nothing. Without a tape it needs no memory; with one `Memory` comes where there is none for the entry
+    /// and its bytes, and changes nothing. The pen is the one that asks.
+    pub fn drain(&mut self, pen: u32, slot: u32) -> Result<Drained, ApplyError>
+        ensures drains { (k : Settings) (steps : List Step) → BookedAgrees self.old k steps
+            → (told : List Told) × Drains k steps pen slot result self.old self.new told }
+        ensures seat { self.new.seat ≡ self.old.seat }
+    {
+        let mut share = Vec::new(self.alloc);
+        self.drain_into(pen, slot, &mut share)
+    }
+
+    /// `drain`, which adds what the pen is told of the tape to its share.
+    pub(crate) fn drain_into(
+        &mut self,
+        pen: u32,
+        slot: u32,
+        share: &mut Vec<Told>,
+    ) -> Result<Drained, ApplyError>
+        ensures drains { (k : Settings) (steps : List Step) → BookedAgrees self.old k steps
+            → (told : List Told) × (share.new.items ≡ share.old.items ++ told)
+            × Drains k steps pen slot result self.old self.new told }
         ensures seat { self.new.seat ≡ self.old.seat }
     {
         let (conns, _, _) = self.core.parts();
         if !conns.is_open(slot) {
             return Err(ApplyError::NotOpen);
         }
+        let copies = self
+            .tape
+            .room_for_bytes(self.alloc, share, conns.waiting(slot))?;
         let shut = self.core.shut(slot);
         let bytes = self.core.drain(slot);
         // The drain touched its slot, of which nobody has to be told.
         let _slot = self.core.take_touched();
+        self.tape.enter_drain(share, pen, slot, copies);
         Ok(Drained { bytes, shut })
+    }
+
+    /// The core and the seat, and what stands on the tape.
+    pub(crate) fn into_parts(self) -> (Core, BookSeat, Vec<Entry>)
+        ensures core { result.0 ≡ self.core }
+        ensures seat { result.1 ≡ self.seat }
+        ensures entries { result.2.items ≡ self.tape.entries.items }
+    {
+        (self.core, self.seat, self.tape.into_entries())
     }
 
     /// Whether an event takes back a NOOP that its slot is still owed.
@@ -122,10 +192,11 @@ impl Booked {
     /// Looks at the word of the event's slot, and enters what it finds of the NOOP that is owed there.
     fn settle(&mut self, table: &SleepTable, event: &Event<'_>) -> Noop
         requires { self.old.seat.table ≡ table.now }
-        ensures found { (k : Settings) (steps : List Step) → BookedAgrees self.old k steps
-            → MayFind result (step_of event.now) (run k steps) × BookedAgrees self.new k (entered result steps) }
+        ensures found { (k : Settings) (steps : List Step) → Holds self.old k steps
+            → MayFind result (step_of event.now) (run k steps) × Holds self.new k (entered result steps) }
         ensures touched { AllTouched self.old.core.conns self.new.core.conns }
         ensures table { self.new.seat.table ≡ self.old.seat.table }
+        ensures tape { self.new.tape ≡ self.old.tape }
     {
         let Some(slot) = slot_of(event) else {
             return Noop::Left;
@@ -153,6 +224,7 @@ impl Booked {
     fn follow_touched(&mut self, table: &SleepTable) -> SlotSet
         requires { self.old.seat.table ≡ table.now }
         ensures follows { FollowsAt result self.old self.new }
+        ensures tape { self.new.tape ≡ self.old.tape }
         ensures missed { (c : ℕ) → c < self.old.slots → has result c ≡ false → is_touched self.old.core.conns c ≡ false }
     {
         let mut told = SlotSet::new();
@@ -173,7 +245,8 @@ impl Booked {
     /// Makes the words follow the core after an event, and gives the slots that were touched.
     fn follow(&mut self, table: &SleepTable, event: &Event<'_>) -> SlotSet
         requires { self.old.seat.table ≡ table.now }
-        ensures { FollowsCore (step_of event.now) result self.old self.new }
+        ensures follows { FollowsCore (step_of event.now) result self.old self.new }
+        ensures tape { self.new.tape ≡ self.old.tape }
     {
         let mut told = self.follow_touched(table);
         if let Event::Close { slot } = *event

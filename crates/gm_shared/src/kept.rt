@@ -8,6 +8,7 @@ ghost use Rattle.gm_shared.specs.Shared.{IsKept, Applied, Emptied};
 use crate::book::Booked;
 use crate::name::BookName;
 use crate::receipt::{Drained, Receipt};
+use crate::tape::Told;
 use gm_notes::{ApplyError, Event};
 use gm_word::SleepTable;
 use std::marker::{Model, PhantomData};
@@ -28,12 +29,12 @@ impl<K: BookName> Model for Kept<K> {
 
     ghost view = { λ kept. kept.booked };
 
-    ghost invariant = { λ kept. IsKept K.table kept.booked };
+    ghost invariant = { λ kept. IsKept K.table K.taped kept.booked };
 }
 
 impl<K: BookName> Kept<K> {
     pub(crate) fn new(booked: Booked) -> Kept<K>
-        requires { IsKept K.table booked }
+        requires { IsKept K.table K.taped booked }
     {
         Kept {
             booked,
@@ -47,19 +48,32 @@ impl<K: BookName> Kept<K> {
         table: &SleepTable,
         desk: u32,
         event: &Event<'_>,
+        share: &mut Vec<Told>,
     ) -> Result<Receipt, ApplyError>
         requires size { IsSized event.now }
         requires table { table.now ≡ K.table }
-        ensures applied { Applied (step_of event.now) result }
-        ensures memory { ClosesAlways (step_of event.now) result }
+        ensures applied { Applied K.taped (step_of event.now) desk result share.old.items share.new.items }
+        ensures memory { ClosesAlways K.taped (step_of event.now) result }
     {
-        self.booked.apply(table, desk, event)
+        self.booked.hold(table, desk, event, share)
     }
 
     /// `Booked::drain`, in one holding of the lock.
-    pub(crate) fn drain(&mut self, slot: u32) -> Result<Drained, ApplyError>
-        ensures { Emptied slot result }
+    pub(crate) fn drain(
+        &mut self,
+        pen: u32,
+        slot: u32,
+        share: &mut Vec<Told>,
+    ) -> Result<Drained, ApplyError>
+        ensures { Emptied K.taped pen slot result share.old.items share.new.items }
     {
-        self.booked.drain(slot)
+        self.booked.drain_into(pen, slot, share)
+    }
+
+    /// The book, which is under no lock any more.
+    pub(crate) fn into_book(self) -> Booked
+        ensures { IsKept K.table K.taped result }
+    {
+        self.booked
     }
 }

@@ -7,6 +7,9 @@
 //!
 //! `Shared::open` makes of a `Blank` what threads share, with a `Desk` and a `Pen` for each slot: at a desk events are
 //! handed in, a pen takes out what waits for its slot. A pen takes an owed NOOP without the lock.
+//!
+//! Where that is asked, the book keeps a tape of all accepted calls, and `settle` compares it in the end with what the
+//! desks and the pens were told.
 #![tactic(auto)]
 
 mod blank;
@@ -15,7 +18,9 @@ mod events;
 mod kept;
 mod name;
 mod receipt;
+mod settling;
 mod shared;
+mod tape;
 mod touched;
 mod words;
 
@@ -23,5 +28,7 @@ pub use blank::Blank;
 pub use book::Booked;
 pub use name::BookName;
 pub use receipt::{Drained, Receipt};
+pub use settling::{SettleError, Settled, settle};
 pub use shared::{Desk, Pen, Shared};
+pub use tape::{Actor, Answer, Entry, TapeMode, TapeStep};
 pub use touched::SlotSet;

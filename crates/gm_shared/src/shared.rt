@@ -5,12 +5,13 @@ ghost use Rattle.std.specs.Prelude.{◌≡◌, ◌+◌, IfOk, MatchBool, map};
 ghost use Rattle.gm_notes.specs.Servers.{step_of, IsSized};
 ghost use Rattle.gm_word.specs.Seats.{fresh_pens};
 ghost use Rattle.gm_shared.specs.Books.{ClosesAlways};
-ghost use Rattle.gm_shared.specs.Shared.{Applied, Emptied, numbers_below};
+ghost use Rattle.gm_shared.specs.Shared.{Applied, AddsEvent, Emptied, numbers_below};
 
 use crate::blank::Blank;
 use crate::kept::Kept;
 use crate::name::BookName;
 use crate::receipt::{Drained, Receipt};
+use crate::tape::Told;
 use gm_notes::{ApplyError, Event};
 use gm_word::{PenSeat, SleepTable};
 use std::alloc::{AllocError, Global};
@@ -20,24 +21,27 @@ use std::sync::{Mutex, Wait};
 /// The book of a job server, which threads share: the sleep words, and the core under its lock.
 #[derive(Drop)]
 pub struct Shared<K: BookName> {
-    table: SleepTable,
-    book: Mutex<Kept<K>>,
+    pub(crate) table: SleepTable,
+    pub(crate) book: Mutex<Kept<K>>,
     ghost named: { table ≡ K.table },
 }
 
 /// Where one thread hands in events. Desks have numbers: one for each slot, and that of the control desk is the
-/// number of slots.
+/// number of slots. Where a tape is kept, a desk remembers what it was told of it: its share.
 #[derive(Drop)]
 pub struct Desk<K: BookName> {
-    number: u32,
+    pub(crate) number: u32,
+    pub(crate) share: Vec<Told>,
     of: PhantomData<K>,
 }
 
-/// What takes out of the book what waits for one slot: its NOOP, and its bytes.
+/// What takes out of the book what waits for one slot: its NOOP, and its bytes. Its number on the tape is its slot's;
+/// it has a share as a desk has.
 #[derive(Drop)]
 pub struct Pen<K: BookName> {
-    slot: u32,
-    seat: PenSeat,
+    pub(crate) slot: u32,
+    pub(crate) seat: PenSeat,
+    pub(crate) share: Vec<Told>,
     of: PhantomData<K>,
     ghost named: { seat.table ≡ K.table },
     ghost sits: { seat.slot ≡ slot },
@@ -49,7 +53,8 @@ impl<K: BookName> Shared<K> {
         alloc: Global,
         blank: Blank,
     ) -> Result<(Shared<K>, Vec<Desk<K>>, Vec<Pen<K>>, Desk<K>), AllocError>
-        requires { blank.table ≡ K.table }
+        requires table { blank.table ≡ K.table }
+        requires taped { blank.taped ≡ K.taped }
         ensures desks { IfOk result (λ made. map (λ desk. desk.number) made.1.items ≡ numbers_below blank.slots) }
         ensures pens { IfOk result (λ made. map (λ pen. pen.slot) made.2.items ≡ numbers_below blank.slots) }
         ensures control { IfOk result (λ made. made.3.number ≡ blank.slots) }
@@ -61,22 +66,24 @@ impl<K: BookName> Shared<K> {
             table: blank.table,
             book: Mutex::new(Kept::new(blank.booked)),
         };
-        Ok((shared, desks, pens, Desk::new(slots)))
+        Ok((shared, desks, pens, Desk::new(alloc, slots)))
     }
 }
 
 impl<K: BookName> Desk<K> {
-    fn new(number: u32) -> Desk<K>
+    fn new(alloc: Global, number: u32) -> Desk<K>
         ensures { result.number ≡ number }
     {
         Desk {
             number,
+            share: Vec::new(alloc),
             of: PhantomData,
         }
     }
 
     /// Hands in an event, which takes effect in one holding of the lock, as `Booked::apply` says. It may wait for the
-    /// lock. A closing never wants memory.
+    /// lock. Without a tape a closing never wants memory. With one the desk is told of the event and its place, after
+    /// what was found of a NOOP.
     pub fn apply(
         &mut self,
         rt: &impl Wait,
@@ -84,14 +91,15 @@ impl<K: BookName> Desk<K> {
         event: Event<'_>,
     ) -> Result<Receipt, ApplyError>
         requires { IsSized event }
-        ensures applied { Applied (step_of event.entry) result }
-        ensures memory { ClosesAlways (step_of event.entry) result }
+        ensures applied { Applied K.taped (step_of event.entry) self.old.number result self.old.share.items self.new.share.items }
+        ensures adds { AddsEvent K.taped (step_of event.entry) result self.old.share.items self.new.share.items }
+        ensures memory { ClosesAlways K.taped (step_of event.entry) result }
         ensures number { self.new.number ≡ self.old.number }
     {
         shared
             .book
             .lock(rt)
-            .apply(&shared.table, self.number, &event)
+            .apply(&shared.table, self.number, &event, &mut self.share)
     }
 }
 
@@ -100,18 +108,24 @@ impl<K: BookName> Pen<K> {
     /// the taking when it next looks at the slot.
     pub fn take(&mut self, shared: &Shared<K>) -> bool
         ensures slot { self.new.slot ≡ self.old.slot }
+        ensures share { self.new.share ≡ self.old.share }
         ensures takes { MatchBool result (self.new.seat.takes ≡ self.old.seat.takes + 1) (self.new.seat.takes ≡ self.old.seat.takes) }
     {
         self.seat.take(&shared.table)
     }
 
     /// Takes the bytes that wait for the slot, which wait no more, and tells whether it is shut. `NotOpen` comes where
-    /// the slot isn't open; it changes nothing. It may wait for the lock, and needs no memory.
+    /// the slot isn't open; it changes nothing. It may wait for the lock. Without a tape it needs no memory; with one
+    /// the pen is told of the drain, and `Memory` comes where there is none for that, and changes nothing.
     pub fn drain(&mut self, rt: &impl Wait, shared: &Shared<K>) -> Result<Drained, ApplyError>
-        ensures emptied { Emptied self.old.slot result }
-        ensures same { self.new ≡ self.old }
+        ensures emptied { Emptied K.taped self.old.slot self.old.slot result self.old.share.items self.new.share.items }
+        ensures slot { self.new.slot ≡ self.old.slot }
+        ensures seat { self.new.seat ≡ self.old.seat }
     {
-        shared.book.lock(rt).drain(self.slot)
+        shared
+            .book
+            .lock(rt)
+            .drain(self.slot, self.slot, &mut self.share)
     }
 }
 
@@ -121,7 +135,7 @@ fn new_desks<K: BookName>(alloc: Global, slots: u32) -> Result<Vec<Desk<K>>, All
 {
     let mut desks = Vec::with_capacity(alloc, slots as usize)?;
     for number in 0..slots {
-        desks.push_reserved(Desk::new(number));
+        desks.push_reserved(Desk::new(alloc, number));
     }
     Ok(desks)
 }
@@ -141,6 +155,7 @@ fn new_pens<K: BookName>(
         pens.push_reserved(Pen {
             slot,
             seat,
+            share: Vec::new(alloc),
             of: PhantomData,
         });
         slot += 1;

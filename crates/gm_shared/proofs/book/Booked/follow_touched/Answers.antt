@@ -3,37 +3,40 @@ use Rattle.gm_shared.proofs.Following.{follows_none, follows_more, follows_still
 use Rattle.gm_shared.proofs.book.Booked.follow_touched.Goals as goal
 
 pub bring-requires-clause-table : goal.bring-requires-clause-table
-bring-requires-clause-table c = c.loop-at.invariant.follows.table ∙ c.requires
+bring-requires-clause-table c = c.loop-at.invariant.following.follows.table ∙ c.requires
 
 pub loop-at-init : goal.loop-at-init
-loop-at-init c = follows_none c.args.self.now c.new-told.result c.new-told.ensures
+loop-at-init c = record { following = follows_none c.args.self.now c.new-told.result c.new-told.ensures; tape = refl }
 
 pub loop-at-preserved : goal.loop-at-preserved
 loop-at-preserved c =
     let taken = c.in-Some.ensures in
-    follows_more _ c.loop-at.self _ c.loop-at.told _ c.loop-at._at c.in-Some.slot c.phase_in-phase.result c.loop-at.invariant
-    taken.found taken.least taken.rest taken.lanes taken.agrees
-    c.phase_in-phase.ensures.value c.phase_in-phase.ensures.agrees c.bring.ensures refl c.insert.ensures
+    record {
+      tape = c.loop-at.invariant.tape;
+      following = follows_more _ c.loop-at.self _ c.loop-at.told _ c.loop-at._at c.in-Some.slot c.phase_in-phase.result c.loop-at.invariant.following
+          taken.found taken.least taken.rest taken.lanes taken.agrees
+          c.phase_in-phase.ensures.value c.phase_in-phase.ensures.agrees c.bring.ensures refl c.insert.ensures;
+    }
 
 pub returns-in_default-clause-follows : goal.returns-in_default-clause-follows
 returns-in_default-clause-follows c =
-    follows_still _ c.loop-at.self _ _ c.loop-at._at c.loop-at.invariant refl refl c.take_touched.ensures.lanes c.take_touched.ensures.agrees
+    follows_still _ c.loop-at.self _ _ c.loop-at._at c.loop-at.invariant.following refl refl c.take_touched.ensures.lanes c.take_touched.ensures.agrees
 
 pub returns-in_default-clause-missed : goal.returns-in_default-clause-missed
 returns-in_default-clause-missed c =
-    none_missed _ c.loop-at.self _ c.loop-at._at c.loop-at.invariant _ (λ d lt. c.in_default.ensures.none d)
+    none_missed _ c.loop-at.self _ c.loop-at._at c.loop-at.invariant.following _ (λ d lt. c.in_default.ensures.none d)
 
 pub returns-then-slot-self-clause-follows : goal.returns-then-slot-self-clause-follows
 returns-then-slot-self-clause-follows c =
-    follows_still _ c.loop-at.self _ _ c.loop-at._at c.loop-at.invariant refl refl c.take_touched.ensures.lanes c.take_touched.ensures.agrees
+    follows_still _ c.loop-at.self _ _ c.loop-at._at c.loop-at.invariant.following refl refl c.take_touched.ensures.lanes c.take_touched.ensures.agrees
 
 pub returns-then-slot-self-clause-missed : goal.returns-then-slot-self-clause-missed
 returns-then-slot-self-clause-missed c =
-    none_missed _ c.loop-at.self _ c.loop-at._at c.loop-at.invariant _ (λ d lt. c.in-Some.ensures.least d (omega (arith, c.loop-at.invariant.follows.slots)))
+    none_missed _ c.loop-at.self _ c.loop-at._at c.loop-at.invariant.following _ (λ d lt. c.in-Some.ensures.least d (omega (arith, c.loop-at.invariant.following.follows.slots)))
 
 pub returns-clause-follows : goal.returns-clause-follows
-returns-clause-follows c = c.loop-at.invariant.follows
+returns-clause-follows c = c.loop-at.invariant.following.follows
 
 pub returns-clause-missed : goal.returns-clause-missed
 returns-clause-missed c =
-    none_missed _ c.loop-at.self _ c.loop-at._at c.loop-at.invariant _ (λ d lt. c.loop-at.invariant.below d (omega arith))
+    none_missed _ c.loop-at.self _ c.loop-at._at c.loop-at.invariant.following _ (λ d lt. c.loop-at.invariant.following.below d (omega arith))

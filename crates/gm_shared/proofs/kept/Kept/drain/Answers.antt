@@ -5,9 +5,11 @@ use Rattle.gm_shared.proofs.kept.Kept.drain.Goals as goal
 pub invariant_of-self : goal.invariant_of-self
 invariant_of-self g c =
     let i = c.self.invariant in
-    drained_keeps _ i.settings i.steps _ _ _ (c.drain.ensures.drains i.settings i.steps i.agrees) (ap (λ s. s.table) c.drain.ensures.seat ∙ i.table_is)
+    let h = c.drain_into.ensures.drains i.settings i.steps i.agrees in
+    drained_keeps _ _ i.settings i.steps _ _ _ _ _ h.0 h.2 (ap (λ s. s.table) c.drain_into.ensures.seat ∙ i.table_is) i.on
 
 pub returns : goal.returns
 returns g c =
     let i = c.self.invariant in
-    record { settings = i.settings; steps = i.steps; old = _; new = _; agrees = i.agrees; drains = c.drain.ensures.drains i.settings i.steps i.agrees }
+    let h = c.drain_into.ensures.drains i.settings i.steps i.agrees in
+    record { settings = i.settings; steps = i.steps; old = _; new = _; on = i.on; agrees = i.agrees; told = h.0; drains = h.2; share_is = h.1 }

@@ -1,0 +1,93 @@
+-- Comparing shares with a tape.
+use Rattle.std.proofs.Common.{◌≡◌, ℕ, zero, suc, ◌+◌, ◌≤◌, Bool, true, false, if◌then◌else◌, List, [], ◌∷◌, ◌++◌, length, map, drop, refl, sym, ap, subst, ◌∙◌, arith}
+use Rattle.std.specs.Prelude.{◌==◌, MatchBool}
+use Rattle.std.proofs.lemmas.List.{append-nil}
+use Rattle.std.proofs.lemmas.Bool.Decides.{nat_tests}
+use Rattle.gm_shared.specs.declared.tape.Actor.{Actor}
+use Rattle.gm_shared.specs.declared.tape.Entry.{Entry}
+use Rattle.gm_shared.specs.declared.tape.Told.{Told}
+use Rattle.gm_shared.specs.Tapes.{actor_is, share_from, TellAll, LeavesThem}
+
+-- what is told of an entry at this place
+abbrev pub told_as : ℕ → Entry → Told
+told_as at e = record { at = at; step = e.step; answer = e.answer }
+
+-- a claim holds exactly where the rest of a share is what the tape has from here on
+pub record Alike (P : Type 0) (rest : List Told) (actor : Actor) (at : ℕ) (entries : List Entry) : Type 0 where
+  pub goes : P → rest ≡ share_from actor at entries
+  pub comes : rest ≡ share_from actor at entries → P
+
+module _ (P : Type 0) (rest : List Told) (actor : Actor) (at : ℕ) (all : List Entry) (alike : Alike P rest actor at all) (e : Entry) (es : List Entry) (is : all ≡ e ∷ es) where
+  from_here : share_from actor at all ≡ (if actor_is actor e.actor then told_as at e ∷ share_from actor (at + 1) es else share_from actor (at + 1) es)
+  from_here = ap (share_from actor at) is
+
+  pub alike_other : actor_is actor e.actor ≡ false → Alike P rest actor (at + 1) es
+  alike_other other =
+      let same = from_here ∙ ap (λ (t : Bool). if t then told_as at e ∷ share_from actor (at + 1) es else share_from actor (at + 1) es) other in
+      record { goes = λ p. alike.goes p ∙ same; comes = λ q. alike.comes (q ∙ sym same) }
+
+  here : actor_is actor e.actor ≡ true → share_from actor at all ≡ told_as at e ∷ share_from actor (at + 1) es
+  here mine = from_here ∙ ap (λ (t : Bool). if t then told_as at e ∷ share_from actor (at + 1) es else share_from actor (at + 1) es) mine
+
+  pub alike_short : actor_is actor e.actor ≡ true → rest ≡ [] → P → ⊥
+  alike_short mine none p = let bad : [] ≡ told_as at e ∷ share_from actor (at + 1) es = sym none ∙ (alike.goes p ∙ here mine) in let worse : ⊥ = cc in worse
+
+  module _ (mine : actor_is actor e.actor ≡ true) (told : Told) (more : List Told) (split : rest ≡ told ∷ more) where
+    pub alike_apart : (told ≡ told_as at e → ⊥) → P → ⊥
+    alike_apart differs p = let both : told ∷ more ≡ told_as at e ∷ share_from actor (at + 1) es = sym split ∙ (alike.goes p ∙ here mine) in differs cc
+
+    pub alike_more : told ≡ told_as at e → Alike P more actor (at + 1) es
+    alike_more tells = record {
+      goes = λ p. let both : told ∷ more ≡ told_as at e ∷ share_from actor (at + 1) es = sym split ∙ (alike.goes p ∙ here mine) in cc;
+      comes = λ q. alike.comes (split ∙ (ap (λ t. t ∷ more) tells ∙ (ap (λ ts. told_as at e ∷ ts) q ∙ sym (here mine))));
+    }
+
+-- ---- one share after another
+
+-- whatever else there is, these shares tell of so many entries exactly where the rest tells of those that are left
+abbrev pub Leaves : List Entry → List (Actor × List Told) → ℕ → List (Actor × List Told) → ℕ → Type 0
+Leaves entries shares n rest left = (others : List (Actor × List Told)) → LeavesThem entries (shares ++ others) n (rest ++ others) left
+
+pub leaves_begin : (entries : List Entry) (shares : List (Actor × List Told)) (n : ℕ) → Leaves entries shares n shares n
+leaves_begin entries shares n others = ((λ h. h), (λ h. h))
+
+module _ (entries : List Entry) (shares : List (Actor × List Told)) (n : ℕ) (all rest : List (Actor × List Told)) (left : ℕ) (leaves : Leaves entries shares n all left)
+    (actor : Actor) (share : List Told) (is : all ≡ (actor, share) ∷ rest) where
+  leaves_here : Leaves entries shares n ((actor, share) ∷ rest) left
+  leaves_here = subst (λ ss. Leaves entries shares n ss left) is leaves
+
+  pub leaves_next : (more : ℕ) → share ≡ share_from actor 0 entries → length share + more ≡ left → Leaves entries shares n rest more
+  leaves_next more same sum others = (
+    (λ h. let l = (leaves_here others).0 h in (l.0.1, omega (arith, l.1))),
+    (λ h. (leaves_here others).1 ((same, h.0), omega (arith, h.1))),
+  )
+
+  pub leaves_stop : (share ≡ share_from actor 0 entries → length share ≤ left → ⊥) → (others : List (Actor × List Told)) → TellAll entries n (shares ++ others) → ⊥
+  leaves_stop none others h = let l = (leaves_here others).0 h in none l.0.0 (omega (arith, l.1))
+
+pub leaves_end : (entries : List Entry) (shares : List (Actor × List Told)) (n : ℕ) (rest : List (Actor × List Told)) (left : ℕ) → Leaves entries shares n rest left → rest ≡ []
+    → (others : List (Actor × List Told)) → LeavesThem entries (shares ++ others) n others left
+leaves_end entries shares n rest left leaves none others = subst (λ ss. LeavesThem entries (shares ++ others) n (ss ++ others) left) none (leaves others)
+
+-- the shares from here on
+pub next_share : {A : Type 0} (f : A → Actor × List Told) (xs : List A) (i : ℕ) (x : A) → drop i xs ≡ x ∷ drop (i + 1) xs → map f (drop i xs) ≡ f x ∷ map f (drop (i + 1) xs)
+next_share f xs i x e = ap (map f) e
+
+-- ---- the desks' shares and the pens'
+
+module _ (entries : List Entry) (desks pens : List (Actor × List Told)) (n between : ℕ) where
+  -- where neither leaves any, they add up; else they don't
+  pub both_up : (left : ℕ) → ((others : List (Actor × List Told)) → LeavesThem entries (desks ++ others) n others between) → ((others : List (Actor × List Told)) → LeavesThem entries (pens ++ others) between others left)
+      → MatchBool (left == 0) (TellAll entries n (desks ++ pens)) (TellAll entries n (desks ++ pens) → ⊥)
+  both_up zero first second = (first pens).1 (subst (λ ss. TellAll entries between ss) (append-nil pens) ((second []).1 (tt, refl)))
+  both_up (suc left) first second =
+      let some : (suc left == 0) ≡ false = grind (arith, nat_tests) in
+      subst (λ t. MatchBool t (TellAll entries n (desks ++ pens)) (TellAll entries n (desks ++ pens) → ⊥)) (sym some)
+      (λ h. none ((second []).0 (subst (λ ss. TellAll entries between ss) (sym (append-nil pens)) ((first pens).0 h))))
+    where
+      none : TellAll entries (suc left) [] → ⊥
+      none h = let bad : 0 ≡ suc left = h.1 in cc
+
+  pub both_apart : ((others : List (Actor × List Told)) → LeavesThem entries (desks ++ others) n others between) → ((others : List (Actor × List Told)) → TellAll entries between (pens ++ others) → ⊥)
+      → TellAll entries n (desks ++ pens) → ⊥
+  both_apart first none h = none [] (subst (λ ss. TellAll entries between ss) (sym (append-nil pens)) ((first pens).0 h))

@@ -1,0 +1,286 @@
+//! The end of a shared book: whether what its desks and pens were told is what stands on its tape.
+
+ghost use Rattle.std.specs.Prelude.{◌≡◌, ◌≤◌, ◌+◌, ◌++◌, ℕ, [], List, All, MatchBool, IfOk, IfSome, IfNone, IsErrOf, map, length};
+ghost use Rattle.atomic_table.specs.Seated.{TableId};
+ghost use Rattle.gm_word.specs.Seats.{PenState};
+ghost use Rattle.gm_shared.specs.declared.tape.Actor.{Actor};
+ghost use Rattle.gm_shared.specs.declared.tape.Actor.TheVariants as actors;
+ghost use Rattle.gm_shared.specs.declared.tape.Told.{Told};
+ghost use Rattle.gm_shared.specs.Tapes.{parts_of, share_from, TellAll, AddUp, LeavesThem};
+ghost use Rattle.gm_notes.specs.Settings.{Settings};
+ghost use Rattle.gm_notes.specs.Steps.{Step};
+ghost use Rattle.gm_shared.specs.Books.{WordsAgree};
+ghost use Rattle.gm_shared.specs.Shared.{IsSettled, TookThose, Differing};
+
+use crate::name::BookName;
+use crate::shared::{Desk, Pen, Shared};
+use crate::tape::{Actor, Answer, Entry, TapeStep, Told};
+use gm_tables::Core;
+use gm_word::{BookSeat, PenSeat, SleepTable, close_words};
+use std::alloc::{AllocError, Global};
+
+/// Why a book couldn't be settled.
+#[derive(Clone, Copy, Debug, PartialEq, Eq)]
+pub enum SettleError {
+    /// There was no memory for it.
+    Memory = 6,
+    /// What the desks and pens were told isn't what stands on the tape, or some of them weren't given back.
+    Differs = 16,
+}
+
+impl SettleError {
+    ghost use Rattle.gm_shared.specs.Tapes.{settle_error_number};
+
+    /// The number of this refusal.
+    pub fn number(self) -> u8
+        ensures { result ≡ settle_error_number self }
+    {
+        self as u8
+    }
+}
+
+impl From<AllocError> for SettleError {
+    ghost use Rattle.gm_shared.specs.declared.settling.SettleError.TheVariants.{Memory};
+
+    ghost from_gives = { λ _ e. e ≡ Memory };
+
+    fn from(_e: AllocError) -> SettleError {
+        SettleError::Memory
+    }
+}
+
+/// What a book was when it ended.
+#[derive(Drop)]
+pub struct Settled {
+    /// The server.
+    pub core: Core,
+    /// Every accepted call, the oldest first; empty where no tape was kept.
+    pub tape: Vec<Entry>,
+}
+
+/// A step in parts.
+#[derive(Clone, Copy)]
+struct Parts<'a> {
+    kind: u8,
+    slot: u32,
+    number: u64,
+    bytes: &'a [u8],
+}
+
+impl<'a> Parts<'a> {
+    fn new(kind: u8, slot: u32, number: u64, bytes: &'a [u8]) -> Parts<'a>
+        ensures kind { result.kind ≡ kind }
+        ensures slot { result.slot ≡ slot }
+        ensures number { result.number ≡ number }
+        ensures bytes { result.bytes.now ≡ bytes.now }
+    {
+        Parts {
+            kind,
+            slot,
+            number,
+            bytes,
+        }
+    }
+}
+
+impl TapeStep {
+    /// What it is, of which slot, with which number and which bytes.
+    fn parts(&self) -> Parts<'_>
+        ensures { parts_of self.now ≡ (result.kind, result.slot, result.number, result.bytes.now) }
+    {
+        match self {
+            TapeStep::Open { addr } => Parts::new(0, 0, 0, addr.as_slice()),
+            TapeStep::Packet { slot, kind, bytes } => {
+                Parts::new(1, *slot, *kind as u64, bytes.as_slice())
+            }
+            TapeStep::Line { slot, bytes } => Parts::new(2, *slot, 0, bytes.as_slice()),
+            TapeStep::Fault { slot, fault } => Parts::new(3, *slot, fault.number() as u64, &[]),
+            TapeStep::Close { slot } => Parts::new(4, *slot, 0, &[]),
+            TapeStep::Tick { now } => Parts::new(5, 0, *now, &[]),
+            TapeStep::Took { slot } => Parts::new(6, *slot, 0, &[]),
+            TapeStep::Withdrew { slot } => Parts::new(7, *slot, 0, &[]),
+            TapeStep::Drain { slot } => Parts::new(8, *slot, 0, &[]),
+        }
+    }
+
+    /// Whether both are the same.
+    fn is(&self, other: &TapeStep) -> bool
+        ensures { MatchBool result (self.now ≡ other.now) (self.now ≡ other.now → ⊥) }
+    {
+        let (left, right) = (self.parts(), other.parts());
+        left.kind == right.kind
+            && left.slot == right.slot
+            && left.number == right.number
+            && left.bytes == right.bytes
+    }
+}
+
+impl Answer {
+    /// Whether both are the same.
+    fn is(&self, other: &Answer) -> bool
+        ensures { MatchBool result (self.now ≡ other.now) (self.now ≡ other.now → ⊥) }
+    {
+        match (self, other) {
+            (Answer::Done(left), Answer::Done(right)) => left == right,
+            (Answer::Drained(left), Answer::Drained(right)) => left.as_slice() == right.as_slice(),
+            _ => false,
+        }
+    }
+}
+
+impl Told {
+    /// Whether it tells of this entry at this place.
+    fn tells(&self, at: u64, entry: &Entry) -> bool
+        ensures { MatchBool result (self.now ≡ record { at = at; step = entry.now.step; answer = entry.now.answer })
+            (self.now ≡ record { at = at; step = entry.now.step; answer = entry.now.answer } → ⊥) }
+    {
+        self.at == at && self.step.is(&entry.step) && self.answer.is(&entry.answer)
+    }
+}
+
+// Whether a share is what the tape has of its actor.
+fn share_is(entries: &[Entry], actor: Actor, share: &[Told]) -> bool
+    ensures { MatchBool result (share.now ≡ share_from actor 0 entries.now) (share.now ≡ share_from actor 0 entries.now → ⊥) }
+{
+    let mut rest = share;
+    for at in 0..entries.len() {
+        let entry = &entries[at];
+        if actor.is(entry.actor) {
+            let Some((told, more)) = rest.split_first() else {
+                return false;
+            };
+            if !told.tells(at as u64, entry) {
+                return false;
+            }
+            rest = more;
+        }
+    }
+    rest.is_empty()
+}
+
+// How many of these entries are left once a share has told of its own, if it is what the tape has of its actor.
+fn left_by(entries: &[Entry], actor: Actor, share: &[Told], left: usize) -> Option<usize>
+    ensures some { IfSome result (λ more. (share.now ≡ share_from actor 0 entries.now) × (length share.now + more ≡ left)) }
+    ensures none { IfNone result (share.now ≡ share_from actor 0 entries.now → length share.now ≤ left → ⊥) }
+{
+    if !share_is(entries, actor, share) || left < share.len() {
+        return None;
+    }
+    Some(left - share.len())
+}
+
+// How many are left once all desks have told of theirs.
+fn left_by_desks<K: BookName>(entries: &[Entry], desks: &[Desk<K>], left: usize) -> Option<usize>
+    ensures some { IfSome result (λ more. (others : List (Actor × List Told))
+        → LeavesThem entries.now (map (λ desk. (actors.Desk desk.number, desk.share.items)) desks.now ++ others) left others more) }
+    ensures none { IfNone result ((others : List (Actor × List Told))
+        → TellAll entries.now left (map (λ desk. (actors.Desk desk.number, desk.share.items)) desks.now ++ others) → ⊥) }
+{
+    let mut rest = left;
+    for desk in desks {
+        let Some(more) = left_by(
+            entries,
+            Actor::Desk(desk.number),
+            desk.share.as_slice(),
+            rest,
+        ) else {
+            return None;
+        };
+        rest = more;
+    }
+    Some(rest)
+}
+
+// How many are left once all pens have told of theirs.
+fn left_by_pens<K: BookName>(entries: &[Entry], pens: &[Pen<K>], left: usize) -> Option<usize>
+    ensures some { IfSome result (λ more. (others : List (Actor × List Told))
+        → LeavesThem entries.now (map (λ pen. (actors.Pen pen.slot, pen.share.items)) pens.now ++ others) left others more) }
+    ensures none { IfNone result ((others : List (Actor × List Told))
+        → TellAll entries.now left (map (λ pen. (actors.Pen pen.slot, pen.share.items)) pens.now ++ others) → ⊥) }
+{
+    let mut rest = left;
+    for pen in pens {
+        let Some(more) = left_by(entries, Actor::Pen(pen.slot), pen.share.as_slice(), rest) else {
+            return None;
+        };
+        rest = more;
+    }
+    Some(rest)
+}
+
+// Whether the shares of these desks and pens add up.
+fn add_up<K: BookName>(entries: &[Entry], desks: &[Desk<K>], pens: &[Pen<K>]) -> bool
+    ensures { MatchBool result
+        (AddUp entries.now (map (λ desk. (actors.Desk desk.number, desk.share.items)) desks.now ++ map (λ pen. (actors.Pen pen.slot, pen.share.items)) pens.now))
+        (AddUp entries.now (map (λ desk. (actors.Desk desk.number, desk.share.items)) desks.now ++ map (λ pen. (actors.Pen pen.slot, pen.share.items)) pens.now) → ⊥) }
+{
+    let Some(left) = left_by_desks(entries, desks, entries.len()) else {
+        return false;
+    };
+    match left_by_pens(entries, pens, left) {
+        Some(left) => left == 0,
+        None => false,
+    }
+}
+
+// The seats of pens, in their order.
+fn seats_of<K: BookName>(alloc: Global, pens: Vec<Pen<K>>) -> Result<Vec<PenSeat>, AllocError>
+    ensures seats { IfOk result (λ seats. seats.items ≡ map (λ pen. pen.seat) pens.items) }
+    ensures named { IfOk result (λ seats. All (λ seat. seat.table ≡ K.table) seats.items) }
+{
+    let mut seats = Vec::with_capacity(alloc, pens.len())?;
+    for pen in pens {
+        seats.push_reserved(pen.seat);
+    }
+    Ok(seats)
+}
+
+// Whether the shares add up; if they do, the sleep words end.
+fn verdict<K: BookName>(
+    alloc: Global,
+    entries: &[Entry],
+    table: SleepTable,
+    seat: BookSeat,
+    desks: &[Desk<K>],
+    pens: Vec<Pen<K>>,
+) -> Result<(), SettleError>
+    requires seat { seat.table ≡ table }
+    requires table { table ≡ K.table }
+    ensures up { IfOk result (λ _. AddUp entries.now
+        (map (λ desk. (actors.Desk desk.number, desk.share.items)) desks.now ++ map (λ pen. (actors.Pen pen.slot, pen.share.items)) pens.items)) }
+    ensures takes { IfOk result (λ _. (k : Settings) (steps : List Step) → WordsAgree seat.lines k steps → All (TookThose k steps) (map (λ pen. pen.seat) pens.items)) }
+    ensures differs { IsErrOf result SettleError.Differs → AddUp entries.now
+        (map (λ desk. (actors.Desk desk.number, desk.share.items)) desks.now ++ map (λ pen. (actors.Pen pen.slot, pen.share.items)) pens.items) → ⊥ }
+{
+    if !add_up(entries, desks, pens.as_slice()) {
+        return Err(SettleError::Differs);
+    }
+    let seats = seats_of(alloc, pens)?;
+    let _words = close_words(alloc, table, seat, seats)?;
+    Ok(())
+}
+
+/// Ends a book, once all its desks and pens were given back, the control desk among the desks, and gives its core and
+/// its tape.
+///
+/// The tape is one history that the abstract server could have had, and the core is what it leads to. `Differs` comes
+/// where the shares of the desks and pens don't add up: where one isn't what the tape has of its desk or pen, entry
+/// for entry with the place and the answer, or where the tape has entries that none of them was told of. It takes one
+/// walk over the tape for each desk and pen.
+pub fn settle<K: BookName>(
+    alloc: Global,
+    shared: Shared<K>,
+    desks: Vec<Desk<K>>,
+    pens: Vec<Pen<K>>,
+) -> Result<Settled, SettleError>
+    ensures settled { IfOk result (λ settled. IsSettled K.taped settled.core settled.tape.items
+        (map (λ desk. (actors.Desk desk.number, desk.share.items)) desks.items ++ map (λ pen. (actors.Pen pen.slot, pen.share.items)) pens.items)
+        (map (λ pen. pen.seat) pens.items)) }
+    ensures differs { IsErrOf result SettleError.Differs → Differing K.taped
+        (map (λ desk. (actors.Desk desk.number, desk.share.items)) desks.items ++ map (λ pen. (actors.Pen pen.slot, pen.share.items)) pens.items) }
+{
+    let Shared { table, book, .. } = shared;
+    let (core, seat, tape) = book.into_inner().into_book().into_parts();
+    verdict(alloc, tape.as_slice(), table, seat, desks.as_slice(), pens)?;
+    Ok(Settled { core, tape })
+}
