@@ -83,7 +83,8 @@ impl<'s, K: BookName + Send + Sync> Control<'s, K> {
         let now = elapsed.as_secs();
         if now != self.second {
             self.second = now;
-            self.serving.apply(rt, &mut self.desk, Event::Tick { now });
+            // Where memory is wanting, the next second is told.
+            let _ = self.serving.apply(rt, &mut self.desk, Event::Tick { now });
         }
     }
 
@@ -106,25 +107,24 @@ impl<'s, K: BookName + Send + Sync> Control<'s, K> {
         let opening = Event::Open {
             addr: addr.as_bytes(),
         };
-        let Some(slot) = self.serving.apply(rt, &mut self.desk, opening) else {
+        let Ok(Some(slot)) = self.serving.apply(rt, &mut self.desk, opening) else {
             return Ok(());
         };
         self.opened = self.opened.saturating_add(1);
         if !start(scope, rt, self.serving, gate, slot, stream) {
-            self.serving
-                .apply(rt, &mut self.desk, Event::Close { slot });
+            self.serving.close(rt, &mut self.desk, slot);
         }
         Ok(())
     }
 
-    /// Takes connections and tells the time until the server is over. It answers how many connections were opened.
-    pub(crate) fn run<E, R: Threads + Wait + Clock + Sync, G: Gate>(
-        mut self,
+    /// Takes connections and tells the time until the server is over.
+    fn take_all<E, R: Threads + Wait + Clock + Sync, G: Gate>(
+        &mut self,
         scope: &Scope<'s, E>,
         rt: &'s R,
         gate: &'s G,
         listener: &TcpListener,
-    ) -> Result<u64, ServeError> {
+    ) -> Result<(), ServeError> {
         for _ in rt.forever() {
             self.tick(rt);
             match listener.accept() {
@@ -137,15 +137,40 @@ impl<'s, K: BookName + Send + Sync> Control<'s, K> {
                     // There may be too many open files, which others have to close first.
                     thread::sleep(rt, Duration::from_millis(CALL));
                 }
-                Err(_) => {
-                    self.serving.stop();
-                    return Err(ServeError::Listen);
-                }
+                Err(_) => return Err(ServeError::Listen),
             }
             if self.serving.is_over() {
                 break;
             }
         }
-        Ok(self.opened)
+        if self.serving.is_wanting() {
+            return Err(ServeError::Memory);
+        }
+        Ok(())
+    }
+
+    /// Takes connections and tells the time until the server is over, has each connection end that is left, and hands
+    /// back the desk. It answers how many connections were opened.
+    pub(crate) fn run<E, R: Threads + Wait + Clock + Sync, G: Gate>(
+        mut self,
+        scope: &Scope<'s, E>,
+        rt: &'s R,
+        gate: &'s G,
+        listener: &TcpListener,
+    ) -> (Desk<K>, Result<u64, ServeError>) {
+        let outcome = self.take_all(scope, rt, gate, listener);
+        let Control {
+            serving,
+            desk,
+            opened,
+            ..
+        } = self;
+        match outcome {
+            Ok(()) => (desk, Ok(opened)),
+            Err(error) => {
+                serving.stop();
+                (desk, Err(error))
+            }
+        }
     }
 }

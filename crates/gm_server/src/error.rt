@@ -3,17 +3,19 @@
 ghost use Rattle.std.specs.Prelude.{◌≡◌};
 ghost use Rattle.gm_server.specs.Statuses.{serve_error_number};
 
+use gm_shared::SettleError;
 use std::alloc::AllocError;
 use thiserror::Error;
 
 /// Why a server can't serve.
 #[derive(Clone, Copy, Debug, PartialEq, Eq, Drop, Error)]
 pub enum ServeError {
-    /// There was no memory for the book, or for what its threads share.
+    /// There was no memory for the book, for what its threads share, or for what is compared in the end; or a
+    /// connection's end couldn't be entered on the tape.
     #[error("there is no memory left")]
     Memory = 6,
-    /// The tape isn't one history.
-    #[error("the tape isn't one history")]
+    /// What the connections were told isn't what stands on the tape.
+    #[error("what the connections were told isn't what stands on the tape")]
     Differs = 16,
     /// The listener failed.
     #[error("the listener failed")]
@@ -32,5 +34,14 @@ impl ServeError {
 impl From<AllocError> for ServeError {
     fn from(_e: AllocError) -> ServeError {
         ServeError::Memory
+    }
+}
+
+impl From<SettleError> for ServeError {
+    fn from(e: SettleError) -> ServeError {
+        match e {
+            SettleError::Memory => ServeError::Memory,
+            SettleError::Differs => ServeError::Differs,
+        }
     }
 }

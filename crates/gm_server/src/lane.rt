@@ -173,6 +173,13 @@ impl<K: BookName> Lane<K> {
         })
     }
 
+    /// What was given to the slot.
+    pub(crate) fn into_parts(self) -> (Desk<K>, Pen<K>) {
+        let Lane { desk, outgoing, .. } = self;
+        let Outgoing { pen, .. } = outgoing.into_inner();
+        (desk.into_inner(), pen)
+    }
+
     /// Takes a connection, for which a writer is about to start.
     pub(crate) fn begin(&self, rt: &impl Wait, stream: Arc<TcpStream, Global>) {
         self.is_ending.store(false, Ordering::SeqCst);

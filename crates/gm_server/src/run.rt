@@ -100,7 +100,7 @@ fn settings_of(alloc: Global, asked: Asked<'_>) -> Result<Settings, Stop>
             max_bytes: asked.max_data,
             max_line: 1024,
         },
-        tape: false,
+        tape: asked.tape,
     })
 }
 
@@ -112,11 +112,13 @@ fn print_settings<W: Write>(asked: Asked<'_>, w: &mut W) -> io::Result<()> {
         slots,
         name,
         max_data,
+        tape,
         ..
     } = asked;
+    let tape = u8::from(tape);
     writeln!(
         w,
-        "port={port} listen={listen} slots={slots} name={name} max-data={max_data} tape=0"
+        "port={port} listen={listen} slots={slots} name={name} max-data={max_data} tape={tape}"
     )?;
     w.flush()
 }
@@ -184,10 +186,11 @@ fn run<
 
 /// Runs the program on its words, of which the first is its name, with this standard output. It answers the status that
 /// the program is to end with: 0 after a shutdown, a check, the help or the version; 2 for words that aren't understood
-/// or are out of range; 3 where the port or the random seed can't be had, memory is wanting at the start, or standard
-/// output can't be written.
+/// or are out of range; 3 where the port or the random seed can't be had, memory is wanting at the start or, with a
+/// tape, at the end of a connection or of the server, or standard output can't be written; 4 where what the connections
+/// were told isn't what stands on the tape.
 ///
-/// The options are those of gearmand(8) of the same names, and `--check`.
+/// The options are those of gearmand(8) of the same names, `--tape` and `--check`.
 pub fn run_words<
     R: Threads
         + Wait
@@ -203,8 +206,16 @@ pub fn run_words<
     match run(rt, words, w) {
         Ok(None) => 0,
         Ok(Some(served)) => {
-            let connections = served.connections;
+            let Served {
+                connections,
+                entries,
+            } = served;
             let _ = eprintln!(rt; "gmd: ended, connections served: {connections}");
+            if entries > 0 {
+                let _ = eprintln!(rt;
+                    "gmd: the connections were told what stands on the tape, entries: {entries}"
+                );
+            }
             0
         }
         Err(Stop::Words) => 2,

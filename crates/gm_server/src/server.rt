@@ -1,6 +1,7 @@
 //! Serves.
 
-ghost use Rattle.std.specs.Prelude.{◌≡◌, ◌≤◌, IfOk};
+ghost use Rattle.std.specs.Prelude.{◌≡◌, ◌≤◌, false, IfOk};
+ghost use Rattle.gm_shared.specs.Tapes.{is_on};
 
 use crate::accepting::{Control, limit_waiting};
 use crate::error::ServeError;
@@ -8,7 +9,7 @@ use crate::gate::Gate;
 use crate::serving::Serving;
 use crate::settings::{Served, Settings};
 use gm_feeder::Limits;
-use gm_shared::{Blank, BookName, Desk, Shared};
+use gm_shared::{Blank, BookName, Desk, Shared, TapeMode};
 use std::alloc::Global;
 use std::hash::RandomState;
 use std::marker::Brand;
@@ -18,14 +19,15 @@ use std::thread;
 use std::thread::Threads;
 use std::time::Clock;
 
-/// Runs the control thread, and answers how many connections were opened. All other threads have ended then.
+/// Runs the control thread, and answers how many connections were opened. All other threads have ended then. The
+/// control desk comes back.
 fn run_control<'x, K: BookName + Send + Sync, R: Threads + Wait + Clock + Sync, G: Gate>(
     rt: &'x R,
     serving: &'x Serving<K>,
     desk: Desk<K>,
     listener: &'x TcpListener,
     gate: &'x G,
-) -> Result<u64, ServeError> {
+) -> (Desk<K>, Result<u64, ServeError>) {
     let control = Control::new(rt, serving, desk);
     thread::scope(
         thread::scope_env(),
@@ -34,7 +36,14 @@ fn run_control<'x, K: BookName + Send + Sync, R: Threads + Wait + Clock + Sync, 
     )
 }
 
-/// Serves a book that has a name now.
+/// Whether a tape is kept.
+fn mode(tape: bool) -> TapeMode
+    ensures { is_on result ≡ tape }
+{
+    if tape { TapeMode::On } else { TapeMode::Off }
+}
+
+/// Serves a book that has a name now, and settles it in the end.
 fn serve_blank<K: BookName + Send + Sync, R: Threads + Wait + Clock + Sync, G: Gate>(
     rt: &R,
     alloc: Global,
@@ -42,25 +51,31 @@ fn serve_blank<K: BookName + Send + Sync, R: Threads + Wait + Clock + Sync, G: G
     listener: &TcpListener,
     limits: Limits,
     gate: &G,
-) -> Result<u64, ServeError>
+) -> Result<Served, ServeError>
     requires table { blank.table ≡ K.table }
+    requires taped { blank.taped ≡ K.taped }
     requires sized { limits.max_bytes ≤ 1073741824 }
+    ensures { K.taped ≡ false → IfOk result (λ served. served.entries ≡ 0) }
 {
-    let Ok((shared, desks, pens, desk)) = Shared::<K>::open(alloc, blank) else {
-        return Err(ServeError::Memory);
-    };
-    let Ok(serving) = Serving::new(alloc, shared, desks, pens, limits) else {
-        return Err(ServeError::Memory);
-    };
-    run_control(rt, &serving, desk, listener, gate)
+    let (shared, desks, pens, desk) = Shared::<K>::open(alloc, blank)?;
+    let serving = Serving::new(alloc, shared, desks, pens, limits)?;
+    let (desk, outcome) = run_control(rt, &serving, desk, listener, gate);
+    let connections = outcome?;
+    let entries = serving.settle(desk)?;
+    Ok(Served {
+        connections,
+        entries,
+    })
 }
 
 /// Serves the connections that a listener takes, until one of them asks for a shutdown (the Gearman PROTOCOL document,
 /// "Administrative Protocol") and all are closed. Names and ids come from strangers, so the book's tables hash with this
-/// seed. Each unit passes the gate.
+/// seed. Each unit passes the gate. Where the settings ask for a tape, every accepted call is kept on it, and in the end
+/// it is compared with what each connection's desk and pen were told.
 ///
-/// `Memory` comes where there is no memory for the book, `Listen` where the listener fails. That a packet's data are at
-/// most a gigabyte is for the caller to see to.
+/// `Memory` comes where there is no memory for the book or for its end, and with a tape where there is none to enter the
+/// end of a connection, which stops the server; `Differs` where what was told isn't what stands on the tape; `Listen`
+/// where the listener fails. That a packet's data are at most a gigabyte is for the caller to see to.
 pub fn serve<R: Threads + Wait + Clock + Sync, G: Gate>(
     rt: &R,
     alloc: Global,
@@ -70,18 +85,16 @@ pub fn serve<R: Threads + Wait + Clock + Sync, G: Gate>(
     gate: &G,
 ) -> Result<Served, ServeError>
     requires { settings.limits.max_bytes ≤ 1073741824 }
-    ensures { IfOk result (λ served. served.entries ≡ 0) }
+    ensures { settings.tape ≡ false → IfOk result (λ served. served.entries ≡ 0) }
 {
-    let Settings { config, limits, .. } = settings;
+    let Settings {
+        config,
+        limits,
+        tape,
+    } = settings;
     let Ok(()) = limit_waiting(&listener) else {
         return Err(ServeError::Listen);
     };
-    let Ok(blank) = Blank::new(alloc, seed, config) else {
-        return Err(ServeError::Memory);
-    };
-    let connections = serve_blank::<Brand, R, G>(rt, alloc, blank, &listener, limits, gate)?;
-    Ok(Served {
-        connections,
-        entries: 0,
-    })
+    let blank = Blank::new(alloc, seed, config, mode(tape))?;
+    serve_blank::<Brand, R, G>(rt, alloc, blank, &listener, limits, gate)
 }

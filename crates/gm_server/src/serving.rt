@@ -1,14 +1,14 @@
 //! What all threads of a server share.
 
-ghost use Rattle.std.specs.Prelude.{◌≡◌, ◌≤◌};
+ghost use Rattle.std.specs.Prelude.{◌≡◌, ◌≤◌, false, IfOk};
 ghost use Rattle.gm_notes.specs.Servers.{IsSized};
 
 use crate::gate::Gate;
 use crate::lane::Lane;
 use crate::session::{MOST_SLOTS, Notify, Told, run_session};
 use gm_feeder::Limits;
-use gm_notes::{Event, Mode};
-use gm_shared::{BookName, Desk, Pen, Shared};
+use gm_notes::{ApplyError, Event, Mode};
+use gm_shared::{BookName, Desk, Pen, SettleError, Shared, settle};
 use std::alloc::{AllocError, Global};
 use std::net::TcpStream;
 use std::sync::atomic::{AtomicBool, AtomicU64, Ordering};
@@ -29,6 +29,8 @@ pub(crate) struct Serving<K: BookName> {
     is_ending: AtomicBool,
     // Each connection was told to end.
     is_stopped: AtomicBool,
+    // There was no memory to enter a connection's end on the tape, so the book still has its slot open.
+    is_wanting: AtomicBool,
     ghost sized: { limits.max_bytes ≤ 1073741824 },
 }
 
@@ -66,6 +68,7 @@ impl<K: BookName> Serving<K> {
             connections: AtomicU64::new(0),
             is_ending: AtomicBool::new(false),
             is_stopped: AtomicBool::new(false),
+            is_wanting: AtomicBool::new(false),
         })
     }
 
@@ -81,9 +84,15 @@ impl<K: BookName> Serving<K> {
         self.lanes.get(slot as usize)
     }
 
-    /// Whether the server takes no new connections, and has none.
+    /// Whether the server takes no new connections, and has none; or memory was wanting for the end of one.
     pub(crate) fn is_over(&self) -> bool {
-        self.is_ending.load(Ordering::SeqCst) && self.connections.load(Ordering::SeqCst) == 0
+        self.is_wanting()
+            || self.is_ending.load(Ordering::SeqCst) && self.connections.load(Ordering::SeqCst) == 0
+    }
+
+    /// Whether memory was wanting for a connection's end.
+    pub(crate) fn is_wanting(&self) -> bool {
+        self.is_wanting.load(Ordering::SeqCst)
     }
 
     /// Counts a connection that is about to start.
@@ -121,16 +130,27 @@ impl<K: BookName> Serving<K> {
     }
 
     /// Applies an event at a desk, and tells what came of it. It answers the slot that was opened.
-    pub(crate) fn apply<R: Wait>(&self, rt: &R, desk: &mut Desk<K>, event: Event<'_>) -> Option<u32>
+    pub(crate) fn apply<R: Wait>(
+        &self,
+        rt: &R,
+        desk: &mut Desk<K>,
+        event: Event<'_>,
+    ) -> Result<Option<u32>, ApplyError>
         requires { IsSized event }
     {
-        let Ok(receipt) = desk.apply(rt, &self.shared, event) else {
-            return None;
-        };
+        let receipt = desk.apply(rt, &self.shared, event)?;
         let mut told = Told::new();
         told.add(&receipt.touched, receipt.mode);
         self.notify(rt, &told);
-        receipt.done.opened
+        Ok(receipt.done.opened)
+    }
+
+    /// Closes a slot. With a tape memory may be wanting for that: then the slot stays open in the book, and the server
+    /// is over.
+    pub(crate) fn close<R: Wait>(&self, rt: &R, desk: &mut Desk<K>, slot: u32) {
+        if let Err(ApplyError::Memory) = self.apply(rt, desk, Event::Close { slot }) {
+            self.is_wanting.store(true, Ordering::SeqCst);
+        }
     }
 
     /// Runs the reader of a connection, and ends the connection with it.
@@ -159,7 +179,41 @@ impl<K: BookName> Serving<K> {
             self,
         );
         lane.end(rt);
-        self.apply(rt, &mut desk, Event::Close { slot });
+        self.close(rt, &mut desk, slot);
+    }
+}
+
+/// Takes out of lanes what each slot was given, and adds the control desk to the desks.
+fn all_parts<K: BookName>(
+    alloc: Global,
+    lanes: Vec<Lane<K>>,
+    control: Desk<K>,
+) -> Result<(Vec<Desk<K>>, Vec<Pen<K>>), AllocError> {
+    let mut desks = Vec::with_capacity(alloc, lanes.len())?;
+    let mut pens = Vec::with_capacity(alloc, lanes.len())?;
+    for lane in lanes {
+        let (desk, pen) = lane.into_parts();
+        desks.push(desk)?;
+        pens.push(pen)?;
+    }
+    desks.push(control)?;
+    Ok((desks, pens))
+}
+
+impl<K: BookName> Serving<K> {
+    /// Settles the book, once no thread has any part of it, and answers how many entries its tape has.
+    pub(crate) fn settle(self, control: Desk<K>) -> Result<u64, SettleError>
+        ensures { IfOk result (λ entries. K.taped ≡ false → entries ≡ 0) }
+    {
+        let Serving {
+            alloc,
+            shared,
+            lanes,
+            ..
+        } = self;
+        let (desks, pens) = all_parts(alloc, lanes, control)?;
+        let settled = settle(alloc, shared, desks, pens)?;
+        Ok(settled.tape.len() as u64)
     }
 }
 

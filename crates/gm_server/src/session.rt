@@ -2,8 +2,8 @@
 
 ghost use Rattle.std.specs.Prelude.{◌≡◌, ◌<◌, ◌≤◌, length};
 ghost use Rattle.std.specs.Io.KnownBytes.{IsAtEnd};
-ghost use Rattle.gm_notes.specs.Servers.{IsSized};
-ghost use Rattle.gm_server.specs.Sessions.{IsWithin, EndsAtEnd};
+ghost use Rattle.gm_notes.specs.Servers.{step_of, IsSized};
+ghost use Rattle.gm_server.specs.Sessions.{IsWithin, EndsAtEnd, PieceIs, fault_of, Applies, AppliesUnit, AppliesFault, Looks, Unloads, TakesPiece, Reads};
 
 use crate::gate::Gate;
 use gm_feeder::{FeedFault, Feeder, Limits, Unit};
@@ -108,7 +108,6 @@ enum Look {
 #[derive(Drop)]
 struct Session<'s, K: BookName, G> {
     shared: &'s Shared<K>,
-    desk: &'s mut Desk<K>,
     slot: u32,
     gate: &'s G,
     turnstile: &'s Mutex<()>,
@@ -116,7 +115,9 @@ struct Session<'s, K: BookName, G> {
 }
 
 /// The book's name of a feeder's fault.
-fn unit_fault(fault: FeedFault) -> Option<UnitFault> {
+fn unit_fault(fault: FeedFault) -> Option<UnitFault>
+    ensures { result ≡ fault_of fault }
+{
     match fault {
         FeedFault::BadMagic => Some(UnitFault::BadMagic),
         FeedFault::PacketTooLarge => Some(UnitFault::PacketTooLarge),
@@ -126,11 +127,18 @@ fn unit_fault(fault: FeedFault) -> Option<UnitFault> {
 }
 
 impl<'s, K: BookName, G: Gate> Session<'s, K, G> {
-    /// Applies an event. Where it is refused, the session is over.
-    fn apply<R: Wait>(&mut self, rt: &R, event: Event<'_>, told: &mut Told) -> Result<(), Stop>
+    /// Applies an event at the desk. Where it is refused, the session is over.
+    fn apply<R: Wait>(
+        &self,
+        rt: &R,
+        desk: &mut Desk<K>,
+        event: Event<'_>,
+        told: &mut Told,
+    ) -> Result<(), Stop>
         requires { IsSized event }
+        ensures { Applies K.taped (step_of event.entry) result desk.old.share.items desk.new.share.items }
     {
-        match self.desk.apply(rt, self.shared, event) {
+        match desk.apply(rt, self.shared, event) {
             Ok(receipt) => {
                 told.add(&receipt.touched, receipt.mode);
                 Ok(())
@@ -141,89 +149,136 @@ impl<'s, K: BookName, G: Gate> Session<'s, K, G> {
     }
 
     /// Lets a unit pass the gate, and applies it.
-    fn apply_unit<R: Wait>(&mut self, rt: &R, event: Event<'_>, told: &mut Told) -> Look
+    fn apply_unit<R: Wait>(
+        &mut self,
+        rt: &R,
+        desk: &mut Desk<K>,
+        event: Event<'_>,
+        told: &mut Told,
+    ) -> Look
         requires { IsSized event }
+        ensures applies { AppliesUnit K.taped (step_of event.entry) result desk.old.share.items desk.new.share.items }
+        ensures slot { self.new.slot ≡ self.old.slot }
     {
         self.gate.pass(rt, self.slot, self.turn);
         self.turn = self.turn.saturating_add(1);
-        match self.apply(rt, event, told) {
+        match self.apply(rt, desk, event, told) {
             Ok(()) => Look::Unit,
             Err(end) => Look::End(end),
         }
     }
 
     /// Applies a fault, which ends the session.
-    fn apply_fault<R: Wait>(&mut self, rt: &R, fault: FeedFault, told: &mut Told) -> Stop {
+    fn apply_fault<R: Wait>(
+        &self,
+        rt: &R,
+        desk: &mut Desk<K>,
+        fault: FeedFault,
+        told: &mut Told,
+    ) -> Stop
+        ensures { AppliesFault K.taped self.now.slot fault desk.old.share.items desk.new.share.items }
+    {
         let slot = self.slot;
         let Some(fault) = unit_fault(fault) else {
             return Stop::Memory;
         };
-        match self.apply(rt, Event::Fault { slot, fault }, told) {
+        match self.apply(rt, desk, Event::Fault { slot, fault }, told) {
             Ok(()) => Stop::Shut,
             Err(end) => end,
         }
     }
 
     /// Takes the next unit, and applies it.
-    fn look<R: Wait>(&mut self, rt: &R, feeder: &mut Feeder, told: &mut Told) -> Look
+    fn look<R: Wait>(
+        &mut self,
+        rt: &R,
+        desk: &mut Desk<K>,
+        feeder: &mut Feeder,
+        told: &mut Told,
+    ) -> Look
         requires { feeder.old.limits.max_bytes ≤ 1073741824 }
-        ensures { feeder.new.limits ≡ feeder.old.limits }
+        ensures looks { Looks K.taped self.old.slot feeder.old result desk.old.share.items desk.new.share.items feeder.new }
+        ensures limits { feeder.new.limits ≡ feeder.old.limits }
+        ensures slot { self.new.slot ≡ self.old.slot }
     {
         let slot = self.slot;
         match feeder.next_unit() {
             Ok(Some(Unit::Packet { kind, bytes })) => {
-                self.apply_unit(rt, Event::Packet { slot, kind, bytes }, told)
+                self.apply_unit(rt, desk, Event::Packet { slot, kind, bytes }, told)
             }
-            Ok(Some(Unit::Line { bytes })) => self.apply_unit(
-                rt,
-                Event::Line { slot, bytes },
-                told,
-            ),
+            Ok(Some(Unit::Line { bytes })) => {
+                self.apply_unit(rt, desk, Event::Line { slot, bytes }, told)
+            }
             Ok(None) => Look::Wait,
-            Err(fault) => Look::End(self.apply_fault(rt, fault, told)),
+            Err(fault) => Look::End(self.apply_fault(rt, desk, fault, told)),
         }
     }
 
     /// Takes each unit that stands in the feeder, and the fault after them. It says why the session is over, if it is.
-    fn unload<R: Wait>(&mut self, rt: &R, feeder: &mut Feeder, told: &mut Told) -> Option<Stop>
+    fn unload<R: Wait>(
+        &mut self,
+        rt: &R,
+        desk: &mut Desk<K>,
+        feeder: &mut Feeder,
+        told: &mut Told,
+    ) -> Option<Stop>
         requires { feeder.old.limits.max_bytes ≤ 1073741824 }
-        ensures { feeder.new.limits ≡ feeder.old.limits }
+        ensures unloads { Unloads K.taped self.old.slot feeder.old result desk.old.share.items desk.new.share.items feeder.new }
+        ensures limits { feeder.new.limits ≡ feeder.old.limits }
+        ensures slot { self.new.slot ≡ self.old.slot }
     {
-        // Each unit has a byte at least, so there are no more of them.
-        for _ in 0..=feeder.pending().len() {
-            match self.look(rt, feeder, told) {
+        loop {
+            match self.look(rt, desk, feeder, told) {
                 Look::Unit => {}
                 Look::Wait => return None,
                 Look::End(end) => return Some(end),
             }
         }
-        None
+    }
+
+    /// The same, while no other session does it. Many units in a row, of several connections at once, would wake and sleep
+    /// at the book's lock at each unit.
+    fn unload_alone<R: Wait>(
+        &mut self,
+        rt: &R,
+        desk: &mut Desk<K>,
+        feeder: &mut Feeder,
+        told: &mut Told,
+    ) -> Option<Stop>
+        requires { feeder.old.limits.max_bytes ≤ 1073741824 }
+        ensures unloads { Unloads K.taped self.old.slot feeder.old result desk.old.share.items desk.new.share.items feeder.new }
+        ensures limits { feeder.new.limits ≡ feeder.old.limits }
+        ensures slot { self.new.slot ≡ self.old.slot }
+    {
+        let turnstile = self.turnstile;
+        let held = turnstile.lock(rt);
+        let end = self.unload(rt, desk, feeder, told);
+        drop(held);
+        end
     }
 
     /// Takes a piece, and tells what came of it. It says why the session is over, if it is.
     fn take_piece<R: Wait, N: Notify>(
         &mut self,
         rt: &R,
+        desk: &mut Desk<K>,
         feeder: &mut Feeder,
         piece: &[u8],
         notify: &N,
     ) -> Option<Stop>
         requires { feeder.old.limits.max_bytes ≤ 1073741824 }
-        ensures { feeder.new.limits ≡ feeder.old.limits }
+        ensures takes { TakesPiece K.taped self.old.slot feeder.old piece.now result desk.old.share.items desk.new.share.items feeder.new }
+        ensures limits { feeder.new.limits ≡ feeder.old.limits }
+        ensures slot { self.new.slot ≡ self.old.slot }
     {
         let Ok(()) = feeder.feed(piece) else {
             return Some(Stop::Memory);
         };
         let mut told = Told::new();
         let end = if piece.len() > SHORT_PIECE {
-            // Many units in a row, of several connections at once, would wake and sleep at the book's lock at each unit.
-            let turnstile = self.turnstile;
-            let held = turnstile.lock(rt);
-            let end = self.unload(rt, feeder, &mut told);
-            drop(held);
-            end
+            self.unload_alone(rt, desk, feeder, &mut told)
         } else {
-            self.unload(rt, feeder, &mut told)
+            self.unload(rt, desk, feeder, &mut told)
         };
         notify.notify(rt, &told);
         end
@@ -242,6 +297,7 @@ enum Piece {
 fn read_piece<R: Read>(reader: &mut R, buffer: &mut [u8]) -> Piece
     requires { 0 < length buffer.old }
     ensures within { IsWithin (length buffer.new) result }
+    ensures piece { PieceIs (R.remaining reader.old) (R.remaining reader.new) buffer.new result }
     ensures ended { EndsAtEnd (R.remaining reader.new) result }
 {
     match reader.read(buffer) {
@@ -269,11 +325,11 @@ pub(crate) fn run_session<K: BookName, S: Wait, R: Read, G: Gate, N: Notify>(
     notify: &N,
 ) -> SessionEnd
     requires { limits.max_bytes ≤ 1073741824 }
-    ensures { result ≡ SessionEnd.Ended → IsAtEnd (R.remaining reader.new) }
+    ensures ended { result ≡ SessionEnd.Ended → IsAtEnd (R.remaining reader.new) }
+    ensures reads { Reads K.taped slot limits (R.remaining reader.old) (R.remaining reader.new) result desk.old.share.items desk.new.share.items }
 {
     let mut session = Session {
         shared,
-        desk,
         slot,
         gate,
         turnstile,
@@ -286,7 +342,7 @@ pub(crate) fn run_session<K: BookName, S: Wait, R: Read, G: Gate, N: Notify>(
             Piece::Bytes(count) => count,
             Piece::End(end) => return end,
         };
-        match session.take_piece(rt, &mut feeder, &buffer[..count], notify) {
+        match session.take_piece(rt, desk, &mut feeder, &buffer[..count], notify) {
             None => {}
             Some(Stop::Shut) => return SessionEnd::Shut,
             Some(Stop::Memory) => return SessionEnd::Memory,
@@ -297,7 +353,7 @@ pub(crate) fn run_session<K: BookName, S: Wait, R: Read, G: Gate, N: Notify>(
 
 /// Reads a connection's stream to its end, cuts it into units and applies each at the slot, in order; where no
 /// continuation of what came can be read, it applies that fault and ends. It reads pieces of at most 16,384 bytes. Each
-/// unit passes the gate first. The desk is the slot's.
+/// unit passes the gate first. The desk is the slot's. With a tape the desk is told of these events and of no others.
 ///
 /// That a packet's data are at most a gigabyte is for the caller to see to.
 pub fn read_session<K: BookName, S: Wait, R: Read, G: Gate>(
@@ -311,7 +367,8 @@ pub fn read_session<K: BookName, S: Wait, R: Read, G: Gate>(
     gate: &G,
 ) -> SessionEnd
     requires { limits.max_bytes ≤ 1073741824 }
-    ensures { result ≡ SessionEnd.Ended → IsAtEnd (R.remaining reader.new) }
+    ensures ended { result ≡ SessionEnd.Ended → IsAtEnd (R.remaining reader.new) }
+    ensures reads { Reads K.taped slot limits (R.remaining reader.old) (R.remaining reader.new) result desk.old.share.items desk.new.share.items }
 {
     let turnstile = Mutex::new(());
     run_session(

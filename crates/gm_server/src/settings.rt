@@ -10,7 +10,8 @@ pub struct Settings {
     pub config: Config,
     /// How large a unit may be.
     pub limits: Limits,
-    /// Whether a tape is kept of what happens. None is kept yet.
+    /// Whether a tape is kept: every accepted call with its bytes and its answer, for as long as the server runs. In the
+    /// end it is compared with what each connection was told.
     pub tape: bool,
 }
 

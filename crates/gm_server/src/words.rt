@@ -18,6 +18,7 @@ pub(crate) struct Asked<'a> {
     pub(crate) name: &'a str,
     pub(crate) max_data: u32,
     pub(crate) check: bool,
+    pub(crate) tape: bool,
 }
 
 /// An option that takes a number in this range.
@@ -37,12 +38,23 @@ fn text<'a>(alloc: Global, name: &'a str, value: &'a str, help: &'a str) -> Arg<
         .help(help)
 }
 
-/// The option that only checks.
-fn check<'a>(alloc: Global) -> Arg<'a> {
-    Arg::new(alloc, "check")
-        .long("check")
+/// An option that takes nothing.
+fn flag<'a>(alloc: Global, name: &'a str, help: &'a str) -> Arg<'a> {
+    Arg::new(alloc, name)
+        .long(name)
         .action(ArgAction::SetTrue)
-        .help("Prints the settings, and ends")
+        .help(help)
+}
+
+/// The command with the options that take nothing.
+fn with_flags<'a>(alloc: Global, command: Command<'a>) -> Result<Command<'a>, AllocError> {
+    command
+        .arg(flag(
+            alloc,
+            "tape",
+            "Keeps every accepted call with its bytes for as long as it serves, so its memory grows with each; in the end the record is compared with what each connection was told, and the status is 4 where they differ",
+        ))?
+        .arg(flag(alloc, "check", "Prints the settings, and ends"))
 }
 
 /// The command with the options of the server's sizes.
@@ -88,7 +100,7 @@ fn command<'a>(alloc: Global) -> Result<Command<'a>, AllocError> {
             "ADDR",
             "The address to listen on, 0.0.0.0 if not given",
         ))?;
-    with_sizes(alloc, command)?.arg(check(alloc))
+    with_flags(alloc, with_sizes(alloc, command)?)
 }
 
 /// What the words ask for, of which the first is the program's name.
@@ -105,5 +117,6 @@ pub(crate) fn read_words<'a, S: AsStr>(alloc: Global, words: &'a [S]) -> Result<
         // The range has seen to this already.
         max_data: max_data.min(MOST_DATA),
         check: matches.get_flag("check"),
+        tape: matches.get_flag("tape"),
     })
 }
