@@ -6,12 +6,12 @@ use crate::checks::{must, same};
 use crate::packets::{assigned, cut, handle};
 use crate::room::{Room, apply, blank};
 use gm_notes::{ApplyError, Event};
-use gm_shared::{Blank, BookName, Desk, Shared};
+use gm_shared::{Blank, BookName, Desk, Shared, TapeMode};
 use std::alloc::{AllocError, Global};
-use std::hash::RandomState;
 use std::marker::Brand;
 use std::mem;
 use std::process::Abort;
+use std::random::RandomSource;
 use std::sync::Wait;
 use std::test::Fail;
 use std::thread::{Threads, map_vec};
@@ -51,7 +51,7 @@ impl<K: BookName> Hand<K> {
     }
 
     /// Does so often what it is there for. Who grabs can do the function first.
-    fn work<R: Wait + Abort>(mut self, rt: &R, shared: &Shared<K>) -> Result<Hand<K>, ApplyError> {
+    fn send_all<R: Wait + Abort>(&mut self, rt: &R, shared: &Shared<K>) -> Result<(), ApplyError> {
         let (kind, bytes) = (self.kind, self.bytes);
         if kind == 9 {
             self.send(rt, shared, 1, b"f")?;
@@ -59,34 +59,58 @@ impl<K: BookName> Hand<K> {
         for _ in 0..TIMES {
             self.send(rt, shared, kind, bytes)?;
         }
+        Ok(())
+    }
+
+    fn work<R: Wait + Abort>(mut self, rt: &R, shared: &Shared<K>) -> Result<Hand<K>, ApplyError> {
+        self.send_all(rt, shared)?;
         Ok(self)
     }
 }
 
-/// One for each desk: the first two submit, the others grab.
+/// The first two submit, the others grab.
+fn hand_at<K: BookName>(alloc: Global, desk: Desk<K>, slot: u32) -> Hand<K> {
+    let (kind, bytes) = if slot < 2 {
+        (18, b"f\0-\0d".as_slice())
+    } else {
+        (9, b"".as_slice())
+    };
+    Hand {
+        desk,
+        slot,
+        kind,
+        bytes,
+        created: Vec::new(alloc),
+    }
+}
+
+/// One for each desk.
 fn hands<K: BookName>(alloc: Global, desks: Vec<Desk<K>>) -> Result<Vec<Hand<K>>, AllocError> {
     let mut hands = Vec::new(alloc);
     let mut slot = 0u32;
     for desk in desks {
-        let (kind, bytes) = if slot < 2 {
-            (18, b"f\0-\0d".as_slice())
-        } else {
-            (9, b"".as_slice())
-        };
-        hands.push(Hand {
-            desk,
-            slot,
-            kind,
-            bytes,
-            created: Vec::new(alloc),
-        })?;
+        hands.push(hand_at(alloc, desk, slot))?;
         slot = slot.wrapping_add(1);
     }
     Ok(hands)
 }
 
-/// Lets each of the desks work in a thread of its own, and gives the numbers that each one's receipts told. The room has
-/// no desks left but that of the control.
+/// The numbers that each one's receipts told. The desks are given back.
+fn told_by<K: BookName>(
+    alloc: Global,
+    worked: Vec<Result<Hand<K>, ApplyError>>,
+    desks: &mut Vec<Desk<K>>,
+) -> Result<Vec<Vec<u64>>, Fail> {
+    let mut told = Vec::new(alloc);
+    for hand in worked {
+        let Hand { desk, created, .. } = hand?;
+        told.push(created)?;
+        desks.push(desk)?;
+    }
+    Ok(told)
+}
+
+/// Lets each of the desks work in a thread of its own, and gives the numbers that each one's receipts told.
 fn work_all<K: BookName + Send + Sync, R: Threads + Wait + Abort + Sync>(
     rt: &R,
     alloc: Global,
@@ -99,11 +123,17 @@ fn work_all<K: BookName + Send + Sync, R: Threads + Wait + Abort + Sync>(
         hands(alloc, desks)?,
         &|hand: Hand<K>| hand.work(rt, shared),
     )?;
-    let mut told = Vec::new(alloc);
-    for hand in worked {
-        told.push(hand?.created)?;
+    told_by(alloc, worked, &mut room.desks)
+}
+
+/// All the numbers that were told, in their order.
+fn in_order(alloc: Global, told: &[Vec<u64>]) -> Result<Vec<u64>, AllocError> {
+    let mut all = Vec::new(alloc);
+    for numbers in told {
+        all.extend_from_slice(numbers)?;
     }
-    Ok(told)
+    all.sort()?;
+    Ok(all)
 }
 
 /// Each number from 1 to the last was told once.
@@ -113,11 +143,7 @@ fn assert_numbers(
     told: &[Vec<u64>],
     last: u64,
 ) -> Result<(), Fail> {
-    let mut all = Vec::new(alloc);
-    for numbers in told {
-        all.extend_from_slice(numbers)?;
-    }
-    all.sort()?;
+    let all = in_order(alloc, told)?;
     let wanted: Vec<u64> = (1..=last).collect(alloc)?;
     same(rt, "the numbers", &all.as_slice(), &wanted.as_slice());
     Ok(())
@@ -206,6 +232,18 @@ fn answer<K: BookName, R: Wait + Abort>(
     Ok(room.drain(rt, 0)?.bytes)
 }
 
+/// Slot 0 is answered this, and nothing else.
+fn assert_answer<K: BookName, R: Wait + Abort>(
+    rt: &R,
+    room: &mut Room<K>,
+    event: Event<'_>,
+    wanted: &[u8],
+) -> Result<(), Fail> {
+    let bytes = answer(rt, room, event)?;
+    same(rt, "the answer", &bytes.as_slice(), &wanted);
+    Ok(())
+}
+
 /// So many jobs live and so many of them run, and so many can do the function.
 fn assert_status<K: BookName, R: Wait + Abort>(
     rt: &R,
@@ -219,8 +257,24 @@ fn assert_status<K: BookName, R: Wait + Abort>(
         slot: 0,
         bytes: b"status",
     };
+    assert_answer(rt, room, event, wanted.as_bytes())
+}
+
+/// The job with this handle is as this data says.
+fn assert_data<K: BookName, R: Wait + Abort>(
+    rt: &R,
+    room: &mut Room<K>,
+    handle: &[u8],
+    wanted: &[u8],
+) -> Result<(), Fail> {
+    let event = Event::Packet {
+        slot: 0,
+        kind: 15,
+        bytes: handle,
+    };
     let bytes = answer(rt, room, event)?;
-    same(rt, "the status", &bytes.as_slice(), &wanted.as_bytes());
+    let (kind, data, _) = cut(&bytes).ok_or("the question is answered")?;
+    same(rt, "the place", &(kind, data), &(20, wanted));
     Ok(())
 }
 
@@ -233,16 +287,8 @@ fn assert_place<K: BookName, R: Wait + Abort>(
     runs: bool,
 ) -> Result<(), Fail> {
     let handle = handle(alloc, number)?;
-    let event = Event::Packet {
-        slot: 0,
-        kind: 15,
-        bytes: handle.as_bytes(),
-    };
-    let bytes = answer(rt, room, event)?;
-    let (kind, data, _) = cut(&bytes).ok_or("the question is answered")?;
     let wanted = format!(in alloc; "{handle}\01\0{}\00\00", u8::from(runs))?;
-    same(rt, number, &(kind, data), &(20, wanted.as_bytes()));
-    Ok(())
+    assert_data(rt, room, handle.as_bytes(), wanted.as_bytes())
 }
 
 /// Each job runs that was handed out, and each other one waits.
@@ -260,45 +306,73 @@ fn assert_places<K: BookName, R: Wait + Abort>(
 }
 
 /// Two threads submit and the others, if any, grab. Then each number was told once, and each job waits or runs.
+fn crowd_in<K: BookName + Send + Sync, R: Threads + Wait + Abort + Sync>(
+    rt: &R,
+    alloc: Global,
+    room: &mut Room<K>,
+    slots: u32,
+) -> Result<(), Fail> {
+    for _ in 0..slots {
+        room.control
+            .apply(rt, &room.shared, Event::Open { addr: b"127.0.0.1" })?;
+    }
+    let told = work_all(rt, alloc, room)?;
+    assert_numbers(rt, alloc, &told, 2000)?;
+    assert_all_created(rt, alloc, room, &told)?;
+    let running = assigned_jobs(rt, alloc, room)?;
+    assert_status(rt, alloc, room, running.len(), slots.saturating_sub(2))?;
+    assert_places(rt, alloc, room, &running)
+}
+
+/// The same in a room of its own. What each desk and pen was told stands on the tape, if one is kept, and has so many
+/// entries.
 fn crowd<K: BookName + Send + Sync, R: Threads + Wait + Abort + Sync>(
     rt: &R,
     alloc: Global,
     blank: Blank,
     slots: u32,
-) -> Result<(), Fail>
-    requires { blank.table ≡ K.table }
+    tape: TapeMode,
+) -> Result<usize, Fail>
+    requires table { blank.table ≡ K.table }
+    requires taped { blank.taped ≡ K.taped }
 {
-    let mut room: Room<K> = Room::new(alloc, blank)?;
-    for _ in 0..slots {
-        room.control
-            .apply(rt, &room.shared, Event::Open { addr: b"127.0.0.1" })?;
-    }
-    let told = work_all(rt, alloc, &mut room)?;
-    assert_numbers(rt, alloc, &told, 2000)?;
-    assert_all_created(rt, alloc, &mut room, &told)?;
-    let running = assigned_jobs(rt, alloc, &mut room)?;
-    assert_status(rt, alloc, &mut room, running.len(), slots.saturating_sub(2))?;
-    assert_places(rt, alloc, &mut room, &running)
+    let mut room: Room<K> = Room::new(alloc, blank, tape)?;
+    crowd_in(rt, alloc, &mut room, slots)?;
+    Ok(room.settle(alloc)?.len())
 }
 
 /// The same in a new book.
-fn crowd_anew<R: Threads + Wait + Abort + Sync>(
+fn crowd_anew<R: RandomSource + Threads + Wait + Abort + Sync>(
     rt: &R,
     alloc: Global,
-    seed: RandomState,
     slots: u32,
+    tape: TapeMode,
+) -> Result<usize, Fail> {
+    crowd::<Brand, R>(rt, alloc, blank(rt, alloc, slots, tape)?, slots, tape)
+}
+
+/// The same without a tape, and with one, which has so many entries in the end.
+fn both_crowds<R: RandomSource + Threads + Wait + Abort + Sync>(
+    rt: &R,
+    alloc: Global,
+    slots: u32,
+    entries: usize,
 ) -> Result<(), Fail> {
-    crowd::<Brand, R>(rt, alloc, blank(alloc, seed, slots)?, slots)
+    let off = crowd_anew(rt, alloc, slots, TapeMode::Off)?;
+    same(rt, "without a tape", &off, &0);
+    let on = crowd_anew(rt, alloc, slots, TapeMode::On)?;
+    same(rt, "with a tape", &on, &entries);
+    Ok(())
 }
 
 /// Two submit and two grab.
 #[test]
 fn thousand_each(rt: HostRuntime) -> Result<(), Fail> {
-    crowd_anew(&rt, rt.alloc(), RandomState::new(&rt)?, 4)
+    both_crowds(&rt, rt.alloc(), 4, 8012)
 }
 
 /// Two submit, and nobody grabs.
 #[test]
 fn thousand_submitted(rt: HostRuntime) -> Result<(), Fail> {
-    crowd_anew(&rt, rt.alloc(), RandomState::new(&rt)?, 2)
+    both_crowds(&rt, rt.alloc(), 2, 6006)
 }

@@ -1,5 +1,6 @@
-//! Tests of a book that threads share: worked cases over its desks and pens, and threads that work at it at once. It
-//! holds nothing else.
+//! Tests of what threads do at once: a shared book, by worked cases over its desks and pens and by threads that work at
+//! it; and the server: sessions, what a writer writes, the program's words, and clients over loopback. It holds nothing
+//! else.
 #![tactic(auto)]
 
 #[cfg(test)]
@@ -7,10 +8,24 @@ mod books;
 #[cfg(test)]
 mod checks;
 #[cfg(test)]
+mod client;
+#[cfg(test)]
 mod crowds;
+#[cfg(test)]
+mod devices;
+#[cfg(test)]
+mod jobs;
 #[cfg(test)]
 mod packets;
 #[cfg(test)]
 mod room;
 #[cfg(test)]
+mod serving;
+#[cfg(test)]
+mod sessions;
+#[cfg(test)]
+mod tapes;
+#[cfg(test)]
 mod turns;
+#[cfg(test)]
+mod words;

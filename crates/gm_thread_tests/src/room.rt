@@ -4,15 +4,19 @@ ghost use Rattle.std.specs.Prelude.{◌≡◌};
 
 use crate::checks::{must, same};
 use gm_notes::{ApplyError, Config, Done, Event, Mode};
-use gm_shared::{Blank, BookName, Desk, Drained, Pen, Receipt, Shared, SlotSet};
+use gm_shared::{
+    Blank, BookName, Desk, Drained, Entry, Pen, Receipt, SettleError, Shared, SlotSet, TapeMode,
+    settle,
+};
 use std::alloc::{AllocError, Global};
 use std::hash::RandomState;
 use std::process::Abort;
+use std::random::RandomSource;
 use std::sync::Wait;
 use std::test::Fail;
 
 /// What is done, and what comes of it.
-#[derive(Clone, Copy, Debug)]
+#[derive(Clone, Copy)]
 pub enum Turn {
     /// An event is handed in at a desk: what the receipt says of it, and which slots it touches.
     Apply {
@@ -38,9 +42,15 @@ pub fn config(alloc: Global, slots: u32) -> Result<Config, Fail> {
     Ok(Config::new(Vec::from_slice(alloc, b"gmd")?, 1, slots, 65536)?)
 }
 
-/// A new book with so many slots.
-pub fn blank(alloc: Global, seed: RandomState, slots: u32) -> Result<Blank, Fail> {
-    Ok(Blank::new(alloc, seed, config(alloc, slots)?)?)
+/// A new book with so many slots, with a tape or without.
+pub fn blank<R: RandomSource>(
+    rt: &R,
+    alloc: Global,
+    slots: u32,
+    tape: TapeMode,
+) -> Result<Blank, Fail> {
+    let seed = RandomState::new(rt)?;
+    Ok(Blank::new(alloc, seed, config(alloc, slots)?, tape)?)
 }
 
 /// A shared book, with all its desks and pens.
@@ -50,6 +60,7 @@ pub struct Room<K: BookName> {
     pub desks: Vec<Desk<K>>,
     pub pens: Vec<Pen<K>>,
     pub control: Desk<K>,
+    pub tape: TapeMode,
 }
 
 /// The slots of the set are these, in their order.
@@ -62,9 +73,10 @@ fn assert_slots(rt: &impl Abort, event: Event<'static>, set: &SlotSet, slots: &[
     same(rt, event, &set.next(from), &None);
 }
 
-/// The receipt says this.
+/// The receipt says this. It has a place where a tape is kept.
 fn assert_answer(
     rt: &impl Abort,
+    tape: TapeMode,
     event: Event<'static>,
     got: Result<Receipt, ApplyError>,
     answer: Result<(Done, Mode), ApplyError>,
@@ -72,7 +84,7 @@ fn assert_answer(
 ) {
     match (got, answer) {
         (Ok(receipt), Ok((done, mode))) => {
-            same(rt, event, &receipt.at, &None);
+            same(rt, event, &receipt.at.is_some(), &(tape == TapeMode::On));
             same(rt, event, &receipt.done, &done);
             same(rt, event, &receipt.mode, &mode);
             assert_slots(rt, event, &receipt.touched, touched);
@@ -111,8 +123,9 @@ pub fn apply<K: BookName, R: Wait + Abort>(
 }
 
 impl<K: BookName> Room<K> {
-    pub fn new(alloc: Global, blank: Blank) -> Result<Room<K>, AllocError>
-        requires { blank.table ≡ K.table }
+    pub fn new(alloc: Global, blank: Blank, tape: TapeMode) -> Result<Room<K>, AllocError>
+        requires table { blank.table ≡ K.table }
+        requires taped { blank.taped ≡ K.taped }
     {
         let (shared, desks, pens, control) = Shared::open(alloc, blank)?;
         Ok(Room {
@@ -120,7 +133,33 @@ impl<K: BookName> Room<K> {
             desks,
             pens,
             control,
+            tape,
         })
+    }
+
+    /// Keeps the first desk back, or the first pen.
+    pub fn lose(&mut self, desk: bool, pen: bool) {
+        if desk && self.desks.len() > 0 {
+            let _ = self.desks.swap_remove(0);
+        }
+        if pen && self.pens.len() > 0 {
+            let _ = self.pens.swap_remove(0);
+        }
+    }
+
+    /// Gives all desks and pens back, and gets the tape.
+    pub fn settle(self, alloc: Global) -> Result<Vec<Entry>, SettleError> {
+        let Room {
+            shared,
+            mut desks,
+            pens,
+            control,
+            ..
+        } = self;
+        let Ok(()) = desks.push(control) else {
+            return Err(SettleError::Memory);
+        };
+        Ok(settle(alloc, shared, desks, pens)?.tape)
     }
 
     /// Hands in an event at the desk of this number, or at the control desk where no slot has it.
@@ -157,9 +196,19 @@ impl<K: BookName> Room<K> {
                 event,
                 answer,
                 touched,
-            } => assert_answer(rt, event, self.apply(rt, desk, event), answer, touched),
-            Turn::Take { slot, taken } => same(rt, turn, &self.take(rt, slot), &taken),
+            } => {
+                let got = self.apply(rt, desk, event);
+                assert_answer(rt, self.tape, event, got, answer, touched)
+            }
+            Turn::Take { slot, taken } => same(rt, slot, &self.take(rt, slot), &taken),
             Turn::Drain { slot, answer } => assert_drained(rt, slot, self.drain(rt, slot), answer),
+        }
+    }
+
+    /// Does these, one part after another.
+    pub fn run_all<R: Wait + Abort>(&mut self, rt: &R, parts: &[&[Turn]]) {
+        for turns in parts {
+            self.run(rt, turns);
         }
     }
 

@@ -2,13 +2,14 @@
 
 ghost use Rattle.std.specs.Prelude.{◌≡◌};
 
+use crate::checks::same;
 use crate::room::{Room, Turn, blank};
 use gm_notes::{ApplyError, Done, Event, Mode, UnitFault};
-use gm_shared::{Blank, BookName};
+use gm_shared::{Actor, Blank, BookName, Entry, TapeMode, TapeStep};
 use std::alloc::Global;
-use std::hash::RandomState;
 use std::marker::Brand;
 use std::process::Abort;
+use std::random::RandomSource;
 use std::sync::Wait;
 use std::test::Fail;
 
@@ -76,7 +77,7 @@ static STALE_NOOP: [Turn; 14] = [
 ];
 
 /// A worker sleeps and is owed a NOOP.
-static OWED: [Turn; 5] = [
+pub static OWED: [Turn; 5] = [
     turn!(open 0),
     turn!(open 1),
     turn!(packet 1, 1, b"f" => None, []),
@@ -84,12 +85,15 @@ static OWED: [Turn; 5] = [
     turn!(packet 0, 18, b"f\0-\0d" => Some(1), [0, 1]),
 ];
 
-/// It asks for a job and gets it, and no NOOP is left to be taken; so it is awake, as the next job doesn't wake it. It
-/// goes to sleep beside that one, and is woken once.
-static GRABS_AND_SLEEPS: [Turn; 9] = [
+/// It asks for a job and gets it, and no NOOP is left to be taken.
+static GRABS: [Turn; 3] = [
     turn!(packet 1, 9, b"" => None, [1]),
     turn!(take 1 => false),
     turn!(drain 1 => b"\0RES\0\0\0\x0b\0\0\0\x0bH:gmd:1\0f\0d", false),
+];
+
+/// So it is awake, as the next job doesn't wake it. It goes to sleep beside that one, and is woken once.
+static SLEEPS_AGAIN: [Turn; 6] = [
     turn!(packet 0, 18, b"f\0-\0e" => Some(2), [0]),
     turn!(take 1 => false),
     turn!(packet 1, 4, b"" => None, [1]),
@@ -153,49 +157,103 @@ fn play<K: BookName, R: Wait + Abort>(
     rt: &R,
     alloc: Global,
     blank: Blank,
+    tape: TapeMode,
     parts: &[&[Turn]],
-) -> Result<(), Fail>
-    requires { blank.table ≡ K.table }
+) -> Result<Vec<Entry>, Fail>
+    requires table { blank.table ≡ K.table }
+    requires taped { blank.taped ≡ K.taped }
 {
-    let mut room: Room<K> = Room::new(alloc, blank)?;
-    for turns in parts {
-        room.run(rt, turns);
-    }
+    let mut room: Room<K> = Room::new(alloc, blank, tape)?;
+    room.run_all(rt, parts);
+    Ok(room.settle(alloc)?)
+}
+
+/// The turns are made in a new book with so many slots. It gives the book's tape, which is settled.
+fn play_anew<R: RandomSource + Wait + Abort>(
+    rt: &R,
+    alloc: Global,
+    slots: u32,
+    tape: TapeMode,
+    parts: &[&[Turn]],
+) -> Result<Vec<Entry>, Fail> {
+    play::<Brand, R>(rt, alloc, blank(rt, alloc, slots, tape)?, tape, parts)
+}
+
+/// Without a tape there are no entries, and with one so many.
+fn play_both<R: RandomSource + Wait + Abort + AllocGlobal>(
+    rt: &R,
+    slots: u32,
+    parts: &[&[Turn]],
+    entries: usize,
+) -> Result<(), Fail> {
+    let off = play_anew(rt, rt.alloc(), slots, TapeMode::Off, parts)?;
+    same(rt, "without a tape", &off.len(), &0);
+    let on = play_anew(rt, rt.alloc(), slots, TapeMode::On, parts)?;
+    same(rt, "with a tape", &on.len(), &entries);
     Ok(())
 }
 
-/// The turns are made in a new book with so many slots.
-fn play_anew<R: Wait + Abort>(
+/// A worker that is owed a NOOP does this where the pen has taken the NOOP, and where it hasn't.
+fn play_owed<R: RandomSource + Wait + Abort + AllocGlobal>(
     rt: &R,
-    alloc: Global,
-    seed: RandomState,
-    slots: u32,
-    parts: &[&[Turn]],
+    end: &[Turn],
+    entries: usize,
 ) -> Result<(), Fail> {
-    play::<Brand, R>(rt, alloc, blank(alloc, seed, slots)?, parts)
+    play_both(rt, 2, &[&OWED, end], entries)?;
+    play_both(rt, 2, &[&OWED, &TAKEN_FIRST, end], entries)
+}
+
+/// What the tape says that became of the NOOP of slot 1, where it says that the slot's desk found it.
+fn found(entry: Option<&Entry>) -> Option<bool> {
+    match entry {
+        Some(
+            Entry {
+                actor: Actor::Desk(1),
+                step: TapeStep::Took { slot: 1 },
+                ..
+            },
+        ) => Some(true),
+        Some(
+            Entry {
+                actor: Actor::Desk(1),
+                step: TapeStep::Withdrew { slot: 1 },
+                ..
+            },
+        ) => Some(false),
+        _ => None,
+    }
+}
+
+/// The worker asks for a job. Before that its NOOP is entered, as taken or as withdrawn.
+fn assert_found<R: RandomSource + Wait + Abort + AllocGlobal>(
+    rt: &R,
+    parts: &[&[Turn]],
+    taken: bool,
+) -> Result<(), Fail> {
+    let tape = play_anew(rt, rt.alloc(), 2, TapeMode::On, parts)?;
+    same(rt, "the entries", &tape.len(), &8);
+    same(rt, "the NOOP", &found(tape.get(5)), &Some(taken));
+    Ok(())
 }
 
 #[test]
 fn stale_noop(rt: HostRuntime) -> Result<(), Fail> {
-    let seed = RandomState::new(&rt)?;
-    play_anew(&rt, rt.alloc(), seed, 3, &[&STALE_NOOP])
+    play_both(&rt, 3, &[&STALE_NOOP], 13)
 }
 
 /// The pen takes the NOOP before the worker asks for a job or goes, or it is withdrawn: all else is the same.
 #[test]
 fn withdrawn_or_taken(rt: HostRuntime) -> Result<(), Fail> {
-    let ends: [&[Turn]; 3] = [&GRABS_AND_SLEEPS, &GRABS_WITH_ID, &GOES];
-    for end in ends {
-        let (here, there) = (RandomState::new(&rt)?, RandomState::new(&rt)?);
-        play_anew(&rt, rt.alloc(), here, 2, &[&OWED, end])?;
-        play_anew(&rt, rt.alloc(), there, 2, &[&OWED, &TAKEN_FIRST, end])?;
-    }
-    Ok(())
+    assert_found(&rt, &[&OWED, &GRABS], false)?;
+    assert_found(&rt, &[&OWED, &TAKEN_FIRST, &GRABS], true)?;
+    play_both(&rt, 2, &[&OWED, &GRABS, &SLEEPS_AGAIN], 11)?;
+    play_both(&rt, 2, &[&OWED, &TAKEN_FIRST, &GRABS, &SLEEPS_AGAIN], 11)?;
+    play_owed(&rt, &GRABS_WITH_ID, 8)?;
+    play_owed(&rt, &GOES, 11)
 }
 
 /// Each call that can be refused is answered where there is memory, and refused where it has to be.
 #[test]
 fn shared_ample(rt: HostRuntime) -> Result<(), Fail> {
-    let seed = RandomState::new(&rt)?;
-    play_anew(&rt, rt.alloc(), seed, 2, &[&REFUSALS])
+    play_both(&rt, 2, &[&REFUSALS], 15)
 }

@@ -2,13 +2,23 @@
 
 use crate::checks::same;
 use gm_server::run_words;
-use std::alloc::AllocError;
+use std::alloc::{AllocError, Global};
 use std::net::{Net, TcpListener, TcpStream};
 use std::random::RandomSource;
 use std::sync::Wait;
 use std::test::Fail;
 use std::thread::Threads;
 use std::time::Clock;
+
+/// These words after the program's name.
+fn all_words(alloc: Global, words: &[&str]) -> Result<Vec<String>, AllocError> {
+    let mut all = Vec::new(alloc);
+    all.push(String::from_str(alloc, "gmd")?)?;
+    for word in words {
+        all.push(String::from_str(alloc, word)?)?;
+    }
+    Ok(all)
+}
 
 /// The status for these words after the program's name, and what is printed.
 fn outcome<
@@ -21,19 +31,14 @@ fn outcome<
         + AllocGlobal
         + Sync,
 >(rt: &R, words: &[&str]) -> Result<(u8, Vec<u8>), AllocError> {
-    let alloc = rt.alloc();
-    let mut all = Vec::new(alloc);
-    all.push(String::from_str(alloc, "gmd")?)?;
-    for word in words {
-        all.push(String::from_str(alloc, word)?)?;
-    }
-    let mut printed = Vec::new(alloc);
+    let all = all_words(rt.alloc(), words)?;
+    let mut printed = Vec::new(rt.alloc());
     let status = run_words(rt, &all, &mut printed);
     Ok((status, printed))
 }
 
 /// Words, and the status.
-static STATUSES: [(&[&str], u8); 13] = [
+static STATUSES: [(&[&str], u8); 14] = [
     (&["--check"], 0),
     (&["--help"], 0),
     (&["--version"], 0),
@@ -43,7 +48,8 @@ static STATUSES: [(&[&str], u8); 13] = [
     (&["--check", "--port", "0"], 2),
     (&["--check", "--name", "a:b"], 2),
     (&["--check", "--max-data", "1073741825"], 2),
-    (&["--check", "--tape"], 2),
+    (&["--check", "--tape"], 0),
+    (&["--check", "--tape", "on"], 2),
     (&["--jump"], 2),
     (&["here"], 2),
     (&["--listen", "203.0.113.1"], 3),
@@ -60,8 +66,11 @@ fn statuses(rt: HostRuntime) -> Result<(), Fail> {
 
 #[test]
 fn check_line(rt: HostRuntime) -> Result<(), Fail> {
-    let (_, printed) = outcome(&rt, &["--check", "--port", "1", "--name", "a.b-c"])?;
-    let line = b"port=1 listen=0.0.0.0 slots=64 name=a.b-c max-data=67108864 tape=0\n";
+    let (_, printed) = outcome(
+        &rt,
+        &["--check", "--tape", "--port", "1", "--name", "a.b-c"],
+    )?;
+    let line = b"port=1 listen=0.0.0.0 slots=64 name=a.b-c max-data=67108864 tape=1\n";
     same(&rt, "the settings", &printed.as_slice(), &line.as_slice());
     Ok(())
 }

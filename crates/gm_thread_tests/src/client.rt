@@ -1,9 +1,18 @@
 //! A client over loopback.
 
-use std::alloc::Global;
+use std::alloc::{AllocError, Global};
 use std::io;
 use std::io::{Read, Write};
 use std::net::{Net, SocketAddr, TcpStream};
+
+/// These, one after another.
+pub fn joined(alloc: Global, parts: &[&[u8]]) -> Result<Vec<u8>, AllocError> {
+    let mut bytes = Vec::new(alloc);
+    for part in parts {
+        bytes.extend_from_slice(part)?;
+    }
+    Ok(bytes)
+}
 
 /// A packet that came: its type, and its data.
 #[derive(Drop)]
@@ -40,11 +49,8 @@ impl Client {
     /// Sends a request.
     pub fn request(&mut self, kind: u32, data: &[u8]) -> io::Result<()> {
         let size = u32::try_from(data.len()).unwrap_or(u32::MAX);
-        let mut bytes = Vec::with_capacity(self.alloc, 12)?;
-        bytes.extend_from_slice(b"\0REQ")?;
-        bytes.extend_from_slice(&kind.to_be_bytes())?;
-        bytes.extend_from_slice(&size.to_be_bytes())?;
-        bytes.extend_from_slice(data)?;
+        let (kind, size) = (kind.to_be_bytes(), size.to_be_bytes());
+        let bytes = joined(self.alloc, &[b"\0REQ", &kind, &size, data])?;
         self.send(&bytes)
     }
 
@@ -84,11 +90,16 @@ impl Client {
         Ok(line)
     }
 
+    /// Reads an answer, and says whether it is the echo of this.
+    pub fn is_echoed(&mut self, data: &[u8]) -> io::Result<bool> {
+        let answer = self.answer()?;
+        Ok(answer.kind == 17 && answer.data.as_slice() == data)
+    }
+
     /// Sends an echo, and reads its answer. It says whether that is the one.
     pub fn echoes(&mut self, data: &[u8]) -> io::Result<bool> {
         self.request(16, data)?;
-        let answer = self.answer()?;
-        Ok(answer.kind == 17 && answer.data.as_slice() == data)
+        self.is_echoed(data)
     }
 
     /// Asks for a shutdown, and says whether the answer is `OK`.
@@ -96,6 +107,12 @@ impl Client {
         self.send(b"shutdown\n")?;
         let line = self.line()?;
         Ok(line.as_slice() == b"OK\n".as_slice())
+    }
+
+    /// Has an echo, and stops. It says whether both are answered as they are to be.
+    pub fn ends_with_echo(&mut self) -> io::Result<bool> {
+        let right = self.echoes(b"hi")?;
+        Ok(self.stops()? && right)
     }
 
     /// How many lines `workers` answers, without the dot.
@@ -119,5 +136,11 @@ impl Client {
             }
         }
         Ok(false)
+    }
+
+    /// Waits until this connection is alone, and stops. It says whether it was alone at last.
+    pub fn ends_alone(&mut self) -> io::Result<bool> {
+        let alone = self.is_alone()?;
+        Ok(self.stops()? && alone)
     }
 }
