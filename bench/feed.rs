@@ -1,5 +1,5 @@
 //! A feeder in plain Rust, measured as `gm_bench` measures the proved one, to compare with:
-//! `rustc -O bench/feed.rs -o feed && ./feed NAME BYTES`, or `./feed --check`.
+//! `rustc -O bench/feed.rs -o feed && ./feed NAME PIECE BYTES`, or `./feed --check`.
 
 use std::env;
 use std::hint::black_box;
@@ -161,126 +161,89 @@ impl Feeder {
     }
 }
 
-const PIECE_LEN: usize = 16_384;
-
 struct Measurement {
     name: &'static str,
     pattern: fn() -> Vec<u8>,
-    piece_len: usize,
+}
+
+fn packet(len: u32) -> Vec<u8> {
+    let mut packet = b"\0REQ\0\0\0\x10".to_vec();
+    packet.extend(len.to_be_bytes());
+    packet.resize(12 + len as usize, b'x');
+    packet
 }
 
 fn small_packets() -> Vec<u8> {
-    b"\0REQ\0\0\0\x10\0\0\0\x04gear".repeat(1024)
+    packet(4).repeat(1024)
 }
 
 fn large_packet() -> Vec<u8> {
-    let mut packet = b"\0REQ\0\0\0\x10\0\0\xff\xf4".to_vec();
-    packet.extend(b"gear".repeat(16_381));
-    packet
+    packet(65_524)
 }
 
 fn lines() -> Vec<u8> {
     b"maxqueue resize 100\n".repeat(4096)
 }
 
-const ALL: [Measurement; 6] = [
+const ALL: [Measurement; 3] = [
     Measurement {
-        name: "feed_small_packets",
+        name: "small_packets",
         pattern: small_packets,
-        piece_len: PIECE_LEN,
     },
     Measurement {
-        name: "feed_large_packets",
+        name: "large_packets",
         pattern: large_packet,
-        piece_len: PIECE_LEN,
     },
     Measurement {
-        name: "feed_lines",
+        name: "lines",
         pattern: lines,
-        piece_len: PIECE_LEN,
-    },
-    Measurement {
-        name: "feed_small_packets_bytewise",
-        pattern: small_packets,
-        piece_len: 1,
-    },
-    Measurement {
-        name: "feed_large_packets_bytewise",
-        pattern: large_packet,
-        piece_len: 1,
-    },
-    Measurement {
-        name: "feed_lines_bytewise",
-        pattern: lines,
-        piece_len: 1,
     },
 ];
 
-#[derive(Default)]
-struct Tally {
-    units: u64,
-    bytes: u64,
-    checksum: u64,
+fn sum_of_bytes(bytes: &[u8]) -> u64 {
+    let kind = bytes.get(7).copied().unwrap_or(0);
+    let last = bytes.last().copied().unwrap_or(0);
+    bytes.len() as u64 + u64::from(kind) + u64::from(last)
 }
 
-impl Tally {
-    fn add(&mut self, unit: Unit<'_>) {
-        let (kind, bytes) = match unit {
-            Unit::Packet { kind, bytes } => (kind, bytes),
-            Unit::Line { bytes } => (0, bytes),
-        };
-        self.units += 1;
-        self.bytes += bytes.len() as u64;
-        let ends = match (bytes.first(), bytes.last()) {
-            (Some(first), Some(last)) => 256 * u64::from(*first) + u64::from(*last),
-            _ => 0,
-        };
-        self.checksum = self
-            .checksum
-            .wrapping_add(65_536 * u64::from(kind) + ends);
+fn mark(unit: Unit<'_>) -> u64 {
+    match unit {
+        Unit::Packet { kind, bytes } => sum_of_bytes(bytes) + u64::from(kind),
+        Unit::Line { bytes } => sum_of_bytes(bytes),
     }
 }
 
-fn feed_cycled(
-    pattern: &[u8],
-    piece_len: usize,
-    count: u64,
-) -> Result<(Tally, usize), FeedFault> {
+fn feed_cycled(pattern: &[u8], piece_len: usize, count: u64) -> Result<u64, FeedFault> {
     let mut feeder = Feeder::new(Limits {
         max_bytes: 67_108_864,
         max_line: 1024,
     });
-    let mut tally = Tally::default();
+    let mut sum: u64 = 0;
     let mut left = count;
     while left > 0 {
         let len = left.min(pattern.len() as u64);
         for piece in pattern[..len as usize].chunks(piece_len) {
             feeder.feed(piece)?;
             while let Some(unit) = feeder.next_unit()? {
-                tally.add(unit);
+                sum = sum.wrapping_add(mark(unit));
             }
         }
         left -= len;
     }
-    Ok((tally, feeder.pending().len()))
+    Ok(sum + feeder.pending().len() as u64)
 }
 
-fn measure(measurement: &Measurement, count: u64, timed: bool) -> Result<(), FeedFault> {
+fn measure(measurement: &Measurement, piece_len: usize, count: u64, timed: bool) -> Result<(), FeedFault> {
     let pattern = (measurement.pattern)();
     let start = Instant::now();
-    let (tally, rest) = feed_cycled(black_box(&pattern), measurement.piece_len, count)?;
-    let elapsed = start.elapsed();
-    println!(
-        "{} {count}: {} units, {} bytes, checksum {}, rest {rest}",
-        measurement.name, tally.units, tally.bytes, tally.checksum
-    );
+    let sum = feed_cycled(black_box(&pattern), piece_len, count)?;
+    let nanos = start.elapsed().as_nanos();
+    let name = measurement.name;
     if timed {
-        let rate = u128::from(count) * 1_000_000_000 / elapsed.as_nanos().max(1) / 1_048_576;
-        println!(
-            "{}.{:06} s, {rate} MiB/s",
-            elapsed.as_secs(),
-            elapsed.subsec_micros()
-        );
+        let each = nanos / u128::from(count.max(1));
+        println!("feed {name} {piece_len} {count}: sum {sum}, {nanos} ns, {each} ns a round");
+    } else {
+        println!("feed {name}: sum {sum}");
     }
     Ok(())
 }
@@ -291,17 +254,17 @@ fn main() -> ExitCode {
     let done = match words[..] {
         ["--check"] => ALL
             .iter()
-            .try_for_each(|measurement| measure(measurement, 1_000_003, false)),
-        [name, count] => {
+            .try_for_each(|measurement| measure(measurement, 1000, 1_000_003, false)),
+        [name, piece_len, count] => {
             let found = ALL.iter().find(|measurement| measurement.name == name);
-            let (Some(measurement), Ok(count)) = (found, count.parse()) else {
-                eprintln!("feed: NAME is that of a measurement, and COUNT a number");
+            let (Some(measurement), Ok(piece_len), Ok(count)) = (found, piece_len.parse(), count.parse()) else {
+                eprintln!("feed: NAME is that of a measurement, and PIECE and BYTES are numbers");
                 return ExitCode::from(2);
             };
-            measure(measurement, count, true)
+            measure(measurement, piece_len, count, true)
         }
         _ => {
-            eprintln!("feed: the words are NAME COUNT or --check");
+            eprintln!("feed: the words are NAME PIECE BYTES or --check");
             return ExitCode::from(2);
         }
     };

@@ -1,4 +1,5 @@
-//! The rounds of gm_bench_tables on std's collections, to compare with: `rustc -O tables.rs`.
+//! The rounds of `gm_bench tables` on std's collections, to compare with:
+//! `rustc -O bench/tables.rs -o tables && ./tables NAME SIZE ROUNDS`, or `./tables --check`.
 
 use std::cmp::Reverse;
 use std::collections::{BTreeSet, BinaryHeap, HashMap, VecDeque};
@@ -369,9 +370,37 @@ fn run(name: &str, size: u64, rounds: u64) -> (u64, u128) {
     (sum, start.elapsed().as_nanos())
 }
 
+const NAMES: [&str; 13] = [
+    "queue_push_pop",
+    "queue_forget",
+    "conn_open_close",
+    "conn_sleep_wake",
+    "conn_answer",
+    "conn_ability",
+    "job_make_end",
+    "job_find",
+    "job_assign_return",
+    "job_listen_leave",
+    "job_orphan",
+    "job_due_nothing",
+    "job_due_some",
+];
+
 fn main() {
-    let words: Vec<String> = env::args().collect();
-    let (size, rounds) = (words[2].parse().unwrap(), words[3].parse::<u64>().unwrap());
-    let (sum, nanos) = run(&words[1], size, rounds);
-    println!("{} {size} {rounds}: sum {sum}, {} ns a round", words[1], nanos / u128::from(rounds.max(1)));
+    let words: Vec<String> = env::args().skip(1).collect();
+    let words: Vec<&str> = words.iter().map(String::as_str).collect();
+    match words.as_slice() {
+        ["--check"] => {
+            for name in NAMES {
+                println!("tables {name}: sum {}", run(name, 64, 1000).0);
+            }
+        }
+        [name, size, rounds] => {
+            let (size, rounds) = (size.parse().expect("a number"), rounds.parse::<u64>().expect("a number"));
+            let (sum, nanos) = run(name, size, rounds);
+            let each = nanos / u128::from(rounds.max(1));
+            println!("tables {name} {size} {rounds}: sum {sum}, {nanos} ns, {each} ns a round");
+        }
+        _ => eprintln!("tables NAME SIZE ROUNDS, or tables --check"),
+    }
 }

@@ -77,7 +77,7 @@ impl PenSeat {
     }
 }
 
-fn take_empty_word(count: u64) -> u64 {
+fn take_empty(count: u64) -> u64 {
     let (table, _book, mut pens) = black_box(SleepTable::new(1));
     let pen = &mut pens[0];
     let mut takes = 0;
@@ -89,7 +89,7 @@ fn take_empty_word(count: u64) -> u64 {
     takes
 }
 
-fn sleep_wake_take(count: u64) -> u64 {
+fn take_in_turn(count: u64) -> u64 {
     let (table, mut book, mut pens) = black_box(SleepTable::new(1));
     let pen = &mut pens[0];
     let mut takes = 0;
@@ -108,8 +108,8 @@ fn sleep_wake_take(count: u64) -> u64 {
 
 fn measure(name: &str, count: u64) -> Option<u64> {
     match name {
-        "take_empty_word" => Some(take_empty_word(count)),
-        "sleep_wake_take" => Some(sleep_wake_take(count)),
+        "empty" => Some(take_empty(count)),
+        "sleep" => Some(take_in_turn(count)),
         _ => None,
     }
 }
@@ -119,9 +119,9 @@ fn main() -> ExitCode {
     let words: Vec<&str> = words.iter().map(String::as_str).collect();
     match words[..] {
         ["--check"] => {
-            for name in ["take_empty_word", "sleep_wake_take"] {
-                let takes = measure(name, 1_000_003).unwrap_or(0);
-                println!("{name} 1000003: {takes} takes");
+            for name in ["empty", "sleep"] {
+                let takes = measure(name, 1000).unwrap_or(0);
+                println!("word {name}: sum {takes}");
             }
             ExitCode::SUCCESS
         }
@@ -135,10 +135,9 @@ fn main() -> ExitCode {
                 eprintln!("no measurement has this name");
                 return ExitCode::from(2);
             };
-            let elapsed = start.elapsed();
-            println!("{name} {count}: {takes} takes");
-            let rate = u128::from(count) * 1_000_000_000 / elapsed.as_nanos().max(1);
-            println!("{:.6} s, {rate} a second", elapsed.as_secs_f64());
+            let nanos = start.elapsed().as_nanos();
+            let each = nanos / u128::from(count.max(1));
+            println!("word {name} 0 {count}: sum {takes}, {nanos} ns, {each} ns a round");
             ExitCode::SUCCESS
         }
         _ => {

@@ -1,9 +1,0 @@
-pub mod Loads
-pub mod Measurements
-pub mod Orders
-pub mod Reports
-pub mod Rounds
-pub mod Statuses
-pub mod Takings
-pub mod Tallies
-pub mod Findings

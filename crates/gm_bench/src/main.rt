@@ -1,109 +1,182 @@
-//! Measures what the crates of the server cost, to be compared with plain Rust.
+//! Measures what the crates of the server cost, at any size, to be compared with plain Rust.
 #![tactic(auto)]
 
+mod asked;
+mod bench;
+mod clock;
+mod connections;
 mod feeding;
-mod load;
-mod measurement;
-mod measuring;
+mod jobs;
 mod noops;
+mod order;
+mod pieces;
+mod queues;
+mod rows;
+mod script;
+mod servers;
 mod stop;
-mod tally;
-mod text;
-mod words;
 
-use measurement::{ALL, Finding};
-use measuring::{Measured, measure};
-use std::io::ErrorKind;
+use asked::{Asked, Outcome};
+use bench::grown;
+use rows::{What, measure, named, rows, small};
+use std::alloc::Global;
+use std::hash::RandomState;
 use std::process::ExitCode;
+use std::sync::Wait;
+use std::time::Clock;
 use std::{env, io};
 use stop::Stop;
-use text::{finding_line, frequency, rate};
-use words::{Order, WordsFault, read_order};
-
-/// The count of each measurement where all are checked. It is no multiple of a unit's length.
-const CHECK_COUNT: u64 = 1_000_003;
 
 const HELP: &str = "\
-gm_bench NAME COUNT   runs a measurement, and prints what came of it, its time and its rate
-gm_bench --check      runs each measurement once at a small size, and prints what came of it
-gm_bench --help       prints this
+gm_bench PART NAME [SIZE] ROUNDS   prints what came of the rounds, their time, and that of one; SIZE is 0 where it is
+                                   left out
+gm_bench server memory SIZE        prints how much resident memory a waiting job takes
+gm_bench --check                   measures all at a small size, and prints what came of it
+gm_bench --help                    prints this
 
-NAME is one of these. COUNT is a number of bytes, and they come in pieces of 16384 bytes, or of one byte where NAME ends in
-_bytewise.
-
-  feed_small_packets, feed_small_packets_bytewise   ECHO_REQ packets of 16 bytes
-  feed_large_packets, feed_large_packets_bytewise   ECHO_REQ packets of 65536 bytes
-  feed_lines, feed_lines_bytewise                   text lines of 20 bytes
-
-Or it is one of these, and COUNT is a number of rounds.
-
-  take_empty_word   a sleep word that owes no NOOP is taken from
-  sleep_wake_take   a worker sleeps and is woken, its NOOP is taken, and the book looks for it
+feed     a feeder is fed ROUNDS bytes in pieces of SIZE: small_packets, large_packets, lines
+word     a sleep word: empty (it owes no NOOP, and is taken from), sleep (a worker sleeps and is woken, its NOOP is
+         taken, and the book looks for it)
+tables   of functions, where SIZE jobs wait: queue_push_pop, queue_forget
+         of connections, where SIZE slots are open, at most 1024: conn_open_close, conn_sleep_wake, conn_answer,
+         conn_ability
+         of jobs, where SIZE jobs wait, or run: job_make_end, job_find, job_assign_return, job_listen_leave,
+         job_orphan, job_due_nothing, job_due_some
+server   a core behind its front, the best of 20 times so many rounds
+         beside SIZE waiting jobs: echo, submit, work, status_oldest, status_newest, status_unknown, close
+         beside SIZE running jobs: tick
+         beside SIZE sleeping workers of another function: foreground
+core     the same at a bare core: echo, submit, foreground
+book     the same at a book that threads could share: echo, submit, foreground
+tape     the same at one that keeps a tape: echo, submit, foreground
 ";
 
-/// Why the words can't be had: where it isn't for memory, one of them isn't text.
-fn words_stop(error: io::Error) -> Stop {
-    match error.kind() {
-        ErrorKind::OutOfMemory => Stop::Memory,
-        _ => Stop::Words(WordsFault::Words),
+/// How often rounds are done, where the best counts.
+const TIMES: u64 = 20;
+
+fn written(printed: io::Result<()>) -> Result<(), Stop> {
+    match printed {
+        Ok(()) => Ok(()),
+        Err(_) => Err(Stop::Write),
     }
 }
 
-fn order(rt: &HostRuntime) -> Result<Order, Stop> {
-    let words = env::args(rt).map_err(words_stop)?;
-    let words: Vec<String> = words.skip(1).collect(rt.alloc())?;
-    let words: Vec<&str> = words.iter().map(|word| word.as_str()).collect(rt.alloc())?;
-    read_order(&words).map_err(Stop::Words)
+fn memory<R: Wait>(
+    rt: &HostRuntime,
+    waiting: &R,
+    seed: RandomState,
+    size: u64,
+) -> Result<(), Stop> {
+    let each = grown(rt, waiting, seed, size)? / size.max(1);
+    written(println!(rt; "server memory {size}: {each} bytes a job"))
 }
 
-fn print(rt: &HostRuntime, text: &str) -> Result<(), Stop> {
-    rt.print(text).map_err(|_| Stop::Write)
+fn check_one<R: Wait + Clock>(
+    rt: &HostRuntime,
+    waiting: &R,
+    seed: RandomState,
+    row: &(&str, &str, What),
+) -> Result<(), Stop> {
+    let (part, name, what) = *row;
+    let sum = measure(waiting, rt.alloc(), seed, what, small(what))?.sum;
+    written(println!(rt; "{part} {name}: sum {sum}"))
 }
 
-fn print_time(rt: &HostRuntime, count: u64, measured: Measured) -> Result<(), Stop> {
-    let Measured { finding, elapsed } = measured;
-    let seconds = elapsed.as_secs();
-    let micros = elapsed.subsec_micros();
-    let printed = match finding {
-        Finding::Units(_) => {
-            let rate = rate(count, elapsed);
-            println!(rt; "{seconds}.{micros:06} s, {rate} MiB/s")
-        }
-        Finding::Takes(_) => {
-            let frequency = frequency(count, elapsed);
-            println!(rt; "{seconds}.{micros:06} s, {frequency} a second")
-        }
+fn check<R: Wait + Clock>(rt: &HostRuntime, waiting: &R, seed: RandomState) -> Result<(), Stop> {
+    for row in rows() {
+        check_one(rt, waiting, seed, row)?;
+    }
+    Ok(())
+}
+
+fn number(word: &str) -> Result<u64, Stop> {
+    match word.parse() {
+        Ok(number) => Ok(number),
+        Err(_) => Err(Stop::Words),
+    }
+}
+
+/// Measures something, by its words.
+fn time<R: Wait + Clock>(
+    rt: &HostRuntime,
+    waiting: &R,
+    seed: RandomState,
+    part: &str,
+    name: &str,
+    size: &str,
+    rounds: &str,
+) -> Result<(), Stop> {
+    let what = named(part, name)?;
+    let (size, rounds) = (number(size)?, number(rounds)?);
+    let asked = Asked {
+        size,
+        rounds,
+        times: TIMES,
     };
-    printed.map_err(|_| Stop::Write)
+    let Outcome { sum, nanos } = measure(waiting, rt.alloc(), seed, what, asked)?;
+    let each = nanos / rounds.max(1);
+    written(println!(rt; "{part} {name} {size} {rounds}: sum {sum}, {nanos} ns, {each} ns a round"))
 }
 
-fn run(rt: &HostRuntime) -> Result<(), Stop> {
-    let alloc = rt.alloc();
-    match order(rt)? {
-        Order::Help => print(rt, HELP),
-        Order::Check => {
-            for measurement in ALL {
-                let measured = measure(rt, alloc, measurement, CHECK_COUNT)?;
-                let line = finding_line(alloc, measurement, CHECK_COUNT, measured.finding)?;
-                print(rt, line.as_str())?;
-            }
-            Ok(())
-        }
-        Order::Measure { measurement, count } => {
-            let measured = measure(rt, alloc, measurement, count)?;
-            let line = finding_line(alloc, measurement, count, measured.finding)?;
-            print(rt, line.as_str())?;
-            print_time(rt, count, measured)
-        }
+/// Does what the words ask for, the first of which is the program's name.
+fn act<R: Wait + Clock>(
+    rt: &HostRuntime,
+    waiting: &R,
+    seed: RandomState,
+    words: &[&str],
+) -> Result<(), Stop> {
+    match words {
+        [_, "--help"] => written(rt.print(HELP)),
+        [_, "--check"] => check(rt, waiting, seed),
+        [_, "server", "memory", size] => memory(rt, waiting, seed, number(size)?),
+        [_, part, name, rounds] => time(rt, waiting, seed, part, name, "0", rounds),
+        [_, part, name, size, rounds] => time(rt, waiting, seed, part, name, size, rounds),
+        _ => Err(Stop::Words),
     }
+}
+
+/// The words that the program was given, the first of which is its name.
+fn words(rt: &HostRuntime) -> Result<Vec<String>, Stop> {
+    match env::args(rt) {
+        Ok(words) => Ok(words.collect(rt.alloc())?),
+        // Where it isn't for memory, one of them isn't text.
+        Err(error) => match error.kind() {
+            io::ErrorKind::OutOfMemory => Err(Stop::Memory),
+            _ => Err(Stop::Words),
+        },
+    }
+}
+
+/// The words, lent.
+fn lend(alloc: Global, words: &[String]) -> Result<Vec<&str>, Stop> {
+    let mut lent = Vec::new(alloc);
+    for word in words {
+        lent.push(word.as_str())?;
+    }
+    Ok(lent)
+}
+
+fn seed(rt: &HostRuntime) -> Result<RandomState, Stop> {
+    match RandomState::new(rt) {
+        Ok(seed) => Ok(seed),
+        Err(_) => Err(Stop::Seed),
+    }
+}
+
+/// The program, but for telling why it ends early.
+fn start<R: Wait + Clock>(rt: &HostRuntime, waiting: &R) -> Result<(), Stop> {
+    let seed = seed(rt)?;
+    let words = words(rt)?;
+    let lent = lend(rt.alloc(), &words)?;
+    act(rt, waiting, seed, &lent)
 }
 
 fn main(rt: HostRuntime) -> ExitCode {
-    match run(&rt) {
+    match start(&rt, &rt) {
         Ok(()) => ExitCode::SUCCESS,
         Err(stop) => {
             // Where standard error fails too, there is nobody left to tell.
-            let _ = eprintln!(rt; "gm_bench: {stop}");
+            let _ = eprintln!(rt; "gm_bench: {}", stop.text());
             ExitCode::from(stop.status())
         }
     }

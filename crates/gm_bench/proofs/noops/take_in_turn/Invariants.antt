@@ -1,4 +1,4 @@
-use Rattle.std.proofs.Common.{◌≡◌, ◌<◌, ◌≤◌, length}
+use Rattle.std.proofs.Common.{◌≡◌, ◌<◌, length}
 use Rattle.gm_word.specs.declared.phase.Phase.TheVariants.{Awake}
 use Rattle.gm_word.specs.Steps.{line_at}
 use Rattle.gm_bench.proofs.noops.take_in_turn.Given as goal
@@ -9,5 +9,4 @@ invariant-loop l = record {
   pen : l.pen.table ≡ l.table;
   slot : 0 < length l.book.lines;
   awake : (line_at 0 l.book.lines).phase ≡ Awake;
-  counted : l.takes ≤ l.counter;
 }
