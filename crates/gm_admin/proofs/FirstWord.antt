@@ -1,18 +1,19 @@
--- The first word of a line, by the places where gaps end and begin.
-use Rattle.std.proofs.Common.{◌≡◌, ℕ, suc, ◌+◌, ◌<◌, ◌≤◌, Bool, true, false, cond, ltb, not, List, [], ◌∷◌, length, take, drop, Some, None, refl, sym, ap, subst, ◌∙◌, arith, position, unwrap_or}
+-- The first word of a line, by the positions at which gaps end and begin.
+use Rattle.std.proofs.Common.{◌≡◌, ℕ, suc, ◌+◌, ◌<◌, ◌≤◌, Bool, true, false, cond, ltb, not, List, [], ◌∷◌, length, take, drop, Some}
+use Rattle.std.proofs.Common.{None, refl, sym, ap, subst, ◌∙◌, arith, position, unwrap_or}
 use Rattle.std.specs.Prelude.{if◌then◌else◌}
 use Rattle.std.specs.List.{position_or_len}
 use Rattle.std.proofs.Math.Numerals.{one-add}
 use Rattle.std.proofs.lemmas.List.{length-drop}
 use Rattle.std.proofs.lemmas.List.Sums.{prefix_len-le-length}
 use Rattle.std.proofs.lemmas.Bool.Decides.{nat_tests}
-use Rattle.gm_admin.specs.Commands.{is_gap, in_front, joined, words_of}
+use Rattle.gm_admin.specs.Commands.{is_gap, with_head, joined, words_of}
 
--- how many gaps stand in front
+-- how many gaps come first
 abbrev pub gaps : List ℕ → ℕ
 gaps bytes = position_or_len (λ b. not (is_gap b)) bytes
 
--- how many bytes stand in front of the first gap
+-- how many bytes come before the first gap
 abbrev pub run : List ℕ → ℕ
 run bytes = position_or_len is_gap bytes
 
@@ -37,12 +38,12 @@ words_run : (b : ℕ) (bytes : List ℕ) → is_gap b ≡ false → words_of (b 
 words_run b bytes is = ap (λ t. if t then words_of bytes else joined b bytes (words_of bytes)) is
 
 joined_gap : (b c : ℕ) (bytes : List ℕ) (words : List (List ℕ)) → is_gap c ≡ true → joined b (c ∷ bytes) words ≡ (b ∷ []) ∷ words
-joined_gap b c bytes words is = ap (λ t. if t then (b ∷ []) ∷ words else in_front b words) is
+joined_gap b c bytes words is = ap (λ t. if t then (b ∷ []) ∷ words else with_head b words) is
 
-joined_run : (b c : ℕ) (bytes : List ℕ) (words : List (List ℕ)) → is_gap c ≡ false → joined b (c ∷ bytes) words ≡ in_front b words
-joined_run b c bytes words is = ap (λ t. if t then (b ∷ []) ∷ words else in_front b words) is
+joined_run : (b c : ℕ) (bytes : List ℕ) (words : List (List ℕ)) → is_gap c ≡ false → joined b (c ∷ bytes) words ≡ with_head b words
+joined_run b c bytes words is = ap (λ t. if t then (b ∷ []) ∷ words else with_head b words) is
 
--- ---- a word at the front
+-- ---- a word at the head
 
 -- the first n bytes are the first word
 abbrev Cut : ℕ → List ℕ → Type 0
@@ -54,13 +55,13 @@ cut_more true b c bytes gap rest is =
     (words_run b (c ∷ bytes) is ∙ joined_gap b c bytes (words_of (c ∷ bytes)) gap)
 cut_more false b c bytes gap rest is =
     subst (λ (n : ℕ). Cut n (b ∷ c ∷ bytes)) (sym (run_more b (c ∷ bytes) is))
-    (words_run b (c ∷ bytes) is ∙ joined_run b c bytes (words_of (c ∷ bytes)) gap ∙ ap (in_front b) (rest refl))
+    (words_run b (c ∷ bytes) is ∙ joined_run b c bytes (words_of (c ∷ bytes)) gap ∙ ap (with_head b) (rest refl))
 
 cut_at_run : (b : ℕ) (bytes : List ℕ) → is_gap b ≡ false → Cut (run (b ∷ bytes)) (b ∷ bytes)
 cut_at_run b [] is = subst (λ (n : ℕ). Cut n (b ∷ [])) (sym (run_more b [] is)) (words_run b [] is)
 cut_at_run b (c ∷ bytes) is = cut_more (is_gap c) b c bytes refl (cut_at_run c bytes) is
 
--- ---- a word behind gaps
+-- ---- a word after gaps
 
 -- the first word begins at n
 abbrev First : ℕ → List ℕ → Type 0
@@ -86,20 +87,20 @@ no_word (b ∷ bytes) le = none_more (is_gap b) b bytes refl (no_word bytes) le
 
 -- ---- as the code finds them
 
-place_or_len : (t : Bool) (n len : ℕ) → ltb n len ≡ t → n ≤ len → unwrap_or (cond t (Some n) None) len ≡ n
-place_or_len true n len is le = refl
-place_or_len false n len is le = let most : len ≤ n = grind (arith, nat_tests) in omega arith
+position_or_len_is : (t : Bool) (n len : ℕ) → ltb n len ≡ t → n ≤ len → unwrap_or (cond t (Some n) None) len ≡ n
+position_or_len_is true n len is le = refl
+position_or_len_is false n len is le = let most : len ≤ n = grind (arith, nat_tests) in omega arith
 
--- the place that a search finds, or the length
+-- the position that a search finds, or the length
 pub position_or : (p : ℕ → Bool) (bytes : List ℕ) → unwrap_or (position p bytes) (length bytes) ≡ position_or_len p bytes
-position_or p bytes = place_or_len (ltb (position_or_len p bytes) (length bytes)) (position_or_len p bytes) (length bytes) refl (prefix_len-le-length (λ x. not (p x)) bytes)
+position_or p bytes = position_or_len_is (ltb (position_or_len p bytes) (length bytes)) (position_or_len p bytes) (length bytes) refl (prefix_len-le-length (λ x. not (p x)) bytes)
 
--- nothing stands behind the gaps
-pub none_behind : (bytes : List ℕ) (n : ℕ) → n ≡ gaps bytes → length (drop n bytes) ≡ 0 → words_of bytes ≡ []
-none_behind bytes n is empty = no_word bytes (omega (arith, length-drop n bytes))
+-- nothing follows the gaps
+pub none_after : (bytes : List ℕ) (n : ℕ) → n ≡ gaps bytes → length (drop n bytes) ≡ 0 → words_of bytes ≡ []
+none_after bytes n is empty = no_word bytes (omega (arith, length-drop n bytes))
 
--- the word behind the gaps, and what follows it
-pub word_behind : (bytes : List ℕ) (n m : ℕ) → n ≡ gaps bytes → 0 < length (drop n bytes) → m ≡ run (drop n bytes) → words_of bytes ≡ take m (drop n bytes) ∷ words_of (drop m (drop n bytes))
-word_behind bytes n m n_is some m_is =
+-- the word after the gaps, and what follows it
+pub word_after : (bytes : List ℕ) (n m : ℕ) → n ≡ gaps bytes → 0 < length (drop n bytes) → m ≡ run (drop n bytes) → words_of bytes ≡ take m (drop n bytes) ∷ words_of (drop m (drop n bytes))
+word_after bytes n m n_is some m_is =
     subst (λ (k : ℕ). words_of bytes ≡ take k (drop n bytes) ∷ words_of (drop k (drop n bytes))) (sym m_is)
     (subst (λ (k : ℕ). First k bytes) (sym n_is) (first_word bytes (omega (arith, length-drop n bytes))))

@@ -1,3 +1,2 @@
-pub mod Digits
 pub mod FirstWord
-pub mod Lines
+pub mod LineTexts

@@ -1,24 +1,28 @@
 -- The texts that answer lines.
 use Rattle.std.specs.Prelude.{ℕ, ◌||◌, ◌==◌, nat_le, if◌then◌else◌, List, [], ◌∷◌, ◌++◌, length, map, codes, decimal}
+use Rattle.std.specs.Prelude.{◌≡◌, ◌+◌, ◌≤◌, vec_len, vec_capacity}
+use Rattle.std.specs.Global.{Vec}
 use Rattle.std.specs.List.{flat_map}
+use Rattle.gm_admin.specs.declared.answers.TheConstants.{VERSION}
 use Rattle.gm_admin.specs.declared.fault.AdminError.{AdminError}
-use Rattle.gm_admin.specs.declared.fault.AdminError.TheVariants.{UnknownCommand, MissingName, BadSize, BadFunction, TooManyFunctions, LineTooLong}
+use Rattle.gm_admin.specs.declared.fault.AdminError.TheVariants.{UnknownCommand, MissingName, BadSize, BadFunction, TooManyFunctions}
+use Rattle.gm_admin.specs.declared.fault.AdminError.TheVariants.{LineTooLong}
 
--- what a row of `status` says: a function, its jobs, those of them that run, and the workers that can do them
+-- what a line of `status` says: a function, its jobs, those of them that run, and the workers that can do them
 pub record StatusLine : Type 0 where
   pub name : List ℕ
   pub total : ℕ
   pub running : ℕ
   pub workers : ℕ
 
--- what a row of `workers` says: a slot, the address of its connection, its id and its functions
+-- what a line of `workers` says: a slot, the address of its connection, its id and its functions
 pub record WorkerLine : Type 0 where
   pub slot : ℕ
   pub addr : List ℕ
   pub id : List ℕ
   pub functions : List (List ℕ)
 
--- a byte as it prints: a question mark (63) for one up to space (32) and for DEL (127)
+-- a byte as it is printed: a question mark (63) for one up to space (32) and for DEL (127)
 abbrev pub shown_byte : ℕ → ℕ
 shown_byte b = if nat_le b 32 || b == 127 then 63 else b
 
@@ -31,28 +35,29 @@ shown_or_dash text = if length text == 0 then 45 ∷ [] else shown text
 
 -- FUNCTION, TOTAL, RUNNING and WORKERS with tabs (9) between them, and a newline (10)
 abbrev pub status_line : StatusLine → List ℕ
-status_line row = shown row.name ++ 9 ∷ decimal row.total ++ 9 ∷ decimal row.running ++ 9 ∷ decimal row.workers ++ 10 ∷ []
+status_line line = shown line.name ++ 9 ∷ decimal line.total ++ 9 ∷ decimal line.running ++ 9 ∷ decimal line.workers ++ 10 ∷ []
 
 -- a dot (46) on a line of its own ends a list
 abbrev pub dot : List ℕ
 dot = 46 ∷ 10 ∷ []
 
 abbrev pub status_text : List StatusLine → List ℕ
-status_text rows = flat_map status_line rows ++ dot
+status_text lines = flat_map status_line lines ++ dot
 
 -- SLOT, ADDRESS, ID and a colon (58) with spaces (32) between them, then a space and a name for each function
 abbrev pub worker_line : WorkerLine → List ℕ
-worker_line row =
-    decimal row.slot ++ 32 ∷ shown_or_dash row.addr ++ 32 ∷ shown_or_dash row.id ++ 32 ∷ 58 ∷ flat_map (λ name. 32 ∷ shown name) row.functions ++ 10 ∷ []
+worker_line line =
+    decimal line.slot ++ 32 ∷ shown_or_dash line.addr ++ 32 ∷ shown_or_dash line.id ++ 32 ∷ 58 ∷ flat_map (λ name. 32 ∷ shown name) line.functions ++ 10 ∷ []
 
 abbrev pub workers_text : List WorkerLine → List ℕ
-workers_text rows = flat_map worker_line rows ++ dot
+workers_text lines = flat_map worker_line lines ++ dot
 
 abbrev pub ok_text : List ℕ
 ok_text = codes "OK" ++ 10 ∷ []
 
+-- `OK` and the version
 abbrev pub version_text : List ℕ
-version_text = codes "OK 1.0.0" ++ 10 ∷ []
+version_text = codes "OK " ++ VERSION.now ++ 10 ∷ []
 
 abbrev pub error_code : AdminError → List ℕ
 error_code UnknownCommand = codes "unknown_command"
@@ -64,3 +69,9 @@ error_code LineTooLong = codes "line_too_long"
 
 abbrev pub error_text : AdminError → List ℕ
 error_text error = codes "ERR " ++ error_code error ++ 10 ∷ []
+
+-- The bytes were appended, in room that was there.
+pub record Appends (bytes : List ℕ) (old new : Vec ℕ) : Type 0 where
+  pub items : new.items ≡ old.items ++ bytes
+  pub len : vec_len new ≡ vec_len old + length bytes
+  pub capacity : vec_capacity old ≤ vec_capacity new

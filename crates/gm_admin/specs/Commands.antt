@@ -1,9 +1,9 @@
 -- What a line commands: a definition over the list of its words.
-use Rattle.std.specs.Prelude.{ℕ, ◌^◌, Bool, true, false, ◌||◌, ◌&&◌, ◌==◌, nat_lt, nat_le, if◌then◌else◌, List, [], ◌∷◌, length, map, codes, Option, Some, None, Result, Ok, Err}
-use Rattle.std.specs.Char.{is_ascii_digit, to_ascii_lowercase}
-use Rattle.std.specs.List.{list_all}
+use Rattle.std.specs.Prelude.{ℕ, ◌^◌, Bool, true, false, ◌||◌, ◌==◌, if◌then◌else◌, List, [], ◌∷◌, map, codes}
+use Rattle.std.specs.Prelude.{Option, Some, None, Result, Ok, Err}
+use Rattle.std.specs.Char.{to_ascii_lowercase}
 use Rattle.std.specs.Str.{bytes_eq}
-use Rattle.std.specs.Str.Parse.{digits_value}
+use Rattle.gm_packet.specs.Decimals.{decimal_below}
 use Rattle.gm_admin.specs.declared.fault.AdminFault.{AdminFault}
 use Rattle.gm_admin.specs.declared.fault.AdminFault.TheVariants.{UnknownCommand, MissingName, BadSize}
 
@@ -21,15 +21,15 @@ pub data Asked : Type 0 where
 abbrev pub is_gap : ℕ → Bool
 is_gap b = b == 32 || b == 9
 
--- b stands in front of the first word
-abbrev pub in_front : ℕ → List (List ℕ) → List (List ℕ)
-in_front b [] = (b ∷ []) ∷ []
-in_front b (word ∷ words) = (b ∷ word) ∷ words
+-- the words, with b at the head of the first
+abbrev pub with_head : ℕ → List (List ℕ) → List (List ℕ)
+with_head b [] = (b ∷ []) ∷ []
+with_head b (word ∷ words) = (b ∷ word) ∷ words
 
--- b stands before these bytes, whose words are these: it begins a word of its own where a gap or the end follows
+-- b before these bytes, whose words are these: it is a word of its own where a gap or the end follows
 abbrev pub joined : ℕ → List ℕ → List (List ℕ) → List (List ℕ)
 joined b [] words = (b ∷ []) ∷ words
-joined b (next ∷ bytes) words = if is_gap next then (b ∷ []) ∷ words else in_front b words
+joined b (next ∷ bytes) words = if is_gap next then (b ∷ []) ∷ words else with_head b words
 
 -- the longest runs of bytes that are no gaps
 abbrev pub words_of : List ℕ → List (List ℕ)
@@ -42,20 +42,15 @@ is_word word known = bytes_eq (map to_ascii_lowercase word) known
 
 -- ---- sizes
 
--- 1 to 10 decimal digits with a value below 2 ^ 32
-abbrev pub number_of : List ℕ → Option ℕ
-number_of digits =
-    if nat_lt 0 (length digits) && nat_le (length digits) 10 && list_all is_ascii_digit digits && nat_lt (digits_value 10 digits) (2 ^ 32)
-    then Some (digits_value 10 digits) else None
-
--- no limit, where the digits behind a minus (45) are a number
+-- no limit, where the digits after a minus (45) are a number
 abbrev pub negative : Option ℕ → Option ℕ
 negative None = None
 negative (Some n) = Some 0
 
+-- the size that a word says: 1 to 10 decimal digits with a value below 2 ^ 32, or such digits after a minus
 abbrev pub size_of : List ℕ → Option ℕ
 size_of [] = None
-size_of (b ∷ bytes) = if b == 45 then negative (number_of bytes) else number_of (b ∷ bytes)
+size_of (b ∷ bytes) = if b == 45 then negative (decimal_below (2 ^ 32) 10 bytes) else decimal_below (2 ^ 32) 10 (b ∷ bytes)
 
 -- ---- commands
 

@@ -1,4 +1,4 @@
--- What commands and rows say, without where their bytes lie in memory.
+-- What commands and lines say, without where their bytes lie in memory.
 use Rattle.std.specs.Prelude.{ℕ, List, ◌∷◌, Result, Ok, Err, map}
 use Rattle.std.specs.Borrow.{Bor}
 use Rattle.std.specs.List.{flat_map}
@@ -6,8 +6,8 @@ use Rattle.gm_admin.specs.declared.command.Command.{Command}
 use Rattle.gm_admin.specs.declared.command.Command.TheVariants.{Status, Workers, MaxQueue, Version, Shutdown}
 use Rattle.gm_admin.specs.declared.fault.AdminFault.{AdminFault}
 use Rattle.gm_admin.specs.declared.fault.AdminFault.TheVariants.{UnknownCommand, MissingName, BadSize}
-use Rattle.gm_admin.specs.declared.rows.StatusRow.{StatusRow}
-use Rattle.gm_admin.specs.declared.rows.WorkerRow.{WorkerRow}
+use Rattle.gm_admin.specs.declared.lines.StatusRow.{StatusRow}
+use Rattle.gm_admin.specs.declared.lines.WorkerRow.{WorkerRow}
 use Rattle.gm_admin.specs.Commands.{Asked}
 use Rattle.gm_admin.specs.Commands as twin
 use Rattle.gm_admin.specs.Answers.{StatusLine, WorkerLine, shown, status_line, worker_line}
@@ -30,20 +30,20 @@ number_of_fault UnknownCommand = 7
 number_of_fault MissingName = 8
 number_of_fault BadSize = 9
 
-abbrev pub status_row : StatusRow → StatusLine
-status_row row = record { name = row.name.now; total = row.total; running = row.running; workers = row.workers }
+abbrev pub status_of : StatusRow → StatusLine
+status_of line = record { name = line.name.now; total = line.total; running = line.running; workers = line.workers }
 
-abbrev pub worker_row : WorkerRow → WorkerLine
-worker_row row = record { slot = row.slot; addr = row.addr.now; id = row.id.now; functions = map (λ name. name.now) row.functions.items }
+abbrev pub worker_of : WorkerRow → WorkerLine
+worker_of line = record { slot = line.slot; addr = line.addr.now; id = line.id.now; functions = map (λ name. name.now) line.functions.items }
 
--- the rows of `status`, line by line
+-- the text of the lines of `status`
 abbrev pub status_lines : List StatusRow → List ℕ
-status_lines rows = flat_map (λ row. status_line (status_row row)) rows
+status_lines lines = flat_map (λ line. status_line (status_of line)) lines
 
--- the rows of `workers`, line by line
+-- the text of the lines of `workers`
 abbrev pub worker_lines : List WorkerRow → List ℕ
-worker_lines rows = flat_map (λ row. worker_line (worker_row row)) rows
+worker_lines lines = flat_map (λ line. worker_line (worker_of line)) lines
 
--- the functions in a row of `workers`, each behind a space
+-- the functions in a line of `workers`, each after a space
 abbrev pub names_shown : List (Bor (List ℕ)) → List ℕ
 names_shown names = flat_map (λ name. 32 ∷ shown name.now) names

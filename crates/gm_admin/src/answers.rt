@@ -2,50 +2,54 @@
 
 ghost use Rattle.std.specs.Prelude.{◌≡◌, ◌+◌, ◌<◌, ◌++◌, map, length, vec_len, vec_capacity, OnOk, OnErr};
 ghost use Rattle.gm_admin.specs.Answers.{status_text, workers_text, ok_text, version_text, error_text};
-ghost use Rattle.gm_admin.specs.Views.{status_row, worker_row};
+ghost use Rattle.gm_admin.specs.Views.{status_of, worker_of};
 
 use crate::fault::AdminError;
 use crate::lengths::{status_len, workers_len};
-use crate::rows::{StatusRow, WorkerRow};
+use crate::lines::{StatusRow, WorkerRow};
 use crate::writing::{put, put_status_lines, put_worker_lines};
 use std::alloc::AllocError;
 
-/// Appends the answer to `status`: a row for each function, and a dot. All of it is appended or
-/// nothing, and it fails only where `out` lacks the room and none is to be had; so do the others here.
-pub fn write_status(rows: &[StatusRow<'_>], out: &mut Vec<u8>) -> Result<(), AllocError>
+/// The server's version, as `version` answers it.
+pub const VERSION: &str = "1.0.0";
+
+/// Appends the answer to `status`: a line for each function, and a dot. As the other functions here do, it
+/// fails only where `out` has no room for the whole answer and there is no memory for more, and then changes
+/// no byte.
+pub fn write_status(lines: &[StatusRow<'_>], out: &mut Vec<u8>) -> Result<(), AllocError>
     ensures ok { OnOk result (out.new.items
-        ≡ out.old.items ++ status_text (map status_row rows.now)) }
+        ≡ out.old.items ++ status_text (map status_of lines.now)) }
     ensures err { OnErr result (out.new.items ≡ out.old.items) }
     ensures full { OnErr result (vec_capacity out.old
-        < vec_len out.old + length (status_text (map status_row rows.now))) }
+        < vec_len out.old + length (status_text (map status_of lines.now))) }
 {
-    let Some(len) = status_len(rows).checked_add(2) else {
+    let Some(len) = status_len(lines).checked_add(2) else {
         return Err(AllocError);
     };
     out.reserve(len)?;
-    put_status_lines(out, rows);
+    put_status_lines(out, lines);
     put(out, b".\n");
     Ok(())
 }
 
-/// Appends the answer to `workers`: a row for each connection, and a dot.
-pub fn write_workers(rows: &[WorkerRow<'_>], out: &mut Vec<u8>) -> Result<(), AllocError>
+/// Appends the answer to `workers`: a line for each connection, and a dot.
+pub fn write_workers(lines: &[WorkerRow<'_>], out: &mut Vec<u8>) -> Result<(), AllocError>
     ensures ok { OnOk result (out.new.items
-        ≡ out.old.items ++ workers_text (map worker_row rows.now)) }
+        ≡ out.old.items ++ workers_text (map worker_of lines.now)) }
     ensures err { OnErr result (out.new.items ≡ out.old.items) }
     ensures full { OnErr result (vec_capacity out.old
-        < vec_len out.old + length (workers_text (map worker_row rows.now))) }
+        < vec_len out.old + length (workers_text (map worker_of lines.now))) }
 {
-    let Some(len) = workers_len(rows).checked_add(2) else {
+    let Some(len) = workers_len(lines).checked_add(2) else {
         return Err(AllocError);
     };
     out.reserve(len)?;
-    put_worker_lines(out, rows);
+    put_worker_lines(out, lines);
     put(out, b".\n");
     Ok(())
 }
 
-/// Appends the answer to a command that was done.
+/// Appends the answer to a command that was carried out.
 pub fn write_ok(out: &mut Vec<u8>) -> Result<(), AllocError>
     ensures ok { OnOk result (out.new.items ≡ out.old.items ++ ok_text) }
     ensures err { OnErr result (out.new.items ≡ out.old.items) }
@@ -54,13 +58,17 @@ pub fn write_ok(out: &mut Vec<u8>) -> Result<(), AllocError>
     out.extend_from_slice(b"OK\n")
 }
 
-/// Appends the answer to `version`.
+/// Appends the answer to `version`: `OK` and `VERSION`.
 pub fn write_version(out: &mut Vec<u8>) -> Result<(), AllocError>
     ensures ok { OnOk result (out.new.items ≡ out.old.items ++ version_text) }
     ensures err { OnErr result (out.new.items ≡ out.old.items) }
     ensures full { OnErr result (vec_capacity out.old < vec_len out.old + length version_text) }
 {
-    out.extend_from_slice(b"OK 1.0.0\n")
+    out.reserve(4 + VERSION.len())?;
+    put(out, b"OK ");
+    put(out, VERSION.as_bytes());
+    put(out, b"\n");
+    Ok(())
 }
 
 /// The line that says what is wrong.
@@ -77,7 +85,7 @@ fn error_line<'a>(error: AdminError) -> &'a [u8]
     }
 }
 
-/// Appends the answer to a line that is refused.
+/// Appends the answer to a line that was refused.
 pub fn write_fault(error: AdminError, out: &mut Vec<u8>) -> Result<(), AllocError>
     ensures ok { OnOk result (out.new.items ≡ out.old.items ++ error_text error) }
     ensures err { OnErr result (out.new.items ≡ out.old.items) }

@@ -1,4 +1,4 @@
-//! What a line commands.
+//! Reads the command of a line.
 
 ghost use Rattle.std.specs.Prelude.{◌≡◌};
 ghost use Rattle.gm_admin.specs.Commands.{words_of, command_of, maxqueue, shutdown};
@@ -8,22 +8,22 @@ use crate::fault::AdminFault;
 use crate::sizes::size;
 use crate::words::{is_word, next_word};
 
-/// What an administrator asks, in the commands of gearmand(8)'s administrative protocol.
+/// What an administrator asks for: the commands of gearmand(8)'s administrative protocol.
 #[derive(Clone, Copy, Debug, PartialEq, Eq)]
 pub enum Command<'a> {
-    /// What the functions have to do.
+    /// Lists the functions with their jobs.
     Status,
-    /// Who is connected, and what they can do.
+    /// Lists the connections with the functions that they can do.
     Workers,
-    /// A function's limit on waiting jobs; a size of 0 is no limit.
+    /// Limits the waiting jobs of a function; a size of 0 is no limit.
     MaxQueue { name: &'a [u8], size: u32 },
-    /// Which server this is.
+    /// Asks for the server's version.
     Version,
-    /// To end: at once, or when the work is done.
+    /// Ends the server: at once, or gracefully when its connections have closed.
     Shutdown { graceful: bool },
 }
 
-/// What `maxqueue` commands with the words that follow.
+/// The command of `maxqueue` and the words that follow.
 fn read_maxqueue(rest: &[u8]) -> Result<Command<'_>, AdminFault>
     ensures { asked_result result ≡ maxqueue (words_of rest.now) }
 {
@@ -42,7 +42,7 @@ fn read_maxqueue(rest: &[u8]) -> Result<Command<'_>, AdminFault>
     }
 }
 
-/// What `shutdown` commands with the words that follow.
+/// The command of `shutdown` and the words that follow.
 fn read_shutdown(rest: &[u8]) -> Result<Command<'_>, AdminFault>
     ensures { asked_result result ≡ shutdown (words_of rest.now) }
 {
@@ -56,8 +56,13 @@ fn read_shutdown(rest: &[u8]) -> Result<Command<'_>, AdminFault>
 }
 
 impl<'a> Command<'a> {
-    /// Reads a line, without its newline. Spaces and tabs part its words, and the case of a command's
-    /// ASCII letters doesn't matter; `status`, `workers` and `version` ignore the words that follow.
+    /// Reads a line, without its newline. Spaces and tabs separate its words, and the case of a command's
+    /// ASCII letters doesn't matter. `status`, `workers` and `version` ignore the words that follow them.
+    ///
+    /// `UnknownCommand` is returned where there is no word or no such command, and for `shutdown` with other
+    /// words than `graceful`; `MissingName` for `maxqueue` alone; and `BadSize` for `maxqueue` where the size
+    /// isn't 1 to 10 digits with a value that fits 32 bits, after a minus or not, or is followed by a word. It
+    /// takes no memory.
     pub fn read(line: &'a [u8]) -> Result<Command<'a>, AdminFault>
         ensures { asked_result result ≡ command_of line.now }
     {

@@ -6,11 +6,11 @@ ghost use Rattle.gm_admin.specs.Views.{number_of_fault};
 /// Why a line is no command. The numbers are those of the server's refusals.
 #[derive(Clone, Copy, Debug, PartialEq, Eq)]
 pub enum AdminFault {
-    /// The first word is no command, or the command doesn't have the words that follow.
+    /// The first word is no command, or the command doesn't take the words that follow.
     UnknownCommand = 7,
     /// `maxqueue` without a function.
     MissingName = 8,
-    /// The size after `maxqueue` and a function is none, or is followed by another.
+    /// The word after `maxqueue` and a function is no size, or another word follows it.
     BadSize = 9,
 }
 
@@ -28,13 +28,13 @@ impl AdminFault {
 pub enum AdminError {
     /// The line is no command.
     UnknownCommand,
-    /// A function is wanted.
+    /// The name of a function is missing.
     MissingName,
-    /// The size is none.
+    /// A word is no size.
     BadSize,
     /// A function's name is over 512 bytes or holds NUL.
     BadFunction,
-    /// No more functions can be known.
+    /// The server knows as many functions as it may.
     TooManyFunctions,
     /// The line has more than 1,024 bytes.
     LineTooLong,

@@ -1,14 +1,14 @@
-//! How many bytes the rows of the lists take, so that a writer can make room for them all at once.
+//! How many bytes the lists take, so that a writer can make room for a whole list at once.
 
 ghost use Rattle.std.specs.Prelude.{◌≡◌, ◌≤◌, ◌-◌, ◌^◌, min, length, decimal};
 ghost use Rattle.gm_admin.specs.Answers.{shown, shown_or_dash, status_line, worker_line};
-ghost use Rattle.gm_admin.specs.Views.{status_row, worker_row, status_lines, worker_lines, names_shown};
+ghost use Rattle.gm_admin.specs.Views.{status_of, worker_of, status_lines, worker_lines, names_shown};
 
-use crate::rows::{StatusRow, WorkerRow};
+use crate::lines::{StatusRow, WorkerRow};
 use itoa::Buffer;
 
 /// The text, or a dash where it is empty.
-pub fn or_dash(text: &[u8]) -> &[u8]
+pub(crate) fn or_dash(text: &[u8]) -> &[u8]
     ensures { shown result.now ≡ shown_or_dash text.now }
 {
     if text.is_empty() { b"-" } else { text }
@@ -22,28 +22,28 @@ fn decimal_len(number: u64) -> usize
     Buffer::new().format(number).len()
 }
 
-/// How many bytes a row of `status` takes; at most the greatest `usize`.
-fn status_line_len(row: &StatusRow<'_>) -> usize
-    ensures { result ≡ min (length (status_line (status_row row.now))) (2 ^ 64 - 1) }
+/// How many bytes a line of `status` takes; at most the greatest `usize`.
+fn status_line_len(line: &StatusRow<'_>) -> usize
+    ensures { result ≡ min (length (status_line (status_of line.now))) (2 ^ 64 - 1) }
 {
-    let digits = decimal_len(row.total)
-        + decimal_len(row.running)
-        + decimal_len(u64::from(row.workers));
-    row.name.len().saturating_add(digits + 4)
+    let digits = decimal_len(line.total)
+        + decimal_len(line.running)
+        + decimal_len(u64::from(line.workers));
+    line.name.len().saturating_add(digits + 4)
 }
 
-/// How many bytes the rows of `status` take; at most the greatest `usize`.
-pub fn status_len(rows: &[StatusRow<'_>]) -> usize
-    ensures { result ≡ min (length (status_lines rows.now)) (2 ^ 64 - 1) }
+/// How many bytes the lines of `status` take; at most the greatest `usize`.
+pub(crate) fn status_len(lines: &[StatusRow<'_>]) -> usize
+    ensures { result ≡ min (length (status_lines lines.now)) (2 ^ 64 - 1) }
 {
     let mut len: usize = 0;
-    for row in rows {
-        len = len.saturating_add(status_line_len(row));
+    for line in lines {
+        len = len.saturating_add(status_line_len(line));
     }
     len
 }
 
-/// How many bytes the functions in a row of `workers` take; at most the greatest `usize`.
+/// How many bytes the functions in a line of `workers` take; at most the greatest `usize`.
 fn names_len(names: &[&[u8]]) -> usize
     ensures { result ≡ min (length (names_shown names.now)) (2 ^ 64 - 1) }
 {
@@ -54,26 +54,26 @@ fn names_len(names: &[&[u8]]) -> usize
     len
 }
 
-/// How many bytes a row of `workers` takes; at most the greatest `usize`.
-fn worker_line_len(row: &WorkerRow<'_>) -> usize
-    ensures { result ≡ min (length (worker_line (worker_row row.now))) (2 ^ 64 - 1) }
+/// How many bytes a line of `workers` takes; at most the greatest `usize`.
+fn worker_line_len(line: &WorkerRow<'_>) -> usize
+    ensures { result ≡ min (length (worker_line (worker_of line.now))) (2 ^ 64 - 1) }
 {
-    let texts = or_dash(row.addr)
+    let texts = or_dash(line.addr)
         .len()
-        .saturating_add(or_dash(row.id).len());
-    let names = names_len(row.functions.as_slice());
+        .saturating_add(or_dash(line.id).len());
+    let names = names_len(line.functions.as_slice());
     names
         .saturating_add(texts)
-        .saturating_add(decimal_len(u64::from(row.slot)) + 5)
+        .saturating_add(decimal_len(u64::from(line.slot)) + 5)
 }
 
-/// How many bytes the rows of `workers` take; at most the greatest `usize`.
-pub fn workers_len(rows: &[WorkerRow<'_>]) -> usize
-    ensures { result ≡ min (length (worker_lines rows.now)) (2 ^ 64 - 1) }
+/// How many bytes the lines of `workers` take; at most the greatest `usize`.
+pub(crate) fn workers_len(lines: &[WorkerRow<'_>]) -> usize
+    ensures { result ≡ min (length (worker_lines lines.now)) (2 ^ 64 - 1) }
 {
     let mut len: usize = 0;
-    for row in rows {
-        len = len.saturating_add(worker_line_len(row));
+    for line in lines {
+        len = len.saturating_add(worker_line_len(line));
     }
     len
 }

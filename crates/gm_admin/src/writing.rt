@@ -1,25 +1,22 @@
-//! Appends the parts of a list where there is room for them.
+//! Appends the parts of a list, in room that is there.
 
-ghost use Rattle.std.specs.Prelude.{◌≡◌, ◌≤◌, ◌+◌, ◌∷◌, ◌++◌, length, decimal, vec_len, vec_capacity};
-ghost use Rattle.gm_admin.specs.Answers.{shown_byte, shown, status_line, worker_line};
-ghost use Rattle.gm_admin.specs.Views.{status_row, worker_row, status_lines, worker_lines, names_shown};
+ghost use Rattle.std.specs.Prelude.{◌≡◌, ◌≤◌, ◌+◌, ◌∷◌, length, decimal, vec_len, vec_capacity};
+ghost use Rattle.gm_admin.specs.Answers.{Appends, shown_byte, shown, status_line, worker_line};
+ghost use Rattle.gm_admin.specs.Views.{status_of, worker_of, status_lines, worker_lines, names_shown};
 
 use crate::lengths::or_dash;
-use crate::rows::{StatusRow, WorkerRow};
+use crate::lines::{StatusRow, WorkerRow};
 use itoa::Buffer;
 
 /// Appends bytes as they are.
-pub fn put(out: &mut Vec<u8>, bytes: &[u8])
+pub(crate) fn put(out: &mut Vec<u8>, bytes: &[u8])
     requires { vec_len out.old + length bytes.now ≤ vec_capacity out.old }
-    ensures items { out.new.items ≡ out.old.items ++ bytes.now }
-    ensures len { vec_len out.new ≡ vec_len out.old + length bytes.now }
-    ensures capacity { vec_capacity out.old ≤ vec_capacity out.new }
+    ensures { Appends bytes.now out.old out.new }
 {
     out.extend_from_slice(bytes).unwrap();
 }
 
-/// A byte as it prints: a question mark stands for what would part words, and for what moves a
-/// terminal's cursor.
+/// A byte as it is printed: a question mark for a byte that would separate words or move a terminal's cursor.
 fn shown_byte(byte: u8) -> u8
     ensures { result ≡ shown_byte byte }
 {
@@ -30,24 +27,20 @@ fn shown_byte(byte: u8) -> u8
     }
 }
 
-/// Appends a text as it prints.
+/// Appends a text as it is printed.
 fn put_shown(out: &mut Vec<u8>, text: &[u8])
     requires { vec_len out.old + length text.now ≤ vec_capacity out.old }
-    ensures items { out.new.items ≡ out.old.items ++ shown text.now }
-    ensures len { vec_len out.new ≡ vec_len out.old + length text.now }
-    ensures capacity { vec_capacity out.old ≤ vec_capacity out.new }
+    ensures { Appends (shown text.now) out.old out.new }
 {
     for byte in text {
         put(out, &[shown_byte(*byte)]);
     }
 }
 
-/// Appends a space, and a text as it prints.
+/// Appends a space, and a text as it is printed.
 fn put_spaced(out: &mut Vec<u8>, text: &[u8])
     requires { vec_len out.old + length (32 ∷ shown text.now) ≤ vec_capacity out.old }
-    ensures items { out.new.items ≡ out.old.items ++ 32 ∷ shown text.now }
-    ensures len { vec_len out.new ≡ vec_len out.old + length (32 ∷ shown text.now) }
-    ensures capacity { vec_capacity out.old ≤ vec_capacity out.new }
+    ensures { Appends (32 ∷ shown text.now) out.old out.new }
 {
     put(out, b" ");
     put_shown(out, text);
@@ -56,9 +49,7 @@ fn put_spaced(out: &mut Vec<u8>, text: &[u8])
 /// Appends a number.
 fn put_number(out: &mut Vec<u8>, number: u64)
     requires { vec_len out.old + length (decimal number) ≤ vec_capacity out.old }
-    ensures items { out.new.items ≡ out.old.items ++ decimal number }
-    ensures len { vec_len out.new ≡ vec_len out.old + length (decimal number) }
-    ensures capacity { vec_capacity out.old ≤ vec_capacity out.new }
+    ensures { Appends (decimal number) out.old out.new }
 {
     put(out, Buffer::new().format(number).as_bytes());
 }
@@ -66,75 +57,63 @@ fn put_number(out: &mut Vec<u8>, number: u64)
 /// Appends a tab and a number.
 fn put_tabbed(out: &mut Vec<u8>, number: u64)
     requires { vec_len out.old + length (9 ∷ decimal number) ≤ vec_capacity out.old }
-    ensures items { out.new.items ≡ out.old.items ++ 9 ∷ decimal number }
-    ensures len { vec_len out.new ≡ vec_len out.old + length (9 ∷ decimal number) }
-    ensures capacity { vec_capacity out.old ≤ vec_capacity out.new }
+    ensures { Appends (9 ∷ decimal number) out.old out.new }
 {
     put(out, b"\t");
     put_number(out, number);
 }
 
-/// Appends a row of `status`.
-fn put_status_line(out: &mut Vec<u8>, row: &StatusRow<'_>)
-    requires { vec_len out.old + length (status_line (status_row row.now)) ≤ vec_capacity out.old }
-    ensures items { out.new.items ≡ out.old.items ++ status_line (status_row row.now) }
-    ensures len { vec_len out.new ≡ vec_len out.old + length (status_line (status_row row.now)) }
-    ensures capacity { vec_capacity out.old ≤ vec_capacity out.new }
+/// Appends a line of `status`.
+fn put_status_line(out: &mut Vec<u8>, line: &StatusRow<'_>)
+    requires { vec_len out.old + length (status_line (status_of line.now)) ≤ vec_capacity out.old }
+    ensures { Appends (status_line (status_of line.now)) out.old out.new }
 {
-    put_shown(out, row.name);
-    put_tabbed(out, row.total);
-    put_tabbed(out, row.running);
-    put_tabbed(out, u64::from(row.workers));
+    put_shown(out, line.name);
+    put_tabbed(out, line.total);
+    put_tabbed(out, line.running);
+    put_tabbed(out, u64::from(line.workers));
     put(out, b"\n");
 }
 
-/// Appends the rows of `status`.
-pub fn put_status_lines(out: &mut Vec<u8>, rows: &[StatusRow<'_>])
-    requires { vec_len out.old + length (status_lines rows.now) ≤ vec_capacity out.old }
-    ensures items { out.new.items ≡ out.old.items ++ status_lines rows.now }
-    ensures len { vec_len out.new ≡ vec_len out.old + length (status_lines rows.now) }
-    ensures capacity { vec_capacity out.old ≤ vec_capacity out.new }
+/// Appends the lines of `status`.
+pub(crate) fn put_status_lines(out: &mut Vec<u8>, lines: &[StatusRow<'_>])
+    requires { vec_len out.old + length (status_lines lines.now) ≤ vec_capacity out.old }
+    ensures { Appends (status_lines lines.now) out.old out.new }
 {
-    for row in rows {
-        put_status_line(out, row);
+    for line in lines {
+        put_status_line(out, line);
     }
 }
 
-/// Appends the functions in a row of `workers`, each behind a space.
+/// Appends the functions in a line of `workers`, each after a space.
 fn put_names(out: &mut Vec<u8>, names: &[&[u8]])
     requires { vec_len out.old + length (names_shown names.now) ≤ vec_capacity out.old }
-    ensures items { out.new.items ≡ out.old.items ++ names_shown names.now }
-    ensures len { vec_len out.new ≡ vec_len out.old + length (names_shown names.now) }
-    ensures capacity { vec_capacity out.old ≤ vec_capacity out.new }
+    ensures { Appends (names_shown names.now) out.old out.new }
 {
     for name in names {
         put_spaced(out, name);
     }
 }
 
-/// Appends a row of `workers`.
-fn put_worker_line(out: &mut Vec<u8>, row: &WorkerRow<'_>)
-    requires { vec_len out.old + length (worker_line (worker_row row.now)) ≤ vec_capacity out.old }
-    ensures items { out.new.items ≡ out.old.items ++ worker_line (worker_row row.now) }
-    ensures len { vec_len out.new ≡ vec_len out.old + length (worker_line (worker_row row.now)) }
-    ensures capacity { vec_capacity out.old ≤ vec_capacity out.new }
+/// Appends a line of `workers`.
+fn put_worker_line(out: &mut Vec<u8>, line: &WorkerRow<'_>)
+    requires { vec_len out.old + length (worker_line (worker_of line.now)) ≤ vec_capacity out.old }
+    ensures { Appends (worker_line (worker_of line.now)) out.old out.new }
 {
-    put_number(out, u64::from(row.slot));
-    put_spaced(out, or_dash(row.addr));
-    put_spaced(out, or_dash(row.id));
+    put_number(out, u64::from(line.slot));
+    put_spaced(out, or_dash(line.addr));
+    put_spaced(out, or_dash(line.id));
     put(out, b" :");
-    put_names(out, row.functions.as_slice());
+    put_names(out, line.functions.as_slice());
     put(out, b"\n");
 }
 
-/// Appends the rows of `workers`.
-pub fn put_worker_lines(out: &mut Vec<u8>, rows: &[WorkerRow<'_>])
-    requires { vec_len out.old + length (worker_lines rows.now) ≤ vec_capacity out.old }
-    ensures items { out.new.items ≡ out.old.items ++ worker_lines rows.now }
-    ensures len { vec_len out.new ≡ vec_len out.old + length (worker_lines rows.now) }
-    ensures capacity { vec_capacity out.old ≤ vec_capacity out.new }
+/// Appends the lines of `workers`.
+pub(crate) fn put_worker_lines(out: &mut Vec<u8>, lines: &[WorkerRow<'_>])
+    requires { vec_len out.old + length (worker_lines lines.now) ≤ vec_capacity out.old }
+    ensures { Appends (worker_lines lines.now) out.old out.new }
 {
-    for row in rows {
-        put_worker_line(out, row);
+    for line in lines {
+        put_worker_line(out, line);
     }
 }

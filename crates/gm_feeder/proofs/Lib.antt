@@ -1,4 +1,4 @@
-pub mod FrontLemmas
+pub mod HeadLemmas
 pub mod LineLemmas
 pub mod StreamLemmas
 pub mod UnitLemmas

@@ -1,5 +1,7 @@
 -- Newlines: where a line ends, and where none can.
-use Rattle.std.proofs.Common.{◌≡◌, ◌≢◌, ℕ, ◌+◌, ◌-◌, ◌<◌, ◌≤◌, Bool, true, ◌&&◌, nat_lt, List, [], ◌∷◌, ◌++◌, length, get_or, take, drop, slice_index, slice_range, refl, sym, ap, ap₂, subst, ◌∙◌, arith, ⊎_elim, append_assoc, append-nil, length-append, length-take, length-drop, le_refl}
+use Rattle.std.proofs.Common.{◌≡◌, ◌≢◌, ℕ, ◌+◌, ◌-◌, ◌<◌, ◌≤◌, Bool, true, ◌&&◌, nat_lt, List, [], ◌∷◌, ◌++◌, length, get_or, take, drop}
+use Rattle.std.proofs.Common.{slice_index, slice_range, refl, sym, ap, ap₂, subst, ◌∙◌, arith, ⊎_elim, append_assoc, append-nil}
+use Rattle.std.proofs.Common.{length-append, length-take, length-drop, le_refl}
 use Rattle.std.specs.List.{All}
 use Rattle.std.specs.Io.BufRead.{ends_with_byte, strip_last}
 use Rattle.std.proofs.lemmas.Bool.{cases_lt, eq-eqb, eqb-true}
@@ -9,12 +11,13 @@ use Rattle.std.proofs.Math.ListN.{get_or-append}
 use Rattle.std.proofs.Math.Seq.{get_or-append_seam, take-append_seam}
 use Rattle.std.proofs.lemmas.Bool.Decides.{nat_tests}
 use Rattle.memchr.specs.Find.{Nowhere, Passes, is_byte}
+use Rattle.gm_packet.proofs.Packets.{same_prefixes}
 use Rattle.gm_feeder.specs.declared.units.Limits.{Limits}
 use Rattle.gm_feeder.specs.Units.{APacket, ALine, IsLine, IsUnitThen, BeginsNoUnit, BeginsWithNul, IsHopeless, Waits, without_return}
-use Rattle.gm_feeder.specs.Fronts.{IsScanned, text_of}
-use Rattle.gm_feeder.proofs.UnitLemmas.{same_front, nul_longer, nul_front, packet_nul}
+use Rattle.gm_feeder.specs.Heads.{IsScanned, text_of}
+use Rattle.gm_feeder.proofs.UnitLemmas.{nul_longer, nul_first, packet_nul}
 
--- ---- the place of a newline
+-- ---- the position of a newline
 
 -- a line's newline stands past the bytes that hold none
 ends_past : (before after bytes more : List ℕ) (n : ℕ) → before ++ 10 ∷ after ≡ bytes ++ more → n ≤ length bytes
@@ -27,7 +30,7 @@ ends_past before after bytes more n joined within none =
     in
     ⊎_elim (λ low. absurd (none at low (is low))) (λ enough. enough) (cases_lt at n)
 
--- the byte at a place of a part
+-- the byte at a position of a part
 part_at : (bytes : List ℕ) (from end j : ℕ) → from + j < end → slice_index (slice_range bytes from end) j ≡ slice_index bytes (from + j)
 part_at bytes from end j low = get_or-take (end - from) (drop from bytes) j 0 (omega arith) ∙ get_or-drop from bytes j 0
 
@@ -62,9 +65,9 @@ pub same_before : (a b x y : List ℕ) → All (λ c. c ≢ 10) a → All (λ c.
 same_before a b x y no_a no_b joined =
     let up = ends_past a x b (10 ∷ y) (length b) joined (le_refl (length b)) (λ k low. no_b k 0 low) in
     let down = ends_past b y a (10 ∷ x) (length a) (sym joined) (le_refl (length a)) (λ k low. no_a k 0 low) in
-    same_front a b (10 ∷ x) (10 ∷ y) (omega (arith, up, down)) joined
+    (same_prefixes a b (10 ∷ x) (10 ∷ y) (omega (arith, up, down)) joined).0
 
--- where a line stands at the front, a newline follows its bytes
+-- where the bytes begin with a line, a newline follows its text
 pub line_is : (limits : Limits) (bytes text after : List ℕ) (u : IsUnitThen limits bytes (ALine text) after) → bytes ≡ u.unit.before ++ 10 ∷ after
 line_is limits bytes text after u =
     u.joined ∙ (ap (λ (l : List ℕ). l ++ after) u.unit.spelled ∙ append_assoc u.unit.before (10 ∷ []) after)
@@ -72,9 +75,9 @@ line_is limits bytes text after u =
 -- and no NUL stands there
 pub line_not_nul : (limits : Limits) (bytes text after : List ℕ) → IsUnitThen limits bytes (ALine text) after → BeginsWithNul bytes → ⊥
 line_not_nul limits bytes text after u nul =
-    u.unit.no_packet (nul_front u.whole after (omega (arith, ap length u.unit.spelled, length-append u.unit.before (10 ∷ []))) (nul.0, sym u.joined ∙ nul.1))
+    u.unit.no_packet (nul_first u.whole after (omega (arith, ap length u.unit.spelled, length-append u.unit.before (10 ∷ []))) (nul.0, sym u.joined ∙ nul.1))
 
--- ---- what stands at the front of bytes without NUL there
+-- ---- the head of bytes that don't begin with NUL
 
 strip_last-push : (xs : List ℕ) (byte : ℕ) → strip_last byte (xs ++ byte ∷ []) ≡ xs
 strip_last-push xs byte =
@@ -108,7 +111,7 @@ line_found limits bytes len no_nul within small is none =
 pub hopeless-long : (limits : Limits) (bytes : List ℕ) → (BeginsWithNul bytes → ⊥) → limits.max_line < length bytes
     → ((k : ℕ) → k < limits.max_line + 1 → slice_index bytes k ≢ 10) → IsHopeless limits bytes
 hopeless-long limits bytes no_nul long none more (APacket kind text) after u =
-    no_nul (nul_front bytes more (omega arith) (packet_nul limits (bytes ++ more) kind text after u))
+    no_nul (nul_first bytes more (omega arith) (packet_nul limits (bytes ++ more) kind text after u))
 hopeless-long limits bytes no_nul long none more (ALine text) after u =
     let past = ends_past u.unit.before after bytes more (limits.max_line + 1) (sym (line_is limits (bytes ++ more) text after u)) (omega arith) none in
     let small = u.unit.within_limit in
@@ -149,4 +152,4 @@ waits-open limits bytes no_nul small none =
   where
     never : (l : List ℕ) → (BeginsWithNul l → ⊥) → BeginsWithNul (l ++ 10 ∷ []) → ⊥
     never [] none_there nul = absurd (let joined = nul.1 in let zero : (let newline : ℕ = 10 in newline) ≡ 0 = cc in omega (arith, zero))
-    never (b ∷ l) none_there nul = none_there (nul_front (b ∷ l) (10 ∷ []) (omega arith) nul)
+    never (b ∷ l) none_there nul = none_there (nul_first (b ∷ l) (10 ∷ []) (omega arith) nul)

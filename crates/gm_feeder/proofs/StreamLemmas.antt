@@ -1,5 +1,6 @@
 -- The laws of units, spellings and faults.
-use Rattle.std.proofs.Common.{◌≡◌, ◌<◌, ℕ, arith, List, None, [], ◌∷◌, ◌++◌, length, take, drop, refl, sym, ap, ap₂, subst, ◌∙◌, ◌⊎◌, inl, inr, take-append-drop, ⊎_elim, append_assoc, append-nil, length-append, zero-le, lit≤}
+use Rattle.std.proofs.Common.{◌≡◌, ◌<◌, ℕ, arith, List, None, [], ◌∷◌, ◌++◌, length, take, drop, refl, sym, ap, ap₂, subst, ◌∙◌, ◌⊎◌, inl}
+use Rattle.std.proofs.Common.{inr, take-append-drop, ⊎_elim, append_assoc, append-nil, length-append, zero-le, lit≤}
 use Rattle.std.proofs.lemmas.Bool.{cases_eq, cases_Bool, false≢true}
 use Rattle.std.proofs.lemmas.Slice.Eq.{bytes_eq-Decides}
 use Rattle.std.specs.Str.{bytes_eq}
@@ -8,20 +9,22 @@ use Rattle.gm_feeder.specs.declared.units.Limits.{Limits}
 use Rattle.gm_feeder.specs.declared.units.FeedFault.{FeedFault}
 use Rattle.gm_feeder.specs.declared.units.FeedFault.TheVariants.{BadMagic, PacketTooLarge, LineTooLong, Memory}
 use Rattle.gm_packet.specs.Packets.{request_magic}
-use Rattle.gm_feeder.specs.Units.{Item, APacket, ALine, IsUnit, IsUnitThen, BeginsNoUnit, Spells, CanGoOn, IsHopeless, IsHopelessPacket, IsHopelessLine, AgreesWithMagic, IsFaultOf, Waits, without_return}
-use Rattle.gm_feeder.specs.Streams.{Stream, Event, Fed, Gave, fed, without_front, GivesUnit, Runs, all_fed, all_given}
-use Rattle.gm_feeder.proofs.UnitLemmas.{header, packet_is, same_kind, same_size, same_front, nul_longer, nul_front, packet_nul}
+use Rattle.gm_packet.proofs.Packets.{same_prefixes}
+use Rattle.gm_feeder.specs.Units.{Item, APacket, ALine, IsUnit, IsUnitThen, BeginsNoUnit, Spells, CanGoOn, IsHopeless, IsHopelessPacket}
+use Rattle.gm_feeder.specs.Units.{IsHopelessLine, AgreesWithMagic, IsFaultOf, Waits, without_return}
+use Rattle.gm_feeder.specs.Streams.{Stream, Event, Fed, Gave, with_bytes, without_first, GivesUnit, Runs, all_fed, all_given}
+use Rattle.gm_feeder.proofs.UnitLemmas.{header, packet_is, same_kind, same_size, nul_longer, nul_first, packet_nul}
 use Rattle.gm_feeder.proofs.LineLemmas.{same_before, line_is, line_not_nul}
-use Rattle.gm_feeder.proofs.FrontLemmas.{empty_goes_on, take_nil}
+use Rattle.gm_feeder.proofs.HeadLemmas.{empty_goes_on, take_nil}
 
--- a packet and a line aren't at one place
+-- no bytes begin with a packet and with a line
 not_both : (limits : Limits) (whole other x y : List ℕ) (kind : ℕ) (text said : List ℕ) → IsUnit limits whole (APacket kind text) → IsUnit limits other (ALine said)
     → whole ++ x ≡ other ++ y → ⊥
 not_both limits whole other x y kind text said u v joined =
     line_not_nul limits (whole ++ x) said y (record { whole = other; unit = v; joined = joined })
     (packet_nul limits (whole ++ x) kind text x (record { whole = whole; unit = u; joined = refl }))
 
--- two units at one place are one
+-- two units that begin the same bytes are one
 pub one_unit : (limits : Limits) (whole other x y : List ℕ) (item another : Item) → IsUnit limits whole item → IsUnit limits other another
     → whole ++ x ≡ other ++ y → (whole ≡ other) × (item ≡ another)
 one_unit limits whole other x y (APacket j text) (APacket k words) u v joined =
@@ -36,7 +39,7 @@ one_unit limits whole other x y (APacket j text) (APacket k words) u v joined =
     let headers : header j m ≡ header k n = ap (take 12) all in
     let kinds : j ≡ k = same_kind j k m n u.kind_fits v.kind_fits headers in
     let sizes : m ≡ n = same_size j k m n u.size_fits v.size_fits headers in
-    let texts : text ≡ words = same_front text words x y sizes (ap (drop 12) all) in
+    let texts : text ≡ words = (same_prefixes text words x y sizes (ap (drop 12) all)).0 in
     (left ∙ (ap₂ (λ (h t : List ℕ). h ++ t) headers texts ∙ sym right), ap₂ APacket kinds texts)
 one_unit limits whole other x y (APacket kind text) (ALine said) u v joined = absurd (not_both limits whole other x y kind text said u v joined)
 one_unit limits whole other x y (ALine said) (APacket kind text) u v joined = absurd (not_both limits other whole y x kind text said v u (sym joined))
@@ -73,18 +76,18 @@ one_spelling limits stream (item ∷ items) (another ∷ others) rest other s t 
     let more = one_spelling limits s.0 items others rest other s.2 (subst (λ (l : List ℕ). Spells limits l others other) (sym same.1) t.2) in
     (ap₂ (λ (i : Item) (l : List Item). i ∷ l) same.0 more.0, more.1)
 
--- a unit stays at the front when more comes
+-- a unit stays at the head when more comes
 pub unit_stays : (limits : Limits) (bytes more : List ℕ) (item : Item) (after : List ℕ) → IsUnitThen limits bytes item after
     → IsUnitThen limits (bytes ++ more) item (after ++ more)
 unit_stays limits bytes more item after u =
     record { whole = u.whole; unit = u.unit; joined = ap (λ (l : List ℕ). l ++ more) u.joined ∙ append_assoc u.whole after more }
 
-pub any_cut : (limits : Limits) (front back : List ℕ) (items more : List Item) (rest end : List ℕ) → Spells limits front items rest
-    → Spells limits (rest ++ back) more end → Spells limits (front ++ back) (items ++ more) end
-any_cut limits front back [] more rest end s t =
-    subst (λ (l : List ℕ). Spells limits (l ++ back) more end) (sym s.0) t
-any_cut limits front back (item ∷ items) more rest end s t =
-    (s.0 ++ back, unit_stays limits front back item s.0 s.1, any_cut limits s.0 back items more rest end s.2 t)
+pub any_cut : (limits : Limits) (first second : List ℕ) (items more : List Item) (rest end : List ℕ) → Spells limits first items rest
+    → Spells limits (rest ++ second) more end → Spells limits (first ++ second) (items ++ more) end
+any_cut limits first second [] more rest end s t =
+    subst (λ (l : List ℕ). Spells limits (l ++ second) more end) (sym s.0) t
+any_cut limits first second (item ∷ items) more rest end s t =
+    (s.0 ++ second, unit_stays limits first second item s.0 s.1, any_cut limits s.0 second items more rest end s.2 t)
 
 -- ---- faults
 
@@ -157,7 +160,7 @@ packet-stays limits rest more p =
 line-stays : (limits : Limits) (rest more : List ℕ) → IsHopelessLine limits rest → IsHopelessLine limits (rest ++ more)
 line-stays limits [] more p = absurd (hopeless-ends limits [] p.hopeless (empty_goes_on limits [] zero-le refl))
 line-stays limits (b ∷ bytes) more p =
-    record { no_nul = λ nul. p.no_nul (nul_front (b ∷ bytes) more (omega arith) nul); hopeless = hopeless-stays limits (b ∷ bytes) more p.hopeless }
+    record { no_nul = λ nul. p.no_nul (nul_first (b ∷ bytes) more (omega arith) nul); hopeless = hopeless-stays limits (b ∷ bytes) more p.hopeless }
 
 -- what is wrong with the magic stays wrong
 agrees-shorter : (rest more : List ℕ) → AgreesWithMagic (rest ++ more) → AgreesWithMagic rest
@@ -194,7 +197,7 @@ runs_spell old new [] run none = (
   subst (λ (s : Stream). BeginsNoUnit s.limits new.pending) run none,
 )
 runs_spell old new (Fed piece ∷ events) run none =
-    subst (λ (l : List ℕ). Spells old.limits l (all_given events) new.pending) (append_assoc old.pending piece (all_fed events)) (runs_spell (fed old piece) new events run none)
+    subst (λ (l : List ℕ). Spells old.limits l (all_given events) new.pending) (append_assoc old.pending piece (all_fed events)) (runs_spell (with_bytes old piece) new events run none)
 runs_spell old new (Gave item ∷ events) run none =
     let mid = run.0 in
     let gives = run.1 in
@@ -213,10 +216,10 @@ runs_spell-only old new events items rest run none other =
 -- ---- giving
 
 -- so many bytes, which are a unit, are let go of
-pub gives_front : (old mid new : Stream) (item : Item) (len : ℕ) → old.fault ≡ None → mid ≡ old → new ≡ without_front len mid
+pub gives_first : (old mid new : Stream) (item : Item) (len : ℕ) → old.fault ≡ None → mid ≡ old → new ≡ without_first len mid
     → IsUnit old.limits (take len old.pending) item → GivesUnit old item new
-gives_front old mid new item len running same is unit =
-    let left : new ≡ without_front len old = is ∙ ap (without_front len) same in
+gives_first old mid new item len running same is unit =
+    let left : new ≡ without_first len old = is ∙ ap (without_first len) same in
     let pending : new.pending ≡ drop len old.pending = ap (λ (s : Stream). s.pending) left in
     record {
       running = running;

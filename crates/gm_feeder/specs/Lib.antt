@@ -1,3 +1,3 @@
-pub mod Fronts
+pub mod Heads
 pub mod Streams
 pub mod Units

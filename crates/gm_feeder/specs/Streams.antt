@@ -6,7 +6,7 @@ use Rattle.gm_feeder.specs.declared.units.Unit.{Unit as Given}
 use Rattle.gm_feeder.specs.declared.units.Unit.TheVariants.{Packet, Line}
 use Rattle.gm_feeder.specs.Units.{Item, APacket, ALine, IsUnitThen, IsFaultOf, Waits}
 
--- what a feeder is to its callers: the bytes fed and not given out, and the fault that it has answered
+-- what a feeder is to its callers: the bytes with_bytes and not yet given out, and the fault that it has returned
 pub record Stream : Type 0 where
   pub limits : Limits
   pub pending : List ℕ
@@ -18,18 +18,18 @@ item_of (Packet kind bytes) = APacket kind bytes.now
 item_of (Line bytes) = ALine bytes.now
 
 -- the stream with a piece more
-abbrev pub fed : Stream → List ℕ → Stream
-fed stream piece = record stream { pending = stream.pending ++ piece }
+abbrev pub with_bytes : Stream → List ℕ → Stream
+with_bytes stream piece = record stream { pending = stream.pending ++ piece }
 
--- the stream without the first so many of its bytes
-abbrev pub without_front : ℕ → Stream → Stream
-without_front len stream = record stream { pending = drop len stream.pending }
+-- the stream without its first `len` bytes
+abbrev pub without_first : ℕ → Stream → Stream
+without_first len stream = record stream { pending = drop len stream.pending }
 
--- the stream on which this fault was answered
-abbrev pub faulted : Stream → FeedFault → Stream
-faulted stream fault = record stream { fault = Some fault }
+-- the stream on which this fault was returned
+abbrev pub with_fault : Stream → FeedFault → Stream
+with_fault stream fault = record stream { fault = Some fault }
 
--- A unit that says this was at the front, and what came after it is left.
+-- The bytes began with a unit that says this, and what came after it is left.
 pub record GivesUnit (old : Stream) (item : Item) (new : Stream) : Type 0 where
   pub running : old.fault ≡ None
   pub unit : IsUnitThen old.limits old.pending item new.pending
@@ -41,11 +41,11 @@ pub record GivesNone (old new : Stream) : Type 0 where
   pub waits : Waits old.limits old.pending
   pub kept : new ≡ old
 
--- This fault stands, and from then on it is answered.
+-- The rest has this fault, and from then on it is returned.
 pub record GivesFault (old : Stream) (fault : FeedFault) (new : Stream) : Type 0 where
   pub standing : IfSome old.fault (λ before. before ≡ fault)
   pub stands : IsFaultOf old.limits old.pending fault
-  pub kept : new ≡ faulted old fault
+  pub kept : new ≡ with_fault old fault
 
 -- what the next unit is, and what is left
 abbrev pub GivesNext : Stream → Result (Option Given) FeedFault → Stream → Type 0
@@ -53,7 +53,7 @@ GivesNext old (Ok (Some unit)) new = GivesUnit old (item_of unit) new
 GivesNext old (Ok None) new = GivesNone old new
 GivesNext old (Err fault) new = GivesFault old fault new
 
--- what befalls a feeder: a piece is fed, or a unit that says this is given
+-- what befalls a feeder: a piece is with_bytes, or a unit that says this is given
 pub data Event : Type 0 where
   Fed : List ℕ → Event
   Gave : Item → Event
@@ -61,10 +61,10 @@ pub data Event : Type 0 where
 -- these events, in this order, lead from old to new
 abbrev pub Runs : Stream → List Event → Stream → Type 0
 Runs old [] new = new ≡ old
-Runs old (Fed piece ∷ events) new = Runs (fed old piece) events new
+Runs old (Fed piece ∷ events) new = Runs (with_bytes old piece) events new
 Runs old (Gave item ∷ events) new = (mid : Stream) × GivesUnit old item mid × Runs mid events new
 
--- the pieces fed, joined
+-- the pieces with_bytes, joined
 abbrev pub all_fed : List Event → List ℕ
 all_fed [] = []
 all_fed (Fed piece ∷ events) = piece ++ all_fed events

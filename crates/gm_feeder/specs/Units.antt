@@ -30,7 +30,7 @@ pub record IsPacket (limits : Limits) (whole : List ℕ) (kind : ℕ) (bytes : L
   pub size_fits : length bytes < 2 ^ 32
   pub within_limit : length bytes ≤ limits.max_bytes
 
--- the bytes before a newline, without the one `\r` (13) that may stand at their very end
+-- the bytes before a newline, without the one `\r` (13) that may be the last of them
 abbrev pub without_return : List ℕ → List ℕ
 without_return before = strip_last 13 before
 
@@ -54,7 +54,7 @@ pub record IsUnitThen (limits : Limits) (bytes : List ℕ) (item : Item) (after 
   pub unit : IsUnit limits whole item
   pub joined : bytes ≡ whole ++ after
 
--- no unit stands at the front of the bytes
+-- the bytes begin with no unit
 abbrev pub BeginsNoUnit : Limits → List ℕ → Type 0
 BeginsNoUnit limits bytes = (item : Item) (after : List ℕ) → IsUnitThen limits bytes item after → ⊥
 
@@ -63,11 +63,11 @@ abbrev pub Spells : Limits → List ℕ → List Item → List ℕ → Type 0
 Spells limits stream [] rest = (stream ≡ rest) × BeginsNoUnit limits rest
 Spells limits stream (item ∷ items) rest = (after : List ℕ) × IsUnitThen limits stream item after × Spells limits after items rest
 
--- some bytes that could follow make a unit at the front
+-- with some bytes that could follow, the rest begins with a unit
 abbrev pub CanGoOn : Limits → List ℕ → Type 0
 CanGoOn limits rest = (more : List ℕ) × (item : Item) × (after : List ℕ) × IsUnitThen limits (rest ++ more) item after
 
--- none do
+-- with no bytes that could follow does it
 abbrev pub IsHopeless : Limits → List ℕ → Type 0
 IsHopeless limits rest = (more : List ℕ) → BeginsNoUnit limits (rest ++ more)
 
@@ -75,17 +75,17 @@ IsHopeless limits rest = (more : List ℕ) → BeginsNoUnit limits (rest ++ more
 abbrev pub AgreesWithMagic : List ℕ → Type 0
 AgreesWithMagic rest = take 4 rest ≡ take (length rest) request_magic
 
--- a rest that begins with NUL and is no front of any packet
+-- a rest that begins with NUL and begins no packet
 pub record IsHopelessPacket (limits : Limits) (rest : List ℕ) : Type 0 where
   pub nul : BeginsWithNul rest
   pub hopeless : IsHopeless limits rest
 
--- a rest that begins otherwise and is no front of any line
+-- a rest that begins with another byte and begins no line
 pub record IsHopelessLine (limits : Limits) (rest : List ℕ) : Type 0 where
   pub no_nul : BeginsWithNul rest → ⊥
   pub hopeless : IsHopeless limits rest
 
--- this fault stands at the rest
+-- the rest has this fault
 abbrev pub IsFaultOf : Limits → List ℕ → FeedFault → Type 0
 IsFaultOf limits rest BadMagic = IsHopelessPacket limits rest × (AgreesWithMagic rest → ⊥)
 IsFaultOf limits rest PacketTooLarge = IsHopelessPacket limits rest × AgreesWithMagic rest

@@ -1,5 +1,5 @@
-//! What is true of every stream. Each function here is a law: its body does nothing, and its contract
-//! is the law.
+//! Laws that hold for every stream. Each function is a law: its body does nothing, and its contract is the
+//! law.
 
 ghost use Rattle.std.specs.Prelude.{◌≡◌, ◌<◌, ℕ, List, ◌++◌, length};
 ghost use Rattle.gm_feeder.specs.declared.units.Limits.{Limits};
@@ -7,8 +7,7 @@ ghost use Rattle.gm_feeder.specs.declared.units.FeedFault.{FeedFault};
 ghost use Rattle.gm_feeder.specs.Units.{Item, IsUnit, BeginsNoUnit, Spells, CanGoOn, IsHopeless, IsFaultOf, Waits};
 ghost use Rattle.gm_feeder.specs.Streams.{Stream, Event, Runs, all_fed, all_given};
 
-/// No unit begins another, be they packets or lines: what two units begin, whatever follows each, is begun
-/// by one unit.
+/// No unit is a proper prefix of another, be they packets or lines: bytes begin with one unit at most.
 pub fn no_unit_begins_another()
     ensures { (limits : Limits) (whole other x y : List ℕ) (item another : Item)
         → IsUnit limits whole item → IsUnit limits other another → whole ++ x ≡ other ++ y
@@ -28,16 +27,16 @@ pub fn one_spelling()
         → (items ≡ others) × (rest ≡ other) }
 {}
 
-/// It doesn't matter where a stream is cut: what the front spells stays spelled, and its rest is
-/// spelled together with what comes.
+/// It doesn't matter where a stream is cut: the units of the first part stay, and its rest is spelled together
+/// with what comes.
 pub fn any_cut()
-    ensures { (limits : Limits) (front back : List ℕ) (items more : List Item) (rest end : List ℕ)
-        → Spells limits front items rest → Spells limits (rest ++ back) more end
-        → Spells limits (front ++ back) (items ++ more) end }
+    ensures { (limits : Limits) (first second : List ℕ) (items more : List Item) (rest end : List ℕ)
+        → Spells limits first items rest → Spells limits (rest ++ second) more end
+        → Spells limits (first ++ second) (items ++ more) end }
 {}
 
-/// At most one fault stands at a rest, where one stands there is no unit, and where more bytes are
-/// waited for none stands.
+/// A rest has at most one fault. Where it has one it begins with no unit, and where more bytes are needed it has
+/// none.
 pub fn one_fault()
     ensures one { (limits : Limits) (rest : List ℕ) (fault other : FeedFault)
         → IsFaultOf limits rest fault → IsFaultOf limits rest other → fault ≡ other }
@@ -47,8 +46,8 @@ pub fn one_fault()
         → Waits limits rest → IsFaultOf limits rest fault → ⊥ }
 {}
 
-/// A fault stands exactly where no continuation of the rest begins with a unit; where more bytes are
-/// waited for, some continuation does.
+/// A rest has a fault exactly where no continuation of it begins with a unit. Where more bytes are needed, some
+/// continuation does.
 pub fn fault_where_no_unit_can_come()
     ensures hopeless { (limits : Limits) (rest : List ℕ) (fault : FeedFault)
         → IsFaultOf limits rest fault → IsHopeless limits rest }
@@ -57,14 +56,14 @@ pub fn fault_where_no_unit_can_come()
     ensures waits { (limits : Limits) (rest : List ℕ) → Waits limits rest → CanGoOn limits rest }
 {}
 
-/// A fault stands whatever comes: so it doesn't matter in which pieces a faulty stream comes.
+/// A fault stays, whatever bytes follow: so it doesn't matter in which pieces a faulty stream comes.
 pub fn fault_stays()
     ensures { (limits : Limits) (rest more : List ℕ) (fault : FeedFault)
         → IsFaultOf limits rest fault → IsFaultOf limits (rest ++ more) fault }
 {}
 
-/// Once a feeder gives no more units, those that it gave and the bytes that it holds are the spelling
-/// of what was fed, in whichever pieces, and no other spelling is.
+/// Once a feeder gives no more units, those that it gave and the bytes that it still holds are the spelling of
+/// what was fed, in whichever pieces, and there is no other.
 pub fn any_pieces()
     ensures spelled { (old new : Stream) (events : List Event)
         → Runs old events new → BeginsNoUnit new.limits new.pending

@@ -3,12 +3,12 @@
 //! A unit is what a client of a job server sends at once: a request packet of the Gearman binary
 //! protocol (the Gearman PROTOCOL document, "Binary Packet"), or a line of its text protocol
 //! ("Administrative Protocol"). A packet begins with NUL, a line with any other byte. Bytes come in
-//! pieces of any length; `Feeder` gives the units out whole, one after another, and says when no bytes
-//! that could follow would make a unit any more. `laws` holds what is true of every stream.
+//! pieces of any length; `Feeder` gives the units out whole, one after another, and returns a fault as soon as
+//! no bytes that could follow make a unit. `laws` has the laws that hold for every stream.
 #![tactic(auto)]
 
 mod feeder;
-mod front;
+mod head;
 pub mod laws;
 mod units;
 

@@ -1,31 +1,35 @@
 //! What a feeder gives out, how large it may be, and what can be wrong.
 
-ghost use Rattle.std.specs.Prelude.{◌≡◌};
-ghost use Rattle.gm_feeder.specs.Units.{fault_number};
+ghost use Rattle.std.specs.Prelude.{◌≡◌, ◌≤◌};
 
 /// How large a unit may be.
+///
+/// The ghost field bounds `max_bytes` by a gigabyte: whoever makes the limits shows that, once.
 #[derive(Clone, Copy, Debug, PartialEq, Eq)]
 pub struct Limits {
-    /// The most bytes of data that a packet may have. Its twelve bytes of header aren't counted.
+    /// The most bytes of data that a packet may have, at most 1,073,741,824. Its header isn't counted.
     pub max_bytes: u32,
-    /// The most bytes that a text line may have before its newline. A `\r` there is counted too.
+    /// The most bytes that a text line may have before its newline. A `\r` is counted too.
     pub max_line: u32,
+    pub ghost bounded: { max_bytes ≤ 1073741824 },
 }
 
-/// Why a feeder refuses. The numbers are those that the server's events use for the same faults.
+/// Why a feeder refuses. The numbers are those of the server's refusals.
 #[derive(Clone, Copy, Debug, PartialEq, Eq)]
 pub enum FeedFault {
-    /// The bytes begin with NUL and go on otherwise than the magic of a request, `\0REQ`.
+    /// The bytes begin with NUL, and one of the first four differs from the magic of a request, `\0REQ`.
     BadMagic = 3,
-    /// A packet's size is over `Limits::max_bytes`, whatever of its four bytes is still to come.
+    /// The size of a packet is above `Limits::max_bytes`, whatever of its four bytes is still to come.
     PacketTooLarge = 4,
-    /// The bytes begin with another byte than NUL, and over `Limits::max_line` of them hold no newline.
+    /// The bytes begin with another byte than NUL, and more than `Limits::max_line` of them hold no newline.
     LineTooLong = 5,
     /// There was no memory for the piece.
     Memory = 6,
 }
 
 impl FeedFault {
+    ghost use Rattle.gm_feeder.specs.Units.{fault_number};
+
     /// The number of the fault.
     pub fn number(self) -> u8
         ensures { result ≡ fault_number self }

@@ -1,5 +1,6 @@
 -- The cut at the first NUL, and the arguments that cuts find.
-use Rattle.std.proofs.Common.{◌≡◌, ℕ, suc, ◌+◌, Bool, true, false, cond, ltb, not, List, [], ◌∷◌, length, take, drop, Option, Some, None, refl, sym, ap, ◌∙◌, arith, position}
+use Rattle.std.proofs.Common.{◌≡◌, ℕ, suc, ◌+◌, Bool, true, false, cond, ltb, not, List, [], ◌∷◌, length, take, drop, Option, Some, None}
+use Rattle.std.proofs.Common.{refl, sym, ap, ◌∙◌, arith, position}
 use Rattle.std.specs.Prelude.{◌==◌}
 use Rattle.std.specs.List.{position_or_len}
 use Rattle.std.specs.Option.{option_map}
@@ -8,9 +9,9 @@ use Rattle.std.proofs.lemmas.List.{take_rest}
 use Rattle.std.proofs.lemmas.Bool.Decides.{nat_tests}
 use Rattle.gm_packet.specs.Requests.{cut}
 
--- the halves at a place
+-- the halves at a position
 abbrev halves_at : List ℕ → Option ℕ → Option (List ℕ × List ℕ)
-halves_at bytes place = option_map (λ i. (take i bytes, drop (i + 1) bytes)) place
+halves_at bytes position = option_map (λ i. (take i bytes, drop (i + 1) bytes)) position
 
 -- one byte more in front of the halves
 one_more : (t : Bool) (b n : ℕ) (bytes : List ℕ) → option_map (λ (h : List ℕ × List ℕ). (b ∷ h.0, h.1)) (halves_at bytes (cond t (Some n) None)) ≡ halves_at (b ∷ bytes) (cond t (Some (suc n)) None)

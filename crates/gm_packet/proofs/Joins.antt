@@ -1,5 +1,6 @@
 -- Arguments joined by NULs, as the writer goes over them.
-use Rattle.std.proofs.Common.{◌≡◌, ℕ, zero, suc, ◌+◌, ◌-◌, ◌≤◌, ◌<◌, Bool, true, false, not, List, [], ◌∷◌, ◌++◌, length, take, drop, get_or, map, refl, sym, ap, ◌∙◌, arith, append_assoc}
+use Rattle.std.proofs.Common.{◌≡◌, ℕ, zero, suc, ◌+◌, ◌-◌, ◌≤◌, ◌<◌, Bool, true, false, not, List, [], ◌∷◌, ◌++◌, length, take, drop}
+use Rattle.std.proofs.Common.{get_or, map, refl, sym, ap, ◌∙◌, arith, append_assoc}
 use Rattle.std.specs.Prelude.{IsTrue, ◌↔◌}
 use Rattle.std.specs.List.{list_any, flat_map, join_with_byte}
 use Rattle.std.proofs.Math.Seq.{drop-cons}
@@ -7,7 +8,7 @@ use Rattle.std.proofs.Math.Numerals.{add-one, one-add}
 use Rattle.std.proofs.lemmas.List.{take_rest, append-nil, length-append}
 use Rattle.std.specs.Borrow.{Bor}
 use Rattle.std.specs.Int.{w32, to_be_bytes}
-use Rattle.gm_packet.specs.Requests.{has_nul, LackNul}
+use Rattle.gm_packet.specs.Packets.{has_nul, LackNul}
 
 -- an argument behind its NUL
 abbrev pub behind : Bor (List ℕ) → List ℕ
@@ -44,7 +45,7 @@ no_text = record { ref_ptr = (0, 0); now = [] }
 pub whole_len : (texts : List (Bor (List ℕ))) (d : Bor (List ℕ)) → 1 ≤ length texts → length (join_with_byte 0 (texts_of texts)) ≡ length (get_or texts 0 d).now + length (flat_map behind (take (length texts - 1) (drop 1 texts)))
 whole_len texts d some = ap length (whole_is texts d some) ∙ length-append (get_or texts 0 d).now (flat_map behind (take (length texts - 1) (drop 1 texts)))
 
--- the test whether the arguments in front lack NUL
+-- the test whether all arguments but the last lack NUL
 pub lacks_exactly : (n : ℕ) (texts : List (Bor (List ℕ))) (r : Bool) → r ≡ list_any (λ text. has_nul text.now) (take n texts) → IsTrue (not r) ↔ LackNul n (texts_of texts)
 lacks_exactly n texts true e = ((λ h. absurd cc), (λ h. let f : list_any has_nul (take n (texts_of texts)) ≡ true = list_any-take n texts ∙ sym e in absurd cc))
 lacks_exactly n texts false e = ((λ h. list_any-take n texts ∙ sym e), (λ h. refl))

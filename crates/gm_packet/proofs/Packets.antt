@@ -9,19 +9,19 @@ pub length-packet : (magic : List ℕ) (kind : ℕ) (bytes : List ℕ) → lengt
 unfolding packet
 length-packet magic kind bytes four_bytes = simp length-append (omega (arith, four_bytes))
 
--- two fronts of one length, of the same bytes
-same_fronts : (a b x y : List ℕ) → length a ≡ length b → a ++ x ≡ b ++ y → (a ≡ b) × (x ≡ y)
-same_fronts [] [] x y len e = (refl, e)
-same_fronts [] (d ∷ b) x y len e = absurd (omega arith)
-same_fronts (c ∷ a) [] x y len e = absurd (omega arith)
-same_fronts (c ∷ a) (d ∷ b) x y len e =
+-- two prefixes of one length, of the same bytes
+pub same_prefixes : (a b x y : List ℕ) → length a ≡ length b → a ++ x ≡ b ++ y → (a ≡ b) × (x ≡ y)
+same_prefixes [] [] x y len e = (refl, e)
+same_prefixes [] (d ∷ b) x y len e = absurd (omega arith)
+same_prefixes (c ∷ a) [] x y len e = absurd (omega arith)
+same_prefixes (c ∷ a) (d ∷ b) x y len e =
     let rest : a ++ x ≡ b ++ y = cc in
     let first : c ≡ d = cc in
-    let r = same_fronts a b x y (omega arith) rest in
+    let r = same_prefixes a b x y (omega arith) rest in
     (ap (λ (h : ℕ). h ∷ a) first ∙ ap (λ (t : List ℕ). d ∷ t) r.0, r.1)
 
 -- four bytes tell a number below 2 ^ 32
-same_number : (j k : ℕ) → to_be_bytes w32 j ≡ to_be_bytes w32 k → j < 2 ^ 32 → k < 2 ^ 32 → j ≡ k
+pub same_number : (j k : ℕ) → to_be_bytes w32 j ≡ to_be_bytes w32 k → j < 2 ^ 32 → k < 2 ^ 32 → j ≡ k
 same_number j k e lj lk = sym (from_be_bytes-to_be_bytes_4 j lj) ∙ ap (from_be_bytes w32) e ∙ from_be_bytes-to_be_bytes_4 k lk
 
 four : (j k : ℕ) → length (to_be_bytes w32 j) ≡ length (to_be_bytes w32 k)
@@ -36,10 +36,10 @@ pub record SameParts (m n : List ℕ) (j k : ℕ) (a b x y : List ℕ) : Type 0 
 
 same_parts : (m n : List ℕ) (j k : ℕ) (a b x y : List ℕ) → length m ≡ length n → length a < 2 ^ 32 → length b < 2 ^ 32 → m ++ (to_be_bytes w32 j ++ (to_be_bytes w32 (length a) ++ (a ++ x))) ≡ n ++ (to_be_bytes w32 k ++ (to_be_bytes w32 (length b) ++ (b ++ y))) → SameParts m n j k a b x y
 same_parts m n j k a b x y len la lb e =
-    let magic = same_fronts m n _ _ len e in
-    let type = same_fronts (to_be_bytes w32 j) (to_be_bytes w32 k) _ _ (four j k) magic.1 in
-    let size = same_fronts (to_be_bytes w32 (length a)) (to_be_bytes w32 (length b)) (a ++ x) (b ++ y) (four (length a) (length b)) type.1 in
-    let all = same_fronts a b x y (same_number (length a) (length b) size.0 la lb) size.1 in
+    let magic = same_prefixes m n _ _ len e in
+    let type = same_prefixes (to_be_bytes w32 j) (to_be_bytes w32 k) _ _ (four j k) magic.1 in
+    let size = same_prefixes (to_be_bytes w32 (length a)) (to_be_bytes w32 (length b)) (a ++ x) (b ++ y) (four (length a) (length b)) type.1 in
+    let all = same_prefixes a b x y (same_number (length a) (length b) size.0 la lb) size.1 in
     record { magics = magic.0; types = type.0; bytes = all.0; rests = all.1 }
 
 regroup : (m j s a x : List ℕ) → (m ++ j ++ s ++ a) ++ x ≡ m ++ (j ++ (s ++ (a ++ x)))

@@ -1,8 +1,9 @@
 -- What is written is read again.
-use Rattle.std.proofs.Common.{◌≡◌, ◌≢◌, ℕ, zero, suc, ◌-◌, ◌<◌, ◌^◌, true, false, List, [], ◌∷◌, ◌++◌, length, take, Result, Ok, refl, sym, ap, ◌∙◌, arith, ltb, decimal}
+use Rattle.std.proofs.Common.{◌≡◌, ◌≢◌, ℕ, zero, suc, ◌-◌, ◌<◌, ◌^◌, true, false, List, [], ◌∷◌, ◌++◌, length, take, Some, Result}
+use Rattle.std.proofs.Common.{Ok, refl, sym, ap, ◌∙◌, arith, ltb, decimal}
 use Rattle.std.specs.Prelude.{◌==◌}
-use Rattle.std.specs.Char.{is_ascii_digit, digit_value}
-use Rattle.std.specs.List.{list_any, list_all, join_with_byte}
+use Rattle.std.specs.Char.{digit_value}
+use Rattle.std.specs.List.{list_any, join_with_byte}
 use Rattle.std.specs.Str.Parse.{AllDigits}
 use Rattle.std.specs.Io.BufRead.{ends_with_byte, strip_last}
 use Rattle.std.proofs.lemmas.Bool.{or_parts, or_from}
@@ -12,12 +13,18 @@ use Rattle.std.proofs.lemmas.List.{length-append}
 use Rattle.std.proofs.lemmas.Str.Parse.{digit_from_value}
 use Rattle.gm_packet.specs.declared.kind.Kind.{Kind}
 use Rattle.gm_packet.specs.declared.request.Request.{Request}
-use Rattle.gm_packet.specs.declared.request.Request.TheVariants.{CanDo, CantDo, ResetAbilities, PreSleep, SubmitJob, GrabJob, WorkStatus, WorkComplete, WorkFail, GetStatus, EchoReq, SubmitJobBg, SubmitJobHigh, SetClientId, CanDoTimeout, AllYours, WorkException, OptionReq, WorkData, WorkWarning, GrabJobUniq, SubmitJobHighBg, SubmitJobLow, SubmitJobLowBg}
+use Rattle.gm_packet.specs.declared.request.Request.TheVariants.{CanDo, CantDo, ResetAbilities, PreSleep, SubmitJob, GrabJob, WorkStatus}
+use Rattle.gm_packet.specs.declared.request.Request.TheVariants.{WorkComplete, WorkFail, GetStatus, EchoReq, SubmitJobBg, SubmitJobHigh}
+use Rattle.gm_packet.specs.declared.request.Request.TheVariants.{SetClientId, CanDoTimeout, AllYours, WorkException, OptionReq, WorkData}
+use Rattle.gm_packet.specs.declared.request.Request.TheVariants.{WorkWarning, GrabJobUniq, SubmitJobHighBg, SubmitJobLow, SubmitJobLowBg}
 use Rattle.gm_packet.specs.Kinds.{Shape, Empty, Plain, Opaque, Timed, shape, number, kind_of}
 use Rattle.gm_packet.specs.Laws.{last_of, IsReadable}
-use Rattle.gm_packet.specs.Requests.{Asked, Asks, Spells, IsTimeout, has_nul, LackNul, request_of}
+use Rattle.gm_packet.specs.Packets.{has_nul, LackNul}
+use Rattle.gm_packet.specs.Requests.{Asked, Asks, Spells, seconds_of, request_of}
 use Rattle.gm_packet.specs.Views.{asked_of}
-use Rattle.gm_packet.specs.Writing.{Fits, texts_by, request_texts}
+use Rattle.gm_packet.specs.Packets.{Fits}
+use Rattle.gm_packet.specs.Requests.{texts_by, request_texts}
+use Rattle.gm_packet.proofs.Decimals.{decimal_written}
 use Rattle.gm_packet.proofs.Requests.{kind_of_number, found}
 
 -- ---- the NUL at the end
@@ -87,27 +94,17 @@ last_lacks : (n : ℕ) (texts : List (List ℕ)) → IsReadable (Plain n) texts 
 last_lacks zero texts readable = readable
 last_lacks (suc n) texts readable = readable.0
 
+-- digits aren't NUL
+digit_lacks : (c : ℕ) → digit_value c < 10 → (c == 0) ≡ false
+digit_lacks c small = let range = digit_from_value c small in grind (arith, nat_tests)
+
+digits_lack : (digits : List ℕ) → AllDigits 10 digits → has_nul digits ≡ false
+digits_lack [] all = refl
+digits_lack (c ∷ digits) all = or_from (c == 0) (has_nul digits) (digit_lacks c all.0) (digits_lack digits all.1)
+
 -- a number of seconds in decimal is read as itself
-digit_lacks : (c : ℕ) → digit_value c < 10 → (is_ascii_digit c ≡ true) × ((c == 0) ≡ false)
-digit_lacks c small = let range = digit_from_value c small in (grind (arith, nat_tests), grind (arith, nat_tests))
-
-digits_lack : (digits : List ℕ) → AllDigits 10 digits → (list_all is_ascii_digit digits ≡ true) × (has_nul digits ≡ false)
-digits_lack [] all = (refl, refl)
-digits_lack (c ∷ digits) all =
-    let here = digit_lacks c all.0 in
-    let rest = digits_lack digits all.1 in
-    (rw (here.0, rest.0) refl, or_from (c == 0) (has_nul digits) here.1 rest.1)
-
-seconds_written : (seconds : ℕ) → seconds < 2 ^ 32 → IsTimeout (decimal seconds) seconds
-seconds_written seconds small =
-    let d = decimal_is_IsNumeral seconds (omega arith) in
-    record {
-      nonempty = d.0.0;
-      short = length-decimal-le 10 seconds (omega arith) (omega arith) (omega arith);
-      decimal = (digits_lack (decimal seconds) d.0.1).0;
-      value = sym d.1;
-      fits = small;
-    }
+seconds_written : (seconds : ℕ) → seconds < 2 ^ 32 → seconds_of (decimal seconds) ≡ Some seconds
+seconds_written seconds small = decimal_written (2 ^ 32) 10 seconds small (omega arith) (length-decimal-le 10 seconds (omega arith) (omega arith) (omega arith))
 
 -- what a request of a shape has: so many arguments, and a timeout in one shape alone
 abbrev pub IsCounted : Shape → List (List ℕ) → ℕ → Type 0
@@ -116,19 +113,19 @@ IsCounted (Plain n) arguments timeout = (length arguments ≡ suc n) × (timeout
 IsCounted (Opaque n) arguments timeout = (length arguments ≡ suc n) × (timeout ≡ 0)
 IsCounted Timed arguments timeout = length arguments ≡ 1
 
-front_lacks : (n : ℕ) (texts : List (List ℕ)) → length texts ≡ suc n → LackNul (length texts - 1) texts → LackNul n texts
-front_lacks n texts len lacks = let e : length texts - 1 ≡ n = omega arith in rw e at lacks
+others_lack : (n : ℕ) (texts : List (List ℕ)) → length texts ≡ suc n → LackNul (length texts - 1) texts → LackNul n texts
+others_lack n texts len lacks = let e : length texts - 1 ≡ n = omega arith in rw e at lacks
 
 spelled : (s : Shape) (arguments : List (List ℕ)) (timeout : ℕ) → IsCounted s arguments timeout → timeout < 2 ^ 32 → LackNul (length (texts_by s arguments timeout) - 1) (texts_by s arguments timeout) → IsReadable s arguments → Spells s arguments timeout (join_with_byte 0 (texts_by s arguments timeout))
 spelled Empty arguments timeout count small lacks readable = (count.0, count.1, ap (join_with_byte 0) count.0)
 spelled (Plain n) arguments timeout count small lacks readable =
-    (count.0, all_lack n arguments count.0 (front_lacks n arguments count.0 lacks) (last_lacks n arguments readable), count.1, plain_stays n arguments count.0 readable)
-spelled (Opaque n) arguments timeout count small lacks readable = (count.0, front_lacks n arguments count.0 lacks, count.1, refl)
+    (count.0, all_lack n arguments count.0 (others_lack n arguments count.0 lacks) (last_lacks n arguments readable), count.1, plain_stays n arguments count.0 readable)
+spelled (Opaque n) arguments timeout count small lacks readable = (count.0, others_lack n arguments count.0 lacks, count.1, refl)
 spelled Timed [] timeout count small lacks readable = absurd (omega arith)
 spelled Timed (function ∷ []) timeout count small lacks readable =
-    let w = seconds_written timeout small in
-    let d = (digits_lack (decimal timeout) (decimal_is_IsNumeral timeout (omega arith)).0.1).1 in
-    (refl, front_lacks 1 (function ∷ decimal timeout ∷ []) refl lacks, (decimal timeout, w, stays _ (joined function (decimal timeout ∷ []) d (unfilled (decimal timeout) w.nonempty)).ends))
+    let numeral = (decimal_is_IsNumeral timeout (omega arith)).0 in
+    let ends = (joined function (decimal timeout ∷ []) (digits_lack (decimal timeout) numeral.1) (unfilled (decimal timeout) numeral.0)).ends in
+    (refl, others_lack 1 (function ∷ decimal timeout ∷ []) refl lacks, (decimal timeout, seconds_written timeout small, stays _ ends))
 spelled Timed (function ∷ second ∷ texts) timeout count small lacks readable = absurd (omega arith)
 
 counted : (r : Request) → IsCounted (shape (asked_of r).kind) (asked_of r).arguments (asked_of r).timeout

@@ -1,19 +1,22 @@
 -- What reading a request answers, in the words of the relation.
-use Rattle.std.proofs.Common.{◌≡◌, ℕ, ◌<◌, ◌^◌, Bool, true, false, cond, ltb, leb, ◌&&◌, List, [], ◌∷◌, length, Option, Some, None, Ok, refl, sym, ap, subst, ◌∙◌, arith}
+use Rattle.std.proofs.Common.{◌≡◌, ℕ, Bool, true, false, cond, List, [], ◌∷◌, Option, Some, None, Ok}
+use Rattle.std.proofs.Common.{refl, sym, ap, subst, ◌∙◌, arith}
 use Rattle.std.specs.Prelude.{◌==◌, find}
-use Rattle.std.specs.Char.{is_ascii_digit}
-use Rattle.std.specs.List.{list_all, join_with_byte}
+use Rattle.std.specs.List.{join_with_byte}
 use Rattle.std.specs.Option.{option_map, option_and_then, ok_or}
-use Rattle.std.specs.Str.Parse.{digits_value}
 use Rattle.std.specs.Io.BufRead.{strip_last}
-use Rattle.std.proofs.lemmas.Bool.{or_parts, or_from, and_parts, ltb-true, leb-true, lt-ltb, le-leb}
+use Rattle.std.proofs.lemmas.Bool.{or_parts, or_from}
 use Rattle.std.proofs.lemmas.Bool.Decides.{nat_tests}
 use Rattle.std.proofs.lemmas.Option.{some_pair_parts, same_Some}
 use Rattle.gm_packet.specs.declared.kind.Kind.{Kind}
-use Rattle.gm_packet.specs.declared.kind.Kind.TheVariants.{CanDo, CantDo, ResetAbilities, PreSleep, SubmitJob, GrabJob, WorkStatus, WorkComplete, WorkFail, GetStatus, EchoReq, SubmitJobBg, SubmitJobHigh, SetClientId, CanDoTimeout, AllYours, WorkException, OptionReq, WorkData, WorkWarning, GrabJobUniq, SubmitJobHighBg, SubmitJobLow, SubmitJobLowBg}
+use Rattle.gm_packet.specs.declared.kind.Kind.TheVariants.{CanDo, CantDo, ResetAbilities, PreSleep, SubmitJob, GrabJob, WorkStatus}
+use Rattle.gm_packet.specs.declared.kind.Kind.TheVariants.{WorkComplete, WorkFail, GetStatus, EchoReq, SubmitJobBg, SubmitJobHigh}
+use Rattle.gm_packet.specs.declared.kind.Kind.TheVariants.{SetClientId, CanDoTimeout, AllYours, WorkException, OptionReq, WorkData}
+use Rattle.gm_packet.specs.declared.kind.Kind.TheVariants.{WorkWarning, GrabJobUniq, SubmitJobHighBg, SubmitJobLow, SubmitJobLowBg}
 use Rattle.gm_packet.specs.declared.request.RequestFault.TheVariants.{BadArguments}
 use Rattle.gm_packet.specs.Kinds.{Shape, Empty, Plain, Opaque, Timed, shape, number, all_kinds, kind_of}
-use Rattle.gm_packet.specs.Requests.{Asked, Asks, Spells, IsTimeout, is_timeout, with_timeout, has_nul, parts, arguments_of, read_as, read_kind, request_of}
+use Rattle.gm_packet.specs.Packets.{has_nul}
+use Rattle.gm_packet.specs.Requests.{Asked, Asks, Spells, seconds_of, with_timeout, parts, arguments_of, read_as, read_kind, request_of}
 use Rattle.gm_packet.proofs.Reading.{parts_some, parts_again, plain_spelled, plain_accepted, opaque_spelled, opaque_accepted}
 
 -- ---- the table
@@ -56,26 +59,6 @@ kind_of_number SubmitJobHighBg = refl
 kind_of_number SubmitJobLow = refl
 kind_of_number SubmitJobLowBg = refl
 
--- ---- timeouts
-
-timeout_parts : (digits : List ℕ) → is_timeout digits ≡ true → IsTimeout digits (digits_value 10 digits)
-timeout_parts digits e =
-    let fits = and_parts (ltb 0 (length digits) && leb (length digits) 10 && list_all is_ascii_digit digits) (ltb (digits_value 10 digits) (2 ^ 32)) e in
-    let decimal = and_parts (ltb 0 (length digits) && leb (length digits) 10) (list_all is_ascii_digit digits) fits.0 in
-    let size = and_parts (ltb 0 (length digits)) (leb (length digits) 10) decimal.0 in
-    record {
-      nonempty = ltb-true _ _ size.0;
-      short = leb-true _ _ size.1;
-      decimal = decimal.1;
-      value = refl;
-      fits = ltb-true _ _ fits.1;
-    }
-
-timeout_test : (digits : List ℕ) (seconds : ℕ) → IsTimeout digits seconds → is_timeout digits ≡ true
-timeout_test digits seconds h =
-    let fits : digits_value 10 digits < 2 ^ 32 = rw (← h.value) h.fits in
-    rw (lt-ltb _ _ h.nonempty, le-leb _ _ h.short, h.decimal, lt-ltb _ _ fits) refl
-
 -- ---- one shape after the other
 
 -- a function and a timeout, found in these texts
@@ -83,17 +66,20 @@ pub record TimedParts (texts : List (List ℕ)) (found : List (List ℕ) × ℕ)
   pub function : List ℕ
   pub digits : List ℕ
   pub texts_are : texts ≡ function ∷ digits ∷ []
-  pub found_is : found ≡ (function ∷ [], digits_value 10 digits)
-  pub test : is_timeout digits ≡ true
+  pub function_is : found.0 ≡ function ∷ []
+  pub timeout_is : seconds_of digits ≡ Some found.1
 
-seconds_some : (function digits : List ℕ) (found : List (List ℕ) × ℕ) (t : Bool) → is_timeout digits ≡ t → option_map {U = List (List ℕ) × ℕ} (λ seconds. (function ∷ [], seconds)) (cond t (Some (digits_value 10 digits)) None) ≡ Some found → TimedParts (function ∷ digits ∷ []) found
-seconds_some function digits found true is e = record { function = function; digits = digits; texts_are = refl; found_is = sym (same_Some (function ∷ [], digits_value 10 digits) found e); test = is }
-seconds_some function digits found false is e = absurd cc
+seconds_some : (function digits : List ℕ) (found : List (List ℕ) × ℕ) (o : Option ℕ) → seconds_of digits ≡ o
+    → option_map {U = List (List ℕ) × ℕ} (λ seconds. (function ∷ [], seconds)) o ≡ Some found → TimedParts (function ∷ digits ∷ []) found
+seconds_some function digits found None is e = absurd cc
+seconds_some function digits found (Some seconds) is e =
+    let p = some_pair_parts (function ∷ []) found.0 seconds found.1 e in
+    record { function = function; digits = digits; texts_are = refl; function_is = sym p.0; timeout_is = is ∙ ap Some p.1 }
 
 with_timeout_some : (texts : List (List ℕ)) (found : List (List ℕ) × ℕ) → with_timeout texts ≡ Some found → TimedParts texts found
 with_timeout_some [] found e = absurd cc
 with_timeout_some (function ∷ []) found e = absurd cc
-with_timeout_some (function ∷ digits ∷ []) found e = seconds_some function digits found (is_timeout digits) refl e
+with_timeout_some (function ∷ digits ∷ []) found e = seconds_some function digits found (seconds_of digits) refl e
 with_timeout_some (function ∷ digits ∷ text ∷ texts) found e = absurd cc
 
 timed_some : (o : Option (List (List ℕ))) (found : List (List ℕ) × ℕ) → option_and_then with_timeout o ≡ Some found → (texts : List (List ℕ)) × (o ≡ Some texts) × TimedParts texts found
@@ -107,11 +93,12 @@ mapped_some (Some texts) found e =
     (ap (λ (p : List (List ℕ) × ℕ). Some p.0) is, sym (ap (λ (p : List (List ℕ) × ℕ). p.1) is))
 
 -- data that spell a function and digits
-timed_spelled : (bytes : List ℕ) (texts : List (List ℕ)) (found : List (List ℕ) × ℕ) → parts (λ _. false) 1 (strip_last 0 bytes) ≡ Some texts → TimedParts texts found → Spells Timed found.0 found.1 bytes
+timed_spelled : (bytes : List ℕ) (texts : List (List ℕ)) (found : List (List ℕ) × ℕ) → parts (λ _. false) 1 (strip_last 0 bytes) ≡ Some texts
+    → TimedParts texts found → Spells Timed found.0 found.1 bytes
 timed_spelled bytes texts found e t =
     let r = parts_some (λ _. false) 1 (strip_last 0 bytes) (t.function ∷ t.digits ∷ []) (e ∙ ap (λ x. Some x) t.texts_are) in
-    subst (λ (p : List (List ℕ) × ℕ). Spells Timed p.0 p.1 bytes) (sym t.found_is)
-    (refl, or_from (has_nul t.function) false r.0.0 refl, (t.digits, timeout_parts t.digits t.test, r.1))
+    subst (λ (x : List (List ℕ)). Spells Timed x found.1 bytes) (sym t.function_is)
+    (refl, or_from (has_nul t.function) false r.0.0 refl, (t.digits, t.timeout_is, r.1))
 
 pub found_spelled : (s : Shape) (bytes : List ℕ) (found : List (List ℕ) × ℕ) → arguments_of s bytes ≡ Some found → Spells s found.0 found.1 bytes
 found_spelled Empty [] found e = let p = some_pair_parts [] found.0 0 found.1 e in (sym p.0, sym p.1, refl)
@@ -130,9 +117,10 @@ found_spelled Timed bytes found e =
     let t = timed_some (parts (λ _. false) 1 (strip_last 0 bytes)) found e in
     timed_spelled bytes t.0 found t.1 t.2
 
-timed_found : (function digits bytes : List ℕ) (timeout : ℕ) → has_nul function ≡ false → IsTimeout digits timeout → strip_last 0 bytes ≡ join_with_byte 0 (function ∷ digits ∷ []) → arguments_of Timed bytes ≡ Some (function ∷ [], timeout)
+timed_found : (function digits bytes : List ℕ) (timeout : ℕ) → has_nul function ≡ false → seconds_of digits ≡ Some timeout
+    → strip_last 0 bytes ≡ join_with_byte 0 (function ∷ digits ∷ []) → arguments_of Timed bytes ≡ Some (function ∷ [], timeout)
 timed_found function digits bytes timeout lacks h e =
-    rw (e, parts_again (λ _. false) 1 (function ∷ digits ∷ []) (lacks, refl), timeout_test digits timeout h, h.value) refl
+    rw (e, parts_again (λ _. false) 1 (function ∷ digits ∷ []) (lacks, refl), h) refl
 
 pub spelled_found : (s : Shape) (arguments : List (List ℕ)) (timeout : ℕ) (bytes : List ℕ) → Spells s arguments timeout bytes → arguments_of s bytes ≡ Some (arguments, timeout)
 spelled_found Empty arguments timeout bytes h = rw (h.0, h.1, h.2) refl

@@ -1,4 +1,4 @@
--- What is true of all packets at once.
+-- The laws that hold for all packets.
 use Rattle.std.specs.Prelude.{◌≡◌, ◌≢◌, ℕ, ◌<◌, ◌^◌, false, List, [], ◌∷◌, ◌++◌, length, Ok}
 use Rattle.std.specs.List.{join_with_byte}
 use Rattle.std.proofs.Common.{zero, suc}
@@ -6,9 +6,11 @@ use Rattle.gm_packet.specs.declared.kind.Kind.{Kind}
 use Rattle.gm_packet.specs.declared.request.Request.{Request}
 use Rattle.gm_packet.specs.Kinds.{Shape, Empty, Plain, Opaque, Timed, shape, number}
 use Rattle.gm_packet.specs.Packets.{packet}
-use Rattle.gm_packet.specs.Requests.{Asked, Asks, has_nul, request_of}
+use Rattle.gm_packet.specs.Packets.{has_nul}
+use Rattle.gm_packet.specs.Requests.{Asked, Asks, request_of}
 use Rattle.gm_packet.specs.Views.{asked_of}
-use Rattle.gm_packet.specs.Writing.{Fits, request_texts}
+use Rattle.gm_packet.specs.Packets.{Fits}
+use Rattle.gm_packet.specs.Requests.{request_texts}
 
 -- two requests of one packet type are of one kind
 abbrev pub KindsAreNumberedApart : Type 0
@@ -32,9 +34,9 @@ last_of [] = []
 last_of (text ∷ []) = text
 last_of (text ∷ second ∷ texts) = last_of (second ∷ texts)
 
--- What is read again as it was written: a last argument that isn't opaque holds no NUL, and behind others
--- (the denominator of a WORK_STATUS) it isn't empty, since the NUL before it would then end the data and
--- be dropped.
+-- What is read as it was written: a last argument that isn't opaque holds no NUL, and after others (the
+-- denominator of a WORK_STATUS) it isn't empty, since the NUL before it would then be the last byte of the
+-- data and be dropped.
 abbrev pub IsReadable : Shape → List (List ℕ) → Type 0
 IsReadable Empty arguments = Unit {0}
 IsReadable (Plain zero) arguments = has_nul (last_of arguments) ≡ false

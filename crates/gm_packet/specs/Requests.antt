@@ -1,12 +1,13 @@
--- What the data of a request mean. First what is spelled how, as a relation; then the walk that finds
--- the arguments.
-use Rattle.std.specs.Prelude.{◌≡◌, ℕ, ◌<◌, ◌≤◌, ◌^◌, ◌==◌, Bool, true, false, ◌&&◌, nat_le, nat_lt, if◌then◌else◌, List, [], ◌∷◌, ◌++◌, length, take, Option, Some, None, Result, Err}
+-- What the data of a request mean: first how they are spelled, as a relation; then the walk that finds the
+-- arguments; and last the packet that is written for them.
+use Rattle.std.specs.Prelude.{◌≡◌, ℕ, ◌^◌, ◌==◌, Bool, false, if◌then◌else◌}
+use Rattle.std.specs.Prelude.{List, [], ◌∷◌, ◌++◌, length, decimal, Option, Some, None, Result, Err}
 use Rattle.std.proofs.Common.{zero, suc}
-use Rattle.std.specs.List.{list_any, list_all, join_with_byte}
+use Rattle.std.specs.List.{join_with_byte}
 use Rattle.std.specs.Option.{option_map, option_and_then, ok_or}
-use Rattle.std.specs.Char.{is_ascii_digit}
-use Rattle.std.specs.Str.Parse.{digits_value}
 use Rattle.std.specs.Io.BufRead.{strip_last}
+use Rattle.gm_packet.specs.Decimals.{decimal_below}
+use Rattle.gm_packet.specs.Packets.{request_magic, packet, has_nul, LackNul}
 use Rattle.gm_packet.specs.Kinds.{Shape, Empty, Plain, Opaque, Timed, shape, number, kind_of}
 use Rattle.gm_packet.specs.declared.kind.Kind.{Kind}
 use Rattle.gm_packet.specs.declared.request.RequestFault.{RequestFault}
@@ -20,23 +21,12 @@ pub record Asked : Type 0 where
 
 -- ---- what is spelled how
 
-abbrev pub has_nul : List ℕ → Bool
-has_nul text = list_any (λ b. b == 0) text
-
--- no one of the first n arguments holds NUL
-abbrev pub LackNul : ℕ → List (List ℕ) → Type 0
-LackNul n arguments = list_any has_nul (take n arguments) ≡ false
-
--- a number of seconds in decimal: 1 to 10 digits, a value below 2 ^ 32
-pub record IsTimeout (digits : List ℕ) (seconds : ℕ) : Type 0 where
-  pub nonempty : 0 < length digits
-  pub short : length digits ≤ 10
-  pub decimal : list_all is_ascii_digit digits ≡ true
-  pub value : seconds ≡ digits_value 10 digits
-  pub fits : seconds < 2 ^ 32
+-- the seconds that a timeout says: 1 to 10 digits, a value below 2 ^ 32
+abbrev pub seconds_of : List ℕ → Option ℕ
+seconds_of digits = decimal_below (2 ^ 32) 10 digits
 
 -- The data are the arguments with one NUL between each two; where the last may not hold NUL, one NUL
--- more may stand at the very end.
+-- more may follow.
 abbrev pub Spells : Shape → List (List ℕ) → ℕ → List ℕ → Type 0
 Spells Empty arguments timeout bytes = (arguments ≡ []) × (timeout ≡ 0) × (bytes ≡ [])
 Spells (Plain n) arguments timeout bytes =
@@ -45,7 +35,7 @@ Spells (Opaque n) arguments timeout bytes =
     (length arguments ≡ suc n) × LackNul n arguments × (timeout ≡ 0) × (bytes ≡ join_with_byte 0 arguments)
 Spells Timed arguments timeout bytes =
     (length arguments ≡ 1) × LackNul 1 arguments
-    × ((digits : List ℕ) × IsTimeout digits timeout × (strip_last 0 bytes ≡ join_with_byte 0 (arguments ++ digits ∷ [])))
+    × ((digits : List ℕ) × (seconds_of digits ≡ Some timeout) × (strip_last 0 bytes ≡ join_with_byte 0 (arguments ++ digits ∷ [])))
 
 -- data of this packet type ask this
 abbrev pub Asks : ℕ → List ℕ → Asked → Type 0
@@ -71,14 +61,6 @@ abbrev pub parts : (List ℕ → Bool) → ℕ → List ℕ → Option (List (Li
 parts refuses zero bytes = if refuses bytes then None else Some (bytes ∷ [])
 parts refuses (suc n) bytes =
     option_and_then (λ (halves : List ℕ × List ℕ). option_map (λ later. halves.0 ∷ later) (parts refuses n halves.1)) (cut bytes)
-
-abbrev pub is_timeout : List ℕ → Bool
-is_timeout digits =
-    nat_lt 0 (length digits) && nat_le (length digits) 10 && list_all is_ascii_digit digits && nat_lt (digits_value 10 digits) (2 ^ 32)
-
--- the number of seconds that digits say
-abbrev pub seconds_of : List ℕ → Option ℕ
-seconds_of digits = if is_timeout digits then Some (digits_value 10 digits) else None
 
 -- of a function and its timeout, the timeout as a number
 abbrev pub with_timeout : List (List ℕ) → Option (List (List ℕ) × ℕ)
@@ -106,3 +88,19 @@ read_kind (Some kind) bytes = ok_or (read_as kind bytes) BadArguments
 
 abbrev pub request_of : ℕ → List ℕ → Result Asked RequestFault
 request_of kind bytes = read_kind (kind_of kind) bytes
+
+-- ---- as it is written
+
+-- all the arguments of a request, a timeout in decimal
+abbrev pub texts_by : Shape → List (List ℕ) → ℕ → List (List ℕ)
+texts_by Empty arguments timeout = arguments
+texts_by (Plain n) arguments timeout = arguments
+texts_by (Opaque n) arguments timeout = arguments
+texts_by Timed arguments timeout = arguments ++ decimal timeout ∷ []
+
+abbrev pub request_texts : Asked → List (List ℕ)
+request_texts asked = texts_by (shape asked.kind) asked.arguments asked.timeout
+
+-- the packet that asks this
+abbrev pub request_packet : Asked → List ℕ
+request_packet asked = packet request_magic (number asked.kind) (join_with_byte 0 (request_texts asked))

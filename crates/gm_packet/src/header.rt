@@ -5,12 +5,12 @@ ghost use Rattle.std.specs.Int.{w32, to_be_bytes};
 ghost use Rattle.gm_packet.specs.Packets.{request_magic};
 
 /// The first four bytes of a packet to the server.
-pub const REQUEST_MAGIC: [u8; 4] = [0, b'R', b'E', b'Q'];
+pub const REQUEST_MAGIC: [u8; 4] = *b"\0REQ";
 
 /// The first four bytes of a packet from the server.
-pub const RESPONSE_MAGIC: [u8; 4] = [0, b'R', b'E', b'S'];
+pub const RESPONSE_MAGIC: [u8; 4] = *b"\0RES";
 
-/// What stands before the data of a packet.
+/// The header of a packet, without its magic.
 #[derive(Clone, Copy, Debug, PartialEq, Eq)]
 pub struct Header {
     /// The packet type.
@@ -24,8 +24,8 @@ pub struct Header {
 pub struct BadMagic;
 
 /// Reads the header of a request: the magic `\0REQ`, then the type and the size, each four bytes with
-/// the highest first (the Gearman PROTOCOL document, "Binary Packet"). `BadMagic` comes exactly where
-/// the first four bytes are others.
+/// the highest first (the Gearman PROTOCOL document, "Binary Packet"). `BadMagic` is returned exactly
+/// where the first four bytes differ from the magic.
 pub fn read_header(bytes: &[u8; 12]) -> Result<Header, BadMagic>
     ensures found { IfOk result (λ header.
         bytes.now ≡ request_magic ++ to_be_bytes w32 header.kind ++ to_be_bytes w32 header.size) }

@@ -5,8 +5,8 @@ ghost use Rattle.gm_packet.specs.Kinds.{number, kind_of};
 
 /// A request that this server knows, of the Gearman PROTOCOL document's types 1 to 36.
 ///
-/// SUBMIT_JOB_SCHED (35) and SUBMIT_JOB_EPOCH (36) aren't among them: nothing here starts a job by
-/// the calendar. What each asks is said at the variant of `Request` that has its name.
+/// SUBMIT_JOB_SCHED (35) and SUBMIT_JOB_EPOCH (36) are left out: nothing here starts a job by the calendar.
+/// The variant of `Request` with the same name says what each asks.
 #[derive(Clone, Copy, Debug, PartialEq, Eq)]
 pub enum Kind {
     CanDo,

@@ -1,30 +1,29 @@
-//! What is true of all packets at once. The functions do nothing: each stands for its clause, which is
-//! proved.
+//! Laws that hold for all packets. Each function is a law: its body does nothing, and its contract is the law.
 
 ghost use Rattle.gm_packet.specs.Laws.{KindsAreNumberedApart, NoPacketBeginsAnother, OneReading, WrittenRequestsReadBack};
 
-/// No two requests share a packet type: what the writers number apart, `Kind::of` tells apart.
+/// No two requests share a packet type, so `Kind::of` tells apart what the writers number.
 pub fn kinds_are_numbered_apart()
     ensures { KindsAreNumberedApart }
 {}
 
-/// No packet begins another one. Where a packet with anything behind it is the same bytes as a packet
-/// with anything behind it, the magics, the types, the data and what stands behind are the same: so a
-/// stream falls into packets in one way.
+/// No packet is a proper prefix of another. Where a packet followed by any bytes is the same as a packet
+/// followed by any bytes, the magics, the types, the data and what follows are the same: so a stream can be
+/// cut into packets in one way only.
 pub fn no_packet_begins_another()
     ensures { NoPacketBeginsAnother }
 {}
 
-/// Data of one packet type ask one thing at most: the words in which `Request::read` says what it has
-/// found leave no choice.
+/// The data of a packet type mean at most one request, so the relation in the contract of `Request::read`
+/// leaves no choice.
 pub fn one_reading()
     ensures { OneReading }
 {}
 
-/// What `write_request` writes, `Request::read` reads again, the same kind with the same arguments and
-/// timeout. The request has to fit (`request_fits`); a last argument that may not be any bytes has to
-/// lack NUL; and the denominator of a WORK_STATUS may not be empty, since the NUL before it would then
-/// end the data and be dropped.
+/// `Request::read` reads what `write_request` wrote: the same kind with the same arguments and timeout. The
+/// request has to fit (`request_fits`), a last argument that may not be arbitrary bytes must hold no NUL, and
+/// the denominator of a WORK_STATUS may not be empty, since the NUL before it would then be the last byte of
+/// the data and be dropped.
 pub fn written_requests_read_back()
     ensures { WrittenRequestsReadBack }
 {}

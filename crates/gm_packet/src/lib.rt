@@ -1,11 +1,12 @@
 //! Reads and writes the packets of the Gearman binary protocol.
 //!
-//! `Kind` is the table of the requests; `Request::read` says what the data of a request mean,
-//! `write_request` and `write_response` append whole packets, and `laws` holds what is true of all
-//! packets at once.
+//! `Kind` is the table of the requests, `Request::read` says what the data of a packet mean, and
+//! `write_request` and `write_response` append whole packets. `read_decimal` reads the numbers of packets and
+//! of text lines. `laws` has the laws that hold for all packets.
 #![tactic(auto)]
 
 mod arguments;
+mod decimal;
 mod header;
 mod kind;
 pub mod laws;
@@ -14,6 +15,7 @@ mod response;
 mod texts;
 mod writing;
 
+pub use decimal::read_decimal;
 pub use header::{BadMagic, Header, REQUEST_MAGIC, RESPONSE_MAGIC, read_header};
 pub use kind::Kind;
 pub use request::{Request, RequestFault, request_fits, write_request};

@@ -1,11 +1,12 @@
 //! Requests: what clients and workers send.
 
-ghost use Rattle.std.specs.Prelude.{◌≡◌, ◌↔◌, [], ◌∷◌, ◌++◌, ◌+◌, ◌<◌, length, vec_len, vec_capacity, IfOk, IsErrOf, IsTrue, OnOk, OnErr, MatchOption, decimal};
+ghost use Rattle.std.specs.Prelude.{◌≡◌, ◌↔◌, [], ◌∷◌, ◌++◌, ◌+◌, ◌<◌, length, vec_len, vec_capacity, IfOk, IsErrOf, IsTrue, OnOk, OnErr};
+ghost use Rattle.std.specs.Prelude.{MatchOption, decimal};
 ghost use Rattle.std.specs.Option.{option_map};
 ghost use Rattle.gm_packet.specs.Kinds.{Empty, Plain, Opaque, shape};
-ghost use Rattle.gm_packet.specs.Requests.{Asks, IsKnown, IsSpelled, read_as, request_of};
+ghost use Rattle.gm_packet.specs.Packets.{Fits};
+ghost use Rattle.gm_packet.specs.Requests.{Asks, IsKnown, IsSpelled, read_as, request_of, request_texts, request_packet};
 ghost use Rattle.gm_packet.specs.Texts.{texts_of};
-ghost use Rattle.gm_packet.specs.Writing.{Fits, request_packet, request_texts};
 ghost use Rattle.gm_packet.specs.Views.{asked_of, asked_result};
 
 use crate::arguments::{
@@ -14,7 +15,7 @@ use crate::arguments::{
 use crate::header::REQUEST_MAGIC;
 use crate::kind::Kind;
 use crate::texts::Texts;
-use crate::writing::{fits, put_one, put_three, put_two, put_zero};
+use crate::writing::{fits, put_texts, put_two};
 use itoa::Buffer;
 use std::alloc::AllocError;
 use std::fmt::{self, Debug, Formatter, Write};
@@ -28,8 +29,8 @@ pub enum RequestFault {
     BadArguments = 2,
 }
 
-/// A request, its arguments borrowed from the data of its packet. What it asks for, and who sends it,
-/// says the Gearman PROTOCOL document under the same names.
+/// A request, its arguments borrowed from the data of its packet. The Gearman PROTOCOL document says under
+/// the same names what each asks for and who sends it.
 #[derive(Clone, Copy, PartialEq, Eq)]
 pub enum Request<'a> {
     /// A worker can do jobs of this function.
@@ -52,7 +53,7 @@ pub enum Request<'a> {
     },
     /// A worker asks for a job.
     GrabJob,
-    /// A worker tells how far its job is.
+    /// A worker reports the progress of its job.
     WorkStatus {
         handle: &'a [u8],
         numerator: &'a [u8],
@@ -67,7 +68,7 @@ pub enum Request<'a> {
     WorkFail {
         handle: &'a [u8],
     },
-    /// A client asks how far a job is.
+    /// A client asks for the progress of a job.
     GetStatus {
         handle: &'a [u8],
     },
@@ -139,7 +140,7 @@ pub enum Request<'a> {
     },
 }
 
-/// What data ask of a kind that has no arguments.
+/// The request of a kind without arguments.
 fn read_bare(kind: Kind, bytes: &[u8]) -> Option<Request<'_>>
     ensures { shape kind ≡ Empty → option_map asked_of result ≡ read_as kind bytes.now }
 {
@@ -154,7 +155,7 @@ fn read_bare(kind: Kind, bytes: &[u8]) -> Option<Request<'_>>
     }
 }
 
-/// What data ask of a kind with one argument that holds no NUL.
+/// The request of a kind with one argument, which holds no NUL.
 fn read_one(kind: Kind, bytes: &[u8]) -> Option<Request<'_>>
     ensures { shape kind ≡ Plain 0 → option_map asked_of result ≡ read_as kind bytes.now }
 {
@@ -170,7 +171,7 @@ fn read_one(kind: Kind, bytes: &[u8]) -> Option<Request<'_>>
     }
 }
 
-/// What data ask of a kind with a handle and a body.
+/// The request of a kind with a handle and a body.
 fn read_work(kind: Kind, bytes: &[u8]) -> Option<Request<'_>>
     ensures { shape kind ≡ Opaque 1 → option_map asked_of result ≡ read_as kind bytes.now }
 {
@@ -184,7 +185,7 @@ fn read_work(kind: Kind, bytes: &[u8]) -> Option<Request<'_>>
     }
 }
 
-/// What data ask of a kind that submits a job.
+/// The request of a kind that submits a job.
 fn read_submission(kind: Kind, bytes: &[u8]) -> Option<Request<'_>>
     ensures { shape kind ≡ Opaque 2 → option_map asked_of result ≡ read_as kind bytes.now }
 {
@@ -224,7 +225,7 @@ fn read_submission(kind: Kind, bytes: &[u8]) -> Option<Request<'_>>
     }
 }
 
-/// What data of a known kind ask, if they spell its arguments.
+/// The request of a known kind, if the data spell its arguments.
 fn read_as(kind: Kind, bytes: &[u8]) -> Option<Request<'_>>
     ensures { option_map asked_of result ≡ read_as kind bytes.now }
 {
@@ -265,7 +266,7 @@ fn read_as(kind: Kind, bytes: &[u8]) -> Option<Request<'_>>
     }
 }
 
-/// What the type and the data ask, as one function.
+/// The request of a packet type and data.
 fn read_exactly(kind: u32, bytes: &[u8]) -> Result<Request<'_>, RequestFault>
     ensures { asked_result result ≡ request_of kind bytes.now }
 {
@@ -276,9 +277,9 @@ fn read_exactly(kind: u32, bytes: &[u8]) -> Result<Request<'_>, RequestFault>
 }
 
 impl<'a> Request<'a> {
-    /// What a packet of this type with these data asks. `UnknownCommand` comes exactly where no request
-    /// has the type, whatever the data; else `BadArguments` exactly where the data don't spell the
-    /// arguments of that request. It takes no memory.
+    /// The request of a packet of this type with these data. `UnknownCommand` is returned exactly where no
+    /// request has the type, whatever the data; otherwise `BadArguments` exactly where the data don't spell
+    /// the arguments of that request. It takes no memory.
     pub fn read(kind: u32, bytes: &'a [u8]) -> Result<Request<'a>, RequestFault>
         // As one function.
         ensures exact { asked_result result ≡ request_of kind bytes.now }
@@ -336,6 +337,7 @@ fn kind(request: &Request<'_>) -> Kind
 }
 
 /// The arguments of a request, without its timeout.
+#[inline(always)]
 fn texts<'a>(request: &Request<'a>) -> Texts<'a>
     ensures { texts_of result ≡ (asked_of request.now).arguments }
 {
@@ -420,85 +422,23 @@ pub fn request_fits(request: &Request<'_>) -> bool
     }
 }
 
-/// Appends the packet of a request that a packet can carry (`request_fits`). It fails only where `out`
-/// lacks the room and none is to be had, and leaves the bytes as they were.
+/// Appends the packet of a request that a packet can carry (`request_fits`). It fails only where `out` has no
+/// room for it and there is no memory for more, and then changes no byte.
 pub fn write_request(request: &Request<'_>, out: &mut Vec<u8>) -> Result<(), AllocError>
     requires { Fits (request_texts (asked_of request.now)) }
     ensures ok { OnOk result (out.new.items ≡ out.old.items ++ request_packet (asked_of request.now)) }
     ensures err { OnErr result (out.new.items ≡ out.old.items) }
 
-    // It fails only where room is missing.
+    // It fails only where there is no room.
     ensures full { OnErr result (vec_capacity out.old < vec_len out.old + length (request_packet (asked_of request.now))) }
 {
     let number = kind(request).number();
-    match *request {
-        Request::ResetAbilities => put_zero(out, &REQUEST_MAGIC, number),
-        Request::PreSleep => put_zero(out, &REQUEST_MAGIC, number),
-        Request::GrabJob => put_zero(out, &REQUEST_MAGIC, number),
-        Request::AllYours => put_zero(out, &REQUEST_MAGIC, number),
-        Request::GrabJobUniq => put_zero(out, &REQUEST_MAGIC, number),
-        Request::CanDo { function } => put_one(out, &REQUEST_MAGIC, number, function),
-        Request::CantDo { function } => put_one(out, &REQUEST_MAGIC, number, function),
-        Request::WorkFail { handle } => put_one(out, &REQUEST_MAGIC, number, handle),
-        Request::GetStatus { handle } => put_one(out, &REQUEST_MAGIC, number, handle),
-        Request::EchoReq { body } => put_one(out, &REQUEST_MAGIC, number, body),
-        Request::SetClientId { id } => put_one(out, &REQUEST_MAGIC, number, id),
-        Request::OptionReq { name } => put_one(out, &REQUEST_MAGIC, number, name),
-        Request::WorkComplete { handle, body } => put_two(
-            out,
-            &REQUEST_MAGIC,
-            number,
-            handle,
-            body,
-        ),
-        Request::WorkException { handle, body } => put_two(
-            out,
-            &REQUEST_MAGIC,
-            number,
-            handle,
-            body,
-        ),
-        Request::WorkData { handle, body } => put_two(out, &REQUEST_MAGIC, number, handle, body),
-        Request::WorkWarning { handle, body } => put_two(out, &REQUEST_MAGIC, number, handle, body),
-        Request::CanDoTimeout { function, timeout } => {
+    match timed(request) {
+        None => put_texts(out, &REQUEST_MAGIC, number, texts(request).as_slice()),
+        Some((function, timeout)) => {
             let mut buffer = Buffer::new();
             let digits = buffer.format(timeout).as_bytes();
             put_two(out, &REQUEST_MAGIC, number, function, digits)
         }
-        Request::WorkStatus {
-            handle,
-            numerator,
-            denominator,
-        } => put_three(out, &REQUEST_MAGIC, number, handle, numerator, denominator),
-        Request::SubmitJob {
-            function,
-            unique,
-            body,
-        } => put_three(out, &REQUEST_MAGIC, number, function, unique, body),
-        Request::SubmitJobBg {
-            function,
-            unique,
-            body,
-        } => put_three(out, &REQUEST_MAGIC, number, function, unique, body),
-        Request::SubmitJobHigh {
-            function,
-            unique,
-            body,
-        } => put_three(out, &REQUEST_MAGIC, number, function, unique, body),
-        Request::SubmitJobHighBg {
-            function,
-            unique,
-            body,
-        } => put_three(out, &REQUEST_MAGIC, number, function, unique, body),
-        Request::SubmitJobLow {
-            function,
-            unique,
-            body,
-        } => put_three(out, &REQUEST_MAGIC, number, function, unique, body),
-        Request::SubmitJobLowBg {
-            function,
-            unique,
-            body,
-        } => put_three(out, &REQUEST_MAGIC, number, function, unique, body),
     }
 }

@@ -1,18 +1,18 @@
 //! Responses: what the server sends.
 
 ghost use Rattle.std.specs.Prelude.{◌≡◌, ◌+◌, ◌-◌, ◌<◌, ◌^◌, ◌↔◌, ◌++◌, min, length, vec_len, vec_capacity, IsTrue, OnOk, OnErr};
+ghost use Rattle.gm_packet.specs.Answers.{answer_of, answer_packet, flag};
+ghost use Rattle.gm_packet.specs.Packets.{Fits};
 ghost use Rattle.gm_packet.specs.Texts.{texts_of};
-ghost use Rattle.gm_packet.specs.Writing.{Fits, flag, answer_packet};
-ghost use Rattle.gm_packet.specs.Answers.{answer_of};
 
 use crate::header::RESPONSE_MAGIC;
 use crate::texts::Texts;
-use crate::writing::{data_len, fits, put_five, put_four, put_one, put_three, put_two, put_zero};
+use crate::writing::{data_len, fits, put_texts};
 use std::alloc::AllocError;
 use std::fmt::{self, Debug, Formatter, Write};
 
-/// A response, its arguments borrowed. What each tells, and whom, says the Gearman PROTOCOL document
-/// under the same names.
+/// A response, its arguments borrowed. The Gearman PROTOCOL document says under the same names what each
+/// tells, and whom.
 #[derive(Clone, Copy, PartialEq, Eq)]
 pub enum Response<'a> {
     /// There is a job for a worker that went to sleep.
@@ -29,7 +29,7 @@ pub enum Response<'a> {
         function: &'a [u8],
         body: &'a [u8],
     },
-    /// How far a job is.
+    /// The progress of a job.
     WorkStatus {
         handle: &'a [u8],
         numerator: &'a [u8],
@@ -120,6 +120,7 @@ fn kind_of(response: &Response<'_>) -> u32
 }
 
 /// The arguments of a response.
+#[inline(always)]
 fn texts<'a>(response: &Response<'a>) -> Texts<'a>
     ensures { texts_of result ≡ (answer_of response.now).arguments }
 {
@@ -168,8 +169,8 @@ impl Debug for Response<'_> {
     }
 }
 
-/// How many bytes the packet of a response takes, its header among them; the greatest `u64` where it
-/// takes more than that.
+/// How many bytes the packet of a response takes, with its header; the greatest `u64` where it takes more
+/// than that.
 pub fn response_len(response: &Response<'_>) -> u64
     ensures { result ≡ min (length (answer_packet (answer_of response.now))) (2 ^ 64 - 1) }
 {
@@ -184,72 +185,20 @@ pub fn response_fits(response: &Response<'_>) -> bool
     fits(texts(response).as_slice())
 }
 
-/// Appends the packet of a response that a packet can carry (`response_fits`). It fails only where `out`
-/// lacks the room and none is to be had, and leaves the bytes as they were.
+/// Appends the packet of a response that a packet can carry (`response_fits`). It fails only where `out` has
+/// no room for it and there is no memory for more, and then changes no byte.
 pub fn write_response(response: &Response<'_>, out: &mut Vec<u8>) -> Result<(), AllocError>
     requires { Fits (answer_of response.now).arguments }
     ensures ok { OnOk result (out.new.items ≡ out.old.items ++ answer_packet (answer_of response.now)) }
     ensures err { OnErr result (out.new.items ≡ out.old.items) }
 
-    // It fails only where room is missing.
+    // It fails only where there is no room.
     ensures full { OnErr result (vec_capacity out.old < vec_len out.old + length (answer_packet (answer_of response.now))) }
 {
-    let kind = kind_of(response);
-    match response {
-        Response::Noop => put_zero(out, &RESPONSE_MAGIC, kind),
-        Response::NoJob => put_zero(out, &RESPONSE_MAGIC, kind),
-        Response::JobCreated { handle } => put_one(out, &RESPONSE_MAGIC, kind, handle),
-        Response::WorkFail { handle } => put_one(out, &RESPONSE_MAGIC, kind, handle),
-        Response::EchoRes { body } => put_one(out, &RESPONSE_MAGIC, kind, body),
-        Response::OptionRes { name } => put_one(out, &RESPONSE_MAGIC, kind, name),
-        Response::WorkComplete { handle, body } => put_two(
-            out,
-            &RESPONSE_MAGIC,
-            kind,
-            handle,
-            body,
-        ),
-        Response::WorkException { handle, body } => put_two(
-            out,
-            &RESPONSE_MAGIC,
-            kind,
-            handle,
-            body,
-        ),
-        Response::WorkData { handle, body } => put_two(out, &RESPONSE_MAGIC, kind, handle, body),
-        Response::WorkWarning { handle, body } => put_two(out, &RESPONSE_MAGIC, kind, handle, body),
-        Response::Error { code, text } => put_two(out, &RESPONSE_MAGIC, kind, code, text),
-        Response::JobAssign {
-            handle,
-            function,
-            body,
-        } => put_three(out, &RESPONSE_MAGIC, kind, handle, function, body),
-        Response::WorkStatus {
-            handle,
-            numerator,
-            denominator,
-        } => put_three(out, &RESPONSE_MAGIC, kind, handle, numerator, denominator),
-        Response::JobAssignUniq {
-            handle,
-            function,
-            unique,
-            body,
-        } => put_four(out, &RESPONSE_MAGIC, kind, handle, function, unique, body),
-        Response::StatusRes {
-            handle,
-            known,
-            running,
-            numerator,
-            denominator,
-        } => put_five(
-            out,
-            &RESPONSE_MAGIC,
-            kind,
-            handle,
-            flag(*known),
-            flag(*running),
-            numerator,
-            denominator,
-        ),
-    }
+    put_texts(
+        out,
+        &RESPONSE_MAGIC,
+        kind_of(response),
+        texts(response).as_slice(),
+    )
 }

@@ -1,10 +1,10 @@
-//! The arguments of a packet, whichever packet it is: no packet has more than five.
+//! The arguments of any packet: none has more than five.
 
 ghost use Rattle.std.specs.Prelude.{◌≡◌, ◌≤◌, [], ◌∷◌, map};
 
 /// Up to five arguments, in order.
 #[derive(Clone, Copy)]
-pub struct Texts<'a> {
+pub(crate) struct Texts<'a> {
     all: [&'a [u8]; 5],
     count: usize,
     ghost within: { count ≤ 5 },
@@ -13,7 +13,8 @@ pub struct Texts<'a> {
 impl<'a> Texts<'a> {
     ghost use Rattle.gm_packet.specs.Texts.{texts_of};
 
-    pub fn zero() -> Self
+    #[inline(always)]
+    pub(crate) fn zero() -> Self
         ensures { texts_of result ≡ [] }
     {
         Texts {
@@ -22,7 +23,8 @@ impl<'a> Texts<'a> {
         }
     }
 
-    pub fn one(first: &'a [u8]) -> Self
+    #[inline(always)]
+    pub(crate) fn one(first: &'a [u8]) -> Self
         ensures { texts_of result ≡ first.now ∷ [] }
     {
         Texts {
@@ -31,7 +33,8 @@ impl<'a> Texts<'a> {
         }
     }
 
-    pub fn two(first: &'a [u8], second: &'a [u8]) -> Self
+    #[inline(always)]
+    pub(crate) fn two(first: &'a [u8], second: &'a [u8]) -> Self
         ensures { texts_of result ≡ first.now ∷ second.now ∷ [] }
     {
         Texts {
@@ -40,7 +43,8 @@ impl<'a> Texts<'a> {
         }
     }
 
-    pub fn three(first: &'a [u8], second: &'a [u8], third: &'a [u8]) -> Self
+    #[inline(always)]
+    pub(crate) fn three(first: &'a [u8], second: &'a [u8], third: &'a [u8]) -> Self
         ensures { texts_of result ≡ first.now ∷ second.now ∷ third.now ∷ [] }
     {
         Texts {
@@ -49,7 +53,8 @@ impl<'a> Texts<'a> {
         }
     }
 
-    pub fn four(first: &'a [u8], second: &'a [u8], third: &'a [u8], fourth: &'a [u8]) -> Self
+    #[inline(always)]
+    pub(crate) fn four(first: &'a [u8], second: &'a [u8], third: &'a [u8], fourth: &'a [u8]) -> Self
         ensures { texts_of result ≡ first.now ∷ second.now ∷ third.now ∷ fourth.now ∷ [] }
     {
         Texts {
@@ -58,7 +63,8 @@ impl<'a> Texts<'a> {
         }
     }
 
-    pub fn five(
+    #[inline(always)]
+    pub(crate) fn five(
         first: &'a [u8],
         second: &'a [u8],
         third: &'a [u8],
@@ -74,7 +80,8 @@ impl<'a> Texts<'a> {
     }
 
     /// The arguments as a slice.
-    pub fn as_slice(&self) -> &[&'a [u8]]
+    #[inline(always)]
+    pub(crate) fn as_slice(&self) -> &[&'a [u8]]
         ensures { map (λ text. text.now) result.now ≡ texts_of self.now }
     {
         &self.all[..self.count]

@@ -1,11 +1,10 @@
 //! Writes a packet of any kind from its arguments.
 
-ghost use Rattle.std.specs.Prelude.{◌≡◌, ◌+◌, ◌-◌, ◌^◌, ◌<◌, ◌≤◌, ◌↔◌, ◌++◌, [], ◌∷◌, false, map, min, length, IsTrue, OnOk, OnErr, vec_len, vec_capacity};
+ghost use Rattle.std.specs.Prelude.{◌≡◌, ◌+◌, ◌-◌, ◌^◌, ◌<◌, ◌≤◌, ◌↔◌, ◌++◌, [], ◌∷◌, false, map, min, length, IsTrue, OnOk, OnErr};
+ghost use Rattle.std.specs.Prelude.{vec_len, vec_capacity};
 ghost use Rattle.std.specs.List.{list_any, flat_map, join_with_byte};
 ghost use Rattle.std.specs.Int.{w32, to_be_bytes};
-ghost use Rattle.gm_packet.specs.Packets.{packet};
-ghost use Rattle.gm_packet.specs.Requests.{has_nul, LackNul};
-ghost use Rattle.gm_packet.specs.Writing.{Fits};
+ghost use Rattle.gm_packet.specs.Packets.{has_nul, LackNul, Fits, AppendsPacket};
 
 use crate::arguments::has_nul;
 use std::alloc::AllocError;
@@ -24,7 +23,7 @@ fn tail_len(rest: &[&[u8]]) -> u64
 
 /// How many bytes the arguments take as data; at most the greatest `u64`.
 #[inline(always)]
-pub fn data_len(texts: &[&[u8]]) -> u64
+pub(crate) fn data_len(texts: &[&[u8]]) -> u64
     ensures { result ≡ min (length (join_with_byte 0 (map (λ text. text.now) texts.now))) (2 ^ 64 - 1) }
 {
     match texts {
@@ -46,12 +45,12 @@ fn separable(texts: &[&[u8]]) -> bool
 {
     match texts {
         [] => true,
-        [front @ .., _] => !any_nul(front),
+        [start @ .., _] => !any_nul(start),
     }
 }
 
 /// Whether a packet can carry the arguments.
-pub fn fits(texts: &[&[u8]]) -> bool
+pub(crate) fn fits(texts: &[&[u8]]) -> bool
     ensures { IsTrue result ↔ Fits (map (λ text. text.now) texts.now) }
 {
     separable(texts) && data_len(texts) <= u64::from(u32::MAX)
@@ -106,9 +105,9 @@ fn put_data(out: &mut Vec<u8>, texts: &[&[u8]])
     }
 }
 
-/// Appends the packet of this type with these arguments, all of it or nothing. It fails only where
-/// `out` lacks the room and none is to be had. It is put in place wherever the number of arguments is
-/// known, and then no loop is left of it.
+/// Appends the packet of this type with these arguments, or leaves `out` as it was where there is no room
+/// for all of it and no memory for more. It is inlined wherever the number of arguments is known, and then
+/// no loop is left of it.
 #[inline(always)]
 fn put_packet(
     out: &mut Vec<u8>,
@@ -117,11 +116,7 @@ fn put_packet(
     texts: &[&[u8]],
 ) -> Result<(), AllocError>
     requires { length (join_with_byte 0 (map (λ text. text.now) texts.now)) < 2 ^ 32 }
-    ensures ok { OnOk result (out.new.items ≡ out.old.items
-        ++ packet magic.now kind (join_with_byte 0 (map (λ text. text.now) texts.now))) }
-    ensures err { OnErr result (out.new.items ≡ out.old.items) }
-    ensures full { OnErr result (vec_capacity out.old
-        < vec_len out.old + length (packet magic.now kind (join_with_byte 0 (map (λ text. text.now) texts.now)))) }
+    ensures { AppendsPacket magic.now kind (map (λ text. text.now) texts.now) result out.old out.new }
 {
     let size = data_len(texts) as u32;
     out.reserve(12 + size as usize)?;
@@ -132,33 +127,24 @@ fn put_packet(
 
 /// As `put_packet`, with no argument.
 #[inline(never)]
-pub fn put_zero(out: &mut Vec<u8>, magic: &[u8; 4], kind: u32) -> Result<(), AllocError>
-    ensures ok { OnOk result (out.new.items ≡ out.old.items ++ packet magic.now kind (join_with_byte 0 [])) }
-    ensures err { OnErr result (out.new.items ≡ out.old.items) }
-    ensures full { OnErr result (vec_capacity out.old < vec_len out.old + length (packet magic.now kind (join_with_byte 0 []))) }
+fn put_zero(out: &mut Vec<u8>, magic: &[u8; 4], kind: u32) -> Result<(), AllocError>
+    ensures { AppendsPacket magic.now kind [] result out.old out.new }
 {
     put_packet(out, magic, kind, &[])
 }
 
 /// As `put_packet`, with one argument.
 #[inline(never)]
-pub fn put_one(
-    out: &mut Vec<u8>,
-    magic: &[u8; 4],
-    kind: u32,
-    first: &[u8],
-) -> Result<(), AllocError>
+fn put_one(out: &mut Vec<u8>, magic: &[u8; 4], kind: u32, first: &[u8]) -> Result<(), AllocError>
     requires { length (join_with_byte 0 (first.now ∷ [])) < 2 ^ 32 }
-    ensures ok { OnOk result (out.new.items ≡ out.old.items ++ packet magic.now kind (join_with_byte 0 (first.now ∷ []))) }
-    ensures err { OnErr result (out.new.items ≡ out.old.items) }
-    ensures full { OnErr result (vec_capacity out.old < vec_len out.old + length (packet magic.now kind (join_with_byte 0 (first.now ∷ [])))) }
+    ensures { AppendsPacket magic.now kind (first.now ∷ []) result out.old out.new }
 {
     put_packet(out, magic, kind, &[first])
 }
 
 /// As `put_packet`, with two arguments.
 #[inline(never)]
-pub fn put_two(
+pub(crate) fn put_two(
     out: &mut Vec<u8>,
     magic: &[u8; 4],
     kind: u32,
@@ -166,16 +152,14 @@ pub fn put_two(
     second: &[u8],
 ) -> Result<(), AllocError>
     requires { length (join_with_byte 0 (first.now ∷ second.now ∷ [])) < 2 ^ 32 }
-    ensures ok { OnOk result (out.new.items ≡ out.old.items ++ packet magic.now kind (join_with_byte 0 (first.now ∷ second.now ∷ []))) }
-    ensures err { OnErr result (out.new.items ≡ out.old.items) }
-    ensures full { OnErr result (vec_capacity out.old < vec_len out.old + length (packet magic.now kind (join_with_byte 0 (first.now ∷ second.now ∷ [])))) }
+    ensures { AppendsPacket magic.now kind (first.now ∷ second.now ∷ []) result out.old out.new }
 {
     put_packet(out, magic, kind, &[first, second])
 }
 
 /// As `put_packet`, with three arguments.
 #[inline(never)]
-pub fn put_three(
+fn put_three(
     out: &mut Vec<u8>,
     magic: &[u8; 4],
     kind: u32,
@@ -184,16 +168,14 @@ pub fn put_three(
     third: &[u8],
 ) -> Result<(), AllocError>
     requires { length (join_with_byte 0 (first.now ∷ second.now ∷ third.now ∷ [])) < 2 ^ 32 }
-    ensures ok { OnOk result (out.new.items ≡ out.old.items ++ packet magic.now kind (join_with_byte 0 (first.now ∷ second.now ∷ third.now ∷ []))) }
-    ensures err { OnErr result (out.new.items ≡ out.old.items) }
-    ensures full { OnErr result (vec_capacity out.old < vec_len out.old + length (packet magic.now kind (join_with_byte 0 (first.now ∷ second.now ∷ third.now ∷ [])))) }
+    ensures { AppendsPacket magic.now kind (first.now ∷ second.now ∷ third.now ∷ []) result out.old out.new }
 {
     put_packet(out, magic, kind, &[first, second, third])
 }
 
 /// As `put_packet`, with four arguments.
 #[inline(never)]
-pub fn put_four(
+fn put_four(
     out: &mut Vec<u8>,
     magic: &[u8; 4],
     kind: u32,
@@ -203,16 +185,14 @@ pub fn put_four(
     fourth: &[u8],
 ) -> Result<(), AllocError>
     requires { length (join_with_byte 0 (first.now ∷ second.now ∷ third.now ∷ fourth.now ∷ [])) < 2 ^ 32 }
-    ensures ok { OnOk result (out.new.items ≡ out.old.items ++ packet magic.now kind (join_with_byte 0 (first.now ∷ second.now ∷ third.now ∷ fourth.now ∷ []))) }
-    ensures err { OnErr result (out.new.items ≡ out.old.items) }
-    ensures full { OnErr result (vec_capacity out.old < vec_len out.old + length (packet magic.now kind (join_with_byte 0 (first.now ∷ second.now ∷ third.now ∷ fourth.now ∷ [])))) }
+    ensures { AppendsPacket magic.now kind (first.now ∷ second.now ∷ third.now ∷ fourth.now ∷ []) result out.old out.new }
 {
     put_packet(out, magic, kind, &[first, second, third, fourth])
 }
 
 /// As `put_packet`, with five arguments.
 #[inline(never)]
-pub fn put_five(
+fn put_five(
     out: &mut Vec<u8>,
     magic: &[u8; 4],
     kind: u32,
@@ -223,9 +203,34 @@ pub fn put_five(
     fifth: &[u8],
 ) -> Result<(), AllocError>
     requires { length (join_with_byte 0 (first.now ∷ second.now ∷ third.now ∷ fourth.now ∷ fifth.now ∷ [])) < 2 ^ 32 }
-    ensures ok { OnOk result (out.new.items ≡ out.old.items ++ packet magic.now kind (join_with_byte 0 (first.now ∷ second.now ∷ third.now ∷ fourth.now ∷ fifth.now ∷ []))) }
-    ensures err { OnErr result (out.new.items ≡ out.old.items) }
-    ensures full { OnErr result (vec_capacity out.old < vec_len out.old + length (packet magic.now kind (join_with_byte 0 (first.now ∷ second.now ∷ third.now ∷ fourth.now ∷ fifth.now ∷ [])))) }
+    ensures { AppendsPacket magic.now kind (first.now ∷ second.now ∷ third.now ∷ fourth.now ∷ fifth.now ∷ []) result out.old out.new }
 {
     put_packet(out, magic, kind, &[first, second, third, fourth, fifth])
+}
+
+/// As `put_packet`, by the function for the number of arguments. Where it is inlined behind a `match` that
+/// makes the arguments, the number is known in each arm.
+#[inline(always)]
+pub(crate) fn put_texts(
+    out: &mut Vec<u8>,
+    magic: &[u8; 4],
+    kind: u32,
+    texts: &[&[u8]],
+) -> Result<(), AllocError>
+    requires { length (join_with_byte 0 (map (λ text. text.now) texts.now)) < 2 ^ 32 }
+    ensures { AppendsPacket magic.now kind (map (λ text. text.now) texts.now) result out.old out.new }
+{
+    match *texts {
+        [] => put_zero(out, magic, kind),
+        [first] => put_one(out, magic, kind, first),
+        [first, second] => put_two(out, magic, kind, first, second),
+        [first, second, third] => put_three(out, magic, kind, first, second, third),
+        [first, second, third, fourth] => {
+            put_four(out, magic, kind, first, second, third, fourth)
+        }
+        [first, second, third, fourth, fifth] => {
+            put_five(out, magic, kind, first, second, third, fourth, fifth)
+        }
+        _ => put_packet(out, magic, kind, texts),
+    }
 }

@@ -1,6 +1,6 @@
 use Rattle.std.proofs.Common.{◌≡◌, ◌≤◌, ◌+◌, ◌++◌, length, take, drop, vec_len, vec_capacity}
 use Rattle.std.specs.List.{flat_map}
-use Rattle.gm_admin.proofs.Lines.{name_at}
+use Rattle.gm_admin.proofs.LineTexts.{name_at}
 use Rattle.gm_admin.proofs.writing.put_names.Given as goal
 
 abbrev pub invariant-loop-name : goal.invariant-loop-name

@@ -1,24 +1,24 @@
-//! The rows of the lists.
+//! What a line of a list says.
 
-/// What `status` says of a function.
+/// What a line of `status` says of a function.
 #[derive(Clone, Copy, Debug, PartialEq, Eq)]
 pub struct StatusRow<'a> {
     /// The function.
     pub name: &'a [u8],
-    /// Its jobs, waiting or running.
+    /// How many jobs it has, waiting or running.
     pub total: u64,
-    /// Those of them that run.
+    /// How many of these run.
     pub running: u64,
-    /// The workers that can do them.
+    /// How many workers can do them.
     pub workers: u32,
 }
 
-/// What `workers` says of a connection.
+/// What a line of `workers` says of a connection.
 #[derive(Debug, Drop, PartialEq, Eq)]
 pub struct WorkerRow<'a> {
     /// The slot of the connection.
     pub slot: u32,
-    /// Where it comes from.
+    /// Its address.
     pub addr: &'a [u8],
     /// The name that it gave itself; empty where it gave none.
     pub id: &'a [u8],

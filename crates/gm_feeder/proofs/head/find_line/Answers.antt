@@ -1,6 +1,6 @@
 use Rattle.std.proofs.Common.{arith, ◌+◌, ◌<◌, ◌≤◌}
 use Rattle.gm_feeder.proofs.LineLemmas.{length-slice, newline_at, none_further, none_below, line_found, hopeless-long, waits-open}
-use Rattle.gm_feeder.proofs.front.find_line.Goals as goal
+use Rattle.gm_feeder.proofs.head.find_line.Goals as goal
 
 pub returns-in-Some : goal.returns-in-Some
 returns-in-Some c =

@@ -1,5 +1,7 @@
 -- What a header, filled up where it is short, says of the bytes that wait.
-use Rattle.std.proofs.Common.{◌≡◌, ℕ, zero, suc, ◌+◌, ◌-◌, ◌^◌, ◌<◌, ◌≤◌, List, [], ◌∷◌, ◌++◌, length, take, drop, get_or, replicate, refl, sym, ap, ap₂, subst₂, ◌∙◌, arith, append_assoc, append-nil, length-append, length-drop, le_refl, zero-le, lit<}
+use Rattle.std.proofs.Common.{◌≡◌, ℕ, zero, suc, ◌+◌, ◌-◌, ◌^◌, ◌<◌, ◌≤◌, List, [], ◌∷◌, ◌++◌, length, take, drop, get_or, replicate}
+use Rattle.std.proofs.Common.{refl, sym, ap, ap₂, subst₂, ◌∙◌, arith, append_assoc, append-nil, length-append, length-drop, le_refl}
+use Rattle.std.proofs.Common.{zero-le, lit<}
 use Rattle.std.specs.Int.{w32, to_be_bytes, from_be_bytes, byte_at}
 use Rattle.std.proofs.lemmas.Nat.{from_be_bytes-to_be_bytes_4}
 use Rattle.std.proofs.lemmas.List.{drop_all, length-replicate, length-take-le}
@@ -7,7 +9,7 @@ use Rattle.std.proofs.Math.Seq.{take-add}
 use Rattle.gm_packet.specs.Packets.{request_magic, packet}
 use Rattle.gm_feeder.specs.declared.units.Limits.{Limits}
 use Rattle.gm_feeder.specs.Units.{APacket, ALine, IsPacket, BeginsNoUnit, BeginsWithNul, CanGoOn, IsHopeless, AgreesWithMagic}
-use Rattle.gm_feeder.specs.Fronts.{empty_header, filled_header}
+use Rattle.gm_feeder.specs.Heads.{empty_header, filled_header}
 use Rattle.gm_feeder.proofs.UnitLemmas.{header, packet_is, same_size, unit_is, nul_longer}
 use Rattle.gm_feeder.proofs.LineLemmas.{line_not_nul}
 
@@ -35,12 +37,12 @@ filled-agrees (a ∷ b ∷ []) h = cc
 filled-agrees (a ∷ b ∷ c ∷ []) h = cc
 filled-agrees (a ∷ b ∷ c ∷ d ∷ rest) h = let none = take_nil (length rest) in cc
 
-agrees-front : (bytes more : List ℕ) → take 4 (bytes ++ more) ≡ request_magic → AgreesWithMagic bytes
-agrees-front [] more h = refl
-agrees-front (a ∷ []) more h = cc
-agrees-front (a ∷ b ∷ []) more h = cc
-agrees-front (a ∷ b ∷ c ∷ []) more h = cc
-agrees-front (a ∷ b ∷ c ∷ d ∷ rest) more h = let none = take_nil (length rest) in cc
+agrees-shorter_magic : (bytes more : List ℕ) → take 4 (bytes ++ more) ≡ request_magic → AgreesWithMagic bytes
+agrees-shorter_magic [] more h = refl
+agrees-shorter_magic (a ∷ []) more h = cc
+agrees-shorter_magic (a ∷ b ∷ []) more h = cc
+agrees-shorter_magic (a ∷ b ∷ c ∷ []) more h = cc
+agrees-shorter_magic (a ∷ b ∷ c ∷ d ∷ rest) more h = let none = take_nil (length rest) in cc
 
 -- ---- bytes that stand in for others
 
@@ -77,12 +79,12 @@ size-below bytes more rest kind size k n hs hn filled is =
     in
     subst₂ (λ (a b : ℕ). a ≤ b) (from_be_bytes-to_be_bytes_4 size hs) (from_be_bytes-to_be_bytes_4 n hn) below
 
--- ---- what stands at the front of bytes that begin with NUL
+-- ---- the head of bytes that begin with NUL
 
 -- no packet begins with another magic
 pub hopeless-wrong_magic : (limits : Limits) (bytes : List ℕ) → BeginsWithNul bytes → (AgreesWithMagic bytes → ⊥) → IsHopeless limits bytes
 hopeless-wrong_magic limits bytes nul never more (APacket kind text) after u =
-    never (agrees-front bytes more (ap (take 4) (unit_is limits (bytes ++ more) kind text after u)))
+    never (agrees-shorter_magic bytes more (ap (take 4) (unit_is limits (bytes ++ more) kind text after u)))
 hopeless-wrong_magic limits bytes nul never more (ALine text) after u =
     absurd (line_not_nul limits (bytes ++ more) text after u (nul_longer bytes more nul))
 

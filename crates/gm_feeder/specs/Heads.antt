@@ -1,14 +1,15 @@
--- What stands at the front of the bytes that wait.
-use Rattle.std.specs.Prelude.{◌≢◌, ℕ, ◌+◌, ◌<◌, ◌≤◌, List, [], ◌∷◌, ◌++◌, length, take, drop, slice_index}
+-- What the pending bytes begin with.
+use Rattle.std.specs.Prelude.{◌≢◌, ℕ, ◌+◌, ◌<◌, ◌≤◌, List, ◌++◌, length, take, drop, replicate, slice_index}
 use Rattle.std.specs.Io.BufRead.{strip_last}
+use Rattle.gm_packet.specs.Packets.{request_magic}
 use Rattle.gm_feeder.specs.declared.units.Limits.{Limits}
-use Rattle.gm_feeder.specs.declared.front.Front.{Front}
-use Rattle.gm_feeder.specs.declared.front.Front.TheVariants.{Packet, Line, Fault, Incomplete}
+use Rattle.gm_feeder.specs.declared.head.Head.{Head}
+use Rattle.gm_feeder.specs.declared.head.Head.TheVariants.{Packet, Line, Fault, Incomplete}
 use Rattle.gm_feeder.specs.Units.{APacket, ALine, IsUnit, IsFaultOf, Waits, without_return}
 
 -- the header of a packet with type 0 and no data
 abbrev pub empty_header : List ℕ
-empty_header = 0 ∷ 82 ∷ 69 ∷ 81 ∷ 0 ∷ 0 ∷ 0 ∷ 0 ∷ 0 ∷ 0 ∷ 0 ∷ 0 ∷ []
+empty_header = request_magic ++ replicate 8 0
 
 -- the first twelve bytes, where those that are still to come are taken from the header of an empty packet
 abbrev pub filled_header : List ℕ → List ℕ
@@ -22,17 +23,17 @@ data_of packet = drop 12 packet
 abbrev pub text_of : List ℕ → List ℕ
 text_of line = without_return (strip_last 10 line)
 
--- the first so many bytes were looked through: no newline is there, and they are no more than a line may have
+-- the first `scanned` bytes were searched: none is a newline, and they are no more than a line may have
 pub record IsScanned (limits : Limits) (bytes : List ℕ) (scanned : ℕ) : Type 0 where
   pub within : scanned ≤ length bytes
   pub within_limit : scanned ≤ limits.max_line
   pub no_newline : (k : ℕ) → k < scanned → slice_index bytes k ≢ 10
 
--- what was found is what stands there
-abbrev pub IsFront : Limits → List ℕ → Front → Type 0
-IsFront limits bytes (Packet kind size) =
+-- the bytes begin with what was found
+abbrev pub IsHead : Limits → List ℕ → Head → Type 0
+IsHead limits bytes (Packet kind size) =
     (12 + size ≤ length bytes) × IsUnit limits (take (12 + size) bytes) (APacket kind (data_of (take (12 + size) bytes)))
-IsFront limits bytes (Line len) =
+IsHead limits bytes (Line len) =
     (len < length bytes) × IsUnit limits (take (len + 1) bytes) (ALine (text_of (take (len + 1) bytes)))
-IsFront limits bytes (Fault fault) = IsFaultOf limits bytes fault
-IsFront limits bytes (Incomplete scanned) = Waits limits bytes × IsScanned limits bytes scanned
+IsHead limits bytes (Fault fault) = IsFaultOf limits bytes fault
+IsHead limits bytes (Incomplete scanned) = Waits limits bytes × IsScanned limits bytes scanned

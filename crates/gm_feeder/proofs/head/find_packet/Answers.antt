@@ -1,7 +1,8 @@
 use Rattle.std.proofs.Common.{◌∙◌, sym, ap, take, arith}
-use Rattle.gm_feeder.proofs.FrontLemmas.{hopeless-wrong_magic, hopeless-large, no_unit-short, can_go_on, packet-long, agrees-filled, filled-agrees}
+use Rattle.gm_feeder.proofs.HeadLemmas.{hopeless-wrong_magic, hopeless-large, no_unit-short, can_go_on, packet-long, agrees-filled}
+use Rattle.gm_feeder.proofs.HeadLemmas.{filled-agrees}
 use Rattle.gm_feeder.specs.Units.{AgreesWithMagic}
-use Rattle.gm_feeder.proofs.front.find_packet.Goals as goal
+use Rattle.gm_feeder.proofs.head.find_packet.Goals as goal
 
 pub returns-in_default : goal.returns-in_default
 returns-in_default c =
