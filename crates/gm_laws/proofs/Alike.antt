@@ -7,8 +7,13 @@ use Rattle.gm_notes.specs.declared.states.Priority.{Priority}
 use Rattle.gm_notes.specs.declared.note.Note.{Note}
 use Rattle.gm_notes.specs.declared.note.Note.TheVariants as notes
 use Rattle.gm_notes.specs.Settings.{Settings}
-use Rattle.gm_notes.specs.Notes.{is_open, says_open, is_shut, says_shut, addr, says_addr, id, says_id, has_option, says_option, phase, says_phase, is_asleep, moment, says_moment, mode, says_mode, takes_units}
-use Rattle.gm_notes.specs.Jobs.{Ability, spot, says_spot, is_waiting, is_running, is_empty, job, says_job, made, is_kept, says_kept, listeners, is_wanted, report, says_report, deadline, says_deadline, functions, is_mentioned, limit, says_limit, abilities, is_able, as_they_came, waiting_for, pick_from, pick, joined, next_number, total, is_live_of, is_live_named, is_queued, handled}
+use Rattle.gm_notes.specs.Notes.{is_open, says_open, is_shut, says_shut, addr, says_addr, id, says_id, has_option, says_option}
+use Rattle.gm_notes.specs.Notes.{phase, says_phase, is_asleep, moment, says_moment, mode, says_mode, takes_units}
+use Rattle.gm_notes.specs.Jobs.{Ability, job_state, says_job_state, is_empty, job, says_job, made, is_kept, says_kept}
+use Rattle.gm_notes.specs.Jobs.{listeners, is_wanted, report, says_report, deadline, says_deadline, functions, is_mentioned}
+use Rattle.gm_notes.specs.Jobs.{limit, says_limit, abilities, is_able, as_they_came, waiting_for, pick_from, pick, joined}
+use Rattle.gm_notes.specs.Jobs.{next_number, total, is_live_of, is_live_named, is_queued, job_of_handle, scan}
+use Rattle.gm_notes.specs.JobStates.{is_waiting, is_running}
 use Rattle.gm_notes.specs.Submissions.{is_one_too_many, is_full}
 use Rattle.gm_notes.specs.Workers.{hearers}
 use Rattle.gm_notes.specs.Closings.{is_reached}
@@ -24,7 +29,7 @@ pub record Alike (l m : List Note) : Type 0 where
   pub asleep : (c : ℕ) → is_asleep (phase c l) ≡ is_asleep (phase c m)
   pub now : moment l ≡ moment m
   pub mode_is : mode l ≡ mode m
-  pub place : (n : ℕ) → spot n l ≡ spot n m
+  pub place : (n : ℕ) → job_state n l ≡ job_state n m
   pub what : (n : ℕ) → job n l ≡ job n m
   pub numbers : made l ≡ made m
   pub kept : (n : ℕ) → is_kept n l ≡ is_kept n m
@@ -79,7 +84,7 @@ alike_more note l m a = record {
   asleep = λ c. asleep_more (says_phase c note) (phase c l) (phase c m) (a.asleep c);
   now = ap (unwrap_or (says_moment note)) a.now;
   mode_is = ap (unwrap_or (says_mode note)) a.mode_is;
-  place = λ n. ap (unwrap_or (says_spot n note)) (a.place n);
+  place = λ n. ap (unwrap_or (says_job_state n note)) (a.place n);
   what = λ n. ap (unwrap_or (says_job n note)) (a.what n);
   numbers = made_more note l m a.numbers;
   kept = λ n. ap (unwrap_or (says_kept n note)) (a.kept n);
@@ -158,7 +163,7 @@ module _ {l m : List Note} (a : Alike l m) where
   pub many_alike : (k : Settings) (f : List ℕ) → is_one_too_many k f l ≡ is_one_too_many k f m
   many_alike k f = simp a.known
 
-  pub unwanted_alike : (n : ℕ) → (is_waiting (spot n l) && not (is_wanted n l)) ≡ (is_waiting (spot n m) && not (is_wanted n m))
+  pub unwanted_alike : (n : ℕ) → (is_waiting (job_state n l) && not (is_wanted n l)) ≡ (is_waiting (job_state n m) && not (is_wanted n m))
   unwanted_alike n = simp (a.place, a.kept, a.hear)
 
   pub waked_alike : (c : ℕ) (f : List ℕ) → (is_open c l && is_asleep (phase c l) && is_able c f l) ≡ (is_open c m && is_asleep (phase c m) && is_able c f m)
@@ -168,7 +173,7 @@ module _ {l m : List Note} (a : Alike l m) where
   hearers_alike true n = simp (a.opened, a.option, a.hear)
   hearers_alike false n = a.hear n
 
-  pub expired_alike : (n : ℕ) → (is_running (spot n l) && is_reached (deadline n l) (moment l)) ≡ (is_running (spot n m) && is_reached (deadline n m) (moment m))
+  pub expired_alike : (n : ℕ) → (is_running (job_state n l) && is_reached (deadline n l) (moment l)) ≡ (is_running (job_state n m) && is_reached (deadline n m) (moment m))
   expired_alike n = simp (a.place, a.late, a.now)
 
   live_alike : (f : List ℕ) → is_live_of f l ≡ is_live_of f m
@@ -192,7 +197,7 @@ module _ {l m : List Note} (a : Alike l m) where
   pub next_alike : (k : Settings) → next_number k l ≡ next_number k m
   next_alike k = simp a.numbers
 
-  pub handled_alike : (k : Settings) (text : List ℕ) → handled k text l ≡ handled k text m
+  pub handled_alike : (k : Settings) (text : List ℕ) → job_of_handle k text l ≡ job_of_handle k text m
   handled_alike k text = simp a.numbers
 
   pub waiting_alike : (f : List ℕ) → waiting_for f l ≡ waiting_for f m
@@ -205,8 +210,8 @@ module _ {l m : List Note} (a : Alike l m) where
   pick_from_alike [] = refl
   pick_from_alike (ability ∷ abilities) = let first = waiting_alike ability.function in let rest = pick_from_alike abilities in cc
 
-  pub pick_alike : (c : ℕ) → pick c l ≡ pick c m
-  pick_alike c = ap (λ can. pick_from can l) (a.can c) ∙ pick_from_alike (abilities c m)
+  pub pick_alike : (k : Settings) (c : ℕ) → pick k c l ≡ pick k c m
+  pick_alike k c = ap (λ can. pick_from can l) (a.can c) ∙ pick_from_alike (scan k c m)
 
   pub statuses_alike : (k : Settings) → status_rows k l ≡ status_rows k m
   statuses_alike k = simp (live_alike, a.place, a.what, a.numbers, a.known, a.opened, a.can)

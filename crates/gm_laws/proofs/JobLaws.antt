@@ -1,5 +1,6 @@
 -- The laws about jobs: where they are, and that live ones which join are one.
-use Rattle.std.proofs.Common.{◌≡◌, ℕ, suc, ◌+◌, ◌<◌, Bool, true, false, cond, ◌&&◌, ◌||◌, List, [], ◌∷◌, ◌++◌, length, find, Some, None, refl, sym, ap, subst, ◌∙◌, arith}
+use Rattle.std.proofs.Common.{◌≡◌, ℕ, suc, ◌+◌, ◌<◌, Bool, true, false, cond, ◌&&◌, ◌||◌, List, [], ◌∷◌, ◌++◌, length, find}
+use Rattle.std.proofs.Common.{Some, None, refl, sym, ap, subst, ◌∙◌, arith}
 use Rattle.std.specs.Prelude.{◌==◌, unwrap_or}
 use Rattle.std.specs.List.{list_any}
 use Rattle.std.specs.Str.{bytes_eq}
@@ -10,7 +11,9 @@ use Rattle.gm_notes.specs.declared.note.Note.{Note}
 use Rattle.gm_notes.specs.declared.note.Note.TheVariants.{Made, Assigned, Returned, Ended, Discarded}
 use Rattle.gm_notes.specs.declared.states.Priority.TheVariants.{Normal}
 use Rattle.gm_notes.specs.Settings.{Settings}
-use Rattle.gm_notes.specs.Jobs.{Spot, Unmade, Waits, RunsAt, Over, Thrown, Job, spot, job, is_live, is_waiting, is_running, is_job_named, joins, joined, made, next_number}
+use Rattle.gm_notes.specs.Jobs.{Job, job_state, job, is_job_named, joins, joined, made, next_number}
+use Rattle.gm_notes.specs.JobStates.{JobState, is_live, is_waiting, is_running}
+use Rattle.gm_notes.specs.JobStates as states
 use Rattle.gm_notes.specs.Steps.{Step, run}
 use Rattle.gm_laws.specs.History.{Allowed, History}
 use Rattle.gm_laws.specs.Laws.{AreNumbers, is_made, has_place, HavePlaces, is_live_named, AreOne, is_gone, StayGone}
@@ -26,47 +29,47 @@ same_test n m = grind (arith, nat_tests)
 pub is_same : (n m : ℕ) → (n == m) ≡ true → n ≡ m
 is_same n m e = grind (arith, nat_tests)
 
-running_place : (s : Spot) → is_running s ≡ true → has_place s ≡ true
-running_place (RunsAt c) e = refl
-running_place Waits e = refl
-running_place Unmade e = absurd cc
-running_place Over e = refl
-running_place Thrown e = refl
+running_place : (s : JobState) → is_running s ≡ true → has_place s ≡ true
+running_place (states.Running c) e = refl
+running_place states.Waiting e = refl
+running_place states.Unmade e = absurd cc
+running_place states.Ended e = refl
+running_place states.Discarded e = refl
 
-waiting_place : (s : Spot) → is_waiting s ≡ true → has_place s ≡ true
-waiting_place Waits e = refl
-waiting_place (RunsAt c) e = refl
-waiting_place Unmade e = absurd cc
-waiting_place Over e = refl
-waiting_place Thrown e = refl
+waiting_place : (s : JobState) → is_waiting s ≡ true → has_place s ≡ true
+waiting_place states.Waiting e = refl
+waiting_place (states.Running c) e = refl
+waiting_place states.Unmade e = absurd cc
+waiting_place states.Ended e = refl
+waiting_place states.Discarded e = refl
 
-pub live_place : (s : Spot) → is_live s ≡ true → has_place s ≡ true
-live_place Waits e = refl
-live_place (RunsAt c) e = refl
-live_place Unmade e = absurd cc
-live_place Over e = refl
-live_place Thrown e = refl
+pub live_place : (s : JobState) → is_live s ≡ true → has_place s ≡ true
+live_place states.Waiting e = refl
+live_place (states.Running c) e = refl
+live_place states.Unmade e = absurd cc
+live_place states.Ended e = refl
+live_place states.Discarded e = refl
 
 -- ---- places
 
 -- a new place for job m, which had one
-place_moved : (n m : ℕ) (older : List Note) (new : Spot) (t : Bool) → (n == m) ≡ t → has_place new ≡ true → has_place (spot m older) ≡ true → has_place (spot n older) ≡ is_made n older → has_place (unwrap_or (cond t (Some new) None) (spot n older)) ≡ is_made n older
+place_moved : (n m : ℕ) (older : List Note) (new : JobState) (t : Bool) → (n == m) ≡ t → has_place new ≡ true → has_place (job_state m older) ≡ true → has_place (job_state n older) ≡ is_made n older → has_place (unwrap_or (cond t (Some new) None) (job_state n older)) ≡ is_made n older
 place_moved n m older new true is placed had rest =
     let same : m ≡ n = sym (is_same n m is) in
-    placed ∙ sym (subst (λ x. has_place (spot x older) ≡ true) same had) ∙ rest
+    placed ∙ sym (subst (λ x. has_place (job_state x older) ≡ true) same had) ∙ rest
 place_moved n m older new false is placed had rest = rest
 
-place_made : (n m : ℕ) (older : List Note) (t : Bool) → has_place (spot n older) ≡ is_made n older → has_place (unwrap_or (cond t (Some Waits) None) (spot n older)) ≡ (t || is_made n older)
+place_made : (n m : ℕ) (older : List Note) (t : Bool) → has_place (job_state n older) ≡ is_made n older → has_place (unwrap_or (cond t (Some states.Waiting) None) (job_state n older)) ≡ (t || is_made n older)
 place_made n m older true rest = refl
 place_made n m older false rest = rest
 
 pub places : (k : Settings) (notes : List Note) → History k notes → HavePlaces k notes
 places k [] h n = refl
 places k (Made m f p u body ∷ older) h n = place_made n m older (n == m) (places k older h.1 n) ∙ ap (λ t. t || is_made n older) (sym (same_test n m))
-places k (Returned m ∷ older) h n = place_moved n m older Waits (n == m) refl refl (running_place (spot m older) h.0.0) (places k older h.1 n)
-places k (Assigned m c late ∷ older) h n = place_moved n m older (RunsAt c) (n == m) refl refl (waiting_place (spot m older) h.0.0) (places k older h.1 n)
-places k (Ended m ∷ older) h n = place_moved n m older Over (n == m) refl refl (running_place (spot m older) h.0) (places k older h.1 n)
-places k (Discarded m ∷ older) h n = place_moved n m older Thrown (n == m) refl refl (live_place (spot m older) h.0.0) (places k older h.1 n)
+places k (Returned m ∷ older) h n = place_moved n m older states.Waiting (n == m) refl refl (running_place (job_state m older) h.0.0) (places k older h.1 n)
+places k (Assigned m c late ∷ older) h n = place_moved n m older (states.Running c) (n == m) refl refl (waiting_place (job_state m older) h.0.0) (places k older h.1 n)
+places k (Ended m ∷ older) h n = place_moved n m older states.Ended (n == m) refl refl (running_place (job_state m older) h.0) (places k older h.1 n)
+places k (Discarded m ∷ older) h n = place_moved n m older states.Discarded (n == m) refl refl (live_place (job_state m older) h.0.0) (places k older h.1 n)
 places k (note ∷ older) h n = places k older h.1 n
 
 -- ---- one live job for each function and id
@@ -82,29 +85,29 @@ none_passes test [] n e h = absurd cc
 none_passes test (m ∷ ns) n e h = none_head test m n ns (test m) (m == n) refl refl (none_passes test ns n) e h
 
 -- live and named so, after a note that leaves job and name as they were for all but m
-live_named_parts : (f u : List ℕ) (n : ℕ) (notes : List Note) → is_live_named f u n notes ≡ true → (is_live (spot n notes) ≡ true) × (is_job_named f u (job n notes) ≡ true)
-live_named_parts f u n notes e = and_parts (is_live (spot n notes)) (is_job_named f u (job n notes)) e
+live_named_parts : (f u : List ℕ) (n : ℕ) (notes : List Note) → is_live_named f u n notes ≡ true → (is_live (job_state n notes) ≡ true) × (is_job_named f u (job n notes) ≡ true)
+live_named_parts f u n notes e = and_parts (is_live (job_state n notes)) (is_job_named f u (job n notes)) e
 
 -- nothing live joins what finds nothing to join
 none_joins : (k : Settings) (f u : List ℕ) (n : ℕ) (older : List Note) → History k older → joins u ≡ true → joined f u older ≡ None → is_live_named f u n older ≡ true → ⊥
 none_joins k f u n older h joining none e =
-    let searched : find (λ m. is_live (spot m older) && is_job_named f u (job m older)) (made older) ≡ None =
-    ap (λ t. cond t (find (λ m. is_live (spot m older) && is_job_named f u (job m older)) (made older)) None) (sym joining) ∙ none in
-    let there : is_made n older ≡ true = sym (places k older h n) ∙ live_place (spot n older) (live_named_parts f u n older e).0 in
-    let fails = none_passes (λ m. is_live (spot m older) && is_job_named f u (job m older)) (made older) n searched there in
+    let searched : find (λ m. is_live (job_state m older) && is_job_named f u (job m older)) (made older) ≡ None =
+    ap (λ t. cond t (find (λ m. is_live (job_state m older) && is_job_named f u (job m older)) (made older)) None) (sym joining) ∙ none in
+    let there : is_made n older ≡ true = sym (places k older h n) ∙ live_place (job_state n older) (live_named_parts f u n older e).0 in
+    let fails = none_passes (λ m. is_live (job_state m older) && is_job_named f u (job m older)) (made older) n searched there in
     let bad : ⊥ = cc in bad
 
 -- a job that keeps its liveness: whoever is live and named after the move was before
-moved_live : (f u : List ℕ) (n m : ℕ) (older : List Note) (new : Spot) (t : Bool) → (n == m) ≡ t → is_live (spot m older) ≡ true → (is_live (unwrap_or (cond t (Some new) None) (spot n older)) && is_job_named f u (job n older)) ≡ true → is_live_named f u n older ≡ true
+moved_live : (f u : List ℕ) (n m : ℕ) (older : List Note) (new : JobState) (t : Bool) → (n == m) ≡ t → is_live (job_state m older) ≡ true → (is_live (unwrap_or (cond t (Some new) None) (job_state n older)) && is_job_named f u (job n older)) ≡ true → is_live_named f u n older ≡ true
 moved_live f u n m older new true is lived e =
     let same : m ≡ n = sym (is_same n m is) in
-    and_from (is_live (spot n older)) (is_job_named f u (job n older)) (subst (λ x. is_live (spot x older) ≡ true) same lived) (and_parts (is_live new) (is_job_named f u (job n older)) e).1
+    and_from (is_live (job_state n older)) (is_job_named f u (job n older)) (subst (λ x. is_live (job_state x older) ≡ true) same lived) (and_parts (is_live new) (is_job_named f u (job n older)) e).1
 moved_live f u n m older new false is lived e = e
 
-waiting_live : (s : Spot) → is_waiting s ≡ true → is_live s ≡ true
+waiting_live : (s : JobState) → is_waiting s ≡ true → is_live s ≡ true
 waiting_live s e = or_left (is_waiting s) (is_running s) e
 
-running_live : (s : Spot) → is_running s ≡ true → is_live s ≡ true
+running_live : (s : JobState) → is_running s ≡ true → is_live s ≡ true
 running_live s e = or_right (is_waiting s) (is_running s) e
 
 -- a new job is live under its own function and id
@@ -113,7 +116,7 @@ new_named f u g v e =
     let p = and_parts (bytes_eq g f) (bytes_eq v u) e in
     ((bytes_eq-Decides g f).0 p.0, (bytes_eq-Decides v u).0 p.1)
 
-made_named : (f u : List ℕ) (n m : ℕ) (new : Job) (older : List Note) (t : Bool) → (is_live (unwrap_or (cond t (Some Waits) None) (spot n older)) && is_job_named f u (unwrap_or (cond t (Some (Some new)) None) (job n older))) ≡ true → (t ≡ true → is_job_named f u (Some new) ≡ true) × (t ≡ false → is_live_named f u n older ≡ true)
+made_named : (f u : List ℕ) (n m : ℕ) (new : Job) (older : List Note) (t : Bool) → (is_live (unwrap_or (cond t (Some states.Waiting) None) (job_state n older)) && is_job_named f u (unwrap_or (cond t (Some (Some new)) None) (job n older))) ≡ true → (t ≡ true → is_job_named f u (Some new) ≡ true) × (t ≡ false → is_live_named f u n older ≡ true)
 made_named f u n m new older true e = ((λ h. (and_parts true (is_job_named f u (Some new)) e).1), (λ h. absurd cc))
 made_named f u n m new older false e = ((λ h. absurd cc), (λ h. e))
 
@@ -138,16 +141,16 @@ one_live k (Made m g pr v body ∷ older) h f u a b joining p q =
     two_made k f u a b m new older (a == m) (b == m) h.1 refl refl joining h.0.1 (one_live k older h.1 f u a b joining)
     (made_named f u a m new older (a == m) p) (made_named f u b m new older (b == m) q)
 one_live k (Returned m ∷ older) h f u a b joining p q =
-    let lived = running_live (spot m older) h.0.0 in
-    one_live k older h.1 f u a b joining (moved_live f u a m older Waits (a == m) refl lived p) (moved_live f u b m older Waits (b == m) refl lived q)
+    let lived = running_live (job_state m older) h.0.0 in
+    one_live k older h.1 f u a b joining (moved_live f u a m older states.Waiting (a == m) refl lived p) (moved_live f u b m older states.Waiting (b == m) refl lived q)
 one_live k (Assigned m c late ∷ older) h f u a b joining p q =
-    let lived = waiting_live (spot m older) h.0.0 in
-    one_live k older h.1 f u a b joining (moved_live f u a m older (RunsAt c) (a == m) refl lived p) (moved_live f u b m older (RunsAt c) (b == m) refl lived q)
+    let lived = waiting_live (job_state m older) h.0.0 in
+    one_live k older h.1 f u a b joining (moved_live f u a m older (states.Running c) (a == m) refl lived p) (moved_live f u b m older (states.Running c) (b == m) refl lived q)
 one_live k (Ended m ∷ older) h f u a b joining p q =
-    let lived = running_live (spot m older) h.0 in
-    one_live k older h.1 f u a b joining (moved_live f u a m older Over (a == m) refl lived p) (moved_live f u b m older Over (b == m) refl lived q)
+    let lived = running_live (job_state m older) h.0 in
+    one_live k older h.1 f u a b joining (moved_live f u a m older states.Ended (a == m) refl lived p) (moved_live f u b m older states.Ended (b == m) refl lived q)
 one_live k (Discarded m ∷ older) h f u a b joining p q =
-    one_live k older h.1 f u a b joining (moved_live f u a m older Thrown (a == m) refl h.0.0 p) (moved_live f u b m older Thrown (b == m) refl h.0.0 q)
+    one_live k older h.1 f u a b joining (moved_live f u a m older states.Discarded (a == m) refl h.0.0 p) (moved_live f u b m older states.Discarded (b == m) refl h.0.0 q)
 one_live k (note ∷ older) h f u a b joining p q = one_live k older h.1 f u a b joining p q
 
 -- ---- who is gone stays so
@@ -161,48 +164,48 @@ below_next : (k : Settings) (ns : List ℕ) (n : ℕ) → AreNumbers k ns → li
 below_next k [] n h e = absurd cc
 below_next k (m ∷ ns) n h e = below_head k ns m n (m == n) refl h.0 (below_next k ns n h.2) e
 
-gone_place : (s : Spot) → is_gone s ≡ true → has_place s ≡ true
-gone_place Over e = refl
-gone_place Thrown e = refl
-gone_place Unmade e = absurd cc
-gone_place Waits e = absurd cc
-gone_place (RunsAt c) e = absurd cc
+gone_place : (s : JobState) → is_gone s ≡ true → has_place s ≡ true
+gone_place states.Ended e = refl
+gone_place states.Discarded e = refl
+gone_place states.Unmade e = absurd cc
+gone_place states.Waiting e = absurd cc
+gone_place (states.Running c) e = absurd cc
 
-gone_dead : (s : Spot) → is_gone s ≡ true → is_live s ≡ true → ⊥
-gone_dead Over e h = let bad : ⊥ = cc in bad
-gone_dead Thrown e h = let bad : ⊥ = cc in bad
-gone_dead Unmade e h = let bad : ⊥ = cc in bad
-gone_dead Waits e h = let bad : ⊥ = cc in bad
-gone_dead (RunsAt c) e h = let bad : ⊥ = cc in bad
+gone_dead : (s : JobState) → is_gone s ≡ true → is_live s ≡ true → ⊥
+gone_dead states.Ended e h = let bad : ⊥ = cc in bad
+gone_dead states.Discarded e h = let bad : ⊥ = cc in bad
+gone_dead states.Unmade e h = let bad : ⊥ = cc in bad
+gone_dead states.Waiting e h = let bad : ⊥ = cc in bad
+gone_dead (states.Running c) e h = let bad : ⊥ = cc in bad
 
 -- a note that moves a live job m leaves a job that is gone
-gone_moved : (n m : ℕ) (older : List Note) (new : Spot) (t : Bool) → (n == m) ≡ t → is_gone (spot n older) ≡ true → is_live (spot m older) ≡ true → unwrap_or (cond t (Some new) None) (spot n older) ≡ spot n older
+gone_moved : (n m : ℕ) (older : List Note) (new : JobState) (t : Bool) → (n == m) ≡ t → is_gone (job_state n older) ≡ true → is_live (job_state m older) ≡ true → unwrap_or (cond t (Some new) None) (job_state n older) ≡ job_state n older
 gone_moved n m older new true is gone live =
     let same : m ≡ n = sym (is_same n m is) in
-    absurd (gone_dead (spot n older) gone (subst (λ x. is_live (spot x older) ≡ true) same live))
+    absurd (gone_dead (job_state n older) gone (subst (λ x. is_live (job_state x older) ≡ true) same live))
 gone_moved n m older new false is gone live = refl
 
-gone_made : (k : Settings) (n m : ℕ) (older : List Note) (t : Bool) → (n == m) ≡ t → History k older → next_number k older ≡ Some m → is_gone (spot n older) ≡ true → unwrap_or (cond t (Some Waits) None) (spot n older) ≡ spot n older
+gone_made : (k : Settings) (n m : ℕ) (older : List Note) (t : Bool) → (n == m) ≡ t → History k older → next_number k older ≡ Some m → is_gone (job_state n older) ≡ true → unwrap_or (cond t (Some states.Waiting) None) (job_state n older) ≡ job_state n older
 gone_made k n m older true is h next gone =
     let same = is_same n m is in
     let number = (numbers k (Made m [] Normal [] [] ∷ older) ((next, refl), h)).0 in
-    let lt = below_next k (made older) n (numbers k older h) (sym (places k older h n) ∙ gone_place (spot n older) gone) in
+    let lt = below_next k (made older) n (numbers k older h) (sym (places k older h n) ∙ gone_place (job_state n older) gone) in
     absurd (omega arith)
 gone_made k n m older false is h next gone = refl
 
-gone_stays : (k : Settings) (note : Note) (older : List Note) (n : ℕ) → Allowed k note older → History k older → is_gone (spot n older) ≡ true → spot n (note ∷ older) ≡ spot n older
+gone_stays : (k : Settings) (note : Note) (older : List Note) (n : ℕ) → Allowed k note older → History k older → is_gone (job_state n older) ≡ true → job_state n (note ∷ older) ≡ job_state n older
 gone_stays k (Made m f p u body) older n h past gone = gone_made k n m older (n == m) refl past h.0 gone
-gone_stays k (Returned m) older n h past gone = gone_moved n m older Waits (n == m) refl gone (running_live (spot m older) h.0)
-gone_stays k (Assigned m c late) older n h past gone = gone_moved n m older (RunsAt c) (n == m) refl gone (waiting_live (spot m older) h.0)
-gone_stays k (Ended m) older n h past gone = gone_moved n m older Over (n == m) refl gone (running_live (spot m older) h)
-gone_stays k (Discarded m) older n h past gone = gone_moved n m older Thrown (n == m) refl gone h.0
+gone_stays k (Returned m) older n h past gone = gone_moved n m older states.Waiting (n == m) refl gone (running_live (job_state m older) h.0)
+gone_stays k (Assigned m c late) older n h past gone = gone_moved n m older (states.Running c) (n == m) refl gone (waiting_live (job_state m older) h.0)
+gone_stays k (Ended m) older n h past gone = gone_moved n m older states.Ended (n == m) refl gone (running_live (job_state m older) h)
+gone_stays k (Discarded m) older n h past gone = gone_moved n m older states.Discarded (n == m) refl gone h.0
 gone_stays k note older n h past gone = refl
 
-gone_step : (k : Settings) (s : Step) (steps : List Step) (n : ℕ) → is_gone (spot n (run k steps).notes) ≡ true → spot n (run k (s ∷ steps)).notes ≡ spot n (run k steps).notes
+gone_step : (k : Settings) (s : Step) (steps : List Step) (n : ℕ) → is_gone (job_state n (run k steps).notes) ≡ true → job_state n (run k (s ∷ steps)).notes ≡ job_state n (run k steps).notes
 gone_step k s steps n gone =
     let start = run k steps in
     (step_keeps start s
-    (keeps_notes (λ l. spot n l ≡ spot n start.notes) (λ note older allowed caused h e. gone_stays k note older n allowed h (ap is_gone e ∙ gone) ∙ e))
+    (keeps_notes (λ l. job_state n l ≡ job_state n start.notes) (λ note older allowed caused h e. gone_stays k note older n allowed h (ap is_gone e ∙ gone) ∙ e))
     (λ c e h u. u) (run_history k steps, refl)).1
 
 pub stay_gone : StayGone

@@ -7,6 +7,7 @@ mod Listeners
 mod Moving
 mod NumberLaws
 mod Orphans
+pub mod Phases
 mod PutOff
 mod Runners
 mod Sayings

@@ -1,5 +1,6 @@
 -- Jobs that a note moves, and lists of exceptions.
-use Rattle.std.proofs.Common.{◌≡◌, ◌⊎◌, inl, inr, ℕ, zero, suc, ◌+◌, ◌<◌, ◌≤◌, Bool, true, false, cond, ◌&&◌, ◌||◌, List, [], ◌∷◌, reverse, Some, None, refl, sym, ap, ◌∙◌, arith}
+use Rattle.std.proofs.Common.{◌≡◌, ◌⊎◌, inl, inr, ℕ, zero, suc, ◌+◌, ◌<◌, ◌≤◌, Bool, true, false, cond, ◌&&◌, ◌||◌, List, []}
+use Rattle.std.proofs.Common.{◌∷◌, reverse, Some, None, refl, sym, ap, ◌∙◌, arith}
 use Rattle.std.specs.Prelude.{◌==◌, unwrap_or}
 use Rattle.std.specs.List.{list_any}
 use Rattle.std.proofs.lemmas.List.{reverse-append}
@@ -9,8 +10,9 @@ use Rattle.gm_notes.specs.declared.note.Note.{Note}
 use Rattle.gm_notes.specs.declared.note.Note.TheVariants.{Woken}
 use Rattle.gm_notes.specs.Settings.{Settings}
 use Rattle.gm_notes.specs.Notes.{is_open, phase, is_asleep, slots_from}
-use Rattle.gm_notes.specs.Jobs.{Spot, spot, is_able, made}
-use Rattle.gm_notes.specs.Past.{Past, noted, wake_one, wake_each}
+use Rattle.gm_notes.specs.Jobs.{job_state, is_able, made}
+use Rattle.gm_notes.specs.JobStates.{JobState}
+use Rattle.gm_notes.specs.Past.{Past, with_note, wake_one, wake_each}
 use Rattle.gm_notes.specs.Closings.{rising}
 use Rattle.gm_notes.specs.Steps.{Step, Close}
 use Rattle.gm_laws.specs.History.{History}
@@ -20,7 +22,7 @@ use Rattle.gm_laws.proofs.JobLaws.{is_same, places}
 use Rattle.gm_laws.proofs.Keeping.{kept_if}
 
 -- a job that a note moves to new: it is at new, or where it was
-pub moved : (n m : ℕ) (new old target : Spot) (t : Bool) → (n == m) ≡ t → unwrap_or (cond t (Some new) None) old ≡ target → ((n ≡ m) × (new ≡ target)) ⊎ (((n == m) ≡ false) × (old ≡ target))
+pub moved : (n m : ℕ) (new old target : JobState) (t : Bool) → (n == m) ≡ t → unwrap_or (cond t (Some new) None) old ≡ target → ((n ≡ m) × (new ≡ target)) ⊎ (((n == m) ≡ false) × (old ≡ target))
 moved n m new old target true is e = inl (is_same n m is, e)
 moved n m new old target false is e = inr (is, e)
 
@@ -58,7 +60,7 @@ any_reverse test (m ∷ ms) =
     ∙ (list_any-append test (reverse ms) (m ∷ []) ∙ (swapped (list_any test (reverse ms)) (test m) ∙ ap (λ t. test m || t) (any_reverse test ms)))
 
 -- a job that has a place was made
-pub placed_rises : (k : Settings) (past : Past) (n : ℕ) → History k past.notes → has_place (spot n past.notes) ≡ true → In n (rising past)
+pub placed_rises : (k : Settings) (past : Past) (n : ℕ) → History k past.notes → has_place (job_state n past.notes) ≡ true → In n (rising past)
 placed_rises k past n h placed =
     in_any n (rising past) (any_reverse (λ m. m == n) (made past.notes) ∙ (sym (places k past.notes h n) ∙ placed))
 
@@ -78,7 +80,7 @@ pub wake_each_notes : (P : List Note → Type 0) → ((c : ℕ) (older : List No
 wake_each_notes P more f [] past p = p
 wake_each_notes P more f (c ∷ slots) past p =
     wake_each_notes P more f slots (wake_one f c past)
-    (kept_if P (is_open c past.notes && is_asleep (phase c past.notes) && is_able c f past.notes) (noted (Woken c) past) past (more c past.notes p) p)
+    (kept_if P (is_open c past.notes && is_asleep (phase c past.notes) && is_able c f past.notes) (with_note (Woken c) past) past (more c past.notes p) p)
 
 -- ---- steps apart
 

@@ -1,21 +1,25 @@
 -- Between steps, each waiting job is wanted.
-use Rattle.std.proofs.Common.{◌≡◌, ◌⊎◌, inl, inr, ℕ, suc, Bool, true, false, cond, not, ◌&&◌, ◌||◌, List, [], ◌∷◌, ◌++◌, length, Option, Some, None, refl, sym, ap, subst, ◌∙◌, arith}
+use Rattle.std.proofs.Common.{◌≡◌, ◌⊎◌, inl, inr, ℕ, suc, Bool, true, false, cond, not, ◌&&◌, ◌||◌, List, [], ◌∷◌, ◌++◌}
+use Rattle.std.proofs.Common.{length, Option, Some, None, refl, sym, ap, subst, ◌∙◌, arith}
 use Rattle.std.specs.Prelude.{◌==◌, unwrap_or, codes}
 use Rattle.std.proofs.lemmas.Bool.Decides.{nat_tests}
 use Rattle.gm_packet.specs.declared.kind.Kind.{Kind}
-use Rattle.gm_packet.specs.declared.kind.Kind.TheVariants.{SubmitJob, SubmitJobBg, SubmitJobHigh, SubmitJobHighBg, SubmitJobLow, SubmitJobLowBg}
+use Rattle.gm_packet.specs.declared.kind.Kind.TheVariants.{SubmitJob, SubmitJobBg, SubmitJobHigh, SubmitJobHighBg}
+use Rattle.gm_packet.specs.declared.kind.Kind.TheVariants.{SubmitJobLow, SubmitJobLowBg}
 use Rattle.gm_packet.specs.Kinds.{kind_of}
 use Rattle.gm_notes.specs.declared.states.Priority.TheVariants.{High, Normal, Low}
 use Rattle.gm_notes.specs.declared.note.Note.{Note}
 use Rattle.gm_notes.specs.declared.note.Note.TheVariants as notes
 use Rattle.gm_notes.specs.Settings.{Settings}
 use Rattle.gm_notes.specs.Notes.{phase, is_asleep, slots_from}
-use Rattle.gm_notes.specs.Jobs.{Waits, RunsAt, Over, Thrown, Job, spot, job, is_waiting, is_running_at, is_wanted, is_kept, listeners, is_mentioned, joined, next_number}
-use Rattle.gm_notes.specs.Past.{Past, noted, refuse, mentioned}
-use Rattle.gm_notes.specs.Submissions.{Submission, is_bad_name, is_one_too_many, is_full, wanted, make, join_or_make, submit}
-use Rattle.gm_notes.specs.Workers.{stir}
+use Rattle.gm_notes.specs.Jobs.{Job, job_state, job, is_wanted, is_kept, listeners, is_mentioned, joined, next_number}
+use Rattle.gm_notes.specs.JobStates.{is_waiting, is_running_at}
+use Rattle.gm_notes.specs.JobStates as states
+use Rattle.gm_notes.specs.Past.{Past, with_note, refuse, with_mention}
+use Rattle.gm_notes.specs.Submissions.{Submission, is_bad_name, is_one_too_many, is_full, keep_or_listen, make, join_or_make, submit}
+use Rattle.gm_notes.specs.Workers.{wake_itself}
 use Rattle.gm_notes.specs.Requests.{packet_of, submission, request}
-use Rattle.gm_notes.specs.Closings.{discard_one, discard_each, wake_for, give_back_one, give_back_each, gone, rising, close}
+use Rattle.gm_notes.specs.Closings.{discard_one, discard_each, wake_for, give_back_one, give_back_each, disconnect, rising, close}
 use Rattle.gm_notes.specs.Steps.{Step, Packet, Close, refusal, step, run}
 use Rattle.gm_laws.specs.History.{Allowed, History}
 use Rattle.gm_laws.specs.Causes.{Caused, is_closing, is_submission, is_request, is_one_of}
@@ -27,7 +31,7 @@ use Rattle.gm_laws.proofs.StepsKeep.{step_keeps, taken_or_not, packet_of_kinds, 
 
 -- each waiting job is wanted, but for these
 abbrev WantedSo : (ℕ → Type 0) → List Note → Type 0
-WantedSo but l = (n : ℕ) → spot n l ≡ Waits → (is_wanted n l ≡ true) ⊎ but n
+WantedSo but l = (n : ℕ) → job_state n l ≡ states.Waiting → (is_wanted n l ≡ true) ⊎ but n
 
 abbrev None_ : ℕ → Type 0
 None_ n = ⊥
@@ -58,10 +62,10 @@ wanted_more but k (notes.Made m f p u body) older closes makes allowed w n e = a
 wanted_more but k (notes.Kept m) older closes makes allowed w n e = from (w n e) (λ h. inl (kept_still (n == m) (is_kept n older) (not (length (listeners n older) == 0)) h)) inr
 wanted_more but k (notes.Listens m c) older closes makes allowed w n e = from (w n e) (λ h. inl (heard_still (n == m) (is_kept n older) (listeners n older) c h)) inr
 wanted_more but k (notes.Returned m) older closes makes allowed w n e =
-    from (moved n m Waits (spot n older) Waits (n == m) refl e) (λ h. inl (subst (λ x. is_wanted x older ≡ true) (sym h.0) allowed.1)) (λ h. w n h.1)
-wanted_more but k (notes.Assigned m c late) older closes makes allowed w n e = from (moved n m (RunsAt c) (spot n older) Waits (n == m) refl e) (λ h. absurd (let x = h.1 in cc)) (λ h. w n h.1)
-wanted_more but k (notes.Ended m) older closes makes allowed w n e = from (moved n m Over (spot n older) Waits (n == m) refl e) (λ h. absurd (let x = h.1 in cc)) (λ h. w n h.1)
-wanted_more but k (notes.Discarded m) older closes makes allowed w n e = from (moved n m Thrown (spot n older) Waits (n == m) refl e) (λ h. absurd (let x = h.1 in cc)) (λ h. w n h.1)
+    from (moved n m states.Waiting (job_state n older) states.Waiting (n == m) refl e) (λ h. inl (subst (λ x. is_wanted x older ≡ true) (sym h.0) allowed.1)) (λ h. w n h.1)
+wanted_more but k (notes.Assigned m c late) older closes makes allowed w n e = from (moved n m (states.Running c) (job_state n older) states.Waiting (n == m) refl e) (λ h. absurd (let x = h.1 in cc)) (λ h. w n h.1)
+wanted_more but k (notes.Ended m) older closes makes allowed w n e = from (moved n m states.Ended (job_state n older) states.Waiting (n == m) refl e) (λ h. absurd (let x = h.1 in cc)) (λ h. w n h.1)
+wanted_more but k (notes.Discarded m) older closes makes allowed w n e = from (moved n m states.Discarded (job_state n older) states.Waiting (n == m) refl e) (λ h. absurd (let x = h.1 in cc)) (λ h. w n h.1)
 wanted_more but k note older closes makes allowed w n e = w n e
 
 -- ---- a submission
@@ -69,7 +73,7 @@ wanted_more but k note older closes makes allowed w n e = w n e
 -- a new job is the only one that may be unwanted
 made_wanted : (m : ℕ) (f : List ℕ) (p : _) (u body : List ℕ) (older : List Note) → WantedSo None_ older → WantedSo (λ n. n ≡ m) (notes.Made m f p u body ∷ older)
 made_wanted m f p u body older w n e =
-    from (moved n m Waits (spot n older) Waits (n == m) refl e) (λ h. inr h.0)
+    from (moved n m states.Waiting (job_state n older) states.Waiting (n == m) refl e) (λ h. inr h.0)
     (λ h. let other = h.0 in from (w n h.1) (λ x. inl (rw other x)) (λ x. absurd x))
 
 -- it is wanted once it is kept or heard
@@ -84,9 +88,9 @@ heard_wanted m c older w n e =
     (λ same. let is : (n == m) ≡ true = grind (arith, nat_tests) in inl (rw is (ap (λ x. is_kept n older || x) (one_more (listeners n older) c) ∙ or_true (is_kept n older))))
 
 module _ (k : Settings) (c : ℕ) (sub : Submission) where
-  joined_wanted : (n : ℕ) (past : Past) → WantedSo None_ past.notes → WantedSo None_ (wanted c sub n past).notes
+  joined_wanted : (n : ℕ) (past : Past) → WantedSo None_ past.notes → WantedSo None_ (keep_or_listen c sub n past).notes
   joined_wanted n past w =
-      kept_if (λ l. WantedSo None_ l) sub.background (noted (notes.Kept n) past) (noted (notes.Listens n c) past)
+      kept_if (λ l. WantedSo None_ l) sub.background (with_note (notes.Kept n) past) (with_note (notes.Listens n c) past)
       (λ m e. from (w m e) (λ h. inl (kept_still (m == n) (is_kept m past.notes) (not (length (listeners m past.notes) == 0)) h)) inr)
       (λ m e. from (w m e) (λ h. inl (heard_still (m == n) (is_kept m past.notes) (listeners m past.notes) c h)) inr)
 
@@ -94,11 +98,11 @@ module _ (k : Settings) (c : ℕ) (sub : Submission) where
   make_wanted None past w = w
   make_wanted (Some n) past w =
       let f = sub.function in
-      let two = noted (notes.Made n f sub.priority sub.unique sub.body) (mentioned f past) in
-      let w_one : WantedSo None_ (mentioned f past).notes = kept_if (λ l. WantedSo None_ l) (is_mentioned f past.notes) past (noted (notes.Mention f) past) w w in
-      let w_two = made_wanted n f sub.priority sub.unique sub.body (mentioned f past).notes w_one in
+      let two = with_note (notes.Made n f sub.priority sub.unique sub.body) (with_mention f past) in
+      let w_one : WantedSo None_ (with_mention f past).notes = kept_if (λ l. WantedSo None_ l) (is_mentioned f past.notes) past (with_note (notes.Mention f) past) w w in
+      let w_two = made_wanted n f sub.priority sub.unique sub.body (with_mention f past).notes w_one in
       wake_each_notes (λ l. WantedSo None_ l) (λ d older p. p) f (slots_from 0 k.slots) _
-      (kept_if (λ l. WantedSo None_ l) sub.background (noted (notes.Kept n) two) (noted (notes.Listens n c) two) (kept_wanted n two.notes w_two) (heard_wanted n c two.notes w_two))
+      (kept_if (λ l. WantedSo None_ l) sub.background (with_note (notes.Kept n) two) (with_note (notes.Listens n c) two) (kept_wanted n two.notes w_two) (heard_wanted n c two.notes w_two))
 
   joins_wanted : (o : Option ℕ) (past : Past) → WantedSo None_ past.notes → WantedSo None_ (join_or_make k c sub o past).notes
   joins_wanted (Some n) past w = joined_wanted n past w
@@ -111,20 +115,20 @@ module _ (k : Settings) (c : ℕ) (sub : Submission) where
 
 -- ---- a closing
 
-discard_here : (n : ℕ) (jobs : List ℕ) (past : Past) (t : Bool) → (is_waiting (spot n past.notes) && not (is_wanted n past.notes)) ≡ t → WantedSo (λ m. In m (n ∷ jobs)) past.notes → WantedSo (λ m. In m jobs) (cond t (noted (notes.Discarded n) past) past).notes
+discard_here : (n : ℕ) (jobs : List ℕ) (past : Past) (t : Bool) → (is_waiting (job_state n past.notes) && not (is_wanted n past.notes)) ≡ t → WantedSo (λ m. In m (n ∷ jobs)) past.notes → WantedSo (λ m. In m jobs) (cond t (with_note (notes.Discarded n) past) past).notes
 discard_here n jobs past true is w m e =
-    from (moved m n Thrown (spot m past.notes) Waits (m == n) refl e) (λ h. absurd (let x = h.1 in cc))
+    from (moved m n states.Discarded (job_state m past.notes) states.Waiting (m == n) refl e) (λ h. absurd (let x = h.1 in cc))
     (λ h. from (w m h.1) inl (λ x. from x (λ same. absurd (not_both m n same h.0)) inr))
 discard_here n jobs past false is w m e =
-    from (w m e) inl (λ x. from x (λ same. inl (wanted_here (is_wanted m past.notes) (subst (λ y. (is_waiting (spot y past.notes) && not (is_wanted y past.notes)) ≡ false) (sym same) is) e)) inr)
+    from (w m e) inl (λ x. from x (λ same. inl (wanted_here (is_wanted m past.notes) (subst (λ y. (is_waiting (job_state y past.notes) && not (is_wanted y past.notes)) ≡ false) (sym same) is) e)) inr)
   where
-    wanted_here : (t : Bool) → (is_waiting (spot m past.notes) && not t) ≡ false → spot m past.notes ≡ Waits → t ≡ true
+    wanted_here : (t : Bool) → (is_waiting (job_state m past.notes) && not t) ≡ false → job_state m past.notes ≡ states.Waiting → t ≡ true
     wanted_here true f g = refl
-    wanted_here false f g = let at : (is_waiting Waits && not false) ≡ false = subst (λ p. (is_waiting p && not false) ≡ false) g f in let bad : ⊥ = cc in absurd bad
+    wanted_here false f g = let at : (is_waiting states.Waiting && not false) ≡ false = subst (λ p. (is_waiting p && not false) ≡ false) g f in let bad : ⊥ = cc in absurd bad
 
 discards_wanted : (jobs : List ℕ) (past : Past) → WantedSo (λ m. In m jobs) past.notes → WantedSo None_ (discard_each jobs past).notes
 discards_wanted [] past w = w
-discards_wanted (n ∷ jobs) past w = discards_wanted jobs (discard_one n past) (discard_here n jobs past (is_waiting (spot n past.notes) && not (is_wanted n past.notes)) refl w)
+discards_wanted (n ∷ jobs) past w = discards_wanted jobs (discard_one n past) (discard_here n jobs past (is_waiting (job_state n past.notes) && not (is_wanted n past.notes)) refl w)
 
 module _ (k : Settings) (c : ℕ) where
   wakes_for_wanted : (o : Option Job) (past : Past) → WantedSo None_ past.notes → WantedSo None_ (wake_for k o past).notes
@@ -132,24 +136,24 @@ module _ (k : Settings) (c : ℕ) where
   wakes_for_wanted (Some job) past w = wake_each_notes (λ l. WantedSo None_ l) (λ d older p. p) job.function (slots_from 0 k.slots) past w
 
   given_back_wanted : (t u : Bool) (n : ℕ) (past : Past) → is_wanted n past.notes ≡ u → WantedSo None_ past.notes
-      → WantedSo None_ (cond t (cond u (wake_for k (job n past.notes) (noted (notes.Returned n) past)) (noted (notes.Discarded n) past)) past).notes
+      → WantedSo None_ (cond t (cond u (wake_for k (job n past.notes) (with_note (notes.Returned n) past)) (with_note (notes.Discarded n) past)) past).notes
   given_back_wanted true true n past is w =
-      wakes_for_wanted (job n past.notes) (noted (notes.Returned n) past)
-      (λ m e. from (moved m n Waits (spot m past.notes) Waits (m == n) refl e) (λ h. inl (subst (λ x. is_wanted x past.notes ≡ true) (sym h.0) is)) (λ h. w m h.1))
-  given_back_wanted true false n past is w = λ m e. from (moved m n Thrown (spot m past.notes) Waits (m == n) refl e) (λ h. absurd (let x = h.1 in cc)) (λ h. w m h.1)
+      wakes_for_wanted (job n past.notes) (with_note (notes.Returned n) past)
+      (λ m e. from (moved m n states.Waiting (job_state m past.notes) states.Waiting (m == n) refl e) (λ h. inl (subst (λ x. is_wanted x past.notes ≡ true) (sym h.0) is)) (λ h. w m h.1))
+  given_back_wanted true false n past is w = λ m e. from (moved m n states.Discarded (job_state m past.notes) states.Waiting (m == n) refl e) (λ h. absurd (let x = h.1 in cc)) (λ h. w m h.1)
   given_back_wanted false u n past is w = w
 
   gives_back_wanted : (jobs : List ℕ) (past : Past) → WantedSo None_ past.notes → WantedSo None_ (give_back_each k c jobs past).notes
   gives_back_wanted [] past w = w
   gives_back_wanted (n ∷ jobs) past w =
-      gives_back_wanted jobs (give_back_one k c n past) (given_back_wanted (is_running_at c (spot n past.notes)) (is_wanted n past.notes) n past refl w)
+      gives_back_wanted jobs (give_back_one k c n past) (given_back_wanted (is_running_at c (job_state n past.notes)) (is_wanted n past.notes) n past refl w)
 
   close_wanted : (past : Past) → History k past.notes → WantedSo None_ (close k c past).notes
   close_wanted past h =
-      let rises : (n : ℕ) → spot n (stir c past).notes ≡ Waits → In n (rising past) =
-      kept_if (λ l. (n : ℕ) → spot n l ≡ Waits → In n (rising past)) (is_asleep (phase c past.notes)) (noted (notes.Stirred c) past) past
+      let rises : (n : ℕ) → job_state n (wake_itself c past).notes ≡ states.Waiting → In n (rising past) =
+      kept_if (λ l. (n : ℕ) → job_state n l ≡ states.Waiting → In n (rising past)) (is_asleep (phase c past.notes)) (with_note (notes.Stirred c) past) past
       (λ n e. placed_rises k past n h (ap has_place e)) (λ n e. placed_rises k past n h (ap has_place e)) in
-      gives_back_wanted (rising past) (discard_each (rising past) (gone c past)) (discards_wanted (rising past) (gone c past) (λ n e. inr (rises n e)))
+      gives_back_wanted (rising past) (discard_each (rising past) (disconnect c past)) (discards_wanted (rising past) (disconnect c past) (λ n e. inr (rises n e)))
 
 -- ---- steps
 

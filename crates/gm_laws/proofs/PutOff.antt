@@ -1,5 +1,6 @@
 -- The taking of a NOOP is put off.
-use Rattle.std.proofs.Common.{◌≡◌, ℕ, Bool, true, false, cond, not, ◌&&◌, List, [], ◌∷◌, ◌++◌, Option, Some, None, refl, sym, ap, subst, ◌∙◌, arith}
+use Rattle.std.proofs.Common.{◌≡◌, ℕ, Bool, true, false, cond, not, ◌&&◌, List, [], ◌∷◌, ◌++◌, Option, Some, None, refl, sym}
+use Rattle.std.proofs.Common.{ap, subst, ◌∙◌, arith}
 use Rattle.std.specs.Prelude.{◌==◌, unwrap_or}
 use Rattle.std.specs.List.{list_all}
 use Rattle.std.proofs.lemmas.Bool.{and_parts}
@@ -13,9 +14,9 @@ use Rattle.gm_notes.specs.declared.note.Note.{Note}
 use Rattle.gm_notes.specs.declared.note.Note.TheVariants as notes
 use Rattle.gm_notes.specs.Settings.{Settings}
 use Rattle.gm_notes.specs.Notes.{is_open, phase, is_asleep, is_owed}
-use Rattle.gm_notes.specs.Past.{Past, noted}
+use Rattle.gm_notes.specs.Past.{Past, with_note}
 use Rattle.gm_notes.specs.Flow.{waiting}
-use Rattle.gm_notes.specs.Servers.{place_of}
+use Rattle.gm_notes.specs.JobStates.{place_of}
 use Rattle.gm_notes.specs.Steps.{Step, Packet, Took, Withdrew, refusal, if_owed, unless, step, run}
 use Rattle.gm_laws.specs.History.{Allowed, History}
 use Rattle.gm_laws.specs.Causes.{Caused, asks, is_one_of, is_sleeping}
@@ -89,7 +90,7 @@ taken_at : (c d : ℕ) (l : List Note) (t : Bool) → (d == c) ≡ t → phase c
 taken_at c d l true is e = ap (λ x. is_asleep (phase x l)) (same_slot d c is) ∙ ap is_asleep e
 taken_at c d l false is e = refl
 
-apart_at_first : (c : ℕ) (past : Past) → IsAt c Owed past.notes → Apart c past (noted (notes.Took c) past)
+apart_at_first : (c : ℕ) (past : Past) → IsAt c Owed past.notes → Apart c past (with_note (notes.Took c) past)
 apart_at_first c past p = record {
   alike = alike_untaken c past.notes (λ d. taken_at c d past.notes (d == c) refl p.1);
   owed = p;
@@ -139,8 +140,8 @@ owed_at c l e = let p = owed_taken (is_open c l) (is_owed (phase c l)) e in (p.0
 can_be_taken : (c : ℕ) (l : List Note) → IsAt c Owed l → if_owed c l ≡ None
 can_be_taken c l p = simp (p.0, p.1)
 
-took_run : (k : Settings) (c : ℕ) (steps : List Step) → refusal k (Took c) (run k steps) ≡ None → run k (Took c ∷ steps) ≡ noted (notes.Took c) (run k steps)
-took_run k c steps e = ap (λ o. unless o (noted (notes.Took c) (run k steps)) (run k steps)) e
+took_run : (k : Settings) (c : ℕ) (steps : List Step) → refusal k (Took c) (run k steps) ≡ None → run k (Took c ∷ steps) ≡ with_note (notes.Took c) (run k steps)
+took_run k c steps e = ap (λ o. unless o (with_note (notes.Took c) (run k steps)) (run k steps)) e
 
 module _ (k : Settings) (c : ℕ) (before : List Step) (taken : refusal k (Took c) (run k before) ≡ None) where
   apart : (between : List Step) → list_all (lets_pass c) between ≡ true → Apart c (run k (between ++ before)) (run k (between ++ Took c ∷ before))
@@ -178,7 +179,7 @@ level_phase : (c d : ℕ) (late early : Past) (t : Bool) → (d == c) ≡ t → 
 level_phase c d late early true is p = sym (ap (λ x. phase x early.notes) (same_slot d c is) ∙ p.awake.1)
 level_phase c d late early false is p = p.others d is
 
-level_at_last : (c : ℕ) (late early : Past) → Apart c late early → Level (noted (notes.Took c) late) early
+level_at_last : (c : ℕ) (late early : Past) → Apart c late early → Level (with_note (notes.Took c) late) early
 level_at_last c late early p =
     let phases = λ (d : ℕ). level_phase c d late early (d == c) refl p in
     record { alike = alike_taken c late.notes early.notes p.alike (λ d. ap is_asleep (phases d)); phases = phases; flows = p.flows }

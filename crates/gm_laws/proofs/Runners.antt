@@ -1,15 +1,18 @@
 -- Between steps, the slot where a job runs is open.
-use Rattle.std.proofs.Common.{◌≡◌, ◌⊎◌, inl, inr, ℕ, Bool, true, false, cond, not, ◌&&◌, List, [], ◌∷◌, Option, Some, None, refl, sym, ap, subst, arith}
+use Rattle.std.proofs.Common.{◌≡◌, ◌⊎◌, inl, inr, ℕ, Bool, true, false, cond, not, ◌&&◌, List, [], ◌∷◌, Option, Some, None}
+use Rattle.std.proofs.Common.{refl, sym, ap, subst, arith}
 use Rattle.std.specs.Prelude.{◌==◌, unwrap_or}
 use Rattle.std.proofs.lemmas.Bool.Decides.{nat_tests}
 use Rattle.gm_notes.specs.declared.note.Note.{Note}
 use Rattle.gm_notes.specs.declared.note.Note.TheVariants as notes
 use Rattle.gm_notes.specs.Settings.{Settings}
 use Rattle.gm_notes.specs.Notes.{is_open, phase, is_asleep, slots_from}
-use Rattle.gm_notes.specs.Jobs.{Spot, Waits, RunsAt, Over, Thrown, Job, spot, job, is_waiting, is_running_at, is_wanted}
-use Rattle.gm_notes.specs.Past.{Past, noted}
-use Rattle.gm_notes.specs.Workers.{stir}
-use Rattle.gm_notes.specs.Closings.{discard_one, discard_each, wake_for, give_back_one, give_back_each, gone, rising, close}
+use Rattle.gm_notes.specs.Jobs.{Job, job_state, job, is_wanted}
+use Rattle.gm_notes.specs.JobStates.{JobState, is_waiting, is_running_at}
+use Rattle.gm_notes.specs.JobStates as states
+use Rattle.gm_notes.specs.Past.{Past, with_note}
+use Rattle.gm_notes.specs.Workers.{wake_itself}
+use Rattle.gm_notes.specs.Closings.{discard_one, discard_each, wake_for, give_back_one, give_back_each, disconnect, rising, close}
 use Rattle.gm_notes.specs.Steps.{Step, Close, refusal, step, run}
 use Rattle.gm_laws.specs.History.{Allowed, History}
 use Rattle.gm_laws.specs.Causes.{Caused, is_closing}
@@ -22,7 +25,7 @@ use Rattle.gm_laws.proofs.StepsKeep.{step_keeps, taken_or_not, run_history}
 
 -- who runs a job is open, but for these
 abbrev RunsSo : (ℕ → ℕ → Type 0) → List Note → Type 0
-RunsSo but l = (n c : ℕ) → spot n l ≡ RunsAt c → (is_open c l ≡ true) ⊎ but n c
+RunsSo but l = (n c : ℕ) → job_state n l ≡ states.Running c → (is_open c l ≡ true) ⊎ but n c
 
 abbrev Nobody : ℕ → ℕ → Type 0
 Nobody n c = ⊥
@@ -31,12 +34,12 @@ Nobody n c = ⊥
 runs_more : (but : ℕ → ℕ → Type 0) (k : Settings) (note : Note) (older : List Note) → ((c : ℕ) → note ≡ notes.Closed c → ⊥) → Allowed k note older → RunsSo but older → RunsSo but (note ∷ older)
 runs_more but k (notes.Opened d addr) older other allowed r n c e = from (r n c e) (λ o. inl (opens c (is_open c older) (c == d) o)) inr
 runs_more but k (notes.Closed d) older other allowed r n c e = absurd (other d refl)
-runs_more but k (notes.Made m f p u body) older other allowed r n c e = from (moved n m Waits (spot n older) (RunsAt c) (n == m) refl e) (λ h. absurd (let x = h.1 in cc)) (λ h. r n c h.1)
-runs_more but k (notes.Returned m) older other allowed r n c e = from (moved n m Waits (spot n older) (RunsAt c) (n == m) refl e) (λ h. absurd (let x = h.1 in cc)) (λ h. r n c h.1)
-runs_more but k (notes.Ended m) older other allowed r n c e = from (moved n m Over (spot n older) (RunsAt c) (n == m) refl e) (λ h. absurd (let x = h.1 in cc)) (λ h. r n c h.1)
-runs_more but k (notes.Discarded m) older other allowed r n c e = from (moved n m Thrown (spot n older) (RunsAt c) (n == m) refl e) (λ h. absurd (let x = h.1 in cc)) (λ h. r n c h.1)
+runs_more but k (notes.Made m f p u body) older other allowed r n c e = from (moved n m states.Waiting (job_state n older) (states.Running c) (n == m) refl e) (λ h. absurd (let x = h.1 in cc)) (λ h. r n c h.1)
+runs_more but k (notes.Returned m) older other allowed r n c e = from (moved n m states.Waiting (job_state n older) (states.Running c) (n == m) refl e) (λ h. absurd (let x = h.1 in cc)) (λ h. r n c h.1)
+runs_more but k (notes.Ended m) older other allowed r n c e = from (moved n m states.Ended (job_state n older) (states.Running c) (n == m) refl e) (λ h. absurd (let x = h.1 in cc)) (λ h. r n c h.1)
+runs_more but k (notes.Discarded m) older other allowed r n c e = from (moved n m states.Discarded (job_state n older) (states.Running c) (n == m) refl e) (λ h. absurd (let x = h.1 in cc)) (λ h. r n c h.1)
 runs_more but k (notes.Assigned m d late) older other allowed r n c e =
-    from (moved n m (RunsAt d) (spot n older) (RunsAt c) (n == m) refl e)
+    from (moved n m (states.Running d) (job_state n older) (states.Running c) (n == m) refl e)
     (λ h. let there : d ≡ c = let x = h.1 in cc in inl (subst (λ x. is_open x older ≡ true) there allowed.1))
     (λ h. r n c h.1)
 runs_more but k note older other allowed r n c e = r n c e
@@ -52,13 +55,13 @@ abbrev OfSlot : ℕ → List ℕ → ℕ → ℕ → Type 0
 OfSlot c jobs n d = (d ≡ c) × In n jobs
 
 -- job n is at slot c no more, once a note moves it elsewhere
-left_slot : (c n : ℕ) (jobs : List ℕ) (l : List Note) (new : Spot) → ((d : ℕ) → new ≡ RunsAt d → ⊥) → RunsSo (OfSlot c (n ∷ jobs)) l
-    → (m d : ℕ) → unwrap_or (cond (m == n) (Some new) None) (spot m l) ≡ RunsAt d → (is_open d l ≡ true) ⊎ OfSlot c jobs m d
+left_slot : (c n : ℕ) (jobs : List ℕ) (l : List Note) (new : JobState) → ((d : ℕ) → new ≡ states.Running d → ⊥) → RunsSo (OfSlot c (n ∷ jobs)) l
+    → (m d : ℕ) → unwrap_or (cond (m == n) (Some new) None) (job_state m l) ≡ states.Running d → (is_open d l ≡ true) ⊎ OfSlot c jobs m d
 left_slot c n jobs l new other r m d e =
-    from (moved m n new (spot m l) (RunsAt d) (m == n) refl e) (λ h. absurd (other d h.1))
+    from (moved m n new (job_state m l) (states.Running d) (m == n) refl e) (λ h. absurd (other d h.1))
     (λ h. from (r m d h.1) inl (λ x. from x.1 (λ same. absurd (not_both m n same h.0)) (λ there. inr (x.0, there))))
 
-not_there : (c d n : ℕ) (l : List Note) → is_running_at c (spot n l) ≡ false → spot n l ≡ RunsAt d → d ≡ c → ⊥
+not_there : (c d n : ℕ) (l : List Note) → is_running_at c (job_state n l) ≡ false → job_state n l ≡ states.Running d → d ≡ c → ⊥
 not_there c d n l other e same =
     let at : (c == d) ≡ false = subst (λ p. is_running_at c p ≡ false) e other in
     not_both c d (sym same) at
@@ -68,36 +71,36 @@ module _ (k : Settings) (c : ℕ) where
   wakes_for_runs but None past r = r
   wakes_for_runs but (Some job) past r = wake_each_notes (λ l. RunsSo but l) (λ d older p. p) job.function (slots_from 0 k.slots) past r
 
-  given_back_runs : (t w : Bool) (n : ℕ) (jobs : List ℕ) (past : Past) → is_running_at c (spot n past.notes) ≡ t → RunsSo (OfSlot c (n ∷ jobs)) past.notes
-      → RunsSo (OfSlot c jobs) (cond t (cond w (wake_for k (job n past.notes) (noted (notes.Returned n) past)) (noted (notes.Discarded n) past)) past).notes
+  given_back_runs : (t w : Bool) (n : ℕ) (jobs : List ℕ) (past : Past) → is_running_at c (job_state n past.notes) ≡ t → RunsSo (OfSlot c (n ∷ jobs)) past.notes
+      → RunsSo (OfSlot c jobs) (cond t (cond w (wake_for k (job n past.notes) (with_note (notes.Returned n) past)) (with_note (notes.Discarded n) past)) past).notes
   given_back_runs true true n jobs past is r m d e =
-      wakes_for_runs (OfSlot c jobs) (job n past.notes) (noted (notes.Returned n) past) (left_slot c n jobs past.notes Waits (λ x y. absurd cc) r) m d e
-  given_back_runs true false n jobs past is r m d e = left_slot c n jobs past.notes Thrown (λ x y. absurd cc) r m d e
+      wakes_for_runs (OfSlot c jobs) (job n past.notes) (with_note (notes.Returned n) past) (left_slot c n jobs past.notes states.Waiting (λ x y. absurd cc) r) m d e
+  given_back_runs true false n jobs past is r m d e = left_slot c n jobs past.notes states.Discarded (λ x y. absurd cc) r m d e
   given_back_runs false w n jobs past is r m d e =
-      from (r m d e) inl (λ x. from x.1 (λ same. absurd (not_there c d n past.notes is (subst (λ y. spot y past.notes ≡ RunsAt d) same e) x.0)) (λ there. inr (x.0, there)))
+      from (r m d e) inl (λ x. from x.1 (λ same. absurd (not_there c d n past.notes is (subst (λ y. job_state y past.notes ≡ states.Running d) same e) x.0)) (λ there. inr (x.0, there)))
 
   given_back_each_runs : (jobs : List ℕ) (past : Past) → RunsSo (OfSlot c jobs) past.notes → RunsSo Nobody (give_back_each k c jobs past).notes
   given_back_each_runs [] past r m d e = from (r m d e) inl (λ x. absurd x.1)
   given_back_each_runs (n ∷ jobs) past r m d e =
-      given_back_each_runs jobs (give_back_one k c n past) (given_back_runs (is_running_at c (spot n past.notes)) (is_wanted n past.notes) n jobs past refl r) m d e
+      given_back_each_runs jobs (give_back_one k c n past) (given_back_runs (is_running_at c (job_state n past.notes)) (is_wanted n past.notes) n jobs past refl r) m d e
 
   discarded_runs : (but : ℕ → ℕ → Type 0) (jobs : List ℕ) (past : Past) → RunsSo but past.notes → RunsSo but (discard_each jobs past).notes
   discarded_runs but [] past r = r
   discarded_runs but (n ∷ jobs) past r =
       discarded_runs but jobs (discard_one n past)
-      (kept_if (λ l. RunsSo but l) (is_waiting (spot n past.notes) && not (is_wanted n past.notes)) (noted (notes.Discarded n) past) past
-      (λ m d e. from (moved m n Thrown (spot m past.notes) (RunsAt d) (m == n) refl e) (λ h. absurd (let x = h.1 in cc)) (λ h. r m d h.1)) r)
+      (kept_if (λ l. RunsSo but l) (is_waiting (job_state n past.notes) && not (is_wanted n past.notes)) (with_note (notes.Discarded n) past) past
+      (λ m d e. from (moved m n states.Discarded (job_state m past.notes) (states.Running d) (m == n) refl e) (λ h. absurd (let x = h.1 in cc)) (λ h. r m d h.1)) r)
 
   close_runs : (past : Past) → History k past.notes → RunsSo Nobody past.notes → RunsSo Nobody (close k c past).notes
   close_runs past h r =
-      let stirred : RunsSo Nobody (stir c past).notes = kept_if (λ l. RunsSo Nobody l) (is_asleep (phase c past.notes)) (noted (notes.Stirred c) past) past r r in
-      let rises : (n d : ℕ) → spot n (stir c past).notes ≡ RunsAt d → In n (rising past) =
-      kept_if (λ l. (n d : ℕ) → spot n l ≡ RunsAt d → In n (rising past)) (is_asleep (phase c past.notes)) (noted (notes.Stirred c) past) past
+      let stirred : RunsSo Nobody (wake_itself c past).notes = kept_if (λ l. RunsSo Nobody l) (is_asleep (phase c past.notes)) (with_note (notes.Stirred c) past) past r r in
+      let rises : (n d : ℕ) → job_state n (wake_itself c past).notes ≡ states.Running d → In n (rising past) =
+      kept_if (λ l. (n d : ℕ) → job_state n l ≡ states.Running d → In n (rising past)) (is_asleep (phase c past.notes)) (with_note (notes.Stirred c) past) past
       (λ n d e. placed_rises k past n h (ap has_place e)) (λ n d e. placed_rises k past n h (ap has_place e)) in
-      given_back_each_runs (rising past) (discard_each (rising past) (gone c past))
-      (discarded_runs (OfSlot c (rising past)) (rising past) (gone c past)
+      given_back_each_runs (rising past) (discard_each (rising past) (disconnect c past))
+      (discarded_runs (OfSlot c (rising past)) (rising past) (disconnect c past)
       (λ n d e. from (stirred n d e)
-      (λ o. from (closed_at d c (is_open d (stir c past).notes) (d == c) refl o) inl (λ same. inr (same, rises n d e)))
+      (λ o. from (closed_at d c (is_open d (wake_itself c past).notes) (d == c) refl o) inl (λ same. inr (same, rises n d e)))
       (λ x. absurd x)))
 
 -- ---- steps

@@ -1,13 +1,17 @@
 -- What isn't NO_JOB.
-use Rattle.std.proofs.Common.{◌≡◌, ◌≢◌, ℕ, zero, suc, ◌+◌, ◌/◌, ◌%◌, Bool, true, false, cond, ◌||◌, List, [], ◌∷◌, ◌++◌, get_or, refl, sym, ap, subst, arith}
+use Rattle.std.proofs.Common.{◌≡◌, ◌≢◌, ℕ, zero, suc, ◌+◌, ◌/◌, ◌%◌, Bool, true, false, cond, ◌||◌, List, [], ◌∷◌, ◌++◌}
+use Rattle.std.proofs.Common.{get_or, refl, sym, ap, subst, arith}
 use Rattle.std.specs.Prelude.{◌==◌, nat_le, nat_lt, codes, decimal}
 use Rattle.std.specs.List.{flat_map}
 use Rattle.std.proofs.lemmas.Bool.Decides.{nat_tests}
 use Rattle.gm_packet.specs.Packets.{packet}
-use Rattle.gm_packet.specs.Writing.{answer_packet, no_job, job_created, error, work_fail, work_status, work_complete, work_data, work_warning, work_exception, status_res, echo_res, option_res}
-use Rattle.gm_admin.specs.Answers.{StatusLine, WorkerLine, shown, shown_byte, shown_or_dash, worker_line, status_text, workers_text, ok_text, version_text, error_text, dot}
+use Rattle.gm_packet.specs.Answers.{answer_packet, no_job, job_created, error, work_fail, work_status, work_complete}
+use Rattle.gm_packet.specs.Answers.{work_data, work_warning, work_exception, status_res, echo_res, option_res}
+use Rattle.gm_admin.specs.Answers.{StatusLine, WorkerLine, shown, shown_byte, shown_or_dash, worker_line, status_text}
+use Rattle.gm_admin.specs.Answers.{workers_text, ok_text, version_text, error_text, dot}
 use Rattle.gm_admin.specs.declared.fault.AdminError.{AdminError}
-use Rattle.gm_admin.specs.declared.fault.AdminError.TheVariants.{UnknownCommand, MissingName, BadSize, BadFunction, TooManyFunctions, LineTooLong}
+use Rattle.gm_admin.specs.declared.fault.AdminError.TheVariants.{UnknownCommand, MissingName, BadSize, BadFunction}
+use Rattle.gm_admin.specs.declared.fault.AdminError.TheVariants.{TooManyFunctions, LineTooLong}
 use Rattle.gm_notes.specs.declared.event.UnitFault.{UnitFault}
 use Rattle.gm_notes.specs.declared.event.UnitFault.TheVariants as faults
 use Rattle.gm_notes.specs.Settings.{Settings}

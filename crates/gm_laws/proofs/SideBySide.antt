@@ -1,12 +1,18 @@
 -- Two pasts side by side: a step adds the same to both, if what it asks of both is answered alike.
-use Rattle.std.proofs.Common.{◌≡◌, ℕ, Bool, true, false, cond, List, [], ◌∷◌, ◌++◌, Option, Some, None, Result, Ok, Err, refl, sym, ap, subst, ◌∙◌, max, reverse}
+use Rattle.std.proofs.Common.{◌≡◌, ℕ, Bool, true, false, cond, List, [], ◌∷◌, ◌++◌, Option, Some, None, Result, Ok, Err, refl}
+use Rattle.std.proofs.Common.{sym, ap, subst, ◌∙◌, max, reverse}
 use Rattle.std.specs.Prelude.{codes, unwrap_or}
 use Rattle.std.specs.Str.{bytes_eq}
 use Rattle.gm_packet.specs.declared.kind.Kind.{Kind}
-use Rattle.gm_packet.specs.declared.kind.Kind.TheVariants.{CanDo, CantDo, ResetAbilities, PreSleep, SubmitJob, GrabJob, WorkStatus, WorkComplete, WorkFail, GetStatus, EchoReq, SubmitJobBg, SubmitJobHigh, SetClientId, CanDoTimeout, AllYours, WorkException, OptionReq, WorkData, WorkWarning, GrabJobUniq, SubmitJobHighBg, SubmitJobLow, SubmitJobLowBg}
+use Rattle.gm_packet.specs.declared.kind.Kind.TheVariants.{CanDo, CantDo, ResetAbilities, PreSleep, SubmitJob, GrabJob}
+use Rattle.gm_packet.specs.declared.kind.Kind.TheVariants.{WorkStatus, WorkComplete, WorkFail, GetStatus, EchoReq, SubmitJobBg}
+use Rattle.gm_packet.specs.declared.kind.Kind.TheVariants.{SubmitJobHigh, SetClientId, CanDoTimeout, AllYours, WorkException}
+use Rattle.gm_packet.specs.declared.kind.Kind.TheVariants.{OptionReq, WorkData, WorkWarning, GrabJobUniq, SubmitJobHighBg}
+use Rattle.gm_packet.specs.declared.kind.Kind.TheVariants.{SubmitJobLow, SubmitJobLowBg}
 use Rattle.gm_packet.specs.Kinds.{kind_of}
 use Rattle.gm_packet.specs.Requests.{Asked, read_as}
-use Rattle.gm_packet.specs.Writing.{Answer, status_res, echo_res, option_res, work_status, work_complete, work_fail, work_data, work_warning, work_exception, job_created, no_job}
+use Rattle.gm_packet.specs.Answers.{Answer, status_res, echo_res, option_res, work_status, work_complete, work_fail, work_data}
+use Rattle.gm_packet.specs.Answers.{work_warning, work_exception, job_created, no_job}
 use Rattle.gm_admin.specs.declared.fault.AdminFault.{AdminFault}
 use Rattle.gm_admin.specs.Commands.{Asked as Commanded, Status, Workers, MaxQueue, Version, Shutdown, command_of}
 use Rattle.gm_admin.specs.Answers.{status_text, workers_text}
@@ -19,18 +25,25 @@ use Rattle.gm_notes.specs.declared.note.Note.TheVariants as notes
 use Rattle.gm_notes.specs.Settings.{Settings}
 use Rattle.gm_notes.specs.Notes.{phase, says_phase, is_awake, moment, mode, slots_from}
 use Rattle.gm_notes.specs.Flow.{Flow, Began, Queued, Drained, Emptied}
-use Rattle.gm_notes.specs.Jobs.{Job, Pick, spot, job, is_live, is_running, is_running_at, listeners, report, pick, joined, next_number, handle, handled}
-use Rattle.gm_notes.specs.Past.{Past, noted, flowed, print, give, mentioned, tell_all, wake_one, wake_each, wake}
+use Rattle.gm_notes.specs.Jobs.{Job, job_state, job, listeners, report, pick, joined, next_number, handle, job_of_handle}
+use Rattle.gm_notes.specs.declared.states.Pick.{Pick}
+use Rattle.gm_notes.specs.JobStates.{is_live, is_running, is_running_at}
+use Rattle.gm_notes.specs.Past.{Past, with_note, with_flow, with_output, give, with_mention, tell_all, wake_one, wake_each, wake}
 use Rattle.gm_notes.specs.Texts.{fault_text}
-use Rattle.gm_notes.specs.Submissions.{Submission, is_bad_name, wanted, make, join_or_make, submit}
-use Rattle.gm_notes.specs.Workers.{woken_if, can_do, cant_do, sleep_beside, pre_sleep, stir, deadline_after, assignment, tell_assigned, give_out, grab, Work, report_kept, ended_if, hearers, tell_work, work_on, work}
-use Rattle.gm_notes.specs.Requests.{first, second, third, submission, passing, ending, tell_status, set_option, request, request_if_read, packet_of}
-use Rattle.gm_notes.specs.Lines.{is_bad_word, maxqueue, shut_each, went_graceful, shutdown, command}
-use Rattle.gm_notes.specs.Closings.{discard_each, wake_for, give_back_one, give_back_each, gone, rising, close, expire_each, tick}
-use Rattle.gm_notes.specs.Steps.{Step, Open, Packet, Line, Fault, Close, Tick, Took, Withdrew, Drain, free_slot, opening, add, refusal, unless_not_open, if_owed, unless, step, done, given_slot}
+use Rattle.gm_notes.specs.Submissions.{Submission, is_bad_name, keep_or_listen, make, join_or_make, submit}
+use Rattle.gm_notes.specs.Workers.{wake_if, can_do, cant_do, sleep_beside, pre_sleep, wake_itself, deadline_after, assignment}
+use Rattle.gm_notes.specs.Workers.{tell_assigned, give_out, grab, Work, keep_report, end_if, hearers, tell_work, work_on, work}
+use Rattle.gm_notes.specs.Requests.{first, second, third, submission, passing, ending, tell_status, set_option, request}
+use Rattle.gm_notes.specs.Requests.{request_if_read, packet_of}
+use Rattle.gm_notes.specs.Lines.{is_bad_word, maxqueue, shut_each, go_graceful, shutdown, command}
+use Rattle.gm_notes.specs.Closings.{discard_each, wake_for, give_back_one, give_back_each, disconnect, rising, close, expire_each, tick}
+use Rattle.gm_notes.specs.Steps.{Step, Open, Packet, Line, Fault, Close, Tick, Took, Withdrew, Drain, free_slot, opening, add}
+use Rattle.gm_notes.specs.Steps.{refusal, unless_not_open, if_owed, unless, step, done, given_slot}
 use Rattle.gm_laws.specs.Causes.{is_one_of, is_sleeping}
 use Rattle.gm_laws.specs.Laws.{GoesAlike}
-use Rattle.gm_laws.proofs.Alike.{Alike, alike_on, units_alike, wanted_alike, mentioned_alike, many_alike, unwanted_alike, waked_alike, hearers_alike, expired_alike, full_alike, joined_alike, next_alike, handled_alike, enabled_alike, pick_alike, statuses_alike, workers_alike, free_alike}
+use Rattle.gm_laws.proofs.Alike.{Alike, alike_on, units_alike, wanted_alike, mentioned_alike, many_alike, unwanted_alike}
+use Rattle.gm_laws.proofs.Alike.{waked_alike, hearers_alike, expired_alike, full_alike, joined_alike, next_alike}
+use Rattle.gm_laws.proofs.Alike.{handled_alike, enabled_alike, pick_alike, statuses_alike, workers_alike, free_alike}
 use Rattle.gm_laws.proofs.StepsKeep.{kind_read}
 
 -- these notes and this flow were added to the past
@@ -55,11 +68,11 @@ module _ (a b : Past) (base : Alike a.notes b.notes) where
 
   -- ---- small changes
 
-  note_both : (note : Note) {p q : Past} → Same a b p q → Same a b (noted note p) (noted note q)
-  note_both note s = record { notes = note ∷ s.notes; flow = s.flow; left = ap (noted note) s.left; right = ap (noted note) s.right }
+  note_both : (note : Note) {p q : Past} → Same a b p q → Same a b (with_note note p) (with_note note q)
+  note_both note s = record { notes = note ∷ s.notes; flow = s.flow; left = ap (with_note note) s.left; right = ap (with_note note) s.right }
 
-  flow_both : (what : Flow) {p q : Past} → Same a b p q → Same a b (flowed what p) (flowed what q)
-  flow_both what s = record { notes = s.notes; flow = what ∷ s.flow; left = ap (flowed what) s.left; right = ap (flowed what) s.right }
+  flow_both : (what : Flow) {p q : Past} → Same a b p q → Same a b (with_flow what p) (with_flow what q)
+  flow_both what s = record { notes = s.notes; flow = what ∷ s.flow; left = ap (with_flow what) s.left; right = ap (with_flow what) s.right }
 
   give_both : (c : ℕ) (answer : Answer) {p q : Past} → Same a b p q → Same a b (give c answer p) (give c answer q)
   give_both c answer s = flow_both _ s
@@ -78,7 +91,7 @@ module _ (a b : Past) (base : Alike a.notes b.notes) where
   tell_both answer [] s = s
   tell_both answer (c ∷ slots) s = tell_both answer slots (give_both c answer s)
 
-  mention_both : (f : List ℕ) {p q : Past} → Same a b p q → Same a b (mentioned f p) (mentioned f q)
+  mention_both : (f : List ℕ) {p q : Past} → Same a b p q → Same a b (with_mention f p) (with_mention f q)
   mention_both f s = if_both (mentioned_alike (seen s) f) s (note_both (notes.Mention f) s)
 
   wake_one_both : (f : List ℕ) (c : ℕ) {p q : Past} → Same a b p q → Same a b (wake_one f c p) (wake_one f c q)
@@ -94,7 +107,7 @@ module _ (a b : Past) (base : Alike a.notes b.notes) where
   -- ---- submissions
 
   module _ (k : Settings) (c : ℕ) (sub : Submission) where
-    wanted_both : (n : ℕ) {p q : Past} → Same a b p q → Same a b (wanted c sub n p) (wanted c sub n q)
+    wanted_both : (n : ℕ) {p q : Past} → Same a b p q → Same a b (keep_or_listen c sub n p) (keep_or_listen c sub n q)
     wanted_both n s = if_both {t = sub.background} refl (note_both (notes.Kept n) s) (note_both (notes.Listens n c) s)
 
     make_both : (o : Option ℕ) {p q : Past} → Same a b p q → Same a b (make k c sub o p) (make k c sub o q)
@@ -119,7 +132,7 @@ module _ (a b : Past) (base : Alike a.notes b.notes) where
 
   -- ---- workers
 
-  woken_both : (c : ℕ) {t u : Bool} {p q : Past} → t ≡ u → Same a b p q → Same a b (woken_if t c p) (woken_if u c q)
+  woken_both : (c : ℕ) {t u : Bool} {p q : Past} → t ≡ u → Same a b p q → Same a b (wake_if t c p) (wake_if u c q)
   woken_both c {t = true} {u = true} e s = note_both (notes.Woken c) s
   woken_both c {t = true} {u = false} e s = absurd cc
   woken_both c {t = false} {u = true} e s = absurd cc
@@ -138,14 +151,14 @@ module _ (a b : Past) (base : Alike a.notes b.notes) where
   sleep_beside_both None c s = s
   sleep_beside_both (Some found) c s = note_both (notes.Woken c) s
 
-  pre_sleep_both : (c : ℕ) {p q : Past} → phase c p.notes ≡ phase c q.notes → Same a b p q → Same a b (pre_sleep c p) (pre_sleep c q)
-  pre_sleep_both c {p = p} {q = q} e s =
+  pre_sleep_both : (k : Settings) (c : ℕ) {p q : Past} → phase c p.notes ≡ phase c q.notes → Same a b p q → Same a b (pre_sleep k c p) (pre_sleep k c q)
+  pre_sleep_both k c {p = p} {q = q} e s =
       if_both (ap is_awake e)
-      (at_both (λ o past. sleep_beside o c past) (noted (notes.Slept c) p) (noted (notes.Slept c) q) (pick_alike (seen s) c)
-      (sleep_beside_both (pick c p.notes) c (note_both (notes.Slept c) s)))
+      (at_both (λ o past. sleep_beside o c past) (with_note (notes.Slept c) p) (with_note (notes.Slept c) q) (pick_alike (seen s) k c)
+      (sleep_beside_both (pick k c p.notes) c (note_both (notes.Slept c) s)))
       s
 
-  stir_both : (c : ℕ) {p q : Past} → Same a b p q → Same a b (stir c p) (stir c q)
+  stir_both : (c : ℕ) {p q : Past} → Same a b p q → Same a b (wake_itself c p) (wake_itself c q)
   stir_both c s = if_both ((seen s).asleep c) (note_both (notes.Stirred c) s) s
 
   assigned_both : (k : Settings) (c : ℕ) (uniq : Bool) (n : ℕ) (o : Option Job) {p q : Past} → Same a b p q → Same a b (tell_assigned k c uniq n o p) (tell_assigned k c uniq n o q)
@@ -157,27 +170,27 @@ module _ (a b : Past) (base : Alike a.notes b.notes) where
   give_out_both k c uniq (Some found) {p = p} {q = q} s =
       let n = found.job in
       let late = λ (past : Past). deadline_after (moment past.notes) found.timeout in
-      let one = at_both (λ late past. noted (notes.Assigned n c late) past) p q (ap (λ m. deadline_after m found.timeout) (seen s).now) (note_both (notes.Assigned n c (late p)) s) in
-      at_both (tell_assigned k c uniq n) (noted (notes.Assigned n c (late p)) p) (noted (notes.Assigned n c (late q)) q) ((seen s).what n)
+      let one = at_both (λ late past. with_note (notes.Assigned n c late) past) p q (ap (λ m. deadline_after m found.timeout) (seen s).now) (note_both (notes.Assigned n c (late p)) s) in
+      at_both (tell_assigned k c uniq n) (with_note (notes.Assigned n c (late p)) p) (with_note (notes.Assigned n c (late q)) q) ((seen s).what n)
       (assigned_both k c uniq n (job n p.notes) one)
 
   grab_both : (k : Settings) (c : ℕ) (uniq : Bool) {p q : Past} → Same a b p q → Same a b (grab k c uniq p) (grab k c uniq q)
-  grab_both k c uniq {p = p} {q = q} s = at_both (give_out k c uniq) (stir c p) (stir c q) (pick_alike (seen s) c) (give_out_both k c uniq (pick c p.notes) (stir_both c s))
+  grab_both k c uniq {p = p} {q = q} s = at_both (give_out k c uniq) (wake_itself c p) (wake_itself c q) (pick_alike (seen s) k c) (give_out_both k c uniq (pick k c p.notes) (stir_both c s))
 
   -- ---- work
 
-  report_both : (n : ℕ) (o : Option (List ℕ × List ℕ)) {p q : Past} → Same a b p q → Same a b (report_kept n o p) (report_kept n o q)
+  report_both : (n : ℕ) (o : Option (List ℕ × List ℕ)) {p q : Past} → Same a b p q → Same a b (keep_report n o p) (keep_report n o q)
   report_both n None s = s
   report_both n (Some numbers) s = note_both (notes.Report n numbers.0 numbers.1) s
 
-  ended_both : (t : Bool) (n : ℕ) {p q : Past} → Same a b p q → Same a b (ended_if t n p) (ended_if t n q)
+  ended_both : (t : Bool) (n : ℕ) {p q : Past} → Same a b p q → Same a b (end_if t n p) (end_if t n q)
   ended_both true n s = note_both (notes.Ended n) s
   ended_both false n s = s
 
   tell_work_both : (w : Work) (n : ℕ) {p q : Past} → Same a b p q → Same a b (tell_work w n p) (tell_work w n q)
   tell_work_both w n {p = p} {q = q} s =
       ended_both w.ends n
-      (at_both (tell_all w.answer) (report_kept n w.report p) (report_kept n w.report q) (hearers_alike (seen s) w.exceptions_only n)
+      (at_both (tell_all w.answer) (keep_report n w.report p) (keep_report n w.report q) (hearers_alike (seen s) w.exceptions_only n)
       (tell_both w.answer (hearers w.exceptions_only (listeners n p.notes) p.notes) (report_both n w.report s)))
 
   work_on_both : (c : ℕ) (w : Work) (o : Option ℕ) {p q : Past} → Same a b p q → Same a b (work_on c w o p) (work_on c w o q)
@@ -185,7 +198,7 @@ module _ (a b : Past) (base : Alike a.notes b.notes) where
   work_on_both c w (Some n) s = if_both (ap (is_running_at c) ((seen s).place n)) (tell_work_both w n s) (flow_both _ s)
 
   work_both : (k : Settings) (c : ℕ) (text : List ℕ) (w : Work) {p q : Past} → Same a b p q → Same a b (work k c text w p) (work k c text w q)
-  work_both k c text w {p = p} {q = q} s = at_both (work_on c w) p q (handled_alike (seen s) k text) (work_on_both c w (handled k text p.notes) s)
+  work_both k c text w {p = p} {q = q} s = at_both (work_on c w) p q (handled_alike (seen s) k text) (work_on_both c w (job_of_handle k text p.notes) s)
 
   -- ---- requests
 
@@ -193,7 +206,7 @@ module _ (a b : Past) (base : Alike a.notes b.notes) where
   status_both k c text None s = flow_both _ s
   status_both k c text (Some n) {p = p} {q = q} s =
       let v = seen s in
-      let told = λ (past : Past). status_res text true (is_running (spot n past.notes)) (report n past.notes).0 (report n past.notes).1 in
+      let told = λ (past : Past). status_res text true (is_running (job_state n past.notes)) (report n past.notes).0 (report n past.notes).1 in
       if_both (ap is_live (v.place n)) (at_both (give c) p q {x = told p} {y = told q} (simp (v.place, v.progress)) (give_both c (told p) s)) (flow_both _ s)
 
   option_both : (c : ℕ) (name : List ℕ) {p q : Past} → Same a b p q → Same a b (set_option c name p) (set_option c name q)
@@ -205,7 +218,7 @@ module _ (a b : Past) (base : Alike a.notes b.notes) where
   request_both k c CanDoTimeout x timeout e s = can_do_both k c (first x) timeout s
   request_both k c CantDo x timeout e s = cant_do_both c (first x) s
   request_both k c ResetAbilities x timeout e s = note_both (notes.Reset c) s
-  request_both k c PreSleep x timeout e s = pre_sleep_both c (e refl) s
+  request_both k c PreSleep x timeout e s = pre_sleep_both k c (e refl) s
   request_both k c GrabJob x timeout e s = grab_both k c false s
   request_both k c GrabJobUniq x timeout e s = grab_both k c true s
   request_both k c SubmitJob x timeout e s = submit_both k c (submission Normal false x) s
@@ -220,7 +233,7 @@ module _ (a b : Past) (base : Alike a.notes b.notes) where
   request_both k c WorkException x timeout e s = work_both k c (first x) (record (passing (work_exception (first x) (second x))) { exceptions_only = true }) s
   request_both k c WorkComplete x timeout e s = work_both k c (first x) (ending (work_complete (first x) (second x))) s
   request_both k c WorkFail x timeout e s = work_both k c (first x) (ending (work_fail (first x))) s
-  request_both k c GetStatus x timeout {p = p} {q = q} e s = at_both (tell_status k c (first x)) p q (handled_alike (seen s) k (first x)) (status_both k c (first x) (handled k (first x) p.notes) s)
+  request_both k c GetStatus x timeout {p = p} {q = q} e s = at_both (tell_status k c (first x)) p q (handled_alike (seen s) k (first x)) (status_both k c (first x) (job_of_handle k (first x) p.notes) s)
   request_both k c EchoReq x timeout e s = give_both c (echo_res (first x)) s
   request_both k c SetClientId x timeout e s = note_both (notes.Named c (first x)) s
   request_both k c OptionReq x timeout e s = option_both c (first x) s
@@ -238,8 +251,8 @@ module _ (a b : Past) (base : Alike a.notes b.notes) where
 
   -- ---- lines
 
-  print_both : (c : ℕ) {x y : List ℕ} {p q : Past} → x ≡ y → Same a b p q → Same a b (print c x p) (print c y q)
-  print_both c {x = x} {p = p} {q = q} e s = at_both (print c) p q e (flow_both (Queued c x) s)
+  print_both : (c : ℕ) {x y : List ℕ} {p q : Past} → x ≡ y → Same a b p q → Same a b (with_output c x p) (with_output c y q)
+  print_both c {x = x} {p = p} {q = q} e s = at_both (with_output c) p q e (flow_both (Queued c x) s)
 
   maxqueue_both : (k : Settings) (c : ℕ) (f : List ℕ) (size : ℕ) {p q : Past} → Same a b p q → Same a b (maxqueue k c f size p) (maxqueue k c f size q)
   maxqueue_both k c f size s =
@@ -250,13 +263,13 @@ module _ (a b : Past) (base : Alike a.notes b.notes) where
   shut_each_both [] s = s
   shut_each_both (c ∷ slots) s = shut_each_both slots (if_both (units_alike (seen s) c) (note_both (notes.Shut c) s) s)
 
-  went_both : (m : Mode) {p q : Past} → Same a b p q → Same a b (went_graceful m p) (went_graceful m q)
+  went_both : (m : Mode) {p q : Past} → Same a b p q → Same a b (go_graceful m p) (go_graceful m q)
   went_both modes.Running s = note_both (notes.Went modes.Graceful) s
   went_both modes.Graceful s = s
   went_both modes.Stopped s = s
 
   shutdown_both : (k : Settings) (c : ℕ) (graceful : Bool) {p q : Past} → Same a b p q → Same a b (shutdown k c graceful p) (shutdown k c graceful q)
-  shutdown_both k c true {p = p} {q = q} s = flow_both _ (at_both went_graceful p q (seen s).mode_is (went_both (mode p.notes) s))
+  shutdown_both k c true {p = p} {q = q} s = flow_both _ (at_both go_graceful p q (seen s).mode_is (went_both (mode p.notes) s))
   shutdown_both k c false s = shut_each_both (slots_from 0 k.slots) (flow_both _ (note_both (notes.Went modes.Stopped) s))
 
   command_both : (k : Settings) (c : ℕ) (r : Result Commanded AdminFault) {p q : Past} → Same a b p q → Same a b (command k c r p) (command k c r q)
@@ -282,7 +295,7 @@ module _ (a b : Past) (base : Alike a.notes b.notes) where
       let v = seen s in
       if_both (ap (is_running_at c) (v.place n))
       (if_both (wanted_alike v n)
-      (at_both (wake_for k) (noted (notes.Returned n) p) (noted (notes.Returned n) q) (v.what n) (wake_for_both k (job n p.notes) (note_both (notes.Returned n) s)))
+      (at_both (wake_for k) (with_note (notes.Returned n) p) (with_note (notes.Returned n) q) (v.what n) (wake_for_both k (job n p.notes) (note_both (notes.Returned n) s)))
       (note_both (notes.Discarded n) s))
       s
 
@@ -293,8 +306,8 @@ module _ (a b : Past) (base : Alike a.notes b.notes) where
   close_both : (k : Settings) (c : ℕ) {p q : Past} → Same a b p q → Same a b (close k c p) (close k c q)
   close_both k c {p = p} {q = q} s =
       let jobs = ap reverse (seen s).numbers in
-      let left = at_both discard_each (gone c p) (gone c q) jobs (discard_each_both (rising p) (flow_both (Emptied c) (note_both (notes.Closed c) (stir_both c s)))) in
-      at_both (give_back_each k c) (discard_each (rising p) (gone c p)) (discard_each (rising q) (gone c q)) jobs (give_back_each_both k c (rising p) left)
+      let left = at_both discard_each (disconnect c p) (disconnect c q) jobs (discard_each_both (rising p) (flow_both (Emptied c) (note_both (notes.Closed c) (stir_both c s)))) in
+      at_both (give_back_each k c) (discard_each (rising p) (disconnect c p)) (discard_each (rising q) (disconnect c q)) jobs (give_back_each_both k c (rising p) left)
 
   expire_each_both : (k : Settings) (jobs : List ℕ) {p q : Past} → Same a b p q → Same a b (expire_each k jobs p) (expire_each k jobs q)
   expire_each_both k [] s = s
@@ -306,8 +319,8 @@ module _ (a b : Past) (base : Alike a.notes b.notes) where
 
   tick_both : (k : Settings) (now : ℕ) {p q : Past} → Same a b p q → Same a b (tick k now p) (tick k now q)
   tick_both k now {p = p} {q = q} s =
-      let at = λ (past : Past). noted (notes.Now (max now (moment past.notes))) past in
-      let one = at_both (λ m past. noted (notes.Now (max now m)) past) p q (seen s).now (note_both (notes.Now (max now (moment p.notes))) s) in
+      let at = λ (past : Past). with_note (notes.Now (max now (moment past.notes))) past in
+      let one = at_both (λ m past. with_note (notes.Now (max now m)) past) p q (seen s).now (note_both (notes.Now (max now (moment p.notes))) s) in
       at_both (expire_each k) (at p) (at q) (ap reverse (seen s).numbers) (expire_each_both k (rising p) one)
 
   -- ---- steps

@@ -1,5 +1,6 @@
 -- Between steps, nobody sleeps beside work.
-use Rattle.std.proofs.Common.{◌≡◌, ◌⊎◌, inl, inr, ℕ, ◌<◌, Bool, true, false, cond, not, ◌&&◌, ◌||◌, List, [], ◌∷◌, filter, Option, Some, None, refl, sym, ap, subst, ◌∙◌, arith}
+use Rattle.std.proofs.Common.{◌≡◌, ◌⊎◌, inl, inr, ℕ, ◌<◌, Bool, true, false, cond, not, ◌&&◌, ◌||◌, List, [], ◌∷◌, filter}
+use Rattle.std.proofs.Common.{Option, Some, None, refl, sym, ap, subst, ◌∙◌, arith}
 use Rattle.std.specs.Prelude.{◌==◌, unwrap_or, codes}
 use Rattle.std.specs.List.{list_any}
 use Rattle.std.specs.Str.{bytes_eq}
@@ -7,7 +8,8 @@ use Rattle.std.proofs.lemmas.Bool.{and_parts}
 use Rattle.std.proofs.lemmas.Bool.Decides.{nat_tests}
 use Rattle.std.proofs.lemmas.Slice.Eq.{bytes_eq-Decides}
 use Rattle.gm_packet.specs.declared.kind.Kind.{Kind}
-use Rattle.gm_packet.specs.declared.kind.Kind.TheVariants.{CanDo, PreSleep, SubmitJob, SubmitJobBg, SubmitJobHigh, CanDoTimeout, SubmitJobHighBg, SubmitJobLow, SubmitJobLowBg}
+use Rattle.gm_packet.specs.declared.kind.Kind.TheVariants.{CanDo, PreSleep, SubmitJob, SubmitJobBg, SubmitJobHigh}
+use Rattle.gm_packet.specs.declared.kind.Kind.TheVariants.{CanDoTimeout, SubmitJobHighBg, SubmitJobLow, SubmitJobLowBg}
 use Rattle.gm_packet.specs.Kinds.{kind_of}
 use Rattle.gm_notes.specs.declared.states.Priority.TheVariants.{High, Normal, Low}
 use Rattle.gm_notes.specs.declared.states.Phase.{Phase}
@@ -16,12 +18,16 @@ use Rattle.gm_notes.specs.declared.note.Note.{Note}
 use Rattle.gm_notes.specs.declared.note.Note.TheVariants as notes
 use Rattle.gm_notes.specs.Settings.{Settings}
 use Rattle.gm_notes.specs.Notes.{is_open, phase, is_asleep, is_awake, slots_from}
-use Rattle.gm_notes.specs.Jobs.{Spot, Waits, RunsAt, Over, Thrown, Job, Ability, Pick, spot, job, is_waiting, is_running_at, is_wanted, is_mentioned, is_able, is_of, is_empty, put, abilities, pick, waiting_for, joined, next_number}
-use Rattle.gm_notes.specs.Past.{Past, noted, refuse, mentioned, wake_one, wake_each, wake}
-use Rattle.gm_notes.specs.Submissions.{Submission, is_bad_name, is_one_too_many, is_full, wanted, make, join_or_make, submit}
-use Rattle.gm_notes.specs.Workers.{stir, woken_if, made_able, can_do, sleep_beside, pre_sleep}
+use Rattle.gm_notes.specs.Jobs.{Job, Ability, job_state, job, is_wanted, is_mentioned, is_able, is_of, is_empty, put}
+use Rattle.gm_notes.specs.Jobs.{abilities, pick, waiting_for, joined, next_number}
+use Rattle.gm_notes.specs.declared.states.Pick.{Pick}
+use Rattle.gm_notes.specs.JobStates.{JobState, is_waiting, is_running_at}
+use Rattle.gm_notes.specs.JobStates as states
+use Rattle.gm_notes.specs.Past.{Past, with_note, refuse, with_mention, wake_one, wake_each, wake}
+use Rattle.gm_notes.specs.Submissions.{Submission, is_bad_name, is_one_too_many, is_full, keep_or_listen, make, join_or_make, submit}
+use Rattle.gm_notes.specs.Workers.{wake_itself, wake_if, add_ability, can_do, sleep_beside, pre_sleep}
 use Rattle.gm_notes.specs.Requests.{packet_of, first, submission, request}
-use Rattle.gm_notes.specs.Closings.{discard_one, discard_each, wake_for, give_back_one, give_back_each, gone, rising, close}
+use Rattle.gm_notes.specs.Closings.{discard_one, discard_each, wake_for, give_back_one, give_back_each, disconnect, rising, close}
 use Rattle.gm_notes.specs.Steps.{Step, Packet, Close, refusal, step, run}
 use Rattle.gm_laws.specs.History.{History}
 use Rattle.gm_laws.specs.Causes.{Caused, is_closing, is_submission, is_enabling, is_sleeping, is_request, is_one_of, asks}
@@ -35,7 +41,7 @@ use Rattle.gm_laws.proofs.Waiting.{something_waits, no_pick}
 
 -- who sleeps can do none of the jobs that wait, but for these
 abbrev CalmBut : (ℕ → List ℕ → Type 0) → List Note → Type 0
-CalmBut but l = (c n : ℕ) (what : Job) → is_asleep (phase c l) ≡ true → spot n l ≡ Waits → job n l ≡ Some what → (is_able c what.function l ≡ false) ⊎ but c what.function
+CalmBut but l = (c n : ℕ) (what : Job) → is_asleep (phase c l) ≡ true → job_state n l ≡ states.Waiting → job n l ≡ Some what → (is_able c what.function l ≡ false) ⊎ but c what.function
 
 abbrev Never : ℕ → List ℕ → Type 0
 Never c f = ⊥
@@ -110,9 +116,9 @@ calm_more but (notes.Woken d) older quiet w c n what a s j = w c n what (awake_a
 calm_more but (notes.Stirred d) older quiet w c n what a s j = w c n what (awake_at c d Awake (phase c older) (c == d) refl refl a).1 s j
 calm_more but (notes.Took d) older quiet w c n what a s j = w c n what (awake_at c d Awake (phase c older) (c == d) refl refl a).1 s j
 calm_more but (notes.Withdrew d) older quiet w c n what a s j = w c n what (awake_at c d Awake (phase c older) (c == d) refl refl a).1 s j
-calm_more but (notes.Assigned m d late) older quiet w c n what a s j = from (moved n m (RunsAt d) (spot n older) Waits (n == m) refl s) (λ h. absurd (let x = h.1 in cc)) (λ h. w c n what a h.1 j)
-calm_more but (notes.Ended m) older quiet w c n what a s j = from (moved n m Over (spot n older) Waits (n == m) refl s) (λ h. absurd (let x = h.1 in cc)) (λ h. w c n what a h.1 j)
-calm_more but (notes.Discarded m) older quiet w c n what a s j = from (moved n m Thrown (spot n older) Waits (n == m) refl s) (λ h. absurd (let x = h.1 in cc)) (λ h. w c n what a h.1 j)
+calm_more but (notes.Assigned m d late) older quiet w c n what a s j = from (moved n m (states.Running d) (job_state n older) states.Waiting (n == m) refl s) (λ h. absurd (let x = h.1 in cc)) (λ h. w c n what a h.1 j)
+calm_more but (notes.Ended m) older quiet w c n what a s j = from (moved n m states.Ended (job_state n older) states.Waiting (n == m) refl s) (λ h. absurd (let x = h.1 in cc)) (λ h. w c n what a h.1 j)
+calm_more but (notes.Discarded m) older quiet w c n what a s j = from (moved n m states.Discarded (job_state n older) states.Waiting (n == m) refl s) (λ h. absurd (let x = h.1 in cc)) (λ h. w c n what a h.1 j)
 calm_more but note older quiet w c n what a s j = w c n what a s j
 
 -- who goes to sleep is the only one that may sleep beside work
@@ -140,27 +146,27 @@ can_calm : (d : ℕ) (f : List ℕ) (t : ℕ) (older : List Note) → CalmBut Ne
 can_calm d f t older w c n what a s j =
     from (w c n what a s j) (λ h. can_at c d f what.function t (abilities c older) (c == d) (bytes_eq f what.function) refl refl h) (λ x. absurd x)
 
-made_at : (n m : ℕ) (new what : Job) (old : Spot) (known : Option Job) (able t : Bool) → unwrap_or (cond t (Some Waits) None) old ≡ Waits → unwrap_or (cond t (Some (Some new)) None) known ≡ Some what
-    → (old ≡ Waits → known ≡ Some what → able ≡ false) → (able ≡ false) ⊎ (what.function ≡ new.function)
+made_at : (n m : ℕ) (new what : Job) (old : JobState) (known : Option Job) (able t : Bool) → unwrap_or (cond t (Some states.Waiting) None) old ≡ states.Waiting → unwrap_or (cond t (Some (Some new)) None) known ≡ Some what
+    → (old ≡ states.Waiting → known ≡ Some what → able ≡ false) → (able ≡ false) ⊎ (what.function ≡ new.function)
 made_at n m new what old known able true s j more = let same : new ≡ what = cc in inr (ap (λ (x : Job). x.function) (sym same))
 made_at n m new what old known able false s j more = inl (more s j)
 
 -- beside a new job who can do it may sleep
 made_calm : (m : ℕ) (f : List ℕ) (p : _) (u body : List ℕ) (older : List Note) → CalmBut Never older → CalmBut (λ c g. g ≡ f) (notes.Made m f p u body ∷ older)
 made_calm m f p u body older w c n what a s j =
-    made_at n m (record { function = f; priority = p; unique = u; body = body }) what (spot n older) (job n older) (is_able c what.function older) (n == m) s j
+    made_at n m (record { function = f; priority = p; unique = u; body = body }) what (job_state n older) (job n older) (is_able c what.function older) (n == m) s j
     (λ s' j'. from (w c n what a s' j') (λ h. h) (λ x. absurd x))
 
 -- beside a job that waits again who can do it may sleep
 returned_calm : (m : ℕ) (back : Job) (older : List Note) → job m older ≡ Some back → CalmBut Never older → CalmBut (λ c g. g ≡ back.function) (notes.Returned m ∷ older)
 returned_calm m back older is w c n what a s j =
-    from (moved n m Waits (spot n older) Waits (n == m) refl s)
+    from (moved n m states.Waiting (job_state n older) states.Waiting (n == m) refl s)
     (λ h. let there : job m older ≡ Some what = subst (λ x. job x older ≡ Some what) h.0 j in let same : back ≡ what = cc in inr (ap (λ (x : Job). x.function) (sym same)))
     (λ h. from (w c n what a h.1 j) inl (λ x. absurd x))
 
 unknown_calm : (m : ℕ) (older : List Note) → job m older ≡ None → CalmBut Never older → CalmBut Never (notes.Returned m ∷ older)
 unknown_calm m older is w c n what a s j =
-    from (moved n m Waits (spot n older) Waits (n == m) refl s)
+    from (moved n m states.Waiting (job_state n older) states.Waiting (n == m) refl s)
     (λ h. let there : job m older ≡ Some what = subst (λ x. job x older ≡ Some what) h.0 j in absurd cc)
     (λ h. w c n what a h.1 j)
 
@@ -177,7 +183,7 @@ abbrev Listed : List ℕ → List ℕ → ℕ → List ℕ → Type 0
 Listed f slots c g = (g ≡ f) × In c slots
 
 woken_here : (k : Settings) (f : List ℕ) (d : ℕ) (rest : List ℕ) (past : Past) (t : Bool) → (is_open d past.notes && is_asleep (phase d past.notes) && is_able d f past.notes) ≡ t → Fit k past.notes
-    → CalmBut (Listed f (d ∷ rest)) past.notes → CalmBut (Listed f rest) (cond t (noted (notes.Woken d) past) past).notes
+    → CalmBut (Listed f (d ∷ rest)) past.notes → CalmBut (Listed f rest) (cond t (with_note (notes.Woken d) past) past).notes
 woken_here k f d rest past true is fit w c n what a s j =
     let e = awake_at c d Owed (phase c past.notes) (c == d) refl refl a in
     from (w c n what e.1 s j) inl (λ x. from x.1 (λ same. absurd (not_both c d same e.0)) (λ i. inr (x.0, i)))
@@ -197,7 +203,7 @@ wake_each_calm k f [] past fit w = ((λ c n what a s j. from (w c n what a s j) 
 wake_each_calm k f (d ∷ slots) past fit w =
     let t = is_open d past.notes && is_asleep (phase d past.notes) && is_able d f past.notes in
     wake_each_calm k f slots (wake_one f d past)
-    (kept_if (λ l. Fit k l) t (noted (notes.Woken d) past) past (woken_fit k d past.notes fit) fit)
+    (kept_if (λ l. Fit k l) t (with_note (notes.Woken d) past) past (woken_fit k d past.notes fit) fit)
     (woken_here k f d slots past t refl fit w)
 
 wake_calm : (k : Settings) (f : List ℕ) (past : Past) → Fit k past.notes → CalmBut (λ c g. g ≡ f) past.notes → CalmBut Never (wake k f past).notes × Fit k (wake k f past).notes
@@ -208,19 +214,19 @@ wake_calm k f past fit w =
 -- ---- submissions
 
 module _ (k : Settings) (c : ℕ) where
-  wanted_calm : (but : ℕ → List ℕ → Type 0) (sub : Submission) (n : ℕ) (past : Past) → CalmBut but past.notes → CalmBut but (wanted c sub n past).notes
+  wanted_calm : (but : ℕ → List ℕ → Type 0) (sub : Submission) (n : ℕ) (past : Past) → CalmBut but past.notes → CalmBut but (keep_or_listen c sub n past).notes
   wanted_calm but sub n past w =
-      kept_if (λ l. CalmBut but l) sub.background (noted (notes.Kept n) past) (noted (notes.Listens n c) past) (calm_more but (notes.Kept n) past.notes refl w) (calm_more but (notes.Listens n c) past.notes refl w)
+      kept_if (λ l. CalmBut but l) sub.background (with_note (notes.Kept n) past) (with_note (notes.Listens n c) past) (calm_more but (notes.Kept n) past.notes refl w) (calm_more but (notes.Listens n c) past.notes refl w)
 
   make_calm : (sub : Submission) (o : Option ℕ) (past : Past) → Fit k past.notes → CalmBut Never past.notes → CalmBut Never (make k c sub o past).notes
   make_calm sub None past fit w = w
   make_calm sub (Some n) past fit w =
       let f = sub.function in
-      let one = mentioned f past in
-      let two = noted (notes.Made n f sub.priority sub.unique sub.body) one in
-      let w_one : CalmBut Never one.notes = kept_if (λ l. CalmBut Never l) (is_mentioned f past.notes) past (noted (notes.Mention f) past) w w in
-      let fit_one : Fit k one.notes = kept_if (λ l. Fit k l) (is_mentioned f past.notes) past (noted (notes.Mention f) past) fit fit in
-      let fit_three : Fit k (wanted c sub n two).notes = kept_if (λ l. Fit k l) sub.background (noted (notes.Kept n) two) (noted (notes.Listens n c) two) fit_one fit_one in
+      let one = with_mention f past in
+      let two = with_note (notes.Made n f sub.priority sub.unique sub.body) one in
+      let w_one : CalmBut Never one.notes = kept_if (λ l. CalmBut Never l) (is_mentioned f past.notes) past (with_note (notes.Mention f) past) w w in
+      let fit_one : Fit k one.notes = kept_if (λ l. Fit k l) (is_mentioned f past.notes) past (with_note (notes.Mention f) past) fit fit in
+      let fit_three : Fit k (keep_or_listen c sub n two).notes = kept_if (λ l. Fit k l) sub.background (with_note (notes.Kept n) two) (with_note (notes.Listens n c) two) fit_one fit_one in
       (wake_calm k f _ fit_three (wanted_calm (λ d g. g ≡ f) sub n two (made_calm n f sub.priority sub.unique sub.body one.notes w_one))).0
 
   joins_calm : (sub : Submission) (o : Option ℕ) (past : Past) → Fit k past.notes → CalmBut Never past.notes → CalmBut Never (join_or_make k c sub o past).notes
@@ -235,18 +241,18 @@ module _ (k : Settings) (c : ℕ) where
   -- ---- abilities and sleep
 
   enabled_calm : (f : List ℕ) (t : ℕ) (past : Past) (u : Bool) → (is_asleep (phase c past.notes) && not (is_empty (waiting_for f past.notes))) ≡ u → CalmBut Never past.notes
-      → CalmBut Never (woken_if u c (noted (notes.Can c f t) (mentioned f past))).notes
+      → CalmBut Never (wake_if u c (with_note (notes.Can c f t) (with_mention f past))).notes
   enabled_calm f t past true is w d n what a s j =
-      let one = mentioned f past in
-      let w_one : CalmBut Never one.notes = kept_if (λ l. CalmBut Never l) (is_mentioned f past.notes) past (noted (notes.Mention f) past) w w in
+      let one = with_mention f past in
+      let w_one : CalmBut Never one.notes = kept_if (λ l. CalmBut Never l) (is_mentioned f past.notes) past (with_note (notes.Mention f) past) w w in
       let e = awake_at d c Owed (phase d one.notes) (d == c) refl refl a in
       from (can_calm c f t one.notes w_one d n what e.1 s j) inl (λ x. absurd (not_both d c x.0 e.0))
   enabled_calm f t past false is w d n what a s j =
-      let one = mentioned f past in
-      let w_one : CalmBut Never one.notes = kept_if (λ l. CalmBut Never l) (is_mentioned f past.notes) past (noted (notes.Mention f) past) w w in
-      let a_past : is_asleep (phase d past.notes) ≡ true = subst (λ p. is_asleep p ≡ true) (kept_if (λ l. phase d l ≡ phase d past.notes) (is_mentioned f past.notes) past (noted (notes.Mention f) past) refl refl) a in
-      let s_past : spot n past.notes ≡ Waits = sym (kept_if (λ l. spot n l ≡ spot n past.notes) (is_mentioned f past.notes) past (noted (notes.Mention f) past) refl refl) ∙ s in
-      let j_past : job n past.notes ≡ Some what = sym (kept_if (λ l. job n l ≡ job n past.notes) (is_mentioned f past.notes) past (noted (notes.Mention f) past) refl refl) ∙ j in
+      let one = with_mention f past in
+      let w_one : CalmBut Never one.notes = kept_if (λ l. CalmBut Never l) (is_mentioned f past.notes) past (with_note (notes.Mention f) past) w w in
+      let a_past : is_asleep (phase d past.notes) ≡ true = subst (λ p. is_asleep p ≡ true) (kept_if (λ l. phase d l ≡ phase d past.notes) (is_mentioned f past.notes) past (with_note (notes.Mention f) past) refl refl) a in
+      let s_past : job_state n past.notes ≡ states.Waiting = sym (kept_if (λ l. job_state n l ≡ job_state n past.notes) (is_mentioned f past.notes) past (with_note (notes.Mention f) past) refl refl) ∙ s in
+      let j_past : job n past.notes ≡ Some what = sym (kept_if (λ l. job n l ≡ job n past.notes) (is_mentioned f past.notes) past (with_note (notes.Mention f) past) refl refl) ∙ j in
       from (can_calm c f t one.notes w_one d n what a s j) inl
       (λ x. absurd (nothing (is_asleep (phase c past.notes)) (is_empty (waiting_for f past.notes)) is (subst (λ y. is_asleep (phase y past.notes) ≡ true) x.0 a_past)
       (subst (λ g. is_empty (waiting_for g past.notes) ≡ false) (sym x.1) (something_waits n past.notes what s_past j_past))))
@@ -259,29 +265,29 @@ module _ (k : Settings) (c : ℕ) where
   can_do_calm : (f : List ℕ) (t : ℕ) (past : Past) → CalmBut Never past.notes → CalmBut Never (can_do k c f t past).notes
   can_do_calm f t past w =
       kept_if (λ l. CalmBut Never l) (is_bad_name f) (refuse c (codes "bad_function") past) _ w
-      (kept_if (λ l. CalmBut Never l) (is_one_too_many k f past.notes) (refuse c (codes "too_many_functions") past) (made_able c f t past) w
+      (kept_if (λ l. CalmBut Never l) (is_one_too_many k f past.notes) (refuse c (codes "too_many_functions") past) (add_ability c f t past) w
       (enabled_calm f t past (is_asleep (phase c past.notes) && not (is_empty (waiting_for f past.notes))) refl w))
 
-  beside_calm : (o : Option Pick) (past : Past) → pick c past.notes ≡ o → CalmBut Never past.notes → CalmBut Never (sleep_beside o c (noted (notes.Slept c) past)).notes
+  beside_calm : (o : Option Pick) (past : Past) → pick k c past.notes ≡ o → CalmBut Never past.notes → CalmBut Never (sleep_beside o c (with_note (notes.Slept c) past)).notes
   beside_calm None past is w d n what a s j =
-      from (slept_calm c past.notes w d n what a s j) inl (λ same. inl (ap (λ x. is_able x what.function past.notes) same ∙ no_pick c n past.notes what is s j))
+      from (slept_calm c past.notes w d n what a s j) inl (λ same. inl (ap (λ x. is_able x what.function past.notes) same ∙ no_pick k c n past.notes what is s j))
   beside_calm (Some found) past is w d n what a s j =
       let e = awake_at d c Owed (phase d (notes.Slept c ∷ past.notes)) (d == c) refl refl a in
       from (slept_calm c past.notes w d n what e.1 s j) inl (λ same. absurd (not_both d c same e.0))
 
-  pre_sleep_calm : (past : Past) → CalmBut Never past.notes → CalmBut Never (pre_sleep c past).notes
-  pre_sleep_calm past w = kept_if (λ l. CalmBut Never l) (is_awake (phase c past.notes)) (sleep_beside (pick c past.notes) c (noted (notes.Slept c) past)) past (beside_calm (pick c past.notes) past refl w) w
+  pre_sleep_calm : (past : Past) → CalmBut Never past.notes → CalmBut Never (pre_sleep k c past).notes
+  pre_sleep_calm past w = kept_if (λ l. CalmBut Never l) (is_awake (phase c past.notes)) (sleep_beside (pick k c past.notes) c (with_note (notes.Slept c) past)) past (beside_calm (pick k c past.notes) past refl w) w
 
   -- ---- a closing
 
   wakes_for_calm : (n : ℕ) (o : Option Job) (past : Past) → job n past.notes ≡ o → Fit k past.notes → CalmBut Never past.notes
-      → CalmBut Never (wake_for k o (noted (notes.Returned n) past)).notes × Fit k (wake_for k o (noted (notes.Returned n) past)).notes
+      → CalmBut Never (wake_for k o (with_note (notes.Returned n) past)).notes × Fit k (wake_for k o (with_note (notes.Returned n) past)).notes
   wakes_for_calm n None past is fit w = (unknown_calm n past.notes is w, fit)
-  wakes_for_calm n (Some back) past is fit w = wake_calm k back.function (noted (notes.Returned n) past) fit (returned_calm n back past.notes is w)
+  wakes_for_calm n (Some back) past is fit w = wake_calm k back.function (with_note (notes.Returned n) past) fit (returned_calm n back past.notes is w)
 
   given_back_calm : (t u : Bool) (n : ℕ) (past : Past) → Fit k past.notes → CalmBut Never past.notes
-      → CalmBut Never (cond t (cond u (wake_for k (job n past.notes) (noted (notes.Returned n) past)) (noted (notes.Discarded n) past)) past).notes
-      × Fit k (cond t (cond u (wake_for k (job n past.notes) (noted (notes.Returned n) past)) (noted (notes.Discarded n) past)) past).notes
+      → CalmBut Never (cond t (cond u (wake_for k (job n past.notes) (with_note (notes.Returned n) past)) (with_note (notes.Discarded n) past)) past).notes
+      × Fit k (cond t (cond u (wake_for k (job n past.notes) (with_note (notes.Returned n) past)) (with_note (notes.Discarded n) past)) past).notes
   given_back_calm true true n past fit w = wakes_for_calm n (job n past.notes) past refl fit w
   given_back_calm true false n past fit w = (calm_more Never (notes.Discarded n) past.notes refl w, fit)
   given_back_calm false u n past fit w = (w, fit)
@@ -289,19 +295,19 @@ module _ (k : Settings) (c : ℕ) where
   gives_back_calm : (jobs : List ℕ) (past : Past) → Fit k past.notes → CalmBut Never past.notes → CalmBut Never (give_back_each k c jobs past).notes
   gives_back_calm [] past fit w = w
   gives_back_calm (n ∷ jobs) past fit w =
-      let r = given_back_calm (is_running_at c (spot n past.notes)) (is_wanted n past.notes) n past fit w in
+      let r = given_back_calm (is_running_at c (job_state n past.notes)) (is_wanted n past.notes) n past fit w in
       gives_back_calm jobs (give_back_one k c n past) r.1 r.0
 
   discards_calm : (jobs : List ℕ) (past : Past) → Fit k past.notes → CalmBut Never past.notes → CalmBut Never (discard_each jobs past).notes × Fit k (discard_each jobs past).notes
   discards_calm [] past fit w = (w, fit)
   discards_calm (n ∷ jobs) past fit w =
-      let t = is_waiting (spot n past.notes) && not (is_wanted n past.notes) in
+      let t = is_waiting (job_state n past.notes) && not (is_wanted n past.notes) in
       discards_calm jobs (discard_one n past)
-      (kept_if (λ l. Fit k l) t (noted (notes.Discarded n) past) past fit fit)
-      (kept_if (λ l. CalmBut Never l) t (noted (notes.Discarded n) past) past (calm_more Never (notes.Discarded n) past.notes refl w) w)
+      (kept_if (λ l. Fit k l) t (with_note (notes.Discarded n) past) past fit fit)
+      (kept_if (λ l. CalmBut Never l) t (with_note (notes.Discarded n) past) past (calm_more Never (notes.Discarded n) past.notes refl w) w)
 
-  stirred_fit : (past : Past) → Fit k past.notes → Fit k (stir c past).notes
-  stirred_fit past fit = kept_if (λ l. Fit k l) (is_asleep (phase c past.notes)) (noted (notes.Stirred c) past) past (λ d e. fit d (awake_at d c Awake (phase d past.notes) (d == c) refl refl e).1) fit
+  stirred_fit : (past : Past) → Fit k past.notes → Fit k (wake_itself c past).notes
+  stirred_fit past fit = kept_if (λ l. Fit k l) (is_asleep (phase c past.notes)) (with_note (notes.Stirred c) past) past (λ d e. fit d (awake_at d c Awake (phase d past.notes) (d == c) refl refl e).1) fit
 
   closed_fit : (l : List Note) → Fit k l → Fit k (notes.Closed c ∷ l)
   closed_fit l fit d e =
@@ -309,9 +315,9 @@ module _ (k : Settings) (c : ℕ) where
 
   close_calm : (past : Past) → Fit k past.notes → CalmBut Never past.notes → CalmBut Never (close k c past).notes
   close_calm past fit w =
-      let w_one : CalmBut Never (stir c past).notes = kept_if (λ l. CalmBut Never l) (is_asleep (phase c past.notes)) (noted (notes.Stirred c) past) past (calm_more Never (notes.Stirred c) past.notes refl w) w in
-      let r = discards_calm (rising past) (gone c past) (closed_fit (stir c past).notes (stirred_fit past fit)) (calm_more Never (notes.Closed c) (stir c past).notes refl w_one) in
-      gives_back_calm (rising past) (discard_each (rising past) (gone c past)) r.1 r.0
+      let w_one : CalmBut Never (wake_itself c past).notes = kept_if (λ l. CalmBut Never l) (is_asleep (phase c past.notes)) (with_note (notes.Stirred c) past) past (calm_more Never (notes.Stirred c) past.notes refl w) w in
+      let r = discards_calm (rising past) (disconnect c past) (closed_fit (wake_itself c past).notes (stirred_fit past fit)) (calm_more Never (notes.Closed c) (wake_itself c past).notes refl w_one) in
+      gives_back_calm (rising past) (discard_each (rising past) (disconnect c past)) r.1 r.0
 
 -- ---- steps
 

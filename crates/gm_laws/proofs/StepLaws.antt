@@ -1,5 +1,6 @@
 -- The laws about what a step does to notes and says.
-use Rattle.std.proofs.Common.{Some, None, Option, ◌∙◌, ◌≡◌, ◌⊎◌, inl, inr, ℕ, suc, Bool, true, false, not, ◌||◌, List, [], ◌∷◌, ◌++◌, length, filter, refl, sym, ap, subst, arith}
+use Rattle.std.proofs.Common.{Some, None, Option, ◌∙◌, ◌≡◌, ◌⊎◌, inl, inr, ℕ, suc, Bool, true, false, not, ◌||◌, List, [], ◌∷◌}
+use Rattle.std.proofs.Common.{◌++◌, length, filter, refl, sym, ap, subst, arith}
 use Rattle.std.specs.Prelude.{◌==◌}
 use Rattle.std.proofs.lemmas.Bool.Decides.{nat_tests}
 use Rattle.std.proofs.lemmas.Option.{same_Some}
@@ -11,9 +12,11 @@ use Rattle.gm_notes.specs.declared.note.Note.{Note}
 use Rattle.gm_notes.specs.declared.note.Note.TheVariants as notes
 use Rattle.gm_notes.specs.Settings.{Settings}
 use Rattle.gm_notes.specs.Flow.{Flow, Began, Queued, Drained, Emptied}
-use Rattle.gm_notes.specs.Jobs.{Job, Pick, job, pick, Waits, RunsAt, Over, Thrown, spot, is_wanted, is_kept, listeners}
-use Rattle.gm_notes.specs.Past.{Past, noted}
-use Rattle.gm_notes.specs.Workers.{stir, deadline_after, tell_assigned, give_out}
+use Rattle.gm_notes.specs.Jobs.{Job, job, pick, job_state, is_wanted, is_kept, listeners}
+use Rattle.gm_notes.specs.declared.states.Pick.{Pick}
+use Rattle.gm_notes.specs.JobStates as states
+use Rattle.gm_notes.specs.Past.{Past, with_note}
+use Rattle.gm_notes.specs.Workers.{wake_itself, deadline_after, tell_assigned, give_out}
 use Rattle.gm_notes.specs.Notes.{moment, takes_units}
 use Rattle.gm_notes.specs.Steps.{Step, Open, Packet, Line, Fault, Close, Tick, Took, Withdrew, Drain, unless, unless_not_open, step, run}
 use Rattle.gm_laws.specs.History.{Allowed, Gets, History}
@@ -69,44 +72,44 @@ module _ (k : Settings) (s : Step) (start : Past) (history : History k start.not
   -- ---- endings
 
   abbrev EndedSo : ℕ → Type 0
-  EndedSo n = (spot n start.notes ≡ Over) ⊎ Ends k start.notes s n
+  EndedSo n = (job_state n start.notes ≡ states.Ended) ⊎ Ends k start.notes s n
 
-  ended_more : (note : Note) (older : List Note) → Caused k start.notes s note older → ((n : ℕ) → spot n older ≡ Over → EndedSo n) → (n : ℕ) → spot n (note ∷ older) ≡ Over → EndedSo n
-  ended_more (notes.Made m f p u body) older cause before n e = from (moved n m Waits (spot n older) Over (n == m) refl e) (λ h. absurd (let x = h.1 in cc)) (λ h. before n h.1)
-  ended_more (notes.Returned m) older cause before n e = from (moved n m Waits (spot n older) Over (n == m) refl e) (λ h. absurd (let x = h.1 in cc)) (λ h. before n h.1)
-  ended_more (notes.Assigned m c late) older cause before n e = from (moved n m (RunsAt c) (spot n older) Over (n == m) refl e) (λ h. absurd (let x = h.1 in cc)) (λ h. before n h.1)
-  ended_more (notes.Discarded m) older cause before n e = from (moved n m Thrown (spot n older) Over (n == m) refl e) (λ h. absurd (let x = h.1 in cc)) (λ h. before n h.1)
-  ended_more (notes.Ended m) older cause before n e = from (moved n m Over (spot n older) Over (n == m) refl e) (λ h. inr (subst (λ x. Ends k start.notes s x) (sym h.0) cause)) (λ h. before n h.1)
+  ended_more : (note : Note) (older : List Note) → Caused k start.notes s note older → ((n : ℕ) → job_state n older ≡ states.Ended → EndedSo n) → (n : ℕ) → job_state n (note ∷ older) ≡ states.Ended → EndedSo n
+  ended_more (notes.Made m f p u body) older cause before n e = from (moved n m states.Waiting (job_state n older) states.Ended (n == m) refl e) (λ h. absurd (let x = h.1 in cc)) (λ h. before n h.1)
+  ended_more (notes.Returned m) older cause before n e = from (moved n m states.Waiting (job_state n older) states.Ended (n == m) refl e) (λ h. absurd (let x = h.1 in cc)) (λ h. before n h.1)
+  ended_more (notes.Assigned m c late) older cause before n e = from (moved n m (states.Running c) (job_state n older) states.Ended (n == m) refl e) (λ h. absurd (let x = h.1 in cc)) (λ h. before n h.1)
+  ended_more (notes.Discarded m) older cause before n e = from (moved n m states.Discarded (job_state n older) states.Ended (n == m) refl e) (λ h. absurd (let x = h.1 in cc)) (λ h. before n h.1)
+  ended_more (notes.Ended m) older cause before n e = from (moved n m states.Ended (job_state n older) states.Ended (n == m) refl e) (λ h. inr (subst (λ x. Ends k start.notes s x) (sym h.0) cause)) (λ h. before n h.1)
   ended_more note older cause before n e = before n e
 
   pub ends : EndsWithItsWorker k start s (step k s start)
-  ends = note_law (λ l. (n : ℕ) → spot n l ≡ Over → EndedSo n) (λ note older allowed cause h p. ended_more note older cause p) (λ n e. inl e)
+  ends = note_law (λ l. (n : ℕ) → job_state n l ≡ states.Ended → EndedSo n) (λ note older allowed cause h p. ended_more note older cause p) (λ n e. inl e)
 
   -- ---- grabs
 
   abbrev GivenSo : ℕ → ℕ → Type 0
-  GivenSo n c = (spot n start.notes ≡ RunsAt c) ⊎ ((asks is_grab c s ≡ true) × Gets c n start.notes)
+  GivenSo n c = (job_state n start.notes ≡ states.Running c) ⊎ ((asks is_grab c s ≡ true) × Gets k c n start.notes)
 
-  given_here : (n m c d : ℕ) → n ≡ m → RunsAt d ≡ RunsAt c → (asks is_grab d s ≡ true) × Gets d m start.notes → GivenSo n c
+  given_here : (n m c d : ℕ) → n ≡ m → states.Running d ≡ states.Running c → (asks is_grab d s ≡ true) × Gets k d m start.notes → GivenSo n c
   given_here n m c d same at cause =
       let there : d ≡ c = cc in
-      inr (subst (λ x. (asks is_grab x s ≡ true) × Gets x n start.notes) there (subst (λ x. (asks is_grab d s ≡ true) × Gets d x start.notes) (sym same) cause))
+      inr (subst (λ x. (asks is_grab x s ≡ true) × Gets k x n start.notes) there (subst (λ x. (asks is_grab d s ≡ true) × Gets k d x start.notes) (sym same) cause))
 
-  given_more : (note : Note) (older : List Note) → Caused k start.notes s note older → ((n c : ℕ) → spot n older ≡ RunsAt c → GivenSo n c) → (n c : ℕ) → spot n (note ∷ older) ≡ RunsAt c → GivenSo n c
-  given_more (notes.Made m f p u body) older cause before n c e = from (moved n m Waits (spot n older) (RunsAt c) (n == m) refl e) (λ h. absurd (let x = h.1 in cc)) (λ h. before n c h.1)
-  given_more (notes.Returned m) older cause before n c e = from (moved n m Waits (spot n older) (RunsAt c) (n == m) refl e) (λ h. absurd (let x = h.1 in cc)) (λ h. before n c h.1)
-  given_more (notes.Assigned m d late) older cause before n c e = from (moved n m (RunsAt d) (spot n older) (RunsAt c) (n == m) refl e) (λ h. given_here n m c d h.0 h.1 cause) (λ h. before n c h.1)
-  given_more (notes.Discarded m) older cause before n c e = from (moved n m Thrown (spot n older) (RunsAt c) (n == m) refl e) (λ h. absurd (let x = h.1 in cc)) (λ h. before n c h.1)
-  given_more (notes.Ended m) older cause before n c e = from (moved n m Over (spot n older) (RunsAt c) (n == m) refl e) (λ h. absurd (let x = h.1 in cc)) (λ h. before n c h.1)
+  given_more : (note : Note) (older : List Note) → Caused k start.notes s note older → ((n c : ℕ) → job_state n older ≡ states.Running c → GivenSo n c) → (n c : ℕ) → job_state n (note ∷ older) ≡ states.Running c → GivenSo n c
+  given_more (notes.Made m f p u body) older cause before n c e = from (moved n m states.Waiting (job_state n older) (states.Running c) (n == m) refl e) (λ h. absurd (let x = h.1 in cc)) (λ h. before n c h.1)
+  given_more (notes.Returned m) older cause before n c e = from (moved n m states.Waiting (job_state n older) (states.Running c) (n == m) refl e) (λ h. absurd (let x = h.1 in cc)) (λ h. before n c h.1)
+  given_more (notes.Assigned m d late) older cause before n c e = from (moved n m (states.Running d) (job_state n older) (states.Running c) (n == m) refl e) (λ h. given_here n m c d h.0 h.1 cause) (λ h. before n c h.1)
+  given_more (notes.Discarded m) older cause before n c e = from (moved n m states.Discarded (job_state n older) (states.Running c) (n == m) refl e) (λ h. absurd (let x = h.1 in cc)) (λ h. before n c h.1)
+  given_more (notes.Ended m) older cause before n c e = from (moved n m states.Ended (job_state n older) (states.Running c) (n == m) refl e) (λ h. absurd (let x = h.1 in cc)) (λ h. before n c h.1)
   given_more note older cause before n c e = before n c e
 
   pub gives : GivesThePick k start s (step k s start)
-  gives = note_law (λ l. (n c : ℕ) → spot n l ≡ RunsAt c → GivenSo n c) (λ note older allowed cause h p. given_more note older cause p) (λ n c e. inl e)
+  gives = note_law (λ l. (n c : ℕ) → job_state n l ≡ states.Running c → GivenSo n c) (λ note older allowed cause h p. given_more note older cause p) (λ n c e. inl e)
 
   -- ---- discarding
 
   abbrev ThrownSo : ℕ → List Note → Type 0
-  ThrownSo n l = (spot n start.notes ≡ Thrown) ⊎ ((is_closing s ≡ true) × (is_wanted n l ≡ false))
+  ThrownSo n l = (job_state n start.notes ≡ states.Discarded) ⊎ ((is_closing s ≡ true) × (is_wanted n l ≡ false))
 
   -- not in a closing
   elsewhere : (n : ℕ) (older newer : List Note) → (is_closing s ≡ true → ⊥) → ThrownSo n older → ThrownSo n newer
@@ -117,27 +120,27 @@ module _ (k : Settings) (s : Step) (start : Past) (history : History k start.not
   thrown_closed n c older (inl e) = inl e
   thrown_closed n c older (inr h) = inr (h.0, left_none c (is_kept n older) (listeners n older) h.1)
 
-  thrown_more : (note : Note) (older : List Note) → Allowed k note older → Caused k start.notes s note older → ((n : ℕ) → spot n older ≡ Thrown → ThrownSo n older) → (n : ℕ) → spot n (note ∷ older) ≡ Thrown → ThrownSo n (note ∷ older)
+  thrown_more : (note : Note) (older : List Note) → Allowed k note older → Caused k start.notes s note older → ((n : ℕ) → job_state n older ≡ states.Discarded → ThrownSo n older) → (n : ℕ) → job_state n (note ∷ older) ≡ states.Discarded → ThrownSo n (note ∷ older)
   thrown_more (notes.Made m f p u body) older allowed cause before n e =
-      from (moved n m Waits (spot n older) Thrown (n == m) refl e) (λ h. absurd (let x = h.1 in cc)) (λ h. elsewhere n older (notes.Made m f p u body ∷ older) (λ c. closing_asks _ s c cause) (before n h.1))
+      from (moved n m states.Waiting (job_state n older) states.Discarded (n == m) refl e) (λ h. absurd (let x = h.1 in cc)) (λ h. elsewhere n older (notes.Made m f p u body ∷ older) (λ c. closing_asks _ s c cause) (before n h.1))
   thrown_more (notes.Kept m) older allowed cause before n e = elsewhere n older (notes.Kept m ∷ older) (λ c. closing_asks _ s c cause) (before n e)
   thrown_more (notes.Listens m d) older allowed cause before n e = elsewhere n older (notes.Listens m d ∷ older) (λ c. closing_asks_at _ d s c cause) (before n e)
   thrown_more (notes.Closed c) older allowed cause before n e = thrown_closed n c older (before n e)
-  thrown_more (notes.Returned m) older allowed cause before n e = from (moved n m Waits (spot n older) Thrown (n == m) refl e) (λ h. absurd (let x = h.1 in cc)) (λ h. before n h.1)
-  thrown_more (notes.Assigned m c late) older allowed cause before n e = from (moved n m (RunsAt c) (spot n older) Thrown (n == m) refl e) (λ h. absurd (let x = h.1 in cc)) (λ h. before n h.1)
-  thrown_more (notes.Ended m) older allowed cause before n e = from (moved n m Over (spot n older) Thrown (n == m) refl e) (λ h. absurd (let x = h.1 in cc)) (λ h. before n h.1)
+  thrown_more (notes.Returned m) older allowed cause before n e = from (moved n m states.Waiting (job_state n older) states.Discarded (n == m) refl e) (λ h. absurd (let x = h.1 in cc)) (λ h. before n h.1)
+  thrown_more (notes.Assigned m c late) older allowed cause before n e = from (moved n m (states.Running c) (job_state n older) states.Discarded (n == m) refl e) (λ h. absurd (let x = h.1 in cc)) (λ h. before n h.1)
+  thrown_more (notes.Ended m) older allowed cause before n e = from (moved n m states.Ended (job_state n older) states.Discarded (n == m) refl e) (λ h. absurd (let x = h.1 in cc)) (λ h. before n h.1)
   thrown_more (notes.Discarded m) older allowed cause before n e =
-      from (moved n m Thrown (spot n older) Thrown (n == m) refl e) (λ h. inr (cause, subst (λ x. is_wanted x older ≡ false) (sym h.0) allowed.1)) (λ h. before n h.1)
+      from (moved n m states.Discarded (job_state n older) states.Discarded (n == m) refl e) (λ h. inr (cause, subst (λ x. is_wanted x older ≡ false) (sym h.0) allowed.1)) (λ h. before n h.1)
   thrown_more note older allowed cause before n e = before n e
 
   pub discards : DiscardsTheUnwanted k start s (step k s start)
-  discards = note_law (λ l. (n : ℕ) → spot n l ≡ Thrown → ThrownSo n l) (λ note older allowed cause h p. thrown_more note older allowed cause p) (λ n e. inl e)
+  discards = note_law (λ l. (n : ℕ) → job_state n l ≡ states.Discarded → ThrownSo n l) (λ note older allowed cause h p. thrown_more note older allowed cause p) (λ n e. inl e)
 
   -- ---- what is said
 
   pub says_no_job : SaysNoJobWhereNoneIs k start s (step k s start)
   says_no_job =
-      (step_keeps {I = λ past. (newer : List Flow) × (past.flow ≡ newer ++ start.flow) × AllSaid start.notes s newer} start s
+      (step_keeps {I = λ past. (newer : List Flow) × (past.flow ≡ newer ++ start.flow) × AllSaid k start.notes s newer} start s
       (record {
         by_note = λ note past inner allowed cause h p. p;
         by_opening = λ c addr past allowed cause h p. (Began c ∷ p.0, ap (λ l. Began c ∷ l) p.1, (tt, p.2));
@@ -153,19 +156,19 @@ assigned_notes : (k : Settings) (c : ℕ) (uniq : Bool) (n : ℕ) (o : Option Jo
 assigned_notes k c uniq n None past = refl
 assigned_notes k c uniq n (Some job) past = refl
 
-given_out : (k : Settings) (c : ℕ) (uniq : Bool) (o : Option Pick) (found : Pick) (past : Past) → o ≡ Some found → spot found.job (give_out k c uniq o past).notes ≡ RunsAt c
+given_out : (k : Settings) (c : ℕ) (uniq : Bool) (o : Option Pick) (found : Pick) (past : Past) → o ≡ Some found → job_state found.job (give_out k c uniq o past).notes ≡ states.Running c
 given_out k c uniq None found past is = absurd cc
 given_out k c uniq (Some other) found past is =
     let same = same_Some other found is in
     let n = other.job in
-    let runs : spot n (notes.Assigned n c (deadline_after (moment past.notes) other.timeout) ∷ past.notes) ≡ RunsAt c = rw (same_number n) refl in
-    subst (λ (p : Pick). spot p.job (give_out k c uniq (Some other) past).notes ≡ RunsAt c) same
-    (subst (λ l. spot n l ≡ RunsAt c) (sym (assigned_notes k c uniq n (job n past.notes) (noted (notes.Assigned n c (deadline_after (moment past.notes) other.timeout)) past))) runs)
+    let runs : job_state n (notes.Assigned n c (deadline_after (moment past.notes) other.timeout) ∷ past.notes) ≡ states.Running c = rw (same_number n) refl in
+    subst (λ (p : Pick). job_state p.job (give_out k c uniq (Some other) past).notes ≡ states.Running c) same
+    (subst (λ l. job_state n l ≡ states.Running c) (sym (assigned_notes k c uniq n (job n past.notes) (with_note (notes.Assigned n c (deadline_after (moment past.notes) other.timeout)) past))) runs)
 
-grabbed : (k : Settings) (c : ℕ) (o : Option Kind) (found : Pick) (start : Past) → is_one_of is_grab o ≡ true → pick c start.notes ≡ Some found → spot found.job (packet_of k c o [] start).notes ≡ RunsAt c
+grabbed : (k : Settings) (c : ℕ) (o : Option Kind) (found : Pick) (start : Past) → is_one_of is_grab o ≡ true → pick k c start.notes ≡ Some found → job_state found.job (packet_of k c o [] start).notes ≡ states.Running c
 grabbed k c None found start e is = absurd cc
-grabbed k c (Some GrabJob) found start e is = given_out k c false (pick c start.notes) found (stir c start) is
-grabbed k c (Some GrabJobUniq) found start e is = given_out k c true (pick c start.notes) found (stir c start) is
+grabbed k c (Some GrabJob) found start e is = given_out k c false (pick k c start.notes) found (wake_itself c start) is
+grabbed k c (Some GrabJobUniq) found start e is = given_out k c true (pick k c start.notes) found (wake_itself c start) is
 grabbed k c (Some kind) found start e is = absurd cc
 
 taken_is : (t : Bool) (after before : Past) → t ≡ true → unless (unless_not_open t) after before ≡ after
@@ -175,5 +178,5 @@ taken_is false after before e = absurd cc
 pub grabs : GrabsGetThePick
 grabs k steps c number found e takes is =
     let start = run k steps in
-    ap (λ (past : Past). spot found.job past.notes) (taken_is (takes_units c start.notes) (packet_of k c (kind_of number) [] start) start takes)
+    ap (λ (past : Past). job_state found.job past.notes) (taken_is (takes_units c start.notes) (packet_of k c (kind_of number) [] start) start takes)
     ∙ grabbed k c (kind_of number) found start e is

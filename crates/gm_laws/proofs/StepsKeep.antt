@@ -1,15 +1,21 @@
 -- Whatever each small change keeps, each step keeps.
-use Rattle.std.proofs.Common.{◌≡◌, ℕ, Bool, true, false, cond, not, ◌&&◌, List, [], ◌∷◌, Option, Some, None, Result, Ok, Err, refl, sym, ap, subst, ◌∙◌, arith, max}
+use Rattle.std.proofs.Common.{◌≡◌, ℕ, Bool, true, false, cond, not, ◌&&◌, List, [], ◌∷◌, Option, Some, None, Result, Ok, Err}
+use Rattle.std.proofs.Common.{refl, sym, ap, subst, ◌∙◌, arith, max}
 use Rattle.std.specs.Prelude.{codes, ◌==◌, ◌||◌}
 use Rattle.std.specs.Str.{bytes_eq}
 use Rattle.std.specs.Option.{option_map, ok_or}
 use Rattle.std.proofs.lemmas.Bool.{and_parts, and_from, or_left, or_right}
 use Rattle.gm_packet.specs.declared.kind.Kind.{Kind}
-use Rattle.gm_packet.specs.declared.kind.Kind.TheVariants.{CanDo, CantDo, ResetAbilities, PreSleep, SubmitJob, GrabJob, WorkStatus, WorkComplete, WorkFail, GetStatus, EchoReq, SubmitJobBg, SubmitJobHigh, SetClientId, CanDoTimeout, AllYours, WorkException, OptionReq, WorkData, WorkWarning, GrabJobUniq, SubmitJobHighBg, SubmitJobLow, SubmitJobLowBg}
+use Rattle.gm_packet.specs.declared.kind.Kind.TheVariants.{CanDo, CantDo, ResetAbilities, PreSleep, SubmitJob, GrabJob}
+use Rattle.gm_packet.specs.declared.kind.Kind.TheVariants.{WorkStatus, WorkComplete, WorkFail, GetStatus, EchoReq, SubmitJobBg}
+use Rattle.gm_packet.specs.declared.kind.Kind.TheVariants.{SubmitJobHigh, SetClientId, CanDoTimeout, AllYours, WorkException}
+use Rattle.gm_packet.specs.declared.kind.Kind.TheVariants.{OptionReq, WorkData, WorkWarning, GrabJobUniq, SubmitJobHighBg}
+use Rattle.gm_packet.specs.declared.kind.Kind.TheVariants.{SubmitJobLow, SubmitJobLowBg}
 use Rattle.gm_packet.specs.Kinds.{kind_of, shape}
 use Rattle.gm_packet.specs.Requests.{Asked, read_as, read_kind, arguments_of}
 use Rattle.gm_packet.specs.declared.request.RequestFault.TheVariants.{BadArguments}
-use Rattle.gm_packet.specs.Writing.{Answer, answer_packet, status_res, echo_res, work_status, work_data, work_warning, work_exception, work_complete, work_fail, option_res}
+use Rattle.gm_packet.specs.Answers.{Answer, answer_packet, status_res, echo_res, work_status, work_data, work_warning}
+use Rattle.gm_packet.specs.Answers.{work_exception, work_complete, work_fail, option_res}
 use Rattle.gm_notes.specs.declared.states.Priority.{Priority}
 use Rattle.gm_notes.specs.declared.states.Priority.TheVariants.{High, Normal, Low}
 use Rattle.gm_admin.specs.declared.fault.AdminFault.{AdminFault}
@@ -25,24 +31,35 @@ use Rattle.gm_notes.specs.declared.note.Note.{Note}
 use Rattle.gm_notes.specs.declared.note.Note.TheVariants as notes
 use Rattle.gm_notes.specs.Settings.{Settings}
 use Rattle.gm_notes.specs.Notes.{is_open, is_shut, takes_units, phase, is_asleep, is_owed, moment, mode, slots_from}
-use Rattle.gm_notes.specs.Jobs.{Job, spot, job, is_waiting, is_running, is_running_at, is_live, is_wanted, is_mentioned, report, listeners, deadline, handle, handled}
-use Rattle.gm_notes.specs.Past.{Past, noted, flowed, print, give, refuse, mentioned, tell_all}
+use Rattle.gm_notes.specs.Jobs.{Job, job_state, job, is_wanted, is_mentioned, report, listeners, deadline, handle, job_of_handle}
+use Rattle.gm_notes.specs.JobStates.{is_waiting, is_running, is_running_at, is_live}
+use Rattle.gm_notes.specs.Past.{Past, with_note, with_flow, with_output, give, refuse, with_mention, tell_all}
 use Rattle.gm_notes.specs.Submissions.{is_one_too_many}
 use Rattle.gm_notes.specs.Texts.{fault_text}
 use Rattle.gm_notes.specs.Flow.{Drained}
 use Rattle.gm_notes.specs.Submissions.{submit}
-use Rattle.gm_notes.specs.Workers.{stir, work}
-use Rattle.gm_notes.specs.Requests.{packet_of, first, second, third, submission, passing, ending, tell_status, set_option, request, request_if_read}
-use Rattle.gm_notes.specs.Lines.{refuse_line, fault_error, status_rows, worker_rows, is_bad_word, maxqueue, shut_one, shut_each, went_graceful, shutdown, command}
-use Rattle.gm_notes.specs.Closings.{discard_one, discard_each, wake_for, give_back_one, give_back_each, gone, rising, close, is_reached, expire_one, expire_each, tick}
-use Rattle.gm_notes.specs.Steps.{Step, Open, Packet, Line, Fault, Close, Tick, Took, Withdrew, Drain, free_slot, opening, refusal, unless_not_open, unless, add, step, run}
+use Rattle.gm_notes.specs.Workers.{wake_itself, work}
+use Rattle.gm_notes.specs.Requests.{packet_of, first, second, third, submission, passing, ending, tell_status, set_option}
+use Rattle.gm_notes.specs.Requests.{request, request_if_read}
+use Rattle.gm_notes.specs.Lines.{refuse_line, fault_error, status_rows, worker_rows, is_bad_word, maxqueue, shut_one}
+use Rattle.gm_notes.specs.Lines.{shut_each, go_graceful, shutdown, command}
+use Rattle.gm_notes.specs.Closings.{discard_one, discard_each, wake_for, give_back_one, give_back_each, disconnect, rising}
+use Rattle.gm_notes.specs.Closings.{close, is_reached, expire_one, expire_each, tick}
+use Rattle.gm_notes.specs.Steps.{Step, Open, Packet, Line, Fault, Close, Tick, Took, Withdrew, Drain, free_slot, opening}
+use Rattle.gm_notes.specs.Steps.{refusal, unless_not_open, unless, add, step, run}
 use Rattle.gm_notes.proofs.FreeSlots.{free_is}
 use Rattle.gm_laws.specs.History.{Allowed, History}
-use Rattle.gm_laws.specs.Causes.{NamesJob, is_one_of, asks, is_request, is_submission, is_foreground, is_background, is_enabling, is_disabling, is_resetting, is_sleeping, is_grab, is_reporting, is_ending, is_naming, is_choosing, is_line, is_closing, closes, faults as has_fault}
+use Rattle.gm_laws.specs.Causes.{NamesJob, is_one_of, asks, is_request, is_submission, is_foreground, is_background}
+use Rattle.gm_laws.specs.Causes.{is_enabling, is_disabling, is_resetting, is_sleeping, is_grab, is_reporting, is_ending}
+use Rattle.gm_laws.specs.Causes.{is_naming, is_choosing, is_line, is_closing, closes, faults as has_fault}
 use Rattle.gm_laws.proofs.Finding.{same_number}
 use Rattle.gm_laws.proofs.Listeners.{listeners_open}
-use Rattle.gm_laws.proofs.Sayings.{Other, fail_other, status_other, complete_other, data_other, warning_other, exception_other, echo_other, option_other, known_other, ok_other, version_other, refusal_other, fault_other, list_other, rows_other}
-use Rattle.gm_laws.proofs.Keeping.{Keeps, Held, kept_if, held_if, note_keeps, says_keeps, gives_keeps, refuses_keeps, tells_keeps, wake_keeps, mentions_keeps, submit_keeps, can_do_keeps, cant_do_keeps, pre_sleep_keeps, stir_keeps, grab_keeps, works_keeps, tell_all_notes, runs_somewhere}
+use Rattle.gm_laws.proofs.Sayings.{Other, fail_other, status_other, complete_other, data_other, warning_other, exception_other}
+use Rattle.gm_laws.proofs.Sayings.{echo_other, option_other, known_other, ok_other, version_other, refusal_other, fault_other}
+use Rattle.gm_laws.proofs.Sayings.{list_other, rows_other}
+use Rattle.gm_laws.proofs.Keeping.{Keeps, Held, kept_if, held_if, note_keeps, says_keeps, gives_keeps, refuses_keeps}
+use Rattle.gm_laws.proofs.Keeping.{tells_keeps, wake_keeps, mentions_keeps, submit_keeps, can_do_keeps, cant_do_keeps}
+use Rattle.gm_laws.proofs.Keeping.{pre_sleep_keeps, stir_keeps, grab_keeps, works_keeps, tell_all_notes, runs_somewhere}
 
 -- what is read of a kind is of that kind
 read_at : (kind : Kind) (o : Option (List (List ℕ) × ℕ)) (asked : Asked) → option_map (λ (found : List (List ℕ) × ℕ). record { kind = kind; arguments = found.0; timeout = found.1 }) o ≡ Some asked → asked.kind ≡ kind
@@ -58,8 +75,8 @@ module _ {k : Settings} {I : Past → Type 0} (start : Past) (c number : ℕ) (b
   tells_status : (text : List ℕ) (o : Option ℕ) → Held k I (tell_status k c text o start)
   tells_status text None = gives_keeps K c (status_res text false false (codes "0") (codes "0")) start opened (known_other text false false (codes "0") (codes "0")) h
   tells_status text (Some n) =
-      held_if K (is_live (spot n start.notes)) _ _
-      (λ e. gives_keeps K c (status_res text true (is_running (spot n start.notes)) (report n start.notes).0 (report n start.notes).1) start opened (known_other text true (is_running (spot n start.notes)) (report n start.notes).0 (report n start.notes).1) h)
+      held_if K (is_live (job_state n start.notes)) _ _
+      (λ e. gives_keeps K c (status_res text true (is_running (job_state n start.notes)) (report n start.notes).0 (report n start.notes).1) start opened (known_other text true (is_running (job_state n start.notes)) (report n start.notes).0 (report n start.notes).1) h)
       (λ e. gives_keeps K c (status_res text false false (codes "0") (codes "0")) start opened (known_other text false false (codes "0") (codes "0")) h)
 
   module _ (kind : Kind) (is : kind_of number ≡ Some kind) where
@@ -86,8 +103,8 @@ module _ {k : Settings} {I : Past → Type 0} (start : Past) (c number : ℕ) (b
 
     chooses : (name : List ℕ) → is_choosing kind ≡ true → Held k I (set_option c name start)
     chooses name may =
-        held_if K (bytes_eq name (codes "exceptions")) (give c (option_res name) (noted (notes.OptionSet c) start)) (refuse c (codes "unknown_option") start)
-        (λ e. gives_keeps K c (option_res name) (noted (notes.OptionSet c) start) opened (option_other name) (note_keeps K (notes.OptionSet c) start refl opened (asked is_choosing may) h))
+        held_if K (bytes_eq name (codes "exceptions")) (give c (option_res name) (with_note (notes.OptionSet c) start)) (refuse c (codes "unknown_option") start)
+        (λ e. gives_keeps K c (option_res name) (with_note (notes.OptionSet c) start) opened (option_other name) (note_keeps K (notes.OptionSet c) start refl opened (asked is_choosing may) h))
         (λ e. refuses_keeps K c (codes "unknown_option") start opened h)
 
   pub request_keeps : (kind : Kind) (a : List (List ℕ)) (timeout : ℕ) → kind_of number ≡ Some kind → ((n : ℕ) → first a ≡ handle k n → NamesJob k number bytes n) → Held k I (request k c kind a timeout start)
@@ -112,7 +129,7 @@ module _ {k : Settings} {I : Past → Type 0} (start : Past) (c number : ℕ) (b
   request_keeps WorkException a timeout is names = passes WorkException is (first a) (work_exception (first a) (second a)) true (exception_other (first a) (second a))
   request_keeps WorkComplete a timeout is names = ends WorkComplete is (first a) (work_complete (first a) (second a)) names refl (complete_other (first a) (second a))
   request_keeps WorkFail a timeout is names = ends WorkFail is (first a) (work_fail (first a)) names refl (fail_other (first a))
-  request_keeps GetStatus a timeout is names = tells_status (first a) (handled k (first a) start.notes)
+  request_keeps GetStatus a timeout is names = tells_status (first a) (job_of_handle k (first a) start.notes)
   request_keeps EchoReq a timeout is names = gives_keeps K c (echo_res (first a)) start opened (echo_other (first a)) h
   request_keeps SetClientId a timeout is names = note_keeps K (notes.Named c (first a)) start refl opened (asked SetClientId is is_naming refl) h
   request_keeps OptionReq a timeout is names = chooses OptionReq is (first a) refl
@@ -143,33 +160,33 @@ packet_of_kinds P k c kinds bytes start p more (Some kind) e =
 -- ---- lines
 
 module _ {k : Settings} {before : List Note} {s : Step} {I : Past → Type 0} (K : Keeps k before s I) (c : ℕ) (may : is_line s ≡ true) where
-  says : (text : List ℕ) (past : Past) → is_open c past.notes ≡ true → Other text → Held k I past → Held k I (print c text past)
+  says : (text : List ℕ) (past : Past) → is_open c past.notes ≡ true → Other text → Held k I past → Held k I (with_output c text past)
   says text past opened other h = says_keeps K c text past opened (λ e. absurd (other e)) h
 
   shut_one_keeps : (d : ℕ) (past : Past) → Held k I past → Held k I (shut_one d past)
   shut_one_keeps d past h =
-      held_if K (is_open d past.notes && not (is_shut d past.notes)) (noted (notes.Shut d) past) past
+      held_if K (is_open d past.notes && not (is_shut d past.notes)) (with_note (notes.Shut d) past) past
       (λ e. note_keeps K (notes.Shut d) past refl (and_parts (is_open d past.notes) (not (is_shut d past.notes)) e).0 (or_right (has_fault d s) (is_line s) may) h) (λ e. h)
 
   shut_each_keeps : (slots : List ℕ) (past : Past) → Held k I past → Held k I (shut_each slots past)
   shut_each_keeps [] past h = h
   shut_each_keeps (d ∷ slots) past h = shut_each_keeps slots (shut_one d past) (shut_one_keeps d past h)
 
-  went_keeps : (m : Mode) (past : Past) → Held k I past → Held k I (went_graceful m past)
+  went_keeps : (m : Mode) (past : Past) → Held k I past → Held k I (go_graceful m past)
   went_keeps modes.Running past h = note_keeps K (notes.Went modes.Graceful) past refl tt may h
   went_keeps modes.Graceful past h = h
   went_keeps modes.Stopped past h = h
 
-  went_open : (m : Mode) (past : Past) → is_open c past.notes ≡ true → is_open c (went_graceful m past).notes ≡ true
+  went_open : (m : Mode) (past : Past) → is_open c past.notes ≡ true → is_open c (go_graceful m past).notes ≡ true
   went_open modes.Running past opened = opened
   went_open modes.Graceful past opened = opened
   went_open modes.Stopped past opened = opened
 
   shutdown_keeps : (graceful : Bool) (past : Past) → is_open c past.notes ≡ true → Held k I past → Held k I (shutdown k c graceful past)
-  shutdown_keeps true past opened h = says ok_text (went_graceful (mode past.notes) past) (went_open (mode past.notes) past opened) ok_other (went_keeps (mode past.notes) past h)
+  shutdown_keeps true past opened h = says ok_text (go_graceful (mode past.notes) past) (went_open (mode past.notes) past opened) ok_other (went_keeps (mode past.notes) past h)
   shutdown_keeps false past opened h =
-      shut_each_keeps (slots_from 0 k.slots) (print c ok_text (noted (notes.Went modes.Stopped) past))
-      (says ok_text (noted (notes.Went modes.Stopped) past) opened ok_other (note_keeps K (notes.Went modes.Stopped) past refl tt may h))
+      shut_each_keeps (slots_from 0 k.slots) (with_output c ok_text (with_note (notes.Went modes.Stopped) past))
+      (says ok_text (with_note (notes.Went modes.Stopped) past) opened ok_other (note_keeps K (notes.Went modes.Stopped) past refl tt may h))
 
   refuses_line : (error : AdminError) (past : Past) → is_open c past.notes ≡ true → Held k I past → Held k I (refuse_line c error past)
   refuses_line error past opened h = says (error_text error) past opened (refusal_other error) h
@@ -178,9 +195,9 @@ module _ {k : Settings} {before : List Note} {s : Step} {I : Past → Type 0} (K
   maxqueue_keeps f size past opened h =
       held_if K (is_bad_word f) (refuse_line c errors.BadFunction past) _ (λ e. refuses_line errors.BadFunction past opened h)
       (λ e. held_if K (is_one_too_many k f past.notes) (refuse_line c errors.TooManyFunctions past) _ (λ g. refuses_line errors.TooManyFunctions past opened h)
-      (λ g. says ok_text (noted (notes.Limit f size) (mentioned f past))
-      (kept_if (λ l. is_open c l ≡ true) (is_mentioned f past.notes) past (noted (notes.Mention f) past) opened opened) ok_other
-      (note_keeps K (notes.Limit f size) (mentioned f past) refl tt may
+      (λ g. says ok_text (with_note (notes.Limit f size) (with_mention f past))
+      (kept_if (λ l. is_open c l ≡ true) (is_mentioned f past.notes) past (with_note (notes.Mention f) past) opened opened) ok_other
+      (note_keeps K (notes.Limit f size) (with_mention f past) refl tt may
       (mentions_keeps K f past (or_right (is_request is_submission s || is_request is_enabling s) (is_line s) may) h))))
 
   pub command_keeps : (r : Result Commanded AdminFault) (past : Past) → is_open c past.notes ≡ true → Held k I past → Held k I (command k c r past)
@@ -200,9 +217,9 @@ unwanted false e = refl
 module _ {k : Settings} {before : List Note} {c : ℕ} {I : Past → Type 0} (K : Keeps k before (Close c) I) where
   discard_one_keeps : (n : ℕ) (past : Past) → Held k I past → Held k I (discard_one n past)
   discard_one_keeps n past h =
-      held_if K (is_waiting (spot n past.notes) && not (is_wanted n past.notes)) (noted (notes.Discarded n) past) past
-      (λ e. let p = and_parts (is_waiting (spot n past.notes)) (not (is_wanted n past.notes)) e in
-      note_keeps K (notes.Discarded n) past refl (or_left (is_waiting (spot n past.notes)) (is_running (spot n past.notes)) p.0, unwanted (is_wanted n past.notes) p.1) refl h)
+      held_if K (is_waiting (job_state n past.notes) && not (is_wanted n past.notes)) (with_note (notes.Discarded n) past) past
+      (λ e. let p = and_parts (is_waiting (job_state n past.notes)) (not (is_wanted n past.notes)) e in
+      note_keeps K (notes.Discarded n) past refl (or_left (is_waiting (job_state n past.notes)) (is_running (job_state n past.notes)) p.0, unwanted (is_wanted n past.notes) p.1) refl h)
       (λ e. h)
 
   discard_each_keeps : (jobs : List ℕ) (past : Past) → Held k I past → Held k I (discard_each jobs past)
@@ -215,27 +232,27 @@ module _ {k : Settings} {before : List Note} {c : ℕ} {I : Past → Type 0} (K 
 
   give_back_one_keeps : (n : ℕ) (past : Past) → Held k I past → Held k I (give_back_one k c n past)
   give_back_one_keeps n past h =
-      held_if K (is_running_at c (spot n past.notes)) _ past
-      (λ e. let running = runs_somewhere c (spot n past.notes) e in
-      held_if K (is_wanted n past.notes) (wake_for k (job n past.notes) (noted (notes.Returned n) past)) (noted (notes.Discarded n) past)
-      (λ w. wakes_for_keeps (job n past.notes) (noted (notes.Returned n) past) (note_keeps K (notes.Returned n) past refl (running, w) (c, refl, e) h))
-      (λ w. note_keeps K (notes.Discarded n) past refl (or_right (is_waiting (spot n past.notes)) (is_running (spot n past.notes)) running, w) refl h))
+      held_if K (is_running_at c (job_state n past.notes)) _ past
+      (λ e. let running = runs_somewhere c (job_state n past.notes) e in
+      held_if K (is_wanted n past.notes) (wake_for k (job n past.notes) (with_note (notes.Returned n) past)) (with_note (notes.Discarded n) past)
+      (λ w. wakes_for_keeps (job n past.notes) (with_note (notes.Returned n) past) (note_keeps K (notes.Returned n) past refl (running, w) (c, refl, e) h))
+      (λ w. note_keeps K (notes.Discarded n) past refl (or_right (is_waiting (job_state n past.notes)) (is_running (job_state n past.notes)) running, w) refl h))
       (λ e. h)
 
   give_back_each_keeps : (jobs : List ℕ) (past : Past) → Held k I past → Held k I (give_back_each k c jobs past)
   give_back_each_keeps [] past h = h
   give_back_each_keeps (n ∷ jobs) past h = give_back_each_keeps jobs (give_back_one k c n past) (give_back_one_keeps n past h)
 
-  gone_keeps : (past : Past) → is_open c past.notes ≡ true → Held k I past → Held k I (gone c past)
+  gone_keeps : (past : Past) → is_open c past.notes ≡ true → Held k I past → Held k I (disconnect c past)
   gone_keeps past opened h =
-      let one = stir c past in
-      let opened_one = kept_if (λ l. is_open c l ≡ true) (is_asleep (phase c past.notes)) (noted (notes.Stirred c) past) past opened opened in
+      let one = wake_itself c past in
+      let opened_one = kept_if (λ l. is_open c l ≡ true) (is_asleep (phase c past.notes)) (with_note (notes.Stirred c) past) past opened opened in
       let held_one = stir_keeps K c past (or_right (asks is_grab c (Close c)) (closes c (Close c)) (same_number c)) h in
       ((opened_one, held_one.0), K.by_closing c one opened_one refl held_one.0 held_one.1)
 
   pub close_keeps : (past : Past) → is_open c past.notes ≡ true → Held k I past → Held k I (close k c past)
   close_keeps past opened h =
-      give_back_each_keeps (rising past) (discard_each (rising past) (gone c past)) (discard_each_keeps (rising past) (gone c past) (gone_keeps past opened h))
+      give_back_each_keeps (rising past) (discard_each (rising past) (disconnect c past)) (discard_each_keeps (rising past) (disconnect c past) (gone_keeps past opened h))
 
 -- past is after start in a tick at now: the deadlines are the same
 record Ticked (start past : Past) (now : ℕ) : Type 0 where
@@ -247,9 +264,9 @@ module _ {k : Settings} {I : Past → Type 0} (start : Past) (now : ℕ) (K : Ke
   expire_one_keeps n past t h =
       let told = tell_all (work_fail (handle k n)) (listeners n past.notes) past in
       let same = tell_all_notes (work_fail (handle k n)) (listeners n past.notes) past in
-      held_if K (is_running (spot n past.notes) && is_reached (deadline n past.notes) (moment past.notes)) (noted (notes.Ended n) told) past
-      (λ e. let p = and_parts (is_running (spot n past.notes)) (is_reached (deadline n past.notes) (moment past.notes)) e in
-      note_keeps K (notes.Ended n) told refl (subst (λ l. is_running (spot n l) ≡ true) (sym same) p.0)
+      held_if K (is_running (job_state n past.notes) && is_reached (deadline n past.notes) (moment past.notes)) (with_note (notes.Ended n) told) past
+      (λ e. let p = and_parts (is_running (job_state n past.notes)) (is_reached (deadline n past.notes) (moment past.notes)) e in
+      note_keeps K (notes.Ended n) told refl (subst (λ l. is_running (job_state n l) ≡ true) (sym same) p.0)
       (subst (λ d. is_reached d (max now (moment start.notes)) ≡ true) (t.deadlines n) (subst (λ m. is_reached (deadline n past.notes) m ≡ true) t.moment_is p.1))
       (tells_keeps K (work_fail (handle k n)) (listeners n past.notes) past (fail_other (handle k n)) (listeners_open k past.notes h.0 n) h))
       (λ e. h)
@@ -258,10 +275,10 @@ module _ {k : Settings} {I : Past → Type 0} (start : Past) (now : ℕ) (K : Ke
   expired_ticked n past t =
       let told = tell_all (work_fail (handle k n)) (listeners n past.notes) past in
       let same = tell_all_notes (work_fail (handle k n)) (listeners n past.notes) past in
-      let runs = is_running (spot n past.notes) && is_reached (deadline n past.notes) (moment past.notes) in
+      let runs = is_running (job_state n past.notes) && is_reached (deadline n past.notes) (moment past.notes) in
       record {
-        deadlines = λ m. kept_if (λ l. deadline m l ≡ deadline m start.notes) runs (noted (notes.Ended n) told) past (ap (deadline m) same ∙ t.deadlines m) (t.deadlines m);
-        moment_is = kept_if (λ l. moment l ≡ max now (moment start.notes)) runs (noted (notes.Ended n) told) past (ap moment same ∙ t.moment_is) t.moment_is;
+        deadlines = λ m. kept_if (λ l. deadline m l ≡ deadline m start.notes) runs (with_note (notes.Ended n) told) past (ap (deadline m) same ∙ t.deadlines m) (t.deadlines m);
+        moment_is = kept_if (λ l. moment l ≡ max now (moment start.notes)) runs (with_note (notes.Ended n) told) past (ap moment same ∙ t.moment_is) t.moment_is;
       }
 
   expire_each_keeps : (jobs : List ℕ) (past : Past) → Ticked start past now → Held k I past → Held k I (expire_each k jobs past)
@@ -270,7 +287,7 @@ module _ {k : Settings} {I : Past → Type 0} (start : Past) (now : ℕ) (K : Ke
 
   pub tick_keeps : Held k I start → Held k I (tick k now start)
   tick_keeps h =
-      expire_each_keeps (rising start) (noted (notes.Now (max now (moment start.notes))) start) (record { deadlines = λ n. refl; moment_is = refl })
+      expire_each_keeps (rising start) (with_note (notes.Now (max now (moment start.notes))) start) (record { deadlines = λ n. refl; moment_is = refl })
       (note_keeps K (notes.Now (max now (moment start.notes))) start refl (omega arith) refl h)
 
 -- ---- steps
@@ -300,20 +317,20 @@ module _ {k : Settings} {I : Past → Type 0} (start : Past) where
       ((allowed, h.0), K.by_opening c addr start allowed refl h.0 h.1)
 
   -- what each small change keeps, a step that is taken keeps, if drains do
-  pub add_keeps : (s : Step) → Keeps k start.notes s I → ((c : ℕ) → s ≡ Drain c → History k start.notes → I start → I (flowed (Drained c) start)) → refusal k s start ≡ None → Held k I start → Held k I (add k s start)
+  pub add_keeps : (s : Step) → Keeps k start.notes s I → ((c : ℕ) → s ≡ Drain c → History k start.notes → I start → I (with_flow (Drained c) start)) → refusal k s start ≡ None → Held k I start → Held k I (add k s start)
   add_keeps (Open addr) K drains taken h = opening_keeps addr K (free_slot k start) refl h
   add_keeps (Packet c number bytes) K drains taken h = packet_keeps start c number bytes K (units_open c start.notes taken) h (kind_of number) refl
   add_keeps (Line c bytes) K drains taken h = command_keeps K c refl (command_of bytes) start (units_open c start.notes taken) h
   add_keeps (Fault c fault) K drains taken h =
       let opened = units_open c start.notes taken in
-      note_keeps K (notes.Shut c) (print c (fault_text fault) start) refl opened (or_left (has_fault c (Fault c fault)) (is_line (Fault c fault)) (same_number c)) (says_keeps K c (fault_text fault) start opened (λ e. absurd (fault_other fault e)) h)
+      note_keeps K (notes.Shut c) (with_output c (fault_text fault) start) refl opened (or_left (has_fault c (Fault c fault)) (is_line (Fault c fault)) (same_number c)) (says_keeps K c (fault_text fault) start opened (λ e. absurd (fault_other fault e)) h)
   add_keeps (Close c) K drains taken h = close_keeps K start (takes_open (is_open c start.notes) taken) h
   add_keeps (Tick now) K drains taken h = tick_keeps start now K h
   add_keeps (Took c) K drains taken h = note_keeps K (notes.Took c) start refl (owed_is (is_open c start.notes) (is_owed (phase c start.notes)) taken) refl h
   add_keeps (Withdrew c) K drains taken h = note_keeps K (notes.Withdrew c) start refl (owed_is (is_open c start.notes) (is_owed (phase c start.notes)) taken) refl h
   add_keeps (Drain c) K drains taken h = (h.0, drains c refl h.0 h.1)
 
-  pub step_keeps : (s : Step) → Keeps k start.notes s I → ((c : ℕ) → s ≡ Drain c → History k start.notes → I start → I (flowed (Drained c) start)) → Held k I start → Held k I (step k s start)
+  pub step_keeps : (s : Step) → Keeps k start.notes s I → ((c : ℕ) → s ≡ Drain c → History k start.notes → I start → I (with_flow (Drained c) start)) → Held k I start → Held k I (step k s start)
   step_keeps s K drains h = taken_or_not (Held k I) (refusal k s start) (add k s start) start (λ taken. add_keeps s K drains taken h) h
 
 -- every note of every run was allowed

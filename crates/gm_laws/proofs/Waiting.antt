@@ -1,5 +1,6 @@
 -- A job that waits is among those that a grab would look at.
-use Rattle.std.proofs.Common.{◌≡◌, ◌⊎◌, inl, inr, ℕ, Bool, true, false, cond, not, ◌||◌, List, [], ◌∷◌, ◌++◌, filter, Option, Some, None, refl, sym, ap, subst, ◌∙◌}
+use Rattle.std.proofs.Common.{◌≡◌, ◌⊎◌, inl, inr, ℕ, Bool, true, false, cond, not, ◌||◌, List, [], ◌∷◌, ◌++◌, filter, Option}
+use Rattle.std.proofs.Common.{Some, None, refl, sym, ap, subst, ◌∙◌}
 use Rattle.std.specs.Prelude.{◌==◌}
 use Rattle.std.specs.List.{list_any}
 use Rattle.std.specs.Str.{bytes_eq}
@@ -9,8 +10,14 @@ use Rattle.gm_notes.specs.declared.note.Note.{Note}
 use Rattle.gm_notes.specs.declared.note.Note.TheVariants as notes
 use Rattle.gm_notes.specs.declared.states.Priority.{Priority}
 use Rattle.gm_notes.specs.declared.states.Priority.TheVariants.{High, Normal, Low}
-use Rattle.gm_notes.specs.Jobs.{Waits, RunsAt, Over, Thrown, Job, Ability, Pick, spot, job, is_waiting, is_job_with, is_queued, same_priority, as_they_came, queue, waiting_for, is_empty, first_of, pick_from, pick, abilities, is_of, is_able}
+use Rattle.gm_notes.specs.Jobs.{Job, Ability, job_state, job, is_job_with, is_queued, same_priority, as_they_came, queue}
+use Rattle.gm_notes.specs.Jobs.{waiting_for, is_empty, first_of, pick_from, pick, abilities, is_of, is_able, scan}
+use Rattle.gm_notes.specs.declared.states.Pick.{Pick}
+use Rattle.gm_notes.specs.JobStates.{is_waiting}
+use Rattle.gm_notes.specs.JobStates as states
 use Rattle.gm_laws.proofs.Moving.{moved, from, In}
+use Rattle.gm_notes.specs.Settings.{Settings}
+use Rattle.gm_notes.proofs.Scans.{scan_members}
 
 in_last : (n : ℕ) (ms : List ℕ) → In n (ms ++ n ∷ [])
 in_last n [] = inl refl
@@ -35,18 +42,18 @@ in_others n m (x ∷ ms) other (inl e) = kept_at n x m _ (not (x == m)) refl oth
 in_others n m (x ∷ ms) other (inr i) = kept_at n x m _ (not (x == m)) refl other (inr (in_others n m ms other i))
 
 -- who waits came
-pub waits_came : (n : ℕ) (l : List Note) → spot n l ≡ Waits → In n (as_they_came l)
+pub waits_came : (n : ℕ) (l : List Note) → job_state n l ≡ states.Waiting → In n (as_they_came l)
 waits_came n [] e = absurd cc
 waits_came n (notes.Made m f p u body ∷ older) e =
-    from (moved n m Waits (spot n older) Waits (n == m) refl e) (λ h. subst (λ x. In n (as_they_came older ++ x ∷ [])) h.0 (in_last n (as_they_came older)))
+    from (moved n m states.Waiting (job_state n older) states.Waiting (n == m) refl e) (λ h. subst (λ x. In n (as_they_came older ++ x ∷ [])) h.0 (in_last n (as_they_came older)))
     (λ h. in_front n m (as_they_came older) (waits_came n older h.1))
 waits_came n (notes.Returned m ∷ older) e =
-    from (moved n m Waits (spot n older) Waits (n == m) refl e)
+    from (moved n m states.Waiting (job_state n older) states.Waiting (n == m) refl e)
     (λ h. subst (λ x. In n (filter (λ y. not (y == m)) (as_they_came older) ++ x ∷ [])) h.0 (in_last n (filter (λ y. not (y == m)) (as_they_came older))))
     (λ h. in_front n m (filter (λ y. not (y == m)) (as_they_came older)) (in_others n m (as_they_came older) h.0 (waits_came n older h.1)))
-waits_came n (notes.Assigned m c late ∷ older) e = from (moved n m (RunsAt c) (spot n older) Waits (n == m) refl e) (λ h. absurd (let x = h.1 in cc)) (λ h. waits_came n older h.1)
-waits_came n (notes.Ended m ∷ older) e = from (moved n m Over (spot n older) Waits (n == m) refl e) (λ h. absurd (let x = h.1 in cc)) (λ h. waits_came n older h.1)
-waits_came n (notes.Discarded m ∷ older) e = from (moved n m Thrown (spot n older) Waits (n == m) refl e) (λ h. absurd (let x = h.1 in cc)) (λ h. waits_came n older h.1)
+waits_came n (notes.Assigned m c late ∷ older) e = from (moved n m (states.Running c) (job_state n older) states.Waiting (n == m) refl e) (λ h. absurd (let x = h.1 in cc)) (λ h. waits_came n older h.1)
+waits_came n (notes.Ended m ∷ older) e = from (moved n m states.Ended (job_state n older) states.Waiting (n == m) refl e) (λ h. absurd (let x = h.1 in cc)) (λ h. waits_came n older h.1)
+waits_came n (notes.Discarded m ∷ older) e = from (moved n m states.Discarded (job_state n older) states.Waiting (n == m) refl e) (λ h. absurd (let x = h.1 in cc)) (λ h. waits_came n older h.1)
 waits_came n (note ∷ older) e = waits_came n older e
 
 found_at : (test : ℕ → Bool) (n x : ℕ) (rest : List ℕ) (t : Bool) → test x ≡ t → test n ≡ true → (n ≡ x) ⊎ (is_empty rest ≡ false) → is_empty (cond t (x ∷ rest) rest) ≡ false
@@ -81,14 +88,14 @@ priority_same High = refl
 priority_same Normal = refl
 priority_same Low = refl
 
-is_queued_here : (n : ℕ) (l : List Note) (what : Job) → spot n l ≡ Waits → job n l ≡ Some what → is_queued what.function what.priority l n ≡ true
+is_queued_here : (n : ℕ) (l : List Note) (what : Job) → job_state n l ≡ states.Waiting → job n l ≡ Some what → is_queued what.function what.priority l n ≡ true
 is_queued_here n l what waits is =
-    and_from (is_waiting (spot n l)) (is_job_with what.function what.priority (job n l)) (ap is_waiting waits)
+    and_from (is_waiting (job_state n l)) (is_job_with what.function what.priority (job n l)) (ap is_waiting waits)
     (ap (is_job_with what.function what.priority) is
     ∙ and_from (bytes_eq what.function what.function) (same_priority what.priority what.priority) ((bytes_eq-Decides what.function what.function).1 refl) (priority_same what.priority))
 
 -- for the function of a job that waits, something waits
-pub something_waits : (n : ℕ) (l : List Note) (what : Job) → spot n l ≡ Waits → job n l ≡ Some what → is_empty (waiting_for what.function l) ≡ false
+pub something_waits : (n : ℕ) (l : List Note) (what : Job) → job_state n l ≡ states.Waiting → job n l ≡ Some what → is_empty (waiting_for what.function l) ≡ false
 something_waits n l what waits is =
     by_priority what.priority what.function l (some_left (is_queued what.function what.priority l) n (as_they_came l) (waits_came n l waits) (is_queued_here n l what waits is))
 
@@ -111,7 +118,7 @@ is_false : (t : Bool) → (t ≡ true → ⊥) → t ≡ false
 is_false true no_way = absurd (no_way refl)
 is_false false no_way = refl
 
-pub no_pick : (c n : ℕ) (l : List Note) (what : Job) → pick c l ≡ None → spot n l ≡ Waits → job n l ≡ Some what → is_able c what.function l ≡ false
-no_pick c n l what none waits is =
+pub no_pick : (k : Settings) (c n : ℕ) (l : List Note) (what : Job) → pick k c l ≡ None → job_state n l ≡ states.Waiting → job n l ≡ Some what → is_able c what.function l ≡ false
+no_pick k c n l what none waits is =
     is_false (is_able c what.function l)
-    (λ able. let bad : true ≡ false = sym (no_pick_from (abilities c l) l what.function none able) ∙ something_waits n l what waits is in let worse : ⊥ = cc in worse)
+    (λ able. let bad : true ≡ false = sym (no_pick_from (scan k c l) l what.function none (scan_members k c l (is_of what.function) ∙ able)) ∙ something_waits n l what waits is in let worse : ⊥ = cc in worse)

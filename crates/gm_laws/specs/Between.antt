@@ -3,7 +3,10 @@ use Rattle.std.specs.Prelude.{◌≡◌, ℕ, true, false, List, [], ◌∷◌, 
 use Rattle.gm_notes.specs.declared.note.Note.{Note}
 use Rattle.gm_notes.specs.Settings.{Settings}
 use Rattle.gm_notes.specs.Notes.{is_open, phase, is_asleep}
-use Rattle.gm_notes.specs.Jobs.{Job, Waits, RunsAt, spot, job, is_able, is_wanted, listeners}
+use Rattle.gm_notes.specs.Jobs.{Job, job_state, job, is_able, is_wanted, listeners}
+use Rattle.gm_notes.specs.JobStates as states
+use Rattle.gm_notes.specs.declared.states.Phase.TheVariants.{Awake}
+use Rattle.gm_notes.specs.Steps.{Step, run}
 
 abbrev pub AllOpen : List ℕ → List Note → Type 0
 AllOpen [] notes = Unit {0}
@@ -15,13 +18,17 @@ ListenersAreOpen k notes = (n : ℕ) → AllOpen (listeners n notes) notes
 
 -- the slot where a job runs is open
 abbrev pub RunnersAreOpen : Settings → List Note → Type 0
-RunnersAreOpen k notes = (n c : ℕ) → spot n notes ≡ RunsAt c → is_open c notes ≡ true
+RunnersAreOpen k notes = (n c : ℕ) → job_state n notes ≡ states.Running c → is_open c notes ≡ true
+
+-- who sleeps, or is owed a NOOP, is open: a slot that isn't open is awake
+abbrev pub SleepersAreOpen : Type 0
+SleepersAreOpen = (k : Settings) (steps : List Step) (c : ℕ) → is_open c (run k steps).notes ≡ false → phase c (run k steps).notes ≡ Awake
 
 -- each waiting job is wanted: a background submission keeps it, or somebody listens to it
 abbrev pub NoWaitingJobIsOrphaned : Settings → List Note → Type 0
-NoWaitingJobIsOrphaned k notes = (n : ℕ) → spot n notes ≡ Waits → is_wanted n notes ≡ true
+NoWaitingJobIsOrphaned k notes = (n : ℕ) → job_state n notes ≡ states.Waiting → is_wanted n notes ≡ true
 
 -- who sleeps can do none of the jobs that wait
 abbrev pub NoOneSleepsBesideWork : Settings → List Note → Type 0
 NoOneSleepsBesideWork k notes = (c n : ℕ) (what : Job) →
-    is_asleep (phase c notes) ≡ true → spot n notes ≡ Waits → job n notes ≡ Some what → is_able c what.function notes ≡ false
+    is_asleep (phase c notes) ≡ true → job_state n notes ≡ states.Waiting → job n notes ≡ Some what → is_able c what.function notes ≡ false

@@ -1,15 +1,20 @@
 -- Which steps add which note, and what they may say.
 use Rattle.std.specs.Prelude.{◌≡◌, ℕ, Bool, true, false, ◌&&◌, ◌||◌, ◌==◌, max, List, [], ◌∷◌, ◌++◌, Option, Some, None, Ok}
 use Rattle.gm_packet.specs.declared.kind.Kind.{Kind}
-use Rattle.gm_packet.specs.declared.kind.Kind.TheVariants.{CanDo, CantDo, ResetAbilities, PreSleep, SubmitJob, GrabJob, WorkStatus, WorkComplete, WorkFail, SubmitJobBg, SubmitJobHigh, SetClientId, CanDoTimeout, OptionReq, GrabJobUniq, SubmitJobHighBg, SubmitJobLow, SubmitJobLowBg}
+use Rattle.gm_packet.specs.declared.kind.Kind.TheVariants.{CanDo, CantDo, ResetAbilities, PreSleep, SubmitJob, GrabJob}
+use Rattle.gm_packet.specs.declared.kind.Kind.TheVariants.{WorkStatus, WorkComplete, WorkFail, SubmitJobBg, SubmitJobHigh}
+use Rattle.gm_packet.specs.declared.kind.Kind.TheVariants.{SetClientId, CanDoTimeout, OptionReq, GrabJobUniq, SubmitJobHighBg}
+use Rattle.gm_packet.specs.declared.kind.Kind.TheVariants.{SubmitJobLow, SubmitJobLowBg}
 use Rattle.gm_packet.specs.Kinds.{kind_of}
 use Rattle.gm_packet.specs.Requests.{Asked, request_of}
-use Rattle.gm_packet.specs.Writing.{answer_packet, no_job}
+use Rattle.gm_packet.specs.Answers.{answer_packet, no_job}
 use Rattle.gm_notes.specs.declared.note.Note.{Note}
 use Rattle.gm_notes.specs.declared.note.Note.TheVariants as notes
 use Rattle.gm_notes.specs.Flow.{Flow, Began, Queued, Drained, Emptied}
 use Rattle.gm_notes.specs.Notes.{moment}
-use Rattle.gm_notes.specs.Jobs.{RunsAt, spot, is_running_at, deadline, pick, handle}
+use Rattle.gm_notes.specs.Jobs.{job_state, deadline, pick, handle}
+use Rattle.gm_notes.specs.JobStates.{is_running_at}
+use Rattle.gm_notes.specs.JobStates as states
 use Rattle.gm_notes.specs.Settings.{Settings}
 use Rattle.gm_notes.specs.Requests.{first}
 use Rattle.gm_notes.specs.Closings.{is_reached}
@@ -117,7 +122,7 @@ NamesJob k number bytes n = (asked : Asked) × (request_of number bytes ≡ Ok a
 -- a step ends job n: WORK_COMPLETE or WORK_FAIL with its handle, of the slot where it runs, or a tick that reaches its
 -- deadline
 abbrev pub Ends : Settings → List Note → Step → ℕ → Type 0
-Ends k before (Packet c number bytes) n = (is_one_of is_ending (kind_of number) ≡ true) × (spot n before ≡ RunsAt c) × NamesJob k number bytes n
+Ends k before (Packet c number bytes) n = (is_one_of is_ending (kind_of number) ≡ true) × (job_state n before ≡ states.Running c) × NamesJob k number bytes n
 Ends k before (Tick now) n = is_reached (deadline n before) (max now (moment before)) ≡ true
 Ends k before other n = ⊥
 
@@ -140,8 +145,8 @@ Caused k before s (notes.Made n f p u body) older = is_request is_submission s �
 Caused k before s (notes.Kept n) older = is_request is_background s ≡ true
 Caused k before s (notes.Listens n c) older = asks is_foreground c s ≡ true
 -- a grab gets the pick that there was before it
-Caused k before s (notes.Assigned n c late) older = (asks is_grab c s ≡ true) × Gets c n before
-Caused k before s (notes.Returned n) older = (c : ℕ) × (s ≡ Close c) × (is_running_at c (spot n older) ≡ true)
+Caused k before s (notes.Assigned n c late) older = (asks is_grab c s ≡ true) × Gets k c n before
+Caused k before s (notes.Returned n) older = (c : ℕ) × (s ≡ Close c) × (is_running_at c (job_state n older) ≡ true)
 Caused k before s (notes.Ended n) older = Ends k before s n
 Caused k before s (notes.Discarded n) older = is_closing s ≡ true
 Caused k before s (notes.Report n a b) older = is_request is_reporting s ≡ true
@@ -151,8 +156,8 @@ Caused k before s (notes.Now t) older = is_tick s ≡ true
 Caused k before s (notes.Went m) older = is_line s ≡ true
 
 -- the step after these notes may queue the bytes to slot c: NO_JOB only for a grab, and only where there is no pick
-abbrev pub MaySay : List Note → Step → ℕ → List ℕ → Type 0
-MaySay before s c bytes = bytes ≡ answer_packet no_job → (asks is_grab c s ≡ true) × (pick c before ≡ None)
+abbrev pub MaySay : Settings → List Note → Step → ℕ → List ℕ → Type 0
+MaySay k before s c bytes = bytes ≡ answer_packet no_job → (asks is_grab c s ≡ true) × (pick k c before ≡ None)
 
 -- ---- all that a step adds
 
@@ -161,12 +166,12 @@ abbrev pub AllCaused : Settings → List Note → Step → List Note → Type 0
 AllCaused k before s [] = Unit {0}
 AllCaused k before s (note ∷ newer) = Caused k before s note (newer ++ before) × AllCaused k before s newer
 
-abbrev pub Says : List Note → Step → Flow → Type 0
-Says before s (Queued c bytes) = MaySay before s c bytes
-Says before s (Began c) = Unit {0}
-Says before s (Drained c) = Unit {0}
-Says before s (Emptied c) = Unit {0}
+abbrev pub Says : Settings → List Note → Step → Flow → Type 0
+Says k before s (Queued c bytes) = MaySay k before s c bytes
+Says k before s (Began c) = Unit {0}
+Says k before s (Drained c) = Unit {0}
+Says k before s (Emptied c) = Unit {0}
 
-abbrev pub AllSaid : List Note → Step → List Flow → Type 0
-AllSaid before s [] = Unit {0}
-AllSaid before s (one ∷ newer) = Says before s one × AllSaid before s newer
+abbrev pub AllSaid : Settings → List Note → Step → List Flow → Type 0
+AllSaid k before s [] = Unit {0}
+AllSaid k before s (one ∷ newer) = Says k before s one × AllSaid k before s newer

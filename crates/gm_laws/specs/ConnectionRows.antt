@@ -3,7 +3,11 @@ use Rattle.std.specs.Prelude.{true, false, [], ◌∷◌, ◌++◌}
 use Rattle.gm_notes.specs.Steps.{Fault, Close, Tick, Took, Drain}
 use Rattle.gm_notes.specs.declared.event.ApplyError.TheVariants.{NotOpen, NoSlot, NotOwed}
 use Rattle.gm_notes.specs.declared.event.UnitFault.TheVariants.{BadMagic}
-use Rattle.gm_laws.specs.RowWords.{defaults, two_slots, four_slots, connect_from, connect, says, can_do, pre_sleep, submit_job, grab_job, work_complete, work_fail, get_status, echo_req, submit_job_bg, submit_job_high, set_client_id, work_exception, option_req, submit_job_high_bg, line, page, created, no_job, assigned, completed, failed, status, echoed, option_set, error, Plays, Owes, Waits, IsSent, Answers, opened, made, nothing_made, Refuses, Takes}
+use Rattle.gm_laws.specs.RowWords.{defaults, two_slots, four_slots, connect_from, connect, says, can_do, pre_sleep, submit_job}
+use Rattle.gm_laws.specs.RowWords.{grab_job, work_complete, work_fail, get_status, echo_req, submit_job_bg, submit_job_high}
+use Rattle.gm_laws.specs.RowWords.{set_client_id, work_exception, option_req, submit_job_high_bg, line, page, created, no_job}
+use Rattle.gm_laws.specs.RowWords.{assigned, completed, failed, status, echoed, option_set, error, Plays, Owes, Waits, IsSent}
+use Rattle.gm_laws.specs.RowWords.{Answers, opened, made, nothing_made, Refuses, Takes}
 
 -- an opening gets the least slot that isn't open
 abbrev pub LeastSlot : Type 0

@@ -1,14 +1,18 @@
 -- When each note may be added, and that every note of a past was.
 use Rattle.std.specs.Prelude.{◌≡◌, ℕ, ◌<◌, ◌≤◌, true, false, List, [], ◌∷◌, Some, None}
 use Rattle.gm_notes.specs.declared.note.Note.{Note}
-use Rattle.gm_notes.specs.declared.note.Note.TheVariants.{Opened, Shut, Closed, Named, OptionSet, Can, Cant, Reset, Slept, Woken, Stirred, Took, Withdrew, Made, Kept, Listens, Assigned, Returned, Ended, Discarded, Report, Mention, Limit, Now, Went}
+use Rattle.gm_notes.specs.declared.note.Note.TheVariants.{Opened, Shut, Closed, Named, OptionSet, Can, Cant, Reset, Slept}
+use Rattle.gm_notes.specs.declared.note.Note.TheVariants.{Woken, Stirred, Took, Withdrew, Made, Kept, Listens, Assigned}
+use Rattle.gm_notes.specs.declared.note.Note.TheVariants.{Returned, Ended, Discarded, Report, Mention, Limit, Now, Went}
 use Rattle.gm_notes.specs.Settings.{Settings}
 use Rattle.gm_notes.specs.Notes.{is_open, phase, is_asleep, is_awake, is_owed, moment}
-use Rattle.gm_notes.specs.Jobs.{Pick, spot, is_waiting, is_running, is_live, is_wanted, is_mentioned, joined, next_number, pick}
+use Rattle.gm_notes.specs.Jobs.{job_state, is_wanted, is_mentioned, joined, next_number, pick}
+use Rattle.gm_notes.specs.declared.states.Pick.{Pick}
+use Rattle.gm_notes.specs.JobStates.{is_waiting, is_running, is_live}
 
 -- slot c's grab gets job n
-abbrev pub Gets : ℕ → ℕ → List Note → Type 0
-Gets c n older = (found : Pick) × (pick c older ≡ Some found) × (found.job ≡ n)
+abbrev pub Gets : Settings → ℕ → ℕ → List Note → Type 0
+Gets k c n older = (found : Pick) × (pick k c older ≡ Some found) × (found.job ≡ n)
 
 -- when a note may be added to the older ones
 abbrev pub Allowed : Settings → Note → List Note → Type 0
@@ -27,16 +31,16 @@ Allowed k (Took c) older = is_owed (phase c older) ≡ true
 Allowed k (Withdrew c) older = is_owed (phase c older) ≡ true
 -- a job gets the next number, and joins nothing
 Allowed k (Made n f p u body) older = (next_number k older ≡ Some n) × (joined f u older ≡ None)
-Allowed k (Kept n) older = is_live (spot n older) ≡ true
-Allowed k (Listens n c) older = (is_live (spot n older) ≡ true) × (is_open c older ≡ true)
+Allowed k (Kept n) older = is_live (job_state n older) ≡ true
+Allowed k (Listens n c) older = (is_live (job_state n older) ≡ true) × (is_open c older ≡ true)
 -- only a waiting job is given out, and only to whose grab gets it
-Allowed k (Assigned n c deadline) older = (is_waiting (spot n older) ≡ true) × (is_open c older ≡ true) × Gets c n older
+Allowed k (Assigned n c deadline) older = (is_waiting (job_state n older) ≡ true) × (is_open c older ≡ true) × Gets k c n older
 -- only a running job waits again, and only while somebody wants it
-Allowed k (Returned n) older = (is_running (spot n older) ≡ true) × (is_wanted n older ≡ true)
-Allowed k (Ended n) older = is_running (spot n older) ≡ true
+Allowed k (Returned n) older = (is_running (job_state n older) ≡ true) × (is_wanted n older ≡ true)
+Allowed k (Ended n) older = is_running (job_state n older) ≡ true
 -- a job is discarded only where nobody wants it
-Allowed k (Discarded n) older = (is_live (spot n older) ≡ true) × (is_wanted n older ≡ false)
-Allowed k (Report n a b) older = is_running (spot n older) ≡ true
+Allowed k (Discarded n) older = (is_live (job_state n older) ≡ true) × (is_wanted n older ≡ false)
+Allowed k (Report n a b) older = is_running (job_state n older) ≡ true
 Allowed k (Mention f) older = is_mentioned f older ≡ false
 Allowed k (Limit f size) older = Unit {0}
 Allowed k (Now t) older = moment older ≤ t

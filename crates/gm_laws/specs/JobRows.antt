@@ -2,9 +2,14 @@
 -- of the same name.
 use Rattle.std.specs.Prelude.{true, false, [], ◌∷◌, ◌++◌, replicate, codes}
 use Rattle.gm_notes.specs.Steps.{Close}
-use Rattle.gm_packet.specs.Writing.{job_assign_uniq}
+use Rattle.gm_packet.specs.Answers.{job_assign_uniq}
 use Rattle.gm_notes.specs.declared.states.Place.TheVariants as places
-use Rattle.gm_laws.specs.RowWords.{settings, defaults, from_the_last, one_function, four_slots, connect, says, asks, can_do, cant_do, pre_sleep, submit_job, grab_job, work_status, work_complete, work_fail, get_status, submit_job_bg, submit_job_high, can_do_timeout, all_yours, work_exception, option_req, work_data, work_warning, grab_job_uniq, submit_job_high_bg, submit_job_low, submit_job_low_bg, to, line, counts, created, no_job, assigned, assigned_uniq, status_was, completed, failed, raised, data_was, warned, status, option_set, error, Plays, Owes, Stands}
+use Rattle.gm_laws.specs.RowWords.{settings, defaults, from_the_last, one_function, four_slots, connect, says, asks, can_do}
+use Rattle.gm_laws.specs.RowWords.{cant_do, pre_sleep, submit_job, grab_job, work_status, work_complete, work_fail, get_status}
+use Rattle.gm_laws.specs.RowWords.{submit_job_bg, submit_job_high, can_do_timeout, all_yours, work_exception, option_req}
+use Rattle.gm_laws.specs.RowWords.{work_data, work_warning, grab_job_uniq, submit_job_high_bg, submit_job_low}
+use Rattle.gm_laws.specs.RowWords.{submit_job_low_bg, to, line, counts, created, no_job, assigned, assigned_uniq, status_was}
+use Rattle.gm_laws.specs.RowWords.{completed, failed, raised, data_was, warned, status, option_set, error, Plays, Owes, Stands}
 
 -- high before normal before low
 abbrev pub Priorities : Type 0
@@ -213,7 +218,7 @@ FunctionNames =
 -- a handle is the name and the number
 abbrev pub Handles : Type 0
 Handles =
-    Plays (record { name = codes "a.b-1"; first_job = 41; slots = 4; max_functions = 9 }) (
+    Plays (record (settings 41 4 9) { name = codes "a.b-1" }) (
     connect ∷ submit_job 0 "f" "a" "1" ∷ submit_job 0 "f" "b" "2" ∷ get_status 0 "H:a.b-1:42" ∷ get_status 0 "H:a.b-1:40" ∷ []) (
     created 0 "H:a.b-1:41" ∷ created 0 "H:a.b-1:42" ∷ status 0 "H:a.b-1:42" true false "0" "0"
     ∷ status 0 "H:a.b-1:40" false false "0" "0" ∷ [])

@@ -1,15 +1,19 @@
 -- What holds after any steps, under any settings.
-use Rattle.std.specs.Prelude.{◌≡◌, ℕ, ◌+◌, ◌<◌, ◌^◌, ◌&&◌, ◌==◌, ◌⊎◌, Bool, true, false, not, if◌then◌else◌, List, [], ◌∷◌, ◌++◌, length, Some, None}
+use Rattle.std.specs.Prelude.{◌≡◌, ℕ, ◌+◌, ◌<◌, ◌^◌, ◌&&◌, ◌==◌, ◌⊎◌, Bool, true, false, not, if◌then◌else◌, List, [], ◌∷◌}
+use Rattle.std.specs.Prelude.{◌++◌, length, Some, None}
 use Rattle.std.specs.List.{list_any, list_all}
 use Rattle.gm_packet.specs.Kinds.{kind_of}
 use Rattle.gm_notes.specs.declared.note.Note.{Note}
 use Rattle.gm_notes.specs.Settings.{Settings}
 use Rattle.gm_notes.specs.Notes.{is_open, takes_units, mode}
 use Rattle.gm_notes.specs.Flow.{Flow, Began, Queued, Drained, Emptied, sent, waiting}
-use Rattle.gm_notes.specs.Jobs.{Spot, Pick, pick, Unmade, RunsAt, Over, Thrown, spot, is_live, is_wanted, job, is_job_named, joins, made}
+use Rattle.gm_notes.specs.Jobs.{pick, job_state, is_wanted, job, is_job_named, joins, made}
+use Rattle.gm_notes.specs.declared.states.Pick.{Pick}
+use Rattle.gm_notes.specs.JobStates.{JobState, is_live, place_of}
+use Rattle.gm_notes.specs.JobStates as states
 use Rattle.gm_notes.specs.Steps.{Step, Packet, Close, Took, Withdrew, Drain, refusal, done, step, run}
 use Rattle.gm_notes.specs.Past.{Past}
-use Rattle.gm_notes.specs.Servers.{owes, is_closing as has_shut, place_of}
+use Rattle.gm_notes.specs.Servers.{owes, is_closing as has_shut}
 use Rattle.gm_laws.specs.History.{Gets}
 use Rattle.gm_laws.specs.Causes.{Ends, AllCaused, AllSaid, asks, is_grab, is_sleeping, is_one_of, is_closing}
 
@@ -30,29 +34,29 @@ AreSlots k notes = (c : ℕ) → is_open c notes ≡ true → c < k.slots
 abbrev pub is_made : ℕ → List Note → Bool
 is_made n notes = list_any (λ m. m == n) (made notes)
 
-abbrev pub has_place : Spot → Bool
-has_place Unmade = false
+abbrev pub has_place : JobState → Bool
+has_place states.Unmade = false
 has_place other = true
 
 abbrev pub HavePlaces : Settings → List Note → Type 0
-HavePlaces k notes = (n : ℕ) → has_place (spot n notes) ≡ is_made n notes
+HavePlaces k notes = (n : ℕ) → has_place (job_state n notes) ≡ is_made n notes
 
 -- live jobs of one function and one id that joins are one job
 abbrev pub is_live_named : List ℕ → List ℕ → ℕ → List Note → Bool
-is_live_named f u n notes = is_live (spot n notes) && is_job_named f u (job n notes)
+is_live_named f u n notes = is_live (job_state n notes) && is_job_named f u (job n notes)
 
 abbrev pub AreOne : Settings → List Note → Type 0
 AreOne k notes = (f u : List ℕ) (m n : ℕ) → joins u ≡ true → is_live_named f u m notes ≡ true → is_live_named f u n notes ≡ true → m ≡ n
 
 -- a job that has ended or was discarded stays so, whatever comes
-abbrev pub is_gone : Spot → Bool
-is_gone Over = true
-is_gone Thrown = true
+abbrev pub is_gone : JobState → Bool
+is_gone states.Ended = true
+is_gone states.Discarded = true
 is_gone other = false
 
 abbrev pub StayGone : Type 0
 StayGone = (k : Settings) (later steps : List Step) (n : ℕ) →
-    is_gone (spot n (run k steps).notes) ≡ true → spot n (run k (later ++ steps)).notes ≡ spot n (run k steps).notes
+    is_gone (job_state n (run k steps).notes) ≡ true → job_state n (run k (later ++ steps)).notes ≡ job_state n (run k steps).notes
 
 -- what was taken of the bytes of slot c since it was opened
 abbrev pub drained : ℕ → List Flow → List ℕ
@@ -98,28 +102,28 @@ NotesAreCaused k before s after = (newer : List Note) × (after.notes ≡ newer 
 
 -- a job is discarded only in a closing, and only one that isn't kept and that nobody listens to
 abbrev pub DiscardsTheUnwanted : Settings → Past → Step → Past → Type 0
-DiscardsTheUnwanted k before s after = (n : ℕ) → spot n after.notes ≡ Thrown →
-    (spot n before.notes ≡ Thrown) ⊎ ((is_closing s ≡ true) × (is_wanted n after.notes ≡ false))
+DiscardsTheUnwanted k before s after = (n : ℕ) → job_state n after.notes ≡ states.Discarded →
+    (job_state n before.notes ≡ states.Discarded) ⊎ ((is_closing s ≡ true) × (is_wanted n after.notes ≡ false))
 
 -- a job ends only with WORK_COMPLETE or WORK_FAIL with its handle, of the slot where it runs, or in a tick that reaches its
 -- deadline
 abbrev pub EndsWithItsWorker : Settings → Past → Step → Past → Type 0
-EndsWithItsWorker k before s after = (n : ℕ) → spot n after.notes ≡ Over → (spot n before.notes ≡ Over) ⊎ Ends k before.notes s n
+EndsWithItsWorker k before s after = (n : ℕ) → job_state n after.notes ≡ states.Ended → (job_state n before.notes ≡ states.Ended) ⊎ Ends k before.notes s n
 
 -- a job comes to run at a slot only where the slot grabs, and the job is its pick
 abbrev pub GivesThePick : Settings → Past → Step → Past → Type 0
-GivesThePick k before s after = (n c : ℕ) → spot n after.notes ≡ RunsAt c →
-    (spot n before.notes ≡ RunsAt c) ⊎ ((asks is_grab c s ≡ true) × Gets c n before.notes)
+GivesThePick k before s after = (n c : ℕ) → job_state n after.notes ≡ states.Running c →
+    (job_state n before.notes ≡ states.Running c) ⊎ ((asks is_grab c s ≡ true) × Gets k c n before.notes)
 
 -- a grab of a slot that takes units gets its pick: the job runs there
 abbrev pub GrabsGetThePick : Type 0
 GrabsGetThePick = (k : Settings) (steps : List Step) (c number : ℕ) (found : Pick) →
-    is_one_of is_grab (kind_of number) ≡ true → takes_units c (run k steps).notes ≡ true → pick c (run k steps).notes ≡ Some found →
-    spot found.job (run k (Packet c number [] ∷ steps)).notes ≡ RunsAt c
+    is_one_of is_grab (kind_of number) ≡ true → takes_units c (run k steps).notes ≡ true → pick k c (run k steps).notes ≡ Some found →
+    job_state found.job (run k (Packet c number [] ∷ steps)).notes ≡ states.Running c
 
 -- NO_JOB is queued only for a grab, and only where there is no pick
 abbrev pub SaysNoJobWhereNoneIs : Settings → Past → Step → Past → Type 0
-SaysNoJobWhereNoneIs k before s after = (newer : List Flow) × (after.flow ≡ newer ++ before.flow) × AllSaid before.notes s newer
+SaysNoJobWhereNoneIs k before s after = (newer : List Flow) × (after.flow ≡ newer ++ before.flow) × AllSaid k before.notes s newer
 
 -- what waits for a slot is taken by its drains and goes with its closing, and nothing else takes of it
 abbrev pub takes_from : ℕ → Step → Bool
@@ -157,7 +161,7 @@ AllGoAlike k (s ∷ newer) these those = GoesAlike k s (run k (newer ++ these)) 
 abbrev pub TellAlike : Past → Past → Type 0
 TellAlike a b =
     ((c : ℕ) → owes c a ≡ owes c b) × ((c : ℕ) → has_shut c a ≡ has_shut c b) × (mode a.notes ≡ mode b.notes)
-    × ((n : ℕ) → place_of (spot n a.notes) ≡ place_of (spot n b.notes)) × ((c : ℕ) → waiting c a.flow ≡ waiting c b.flow)
+    × ((n : ℕ) → place_of (job_state n a.notes) ≡ place_of (job_state n b.notes)) × ((c : ℕ) → waiting c a.flow ≡ waiting c b.flow)
 
 -- a NOOP that can be taken can as well be taken later, after steps that let its taking pass: they go alike, and so does
 -- whatever comes after them and the taking

@@ -7,8 +7,11 @@ use Rattle.gm_notes.specs.declared.config.ConfigError.TheVariants.{BadName, BadN
 use Rattle.gm_notes.specs.declared.states.Mode.TheVariants as modes
 use Rattle.gm_notes.specs.Numbers.{apply_error_number, unit_fault_number}
 use Rattle.gm_notes.specs.Settings.{config_fault, config_error_number, Settings}
-use Rattle.gm_packet.specs.Writing.{echo_res}
-use Rattle.gm_laws.specs.RowWords.{AreShut, GoesOn, settings, defaults, four_slots, connect_from, connect, says, asks, can_do, cant_do, reset_abilities, submit_job, grab_job, work_complete, echo_req, submit_job_bg, set_client_id, all_yours, to, line, page, counts, created, assigned, completed, status, echoed, error, Plays, Refuses, Takes}
+use Rattle.gm_packet.specs.Answers.{echo_res}
+use Rattle.gm_laws.specs.RowWords.{AreShut, GoesOn, settings, defaults, four_slots, connect_from, connect, says, asks, can_do}
+use Rattle.gm_laws.specs.RowWords.{cant_do, reset_abilities, submit_job, grab_job, work_complete, echo_req, submit_job_bg}
+use Rattle.gm_laws.specs.RowWords.{set_client_id, all_yours, to, line, page, counts, created, assigned, completed, status}
+use Rattle.gm_laws.specs.RowWords.{echoed, error, Plays, Refuses, Takes}
 
 -- with this name
 abbrev pub named : List ℕ → Settings

@@ -2,8 +2,8 @@
 use Prim.Native.String.{String}
 use Rattle.std.specs.Prelude.{◌≡◌, ℕ, Bool, List, [], ◌∷◌, ◌++◌, reverse, filter, codes, Some, None}
 use Rattle.std.specs.List.{join_with_byte, flat_map}
-use Rattle.gm_packet.specs.Writing.{Answer, answer_packet}
-use Rattle.gm_packet.specs.Writing as writing
+use Rattle.gm_packet.specs.Answers.{Answer, answer_packet}
+use Rattle.gm_packet.specs.Answers as writing
 use Rattle.gm_notes.specs.declared.event.ApplyError.{ApplyError}
 use Rattle.gm_notes.specs.declared.event.Done.{Done}
 use Rattle.gm_notes.specs.declared.states.Mode.{Mode}
@@ -11,9 +11,10 @@ use Rattle.gm_notes.specs.declared.states.Place.{Place}
 use Rattle.gm_notes.specs.Settings.{Settings}
 use Rattle.gm_notes.specs.Notes.{mode, slots_from}
 use Rattle.gm_notes.specs.Flow.{Flow, Began, Queued, Drained, Emptied, sent, waiting}
-use Rattle.gm_notes.specs.Jobs.{spot}
+use Rattle.gm_notes.specs.Jobs.{job_state}
 use Rattle.gm_notes.specs.Past.{Past}
-use Rattle.gm_notes.specs.Servers.{owes, is_closing, place_of}
+use Rattle.gm_notes.specs.Servers.{owes, is_closing}
+use Rattle.gm_notes.specs.JobStates.{place_of}
 use Rattle.gm_notes.specs.Steps.{Step, Open, Packet, Line, refusal, run, done}
 
 -- ---- settings
@@ -241,7 +242,7 @@ nothing_made = record { opened = None; created = None }
 
 -- where the job is after them
 abbrev pub Stands : Settings → List Step → ℕ → Place → Type 0
-Stands k steps n place = place_of (spot n (after k steps).notes) ≡ place
+Stands k steps n place = place_of (job_state n (after k steps).notes) ≡ place
 
 -- one step more is refused so, or is taken
 abbrev pub Refuses : Settings → List Step → Step → ApplyError → Type 0

@@ -2,7 +2,10 @@
 use Rattle.std.specs.Prelude.{true, false, [], ◌∷◌, ◌++◌}
 use Rattle.gm_notes.specs.Steps.{Close, Tick, Took, Withdrew}
 use Rattle.gm_notes.specs.declared.event.ApplyError.TheVariants.{NotOpen, NotOwed}
-use Rattle.gm_laws.specs.RowWords.{defaults, four_slots, connect, says, can_do, cant_do, reset_abilities, pre_sleep, submit_job, grab_job, work_complete, get_status, submit_job_bg, submit_job_high, can_do_timeout, grab_job_uniq, line, created, no_job, assigned, assigned_uniq, completed, failed, status, error, Plays, Owes, Refuses}
+use Rattle.gm_laws.specs.RowWords.{defaults, four_slots, connect, says, can_do, cant_do, reset_abilities, pre_sleep}
+use Rattle.gm_laws.specs.RowWords.{submit_job, grab_job, work_complete, get_status, submit_job_bg, submit_job_high}
+use Rattle.gm_laws.specs.RowWords.{can_do_timeout, grab_job_uniq, line, created, no_job, assigned, assigned_uniq, completed}
+use Rattle.gm_laws.specs.RowWords.{failed, status, error, Plays, Owes, Refuses}
 
 -- a grab goes through the functions in the order in which they were added; adding one again moves nothing
 abbrev pub AbilityOrder : Type 0

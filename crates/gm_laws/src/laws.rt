@@ -3,8 +3,10 @@
 
 ghost use Rattle.gm_notes.specs.Jobs.{made};
 ghost use Rattle.gm_laws.specs.History.{History};
-ghost use Rattle.gm_laws.specs.Laws.{AfterAnySteps, AreNumbers, AreSlots, HavePlaces, AreOne, StayGone, AllIsSent, BytesArrive, InEachStep, NotesAreCaused, DiscardsTheUnwanted, EndsWithItsWorker, GivesThePick, GrabsGetThePick, SaysNoJobWhereNoneIs, OnlyDrainsTake, MayBeTakenLater};
-ghost use Rattle.gm_laws.specs.Between.{ListenersAreOpen, RunnersAreOpen, NoWaitingJobIsOrphaned, NoOneSleepsBesideWork};
+ghost use Rattle.gm_laws.specs.Laws.{AfterAnySteps, AreNumbers, AreSlots, HavePlaces, AreOne, StayGone, AllIsSent, BytesArrive};
+ghost use Rattle.gm_laws.specs.Laws.{InEachStep, NotesAreCaused, DiscardsTheUnwanted, EndsWithItsWorker, GivesThePick};
+ghost use Rattle.gm_laws.specs.Laws.{GrabsGetThePick, SaysNoJobWhereNoneIs, OnlyDrainsTake, MayBeTakenLater};
+ghost use Rattle.gm_laws.specs.Between.{ListenersAreOpen, RunnersAreOpen, NoWaitingJobIsOrphaned, NoOneSleepsBesideWork, SleepersAreOpen};
 
 /// Every note of the past was allowed when it was added: only a waiting job was given out, and only to whose
 /// grab gets it; only a running one waited again, and only one that somebody wants; none was discarded that
@@ -14,23 +16,28 @@ pub fn each_note_was_allowed()
 {}
 
 /// The numbers made are the first and its successors, each once, none above 18446744073709551615.
-pub fn numbers()
+pub fn numbers_are_consecutive()
     ensures { AfterAnySteps (λ k notes. AreNumbers k (made notes)) }
 {}
 
 /// Who is open has a slot below the number of slots.
-pub fn slots()
+pub fn open_slots_are_in_range()
     ensures { AfterAnySteps AreSlots }
 {}
 
 /// A job is in one of the places waiting, running, ended and discarded exactly where it was made.
-pub fn places()
+pub fn placed_exactly_where_made()
     ensures { AfterAnySteps HavePlaces }
 {}
 
 /// Live jobs of one function with one unique id that joins are one job.
 pub fn one_live_job()
     ensures { AfterAnySteps AreOne }
+{}
+
+/// Who sleeps, or is owed a NOOP, is open: a slot that isn't open is awake.
+pub fn sleepers_are_open()
+    ensures { SleepersAreOpen }
 {}
 
 /// A job that has ended or was discarded stays so, whatever comes.

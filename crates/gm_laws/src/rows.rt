@@ -1,10 +1,21 @@
 //! Worked rows of the protocol: what the definitions give for whole runs of steps. Each function here is a
 //! row: its body does nothing, and its contract is what is queued, refused, answered or owed.
 
-ghost use Rattle.gm_laws.specs.JobRows.{Priorities, SixPriorities, SixKeepings, SixHearings, JoinedListeners, JoinedJob, JoiningKeys, JoinsRunning, EndedJobs, OnlyItsWorker, Progress, ReportKept, ExceptionsOption, DataWithNul, QueueLimit, LimitCounts, FunctionLimit, LastNumber, RefusalOrder, FunctionNames, Handles, Places};
-ghost use Rattle.gm_laws.specs.WorkerRows.{AbilityOrder, OnlyItsFunctions, QueueOrder, OneWake, OneWakeThen, AllWake, OnlyAbleWake, WorkBeforeSleep, WorkBeforeAbility, OnlyItsWork, WorkBeforeGrab, GrabStirs, StaleNoop, StillOwed, WithdrawnNoop, TakenNoop, Deadline, NoDeadline, TimeLimits, TimeStands, EdgesOfTime, ExpiredTogether, DeadlineForgotten};
-ghost use Rattle.gm_laws.specs.ConnectionRows.{LeastSlot, MadeJobs, SlotsSpent, ClosedSlots, NothingInherited, OptionNotInherited, SleepNotInherited, ShutNotInherited, ListenerNotInherited, WorkNotInherited, BytesWait, BytesSent, TwoSlots, ReturnedJob, WokenByReturn, NotItself, OrphanedJob, KeptJob, OnlyUnwanted, RunsOn, OnlyItsJobs};
-ghost use Rattle.gm_laws.specs.LineRows.{PlainAnswers, TrailingNul, Faults, WorkersText, OpenConnections, StatusText, AdminLines, LimitLines, ShutdownLines, Shutdowns, ShutDown, SettingsInRange, Modes, ShutSlots, RefusalNumbers};
+ghost use Rattle.gm_laws.specs.JobRows.{Priorities, SixPriorities, SixKeepings, SixHearings, JoinedListeners, JoinedJob};
+ghost use Rattle.gm_laws.specs.JobRows.{JoiningKeys, JoinsRunning, EndedJobs, OnlyItsWorker, Progress, ReportKept};
+ghost use Rattle.gm_laws.specs.JobRows.{ExceptionsOption, DataWithNul, QueueLimit, LimitCounts, FunctionLimit, LastNumber};
+ghost use Rattle.gm_laws.specs.JobRows.{RefusalOrder, FunctionNames, Handles, Places};
+ghost use Rattle.gm_laws.specs.WorkerRows.{AbilityOrder, OnlyItsFunctions, QueueOrder, OneWake, OneWakeThen, AllWake};
+ghost use Rattle.gm_laws.specs.WorkerRows.{OnlyAbleWake, WorkBeforeSleep, WorkBeforeAbility, OnlyItsWork, WorkBeforeGrab};
+ghost use Rattle.gm_laws.specs.WorkerRows.{GrabStirs, StaleNoop, StillOwed, WithdrawnNoop, TakenNoop, Deadline, NoDeadline};
+ghost use Rattle.gm_laws.specs.WorkerRows.{TimeLimits, TimeStands, EdgesOfTime, ExpiredTogether, DeadlineForgotten};
+ghost use Rattle.gm_laws.specs.ConnectionRows.{LeastSlot, MadeJobs, SlotsSpent, ClosedSlots, NothingInherited};
+ghost use Rattle.gm_laws.specs.ConnectionRows.{OptionNotInherited, SleepNotInherited, ShutNotInherited, ListenerNotInherited};
+ghost use Rattle.gm_laws.specs.ConnectionRows.{WorkNotInherited, BytesWait, BytesSent, TwoSlots, ReturnedJob, WokenByReturn};
+ghost use Rattle.gm_laws.specs.ConnectionRows.{NotItself, OrphanedJob, KeptJob, OnlyUnwanted, RunsOn, OnlyItsJobs};
+ghost use Rattle.gm_laws.specs.LineRows.{PlainAnswers, TrailingNul, Faults, WorkersText, OpenConnections, StatusText, AdminLines};
+ghost use Rattle.gm_laws.specs.LineRows.{LimitLines, ShutdownLines, Shutdowns, ShutDown, SettingsInRange, Modes, ShutSlots};
+ghost use Rattle.gm_laws.specs.LineRows.{RefusalNumbers};
 
 // ---- jobs
 

@@ -1,3 +1,4 @@
 pub mod FreeSlots
 pub mod NameLemmas
+pub mod Scans
 pub mod Slots

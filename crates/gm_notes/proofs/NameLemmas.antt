@@ -1,5 +1,6 @@
 -- Names and handles hold no NUL and are short.
-use Rattle.std.proofs.Common.{◌≡◌, ℕ, zero, suc, ◌+◌, ◌<◌, ◌≤◌, ◌^◌, Bool, true, false, cond, List, [], ◌∷◌, ◌++◌, length, map, Option, Some, None, refl, ap, ap₂, subst, ◌∙◌, arith, length-append, decimal}
+use Rattle.std.proofs.Common.{◌≡◌, ℕ, zero, suc, ◌+◌, ◌<◌, ◌≤◌, ◌^◌, Bool, true, false, cond, List, [], ◌∷◌, ◌++◌, length, map}
+use Rattle.std.proofs.Common.{Option, Some, None, refl, ap, ap₂, subst, ◌∙◌, arith, length-append, decimal}
 use Rattle.std.specs.Prelude.{not, ◌&&◌, ◌||◌, ◌==◌, nat_le}
 use Rattle.std.specs.List.{list_all}
 use Rattle.std.proofs.lemmas.Bool.{and_parts}
@@ -7,7 +8,7 @@ use Rattle.std.proofs.lemmas.Bool.Decides.{nat_tests}
 use Rattle.std.proofs.lemmas.Fmt.{decimal_digit, decimal-digits_of}
 use Rattle.std.proofs.lemmas.List.Folds.{list_any-append}
 use Rattle.std.specs.Int.Digits.{digits_of}
-use Rattle.gm_packet.specs.Requests.{has_nul}
+use Rattle.gm_packet.specs.Packets.{has_nul}
 use Rattle.gm_notes.specs.declared.config.ConfigError.{ConfigError}
 use Rattle.gm_notes.specs.declared.config.ConfigError.TheVariants.{BadName}
 use Rattle.gm_notes.specs.Settings.{Settings, config_fault, is_name, is_name_byte}

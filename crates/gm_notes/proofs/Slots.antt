@@ -4,20 +4,29 @@ use Rattle.std.specs.Prelude.{not, ◌&&◌, ◌==◌, if◌then◌else◌}
 use Rattle.std.specs.Str.{bytes_eq}
 use Rattle.std.proofs.Common.{codes}
 use Rattle.gm_packet.specs.declared.kind.Kind.{Kind}
-use Rattle.gm_packet.specs.declared.kind.Kind.TheVariants.{CanDo, CantDo, ResetAbilities, PreSleep, SubmitJob, GrabJob, WorkStatus, WorkComplete, WorkFail, GetStatus, EchoReq, SubmitJobBg, SubmitJobHigh, SetClientId, CanDoTimeout, AllYours, WorkException, OptionReq, WorkData, WorkWarning, GrabJobUniq, SubmitJobHighBg, SubmitJobLow, SubmitJobLowBg}
+use Rattle.gm_packet.specs.declared.kind.Kind.TheVariants.{CanDo, CantDo, ResetAbilities, PreSleep, SubmitJob, GrabJob}
+use Rattle.gm_packet.specs.declared.kind.Kind.TheVariants.{WorkStatus, WorkComplete, WorkFail, GetStatus, EchoReq, SubmitJobBg}
+use Rattle.gm_packet.specs.declared.kind.Kind.TheVariants.{SubmitJobHigh, SetClientId, CanDoTimeout, AllYours, WorkException}
+use Rattle.gm_packet.specs.declared.kind.Kind.TheVariants.{OptionReq, WorkData, WorkWarning, GrabJobUniq, SubmitJobHighBg}
+use Rattle.gm_packet.specs.declared.kind.Kind.TheVariants.{SubmitJobLow, SubmitJobLowBg}
 use Rattle.gm_packet.specs.Requests.{Asked, read_as}
-use Rattle.gm_packet.specs.Writing.{Answer, work_status, work_complete, work_fail, work_data, work_warning, work_exception}
+use Rattle.gm_packet.specs.Answers.{Answer, work_status, work_complete, work_fail, work_data, work_warning, work_exception}
 use Rattle.gm_notes.specs.declared.states.Priority.TheVariants.{High, Normal, Low}
 use Rattle.gm_notes.specs.declared.note.Note.{Note}
 use Rattle.gm_notes.specs.Settings.{Settings}
 use Rattle.gm_notes.specs.Notes.{is_open, is_shut, phase, is_asleep, is_awake, slots_from}
-use Rattle.gm_notes.specs.Jobs.{Job, Pick, job, spot, is_live, is_waiting, is_running_at, is_wanted, is_mentioned, is_able, listeners, joined, handled, next_number, pick, waiting_for, is_empty}
-use Rattle.gm_notes.specs.Past.{Past, noted, give, mentioned, tell_all, wake_one, wake_each}
-use Rattle.gm_notes.specs.Submissions.{Submission, is_bad_name, is_one_too_many, is_full, wanted, make, join_or_make, submit}
-use Rattle.gm_notes.specs.Workers.{Work, woken_if, made_able, can_do, cant_do, sleep_beside, pre_sleep, stir, tell_assigned, give_out, grab, report_kept, ended_if, hearers, tell_work, work_on, work}
+use Rattle.gm_notes.specs.Jobs.{Job, job, job_state, is_wanted, is_mentioned, is_able, listeners, joined, job_of_handle}
+use Rattle.gm_notes.specs.Jobs.{next_number, pick, waiting_for, is_empty}
+use Rattle.gm_notes.specs.declared.states.Pick.{Pick}
+use Rattle.gm_notes.specs.JobStates.{is_live, is_waiting, is_running_at}
+use Rattle.gm_notes.specs.Past.{Past, with_note, give, with_mention, tell_all, wake_one, wake_each}
+use Rattle.gm_notes.specs.Submissions.{Submission, is_bad_name, is_one_too_many, is_full, keep_or_listen, make, join_or_make, submit}
+use Rattle.gm_notes.specs.Workers.{Work, wake_if, add_ability, can_do, cant_do, sleep_beside, pre_sleep, wake_itself}
+use Rattle.gm_notes.specs.Workers.{tell_assigned, give_out, grab, keep_report, end_if, hearers, tell_work, work_on, work}
 use Rattle.gm_notes.specs.declared.note.Note.TheVariants.{Returned}
-use Rattle.gm_notes.specs.Closings.{discard_one, discard_each, wake_for, give_back_one, give_back_each, gone, rising, close}
-use Rattle.gm_notes.specs.Requests.{first, second, third, submission, passing, ending, tell_status, set_option, request, request_if_read, packet_of}
+use Rattle.gm_notes.specs.Closings.{discard_one, discard_each, wake_for, give_back_one, give_back_each, disconnect, rising, close}
+use Rattle.gm_notes.specs.Requests.{first, second, third, submission, passing, ending, tell_status, set_option, request}
+use Rattle.gm_notes.specs.Requests.{request_if_read, packet_of}
 
 -- the same slots are open, and the same are shut
 pub record Stays (before after : List Note) : Type 0 where
@@ -37,7 +46,7 @@ either false notes yes_past no_past y n = n
 
 -- ---- what steps do, part by part
 
-mention_stays : (f : List ℕ) (past : Past) → Stays past.notes (mentioned f past).notes
+mention_stays : (f : List ℕ) (past : Past) → Stays past.notes (with_mention f past).notes
 mention_stays f past = either (is_mentioned f past.notes) past.notes past _ (stays_here past.notes) (record { opens = λ c. refl; shuts = λ c. refl })
 
 wake_one_stays : (f : List ℕ) (c : ℕ) (past : Past) → Stays past.notes (wake_one f c past).notes
@@ -49,17 +58,17 @@ wake_stays f [] past = stays_here past.notes
 wake_stays f (c ∷ slots) past =
     stays_then past.notes (wake_one f c past).notes (wake_each f slots (wake_one f c past)).notes (wake_one_stays f c past) (wake_stays f slots (wake_one f c past))
 
-wanted_stays : (c : ℕ) (s : Submission) (n : ℕ) (past : Past) → Stays past.notes (wanted c s n past).notes
+wanted_stays : (c : ℕ) (s : Submission) (n : ℕ) (past : Past) → Stays past.notes (keep_or_listen c s n past).notes
 wanted_stays c s n past = either s.background past.notes _ _ (record { opens = λ d. refl; shuts = λ d. refl }) (record { opens = λ d. refl; shuts = λ d. refl })
 
-made_stays : (c : ℕ) (s : Submission) (n : ℕ) (note : Note) (past : Past) → Stays past.notes (note ∷ past.notes) → Stays past.notes (wanted c s n (noted note past)).notes
-made_stays c s n note past silent = stays_then past.notes (note ∷ past.notes) (wanted c s n (noted note past)).notes silent (wanted_stays c s n (noted note past))
+made_stays : (c : ℕ) (s : Submission) (n : ℕ) (note : Note) (past : Past) → Stays past.notes (note ∷ past.notes) → Stays past.notes (keep_or_listen c s n (with_note note past)).notes
+made_stays c s n note past silent = stays_then past.notes (note ∷ past.notes) (keep_or_listen c s n (with_note note past)).notes silent (wanted_stays c s n (with_note note past))
 
 make_stays : (k : Settings) (c : ℕ) (s : Submission) (number : Option ℕ) (past : Past) → Stays past.notes (make k c s number past).notes
 make_stays k c s None past = stays_here past.notes
 make_stays k c s (Some n) past =
-    let known = mentioned s.function past in
-    let here = wanted c s n (noted _ known) in
+    let known = with_mention s.function past in
+    let here = keep_or_listen c s n (with_note _ known) in
     stays_then past.notes known.notes _ (mention_stays s.function past)
     (stays_then known.notes here.notes _ (made_stays c s n _ known (record { opens = λ d. refl; shuts = λ d. refl })) (wake_stays s.function (slots_from 0 k.slots) _))
 
@@ -73,13 +82,13 @@ submit_stays : (k : Settings) (c : ℕ) (s : Submission) (past : Past) → Stays
 submit_stays k c s past =
     either (is_bad_name s.function) past.notes _ _ (stays_here past.notes) (join_stays k c s (joined s.function s.unique past.notes) past)
 
-woken_stays : (t : Bool) (c : ℕ) (past : Past) → Stays past.notes (woken_if t c past).notes
+woken_stays : (t : Bool) (c : ℕ) (past : Past) → Stays past.notes (wake_if t c past).notes
 woken_stays true c past = record { opens = λ d. refl; shuts = λ d. refl }
 woken_stays false c past = stays_here past.notes
 
-able_stays : (c : ℕ) (f : List ℕ) (t : ℕ) (past : Past) → Stays past.notes (made_able c f t past).notes
+able_stays : (c : ℕ) (f : List ℕ) (t : ℕ) (past : Past) → Stays past.notes (add_ability c f t past).notes
 able_stays c f t past =
-    let known = mentioned f past in
+    let known = with_mention f past in
     stays_then past.notes known.notes _ (mention_stays f past)
     (stays_then known.notes _ _ (record { opens = λ d. refl; shuts = λ d. refl })
     (woken_stays (is_asleep (phase c past.notes) && not (is_empty (waiting_for f past.notes))) c _))
@@ -96,12 +105,12 @@ beside_stays : (found : Option Pick) (c : ℕ) (past : Past) → Stays past.note
 beside_stays None c past = stays_here past.notes
 beside_stays (Some found) c past = record { opens = λ d. refl; shuts = λ d. refl }
 
-sleep_stays : (c : ℕ) (past : Past) → Stays past.notes (pre_sleep c past).notes
-sleep_stays c past =
+sleep_stays : (k : Settings) (c : ℕ) (past : Past) → Stays past.notes (pre_sleep k c past).notes
+sleep_stays k c past =
     either (is_awake (phase c past.notes)) past.notes _ past
-    (stays_then past.notes _ _ (record { opens = λ d. refl; shuts = λ d. refl }) (beside_stays (pick c past.notes) c _)) (stays_here past.notes)
+    (stays_then past.notes _ _ (record { opens = λ d. refl; shuts = λ d. refl }) (beside_stays (pick k c past.notes) c _)) (stays_here past.notes)
 
-stir_stays : (c : ℕ) (past : Past) → Stays past.notes (stir c past).notes
+stir_stays : (c : ℕ) (past : Past) → Stays past.notes (wake_itself c past).notes
 stir_stays c past = either (is_asleep (phase c past.notes)) past.notes _ past (record { opens = λ d. refl; shuts = λ d. refl }) (stays_here past.notes)
 
 told_stays : (k : Settings) (c : ℕ) (uniq : Bool) (n : ℕ) (found : Option Job) (past : Past) → Stays past.notes (tell_assigned k c uniq n found past).notes
@@ -114,37 +123,37 @@ given_stays k c uniq (Some found) past =
     stays_then past.notes _ _ (record { opens = λ d. refl; shuts = λ d. refl }) (told_stays k c uniq found.job (job found.job past.notes) _)
 
 grab_stays : (k : Settings) (c : ℕ) (uniq : Bool) (past : Past) → Stays past.notes (grab k c uniq past).notes
-grab_stays k c uniq past = stays_then past.notes (stir c past).notes _ (stir_stays c past) (given_stays k c uniq (pick c past.notes) (stir c past))
+grab_stays k c uniq past = stays_then past.notes (wake_itself c past).notes _ (stir_stays c past) (given_stays k c uniq (pick k c past.notes) (wake_itself c past))
 
 tell_stays : (answer : Answer) (slots : List ℕ) (past : Past) → Stays past.notes (tell_all answer slots past).notes
 tell_stays answer [] past = stays_here past.notes
 tell_stays answer (c ∷ slots) past = tell_stays answer slots (give c answer past)
 
-report_stays : (n : ℕ) (numbers : Option (List ℕ × List ℕ)) (past : Past) → Stays past.notes (report_kept n numbers past).notes
+report_stays : (n : ℕ) (numbers : Option (List ℕ × List ℕ)) (past : Past) → Stays past.notes (keep_report n numbers past).notes
 report_stays n None past = stays_here past.notes
 report_stays n (Some numbers) past = record { opens = λ d. refl; shuts = λ d. refl }
 
-ended_stays : (t : Bool) (n : ℕ) (past : Past) → Stays past.notes (ended_if t n past).notes
+ended_stays : (t : Bool) (n : ℕ) (past : Past) → Stays past.notes (end_if t n past).notes
 ended_stays true n past = record { opens = λ d. refl; shuts = λ d. refl }
 ended_stays false n past = stays_here past.notes
 
 work_told : (w : Work) (n : ℕ) (past : Past) → Stays past.notes (tell_work w n past).notes
 work_told w n past =
-    let kept = report_kept n w.report past in
+    let kept = keep_report n w.report past in
     let told = tell_all w.answer (hearers w.exceptions_only (listeners n past.notes) past.notes) kept in
     stays_then past.notes kept.notes _ (report_stays n w.report past)
     (stays_then kept.notes told.notes _ (tell_stays w.answer (hearers w.exceptions_only (listeners n past.notes) past.notes) kept) (ended_stays w.ends n told))
 
 work_on_stays : (c : ℕ) (w : Work) (found : Option ℕ) (past : Past) → Stays past.notes (work_on c w found past).notes
 work_on_stays c w None past = stays_here past.notes
-work_on_stays c w (Some n) past = either (is_running_at c (spot n past.notes)) past.notes _ _ (work_told w n past) (stays_here past.notes)
+work_on_stays c w (Some n) past = either (is_running_at c (job_state n past.notes)) past.notes _ _ (work_told w n past) (stays_here past.notes)
 
 work_stays : (k : Settings) (c : ℕ) (text : List ℕ) (w : Work) (past : Past) → Stays past.notes (work k c text w past).notes
-work_stays k c text w past = work_on_stays c w (handled k text past.notes) past
+work_stays k c text w past = work_on_stays c w (job_of_handle k text past.notes) past
 
 status_stays : (k : Settings) (c : ℕ) (text : List ℕ) (found : Option ℕ) (past : Past) → Stays past.notes (tell_status k c text found past).notes
 status_stays k c text None past = stays_here past.notes
-status_stays k c text (Some n) past = either (is_live (spot n past.notes)) past.notes _ _ (stays_here past.notes) (stays_here past.notes)
+status_stays k c text (Some n) past = either (is_live (job_state n past.notes)) past.notes _ _ (stays_here past.notes) (stays_here past.notes)
 
 option_stays : (c : ℕ) (name : List ℕ) (past : Past) → Stays past.notes (set_option c name past).notes
 option_stays c name past =
@@ -155,7 +164,7 @@ request_stays k c CanDo a timeout past = can_stays k c (first a) 0 past
 request_stays k c CanDoTimeout a timeout past = can_stays k c (first a) timeout past
 request_stays k c CantDo a timeout past = cant_stays c (first a) past
 request_stays k c ResetAbilities a timeout past = record { opens = λ d. refl; shuts = λ d. refl }
-request_stays k c PreSleep a timeout past = sleep_stays c past
+request_stays k c PreSleep a timeout past = sleep_stays k c past
 request_stays k c GrabJob a timeout past = grab_stays k c false past
 request_stays k c GrabJobUniq a timeout past = grab_stays k c true past
 request_stays k c SubmitJob a timeout past = submit_stays k c (submission Normal false a) past
@@ -171,7 +180,7 @@ request_stays k c WorkWarning a timeout past = work_stays k c (first a) (passing
 request_stays k c WorkException a timeout past = work_stays k c (first a) (record (passing (work_exception (first a) (second a))) { exceptions_only = true }) past
 request_stays k c WorkComplete a timeout past = work_stays k c (first a) (ending (work_complete (first a) (second a))) past
 request_stays k c WorkFail a timeout past = work_stays k c (first a) (ending (work_fail (first a))) past
-request_stays k c GetStatus a timeout past = status_stays k c (first a) (handled k (first a) past.notes) past
+request_stays k c GetStatus a timeout past = status_stays k c (first a) (job_of_handle k (first a) past.notes) past
 request_stays k c EchoReq a timeout past = stays_here past.notes
 request_stays k c SetClientId a timeout past = record { opens = λ d. refl; shuts = λ d. refl }
 request_stays k c OptionReq a timeout past = option_stays c (first a) past
@@ -190,7 +199,7 @@ packet_stays k c (Some kind) bytes past = read_stays k c (read_as kind bytes) pa
 
 discard_stays : (n : ℕ) (past : Past) → Stays past.notes (discard_one n past).notes
 discard_stays n past =
-    either (is_waiting (spot n past.notes) && not (is_wanted n past.notes)) past.notes _ past (record { opens = λ d. refl; shuts = λ d. refl }) (stays_here past.notes)
+    either (is_waiting (job_state n past.notes) && not (is_wanted n past.notes)) past.notes _ past (record { opens = λ d. refl; shuts = λ d. refl }) (stays_here past.notes)
 
 discards_stay : (jobs : List ℕ) (past : Past) → Stays past.notes (discard_each jobs past).notes
 discards_stay [] past = stays_here past.notes
@@ -203,9 +212,9 @@ wake_for_stays k (Some job) past = wake_stays job.function (slots_from 0 k.slots
 
 give_back_stays : (k : Settings) (c n : ℕ) (past : Past) → Stays past.notes (give_back_one k c n past).notes
 give_back_stays k c n past =
-    either (is_running_at c (spot n past.notes)) past.notes _ past
+    either (is_running_at c (job_state n past.notes)) past.notes _ past
     (either (is_wanted n past.notes) past.notes _ _
-    (stays_then past.notes (Returned n ∷ past.notes) _ (record { opens = λ d. refl; shuts = λ d. refl }) (wake_for_stays k (job n past.notes) (noted (Returned n) past)))
+    (stays_then past.notes (Returned n ∷ past.notes) _ (record { opens = λ d. refl; shuts = λ d. refl }) (wake_for_stays k (job n past.notes) (with_note (Returned n) past)))
     (record { opens = λ d. refl; shuts = λ d. refl }))
     (stays_here past.notes)
 
@@ -215,9 +224,9 @@ give_backs_stay k c (n ∷ jobs) past =
     stays_then past.notes (give_back_one k c n past).notes (give_back_each k c jobs (give_back_one k c n past)).notes (give_back_stays k c n past)
     (give_backs_stay k c jobs (give_back_one k c n past))
 
-close_stays : (k : Settings) (c : ℕ) (past : Past) → Stays (gone c past).notes (close k c past).notes
+close_stays : (k : Settings) (c : ℕ) (past : Past) → Stays (disconnect c past).notes (close k c past).notes
 close_stays k c past =
-    let left = gone c past in
+    let left = disconnect c past in
     stays_then left.notes (discard_each (rising past) left).notes (close k c past).notes (discards_stay (rising past) left)
     (give_backs_stay k c (rising past) (discard_each (rising past) left))
 
@@ -227,11 +236,11 @@ pub close_keeps : (k : Settings) (c d : ℕ) (past : Past) → (d == c) ≡ fals
 close_keeps k c d past other =
     let stirred = stir_stays c past in
     let closed = close_stays k c past in
-    let opens : is_open d (gone c past).notes ≡ is_open d (stir c past).notes = rw other refl in
+    let opens : is_open d (disconnect c past).notes ≡ is_open d (wake_itself c past).notes = rw other refl in
     (closed.opens d ∙ (opens ∙ stirred.opens d), closed.shuts d ∙ stirred.shuts d)
 
 -- and this one is closed
 pub close_closes : (k : Settings) (c : ℕ) (past : Past) → (c == c) ≡ true → is_open c (close k c past).notes ≡ false
 close_closes k c past same =
-    let here : is_open c (gone c past).notes ≡ false = rw same refl in
+    let here : is_open c (disconnect c past).notes ≡ false = rw same refl in
     (close_stays k c past).opens c ∙ here

@@ -1,19 +1,20 @@
 -- What closings and ticks do.
 use Rattle.std.specs.Prelude.{ℕ, Bool, false, not, ◌&&◌, nat_le, max, if◌then◌else◌, List, [], ◌∷◌, reverse, Option, Some, None}
-use Rattle.gm_packet.specs.Writing.{work_fail}
+use Rattle.gm_packet.specs.Answers.{work_fail}
 use Rattle.gm_notes.specs.declared.note.Note.TheVariants.{Closed, Returned, Ended, Discarded, Now}
 use Rattle.gm_notes.specs.Settings.{Settings}
 use Rattle.gm_notes.specs.Notes.{moment}
 use Rattle.gm_notes.specs.Flow.{Emptied}
-use Rattle.gm_notes.specs.Jobs.{Job, spot, is_waiting, is_running, is_running_at, job, made, is_wanted, listeners, deadline, handle}
-use Rattle.gm_notes.specs.Past.{Past, noted, flowed, tell_all, wake}
-use Rattle.gm_notes.specs.Workers.{stir}
+use Rattle.gm_notes.specs.Jobs.{Job, job_state, job, made, is_wanted, listeners, deadline, handle}
+use Rattle.gm_notes.specs.JobStates.{is_waiting, is_running, is_running_at}
+use Rattle.gm_notes.specs.Past.{Past, with_note, with_flow, tell_all, wake}
+use Rattle.gm_notes.specs.Workers.{wake_itself}
 
 -- ---- closing
 
 -- a waiting job that nobody wants is discarded
 abbrev pub discard_one : ℕ → Past → Past
-discard_one n past = if is_waiting (spot n past.notes) && not (is_wanted n past.notes) then noted (Discarded n) past else past
+discard_one n past = if is_waiting (job_state n past.notes) && not (is_wanted n past.notes) then with_note (Discarded n) past else past
 
 abbrev pub discard_each : List ℕ → Past → Past
 discard_each [] past = past
@@ -26,8 +27,8 @@ wake_for k (Some job) past = wake k job.function past
 -- a job that ran at slot c waits again if somebody wants it, and is discarded if not
 abbrev pub give_back_one : Settings → ℕ → ℕ → Past → Past
 give_back_one k c n past =
-    if is_running_at c (spot n past.notes)
-    then (if is_wanted n past.notes then wake_for k (job n past.notes) (noted (Returned n) past) else noted (Discarded n) past)
+    if is_running_at c (job_state n past.notes)
+    then (if is_wanted n past.notes then wake_for k (job n past.notes) (with_note (Returned n) past) else with_note (Discarded n) past)
     else past
 
 abbrev pub give_back_each : Settings → ℕ → List ℕ → Past → Past
@@ -35,15 +36,15 @@ give_back_each k c [] past = past
 give_back_each k c (n ∷ jobs) past = give_back_each k c jobs (give_back_one k c n past)
 
 -- the connection in slot c goes, with what waited for it
-abbrev pub gone : ℕ → Past → Past
-gone c past = flowed (Emptied c) (noted (Closed c) (stir c past))
+abbrev pub disconnect : ℕ → Past → Past
+disconnect c past = with_flow (Emptied c) (with_note (Closed c) (wake_itself c past))
 
 -- the jobs made, in the order of their numbers
 abbrev pub rising : Past → List ℕ
 rising past = reverse (made past.notes)
 
 abbrev pub close : Settings → ℕ → Past → Past
-close k c past = give_back_each k c (rising past) (discard_each (rising past) (gone c past))
+close k c past = give_back_each k c (rising past) (discard_each (rising past) (disconnect c past))
 
 -- ---- ticks
 
@@ -54,8 +55,8 @@ is_reached (Some late) now = nat_le late now
 -- a running job whose deadline is reached has failed; its worker isn't told
 abbrev pub expire_one : Settings → ℕ → Past → Past
 expire_one k n past =
-    if is_running (spot n past.notes) && is_reached (deadline n past.notes) (moment past.notes)
-    then noted (Ended n) (tell_all (work_fail (handle k n)) (listeners n past.notes) past)
+    if is_running (job_state n past.notes) && is_reached (deadline n past.notes) (moment past.notes)
+    then with_note (Ended n) (tell_all (work_fail (handle k n)) (listeners n past.notes) past)
     else past
 
 abbrev pub expire_each : Settings → List ℕ → Past → Past
@@ -63,4 +64,4 @@ expire_each k [] past = past
 expire_each k (n ∷ jobs) past = expire_each k jobs (expire_one k n past)
 
 abbrev pub tick : Settings → ℕ → Past → Past
-tick k now past = expire_each k (rising past) (noted (Now (max now (moment past.notes))) past)
+tick k now past = expire_each k (rising past) (with_note (Now (max now (moment past.notes))) past)

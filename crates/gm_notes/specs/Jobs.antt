@@ -1,58 +1,32 @@
 -- What the notes say of jobs and functions.
-use Rattle.std.specs.Prelude.{ℕ, ◌+◌, ◌^◌, Bool, true, false, not, ◌&&◌, ◌||◌, ◌==◌, nat_lt, if◌then◌else◌, List, [], ◌∷◌, ◌++◌, length, filter, find, codes, decimal, Option, Some, None}
+use Rattle.std.specs.Prelude.{ℕ, ◌+◌, ◌^◌, Bool, true, false, not, ◌&&◌, ◌||◌, ◌==◌, nat_lt, if◌then◌else◌, List, [], ◌∷◌}
+use Rattle.std.specs.Prelude.{◌++◌, length, filter, find, codes, decimal, Option, Some, None}
 use Rattle.std.specs.List.{list_any}
 use Rattle.std.specs.Str.{bytes_eq}
 use Rattle.gm_notes.specs.declared.states.Priority.{Priority}
 use Rattle.gm_notes.specs.declared.states.Priority.TheVariants.{High, Normal, Low}
+use Rattle.gm_notes.specs.declared.states.Pick.{Pick}
 use Rattle.gm_notes.specs.declared.note.Note.{Note}
-use Rattle.gm_notes.specs.declared.note.Note.TheVariants.{Opened, Closed, Can, Cant, Reset, Made, Kept, Listens, Assigned, Returned, Ended, Discarded, Report, Mention, Limit}
+use Rattle.gm_notes.specs.declared.note.Note.TheVariants.{Opened, Closed, Can, Cant, Reset, Made, Kept, Listens, Assigned}
+use Rattle.gm_notes.specs.declared.note.Note.TheVariants.{Returned, Ended, Discarded, Report, Mention, Limit}
 use Rattle.gm_notes.specs.Settings.{Settings}
+use Rattle.gm_notes.specs.JobStates.{JobState, is_waiting, is_running, is_live}
+use Rattle.gm_notes.specs.JobStates as states
 use Rattle.gm_notes.specs.Notes.{last_said, said_of, is_open, slots_from}
 
 -- ---- places
 
 -- where a job is
-pub data Spot : Type 0 where
-  Unmade : Spot
-  Waits : Spot
-  RunsAt : ℕ → Spot
-  Over : Spot  -- it has ended
-  Thrown : Spot  -- it was discarded
+abbrev pub says_job_state : ℕ → Note → Option JobState
+says_job_state n (Made m f p u body) = said_of n m states.Waiting
+says_job_state n (Returned m) = said_of n m states.Waiting
+says_job_state n (Assigned m c deadline) = said_of n m (states.Running c)
+says_job_state n (Ended m) = said_of n m states.Ended
+says_job_state n (Discarded m) = said_of n m states.Discarded
+says_job_state n note = None
 
-abbrev pub says_spot : ℕ → Note → Option Spot
-says_spot n (Made m f p u body) = said_of n m Waits
-says_spot n (Returned m) = said_of n m Waits
-says_spot n (Assigned m c deadline) = said_of n m (RunsAt c)
-says_spot n (Ended m) = said_of n m Over
-says_spot n (Discarded m) = said_of n m Thrown
-says_spot n note = None
-
-abbrev pub spot : ℕ → List Note → Spot
-spot n notes = last_said (says_spot n) Unmade notes
-
-abbrev pub is_waiting : Spot → Bool
-is_waiting Waits = true
-is_waiting Unmade = false
-is_waiting (RunsAt c) = false
-is_waiting Over = false
-is_waiting Thrown = false
-
-abbrev pub is_running : Spot → Bool
-is_running (RunsAt c) = true
-is_running Waits = false
-is_running Unmade = false
-is_running Over = false
-is_running Thrown = false
-
-abbrev pub is_running_at : ℕ → Spot → Bool
-is_running_at c (RunsAt d) = c == d
-is_running_at c Waits = false
-is_running_at c Unmade = false
-is_running_at c Over = false
-is_running_at c Thrown = false
-
-abbrev pub is_live : Spot → Bool
-is_live where_it_is = is_waiting where_it_is || is_running where_it_is
+abbrev pub job_state : ℕ → List Note → JobState
+job_state n notes = last_said (says_job_state n) states.Unmade notes
 
 -- ---- what a job is
 
@@ -190,7 +164,7 @@ is_job_with f p (Some job) = bytes_eq job.function f && same_priority job.priori
 
 -- the job waits, and is of this function and priority
 abbrev pub is_queued : List ℕ → Priority → List Note → ℕ → Bool
-is_queued f p notes n = is_waiting (spot n notes) && is_job_with f p (job n notes)
+is_queued f p notes n = is_waiting (job_state n notes) && is_job_with f p (job n notes)
 
 -- the waiting jobs of a function and a priority, in the order in which they last came to wait
 abbrev pub queue : List ℕ → Priority → List Note → List ℕ
@@ -204,11 +178,6 @@ abbrev pub is_empty : List ℕ → Bool
 is_empty [] = true
 is_empty (n ∷ ns) = false
 
--- a job to be given out, and the seconds that it may take
-pub record Pick : Type 0 where
-  pub job : ℕ
-  pub timeout : ℕ
-
 abbrev pub first_of : List ℕ → ℕ → Option Pick → Option Pick
 first_of [] timeout otherwise = otherwise
 first_of (n ∷ ns) timeout otherwise = Some (record { job = n; timeout = timeout })
@@ -217,9 +186,13 @@ abbrev pub pick_from : List Ability → List Note → Option Pick
 pick_from [] notes = None
 pick_from (ability ∷ abilities) notes = first_of (waiting_for ability.function notes) ability.timeout (pick_from abilities notes)
 
+-- the abilities of slot c in the order in which they are tried
+abbrev pub scan : Settings → ℕ → List Note → List Ability
+scan k c notes = abilities c notes
+
 -- the job that a grab of slot c gets
-abbrev pub pick : ℕ → List Note → Option Pick
-pick c notes = pick_from (abilities c notes) notes
+abbrev pub pick : Settings → ℕ → List Note → Option Pick
+pick k c notes = pick_from (scan k c notes) notes
 
 -- ---- joining, numbers and counts
 
@@ -231,7 +204,7 @@ is_job_named f u None = false
 is_job_named f u (Some job) = bytes_eq job.function f && bytes_eq job.unique u
 
 abbrev pub is_live_named : List ℕ → List ℕ → List Note → ℕ → Bool
-is_live_named f u notes n = is_live (spot n notes) && is_job_named f u (job n notes)
+is_live_named f u notes n = is_live (job_state n notes) && is_job_named f u (job n notes)
 
 -- the live job of the function with this unique id; none where the id is empty or a dash
 abbrev pub joined : List ℕ → List ℕ → List Note → Option ℕ
@@ -242,14 +215,14 @@ abbrev pub next_number : Settings → List Note → Option ℕ
 next_number k notes = if nat_lt (k.first_job + length (made notes)) (2 ^ 64) then Some (k.first_job + length (made notes)) else None
 
 abbrev pub is_live_of : List ℕ → List Note → ℕ → Bool
-is_live_of f notes n = is_live (spot n notes) && is_job_of f (job n notes)
+is_live_of f notes n = is_live (job_state n notes) && is_job_of f (job n notes)
 
 -- how many jobs of the function wait or run, how many of these run, and how many connections can do it
 abbrev pub total : List ℕ → List Note → ℕ
 total f notes = length (filter (is_live_of f notes) (made notes))
 
 abbrev pub running : List ℕ → List Note → ℕ
-running f notes = length (filter (λ n. is_running (spot n notes) && is_job_of f (job n notes)) (made notes))
+running f notes = length (filter (λ n. is_running (job_state n notes) && is_job_of f (job n notes)) (made notes))
 
 abbrev pub able : Settings → List ℕ → List Note → ℕ
 able k f notes = length (filter (λ c. is_open c notes && is_able c f notes) (slots_from 0 k.slots))
@@ -264,5 +237,5 @@ abbrev pub is_handle : Settings → List ℕ → ℕ → Bool
 is_handle k text n = bytes_eq (handle k n) text
 
 -- the job that a handle names: just what was printed for it
-abbrev pub handled : Settings → List ℕ → List Note → Option ℕ
-handled k text notes = find (is_handle k text) (made notes)
+abbrev pub job_of_handle : Settings → List ℕ → List Note → Option ℕ
+job_of_handle k text notes = find (is_handle k text) (made notes)

@@ -1,10 +1,13 @@
 pub mod Closings
+pub mod Configs
 pub mod Flow
+pub mod JobStates
 pub mod Jobs
 pub mod Lines
 pub mod Notes
 pub mod Numbers
 pub mod Past
+pub mod Places
 pub mod Requests
 pub mod Servers
 pub mod Settings

@@ -1,5 +1,6 @@
 -- What text lines do.
-use Rattle.std.specs.Prelude.{ℕ, Bool, true, false, not, ◌&&◌, ◌||◌, ◌==◌, nat_lt, if◌then◌else◌, List, [], ◌∷◌, length, map, filter, Result, Ok, Err}
+use Rattle.std.specs.Prelude.{ℕ, Bool, true, false, not, ◌&&◌, ◌||◌, ◌==◌, nat_lt, if◌then◌else◌, List, [], ◌∷◌, length, map}
+use Rattle.std.specs.Prelude.{filter, Result, Ok, Err}
 use Rattle.std.specs.List.{list_any}
 use Rattle.gm_admin.specs.declared.fault.AdminFault.{AdminFault}
 use Rattle.gm_admin.specs.declared.fault.AdminFault.TheVariants as faults
@@ -14,12 +15,12 @@ use Rattle.gm_notes.specs.declared.note.Note.TheVariants.{Shut, Limit, Went}
 use Rattle.gm_notes.specs.Settings.{Settings}
 use Rattle.gm_notes.specs.Notes.{is_open, is_shut, addr, id, mode, slots_from}
 use Rattle.gm_notes.specs.Jobs.{functions, abilities, total, running, able}
-use Rattle.gm_notes.specs.Past.{Past, noted, print, mentioned}
+use Rattle.gm_notes.specs.Past.{Past, with_note, with_output, with_mention}
 use Rattle.gm_notes.specs.Submissions.{is_one_too_many}
 
 -- a line that is refused is answered with an `ERR` line, and adds no note
 abbrev pub refuse_line : ℕ → AdminError → Past → Past
-refuse_line c error past = print c (error_text error) past
+refuse_line c error past = with_output c (error_text error) past
 
 abbrev pub fault_error : AdminFault → AdminError
 fault_error faults.UnknownCommand = errors.UnknownCommand
@@ -48,31 +49,31 @@ abbrev pub maxqueue : Settings → ℕ → List ℕ → ℕ → Past → Past
 maxqueue k c f size past =
     if is_bad_word f then refuse_line c errors.BadFunction past
     else (if is_one_too_many k f past.notes then refuse_line c errors.TooManyFunctions past
-    else print c ok_text (noted (Limit f size) (mentioned f past)))
+    else with_output c ok_text (with_note (Limit f size) (with_mention f past)))
 
 -- every open connection that isn't shut is shut
 abbrev pub shut_one : ℕ → Past → Past
-shut_one c past = if is_open c past.notes && not (is_shut c past.notes) then noted (Shut c) past else past
+shut_one c past = if is_open c past.notes && not (is_shut c past.notes) then with_note (Shut c) past else past
 
 abbrev pub shut_each : List ℕ → Past → Past
 shut_each [] past = past
 shut_each (c ∷ slots) past = shut_each slots (shut_one c past)
 
 -- a mode never goes back
-abbrev pub went_graceful : Mode → Past → Past
-went_graceful Running past = noted (Went Graceful) past
-went_graceful Graceful past = past
-went_graceful Stopped past = past
+abbrev pub go_graceful : Mode → Past → Past
+go_graceful Running past = with_note (Went Graceful) past
+go_graceful Graceful past = past
+go_graceful Stopped past = past
 
 abbrev pub shutdown : Settings → ℕ → Bool → Past → Past
-shutdown k c true past = print c ok_text (went_graceful (mode past.notes) past)
-shutdown k c false past = shut_each (slots_from 0 k.slots) (print c ok_text (noted (Went Stopped) past))
+shutdown k c true past = with_output c ok_text (go_graceful (mode past.notes) past)
+shutdown k c false past = shut_each (slots_from 0 k.slots) (with_output c ok_text (with_note (Went Stopped) past))
 
 -- what a line of slot c does
 abbrev pub command : Settings → ℕ → Result Asked AdminFault → Past → Past
 command k c (Err fault) past = refuse_line c (fault_error fault) past
-command k c (Ok Status) past = print c (status_text (status_rows k past.notes)) past
-command k c (Ok Workers) past = print c (workers_text (worker_rows k past.notes)) past
+command k c (Ok Status) past = with_output c (status_text (status_rows k past.notes)) past
+command k c (Ok Workers) past = with_output c (workers_text (worker_rows k past.notes)) past
 command k c (Ok (MaxQueue f size)) past = maxqueue k c f size past
-command k c (Ok Version) past = print c version_text past
+command k c (Ok Version) past = with_output c version_text past
 command k c (Ok (Shutdown graceful)) past = shutdown k c graceful past

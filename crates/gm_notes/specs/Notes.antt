@@ -5,7 +5,8 @@ use Rattle.gm_notes.specs.declared.states.Phase.TheVariants.{Awake, Asleep, Owed
 use Rattle.gm_notes.specs.declared.states.Mode.{Mode}
 use Rattle.gm_notes.specs.declared.states.Mode.TheVariants as modes
 use Rattle.gm_notes.specs.declared.note.Note.{Note}
-use Rattle.gm_notes.specs.declared.note.Note.TheVariants.{Opened, Shut, Closed, Named, OptionSet, Slept, Woken, Stirred, Took, Withdrew, Now, Went}
+use Rattle.gm_notes.specs.declared.note.Note.TheVariants.{Opened, Shut, Closed, Named, OptionSet, Slept, Woken, Stirred, Took}
+use Rattle.gm_notes.specs.declared.note.Note.TheVariants.{Withdrew, Now, Went}
 
 -- the first answer along the notes, or this one where none says a thing
 abbrev pub last_said : {A : Type 0} → (Note → Option A) → A → List Note → A
@@ -117,7 +118,7 @@ abbrev pub mode : List Note → Mode
 mode notes = last_said says_mode modes.Running notes
 
 -- whether new connections are taken
-abbrev pub welcomes : Mode → Bool
-welcomes modes.Running = true
-welcomes modes.Graceful = false
-welcomes modes.Stopped = false
+abbrev pub accepts_connections : Mode → Bool
+accepts_connections modes.Running = true
+accepts_connections modes.Graceful = false
+accepts_connections modes.Stopped = false

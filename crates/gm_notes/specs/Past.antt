@@ -1,6 +1,6 @@
 -- The past, and what steps do to it in small.
 use Rattle.std.specs.Prelude.{ℕ, ◌&&◌, if◌then◌else◌, List, [], ◌∷◌}
-use Rattle.gm_packet.specs.Writing.{Answer, answer_packet}
+use Rattle.gm_packet.specs.Answers.{Answer, answer_packet}
 use Rattle.gm_notes.specs.declared.note.Note.{Note}
 use Rattle.gm_notes.specs.declared.note.Note.TheVariants.{Woken, Mention}
 use Rattle.gm_notes.specs.Settings.{Settings}
@@ -17,19 +17,19 @@ pub record Past : Type 0 where
 abbrev pub nothing : Past
 nothing = record { notes = []; flow = [] }
 
-abbrev pub noted : Note → Past → Past
-noted note past = record past { notes = note ∷ past.notes }
+abbrev pub with_note : Note → Past → Past
+with_note note past = record past { notes = note ∷ past.notes }
 
-abbrev pub flowed : Flow → Past → Past
-flowed what past = record past { flow = what ∷ past.flow }
+abbrev pub with_flow : Flow → Past → Past
+with_flow what past = record past { flow = what ∷ past.flow }
 
 -- these bytes are queued to slot c
-abbrev pub print : ℕ → List ℕ → Past → Past
-print c text past = flowed (Queued c text) past
+abbrev pub with_output : ℕ → List ℕ → Past → Past
+with_output c text past = with_flow (Queued c text) past
 
 -- the answer is queued to slot c
 abbrev pub give : ℕ → Answer → Past → Past
-give c answer past = print c (answer_packet answer) past
+give c answer past = with_output c (answer_packet answer) past
 
 -- a refused request is answered with an ERROR packet, and adds no note
 abbrev pub refuse : ℕ → List ℕ → Past → Past
@@ -41,13 +41,13 @@ tell_all answer [] past = past
 tell_all answer (c ∷ slots) past = tell_all answer slots (give c answer past)
 
 -- the function is mentioned, if it wasn't
-abbrev pub mentioned : List ℕ → Past → Past
-mentioned f past = if is_mentioned f past.notes then past else noted (Mention f) past
+abbrev pub with_mention : List ℕ → Past → Past
+with_mention f past = if is_mentioned f past.notes then past else with_note (Mention f) past
 
 -- slot c is owed a NOOP if it sleeps and can do the function
 abbrev pub wake_one : List ℕ → ℕ → Past → Past
 wake_one f c past =
-    if is_open c past.notes && is_asleep (phase c past.notes) && is_able c f past.notes then noted (Woken c) past else past
+    if is_open c past.notes && is_asleep (phase c past.notes) && is_able c f past.notes then with_note (Woken c) past else past
 
 abbrev pub wake_each : List ℕ → List ℕ → Past → Past
 wake_each f [] past = past

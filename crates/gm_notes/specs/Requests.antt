@@ -2,15 +2,21 @@
 use Rattle.std.specs.Prelude.{ℕ, Bool, true, false, if◌then◌else◌, List, [], ◌∷◌, codes, Option, Some, None}
 use Rattle.std.specs.Str.{bytes_eq}
 use Rattle.gm_packet.specs.declared.kind.Kind.{Kind}
-use Rattle.gm_packet.specs.declared.kind.Kind.TheVariants.{CanDo, CantDo, ResetAbilities, PreSleep, SubmitJob, GrabJob, WorkStatus, WorkComplete, WorkFail, GetStatus, EchoReq, SubmitJobBg, SubmitJobHigh, SetClientId, CanDoTimeout, AllYours, WorkException, OptionReq, WorkData, WorkWarning, GrabJobUniq, SubmitJobHighBg, SubmitJobLow, SubmitJobLowBg}
+use Rattle.gm_packet.specs.declared.kind.Kind.TheVariants.{CanDo, CantDo, ResetAbilities, PreSleep, SubmitJob, GrabJob}
+use Rattle.gm_packet.specs.declared.kind.Kind.TheVariants.{WorkStatus, WorkComplete, WorkFail, GetStatus, EchoReq, SubmitJobBg}
+use Rattle.gm_packet.specs.declared.kind.Kind.TheVariants.{SubmitJobHigh, SetClientId, CanDoTimeout, AllYours, WorkException}
+use Rattle.gm_packet.specs.declared.kind.Kind.TheVariants.{OptionReq, WorkData, WorkWarning, GrabJobUniq, SubmitJobHighBg}
+use Rattle.gm_packet.specs.declared.kind.Kind.TheVariants.{SubmitJobLow, SubmitJobLowBg}
 use Rattle.gm_packet.specs.Requests.{Asked, read_as}
-use Rattle.gm_packet.specs.Writing.{Answer, echo_res, option_res, status_res, work_status, work_complete, work_fail, work_data, work_warning, work_exception}
+use Rattle.gm_packet.specs.Answers.{Answer, echo_res, option_res, status_res, work_status, work_complete, work_fail, work_data}
+use Rattle.gm_packet.specs.Answers.{work_warning, work_exception}
 use Rattle.gm_notes.specs.declared.states.Priority.{Priority}
 use Rattle.gm_notes.specs.declared.states.Priority.TheVariants.{High, Normal, Low}
 use Rattle.gm_notes.specs.declared.note.Note.TheVariants.{Named, OptionSet, Reset}
 use Rattle.gm_notes.specs.Settings.{Settings}
-use Rattle.gm_notes.specs.Jobs.{spot, is_live, is_running, report, handled}
-use Rattle.gm_notes.specs.Past.{Past, noted, give, refuse}
+use Rattle.gm_notes.specs.Jobs.{job_state, report, job_of_handle}
+use Rattle.gm_notes.specs.JobStates.{is_live, is_running}
+use Rattle.gm_notes.specs.Past.{Past, with_note, give, refuse}
 use Rattle.gm_notes.specs.Submissions.{Submission, submit}
 use Rattle.gm_notes.specs.Workers.{Work, can_do, cant_do, pre_sleep, grab, work}
 
@@ -43,21 +49,21 @@ ending answer = record (passing answer) { ends = true }
 abbrev pub tell_status : Settings → ℕ → List ℕ → Option ℕ → Past → Past
 tell_status k c text None past = give c (status_res text false false (codes "0") (codes "0")) past
 tell_status k c text (Some n) past =
-    if is_live (spot n past.notes)
-    then give c (status_res text true (is_running (spot n past.notes)) (report n past.notes).0 (report n past.notes).1) past
+    if is_live (job_state n past.notes)
+    then give c (status_res text true (is_running (job_state n past.notes)) (report n past.notes).0 (report n past.notes).1) past
     else give c (status_res text false false (codes "0") (codes "0")) past
 
 abbrev pub set_option : ℕ → List ℕ → Past → Past
 set_option c name past =
-    if bytes_eq name (codes "exceptions") then give c (option_res name) (noted (OptionSet c) past) else refuse c (codes "unknown_option") past
+    if bytes_eq name (codes "exceptions") then give c (option_res name) (with_note (OptionSet c) past) else refuse c (codes "unknown_option") past
 
 -- what a request of slot c does: its kind, its arguments and its timeout
 abbrev pub request : Settings → ℕ → Kind → List (List ℕ) → ℕ → Past → Past
 request k c CanDo a timeout past = can_do k c (first a) 0 past
 request k c CanDoTimeout a timeout past = can_do k c (first a) timeout past
 request k c CantDo a timeout past = cant_do c (first a) past
-request k c ResetAbilities a timeout past = noted (Reset c) past
-request k c PreSleep a timeout past = pre_sleep c past
+request k c ResetAbilities a timeout past = with_note (Reset c) past
+request k c PreSleep a timeout past = pre_sleep k c past
 request k c GrabJob a timeout past = grab k c false past
 request k c GrabJobUniq a timeout past = grab k c true past
 request k c SubmitJob a timeout past = submit k c (submission Normal false a) past
@@ -73,9 +79,9 @@ request k c WorkWarning a timeout past = work k c (first a) (passing (work_warni
 request k c WorkException a timeout past = work k c (first a) (record (passing (work_exception (first a) (second a))) { exceptions_only = true }) past
 request k c WorkComplete a timeout past = work k c (first a) (ending (work_complete (first a) (second a))) past
 request k c WorkFail a timeout past = work k c (first a) (ending (work_fail (first a))) past
-request k c GetStatus a timeout past = tell_status k c (first a) (handled k (first a) past.notes) past
+request k c GetStatus a timeout past = tell_status k c (first a) (job_of_handle k (first a) past.notes) past
 request k c EchoReq a timeout past = give c (echo_res (first a)) past
-request k c SetClientId a timeout past = noted (Named c (first a)) past
+request k c SetClientId a timeout past = with_note (Named c (first a)) past
 request k c OptionReq a timeout past = set_option c (first a) past
 request k c AllYours a timeout past = past
 

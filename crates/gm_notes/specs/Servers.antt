@@ -1,16 +1,12 @@
 -- What a job server owes for each call: the contract of `JobServer`.
 use Rattle.std.specs.Prelude.{◌≡◌, ℕ, ◌≤◌, Bool, ◌&&◌, List, ◌∷◌, length, Option, Some, None, Result, Ok, Err}
-use Rattle.std.specs.Result.{IsErrOf}
 use Rattle.gm_notes.specs.declared.event.Event.{Event}
 use Rattle.gm_notes.specs.declared.event.Event.TheVariants as events
 use Rattle.gm_notes.specs.declared.event.Done.{Done}
 use Rattle.gm_notes.specs.declared.event.ApplyError.{ApplyError}
 use Rattle.gm_notes.specs.declared.event.ApplyError.TheVariants.{Memory, NotOpen, NoSlot, NotOwed, Refusing}
-use Rattle.gm_notes.specs.declared.states.Place.{Place}
-use Rattle.gm_notes.specs.declared.states.Place.TheVariants as places
 use Rattle.gm_notes.specs.Settings.{Settings}
 use Rattle.gm_notes.specs.Notes.{is_open, is_shut, phase, is_owed}
-use Rattle.gm_notes.specs.Jobs.{Spot, Unmade, Waits, RunsAt, Over, Thrown}
 use Rattle.gm_notes.specs.Past.{Past}
 use Rattle.gm_notes.specs.Steps.{Step, Open, Packet, Line, Fault, Close, Tick, refusal}
 use Rattle.gm_notes.specs.Steps.{done, run}
@@ -46,14 +42,14 @@ abbrev pub Answers : Settings → List Step → Step → Result Done ApplyError 
 Answers k steps s (Ok answer) = (refusal k s (run k steps) ≡ None) × (answer ≡ done k s (run k steps))
 Answers k steps s (Err refused) = IsRefusal refused (refusal k s (run k steps))
 
--- a closing never wants memory
-abbrev pub WantsNone : Event → Result Done ApplyError → Type 0
-WantsNone (events.Open addr) result = Unit {0}
-WantsNone (events.Packet slot kind bytes) result = Unit {0}
-WantsNone (events.Line slot bytes) result = Unit {0}
-WantsNone (events.Fault slot fault) result = Unit {0}
-WantsNone (events.Close slot) result = IsErrOf result Memory → ⊥
-WantsNone (events.Tick now) result = Unit {0}
+-- a closing needs no memory
+abbrev pub NeedsNoMemory : Event → Type 0
+NeedsNoMemory (events.Open addr) = ⊥
+NeedsNoMemory (events.Packet slot kind bytes) = ⊥
+NeedsNoMemory (events.Line slot bytes) = ⊥
+NeedsNoMemory (events.Fault slot fault) = ⊥
+NeedsNoMemory (events.Close slot) = Unit {0}
+NeedsNoMemory (events.Tick now) = ⊥
 
 -- the steps taken, once a step is answered so
 abbrev pub steps_after : Result Done ApplyError → Step → List Step → List Step
@@ -67,14 +63,6 @@ is_closing c past = is_open c past.notes && is_shut c past.notes
 -- whether a NOOP is owed to a slot that is open
 abbrev pub owes : ℕ → Past → Bool
 owes c past = is_open c past.notes && is_owed (phase c past.notes)
-
--- where a job is, as a server tells it: ended and discarded are both gone
-abbrev pub place_of : Spot → Place
-place_of Unmade = places.Unmade
-place_of Waits = places.Waiting
-place_of (RunsAt c) = places.Running c
-place_of Over = places.Gone
-place_of Thrown = places.Gone
 
 -- what the taking or the withdrawal of a NOOP answers after these steps; want of memory is none of the answers
 abbrev pub AnswersAt : Settings → List Step → Step → Result (Unit {0}) ApplyError → Type 0

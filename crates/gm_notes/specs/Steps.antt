@@ -16,7 +16,7 @@ use Rattle.gm_notes.specs.Notes.{is_open, takes_units, phase, is_owed, mode}
 use Rattle.gm_notes.specs.Flow.{Began, Drained}
 use Rattle.gm_notes.specs.Jobs.{made}
 use Rattle.gm_notes.specs.Texts.{fault_text}
-use Rattle.gm_notes.specs.Past.{Past, nothing, noted, flowed, print}
+use Rattle.gm_notes.specs.Past.{Past, nothing, with_note, with_flow, with_output}
 use Rattle.gm_notes.specs.Requests.{packet_of}
 use Rattle.gm_notes.specs.Lines.{command}
 use Rattle.gm_notes.specs.Closings.{close, tick}
@@ -44,19 +44,19 @@ free_slot k past = free_from 0 k.slots past.notes
 
 abbrev pub opening : Option ℕ → List ℕ → Past → Past
 opening None addr past = past
-opening (Some c) addr past = flowed (Began c) (noted (Opened c addr) past)
+opening (Some c) addr past = with_flow (Began c) (with_note (Opened c addr) past)
 
 -- what a step adds
 abbrev pub add : Settings → Step → Past → Past
 add k (Open addr) past = opening (free_slot k past) addr past
 add k (Packet c kind bytes) past = packet_of k c (kind_of kind) bytes past
 add k (Line c bytes) past = command k c (command_of bytes) past
-add k (Fault c fault) past = noted (Shut c) (print c (fault_text fault) past)
+add k (Fault c fault) past = with_note (Shut c) (with_output c (fault_text fault) past)
 add k (Close c) past = close k c past
 add k (Tick now) past = tick k now past
-add k (Took c) past = noted (notes.Took c) past
-add k (Withdrew c) past = noted (notes.Withdrew c) past
-add k (Drain c) past = flowed (Drained c) past
+add k (Took c) past = with_note (notes.Took c) past
+add k (Withdrew c) past = with_note (notes.Withdrew c) past
+add k (Drain c) past = with_flow (Drained c) past
 
 -- ---- what is refused
 
@@ -64,10 +64,10 @@ abbrev pub if_free : Option ℕ → Option ApplyError
 if_free None = Some NoSlot
 if_free (Some c) = None
 
-abbrev pub if_welcome : Mode → Option ℕ → Option ApplyError
-if_welcome Running free = if_free free
-if_welcome Graceful free = Some Refusing
-if_welcome Stopped free = Some Refusing
+abbrev pub if_accepted : Mode → Option ℕ → Option ApplyError
+if_accepted Running free = if_free free
+if_accepted Graceful free = Some Refusing
+if_accepted Stopped free = Some Refusing
 
 abbrev pub unless_not_open : Bool → Option ApplyError
 unless_not_open true = None
@@ -77,7 +77,7 @@ abbrev pub if_owed : ℕ → List Note → Option ApplyError
 if_owed c notes = if is_open c notes then (if is_owed (phase c notes) then None else Some NotOwed) else Some NotOpen
 
 abbrev pub refusal : Settings → Step → Past → Option ApplyError
-refusal k (Open addr) past = if_welcome (mode past.notes) (free_slot k past)
+refusal k (Open addr) past = if_accepted (mode past.notes) (free_slot k past)
 refusal k (Packet c kind bytes) past = unless_not_open (takes_units c past.notes)
 refusal k (Line c bytes) past = unless_not_open (takes_units c past.notes)
 refusal k (Fault c fault) past = unless_not_open (takes_units c past.notes)

@@ -1,12 +1,12 @@
 -- What submissions do.
 use Rattle.std.specs.Prelude.{ℕ, Bool, not, ◌&&◌, ◌||◌, ◌==◌, nat_lt, nat_le, if◌then◌else◌, List, length, codes, Option, Some, None}
-use Rattle.gm_packet.specs.Writing.{job_created}
+use Rattle.gm_packet.specs.Answers.{job_created}
 use Rattle.gm_notes.specs.declared.states.Priority.{Priority}
 use Rattle.gm_notes.specs.declared.note.Note.{Note}
 use Rattle.gm_notes.specs.declared.note.Note.TheVariants.{Made, Kept, Listens}
 use Rattle.gm_notes.specs.Settings.{Settings}
 use Rattle.gm_notes.specs.Jobs.{functions, is_mentioned, limit, total, joined, next_number, handle}
-use Rattle.gm_notes.specs.Past.{Past, noted, give, refuse, mentioned, wake}
+use Rattle.gm_notes.specs.Past.{Past, with_note, give, refuse, with_mention, wake}
 
 -- what is submitted
 pub record Submission : Type 0 where
@@ -29,19 +29,19 @@ abbrev pub is_full : List ℕ → List Note → Bool
 is_full f notes = not (limit f notes == 0) && nat_le (limit f notes) (total f notes)
 
 -- a background submission keeps the job, another listens to it
-abbrev pub wanted : ℕ → Submission → ℕ → Past → Past
-wanted c s n past = if s.background then noted (Kept n) past else noted (Listens n c) past
+abbrev pub keep_or_listen : ℕ → Submission → ℕ → Past → Past
+keep_or_listen c s n past = if s.background then with_note (Kept n) past else with_note (Listens n c) past
 
 -- a job is made under the next number
 abbrev pub make : Settings → ℕ → Submission → Option ℕ → Past → Past
 make k c s None past = refuse c (codes "no_numbers") past
 make k c s (Some n) past =
     wake k s.function
-    (give c (job_created (handle k n)) (wanted c s n (noted (Made n s.function s.priority s.unique s.body) (mentioned s.function past))))
+    (give c (job_created (handle k n)) (keep_or_listen c s n (with_note (Made n s.function s.priority s.unique s.body) (with_mention s.function past))))
 
 -- joining, which no limit refuses, or making
 abbrev pub join_or_make : Settings → ℕ → Submission → Option ℕ → Past → Past
-join_or_make k c s (Some n) past = give c (job_created (handle k n)) (wanted c s n past)
+join_or_make k c s (Some n) past = give c (job_created (handle k n)) (keep_or_listen c s n past)
 join_or_make k c s None past =
     if is_one_too_many k s.function past.notes then refuse c (codes "too_many_functions") past
     else (if is_full s.function past.notes then refuse c (codes "queue_full") past

@@ -1,6 +1,6 @@
 -- The words that refusals print.
 use Rattle.std.specs.Prelude.{ℕ, ◌==◌, if◌then◌else◌, List, map, codes}
-use Rattle.gm_packet.specs.Writing.{Answer, answer_packet, error}
+use Rattle.gm_packet.specs.Answers.{Answer, answer_packet, error}
 use Rattle.gm_admin.specs.Answers.{error_text}
 use Rattle.gm_admin.specs.declared.fault.AdminError.TheVariants as lines
 use Rattle.gm_notes.specs.declared.event.UnitFault.{UnitFault}

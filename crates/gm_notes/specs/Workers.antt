@@ -1,46 +1,49 @@
 -- What the requests of workers do.
-use Rattle.std.specs.Prelude.{ℕ, ◌+◌, ◌-◌, ◌^◌, Bool, true, false, not, ◌&&◌, ◌==◌, min, if◌then◌else◌, List, filter, codes, Option, Some, None}
-use Rattle.gm_packet.specs.Writing.{Answer, no_job, job_assign, job_assign_uniq}
+use Rattle.std.specs.Prelude.{ℕ, ◌+◌, ◌-◌, ◌^◌, Bool, true, false, not, ◌&&◌, ◌==◌, min, if◌then◌else◌, List, filter, codes}
+use Rattle.std.specs.Prelude.{Option, Some, None}
+use Rattle.gm_packet.specs.Answers.{Answer, no_job, job_assign, job_assign_uniq}
 use Rattle.gm_notes.specs.declared.note.Note.{Note}
 use Rattle.gm_notes.specs.declared.note.Note.TheVariants.{Can, Cant, Slept, Woken, Stirred, Assigned, Ended, Report}
 use Rattle.gm_notes.specs.Settings.{Settings}
 use Rattle.gm_notes.specs.Notes.{is_open, has_option, phase, is_asleep, is_awake, moment}
-use Rattle.gm_notes.specs.Jobs.{Job, Pick, job, spot, is_running_at, listeners, waiting_for, is_empty, pick, handle, handled}
-use Rattle.gm_notes.specs.Past.{Past, noted, give, refuse, mentioned, tell_all}
+use Rattle.gm_notes.specs.Jobs.{Job, job, job_state, listeners, waiting_for, is_empty, pick, handle, job_of_handle}
+use Rattle.gm_notes.specs.declared.states.Pick.{Pick}
+use Rattle.gm_notes.specs.JobStates.{is_running_at}
+use Rattle.gm_notes.specs.Past.{Past, with_note, give, refuse, with_mention, tell_all}
 use Rattle.gm_notes.specs.Submissions.{is_bad_name, is_one_too_many}
 
 -- ---- abilities and sleep
 
 -- a sleeping worker is owed a NOOP at once if a job waits that it can do now
-abbrev pub woken_if : Bool → ℕ → Past → Past
-woken_if true c past = noted (Woken c) past
-woken_if false c past = past
+abbrev pub wake_if : Bool → ℕ → Past → Past
+wake_if true c past = with_note (Woken c) past
+wake_if false c past = past
 
-abbrev pub made_able : ℕ → List ℕ → ℕ → Past → Past
-made_able c f t past =
-    woken_if (is_asleep (phase c past.notes) && not (is_empty (waiting_for f past.notes))) c (noted (Can c f t) (mentioned f past))
+abbrev pub add_ability : ℕ → List ℕ → ℕ → Past → Past
+add_ability c f t past =
+    wake_if (is_asleep (phase c past.notes) && not (is_empty (waiting_for f past.notes))) c (with_note (Can c f t) (with_mention f past))
 
 abbrev pub can_do : Settings → ℕ → List ℕ → ℕ → Past → Past
 can_do k c f t past =
     if is_bad_name f then refuse c (codes "bad_function") past
     else (if is_one_too_many k f past.notes then refuse c (codes "too_many_functions") past
-    else made_able c f t past)
+    else add_ability c f t past)
 
 abbrev pub cant_do : ℕ → List ℕ → Past → Past
-cant_do c f past = if is_bad_name f then refuse c (codes "bad_function") past else noted (Cant c f) past
+cant_do c f past = if is_bad_name f then refuse c (codes "bad_function") past else with_note (Cant c f) past
 
 -- it doesn't go to sleep beside work
 abbrev pub sleep_beside : Option Pick → ℕ → Past → Past
 sleep_beside None c past = past
-sleep_beside (Some found) c past = noted (Woken c) past
+sleep_beside (Some found) c past = with_note (Woken c) past
 
-abbrev pub pre_sleep : ℕ → Past → Past
-pre_sleep c past = if is_awake (phase c past.notes) then sleep_beside (pick c past.notes) c (noted (Slept c) past) else past
+abbrev pub pre_sleep : Settings → ℕ → Past → Past
+pre_sleep k c past = if is_awake (phase c past.notes) then sleep_beside (pick k c past.notes) c (with_note (Slept c) past) else past
 
 -- ---- grabs
 
-abbrev pub stir : ℕ → Past → Past
-stir c past = if is_asleep (phase c past.notes) then noted (Stirred c) past else past
+abbrev pub wake_itself : ℕ → Past → Past
+wake_itself c past = if is_asleep (phase c past.notes) then with_note (Stirred c) past else past
 
 -- the moment plus the seconds, at most the greatest of 64 bits; none for 0
 abbrev pub deadline_after : ℕ → ℕ → Option ℕ
@@ -59,10 +62,10 @@ abbrev pub give_out : Settings → ℕ → Bool → Option Pick → Past → Pas
 give_out k c uniq None past = give c no_job past
 give_out k c uniq (Some found) past =
     tell_assigned k c uniq found.job (job found.job past.notes)
-    (noted (Assigned found.job c (deadline_after (moment past.notes) found.timeout)) past)
+    (with_note (Assigned found.job c (deadline_after (moment past.notes) found.timeout)) past)
 
 abbrev pub grab : Settings → ℕ → Bool → Past → Past
-grab k c uniq past = give_out k c uniq (pick c past.notes) (stir c past)
+grab k c uniq past = give_out k c uniq (pick k c past.notes) (wake_itself c past)
 
 -- ---- work
 
@@ -74,13 +77,13 @@ pub record Work : Type 0 where
   pub report : Option (List ℕ × List ℕ)
   pub ends : Bool
 
-abbrev pub report_kept : ℕ → Option (List ℕ × List ℕ) → Past → Past
-report_kept n None past = past
-report_kept n (Some numbers) past = noted (Report n numbers.0 numbers.1) past
+abbrev pub keep_report : ℕ → Option (List ℕ × List ℕ) → Past → Past
+keep_report n None past = past
+keep_report n (Some numbers) past = with_note (Report n numbers.0 numbers.1) past
 
-abbrev pub ended_if : Bool → ℕ → Past → Past
-ended_if true n past = noted (Ended n) past
-ended_if false n past = past
+abbrev pub end_if : Bool → ℕ → Past → Past
+end_if true n past = with_note (Ended n) past
+end_if false n past = past
 
 -- who hears of it
 abbrev pub hearers : Bool → List ℕ → List Note → List ℕ
@@ -89,12 +92,12 @@ hearers false slots notes = slots
 
 abbrev pub tell_work : Work → ℕ → Past → Past
 tell_work w n past =
-    ended_if w.ends n (tell_all w.answer (hearers w.exceptions_only (listeners n past.notes) past.notes) (report_kept n w.report past))
+    end_if w.ends n (tell_all w.answer (hearers w.exceptions_only (listeners n past.notes) past.notes) (keep_report n w.report past))
 
 -- the job that the handle names runs at the slot, or the packet is refused
 abbrev pub work_on : ℕ → Work → Option ℕ → Past → Past
 work_on c w None past = refuse c (codes "job_not_found") past
-work_on c w (Some n) past = if is_running_at c (spot n past.notes) then tell_work w n past else refuse c (codes "job_not_found") past
+work_on c w (Some n) past = if is_running_at c (job_state n past.notes) then tell_work w n past else refuse c (codes "job_not_found") past
 
 abbrev pub work : Settings → ℕ → List ℕ → Work → Past → Past
-work k c text w past = work_on c w (handled k text past.notes) past
+work k c text w past = work_on c w (job_of_handle k text past.notes) past

@@ -1,7 +1,7 @@
 //! The settings of a server.
 
 ghost use Rattle.std.specs.Prelude.{◌≡◌, ◌≤◌, Some, false, length, MatchResult};
-ghost use Rattle.gm_packet.specs.Requests.{has_nul};
+ghost use Rattle.gm_packet.specs.Packets.{has_nul};
 ghost use Rattle.std.specs.List.{list_all};
 ghost use Rattle.gm_notes.specs.Settings.{Settings, config_fault, is_name, is_name_byte};
 
@@ -43,14 +43,15 @@ pub struct Config {
 }
 
 impl Model for Config {
-    ghost use Rattle.std.specs.Prelude.{◌≡◌, None};
-    ghost use Rattle.gm_notes.specs.Settings.{Settings, config_fault};
+    ghost use Rattle.gm_notes.specs.Settings.{Settings};
 
     ghost Value = { Settings };
 
-    ghost view = { λ c. record { name = c.name; first_job = c.first_job; slots = c.slots; max_functions = c.max_functions } };
+    ghost use Rattle.gm_notes.specs.Configs.{settings_of, IsValid};
 
-    ghost invariant = { λ c. config_fault (record { name = c.name; first_job = c.first_job; slots = c.slots; max_functions = c.max_functions }) ≡ None };
+    ghost view = { settings_of };
+
+    ghost invariant = { IsValid };
 }
 
 /// Whether each byte may stand in a name.

@@ -111,3 +111,11 @@ pub struct Done {
     /// The number of the job that a submission made; `None` where it joined one.
     pub created: Option<u64>,
 }
+
+impl Done {
+    /// The answer where no slot was given and no job was made.
+    pub const NONE: Done = Done {
+        opened: None,
+        created: None,
+    };
+}

@@ -3,14 +3,14 @@
 
 mod config;
 mod event;
+mod job_server;
 mod note;
-mod server;
 mod states;
 mod text;
 
 pub use config::{Config, ConfigError};
 pub use event::{ApplyError, Done, Event, UnitFault};
+pub use job_server::JobServer;
 pub use note::Note;
-pub use server::JobServer;
-pub use states::{Mode, Phase, Place, Priority};
+pub use states::{Mode, Phase, Pick, Place, Priority};
 pub use text::Text;

@@ -1,10 +1,7 @@
 //! The facts that the past is made of.
 
-ghost use Rattle.std.specs.Prelude.{◌≡◌, IfOk};
-
 use crate::states::{Mode, Priority};
 use crate::text::Text;
-use std::alloc::{AllocError, Global};
 
 /// One thing that has happened. The past of a server is the list of these.
 #[derive(Debug, Drop)]
@@ -124,92 +121,4 @@ pub enum Note {
     Went {
         mode: Mode,
     },
-}
-
-impl Note {
-    /// Copies the note; `AllocError` where there is no memory for its texts.
-    pub fn copy(&self, alloc: Global) -> Result<Note, AllocError>
-        ensures { IfOk result (λ note. note ≡ self.now) }
-    {
-        Ok(match self {
-            Note::Opened { slot, addr } => Note::Opened {
-                slot: *slot,
-                addr: addr.copy(alloc)?,
-            },
-            Note::Shut { slot } => Note::Shut { slot: *slot },
-            Note::Closed { slot } => Note::Closed { slot: *slot },
-            Note::Named { slot, id } => Note::Named {
-                slot: *slot,
-                id: id.copy(alloc)?,
-            },
-            Note::OptionSet { slot } => Note::OptionSet { slot: *slot },
-            Note::Can {
-                slot,
-                function,
-                timeout,
-            } => Note::Can {
-                slot: *slot,
-                function: function.copy(alloc)?,
-                timeout: *timeout,
-            },
-            Note::Cant { slot, function } => Note::Cant {
-                slot: *slot,
-                function: function.copy(alloc)?,
-            },
-            Note::Reset { slot } => Note::Reset { slot: *slot },
-            Note::Slept { slot } => Note::Slept { slot: *slot },
-            Note::Woken { slot } => Note::Woken { slot: *slot },
-            Note::Stirred { slot } => Note::Stirred { slot: *slot },
-            Note::Took { slot } => Note::Took { slot: *slot },
-            Note::Withdrew { slot } => Note::Withdrew { slot: *slot },
-            Note::Made {
-                job,
-                function,
-                priority,
-                unique,
-                body,
-            } => Note::Made {
-                job: *job,
-                function: function.copy(alloc)?,
-                priority: *priority,
-                unique: unique.copy(alloc)?,
-                body: body.copy(alloc)?,
-            },
-            Note::Kept { job } => Note::Kept { job: *job },
-            Note::Listens { job, slot } => Note::Listens {
-                job: *job,
-                slot: *slot,
-            },
-            Note::Assigned {
-                job,
-                slot,
-                deadline,
-            } => Note::Assigned {
-                job: *job,
-                slot: *slot,
-                deadline: *deadline,
-            },
-            Note::Returned { job } => Note::Returned { job: *job },
-            Note::Ended { job } => Note::Ended { job: *job },
-            Note::Discarded { job } => Note::Discarded { job: *job },
-            Note::Report {
-                job,
-                numerator,
-                denominator,
-            } => Note::Report {
-                job: *job,
-                numerator: numerator.copy(alloc)?,
-                denominator: denominator.copy(alloc)?,
-            },
-            Note::Mention { function } => Note::Mention {
-                function: function.copy(alloc)?,
-            },
-            Note::Limit { function, size } => Note::Limit {
-                function: function.copy(alloc)?,
-                size: *size,
-            },
-            Note::Now { moment } => Note::Now { moment: *moment },
-            Note::Went { mode } => Note::Went { mode: *mode },
-        })
-    }
 }

@@ -36,13 +36,6 @@ impl Text {
         })
     }
 
-    /// Copies the text; `AllocError` where there is no memory for it.
-    pub fn copy(&self, alloc: Global) -> Result<Text, AllocError>
-        ensures { IfOk result (λ text. text ≡ self.now) }
-    {
-        Text::copy_of(alloc, self.as_slice())
-    }
-
     /// The bytes.
     pub fn as_slice(&self) -> &[u8]
         ensures { result.now ≡ self.now }

@@ -1,13 +1,16 @@
 //! What every job server owes.
 
 ghost use Rattle.std.specs.Prelude.{◌≡◌, List, ◌∷◌};
+ghost use Rattle.std.specs.Result.{IsErrOf};
 ghost use Rattle.gm_notes.specs.Settings.{Settings};
 ghost use Rattle.gm_notes.specs.Flow.{waiting};
 ghost use Rattle.gm_notes.specs.Notes.{mode};
-ghost use Rattle.gm_notes.specs.Jobs.{spot};
+ghost use Rattle.gm_notes.specs.Jobs.{job_state};
 ghost use Rattle.gm_notes.specs.Steps.{Step, Took, Withdrew, Drain};
 ghost use Rattle.gm_notes.specs.Steps.{run};
-ghost use Rattle.gm_notes.specs.Servers.{step_of, IsSized, Answers, AnswersAt, steps_after, steps_after_that, WantsNone, is_closing, owes, place_of};
+ghost use Rattle.gm_notes.specs.Servers.{step_of, IsSized, Answers, AnswersAt, steps_after, steps_after_that, NeedsNoMemory};
+ghost use Rattle.gm_notes.specs.Servers.{is_closing, owes};
+ghost use Rattle.gm_notes.specs.JobStates.{place_of};
 
 use crate::event::{ApplyError, Done, Event};
 use crate::states::{Mode, Place};
@@ -23,14 +26,14 @@ pub trait JobServer {
     /// Lets an event take effect, and answers what it made. For an opening, `Refusing` comes where the
     /// server takes no new connections, and then `NoSlot` where every slot is open; for a packet, a line or
     /// a fault, `NotOpen` where its slot isn't open or is shut; for a closing, `NotOpen` where it isn't open;
-    /// `Memory` only for a step that would else be taken, and never for a closing. A packet's data are at
+    /// `Memory` only for a step that would otherwise succeed; never for a closing. A packet's data are at
     /// most 1,073,741,824 bytes.
     fn apply(&mut self, event: &Event<'_>) -> Result<Done, ApplyError>
         requires { IsSized event.now }
         ensures answers { (k : Settings) (steps : List Step) → agrees self.old k steps
             → Answers k steps (step_of event.now) result
             × agrees self.new k (steps_after result (step_of event.now) steps) }
-        ensures memory { WantsNone event.now result };
+        ensures memory { NeedsNoMemory event.now → IsErrOf result ApplyError.Memory → ⊥ };
 
     /// Whether a NOOP is owed to the slot; never where it isn't open.
     fn owed(&self, slot: u32) -> bool
@@ -50,7 +53,7 @@ pub trait JobServer {
     /// Where a job is.
     fn place(&self, job: u64) -> Place
         ensures { (k : Settings) (steps : List Step) → agrees self.now k steps
-            → result ≡ place_of (spot job (run k steps).notes) };
+            → result ≡ place_of (job_state job (run k steps).notes) };
 
     /// The NOOP that is owed to the slot was taken. `NotOpen` comes where the slot isn't open, and then
     /// `NotOwed` where none is owed. It needs no memory.
