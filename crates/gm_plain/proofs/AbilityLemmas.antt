@@ -1,5 +1,6 @@
 -- What notes say of abilities and queues, note by note.
-use Rattle.std.proofs.Common.{◌≡◌, ℕ, zero, suc, ◌<◌, Bool, true, false, cond, List, [], ◌∷◌, ◌++◌, length, map, take, drop, get_or, set, filter, find, Option, Some, None, refl, sym, ap, ap₂, subst, ◌∙◌, arith}
+use Rattle.std.proofs.Common.{◌≡◌, ℕ, zero, suc, ◌<◌, Bool, true, false, cond, List, [], ◌∷◌, ◌++◌, length, map, take, drop, get_or, set}
+use Rattle.std.proofs.Common.{filter, find, Option, Some, None, refl, sym, ap, ap₂, subst, ◌∙◌, arith}
 use Rattle.std.specs.Prelude.{not, ◌&&◌, ◌||◌, ◌==◌, unwrap_or}
 use Rattle.std.specs.List.{list_any}
 use Rattle.std.specs.Option.{option_map}
@@ -9,10 +10,12 @@ use Rattle.std.proofs.lemmas.List.{map-set, get_or_default}
 use Rattle.std.proofs.lemmas.Bool.Decides.{nat_tests}
 use Rattle.std.proofs.lemmas.Slice.Eq.{bytes_eq-Decides}
 use Rattle.gm_notes.specs.declared.note.Note.{Note}
+use Rattle.gm_notes.specs.Notes.{last_said}
 use Rattle.gm_notes.specs.declared.note.Note.TheVariants.{Opened, Closed, Can, Cant, Reset, Made, Returned}
 use Rattle.gm_notes.specs.declared.states.Priority.TheVariants.{High, Normal, Low}
-use Rattle.gm_notes.specs.Jobs.{Ability, put, is_of, abilities, is_able, as_they_came, is_queued, queue, waiting_for, is_empty, pick_from, first_of}
-use Rattle.gm_plain.specs.Searches.{says_able, changed, came, head}
+use Rattle.gm_notes.specs.Jobs.{Ability, put, is_of, abilities, is_able, as_they_came, is_queued, queue, waiting_for, is_empty, pick_from}
+use Rattle.gm_notes.specs.Jobs.{first_of}
+use Rattle.gm_plain.specs.Searches.{says_able, abilities_after, order_after, head}
 
 -- ---- whether a worker can do a function
 
@@ -87,8 +90,7 @@ removed : (t : Bool) (f g : List ℕ) (a : List Ability)
 removed true f g a = any_cant f g a
 removed false f g a = refl
 
--- whether a worker can do a function is said last by one note
-pub able_next : (c : ℕ) (f : List ℕ) (note : Note) (older : List Note) → is_able c f (note ∷ older) ≡ unwrap_or (says_able c f note) (is_able c f older)
+able_next : (c : ℕ) (f : List ℕ) (note : Note) (older : List Note) → is_able c f (note ∷ older) ≡ unwrap_or (says_able c f note) (is_able c f older)
 able_next c f (Opened d addr) older = wiped (c == d) f (abilities c older)
 able_next c f (Closed d) older = wiped (c == d) f (abilities c older)
 able_next c f (Reset d) older = wiped (c == d) f (abilities c older)
@@ -96,7 +98,12 @@ able_next c f (Can d g t) older = added (c == d) f g t (abilities c older)
 able_next c f (Cant d g) older = removed (c == d) f g (abilities c older)
 able_next c f note older = refl
 
-pub abilities_next : (c : ℕ) (note : Note) (older : List Note) → abilities c (note ∷ older) ≡ changed c note (abilities c older)
+-- whether a worker can do a function is what the notes say last of it
+pub able_said : (c : ℕ) (f : List ℕ) (notes : List Note) → is_able c f notes ≡ last_said (says_able c f) false notes
+able_said c f [] = refl
+able_said c f (note ∷ older) = able_next c f note older ∙ ap (unwrap_or (says_able c f note)) (able_said c f older)
+
+pub abilities_next : (c : ℕ) (note : Note) (older : List Note) → abilities c (note ∷ older) ≡ abilities_after c note (abilities c older)
 abilities_next c (Opened d addr) older = refl
 abilities_next c (Closed d) older = refl
 abilities_next c (Reset d) older = refl
@@ -106,10 +113,10 @@ abilities_next c note older = refl
 
 -- ---- queues
 
-pub came_next : (note : Note) (older : List Note) → as_they_came (note ∷ older) ≡ came note (as_they_came older)
-came_next (Made n f p u body) older = refl
-came_next (Returned n) older = refl
-came_next note older = refl
+pub order_next : (note : Note) (older : List Note) → as_they_came (note ∷ older) ≡ order_after note (as_they_came older)
+order_next (Made n f p u body) older = refl
+order_next (Returned n) older = refl
+order_next note older = refl
 
 -- the first of two lists, one after the other
 abbrev pub or_head : Option ℕ → Option ℕ → Option ℕ
@@ -205,10 +212,10 @@ map_filter f P [] = refl
 map_filter f P (x ∷ items) = kept_at f P x items (P (f x)) (map_filter f P items)
 
 pub cant_here : (c d : ℕ) (f : List ℕ) (note : Note) (a : List Ability) → note ≡ Cant d f → d ≡ c
-    → filter (λ ability. not (is_of f ability)) a ≡ changed c note a
+    → filter (λ ability. not (is_of f ability)) a ≡ abilities_after c note a
 cant_here c d f note a is same =
     let here : (c == d) ≡ true = grind (arith, nat_tests) in
-    sym (ap (λ n. changed c n a) is ∙ rw here refl)
+    sym (ap (λ n. abilities_after c n a) is ∙ rw here refl)
 
 pub pick_at : {V : Type 0} (f : V → Ability) (items : List V) (i : ℕ) (d : V) (notes : List Note) (n : ℕ) → i < length items
     → Some n ≡ head (waiting_for (f (get_or items i d)).function notes)

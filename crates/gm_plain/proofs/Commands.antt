@@ -5,27 +5,27 @@ use Rattle.gm_notes.specs.declared.note.Note.TheVariants.{Limit, Went, Mention}
 use Rattle.gm_notes.specs.declared.states.Mode.{Mode}
 use Rattle.gm_notes.specs.declared.states.Mode.TheVariants.{Running, Graceful, Stopped}
 use Rattle.gm_notes.specs.Settings.{Settings}
-use Rattle.gm_notes.specs.Notes.{slots_from, welcomes}
+use Rattle.gm_notes.specs.Notes.{slots_from, accepts_connections}
 use Rattle.gm_notes.specs.Jobs.{is_mentioned}
-use Rattle.gm_notes.specs.Past.{Past, noted, print, mentioned}
-use Rattle.gm_notes.specs.Lines.{shut_each, went_graceful}
-use Rattle.gm_plain.specs.declared.plain.PlainServer.{PlainServer}
+use Rattle.gm_notes.specs.Past.{Past, with_note, with_output, with_mention}
+use Rattle.gm_notes.specs.Lines.{shut_each, go_graceful}
+use Rattle.gm_plain.specs.declared.server.PlainServer.{PlainServer}
 use Rattle.gm_plain.specs.Holds.{Keeps}
 
 -- it doesn't matter that the answer is queued first
-pub limit_told : (c : ℕ) (text f : List ℕ) (size : ℕ) (past : Past) → noted (Limit f size) (mentioned f (print c text past)) ≡ print c text (noted (Limit f size) (mentioned f past))
+pub limit_told : (c : ℕ) (text f : List ℕ) (size : ℕ) (past : Past) → with_note (Limit f size) (with_mention f (with_output c text past)) ≡ with_output c text (with_note (Limit f size) (with_mention f past))
 limit_told c text f size past = go (is_mentioned f past.notes)
   where
-    go : (t : Bool) → noted (Limit f size) (if t then print c text past else noted (Mention f) (print c text past)) ≡ print c text (noted (Limit f size) (if t then past else noted (Mention f) past))
+    go : (t : Bool) → with_note (Limit f size) (if t then with_output c text past else with_note (Mention f) (with_output c text past)) ≡ with_output c text (with_note (Limit f size) (if t then past else with_note (Mention f) past))
     go true = refl
     go false = refl
 
-pub graceful_told : (c : ℕ) (text : List ℕ) (m : Mode) (past : Past) → welcomes m ≡ true → noted (Went Graceful) (print c text past) ≡ print c text (went_graceful m past)
+pub graceful_told : (c : ℕ) (text : List ℕ) (m : Mode) (past : Past) → accepts_connections m ≡ true → with_note (Went Graceful) (with_output c text past) ≡ with_output c text (go_graceful m past)
 graceful_told c text Running past e = refl
 graceful_told c text Graceful past e = absurd cc
 graceful_told c text Stopped past e = absurd cc
 
-pub graceful_kept : (c : ℕ) (text : List ℕ) (m : Mode) (past : Past) → welcomes m ≡ false → print c text past ≡ print c text (went_graceful m past)
+pub graceful_kept : (c : ℕ) (text : List ℕ) (m : Mode) (past : Past) → accepts_connections m ≡ false → with_output c text past ≡ with_output c text (go_graceful m past)
 graceful_kept c text Running past e = absurd cc
 graceful_kept c text Graceful past e = refl
 graceful_kept c text Stopped past e = refl

@@ -1,14 +1,19 @@
 -- What the notes that may yet come without memory cost, as one note comes.
-use Rattle.std.proofs.Common.{◌≡◌, ℕ, zero, suc, ◌+◌, ◌<◌, ◌≤◌, Bool, true, false, List, [], ◌∷◌, length, Some, None, refl, sym, ap, subst, arith}
+use Rattle.std.proofs.Common.{◌≡◌, ℕ, zero, suc, ◌+◌, ◌<◌, ◌≤◌, Bool, true, false, List, [], ◌∷◌, length, Some, None, refl, sym, ap}
+use Rattle.std.proofs.Common.{subst, arith}
 use Rattle.std.specs.Prelude.{◌==◌, if◌then◌else◌, unwrap_or}
 use Rattle.std.proofs.lemmas.Bool.Decides.{nat_tests}
 use Rattle.gm_notes.specs.declared.states.Phase.{Phase}
 use Rattle.gm_notes.specs.declared.states.Phase.TheVariants.{Awake, Asleep, Owed}
 use Rattle.gm_notes.specs.declared.note.Note.{Note}
-use Rattle.gm_notes.specs.declared.note.Note.TheVariants.{Opened, Closed, Slept, Woken, Stirred, Took, Withdrew, Made, Assigned, Returned, Ended, Discarded}
+use Rattle.gm_notes.specs.declared.note.Note.TheVariants.{Opened, Closed, Slept, Woken, Stirred, Took, Withdrew, Made, Assigned, Returned}
+use Rattle.gm_notes.specs.declared.note.Note.TheVariants.{Ended, Discarded}
 use Rattle.gm_notes.specs.Notes.{is_open, phase, is_asleep, is_owed}
-use Rattle.gm_notes.specs.Jobs.{Spot, Unmade, Waits, RunsAt, Over, Thrown, spot, is_waiting, is_running, is_live, made}
-use Rattle.gm_plain.specs.Logs.{NoteFits, AllFit, Stands, AreNumbered, IsPaid, total_of, due_of_open, due_of_phase, due_of_spot, slot_due, slots_due, jobs_due, due, weight, paid}
+use Rattle.gm_notes.specs.Jobs.{job_state, made}
+use Rattle.gm_notes.specs.JobStates.{JobState, is_waiting, is_running, is_live}
+use Rattle.gm_notes.specs.JobStates as states
+use Rattle.gm_plain.specs.Logs.{NoteFits, AllFit, MayCome, AreNumbered, IsPaid, total_of, due_of_open, due_of_phase, due_of_job_state}
+use Rattle.gm_plain.specs.Logs.{slot_due, slots_due, jobs_due, due, weight, paid}
 use Rattle.gm_plain.proofs.LogLemmas.{open_below}
 use Rattle.gm_plain.proofs.NoteLemmas.{self}
 
@@ -74,40 +79,40 @@ open_due : (t : Bool) → due_of_open t ≤ 1
 open_due true = omega arith
 open_due false = omega arith
 
-waits_due : (p : Spot) → is_waiting p ≡ true → due_of_spot p ≡ 1
-waits_due Waits e = refl
-waits_due Unmade e = absurd cc
-waits_due (RunsAt c) e = absurd cc
-waits_due Over e = absurd cc
-waits_due Thrown e = absurd cc
+waits_due : (p : JobState) → is_waiting p ≡ true → due_of_job_state p ≡ 1
+waits_due states.Waiting e = refl
+waits_due states.Unmade e = absurd cc
+waits_due (states.Running c) e = absurd cc
+waits_due states.Ended e = absurd cc
+waits_due states.Discarded e = absurd cc
 
-runs_due : (p : Spot) → is_running p ≡ true → due_of_spot p ≡ 2
-runs_due (RunsAt c) e = refl
-runs_due Waits e = absurd cc
-runs_due Unmade e = absurd cc
-runs_due Over e = absurd cc
-runs_due Thrown e = absurd cc
+runs_due : (p : JobState) → is_running p ≡ true → due_of_job_state p ≡ 2
+runs_due (states.Running c) e = refl
+runs_due states.Waiting e = absurd cc
+runs_due states.Unmade e = absurd cc
+runs_due states.Ended e = absurd cc
+runs_due states.Discarded e = absurd cc
 
-live_due : (p : Spot) → is_live p ≡ true → 1 ≤ due_of_spot p
-live_due Waits e = omega arith
-live_due (RunsAt c) e = omega arith
-live_due Unmade e = absurd cc
-live_due Over e = absurd cc
-live_due Thrown e = absurd cc
+live_due : (p : JobState) → is_live p ≡ true → 1 ≤ due_of_job_state p
+live_due states.Waiting e = omega arith
+live_due (states.Running c) e = omega arith
+live_due states.Unmade e = absurd cc
+live_due states.Ended e = absurd cc
+live_due states.Discarded e = absurd cc
 
-running_lives : (p : Spot) → is_running p ≡ true → is_live p ≡ true
-running_lives (RunsAt c) e = refl
-running_lives Waits e = refl
-running_lives Unmade e = absurd cc
-running_lives Over e = absurd cc
-running_lives Thrown e = absurd cc
+running_lives : (p : JobState) → is_running p ≡ true → is_live p ≡ true
+running_lives (states.Running c) e = refl
+running_lives states.Waiting e = refl
+running_lives states.Unmade e = absurd cc
+running_lives states.Ended e = absurd cc
+running_lives states.Discarded e = absurd cc
 
-waiting_lives : (p : Spot) → is_waiting p ≡ true → is_live p ≡ true
-waiting_lives Waits e = refl
-waiting_lives (RunsAt c) e = refl
-waiting_lives Unmade e = absurd cc
-waiting_lives Over e = absurd cc
-waiting_lives Thrown e = absurd cc
+waiting_lives : (p : JobState) → is_waiting p ≡ true → is_live p ≡ true
+waiting_lives states.Waiting e = refl
+waiting_lives (states.Running c) e = refl
+waiting_lives states.Unmade e = absurd cc
+waiting_lives states.Ended e = absurd cc
+waiting_lives states.Discarded e = absurd cc
 
 -- ---- what is due after a note
 
@@ -118,16 +123,16 @@ slot_less note d slots notes same lt less =
     let at = total_at (λ c. slot_due c (note ∷ notes)) (λ c. slot_due c notes) d same 0 slots (omega arith) (omega arith) in
     omega (arith, at)
 
-job_less : (note : Note) (m first : ℕ) (notes : List Note) → ((n : ℕ) → (n == m) ≡ false → due_of_spot (spot n (note ∷ notes)) ≡ due_of_spot (spot n notes))
-    → (first ≤ m) × (m < first + length (made notes)) → due_of_spot (spot m (note ∷ notes)) < due_of_spot (spot m notes) → made (note ∷ notes) ≡ made notes
+job_less : (note : Note) (m first : ℕ) (notes : List Note) → ((n : ℕ) → (n == m) ≡ false → due_of_job_state (job_state n (note ∷ notes)) ≡ due_of_job_state (job_state n notes))
+    → (first ≤ m) × (m < first + length (made notes)) → due_of_job_state (job_state m (note ∷ notes)) < due_of_job_state (job_state m notes) → made (note ∷ notes) ≡ made notes
     → jobs_due first (note ∷ notes) < jobs_due first notes
 job_less note m first notes same within less kept =
-    let at = total_at (λ n. due_of_spot (spot n (note ∷ notes))) (λ n. due_of_spot (spot n notes)) m same first (length (made notes)) within.0 within.1 in
-    let e : jobs_due first (note ∷ notes) ≡ total_of (λ n. due_of_spot (spot n (note ∷ notes))) first (length (made notes)) =
-    ap (λ l. total_of (λ n. due_of_spot (spot n (note ∷ notes))) first (length l)) kept in
+    let at = total_at (λ n. due_of_job_state (job_state n (note ∷ notes))) (λ n. due_of_job_state (job_state n notes)) m same first (length (made notes)) within.0 within.1 in
+    let e : jobs_due first (note ∷ notes) ≡ total_of (λ n. due_of_job_state (job_state n (note ∷ notes))) first (length (made notes)) =
+    ap (λ l. total_of (λ n. due_of_job_state (job_state n (note ∷ notes))) first (length l)) kept in
     omega (arith, at, e)
 
-pub due_next : (slots first : ℕ) (note : Note) (notes : List Note) → Stands slots first note notes → AllFit slots notes → AreNumbered first notes
+pub due_next : (slots first : ℕ) (note : Note) (notes : List Note) → MayCome slots first note notes → AllFit slots notes → AreNumbered first notes
     → suc (due slots first (note ∷ notes)) ≤ due slots first notes + weight note
 due_next slots first (Opened d addr) notes stands fit numbered =
     let at = total_most (λ c. slot_due c (Opened d addr ∷ notes)) (λ c. slot_due c notes) d (λ c h. rw h refl) 1 0 slots (rw (self d) (omega arith)) in
@@ -164,53 +169,53 @@ due_next slots first (Withdrew d) notes stands fit numbered =
     omega (arith, less, jobs)
 due_next slots first (Made m f p u body) notes stands fit numbered =
     let slot : slots_due slots (Made m f p u body ∷ notes) ≡ slots_due slots notes = refl in
-    let past = total_outside (λ n. due_of_spot (spot n (Made m f p u body ∷ notes))) (λ n. due_of_spot (spot n notes)) m (λ n h. rw h refl) first (length (made notes)) (omega (arith, stands)) in
-    let here : due_of_spot (spot (first + length (made notes)) (Made m f p u body ∷ notes)) ≡ 1 = rw (sym stands, self m) refl in
+    let past = total_outside (λ n. due_of_job_state (job_state n (Made m f p u body ∷ notes))) (λ n. due_of_job_state (job_state n notes)) m (λ n h. rw h refl) first (length (made notes)) (omega (arith, stands)) in
+    let here : due_of_job_state (job_state (first + length (made notes)) (Made m f p u body ∷ notes)) ≡ 1 = rw (sym stands, self m) refl in
     omega (arith, slot, past, here)
 due_next slots first (Assigned m c deadline) notes stands fit numbered =
     let slot : slots_due slots (Assigned m c deadline ∷ notes) ≡ slots_due slots notes = refl in
-    let waits = waits_due (spot m notes) stands in
-    let at = total_most (λ n. due_of_spot (spot n (Assigned m c deadline ∷ notes))) (λ n. due_of_spot (spot n notes)) m (λ n h. rw h refl) 1 first (length (made notes)) (rw (self m) (omega (arith, waits))) in
+    let waits = waits_due (job_state m notes) stands in
+    let at = total_most (λ n. due_of_job_state (job_state n (Assigned m c deadline ∷ notes))) (λ n. due_of_job_state (job_state n notes)) m (λ n h. rw h refl) 1 first (length (made notes)) (rw (self m) (omega (arith, waits))) in
     omega (arith, slot, at)
 due_next slots first (Returned m) notes stands fit numbered =
     let slot : slots_due slots (Returned m ∷ notes) ≡ slots_due slots notes = refl in
-    let runs = runs_due (spot m notes) stands in
-    let less = job_less (Returned m) m first notes (λ n h. rw h refl) (numbered m (running_lives (spot m notes) stands)) (rw (self m) (omega (arith, runs))) refl in
+    let runs = runs_due (job_state m notes) stands in
+    let less = job_less (Returned m) m first notes (λ n h. rw h refl) (numbered m (running_lives (job_state m notes) stands)) (rw (self m) (omega (arith, runs))) refl in
     omega (arith, slot, less)
 due_next slots first (Ended m) notes stands fit numbered =
     let slot : slots_due slots (Ended m ∷ notes) ≡ slots_due slots notes = refl in
-    let runs = runs_due (spot m notes) stands in
-    let less = job_less (Ended m) m first notes (λ n h. rw h refl) (numbered m (running_lives (spot m notes) stands)) (rw (self m) (omega (arith, runs))) refl in
+    let runs = runs_due (job_state m notes) stands in
+    let less = job_less (Ended m) m first notes (λ n h. rw h refl) (numbered m (running_lives (job_state m notes) stands)) (rw (self m) (omega (arith, runs))) refl in
     omega (arith, slot, less)
 due_next slots first (Discarded m) notes stands fit numbered =
     let slot : slots_due slots (Discarded m ∷ notes) ≡ slots_due slots notes = refl in
-    let lives = live_due (spot m notes) stands in
+    let lives = live_due (job_state m notes) stands in
     let less = job_less (Discarded m) m first notes (λ n h. rw h refl) (numbered m stands) (rw (self m) (omega (arith, lives))) refl in
     omega (arith, slot, less)
 due_next slots first note notes stands fit numbered = omega arith
 
 -- ---- the jobs made
 
-live_if : (t : Bool) (n m first len : ℕ) (new old : Spot) → (n == m) ≡ t → (is_live new ≡ true → (first ≤ m) × (m < first + len))
+live_if : (t : Bool) (n m first len : ℕ) (new old : JobState) → (n == m) ≡ t → (is_live new ≡ true → (first ≤ m) × (m < first + len))
     → (is_live old ≡ true → (first ≤ n) × (n < first + len)) → is_live (unwrap_or (if t then Some new else None) old) ≡ true → (first ≤ n) × (n < first + len)
 live_if true n m first len new old is here rest live =
     let same : m ≡ n = grind (arith, nat_tests) in
     subst (λ x. (first ≤ x) × (x < first + len)) same (here live)
 live_if false n m first len new old is here rest live = rest live
 
-pub numbered_next : (slots first : ℕ) (note : Note) (notes : List Note) → Stands slots first note notes → AreNumbered first notes → AreNumbered first (note ∷ notes)
+pub numbered_next : (slots first : ℕ) (note : Note) (notes : List Note) → MayCome slots first note notes → AreNumbered first notes → AreNumbered first (note ∷ notes)
 numbered_next slots first (Made m f p u body) notes stands numbered n =
-    live_if (n == m) n m first (suc (length (made notes))) Waits (spot n notes) refl (λ live. (omega (arith, stands), omega (arith, stands)))
+    live_if (n == m) n m first (suc (length (made notes))) states.Waiting (job_state n notes) refl (λ live. (omega (arith, stands), omega (arith, stands)))
     (λ live. let r = numbered n live in (r.0, omega (arith, r.1)))
 numbered_next slots first (Returned m) notes stands numbered n =
-    live_if (n == m) n m first (length (made notes)) Waits (spot n notes) refl (λ live. numbered m (running_lives (spot m notes) stands)) (numbered n)
+    live_if (n == m) n m first (length (made notes)) states.Waiting (job_state n notes) refl (λ live. numbered m (running_lives (job_state m notes) stands)) (numbered n)
 numbered_next slots first (Assigned m c deadline) notes stands numbered n =
-    live_if (n == m) n m first (length (made notes)) (RunsAt c) (spot n notes) refl (λ live. numbered m (waiting_lives (spot m notes) stands)) (numbered n)
-numbered_next slots first (Ended m) notes stands numbered n = live_if (n == m) n m first (length (made notes)) Over (spot n notes) refl (λ live. absurd cc) (numbered n)
-numbered_next slots first (Discarded m) notes stands numbered n = live_if (n == m) n m first (length (made notes)) Thrown (spot n notes) refl (λ live. absurd cc) (numbered n)
+    live_if (n == m) n m first (length (made notes)) (states.Running c) (job_state n notes) refl (λ live. numbered m (waiting_lives (job_state m notes) stands)) (numbered n)
+numbered_next slots first (Ended m) notes stands numbered n = live_if (n == m) n m first (length (made notes)) states.Ended (job_state n notes) refl (λ live. absurd cc) (numbered n)
+numbered_next slots first (Discarded m) notes stands numbered n = live_if (n == m) n m first (length (made notes)) states.Discarded (job_state n notes) refl (λ live. absurd cc) (numbered n)
 numbered_next slots first note notes stands numbered n = numbered n
 
-pub paid_next : (slots first : ℕ) (note : Note) (notes : List Note) → Stands slots first note notes → NoteFits slots note → IsPaid slots first notes
+pub paid_next : (slots first : ℕ) (note : Note) (notes : List Note) → MayCome slots first note notes → NoteFits slots note → IsPaid slots first notes
     → IsPaid slots first (note ∷ notes)
 paid_next slots first note notes stands fits paid = record {
   fit = (fits, paid.fit);
@@ -219,7 +224,7 @@ paid_next slots first note notes stands fits paid = record {
 }
 
 -- there is room where it is paid for
-pub room_for : (slots first capacity : ℕ) (note : Note) (notes : List Note) → Stands slots first note notes → IsPaid slots first notes → paid notes + weight note ≤ capacity
+pub room_for : (slots first capacity : ℕ) (note : Note) (notes : List Note) → MayCome slots first note notes → IsPaid slots first notes → paid notes + weight note ≤ capacity
     → length notes < capacity
 room_for slots first capacity note notes stands held room =
     let next = due_next slots first note notes stands held.fit held.numbered in omega (arith, next, held.covered)

@@ -9,10 +9,11 @@ use Rattle.gm_notes.specs.declared.note.Note.{Note}
 use Rattle.gm_notes.specs.declared.note.Note.TheVariants.{Opened, Closed, Made, Listens, Report}
 use Rattle.gm_notes.specs.Notes.{is_open}
 use Rattle.gm_notes.specs.Jobs.{Job, job, report, listeners}
-use Rattle.gm_plain.specs.declared.jobs.Submitted.{Submitted}
-use Rattle.gm_plain.specs.Searches.{job_of, heard}
+use Rattle.gm_actions.specs.declared.answers.JobView.{JobView}
+use Rattle.gm_actions.specs.Actions.{job_of}
+use Rattle.gm_plain.specs.Searches.{listeners_after}
 use Rattle.gm_plain.specs.Logs.{AllFit}
-use Rattle.gm_requests.specs.Carried.{AreNumbers, IsCarried}
+use Rattle.gm_actions.specs.Carried.{AreNumbers, IsCarried}
 
 -- ---- slots
 
@@ -66,17 +67,17 @@ job_carried slots n [] fit = tt
 job_carried slots n (Made m f p u body ∷ older) fit = job_if (n == m) (record { function = f; priority = p; unique = u; body = body }) (job n older) fit.0.0 (job_carried slots n older fit.1)
 job_carried slots n (note ∷ older) fit = job_carried slots n older fit.1
 
-pub found_carried : (found : Option Submitted) (job : Option Job) → option_map job_of found ≡ job → JobFits job
+pub found_carried : (found : Option JobView) (job : Option Job) → option_map job_of found ≡ job → JobFits job
     → IfSome found (λ f. IsCarried f.function.now f.unique.now f.body.now)
 found_carried None job is fits = tt
 found_carried (Some f) job is fits = subst JobFits (sym is) fits
 
 -- what a note changes of who hears of a job
-pub heard_next : (n : ℕ) (note : Note) (older : List Note) → listeners n (note ∷ older) ≡ heard n note (listeners n older)
-heard_next n (Made m f p u body) older = refl
-heard_next n (Listens m c) older = refl
-heard_next n (Closed c) older = refl
-heard_next n note older = refl
+pub listeners_next : (n : ℕ) (note : Note) (older : List Note) → listeners n (note ∷ older) ≡ listeners_after n note (listeners n older)
+listeners_next n (Made m f p u body) older = refl
+listeners_next n (Listens m c) older = refl
+listeners_next n (Closed c) older = refl
+listeners_next n note older = refl
 
 -- ---- reports
 

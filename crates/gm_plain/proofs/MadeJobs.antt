@@ -1,15 +1,18 @@
 -- The jobs made, in the order of their numbers.
-use Rattle.std.proofs.Common.{◌≡◌, ℕ, suc, ◌<◌, ◌≤◌, List, [], ◌∷◌, ◌++◌, length, drop, get_or, reverse, Option, Some, None, refl, sym, ap, ◌∙◌}
-use Rattle.std.specs.Prelude.{slice_get, ◌==◌, ◌||◌}
-use Rattle.std.specs.List.{list_any}
+use Rattle.std.proofs.Common.{◌≡◌, ℕ, suc, ◌<◌, ◌≤◌, Bool, true, false, List, [], ◌∷◌, ◌++◌, length, drop, get_or, reverse, Option, Some}
+use Rattle.std.proofs.Common.{None, refl, sym, ap, ◌∙◌}
+use Rattle.std.specs.Prelude.{slice_get, ◌||◌, if◌then◌else◌, unwrap_or}
+use Rattle.std.specs.Str.{bytes_eq}
+use Rattle.std.proofs.lemmas.List.Folds.{list_any-append}
 use Rattle.std.proofs.Math.ListN.{drop_of_length-le}
 use Rattle.std.proofs.lemmas.List.{reverse-append}
 use Rattle.std.proofs.Math.Seq.{drop-cons}
 use Rattle.gm_notes.specs.declared.states.Priority.{Priority}
 use Rattle.gm_notes.specs.declared.note.Note.{Note}
-use Rattle.gm_notes.specs.declared.note.Note.TheVariants.{Made}
-use Rattle.gm_notes.specs.Jobs.{made}
-use Rattle.gm_plain.specs.Searches.{makes}
+use Rattle.gm_notes.specs.declared.note.Note.TheVariants.{Made, Mention}
+use Rattle.gm_notes.specs.Notes.{last_said}
+use Rattle.gm_notes.specs.Jobs.{made, functions, is_mentioned}
+use Rattle.gm_plain.specs.Searches.{says_mentioned}
 
 -- the jobs that these notes make, the oldest note first
 abbrev pub made_along : List Note → List ℕ
@@ -57,6 +60,18 @@ nowhere notes i index before le so_far =
     let rest : drop i notes ≡ [] = drop_of_length-le notes le in
     sym (ap (λ l. slice_get l index) (along_is notes) ∙ (so_far ∙ ap (λ (l : List Note). slice_get (made_along l) before) rest))
 
-pub made_next : (n : ℕ) (note : Note) (older : List Note) → list_any (λ m. m == n) (made (note ∷ older)) ≡ (makes n note || list_any (λ m. m == n) (made older))
-made_next n (Made m f p u body) older = refl
-made_next n note older = refl
+-- ---- functions
+
+mentioned_at : (t rest : Bool) → (rest || (t || false)) ≡ unwrap_or (if t then Some true else None) rest
+mentioned_at true true = refl
+mentioned_at true false = refl
+mentioned_at false true = refl
+mentioned_at false false = refl
+
+-- whether a function was mentioned is what the notes say last of it
+pub mentioned_said : (f : List ℕ) (notes : List Note) → is_mentioned f notes ≡ last_said (says_mentioned f) false notes
+mentioned_said f [] = refl
+mentioned_said f (Mention g ∷ older) =
+    list_any-append (λ h. bytes_eq h f) (functions older) (g ∷ [])
+    ∙ (mentioned_at (bytes_eq g f) (is_mentioned f older) ∙ ap (unwrap_or (says_mentioned f (Mention g))) (mentioned_said f older))
+mentioned_said f (note ∷ older) = mentioned_said f older

@@ -1,18 +1,17 @@
 -- What is picked waits.
 use Rattle.std.proofs.Common.{◌≡◌, ℕ, Bool, true, false, List, [], ◌∷◌, ◌++◌, Option, Some, None, refl, sym, subst}
 use Rattle.std.specs.Prelude.{if◌then◌else◌, filter, IfSome}
-use Rattle.std.specs.Option.{option_map}
 use Rattle.std.proofs.lemmas.Bool.{and_parts}
 use Rattle.gm_notes.specs.declared.states.Priority.{Priority}
 use Rattle.gm_notes.specs.declared.states.Priority.TheVariants.{High, Normal, Low}
 use Rattle.gm_notes.specs.declared.note.Note.{Note}
-use Rattle.gm_notes.specs.Jobs.{Ability, Pick, spot, job, is_waiting, is_job_with, is_queued, queue, waiting_for, first_of, as_they_came, pick_from}
-use Rattle.gm_plain.specs.declared.abilities.Choice.{Choice}
-use Rattle.gm_plain.specs.Searches.{pick_of}
+use Rattle.gm_notes.specs.Jobs.{Ability, job_state, job, is_job_with, is_queued, queue, waiting_for, first_of, as_they_came, pick_from}
+use Rattle.gm_notes.specs.declared.states.Pick.{Pick}
+use Rattle.gm_notes.specs.JobStates.{is_waiting}
 
 abbrev AllWait : List Note → List ℕ → Type 0
 AllWait notes [] = Unit {0}
-AllWait notes (n ∷ jobs) = (is_waiting (spot n notes) ≡ true) × AllWait notes jobs
+AllWait notes (n ∷ jobs) = (is_waiting (job_state n notes) ≡ true) × AllWait notes jobs
 
 filtered : (f : List ℕ) (p : Priority) (notes : List Note) (jobs : List ℕ) → AllWait notes (filter (is_queued f p notes) jobs)
 filtered f p notes [] = tt
@@ -20,7 +19,7 @@ filtered f p notes (n ∷ jobs) = by (is_queued f p notes n) refl (filtered f p 
   where
     by : (t : Bool) → is_queued f p notes n ≡ t → AllWait notes (filter (is_queued f p notes) jobs)
         → AllWait notes (if t then n ∷ filter (is_queued f p notes) jobs else filter (is_queued f p notes) jobs)
-    by true e rest = ((and_parts (is_waiting (spot n notes)) (is_job_with f p (job n notes)) e).0, rest)
+    by true e rest = ((and_parts (is_waiting (job_state n notes)) (is_job_with f p (job n notes)) e).0, rest)
     by false e rest = rest
 
 joined : (notes : List Note) (a b : List ℕ) → AllWait notes a → AllWait notes b → AllWait notes (a ++ b)
@@ -35,7 +34,7 @@ all_wait f notes =
 
 abbrev PickWaits : List Note → Option Pick → Type 0
 PickWaits notes None = Unit {0}
-PickWaits notes (Some found) = is_waiting (spot found.job notes) ≡ true
+PickWaits notes (Some found) = is_waiting (job_state found.job notes) ≡ true
 
 first_waits : (notes : List Note) (jobs : List ℕ) (timeout : ℕ) (otherwise : Option Pick) → AllWait notes jobs → PickWaits notes otherwise → PickWaits notes (first_of jobs timeout otherwise)
 first_waits notes [] timeout otherwise all rest = rest
@@ -46,12 +45,11 @@ pick_waits [] notes = tt
 pick_waits (ability ∷ abilities) notes =
     first_waits notes (waiting_for ability.function notes) ability.timeout (pick_from abilities notes) (all_wait ability.function notes) (pick_waits abilities notes)
 
-found_waits : (notes : List Note) (found : Option Choice) (picked : Option Pick) → option_map pick_of found ≡ picked → PickWaits notes picked
-    → IfSome found (λ choice. is_waiting (spot choice.job notes) ≡ true)
-found_waits notes None picked is waits = tt
-found_waits notes (Some choice) picked is waits = subst (PickWaits notes) (sym is) waits
+found_waits : (notes : List Note) (found : Option Pick) → PickWaits notes found → IfSome found (λ picked. is_waiting (job_state picked.job notes) ≡ true)
+found_waits notes None waits = tt
+found_waits notes (Some picked) waits = waits
 
 -- of the picks from any abilities
-pub picked_waits : (abilities : List Ability) (notes : List Note) (found : Option Choice) → option_map pick_of found ≡ pick_from abilities notes
-    → IfSome found (λ choice. is_waiting (spot choice.job notes) ≡ true)
-picked_waits abilities notes found is = found_waits notes found (pick_from abilities notes) is (pick_waits abilities notes)
+pub picked_waits : (abilities : List Ability) (notes : List Note) (found : Option Pick) → found ≡ pick_from abilities notes
+    → IfSome found (λ picked. is_waiting (job_state picked.job notes) ≡ true)
+picked_waits abilities notes found is = found_waits notes found (subst (PickWaits notes) (sym is) (pick_waits abilities notes))

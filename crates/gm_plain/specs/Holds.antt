@@ -1,67 +1,77 @@
 -- What a plain server holds, against the definitions.
-use Rattle.std.specs.Prelude.{◌≡◌, ℕ, true, false, codes, List, [], Option, Some, None, Result, Ok, Err}
+use Rattle.std.specs.Prelude.{◌≡◌, ℕ, List, [], ◌++◌, Option, Some, None, Result}
 use Rattle.std.specs.List.{slice_index_or}
-use Rattle.gm_packet.specs.Writing.{status_res}
 use Rattle.gm_notes.specs.declared.note.Note.{Note}
-use Rattle.gm_plain.specs.declared.plain.PlainServer.{PlainServer}
-use Rattle.gm_plain.specs.declared.plain.work.Kept.{Kept}
+use Rattle.gm_plain.specs.declared.server.PlainServer.{PlainServer}
+use Rattle.gm_plain.specs.declared.server.working.ReportCopy.{ReportCopy}
+use Rattle.gm_plain.specs.Outboxes.{AllGrew}
 use Rattle.gm_notes.specs.Settings.{Settings}
 use Rattle.gm_notes.specs.Flow.{waiting}
-use Rattle.gm_notes.specs.Jobs.{Job, spot, is_running, report}
-use Rattle.gm_notes.specs.Past.{Past, give, wake_one}
-use Rattle.gm_notes.specs.Steps.{Step, run}
+use Rattle.gm_notes.specs.Jobs.{Job}
+use Rattle.gm_notes.specs.Past.{Past, wake_one}
+use Rattle.gm_notes.specs.Steps.{Step}
+use Rattle.gm_actions.specs.Effects.{Changes, Agrees, if_done}
 
 -- these notes, and these bytes for each slot, are what has happened
-pub record Holds (notes : List Note) (lanes : List (List ℕ)) (past : Past) : Type 0 where
+pub record Holds (notes : List Note) (outboxes : List (List ℕ)) (past : Past) : Type 0 where
   pub notes_are : notes ≡ past.notes
-  pub lanes_are : (c : ℕ) → slice_index_or lanes c [] ≡ waiting c past.flow
+  pub waiting_are : (c : ℕ) → slice_index_or outboxes c [] ≡ waiting c past.flow
+
+-- what contracts see of a server
+pub record Contents : Type 0 where
+  pub config : Settings
+  pub notes : List Note
+  pub outboxes : List (List ℕ)
+
+abbrev pub contents_of : PlainServer → Contents
+contents_of server = record { config = server.config; notes = server.log.notes; outboxes = server.outboxes }
+
+abbrev pub config_of : Contents → Settings
+config_of contents = contents.config
+
+abbrev pub HeldIn : Contents → Past → Type 0
+HeldIn contents past = Holds contents.notes contents.outboxes past
 
 -- the server keeps what has happened
 abbrev pub Keeps : PlainServer → Past → Type 0
-Keeps server past = Holds server.log.notes server.lanes past
-
--- what these steps give under these settings
-pub record Agrees (config : Settings) (notes : List Note) (lanes : List (List ℕ)) (k : Settings) (steps : List Step) : Type 0 where
-  pub settings : config ≡ k
-  pub past : Holds notes lanes (run k steps)
-
--- the server holds what these steps give under these settings
-abbrev pub PlainAgrees : PlainServer → Settings → List Step → Type 0
-PlainAgrees server k steps = Agrees server.config server.log.notes server.lanes k steps
+Keeps server past = HeldIn (contents_of server) past
 
 -- ---- what a call does
 
+-- a call promises nothing else
+abbrev pub NothingElse : Contents → Contents → Type 0
+NothingElse old new = Unit {0}
+
+abbrev pub Becomes : Contents → Contents → (Past → Past) → Type 0
+Becomes old new change = Changes config_of HeldIn NothingElse old new change
+
 -- the past changes so, whatever it is, and the settings stay
-pub record Changes (k k' : Settings) (notes notes' : List Note) (lanes lanes' : List (List ℕ)) (change : Past → Past) : Type 0 where
-  pub config : k' ≡ k
-  pub past : (past : Past) → Holds notes lanes past → Holds notes' lanes' (change past)
-
 abbrev pub Goes : PlainServer → PlainServer → (Past → Past) → Type 0
-Goes old new change = Changes old.config new.config old.log.notes new.log.notes old.lanes new.lanes change
+Goes old new change = Becomes (contents_of old) (contents_of new) change
 
-abbrev pub unless_wanting : {E : Type 0} → Result (Unit {0}) E → (Past → Past) → Past → Past
-unless_wanting (Ok done) change past = change past
-unless_wanting (Err wanting) change past = past
-
--- the past changes so, unless memory is wanting: then it stays
+-- so it does, unless the call is out of memory: then the past stays
 abbrev pub Does : {E : Type 0} → PlainServer → Result (Unit {0}) E → PlainServer → (Past → Past) → Type 0
-Does old result new change = Goes old new (unless_wanting result change)
+Does old result new change = Goes old new (if_done result change)
+
+-- nothing was taken back: notes came, and bytes for slots
+pub record Grows (old new : Contents) : Type 0 where
+  pub config : new.config ≡ old.config
+  pub notes : (newer : List Note) × (new.notes ≡ newer ++ old.notes)
+  pub outboxes : AllGrew old.outboxes new.outboxes
+
+abbrev pub Grew : PlainServer → PlainServer → Type 0
+Grew old new = Grows (contents_of old) (contents_of new)
+
+-- the server holds what these steps give under these settings
+abbrev pub PlainAgrees : PlainServer → Settings → List Step → Type 0
+PlainAgrees server k steps = Agrees config_of HeldIn (contents_of server) k steps
 
 -- ---- what is handed on
 
 -- a report that was copied
-abbrev pub kept_of : Option Kept → Option (List ℕ × List ℕ)
-kept_of None = None
-kept_of (Some kept) = Some (kept.numerator, kept.denominator)
-
--- what is told of a live job
-abbrev pub known_told : ℕ → List ℕ → ℕ → Past → Past
-known_told c text n past =
-    give c (status_res text true (is_running (spot n past.notes)) (report n past.notes).0 (report n past.notes).1) past
-
--- what is told of any other
-abbrev pub unknown_told : ℕ → List ℕ → Past → Past
-unknown_told c text past = give c (status_res text false false (codes "0") (codes "0")) past
+abbrev pub copied_report : Option ReportCopy → Option (List ℕ × List ℕ)
+copied_report None = None
+copied_report (Some copy) = Some (copy.numerator, copy.denominator)
 
 -- the worker in slot c is owed a NOOP if it sleeps and can do such a job
 abbrev pub wake_one_for : Option Job → ℕ → Past → Past

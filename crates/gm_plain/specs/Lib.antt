@@ -1,5 +1,5 @@
 pub mod Holds
-pub mod Lanes
 pub mod Listings
 pub mod Logs
+pub mod Outboxes
 pub mod Searches

@@ -1,12 +1,15 @@
 -- The notes as a plain server keeps them: what fits among them, and the room for those that must come without memory.
-use Rattle.std.specs.Prelude.{◌≡◌, ℕ, zero, suc, ◌+◌, ◌<◌, ◌≤◌, ◌^◌, Bool, true, false, List, [], ◌∷◌, length}
+use Rattle.std.specs.Prelude.{◌≡◌, ℕ, zero, suc, ◌+◌, ◌<◌, ◌≤◌, ◌^◌, Bool, true, false, List, [], ◌∷◌, length, reverse, take}
 use Rattle.gm_notes.specs.declared.states.Phase.{Phase}
 use Rattle.gm_notes.specs.declared.states.Phase.TheVariants.{Awake, Asleep, Owed}
 use Rattle.gm_notes.specs.declared.note.Note.{Note}
-use Rattle.gm_notes.specs.declared.note.Note.TheVariants.{Opened, Closed, Slept, Woken, Stirred, Took, Withdrew, Made, Listens, Assigned, Returned, Ended, Discarded, Report}
+use Rattle.gm_notes.specs.declared.note.Note.TheVariants.{Opened, Closed, Slept, Woken, Stirred, Took, Withdrew, Made, Listens, Assigned}
+use Rattle.gm_notes.specs.declared.note.Note.TheVariants.{Returned, Ended, Discarded, Report}
 use Rattle.gm_notes.specs.Notes.{is_open, phase, is_asleep, is_owed}
-use Rattle.gm_notes.specs.Jobs.{Spot, Unmade, Waits, RunsAt, Over, Thrown, spot, is_waiting, is_running, is_live, made}
-use Rattle.gm_requests.specs.Carried.{IsCarried, AreNumbers}
+use Rattle.gm_notes.specs.Jobs.{job_state, made}
+use Rattle.gm_notes.specs.JobStates.{JobState, is_waiting, is_running, is_live}
+use Rattle.gm_notes.specs.JobStates as states
+use Rattle.gm_actions.specs.Carried.{IsCarried, AreNumbers}
 
 -- the notes, the newest first; the number of slots; the first job's number; and for how many notes that events
 -- find memory for there is some
@@ -33,7 +36,7 @@ abbrev pub total_of : (ℕ → ℕ) → ℕ → ℕ → ℕ
 total_of f s zero = 0
 total_of f s (suc n) = total_of f s n + f (s + n)
 
--- ---- the notes that closings, takings and withdrawals may yet add, which must not want memory
+-- ---- the notes that closings, takings and withdrawals may yet add, which must not need memory
 
 -- an open connection will be closed
 abbrev pub due_of_open : Bool → ℕ
@@ -47,12 +50,12 @@ due_of_phase Owed = 1
 due_of_phase Asleep = 2
 
 -- a running job returns, and a waiting one is discarded
-abbrev pub due_of_spot : Spot → ℕ
-due_of_spot Unmade = 0
-due_of_spot Waits = 1
-due_of_spot (RunsAt c) = 2
-due_of_spot Over = 0
-due_of_spot Thrown = 0
+abbrev pub due_of_job_state : JobState → ℕ
+due_of_job_state states.Unmade = 0
+due_of_job_state states.Waiting = 1
+due_of_job_state (states.Running c) = 2
+due_of_job_state states.Ended = 0
+due_of_job_state states.Discarded = 0
 
 abbrev pub slot_due : ℕ → List Note → ℕ
 slot_due c notes = due_of_open (is_open c notes) + due_of_phase (phase c notes)
@@ -62,7 +65,7 @@ slots_due slots notes = total_of (λ c. slot_due c notes) 0 slots
 
 -- the numbers of the jobs made are the first and its successors
 abbrev pub jobs_due : ℕ → List Note → ℕ
-jobs_due first notes = total_of (λ n. due_of_spot (spot n notes)) first (length (made notes))
+jobs_due first notes = total_of (λ n. due_of_job_state (job_state n notes)) first (length (made notes))
 
 abbrev pub due : ℕ → ℕ → List Note → ℕ
 due slots first notes = slots_due slots notes + jobs_due first notes
@@ -88,23 +91,27 @@ abbrev pub paid : List Note → ℕ
 paid [] = 0
 paid (note ∷ older) = weight note + paid older
 
+-- so many of the notes, the oldest
+abbrev pub oldest : ℕ → List Note → List Note
+oldest count notes = reverse (take count (reverse notes))
+
 -- when a note may come that was paid for by another, and what the others mean for those to come
-abbrev pub Stands : ℕ → ℕ → Note → List Note → Type 0
-Stands slots first (Closed c) older = is_open c older ≡ true
-Stands slots first (Woken c) older = (c < slots) × (is_asleep (phase c older) ≡ true)
-Stands slots first (Stirred c) older = (c < slots) × (is_asleep (phase c older) ≡ true)
-Stands slots first (Took c) older = (c < slots) × (is_owed (phase c older) ≡ true)
-Stands slots first (Withdrew c) older = (c < slots) × (is_owed (phase c older) ≡ true)
-Stands slots first (Made n f p u body) older = n ≡ first + length (made older)
-Stands slots first (Assigned n c deadline) older = is_waiting (spot n older) ≡ true
-Stands slots first (Returned n) older = is_running (spot n older) ≡ true
-Stands slots first (Ended n) older = is_running (spot n older) ≡ true
-Stands slots first (Discarded n) older = is_live (spot n older) ≡ true
-Stands slots first note older = Unit {0}
+abbrev pub MayCome : ℕ → ℕ → Note → List Note → Type 0
+MayCome slots first (Closed c) older = is_open c older ≡ true
+MayCome slots first (Woken c) older = (c < slots) × (is_asleep (phase c older) ≡ true)
+MayCome slots first (Stirred c) older = (c < slots) × (is_asleep (phase c older) ≡ true)
+MayCome slots first (Took c) older = (c < slots) × (is_owed (phase c older) ≡ true)
+MayCome slots first (Withdrew c) older = (c < slots) × (is_owed (phase c older) ≡ true)
+MayCome slots first (Made n f p u body) older = n ≡ first + length (made older)
+MayCome slots first (Assigned n c deadline) older = is_waiting (job_state n older) ≡ true
+MayCome slots first (Returned n) older = is_running (job_state n older) ≡ true
+MayCome slots first (Ended n) older = is_running (job_state n older) ≡ true
+MayCome slots first (Discarded n) older = is_live (job_state n older) ≡ true
+MayCome slots first note older = Unit {0}
 
 -- a live job is one of those made
 abbrev pub AreNumbered : ℕ → List Note → Type 0
-AreNumbered first notes = (n : ℕ) → is_live (spot n notes) ≡ true → (first ≤ n) × (n < first + length (made notes))
+AreNumbered first notes = (n : ℕ) → is_live (job_state n notes) ≡ true → (first ≤ n) × (n < first + length (made notes))
 
 -- what of the notes is kept, and what is paid for: all that is there, and all that may come without memory
 pub record IsPaid (slots first : ℕ) (notes : List Note) : Type 0 where

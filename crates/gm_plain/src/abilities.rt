@@ -1,15 +1,17 @@
 //! What notes say of abilities and queues, found by searching them.
 
 ghost use Rattle.std.specs.Prelude.{◌≡◌, ◌<◌, true, map, not, ◌&&◌, [], ◌∷◌, ◌++◌, length, slice_set, find, IfOk, OnOk, IfSome, IfNone};
-ghost use Rattle.std.specs.Option.{option_map};
-ghost use Rattle.gm_notes.specs.Jobs.{spot, job, is_waiting, put, abilities, is_able, as_they_came, is_queued, waiting_for, is_empty, pick, pick_from, able};
+ghost use Rattle.gm_notes.specs.Jobs.{job_state, job, put, abilities, is_able, as_they_came, is_queued, waiting_for, is_empty, pick};
+ghost use Rattle.gm_notes.specs.Jobs.{pick_from, able};
+ghost use Rattle.gm_notes.specs.JobStates.{is_waiting};
 ghost use Rattle.gm_notes.specs.Notes.{is_open, phase, is_asleep};
-ghost use Rattle.gm_plain.specs.Searches.{says_able, ability_of, pick_of, changed, came, head, wakes_for};
+ghost use Rattle.gm_plain.specs.Searches.{says_able, ability_of, abilities_after, order_after, head, wakes_for};
+ghost use Rattle.gm_notes.specs.Settings.{Settings};
 
+use crate::connections::{is_asleep, is_open};
 use crate::jobs::{is_job_with, is_waiting, job};
 use crate::log::Log;
-use crate::questions::{is_asleep, is_open};
-use gm_notes::{Config, Note, Priority};
+use gm_notes::{Config, Note, Pick, Priority};
 use std::alloc::{AllocError, Global};
 
 fn says_able(note: &Note, slot: u32, function: &[u8]) -> Option<bool>
@@ -36,12 +38,7 @@ fn says_able(note: &Note, slot: u32, function: &[u8]) -> Option<bool>
 pub fn is_able(log: &Log, slot: u32, function: &[u8]) -> bool
     ensures { result ≡ is_able slot function.now log.now.notes }
 {
-    let notes = log.notes();
-    let mut able = false;
-    for note in notes {
-        able = says_able(note, slot, function).unwrap_or(able);
-    }
-    able
+    log.last_said(false, |note| says_able(note, slot, function))
 }
 
 /// Whether a slot is open and its worker can do a function.
@@ -112,8 +109,12 @@ fn put<'a>(abilities: &mut Vec<Ability<'a>>, ability: Ability<'a>) -> Result<(),
 }
 
 /// What a note changes of the abilities of a slot.
-fn change<'a>(abilities: &mut Vec<Ability<'a>>, note: &'a Note, slot: u32) -> Result<(), AllocError>
-    ensures { OnOk result (map ability_of abilities.new.items ≡ changed slot note.now (map ability_of abilities.old.items)) }
+fn update_abilities<'a>(
+    abilities: &mut Vec<Ability<'a>>,
+    note: &'a Note,
+    slot: u32,
+) -> Result<(), AllocError>
+    ensures { OnOk result (map ability_of abilities.new.items ≡ abilities_after slot note.now (map ability_of abilities.old.items)) }
 {
     match note {
         Note::Opened { slot: c, .. } if *c == slot => abilities.clear(),
@@ -145,14 +146,14 @@ pub fn abilities(alloc: Global, log: &Log, slot: u32) -> Result<Vec<Ability<'_>>
     let notes = log.notes();
     let mut abilities = Vec::new(alloc);
     for note in notes {
-        change(&mut abilities, note, slot)?;
+        update_abilities(&mut abilities, note, slot)?;
     }
     Ok(abilities)
 }
 
 /// What a note changes of the order in which jobs came to wait.
-fn come(jobs: &mut Vec<u64>, note: &Note) -> Result<(), AllocError>
-    ensures { OnOk result (jobs.new.items ≡ came note.now jobs.old.items) }
+fn update_order(jobs: &mut Vec<u64>, note: &Note) -> Result<(), AllocError>
+    ensures { OnOk result (jobs.new.items ≡ order_after note.now jobs.old.items) }
 {
     match note {
         Note::Made { job, .. } => jobs.push(*job)?,
@@ -172,7 +173,7 @@ fn as_they_came(alloc: Global, log: &Log) -> Result<Vec<u64>, AllocError>
     let notes = log.notes();
     let mut jobs = Vec::new(alloc);
     for note in notes {
-        come(&mut jobs, note)?;
+        update_order(&mut jobs, note)?;
     }
     Ok(jobs)
 }
@@ -231,21 +232,14 @@ pub fn wakes_at_once(
     Ok(is_asleep(log, slot) && waits)
 }
 
-/// A job to be given out, and the seconds that it may take; 0 is no limit.
-#[derive(Clone, Copy, Debug)]
-pub struct Choice {
-    pub job: u64,
-    pub timeout: u32,
-}
-
 /// The first of these jobs, in the order in which they came to wait, that one of the abilities is for.
-fn pick_from(log: &Log, jobs: &[u64], abilities: &[Ability<'_>]) -> Option<Choice>
+fn pick_from(log: &Log, jobs: &[u64], abilities: &[Ability<'_>]) -> Option<Pick>
     requires { jobs.now ≡ as_they_came log.now.notes }
-    ensures { option_map pick_of result ≡ pick_from (map ability_of abilities.now) log.now.notes }
+    ensures { result ≡ pick_from (map ability_of abilities.now) log.now.notes }
 {
     for ability in abilities {
         if let Some(job) = first_for(log, jobs, ability.function) {
-            return Some(Choice {
+            return Some(Pick {
                 job,
                 timeout: ability.timeout,
             });
@@ -255,9 +249,9 @@ fn pick_from(log: &Log, jobs: &[u64], abilities: &[Ability<'_>]) -> Option<Choic
 }
 
 /// The job that a grab of a slot gets.
-pub fn pick(alloc: Global, log: &Log, slot: u32) -> Result<Option<Choice>, AllocError>
-    ensures value { IfOk result (λ found. option_map pick_of found ≡ pick slot log.now.notes) }
-    ensures waits { IfOk result (λ found. IfSome found (λ choice. is_waiting (spot choice.job log.now.notes) ≡ true)) }
+pub fn pick(alloc: Global, log: &Log, slot: u32) -> Result<Option<Pick>, AllocError>
+    ensures value { IfOk result (λ found. (k : Settings) → found ≡ pick k slot log.now.notes) }
+    ensures waits { IfOk result (λ found. IfSome found (λ picked. is_waiting (job_state picked.job log.now.notes) ≡ true)) }
 {
     let abilities = abilities(alloc, log, slot)?;
     let jobs = as_they_came(alloc, log)?;

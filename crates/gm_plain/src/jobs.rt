@@ -1,26 +1,28 @@
 //! What notes say of jobs and functions, found by searching them.
 
-ghost use Rattle.std.specs.Prelude.{◌≡◌, ℕ, ◌<◌, ◌==◌, length, Some, ◌&&◌, not, reverse, slice_get, map, IfSome, IfOk, OnOk};
+ghost use Rattle.std.specs.Prelude.{◌≡◌, ◌<◌, ◌==◌, length, not, reverse, slice_get, map, IfSome, IfOk, OnOk};
 ghost use Rattle.std.specs.Option.{option_map};
 ghost use Rattle.std.specs.List.{All};
-ghost use Rattle.gm_notes.specs.Jobs.{says_spot, spot, is_live, is_waiting, is_running, is_running_at, says_job, job, says_kept, is_kept, listeners, is_wanted, says_report, report, is_job_of, is_job_with, is_job_named, made, functions, is_mentioned, says_limit, limit, joins, is_live_named, joined, next_number, is_live_of, total, running, says_deadline, deadline};
+ghost use Rattle.gm_notes.specs.Jobs.{says_job_state, job_state, says_job, job, says_kept, is_kept, listeners, is_wanted, says_report};
+ghost use Rattle.gm_notes.specs.Jobs.{report, is_job_of, is_job_with, is_job_named, made, functions, is_mentioned, says_limit, limit};
+ghost use Rattle.gm_notes.specs.Jobs.{joins, is_live_named, joined, next_number, is_live_of, total, running, says_deadline, deadline};
+ghost use Rattle.gm_notes.specs.JobStates.{is_live, is_waiting, is_running, is_running_at, place_of};
 ghost use Rattle.gm_notes.specs.Closings.{is_reached};
 ghost use Rattle.gm_notes.specs.Notes.{moment};
-ghost use Rattle.gm_requests.specs.Actions.{report_of};
-ghost use Rattle.gm_requests.specs.Carried.{IsCarried, AreNumbers};
+ghost use Rattle.gm_actions.specs.Actions.{job_of, report_of};
+ghost use Rattle.gm_actions.specs.Carried.{IsCarried, AreNumbers};
 ghost use Rattle.gm_notes.specs.Steps.{newest};
 ghost use Rattle.gm_notes.specs.Submissions.{is_one_too_many, is_full};
-ghost use Rattle.gm_notes.specs.Servers.{place_of};
-ghost use Rattle.gm_plain.specs.Searches.{said_place, mentions, job_of, heard, says_listening, is_listening, is_running_of};
+ghost use Rattle.gm_plain.specs.Searches.{said_place, says_mentioned, listeners_after, says_listening, is_listening, is_running_of};
 
+use crate::connections::moment;
 use crate::log::Log;
-use crate::questions::moment;
+use gm_actions::{JobView, Report};
 use gm_notes::{Config, Note, Place, Priority};
-use gm_requests::Report;
 use std::alloc::{AllocError, Global};
 
 fn says_place(note: &Note, job: u64) -> Option<Place>
-    ensures { result ≡ said_place (says_spot job note.now) }
+    ensures { result ≡ said_place (says_job_state job note.now) }
 {
     match note {
         Note::Made { job: n, .. } if *n == job => Some(Place::Waiting),
@@ -34,77 +36,41 @@ fn says_place(note: &Note, job: u64) -> Option<Place>
 
 /// Where a job is.
 pub fn place(log: &Log, job: u64) -> Place
-    ensures { result ≡ place_of (spot job log.now.notes) }
+    ensures { result ≡ place_of (job_state job log.now.notes) }
 {
-    let notes = log.notes();
-    let mut place = Place::Unmade;
-    for note in notes {
-        if let Some(answer) = says_place(note, job) {
-            place = answer;
-        }
-    }
-    place
+    log.last_said(Place::Unmade, |note| says_place(note, job))
 }
 
 /// Whether a job waits or runs.
 pub fn is_live(log: &Log, job: u64) -> bool
-    ensures { result ≡ is_live (spot job log.now.notes) }
+    ensures { result ≡ is_live (job_state job log.now.notes) }
 {
-    match place(log, job) {
-        Place::Waiting => true,
-        Place::Running(_) => true,
-        Place::Unmade => false,
-        Place::Gone => false,
-    }
+    place(log, job).is_live()
 }
 
 /// Whether a job waits.
 pub fn is_waiting(log: &Log, job: u64) -> bool
-    ensures { result ≡ is_waiting (spot job log.now.notes) }
+    ensures { result ≡ is_waiting (job_state job log.now.notes) }
 {
-    match place(log, job) {
-        Place::Waiting => true,
-        Place::Running(_) => false,
-        Place::Unmade => false,
-        Place::Gone => false,
-    }
+    place(log, job).is_waiting()
 }
 
 /// Whether a job runs at a slot.
 pub fn is_running_at(log: &Log, job: u64, slot: u32) -> bool
-    ensures { result ≡ is_running_at slot (spot job log.now.notes) }
+    ensures { result ≡ is_running_at slot (job_state job log.now.notes) }
 {
-    match place(log, job) {
-        Place::Running(at) => slot == at,
-        Place::Waiting => false,
-        Place::Unmade => false,
-        Place::Gone => false,
-    }
+    place(log, job).is_running_at(slot)
 }
 
 /// Whether a job runs.
 pub fn is_running(log: &Log, job: u64) -> bool
-    ensures { result ≡ is_running (spot job log.now.notes) }
+    ensures { result ≡ is_running (job_state job log.now.notes) }
 {
-    match place(log, job) {
-        Place::Running(_) => true,
-        Place::Waiting => false,
-        Place::Unmade => false,
-        Place::Gone => false,
-    }
+    place(log, job).is_running()
 }
 
-/// What a submission made.
-#[derive(Clone, Copy, Debug)]
-pub struct Submitted<'a> {
-    pub function: &'a [u8],
-    pub priority: Priority,
-    pub unique: &'a [u8],
-    pub body: &'a [u8],
-}
-
-fn says_job(note: &Note, job: u64) -> Option<Submitted<'_>>
-    ensures { option_map (λ found. Some (job_of found)) result ≡ says_job job note.now }
+fn says_job(note: &Note, job: u64) -> Option<Option<JobView<'_>>>
+    ensures { option_map (option_map job_of) result ≡ says_job job note.now }
 {
     match note {
         Note::Made {
@@ -113,34 +79,27 @@ fn says_job(note: &Note, job: u64) -> Option<Submitted<'_>>
             priority,
             unique,
             body,
-        } if *n == job => Some(Submitted {
+        } if *n == job => Some(Some(JobView {
             function: function.as_slice(),
             priority: *priority,
             unique: unique.as_slice(),
             body: body.as_slice(),
-        }),
+        })),
         _ => None,
     }
 }
 
 /// What the job is.
-pub fn job(log: &Log, number: u64) -> Option<Submitted<'_>>
+pub fn job(log: &Log, number: u64) -> Option<JobView<'_>>
     ensures value { option_map job_of result ≡ job number log.now.notes }
     ensures carried { IfSome result (λ found. IsCarried found.function.now found.unique.now found.body.now) }
 {
-    let notes = log.notes();
-    let mut found = None;
-    for note in notes {
-        if let Some(answer) = says_job(note, number) {
-            found = Some(answer);
-        }
-    }
-    found
+    log.last_said(None, |note| says_job(note, number))
 }
 
 /// What a note changes of who hears of a job.
-fn hear(slots: &mut Vec<u32>, note: &Note, job: u64) -> Result<(), AllocError>
-    ensures { OnOk result (slots.new.items ≡ heard job note.now slots.old.items) }
+fn update_listeners(slots: &mut Vec<u32>, note: &Note, job: u64) -> Result<(), AllocError>
+    ensures { OnOk result (slots.new.items ≡ listeners_after job note.now slots.old.items) }
 {
     match note {
         Note::Made { job: n, .. } if *n == job => slots.clear(),
@@ -159,7 +118,7 @@ pub fn listeners(alloc: Global, log: &Log, job: u64) -> Result<Vec<u32>, AllocEr
     let notes = log.notes();
     let mut slots = Vec::new(alloc);
     for note in notes {
-        hear(&mut slots, note, job)?;
+        update_listeners(&mut slots, note, job)?;
     }
     Ok(slots)
 }
@@ -179,12 +138,7 @@ fn says_listening(note: &Note, job: u64, slot: u32) -> Option<bool>
 fn is_listening(log: &Log, job: u64, slot: u32) -> bool
     ensures { result ≡ is_listening job slot log.now.notes }
 {
-    let notes = log.notes();
-    let mut listens = false;
-    for note in notes {
-        listens = says_listening(note, job, slot).unwrap_or(listens);
-    }
-    listens
+    log.last_said(false, |note| says_listening(note, job, slot))
 }
 
 /// Whether anybody hears of a job.
@@ -213,12 +167,7 @@ fn says_kept(note: &Note, job: u64) -> Option<bool>
 fn is_kept(log: &Log, job: u64) -> bool
     ensures { result ≡ is_kept job log.now.notes }
 {
-    let notes = log.notes();
-    let mut kept = false;
-    for note in notes {
-        kept = says_kept(note, job).unwrap_or(kept);
-    }
-    kept
+    log.last_said(false, |note| says_kept(note, job))
 }
 
 /// Whether somebody wants a job.
@@ -253,17 +202,11 @@ pub fn last_report(log: &Log, job: u64) -> Report<'_>
     ensures value { report_of result ≡ report job log.now.notes }
     ensures carried { AreNumbers result.numerator.now result.denominator.now }
 {
-    let notes = log.notes();
-    let mut last = Report {
+    let none = Report {
         numerator: b"0",
         denominator: b"0",
     };
-    for note in notes {
-        if let Some(answer) = says_report(note, job) {
-            last = answer;
-        }
-    }
-    last
+    log.last_said(none, |note| says_report(note, job))
 }
 
 fn says_deadline(note: &Note, job: u64) -> Option<Option<u64>>
@@ -285,14 +228,7 @@ fn says_deadline(note: &Note, job: u64) -> Option<Option<u64>>
 fn deadline(log: &Log, job: u64) -> Option<u64>
     ensures { result ≡ deadline job log.now.notes }
 {
-    let notes = log.notes();
-    let mut deadline = None;
-    for note in notes {
-        if let Some(answer) = says_deadline(note, job) {
-            deadline = answer;
-        }
-    }
-    deadline
+    log.last_said(None, |note| says_deadline(note, job))
 }
 
 /// Whether the moment has reached a job's deadline.
@@ -356,30 +292,14 @@ pub fn joined(log: &Log, function: &[u8], unique: &[u8]) -> Option<u64>
     if !joins(unique) {
         return None;
     }
-    let notes = log.notes();
-    let mut found = None;
-    for note in notes {
-        if let Note::Made { job, .. } = note {
-            if is_live_named(log, *job, function, unique) {
-                found = Some(*job);
-            }
-        }
-    }
-    found
+    log.last_made(|job| is_live_named(log, job, function, unique))
 }
 
 /// How many jobs were made.
 pub fn count_made(log: &Log) -> usize
     ensures { result ≡ length (made log.now.notes) }
 {
-    let notes = log.notes();
-    let mut count = 0;
-    for note in notes {
-        if let Note::Made { .. } = note {
-            count += 1;
-        }
-    }
-    count
+    log.count_made(|_| true)
 }
 
 /// The job made as the one with this index, from 0.
@@ -403,14 +323,7 @@ pub fn job_at(log: &Log, index: usize) -> Option<u64>
 pub fn newest(log: &Log) -> Option<u64>
     ensures { result ≡ newest (made log.now.notes) }
 {
-    let notes = log.notes();
-    let mut last = None;
-    for note in notes {
-        if let Note::Made { job, .. } = note {
-            last = Some(*job);
-        }
-    }
-    last
+    log.last_made(|_| true)
 }
 
 /// The number of the next job, where the first has this number; `None` once the last was given out.
@@ -431,16 +344,7 @@ fn is_live_of(log: &Log, number: u64, function: &[u8]) -> bool
 pub fn total(log: &Log, function: &[u8]) -> usize
     ensures { result ≡ total function.now log.now.notes }
 {
-    let notes = log.notes();
-    let mut count = 0;
-    for note in notes {
-        if let Note::Made { job, .. } = note {
-            if is_live_of(log, *job, function) {
-                count += 1;
-            }
-        }
-    }
-    count
+    log.count_made(|job| is_live_of(log, job, function))
 }
 
 /// Whether a job runs, and is of this function.
@@ -454,16 +358,7 @@ fn is_running_of(log: &Log, number: u64, function: &[u8]) -> bool
 pub fn running(log: &Log, function: &[u8]) -> usize
     ensures { result ≡ running function.now log.now.notes }
 {
-    let notes = log.notes();
-    let mut count = 0;
-    for note in notes {
-        if let Note::Made { job, .. } = note {
-            if is_running_of(log, *job, function) {
-                count += 1;
-            }
-        }
-    }
-    count
+    log.count_made(|job| is_running_of(log, job, function))
 }
 
 fn says_limit(note: &Note, function: &[u8]) -> Option<u32>
@@ -482,14 +377,7 @@ fn says_limit(note: &Note, function: &[u8]) -> Option<u32>
 fn limit(log: &Log, function: &[u8]) -> u32
     ensures { result ≡ limit function.now log.now.notes }
 {
-    let notes = log.notes();
-    let mut limit = 0;
-    for note in notes {
-        if let Some(answer) = says_limit(note, function) {
-            limit = answer;
-        }
-    }
-    limit
+    log.last_said(0, |note| says_limit(note, function))
 }
 
 /// Whether no more jobs of a function may be there.
@@ -500,14 +388,14 @@ pub fn is_full(log: &Log, function: &[u8]) -> bool
     limit != 0 && limit as usize <= total(log, function)
 }
 
-fn mentions(note: &Note, function: &[u8]) -> bool
-    ensures { result ≡ mentions function.now note.now }
+fn says_mentioned(note: &Note, function: &[u8]) -> Option<bool>
+    ensures { result ≡ says_mentioned function.now note.now }
 {
     match note {
         Note::Mention {
             function: mentioned,
-        } => mentioned.as_slice() == function,
-        _ => false,
+        } if mentioned.as_slice() == function => Some(true),
+        _ => None,
     }
 }
 
@@ -515,14 +403,7 @@ fn mentions(note: &Note, function: &[u8]) -> bool
 pub fn is_mentioned(log: &Log, function: &[u8]) -> bool
     ensures { result ≡ is_mentioned function.now log.now.notes }
 {
-    let notes = log.notes();
-    let mut mentioned = false;
-    for note in notes {
-        if mentions(note, function) {
-            mentioned = true;
-        }
-    }
-    mentioned
+    log.last_said(false, |note| says_mentioned(note, function))
 }
 
 /// The functions mentioned, in the order of mention.

@@ -2,12 +2,12 @@
 #![tactic(auto)]
 
 mod abilities;
+mod connections;
 mod handles;
 mod jobs;
-mod lanes;
 mod lists;
 mod log;
-mod plain;
-mod questions;
+mod outboxes;
+mod server;
 
-pub use plain::PlainServer;
+pub use server::PlainServer;

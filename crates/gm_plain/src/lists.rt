@@ -2,22 +2,22 @@
 
 ghost use Rattle.std.specs.Prelude.{◌≡◌, map, IfOk};
 ghost use Rattle.gm_admin.specs.Answers.{status_text, workers_text};
-ghost use Rattle.gm_admin.specs.Views.{status_row, worker_row};
+ghost use Rattle.gm_admin.specs.Views.{status_of, worker_of};
 ghost use Rattle.gm_notes.specs.Lines.{status_rows, worker_rows};
 ghost use Rattle.gm_plain.specs.Searches.{ability_of};
 ghost use Rattle.gm_plain.specs.Listings.{status_line_of, worker_line_of};
 
 use crate::abilities::{Ability, abilities, able};
+use crate::connections::{addr, id, is_open};
 use crate::jobs::{functions, running, total};
 use crate::log::Log;
-use crate::questions::{addr, id, is_open};
 use gm_admin::{StatusRow, WorkerRow, write_status, write_workers};
 use gm_notes::Config;
 use std::alloc::{AllocError, Global};
 
 /// What the list of functions says of one.
-fn status_row<'a>(log: &Log, config: &Config, function: &'a [u8]) -> StatusRow<'a>
-    ensures { status_row result ≡ status_line_of config.now log.now.notes function.now }
+fn status_of<'a>(log: &Log, config: &Config, function: &'a [u8]) -> StatusRow<'a>
+    ensures { status_of result ≡ status_line_of config.now log.now.notes function.now }
 {
     StatusRow {
         name: function,
@@ -34,11 +34,11 @@ fn status_rows<'a>(
     config: &Config,
     functions: &[&'a [u8]],
 ) -> Result<Vec<StatusRow<'a>>, AllocError>
-    ensures { IfOk result (λ rows. map status_row rows.items ≡ map (status_line_of config.now log.now.notes) (map (λ name. name.now) functions.now)) }
+    ensures { IfOk result (λ rows. map status_of rows.items ≡ map (status_line_of config.now log.now.notes) (map (λ name. name.now) functions.now)) }
 {
     let mut rows = Vec::new(alloc);
     for function in functions {
-        rows.push(status_row(log, config, function))?;
+        rows.push(status_of(log, config, function))?;
     }
     Ok(rows)
 }
@@ -66,8 +66,8 @@ fn names_of<'a>(alloc: Global, abilities: &[Ability<'a>]) -> Result<Vec<&'a [u8]
 }
 
 /// What the list of connections says of one.
-fn worker_row(alloc: Global, log: &Log, slot: u32) -> Result<WorkerRow<'_>, AllocError>
-    ensures { IfOk result (λ row. worker_row row ≡ worker_line_of log.now.notes slot) }
+fn worker_of(alloc: Global, log: &Log, slot: u32) -> Result<WorkerRow<'_>, AllocError>
+    ensures { IfOk result (λ row. worker_of row ≡ worker_line_of log.now.notes slot) }
 {
     let abilities = abilities(alloc, log, slot)?;
     Ok(WorkerRow {
@@ -84,12 +84,12 @@ fn worker_rows<'a>(
     log: &'a Log,
     config: &Config,
 ) -> Result<Vec<WorkerRow<'a>>, AllocError>
-    ensures { IfOk result (λ rows. map worker_row rows.items ≡ worker_rows config.now log.now.notes) }
+    ensures { IfOk result (λ rows. map worker_of rows.items ≡ worker_rows config.now log.now.notes) }
 {
     let mut rows = Vec::new(alloc);
     for slot in 0..config.slots() {
         if is_open(log, slot) {
-            rows.push(worker_row(alloc, log, slot)?)?;
+            rows.push(worker_of(alloc, log, slot)?)?;
         }
     }
     Ok(rows)

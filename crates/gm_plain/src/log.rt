@@ -1,14 +1,17 @@
 //! The notes, and the room for more.
 
-ghost use Rattle.std.specs.Prelude.{◌≡◌, ◌+◌, ◌≤◌, [], ◌∷◌, reverse, OnOk, IfOk, vec_capacity};
-ghost use Rattle.gm_plain.specs.Logs.{NoteFits, AllFit, Stands, AreNumbered, weight, paid, Spends};
+ghost use Rattle.std.specs.Prelude.{◌≡◌, ◌+◌, ◌≤◌, [], ◌∷◌, reverse, length, OnOk, IfOk, Some, None};
+ghost use Rattle.gm_plain.specs.Logs.{NoteFits, AllFit, MayCome, AreNumbered, IsPaid, weight, paid, oldest, Spends};
+ghost use Rattle.std.specs.Fn.{FnReturnsAt};
+ghost use Rattle.gm_notes.specs.Jobs.{made};
+ghost use Rattle.gm_plain.specs.Searches.{Said, Passed};
 
 use gm_notes::Note;
 use std::alloc::{AllocError, Global};
 use std::marker::Model;
 
 /// For how many notes an event that adds this one finds memory: for itself, and for those that closings,
-/// takings and withdrawals may add because of it, which must not want memory.
+/// takings and withdrawals may add because of it, which must not need memory.
 fn weight(note: &Note) -> usize
     ensures value { result ≡ weight note.now }
     ensures small { result ≤ 3 }
@@ -32,18 +35,6 @@ fn paid(notes: &[Note]) -> Result<usize, AllocError>
         count = count.checked_add(weight(note)).ok_or(AllocError)?;
     }
     Ok(count)
-}
-
-/// Copies notes, with room for so many in all.
-fn copy_notes(alloc: Global, notes: &[Note], count: usize) -> Result<Vec<Note>, AllocError>
-    ensures value { IfOk result (λ copy. copy.items ≡ notes.now) }
-    ensures room { IfOk result (λ copy. count ≤ vec_capacity copy) }
-{
-    let mut copy = Vec::with_capacity(alloc, count)?;
-    for note in notes {
-        copy.push(note.copy(alloc)?)?;
-    }
-    Ok(copy)
 }
 
 /// The list of all that has happened, the newest last.
@@ -87,18 +78,22 @@ impl Log {
         }
     }
 
-    /// The same notes, with room for what they were paid for.
-    pub fn copy(&self, alloc: Global) -> Result<Log, AllocError>
-        ensures notes { IfOk result (λ log. log.notes ≡ self.now.notes) }
-        ensures slots { IfOk result (λ log. log.slots ≡ self.now.slots) }
-        ensures first { IfOk result (λ log. log.first ≡ self.now.first) }
+    /// How many notes there are.
+    pub fn len(&self) -> usize
+        ensures value { result ≡ length self.now.notes }
+        ensures paid { IsPaid self.now.slots self.now.first self.now.notes }
     {
-        let count = paid(self.notes.as_slice())?;
-        Ok(Log {
-            notes: copy_notes(alloc, self.notes.as_slice(), count)?,
-            slots: self.slots,
-            first: self.first,
-        })
+        self.notes.len()
+    }
+
+    /// Takes back all notes but the oldest, as many as there were before.
+    pub fn truncate(&mut self, count: usize)
+        requires { IsPaid self.old.slots self.old.first (oldest count self.old.notes) }
+        ensures notes { self.new.notes ≡ oldest count self.old.notes }
+        ensures slots { self.new.slots ≡ self.old.slots }
+        ensures first { self.new.first ≡ self.old.first }
+    {
+        self.notes.truncate(count);
     }
 
     /// How many slots there are.
@@ -116,6 +111,59 @@ impl Log {
         ensures numbered { AreNumbered self.now.first self.now.notes }
     {
         self.notes.as_slice()
+    }
+
+    /// The last answer that a note gives, or this one where none gives any.
+    pub fn last_said<'a, T: Drop, F: Fn(&'a Note) -> Option<T>>(
+        &'a self,
+        otherwise: T,
+        says: F,
+    ) -> T
+        requires { F.IsAlwaysCallable says }
+        ensures last { Said (FnReturnsAt F.Fn says) otherwise self.now.notes result }
+        ensures fit { AllFit self.now.slots self.now.notes }
+    {
+        let notes = self.notes.as_slice();
+        let mut last = otherwise;
+        for note in notes {
+            last = says(note).unwrap_or(last);
+        }
+        last
+    }
+
+    /// How many of the jobs made pass a test.
+    pub fn count_made<F: Fn(u64) -> bool>(&self, test: F) -> usize
+        requires { F.IsAlwaysCallable test }
+        ensures { Passed (λ n passes. F.post test n passes) 0 (λ n count. count + 1) (made self.now.notes) result }
+    {
+        let notes = self.notes.as_slice();
+        let mut count = 0;
+        for note in notes {
+            if let Note::Made { job, .. } = note {
+                if test(*job) {
+                    count += 1;
+                }
+            }
+        }
+        count
+    }
+
+    /// The job made last of those that pass a test.
+    pub fn last_made<F: Fn(u64) -> bool>(&self, test: F) -> Option<u64>
+        requires { F.IsAlwaysCallable test }
+        ensures last { Passed (λ n passes. F.post test n passes) None (λ n found. Some n) (made self.now.notes) result }
+        ensures fit { AllFit self.now.slots self.now.notes }
+    {
+        let notes = self.notes.as_slice();
+        let mut found = None;
+        for note in notes {
+            if let Note::Made { job, .. } = note {
+                if test(*job) {
+                    found = Some(*job);
+                }
+            }
+        }
+        found
     }
 
     /// Finds memory for so many notes more, by their weight.
@@ -136,7 +184,7 @@ impl Log {
     pub fn note(&mut self, note: Note)
         requires room { weight note ≤ self.old.free }
         requires fits { NoteFits self.old.slots note }
-        requires stands { Stands self.old.slots self.old.first note self.old.notes }
+        requires may_come { MayCome self.old.slots self.old.first note self.old.notes }
         ensures notes { self.new.notes ≡ note ∷ self.old.notes }
         ensures room { Spends (weight note) self.old self.new }
     {

@@ -1,15 +1,12 @@
-use Rattle.std.proofs.Common.{true, false, arith, sym, ◌∙◌}
-use Rattle.std.proofs.lemmas.Grind.{common_steps}
-use Rattle.gm_notes.specs.Jobs.{is_live_named}
-use Rattle.gm_plain.proofs.NoteLemmas.{found_at}
+use Rattle.std.proofs.Common.{◌≡◌, true, find, rules, refl, sym, ◌∙◌}
+use Rattle.gm_notes.specs.Jobs.{made, joins, joined, is_live_named}
+use Rattle.gm_plain.proofs.LastSaid.{found_is}
 use Rattle.gm_plain.proofs.jobs.joined.Goals as goal
-use Rattle.gm_plain.proofs.jobs.joined.Goals.{in-Made+then-is_live_named, in-Made+else-is_live_named, in_default}
 
-pub loop-note-preserved : goal.loop-note-preserved
-loop-note-preserved c = elim c.match-note.branch [
-  | in-Made+then-is_live_named w ↦
-      w.found-is ∙ sym (found_at (is_live_named c.args.function.now c.args.unique.now c.args.log.now.notes) c.notes-notes.result.now c.loop-note.note-index c.note-item.result _ _ _ _ _ true c.loop-note-test.true c.note-item.is w.in-Made.is (sym w.is_live_named.ensures ∙ w.if-is_live_named.true))
-  | in-Made+else-is_live_named w ↦
-      w.found-is ∙ c.loop-note.invariant ∙ sym (found_at (is_live_named c.args.function.now c.args.unique.now c.args.log.now.notes) c.notes-notes.result.now c.loop-note.note-index c.note-item.result _ _ _ _ _ false c.loop-note-test.true c.note-item.is w.in-Made.is (sym w.is_live_named.ensures ∙ w.if-is_live_named.false))
-  | in_default w ↦ grind (arith, common_steps)
-]
+pub returns : goal.returns
+returns c =
+    let joining : joins c.args.unique.now ≡ true = sym c.joins.ensures ∙ c.if-not-joins.false in
+    let joins_it : find (is_live_named c.args.function.now c.args.unique.now c.args.log.now.notes) (made c.args.log.now.notes)
+    ≡ joined c.args.function.now c.args.unique.now c.args.log.now.notes = rw joining refl in
+    found_is (is_live_named c.args.function.now c.args.unique.now c.args.log.now.notes) _ (λ n passes given. search rules) (made c.args.log.now.notes) c.last_made.result c.last_made.ensures.last
+    ∙ joins_it

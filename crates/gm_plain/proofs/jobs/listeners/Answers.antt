@@ -2,11 +2,11 @@ use Rattle.std.proofs.Common.{◌≡◌, ◌<◌, arith, sym, subst, List, ℕ}
 use Rattle.std.proofs.lemmas.Grind.{common_steps}
 use Rattle.std.specs.List.{All}
 use Rattle.gm_notes.specs.Jobs.{listeners}
-use Rattle.gm_plain.proofs.LogLemmas.{listeners_below, heard_next}
+use Rattle.gm_plain.proofs.LogLemmas.{listeners_below, listeners_next}
 use Rattle.gm_plain.proofs.jobs.listeners.Goals as goal
 
 pub loop-note-preserved : goal.loop-note-preserved
-loop-note-preserved c = grind (arith, common_steps, heard_next)
+loop-note-preserved c = grind (arith, common_steps, listeners_next)
 
 pub returns-clause-below : goal.returns-clause-below
 returns-clause-below c =

@@ -1,19 +1,7 @@
-use Rattle.std.proofs.Common.{◌+◌, true, false, arith, sym, ap, ◌∙◌}
-use Rattle.std.proofs.lemmas.Grind.{common_steps}
-use Rattle.gm_notes.specs.Jobs.{is_live_of}
-use Rattle.gm_plain.proofs.NoteLemmas.{counted_at}
+use Rattle.std.proofs.Common.{rules}
+use Rattle.gm_notes.specs.Jobs.{made, is_live_of}
+use Rattle.gm_plain.proofs.LastSaid.{counted_is}
 use Rattle.gm_plain.proofs.jobs.total.Goals as goal
-use Rattle.gm_plain.proofs.jobs.total.Goals.{in-Made+then-is_live_of, in-Made+else-is_live_of, in_default}
 
-pub loop-note-preserved : goal.loop-note-preserved
-loop-note-preserved c = elim c.match-note.branch [
-  | in-Made+then-is_live_of w ↦ (
-    w.count-is ∙ ap (λ k. k + 1) c.loop-note.invariant.0 ∙ sym (counted_at (is_live_of c.args.function.now c.args.log.now.notes) c.notes-notes.result.now c.loop-note.note-index c.note-item.result _ _ _ _ _ true c.loop-note-test.true c.note-item.is w.in-Made.is (sym w.is_live_of.ensures ∙ w.if-is_live_of.true)),
-    omega (arith, w.count-is, c.loop-note.invariant.1),
-  )
-  | in-Made+else-is_live_of w ↦ (
-    w.count-is ∙ c.loop-note.invariant.0 ∙ sym (counted_at (is_live_of c.args.function.now c.args.log.now.notes) c.notes-notes.result.now c.loop-note.note-index c.note-item.result _ _ _ _ _ false c.loop-note-test.true c.note-item.is w.in-Made.is (sym w.is_live_of.ensures ∙ w.if-is_live_of.false)),
-    omega (arith, w.count-is, c.loop-note.invariant.1),
-  )
-  | in_default w ↦ grind (arith, common_steps)
-]
+pub returns : goal.returns
+returns c = counted_is (is_live_of c.args.function.now c.args.log.now.notes) _ (λ n passes given. search rules) (made c.args.log.now.notes) c.count_made.result c.count_made.ensures

@@ -1,13 +1,13 @@
 use Rattle.std.proofs.Common.{◌≡◌, ◌+◌, ◌≤◌, [], ◌∷◌, reverse, sym, ap, subst, arith, ◌∙◌}
 use Rattle.std.proofs.lemmas.List.{reverse-append, length-reverse}
 use Rattle.std.specs.Vec.{vec_capacity}
-use Rattle.gm_plain.specs.Logs.{Logged, NoteFits, Stands, weight, paid}
+use Rattle.gm_plain.specs.Logs.{Logged, NoteFits, MayCome, weight, paid}
 use Rattle.gm_plain.proofs.Dues.{paid_next, room_for}
 use Rattle.gm_plain.proofs.log.Log.note.Goals as goal
 use Rattle.gm_plain.proofs.log.Log.note.Goals.{After-push_reserved-arg-1}
 
-stands : (c : After-push_reserved-arg-1) → Stands c.self.inside.slots c.self.inside.first c.args.note (reverse c.self.inside.notes.items)
-stands c = subst (λ (l : Logged). Stands l.slots l.first c.args.note l.notes) (sym c.self.view_is) c.requires.stands
+stands : (c : After-push_reserved-arg-1) → MayCome c.self.inside.slots c.self.inside.first c.args.note (reverse c.self.inside.notes.items)
+stands c = subst (λ (l : Logged). MayCome l.slots l.first c.args.note l.notes) (sym c.self.view_is) c.requires.may_come
 
 room : (c : After-push_reserved-arg-1) → paid (reverse c.self.inside.notes.items) + weight c.args.note ≤ vec_capacity c.self.inside.notes
 room c =

@@ -1,0 +1,4 @@
+mod ReadingLemmas
+pub mod Changing
+pub mod HandleTexts
+pub mod JobsMade

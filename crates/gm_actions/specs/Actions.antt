@@ -1,0 +1,138 @@
+-- What actions do, and what is known of the texts in them.
+use Rattle.std.specs.Prelude.{◌≡◌, ◌⊎◌, ℕ, ◌≤◌, Bool, true, false, codes, List, [], length, Option, Some, None, Result, Ok, Err}
+use Rattle.std.specs.Str.{bytes_eq}
+use Rattle.gm_packet.specs.declared.kind.Kind.{Kind}
+use Rattle.gm_packet.specs.declared.kind.Kind.TheVariants as kinds
+use Rattle.gm_packet.specs.Answers.{answer_of}
+use Rattle.gm_packet.specs.Requests.{Asked}
+use Rattle.gm_packet.specs.Packets.{has_nul}
+use Rattle.gm_packet.specs.Packets.{Fits}
+use Rattle.gm_packet.specs.Answers.{echo_res}
+use Rattle.gm_notes.specs.declared.note.Note.TheVariants.{Named, Reset}
+use Rattle.gm_notes.specs.Settings.{Settings}
+use Rattle.gm_notes.specs.Jobs.{Job, job_of_handle}
+use Rattle.gm_notes.specs.Past.{Past, with_note, give, refuse}
+use Rattle.gm_notes.specs.Submissions.{Submission, is_bad_name, submit}
+use Rattle.gm_notes.specs.Requests.{set_option, tell_status, request}
+use Rattle.gm_notes.specs.Workers.{Work, can_do, cant_do, pre_sleep, grab, work}
+use Rattle.gm_actions.specs.declared.actions.Action.{Action}
+use Rattle.gm_actions.specs.declared.actions.Action.TheVariants.{CanDo, CantDo, ResetAbilities, PreSleep, Grab, Submit, Tell}
+use Rattle.gm_actions.specs.declared.actions.Action.TheVariants.{GetStatus, Echo, SetClientId, SetOption, Nothing}
+use Rattle.gm_actions.specs.declared.actions.Submission.{Submission as Found}
+use Rattle.gm_actions.specs.declared.actions.Report.{Report}
+use Rattle.gm_actions.specs.declared.answers.JobView.{JobView}
+use Rattle.gm_actions.specs.declared.actions.Said.{Said}
+use Rattle.gm_actions.specs.declared.refusal.Refusal.{Refusal}
+use Rattle.gm_actions.specs.declared.refusal.Refusal.TheVariants.{UnknownCommand, BadArguments}
+use Rattle.gm_actions.specs.Refusals.{code_of}
+use Rattle.gm_actions.specs.Carried.{IsCarried, AreNumbers}
+
+-- ---- what is handed on, wherever its bytes lie
+
+-- what is submitted
+abbrev pub submission_of : Found → Submission
+submission_of s =
+    record { function = s.function.now; unique = s.unique.now; body = s.body.now; priority = s.priority; background = s.background }
+
+-- what a job is
+abbrev pub job_of : JobView → Job
+job_of job = record { function = job.function.now; priority = job.priority; unique = job.unique.now; body = job.body.now }
+
+-- how far a job is
+abbrev pub report_of : Report → List ℕ × List ℕ
+report_of report = (report.numerator.now, report.denominator.now)
+
+-- what a worker says of its job
+abbrev pub said_report : Option Report → Option (List ℕ × List ℕ)
+said_report None = None
+said_report (Some report) = Some (report_of report)
+
+abbrev pub work_of : Said → Work
+work_of said =
+    record { answer = answer_of said.response; exceptions_only = said.exceptions_only; report = said_report said.report; ends = said.ends }
+
+-- ---- what is done
+
+-- what a request does
+abbrev pub serve : Settings → ℕ → Asked → Past → Past
+serve k c asked past = request k c asked.kind asked.arguments asked.timeout past
+
+-- what an action of slot c does
+abbrev pub act : Settings → ℕ → Action → Past → Past
+act k c (CanDo function timeout) past = can_do k c function.now timeout past
+act k c (CantDo function) past = cant_do c function.now past
+act k c ResetAbilities past = with_note (Reset c) past
+act k c PreSleep past = pre_sleep k c past
+act k c (Grab with_unique) past = grab k c with_unique past
+act k c (Submit asked) past = submit k c (submission_of asked) past
+act k c (Tell about) past = work k c about.handle.now (work_of about.said) past
+act k c (GetStatus handle) past = tell_status k c handle.now (job_of_handle k handle.now past.notes) past
+act k c (Echo body) past = give c (echo_res body.now) past
+act k c (SetClientId id) past = with_note (Named c id.now) past
+act k c (SetOption name) past = set_option c name.now past
+act k c Nothing past = past
+
+-- an action of slot c is done, or its packet is refused
+abbrev pub acted : Settings → ℕ → Result Action Refusal → Past → Past
+acted k c (Ok action) past = act k c action past
+acted k c (Err refusal) past = refuse c (code_of refusal) past
+
+-- why data that spell nothing are refused
+abbrev pub unread : Option Kind → Refusal
+unread None = UnknownCommand
+unread (Some kind) = BadArguments
+
+-- ---- what is known of the texts
+
+-- a function that it names can be one, and an option that it names is one
+abbrev pub IsNamed : Action → Type 0
+IsNamed (CanDo function timeout) = is_bad_name function.now ≡ false
+IsNamed (CantDo function) = is_bad_name function.now ≡ false
+IsNamed (Submit asked) = is_bad_name asked.function.now ≡ false
+IsNamed (SetOption name) = bytes_eq name.now (codes "exceptions") ≡ true
+IsNamed action = Unit {0}
+
+-- a text without NUL that came in a packet
+pub record IsWord (text : List ℕ) : Type 0 where
+  pub plain : has_nul text ≡ false
+  pub sized : length text ≤ 1073741824
+
+abbrev pub ReportFits : Option (List ℕ × List ℕ) → Type 0
+ReportFits None = Unit {0}
+ReportFits (Some numbers) = AreNumbers numbers.0 numbers.1
+
+-- it can be passed on, and its report can be told again
+pub record SaidFits (said : Said) : Type 0 where
+  pub response : Fits (answer_of said.response).arguments
+  pub report : ReportFits (said_report said.report)
+
+-- a packet can carry again what came in one
+abbrev pub CanBeTold : Action → Type 0
+CanBeTold (Submit asked) = IsCarried asked.function.now asked.unique.now asked.body.now
+CanBeTold (Tell about) = SaidFits about.said
+CanBeTold (GetStatus handle) = IsWord handle.now
+CanBeTold (Echo body) = length body.now ≤ 1073741824
+CanBeTold action = Unit {0}
+
+-- ---- what needs no memory
+
+-- of a kind of requests: RESET_ABILITIES and PRE_SLEEP
+abbrev pub needs_no_memory : Kind → Bool
+needs_no_memory kinds.ResetAbilities = true
+needs_no_memory kinds.PreSleep = true
+needs_no_memory kind = false
+
+-- of a packet of such a request: they have no data
+abbrev pub NeedsNoMemory : ℕ → List ℕ → Type 0
+NeedsNoMemory number bytes = ((number ≡ 3) ⊎ (number ≡ 4)) × (bytes ≡ [])
+
+-- of an action
+abbrev pub acts_without_memory : Action → Bool
+acts_without_memory ResetAbilities = true
+acts_without_memory PreSleep = true
+acts_without_memory action = false
+
+-- what was read is such an action
+abbrev pub ActsWithoutMemory : Result Action Refusal → Type 0
+ActsWithoutMemory (Ok action) = acts_without_memory action ≡ true
+ActsWithoutMemory (Err refusal) = ⊥

@@ -1,0 +1,6 @@
+pub mod Actions
+pub mod Carried
+pub mod Effects
+pub mod Groups
+pub mod Lines
+pub mod Refusals

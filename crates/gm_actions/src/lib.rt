@@ -1,0 +1,19 @@
+//! What packets and text lines ask of a server, and what is answered to them whatever it holds: what job servers
+//! of every kind share, however they keep their jobs.
+#![tactic(auto)]
+
+mod actions;
+mod answers;
+mod deadlines;
+mod faults;
+mod handles;
+mod lines;
+mod refusal;
+
+pub use actions::{About, Action, Report, Said, Submission};
+pub use answers::{JobView, assignment, known_status, unknown_status};
+pub use deadlines::deadline_after;
+pub use faults::append_fault;
+pub use handles::{handle, number_in};
+pub use lines::read_line;
+pub use refusal::Refusal;

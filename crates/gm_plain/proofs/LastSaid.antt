@@ -1,0 +1,94 @@
+-- What notes say last.
+use Rattle.std.proofs.Common.{◌≡◌, ℕ, ◌+◌, ◌<◌, Bool, true, false, if◌then◌else◌, List, [], ◌∷◌, length, take, get_or, reverse, filter}
+use Rattle.std.proofs.Common.{find, Option, Some, None, refl, sym, ap, ap₂, subst, ◌∙◌, arith}
+use Rattle.std.specs.Prelude.{unwrap_or}
+use Rattle.std.specs.Option.{option_map}
+use Rattle.gm_notes.specs.declared.note.Note.{Note}
+use Rattle.gm_notes.specs.Notes.{last_said}
+use Rattle.gm_notes.specs.declared.states.Priority.{Priority}
+use Rattle.gm_notes.specs.declared.note.Note.TheVariants.{Made}
+use Rattle.gm_notes.specs.Jobs.{made}
+use Rattle.gm_notes.specs.Steps.{newest}
+use Rattle.gm_plain.specs.Searches.{Said, Passed}
+use Rattle.gm_plain.proofs.NoteLemmas.{note_next}
+
+-- where each answer is what the note says, the last is what the notes say last
+pub said_is : {T : Type 0} (says : Note → Option T) (gives : Note → Option T → Type 0) → ((note : Note) (answer : Option T) → gives note answer → answer ≡ says note)
+    → (otherwise : T) (notes : List Note) (last : T) → Said gives otherwise notes last → last ≡ last_said says otherwise notes
+said_is says gives means otherwise [] last said = said
+said_is says gives means otherwise (note ∷ older) last said =
+    said.is ∙ ap₂ unwrap_or (means note said.answer said.given) (said_is says gives means otherwise older said.before said.said)
+
+seen_or : {T A : Type 0} (view : T → A) (answer : Option T) (before : T) → view (unwrap_or answer before) ≡ unwrap_or (option_map view answer) (view before)
+seen_or view None before = refl
+seen_or view (Some last) before = refl
+
+-- so it is where what is seen of each answer is what the note says
+pub said_seen : {T A : Type 0} (view : T → A) (says : Note → Option A) (gives : Note → Option T → Type 0)
+    → ((note : Note) (answer : Option T) → gives note answer → option_map view answer ≡ says note) → (otherwise : T) (notes : List Note) (last : T)
+    → Said gives otherwise notes last → view last ≡ last_said says (view otherwise) notes
+said_seen view says gives means otherwise [] last said = ap view said
+said_seen view says gives means otherwise (note ∷ older) last said =
+    ap view said.is
+    ∙ (seen_or view said.answer said.before
+    ∙ ap₂ unwrap_or (means note said.answer said.given) (said_seen view says gives means otherwise older said.before said.said))
+
+-- the last answer, seen in another way, is the last of the answers seen so
+pub said_through : {A B : Type 0} (view : A → B) (says : Note → Option A) (otherwise : A) (notes : List Note)
+    → view (last_said says otherwise notes) ≡ last_said (λ note. option_map view (says note)) (view otherwise) notes
+said_through view says otherwise [] = refl
+said_through view says otherwise (note ∷ older) =
+    seen_or view (says note) (last_said says otherwise older) ∙ ap (unwrap_or (option_map view (says note))) (said_through view says otherwise older)
+
+-- ---- jobs that pass a test
+
+module _ {T : Type 0} (gives : ℕ → Bool → Type 0) (start : T) (step : ℕ → T → T) (notes : List Note) (i : ℕ) (note : Note) (lt : i < length notes) (is : note ≡ get_or notes i note) where
+  -- a note that makes a job
+  pub passed_made : (n : ℕ) (f : List ℕ) (p : Priority) (u body : List ℕ) (passes : Bool) (before last : T) → note ≡ Made n f p u body
+      → Passed gives start step (made (reverse (take i notes))) before → gives n passes → last ≡ (if passes then step n before else before)
+      → Passed gives start step (made (reverse (take (i + 1) notes))) last
+  passed_made n f p u body passes before last makes passed given so =
+      let next = note_next notes i note lt is ∙ ap (λ (x : Note). x ∷ reverse (take i notes)) makes in
+      subst (λ (l : List Note). Passed gives start step (made l) last) (sym next) (record { before = before; passes = passes; passed = passed; given = given; is = so })
+
+  -- and one that doesn't
+  pub passed_over : (last : T) → ((n : ℕ) (f : List ℕ) (p : Priority) (u body : List ℕ) → note ≡ Made n f p u body → ⊥)
+      → Passed gives start step (made (reverse (take i notes))) last → Passed gives start step (made (reverse (take (i + 1) notes))) last
+  passed_over last other passed =
+      subst (λ (l : List ℕ). Passed gives start step l last) (sym (ap made (note_next notes i note lt is) ∙ skipped note (reverse (take i notes)) other)) passed
+    where
+      skipped : (x : Note) (older : List Note) → ((n : ℕ) (f : List ℕ) (p : Priority) (u body : List ℕ) → x ≡ Made n f p u body → ⊥) → made (x ∷ older) ≡ made older
+      skipped (Made n f p u body) older isnt = absurd (isnt n f p u body refl)
+      skipped x older isnt = refl
+
+module _ (P : ℕ → Bool) (gives : ℕ → Bool → Type 0) (means : (n : ℕ) (passes : Bool) → gives n passes → passes ≡ P n) where
+  -- their number
+  pub counted_is : (jobs : List ℕ) (count : ℕ) → Passed gives 0 (λ n before. before + 1) jobs count → count ≡ length (filter P jobs)
+  counted_is [] count passed = passed
+  counted_is (n ∷ jobs) count passed = by passed.passes (P n) (means n passed.passes passed.given) passed.is (counted_is jobs passed.before passed.passed)
+    where
+      by : {before : ℕ} (t b : Bool) → t ≡ b → count ≡ (if t then before + 1 else before) → before ≡ length (filter P jobs)
+          → count ≡ length (if b then n ∷ filter P jobs else filter P jobs)
+      by true true e so rest = omega (arith, so, rest)
+      by false false e so rest = so ∙ rest
+      by true false e so rest = absurd cc
+      by false true e so rest = absurd cc
+
+  -- the last
+  pub found_is : (jobs : List ℕ) (found : Option ℕ) → Passed gives None (λ n before. Some n) jobs found → found ≡ find P jobs
+  found_is [] found passed = passed
+  found_is (n ∷ jobs) found passed = by passed.passes (P n) (means n passed.passes passed.given) passed.is (found_is jobs passed.before passed.passed)
+    where
+      by : {before : Option ℕ} (t b : Bool) → t ≡ b → found ≡ (if t then Some n else before) → before ≡ find P jobs → found ≡ (if b then Some n else find P jobs)
+      by true true e so rest = so
+      by false false e so rest = so ∙ rest
+      by true false e so rest = absurd cc
+      by false true e so rest = absurd cc
+
+pub all_pass : (jobs : List ℕ) → filter (λ n. true) jobs ≡ jobs
+all_pass [] = refl
+all_pass (n ∷ jobs) = ap (λ (l : List ℕ). n ∷ l) (all_pass jobs)
+
+pub newest_is : (jobs : List ℕ) → find (λ n. true) jobs ≡ newest jobs
+newest_is [] = refl
+newest_is (n ∷ jobs) = refl

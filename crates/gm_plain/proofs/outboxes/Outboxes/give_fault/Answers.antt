@@ -1,0 +1,18 @@
+use Rattle.std.proofs.lemmas.Result.{on_ok_weaker, on_err_weaker}
+use Rattle.gm_plain.proofs.OutboxLemmas.{items_of, outbox_given, outbox_same, within, outboxes_len}
+use Rattle.gm_plain.proofs.outboxes.Outboxes.give_fault.Goals as goal
+
+pub returns-clause-ok : goal.returns-clause-ok
+returns-clause-ok c =
+    on_ok_weaker c.append_fault.result
+    (outbox_given items_of c.self.inside.outboxes.items c.args.self.now c.args.slot c.index_mut-outbox.result.now c.append_fault.new.out _ c.self.view_is (within items_of _ _ _ c.self.view_is c.requires) c.index_mut-outbox.ensures.value)
+    c.append_fault.ensures.ok
+
+pub returns-clause-err : goal.returns-clause-err
+returns-clause-err c =
+    on_err_weaker c.append_fault.result
+    (outbox_same items_of c.self.inside.outboxes.items c.args.self.now c.args.slot c.index_mut-outbox.result.now c.append_fault.new.out c.self.view_is c.index_mut-outbox.ensures.value)
+    c.append_fault.ensures.err
+
+pub returns-clause-len : goal.returns-clause-len
+returns-clause-len c = outboxes_len items_of c.self.inside.outboxes.items c.args.self.now c.args.slot c.append_fault.new.out c.self.view_is

@@ -1,7 +1,0 @@
-use Rattle.std.proofs.Common.{◌≡◌, take}
-use Rattle.std.specs.Prelude.{reverse}
-use Rattle.gm_notes.specs.Notes.{id}
-use Rattle.gm_plain.proofs.questions.id.Given as goal
-
-abbrev pub invariant-loop-note : goal.invariant-loop-note
-invariant-loop-note l = l.id ≡ id l.slot (reverse (take l.note-index l.notes))

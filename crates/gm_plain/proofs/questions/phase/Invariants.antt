@@ -1,7 +1,0 @@
-use Rattle.std.proofs.Common.{◌≡◌, take}
-use Rattle.std.specs.Prelude.{reverse}
-use Rattle.gm_notes.specs.Notes.{phase}
-use Rattle.gm_plain.proofs.questions.phase.Given as goal
-
-abbrev pub invariant-loop-note : goal.invariant-loop-note
-invariant-loop-note l = l.phase ≡ phase l.slot (reverse (take l.note-index l.notes))

@@ -1,0 +1,49 @@
+//! Requests as they come.
+
+ghost use Rattle.std.specs.Prelude.{◌<◌, ◌≤◌, length};
+ghost use Rattle.gm_packet.specs.Kinds.{kind_of};
+ghost use Rattle.gm_plain.specs.Holds.{Does};
+ghost use Rattle.gm_notes.specs.Requests.{packet_of};
+ghost use Rattle.gm_actions.specs.Actions.{act, IsNamed, CanBeTold};
+
+use super::PlainServer;
+use gm_actions::Action;
+use gm_packet::Response;
+use std::alloc::AllocError;
+
+impl PlainServer {
+    /// Does what a packet of a slot asks.
+    pub(super) fn read(&mut self, slot: u32, kind: u32, bytes: &[u8]) -> Result<(), AllocError>
+        requires slot { slot < self.old.config.slots }
+        requires size { length bytes.now ≤ 1073741824 }
+        ensures { Does self.old result self.new (packet_of self.old.config slot (kind_of kind) bytes.now) }
+    {
+        match Action::read(kind, bytes) {
+            Ok(action) => self.act(slot, &action),
+            Err(refusal) => self.refuse(slot, refusal),
+        }
+    }
+
+    /// Does what is asked of a slot.
+    fn act(&mut self, slot: u32, action: &Action<'_>) -> Result<(), AllocError>
+        requires slot { slot < self.old.config.slots }
+        requires named { IsNamed action.now }
+        requires told { CanBeTold action.now }
+        ensures { Does self.old result self.new (act self.old.config slot action.now) }
+    {
+        match *action {
+            Action::CanDo { function, timeout } => self.can_do(slot, function, timeout),
+            Action::CantDo { function } => self.cant_do(slot, function),
+            Action::ResetAbilities => self.reset(slot),
+            Action::PreSleep => self.pre_sleep(slot),
+            Action::Grab { with_unique } => self.grab(slot, with_unique),
+            Action::Submit(asked) => self.submit(slot, &asked),
+            Action::Tell(about) => self.work(slot, about.handle, &about.said),
+            Action::GetStatus { handle } => self.tell_status(slot, handle),
+            Action::Echo { body } => self.give(slot, &Response::EchoRes { body }),
+            Action::SetClientId { id } => self.set_client_id(slot, id),
+            Action::SetOption { name } => self.set_option(slot, name),
+            Action::Nothing => Ok(()),
+        }
+    }
+}

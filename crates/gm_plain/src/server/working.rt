@@ -1,0 +1,130 @@
+//! What workers say of their jobs.
+
+ghost use Rattle.std.specs.Prelude.{◌≡◌, ◌<◌, ◌≤◌, ◌&&◌, filter, true, IfOk};
+ghost use Rattle.gm_notes.specs.Notes.{is_open, has_option};
+ghost use Rattle.std.specs.List.{All};
+ghost use Rattle.gm_notes.specs.Jobs.{job_state, listeners};
+ghost use Rattle.gm_notes.specs.JobStates.{is_running};
+ghost use Rattle.gm_plain.specs.Holds.{Goes, Does, copied_report};
+ghost use Rattle.gm_actions.specs.Actions.{SaidFits, ReportFits, work_of, said_report};
+ghost use Rattle.gm_notes.specs.Workers.{hearers, keep_report, end_if, work, tell_work};
+
+use super::PlainServer;
+use crate::connections::{has_option, is_open};
+use crate::handles::job_of_handle;
+use crate::jobs::{is_running_at, listeners};
+use crate::log::Log;
+use gm_actions::{Refusal, Report, Said};
+use gm_notes::{Note, Text};
+use std::alloc::{AllocError, Global};
+
+/// A report that was copied.
+#[derive(Drop)]
+struct ReportCopy {
+    numerator: Text,
+    denominator: Text,
+}
+
+/// Copies a report, if there is one.
+fn copy_report(alloc: Global, said: Option<Report<'_>>) -> Result<Option<ReportCopy>, AllocError>
+    ensures { IfOk result (λ kept. copied_report kept ≡ said_report said.entry) }
+{
+    match said {
+        Some(report) => Ok(Some(ReportCopy {
+            numerator: Text::copy_of(alloc, report.numerator)?,
+            denominator: Text::copy_of(alloc, report.denominator)?,
+        })),
+        None => Ok(None),
+    }
+}
+
+/// Those of the slots whose connections want exceptions.
+fn who_want_exceptions(alloc: Global, log: &Log, slots: &[u32]) -> Result<Vec<u32>, AllocError>
+    ensures { IfOk result (λ found. found.items ≡ filter (λ c. is_open c log.now.notes && has_option c log.now.notes) slots.now) }
+{
+    slots
+        .iter()
+        .copied()
+        .filter(|slot| is_open(log, *slot) && has_option(log, *slot))
+        .collect(alloc)
+}
+
+/// Who hears what a worker says of a job.
+fn hearers(
+    alloc: Global,
+    log: &Log,
+    job: u64,
+    exceptions_only: bool,
+) -> Result<Vec<u32>, AllocError>
+    ensures value { IfOk result (λ slots. slots.items ≡ hearers exceptions_only (listeners job log.now.notes) log.now.notes) }
+    ensures below { IfOk result (λ slots. All (λ c. c < log.now.slots) slots.items) }
+{
+    let slots = listeners(alloc, log, job)?;
+    if exceptions_only {
+        who_want_exceptions(alloc, log, &slots)
+    } else {
+        Ok(slots)
+    }
+}
+
+impl PlainServer {
+    /// The worker in a slot says something of the job that a handle names.
+    pub(super) fn work(
+        &mut self,
+        slot: u32,
+        handle: &[u8],
+        said: &Said<'_>,
+    ) -> Result<(), AllocError>
+        requires slot { slot < self.old.config.slots }
+        requires fits { SaidFits said.now }
+        ensures { Does self.old result self.new (work self.old.config slot handle.now (work_of said.now)) }
+    {
+        let Some(job) = job_of_handle(&self.log, &self.config, handle) else {
+            return self.refuse(slot, Refusal::JobNotFound);
+        };
+        if !is_running_at(&self.log, job, slot) {
+            return self.refuse(slot, Refusal::JobNotFound);
+        }
+        self.tell_work(job, said)
+    }
+
+    fn tell_work(&mut self, job: u64, said: &Said<'_>) -> Result<(), AllocError>
+        requires runs { is_running (job_state job self.old.log.notes) ≡ true }
+        requires fits { SaidFits said.now }
+        ensures { Does self.old result self.new (tell_work (work_of said.now) job) }
+    {
+        let slots = hearers(self.alloc, &self.log, job, said.exceptions_only)?;
+        let report = copy_report(self.alloc, said.report)?;
+        self.make_room(1)?;
+        self.give_all(&slots, &said.response)?;
+        self.keep_report(job, report);
+        self.end_if(job, said.ends);
+        Ok(())
+    }
+
+    /// A running job ends, if so. It needs no memory.
+    fn end_if(&mut self, job: u64, ends: bool)
+        requires { is_running (job_state job self.old.log.notes) ≡ true }
+        ensures { Goes self.old self.new (end_if ends job) }
+    {
+        if ends {
+            self.note(Note::Ended { job });
+        }
+    }
+
+    /// A report is kept, if there is one. There is room for a note.
+    fn keep_report(&mut self, job: u64, report: Option<ReportCopy>)
+        requires room { 1 ≤ self.old.log.free }
+        requires fits { ReportFits (copied_report report) }
+        ensures goes { Goes self.old self.new (keep_report job (copied_report report)) }
+        ensures job_state { job_state job self.new.log.notes ≡ job_state job self.old.log.notes }
+    {
+        if let Some(kept) = report {
+            self.note(Note::Report {
+                job,
+                numerator: kept.numerator,
+                denominator: kept.denominator,
+            });
+        }
+    }
+}

@@ -1,3 +1,0 @@
-pub mod HandleTexts
-pub mod JobsMade
-mod ReadingLemmas

@@ -1,5 +1,0 @@
-pub mod Actions
-pub mod Carried
-pub mod Groups
-pub mod Lines
-pub mod Refusals
