@@ -1,3 +1,3 @@
 pub mod AbilityLemmas
+pub mod ConnTableLemmas
 pub mod SlotLemmas
-pub mod TableLemmas

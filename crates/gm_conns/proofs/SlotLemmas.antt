@@ -1,12 +1,17 @@
 -- What a bit of a word says of a slot.
-use Rattle.std.proofs.Common.{◌≡◌, ◌≢◌, ℕ, ◌+◌, ◌-◌, ◌*◌, ◌/◌, ◌%◌, ◌^◌, ◌<◌, ◌≤◌, min, Bool, false, not, ◌&&◌, ◌||◌, ◌==◌, inl, inr, List, length, get_or, set, bit_and, bit_or, w64, sym, ap, subst, ◌∙◌, arith}
+use Rattle.std.proofs.Common.{◌≡◌, ◌≢◌, ℕ, zero, suc, ◌+◌, ◌-◌, ◌*◌, ◌/◌, ◌%◌, ◌^◌, ◌<◌, ◌≤◌, min, max, bit_and, bit_or, w64, arith}
+use Rattle.std.proofs.Common.{Bool, true, false, cond, not, ◌&&◌, ◌||◌, ◌==◌, inl, inr, List, [], ◌∷◌, length, filter, get_or, set, refl}
+use Rattle.std.proofs.Common.{sym, ap, subst, ◌∙◌}
 use Rattle.std.specs.Int.{bit_at, bit_not, trailing_zeros}
-use Rattle.std.proofs.lemmas.Nat.Bits.{bit_at-zero, bit_at-lt, bit_at_and, bit_at_set_same, bit_at_set_other, bit_at_clear_same, bit_at_clear_other, bit_at_mask_inside, bit_at_mask_below, bit_at-trailing_zeros, ones_shl}
+use Rattle.std.proofs.lemmas.Nat.Bits.{bit_at-zero, bit_at-lt, bit_at_and, bit_at_or, bit_at_set_same, bit_at_set_other, bit_at_clear_same}
+use Rattle.std.proofs.lemmas.Nat.Bits.{bit_at_clear_other}
+use Rattle.std.proofs.lemmas.Nat.Bits.{bit_at_mask_inside, bit_at_mask_below, bit_at-trailing_zeros, ones_shl}
 use Rattle.std.proofs.lemmas.List.{get_or-set_same, get_or-set_other, get_or_past}
 use Rattle.std.proofs.lemmas.Bool.{cases_lt, cases_eq}
 use Rattle.std.proofs.lemmas.Bool.Decides.{nat_tests}
 use lib.Bits.{and_lt}
-use Rattle.gm_conns.specs.Slots.{has}
+use Rattle.gm_notes.specs.Notes.{slots_from}
+use Rattle.gm_conns.specs.Slots.{has, slots_left}
 
 yes_in : (x i slot : ℕ) (b : Bool) → x ≡ 1 → i ≡ slot → (x == 1) ≡ ((i == slot) || b)
 yes_in x i slot b e same = grind (arith, nat_tests)
@@ -48,7 +53,26 @@ module _ (words : List ℕ) (slot i : ℕ) (long : length words ≡ 16) (small :
         | inr apart ↦ no_out _ _ i slot (ap (λ w. bit_at w (i % 64)) (get_or-set_other words (slot / 64) (i / 64) m 0 apart)) (omega arith)
       ]
 
--- ---- the first bit from a place on
+-- ---- the slots of two sets together
+
+or_of : (a b : ℕ) → a < 2 → b < 2 → (max a b == 1) ≡ ((a == 1) || (b == 1))
+or_of a b small less = grind (arith, nat_tests)
+
+module _ (words other : List ℕ) (at i : ℕ) where
+  -- a word has the bits of both
+  pub has-or : at < length words → i / 64 ≡ at → has (set words at (bit_or (get_or words at 0) (get_or other at 0))) i ≡ (has words i || has other i)
+  has-or within is =
+      let word = bit_or (get_or words at 0) (get_or other at 0) in
+      ap (λ w. bit_at w (i % 64) == 1) (ap (λ k. get_or (set words at word) k 0) is ∙ get_or-set_same words at word 0 within)
+      ∙ ap (λ b. b == 1) (bit_at_or (get_or words at 0) (get_or other at 0) (i % 64))
+      ∙ or_of _ _ (bit_at-lt (get_or words at 0) (i % 64)) (bit_at-lt (get_or other at 0) (i % 64))
+      ∙ ap (λ k. (bit_at (get_or words k 0) (i % 64) == 1) || (bit_at (get_or other k 0) (i % 64) == 1)) (sym is)
+
+  -- the other words stay
+  pub has-or_other : i / 64 ≢ at → has (set words at (bit_or (get_or words at 0) (get_or other at 0))) i ≡ has words i
+  has-or_other apart = ap (λ w. bit_at w (i % 64) == 1) (get_or-set_other words at (i / 64) (bit_or (get_or words at 0) (get_or other at 0)) 0 apart)
+
+-- ---- the first bit from a position on
 
 module _ (word from : ℕ) (within : from < 64) where
   abbrev pub masked : ℕ
@@ -57,7 +81,7 @@ module _ (word from : ℕ) (within : from < 64) where
   mask : masked ≡ bit_and word (2 ^ 64 - 2 ^ from)
   mask = ap (bit_and word) (ones_shl 64 from (omega arith))
 
-  -- from the place on the bits are the word's
+  -- from the position on the bits are the word's
   pub masked_above : (i : ℕ) → from ≤ i → i < 64 → bit_at masked i ≡ bit_at word i
   masked_above i low high =
       let both = ap (λ w. bit_at w i) mask ∙ bit_at_and word (2 ^ 64 - 2 ^ from) i in
@@ -94,8 +118,8 @@ module _ (xs ys : List ℕ) where
   pub has_both : (at r : ℕ) → r < 64 → (has xs (at * 64 + r) && has ys (at * 64 + r)) ≡ (bit_at (bit_and (get_or xs at 0) (get_or ys at 0)) r == 1)
   has_both at r small =
       let word : (at * 64 + r) / 64 ≡ at = omega arith in
-      let place : (at * 64 + r) % 64 ≡ r = omega arith in
-      (λ j. (bit_at (get_or xs (word j) 0) (place j) == 1) && (bit_at (get_or ys (word j) 0) (place j) == 1))
+      let position : (at * 64 + r) % 64 ≡ r = omega arith in
+      (λ j. (bit_at (get_or xs (word j) 0) (position j) == 1) && (bit_at (get_or ys (word j) 0) (position j) == 1))
       ∙ sym (both_of (bit_at (get_or xs at 0) r) (bit_at (get_or ys at 0) r) (bit_at-lt (get_or xs at 0) r) (bit_at-lt (get_or ys at 0) r))
       ∙ ap (λ b. b == 1) (sym (bit_at_and (get_or xs at 0) (get_or ys at 0) r))
 
@@ -103,11 +127,48 @@ module _ (xs ys : List ℕ) where
   pub has_none : (at low high : ℕ) → high ≤ 64 → ((r : ℕ) → low ≤ r → r < high → bit_at (bit_and (get_or xs at 0) (get_or ys at 0)) r ≡ 0)
       → (i : ℕ) → at * 64 + low ≤ i → i < at * 64 + high → (has xs i && has ys i) ≡ false
   has_none at low high small none i l h =
-      let place : at * 64 + (i - at * 64) ≡ i = omega arith in
-      subst (λ k. (has xs k && has ys k) ≡ false) place
+      let position : at * 64 + (i - at * 64) ≡ i = omega arith in
+      subst (λ k. (has xs k && has ys k) ≡ false) position
       (has_both at (i - at * 64) (omega arith) ∙ ap (λ b. b == 1) (none (i - at * 64) (omega arith) (omega arith)))
 
 -- no slot beyond the words is in the set
 pub has_past : (words : List ℕ) (i : ℕ) → length words ≡ 16 → 1024 ≤ i → has words i ≡ false
 has_past words i long past =
     ap (λ w. bit_at w (i % 64) == 1) (get_or_past words (i / 64) 0 (omega arith)) ∙ ap (λ b. b == 1) (bit_at-zero (i % 64))
+
+-- ---- the slots of a set, in rising order
+
+module _ (p : ℕ → Bool) where
+  -- a slot of the set comes first, where none before it is in the set
+  filter-first : (n from r : ℕ) → from ≤ r → r < from + n → p r ≡ true → ((i : ℕ) → from ≤ i → i < r → p i ≡ false)
+      → filter p (slots_from from n) ≡ r ∷ filter p (slots_from (suc r) (from + n - suc r))
+  filter-first zero from r low high is none = absurd (omega arith)
+  filter-first (suc n) from r low high is none = elim (cases_eq from r) [
+    | inl here ↦
+        let left : n ≡ from + suc n - suc r = omega arith in
+        ap (λ b. cond b (from ∷ filter p (slots_from (suc from) n)) (filter p (slots_from (suc from) n))) (ap p here ∙ is)
+        ∙ (λ j. here j ∷ filter p (slots_from (suc (here j)) (left j)))
+    | inr later ↦
+        let left : suc from + n - suc r ≡ from + suc n - suc r = omega arith in
+        ap (λ b. cond b (from ∷ filter p (slots_from (suc from) n)) (filter p (slots_from (suc from) n))) (none from (omega arith) (omega arith))
+        ∙ filter-first n (suc from) r (omega arith) (omega arith) is (λ i l h. none i (omega arith) h)
+        ∙ ap (λ m. r ∷ filter p (slots_from (suc r) m)) left
+  ]
+
+  filter-none : (n from : ℕ) → ((i : ℕ) → from ≤ i → p i ≡ false) → filter p (slots_from from n) ≡ []
+  filter-none zero from none = refl
+  filter-none (suc n) from none =
+      ap (λ b. cond b (from ∷ filter p (slots_from (suc from) n)) (filter p (slots_from (suc from) n))) (none from (omega arith))
+      ∙ filter-none n (suc from) (λ i l. none i (omega arith))
+
+module _ (words : List ℕ) (from : ℕ) where
+  pub slots_left-first : (r : ℕ) → (from ≤ r) × (r < 1024) × (has words r ≡ true) → ((i : ℕ) → from ≤ i → i < r → has words i ≡ false)
+      → slots_left words from ≡ r ∷ slots_left words (r + 1)
+  slots_left-first r found least =
+      let inside : from + (1024 - from) - suc r ≡ 1024 - (r + 1) = omega (arith, found.0, found.1) in
+      let after : suc r ≡ r + 1 = omega arith in
+      filter-first (has words) (1024 - from) from r found.0 (omega (arith, found.0, found.1)) found.2 least
+      ∙ (λ j. r ∷ filter (has words) (slots_from (after j) (inside j)))
+
+  pub slots_left-none : ((i : ℕ) → from ≤ i → has words i ≡ false) → slots_left words from ≡ []
+  slots_left-none none = filter-none (has words) (1024 - from) from none

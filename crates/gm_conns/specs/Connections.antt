@@ -3,7 +3,7 @@ use Rattle.std.specs.Prelude.{ℕ, ◌-◌, Bool, true, false, not, ◌==◌, ma
 use Rattle.std.specs.Map.{lookup}
 use Rattle.indexmap.specs.IndexMap.{insert_entry}
 use Rattle.gm_notes.specs.declared.states.Phase.{Phase}
-use Rattle.gm_notes.specs.declared.states.Phase.TheVariants.{Awake, Asleep, Owed}
+use Rattle.gm_notes.specs.declared.states.Phase.TheVariants.{Awake}
 
 -- Whether it is open, and whether it is shut; the option; whether it sleeps; where it comes from; its id;
 -- the functions that it can do, in the order added, each with its timeout; the bytes that wait for it, and
@@ -24,7 +24,7 @@ abbrev pub closed : Connection
 closed = record { is_open = false; is_shut = false; has_option = false; phase = Awake; addr = []; id = []; abilities = []; waiting = []; room = 0 }
 
 abbrev pub opened : List ℕ → Connection
-opened addr = record { is_open = true; is_shut = false; has_option = false; phase = Awake; addr = addr; id = []; abilities = []; waiting = []; room = 0 }
+opened addr = record closed { is_open = true; addr = addr }
 
 abbrev pub shut : Connection → Connection
 shut conn = record conn { is_shut = true }
@@ -38,7 +38,7 @@ with_phase phase conn = record conn { phase = phase }
 abbrev pub with_id : List ℕ → Connection → Connection
 with_id id conn = record conn { id = id }
 
--- an ability that stands keeps its place and takes the new timeout; another goes to the end
+-- an ability that was there keeps its position and takes the new timeout; a new one goes to the end
 abbrev pub with_ability : ℕ → ℕ → Connection → Connection
 with_ability f timeout conn = record conn { abilities = insert_entry nat_eq conn.abilities f timeout }
 
@@ -48,7 +48,7 @@ without_ability f conn = record conn { abilities = filter (λ ability. not (abil
 abbrev pub without_abilities : Connection → Connection
 without_abilities conn = record conn { abilities = [] }
 
--- room for so many bytes beyond those that wait
+-- room for n bytes beyond those that wait
 abbrev pub with_room : ℕ → Connection → Connection
 with_room n conn = record conn { room = max conn.room n }
 
@@ -66,11 +66,3 @@ timeout_of f conn = lookup (nat_eq f) conn.abilities
 
 abbrev pub is_able : ℕ → Connection → Bool
 is_able f conn = is_some (timeout_of f conn)
-
-abbrev pub is_sleeping : Phase → Bool
-is_sleeping Asleep = true
-is_sleeping Awake = false
-is_sleeping Owed = false
-
-abbrev pub is_asleep : Connection → Bool
-is_asleep conn = is_sleeping conn.phase

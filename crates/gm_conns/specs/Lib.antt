@@ -1,3 +1,3 @@
+pub mod ConnTables
 pub mod Connections
 pub mod Slots
-pub mod Tables

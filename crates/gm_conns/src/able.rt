@@ -1,9 +1,9 @@
 //! The slots that can do a function.
 
-ghost use Rattle.std.specs.Prelude.{◌≡◌, ℕ, ◌+◌, ◌-◌, ◌^◌, ◌<◌, ◌&&◌, ◌||◌, ◌==◌, not, OnOk, false};
+ghost use Rattle.std.specs.Prelude.{◌≡◌, ℕ, ◌+◌, ◌<◌, ◌&&◌, ◌||◌, ◌==◌, not, OnOk, false};
 ghost use Rattle.std.specs.Vec.{vec_len};
 ghost use Rattle.gm_conns.specs.Slots.{has};
-ghost use Rattle.gm_conns.specs.Tables.{able_of};
+ghost use Rattle.gm_conns.specs.ConnTables.{able_of};
 
 use crate::slot_set::SlotSet;
 use std::alloc::AllocError;
@@ -17,7 +17,7 @@ pub(crate) struct AbleSet {
 }
 
 impl Model for AbleSet {
-    ghost use Rattle.gm_conns.specs.Tables.{Able};
+    ghost use Rattle.gm_conns.specs.ConnTables.{Able};
 
     ghost Value = { Able };
 

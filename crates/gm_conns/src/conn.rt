@@ -1,8 +1,8 @@
 //! What is known of one connection.
 
-ghost use Rattle.std.specs.Prelude.{◌≡◌, ◌+◌, ◌-◌, ◌≤◌, Some, None, ◌<◌, ◌==◌, ◌&&◌, ◌||◌, IsTrue, IfSome, IfNone, OnOk, OnErr, [], length, slice_get, not, ℕ};
-ghost use Rattle.std.specs.Vec.{vec_len, vec_capacity};
-ghost use Rattle.gm_conns.specs.Connections.{closed, opened, shut, with_option, with_phase, with_id, with_ability, without_ability, with_room, with_bytes, drained, timeout_of, is_able};
+ghost use Rattle.std.specs.Prelude.{◌≡◌, ℕ, ◌<◌, ◌≤◌, ◌==◌, not, ◌&&◌, ◌||◌, IsTrue, IfSome, IfNone, OnOk, OnErr, [], length, slice_get};
+ghost use Rattle.gm_conns.specs.Connections.{closed, opened, shut, with_option, with_phase, with_id, with_ability, without_ability};
+ghost use Rattle.gm_conns.specs.Connections.{with_room, with_bytes, drained, timeout_of, is_able};
 
 use gm_notes::Phase;
 use indexmap::IndexMap;
@@ -10,7 +10,7 @@ use std::alloc::{AllocError, Global};
 use std::marker::Model;
 use std::mem;
 
-/// What is known of the connection in a slot. Where none is, all fields are as `new` makes them.
+/// What is known of the connection in a slot. In a slot that isn't open all fields are as `new` makes them.
 #[derive(Drop)]
 pub(crate) struct Conn {
     open: bool,
@@ -194,7 +194,7 @@ impl Conn {
         self.timeout_of(f).is_some()
     }
 
-    /// Makes room for so many bytes beyond those that wait.
+    /// Makes room for `n` bytes beyond those that wait.
     pub(crate) fn reserve(&mut self, n: usize) -> Result<(), AllocError>
         ensures ok { OnOk result (self.new ≡ with_room n self.old) }
         ensures others { self.new ≡ record self.old { room = self.new.room } }

@@ -1,8 +1,10 @@
 //! The table of connections.
 
-ghost use Rattle.std.specs.Prelude.{◌≡◌, ℕ, ◌+◌, ◌<◌, ◌≤◌, ◌↔◌, ◌⊎◌, true, false, not, ◌&&◌, ◌==◌, [], IsTrue, Some, None, IfSome, IfNone, IfOk, IfErr, OnOk, OnErr, Err, length, slice_get};
-ghost use Rattle.gm_conns.specs.Connections.{Connection, closed, opened, shut, with_option, with_phase, with_id, with_ability, without_ability, without_abilities, with_room, with_bytes, drained, timeout_of, is_sleeping};
-ghost use Rattle.gm_conns.specs.Tables.{Table, conn, IsOpen, is_touched, able_count, is_sleeper, Changes, IsLeastFree, IsFull, LosesAbilities};
+ghost use Rattle.std.specs.Prelude.{◌≡◌, ℕ, ◌<◌, ◌≤◌, ◌↔◌, ◌⊎◌, true, false, not, ◌&&◌, ◌==◌, [], IsTrue, length, slice_get};
+ghost use Rattle.std.specs.Prelude.{IfSome, IfNone, IfOk, IfErr, OnOk, OnErr, Err};
+ghost use Rattle.gm_conns.specs.Connections.{closed, opened, shut, with_option, with_phase, with_id, with_ability, without_ability};
+ghost use Rattle.gm_conns.specs.Connections.{without_abilities, with_room, with_bytes, drained, timeout_of};
+ghost use Rattle.gm_conns.specs.ConnTables.{conn, IsOpen, is_touched, able_count, is_sleeper, Changes, IsLeastFree, IsFull, LosesAbilities};
 
 use crate::able::{AbleSet, cover};
 use crate::conn::Conn;
@@ -13,8 +15,8 @@ use std::marker::Model;
 
 /// The connections of a server, by slot.
 ///
-/// A call that is given a slot, but for `is_open`, is for a slot that is open. What is refused changes
-/// nothing; calls that answer no refusal take no memory.
+/// Each call that is given a slot, except for `is_open`, wants an open one. What is refused changes nothing, and a
+/// call that can't be refused takes no memory.
 #[derive(Drop)]
 pub struct Conns {
     alloc: Global,
@@ -27,27 +29,17 @@ pub struct Conns {
 }
 
 impl Model for Conns {
-    ghost use Rattle.gm_conns.specs.Tables.{Table, IsKept};
+    ghost use Rattle.gm_conns.specs.ConnTables.{Table, IsKept};
 
     ghost Value = { Table };
 
-    ghost view = { λ t. record { conns = t.conns.items; marks = t.touched } };
+    ghost view = { λ t. record { conns = t.conns.items; touched = t.touched } };
 
     ghost invariant = { λ t. IsKept t.conns.items t.able.items t.free t.asleep };
 }
 
-// Whether a phase is sleep.
-fn is_sleeping(phase: Phase) -> bool
-    ensures { result ≡ is_sleeping phase }
-{
-    match phase {
-        Phase::Asleep => true,
-        Phase::Awake | Phase::Owed => false,
-    }
-}
-
 impl Conns {
-    /// So many slots, at most 1,024, none of them open.
+    /// A table of at most 1,024 slots, none of them open.
     pub fn new(alloc: Global, slots: u32) -> Result<Conns, AllocError>
         requires { slots ≤ 1024 }
         ensures slots { IfOk result (λ table. length table.conns ≡ slots) }
@@ -78,7 +70,7 @@ impl Conns {
         self.conns.len() as u32
     }
 
-    /// Whether a connection is in the slot. Where none is, nothing is known and nothing waits.
+    /// Whether a connection is in the slot. If not, nothing is known of the slot and nothing waits for it.
     pub fn is_open(&self, slot: u32) -> bool
         ensures value { result ≡ (conn self.now slot).is_open }
         ensures closed { result ≡ false → conn self.now slot ≡ closed }
@@ -89,8 +81,8 @@ impl Conns {
         }
     }
 
-    /// A connection from this address is opened in the least slot that isn't open. `NoSlot` comes where
-    /// every slot is open, and else `Memory` where there is no memory for the address.
+    /// Opens a connection from this address in the least slot that isn't open. `NoSlot` comes if every slot is
+    /// open, and otherwise `Memory` if there is no memory for the address.
     pub fn open(&mut self, addr: &[u8]) -> Result<u32, ApplyError>
         ensures slot { IfOk result (λ slot. IsLeastFree slot self.old) }
         ensures opened { IfOk result (λ slot. Changes slot (λ _. opened addr.now) true self.old self.new) }
@@ -98,7 +90,7 @@ impl Conns {
         ensures refusal { IfErr result (λ e. (e ≡ ApplyError.NoSlot) ⊎ (e ≡ ApplyError.Memory)) }
         ensures err { OnErr result (self.new ≡ self.old) }
     {
-        let Some(slot) = self.free.next_in_both(&self.free, 0) else {
+        let Some(slot) = self.free.next(0) else {
             return Err(ApplyError::NoSlot);
         };
         let addr = Vec::from_slice(self.alloc, addr)?;
@@ -141,7 +133,7 @@ impl Conns {
         conn.is_shut()
     }
 
-    /// The connection can do the function, with this timeout: an ability that stands keeps its place.
+    /// The connection can do the function, with this timeout. An ability that it had keeps its position.
     pub fn can_do(&mut self, slot: u32, f: u32, timeout: u32) -> Result<(), AllocError>
         requires { IsOpen self.old slot }
         ensures ok { OnOk result (Changes slot (with_ability f timeout) false self.old self.new) }
@@ -199,11 +191,12 @@ impl Conns {
     }
 
     /// The ability at an index, in the order added: the function and its timeout.
-    pub fn able(&self, slot: u32, i: u32) -> Option<(u32, u32)>
+    pub fn able(&self, slot: u32, i: usize) -> Option<(u32, u32)>
         requires { IsOpen self.now slot }
         ensures { result ≡ slice_get (conn self.now slot).abilities i }
     {
-        self.ability(slot, i as usize)
+        let conn = &self.conns[slot as usize];
+        conn.able(i)
     }
 
     /// How many functions the connection can do.
@@ -213,15 +206,6 @@ impl Conns {
     {
         let conn = &self.conns[slot as usize];
         conn.abilities_len()
-    }
-
-    /// The ability at an index, as `able` gives it, for any index.
-    pub fn ability(&self, slot: u32, i: usize) -> Option<(u32, u32)>
-        requires { IsOpen self.now slot }
-        ensures { result ≡ slice_get (conn self.now slot).abilities i }
-    {
-        let conn = &self.conns[slot as usize];
-        conn.able(i)
     }
 
     /// The timeout with which the connection can do the function.
@@ -307,7 +291,7 @@ impl Conns {
     {
         let conn = &mut self.conns[slot as usize];
         conn.set_phase(phase);
-        self.asleep.set(slot, is_sleeping(phase));
+        self.asleep.set(slot, phase.is_asleep());
         self.touched.insert(slot);
     }
 
@@ -325,7 +309,7 @@ impl Conns {
         }
     }
 
-    /// Makes room for so many bytes beyond those that wait; two calls don't add up.
+    /// Makes room for `n` bytes beyond those that wait. Two calls don't add up.
     pub fn reserve_out(&mut self, slot: u32, n: usize) -> Result<(), AllocError>
         requires { IsOpen self.old slot }
         ensures ok { OnOk result (Changes slot (with_room n) false self.old self.new) }
@@ -386,7 +370,7 @@ impl Conns {
         ensures none { IfNone result ((c : ℕ) → is_touched self.old c ≡ false) }
         ensures conns { self.new.conns ≡ self.old.conns }
     {
-        match self.touched.next_in_both(&self.touched, 0) {
+        match self.touched.next(0) {
             Some(slot) => {
                 self.touched.remove(slot);
                 Some(slot)

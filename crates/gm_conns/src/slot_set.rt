@@ -1,16 +1,18 @@
 //! Sets of slots.
 
-ghost use Rattle.std.specs.Prelude.{◌≡◌, ℕ, ◌+◌, ◌<◌, ◌≤◌, ◌↔◌, Bool, true, false, ◌&&◌, ◌||◌, ◌==◌, if◌then◌else◌, not, IsTrue, IfSome, IfNone, length};
+ghost use Rattle.std.specs.Prelude.{◌≡◌, ℕ, ◌<◌, ◌≤◌, false, ◌&&◌, ◌||◌, ◌==◌, if◌then◌else◌, not, IsTrue, IfSome, IfNone};
 ghost use Rattle.std.specs.Int.{bit_at};
-ghost use Rattle.gm_conns.specs.Slots.{has};
+ghost use Rattle.std.specs.Iterator.{YieldsFirst, item_count};
+ghost use Rattle.gm_conns.specs.Slots.{has, slots_of};
 
 use std::marker::Model;
 
 const WORDS: usize = 16;
 
-/// A set of slots, in a fixed number of words.
+/// A set of slots below 1,024, which takes no memory of its own. Contracts see its words: `has` says which slots are in
+/// it, and `slots_of` lists them.
 #[derive(Drop)]
-pub(crate) struct SlotSet {
+pub struct SlotSet {
     words: [u64; 16],
 }
 
@@ -24,7 +26,7 @@ impl Model for SlotSet {
     ghost invariant = { λ s. length s.words ≡ 16 };
 }
 
-// The place of the first bit that is set in a word, from a place on.
+// The position of the first bit that is set in a word, from a position on.
 fn first_bit(word: u64, from: u32) -> Option<u32>
     requires { from < 64 }
     ensures found { IfSome result (λ r. (from ≤ r) × (r < 64) × (bit_at word r ≡ 1) × ((i : ℕ) → from ≤ i → i < r → bit_at word i ≡ 0)) }
@@ -39,14 +41,14 @@ fn first_bit(word: u64, from: u32) -> Option<u32>
 
 impl SlotSet {
     /// The empty set.
-    pub(crate) fn new() -> SlotSet
+    pub fn new() -> SlotSet
         ensures { (i : ℕ) → has result i ≡ false }
     {
         SlotSet { words: [0; 16] }
     }
 
     /// Puts a slot in.
-    pub(crate) fn insert(&mut self, slot: u32)
+    pub fn insert(&mut self, slot: u32)
         requires { slot < 1024 }
         ensures { (i : ℕ) → has self.new i ≡ ((i == slot) || has self.old i) }
     {
@@ -54,7 +56,7 @@ impl SlotSet {
     }
 
     /// Takes a slot out.
-    pub(crate) fn remove(&mut self, slot: u32)
+    pub fn remove(&mut self, slot: u32)
         requires { slot < 1024 }
         ensures { (i : ℕ) → has self.new i ≡ (not (i == slot) && has self.old i) }
     {
@@ -62,7 +64,7 @@ impl SlotSet {
     }
 
     /// Puts a slot in or takes it out.
-    pub(crate) fn set(&mut self, slot: u32, to: bool)
+    pub fn set(&mut self, slot: u32, to: bool)
         requires { slot < 1024 }
         ensures { (i : ℕ) → has self.new i ≡ (if i == slot then to else has self.old i) }
     {
@@ -71,6 +73,31 @@ impl SlotSet {
         } else {
             self.remove(slot);
         }
+    }
+
+    /// Puts each slot of the other set in.
+    pub fn union(&mut self, other: &SlotSet)
+        ensures { (i : ℕ) → has self.new i ≡ (has self.old i || has other.now i) }
+    {
+        for at in 0..WORDS {
+            self.words[at] |= other.words[at];
+        }
+    }
+
+    /// The least slot of the set from `from` on.
+    pub fn next(&self, from: u32) -> Option<u32>
+        ensures found { IfSome result (λ r. (from ≤ r) × (r < 1024) × IsTrue (has self.now r)) }
+        ensures least { IfSome result (λ r. (i : ℕ) → from ≤ i → i < r → has self.now i ≡ false) }
+        ensures none { IfNone result ((i : ℕ) → from ≤ i → has self.now i ≡ false) }
+    {
+        self.next_in_both(self, from)
+    }
+
+    /// The slots of the set, in rising order.
+    pub fn iter(&self) -> SlotIter<'_>
+        ensures { result ≡ slots_of self.now }
+    {
+        SlotIter { set: self, from: 0 }
     }
 
     /// The least slot from `from` on that is in both sets.
@@ -87,5 +114,47 @@ impl SlotSet {
             low = 0;
         }
         None
+    }
+}
+
+impl<'a> IntoIterator for &'a SlotSet {
+    type Item = u32;
+
+    type IntoIter = SlotIter<'a>;
+
+    ghost into_iter_gives = { λ s r. r ≡ slots_of s.now };
+
+    fn into_iter(self) -> SlotIter<'a> {
+        self.iter()
+    }
+}
+
+/// Goes through a set in rising order. Contracts see the slots that are left.
+#[derive(Drop)]
+pub struct SlotIter<'a> {
+    set: &'a SlotSet,
+    from: u32,
+}
+
+impl<'a> Model for SlotIter<'a> {
+    ghost use Rattle.std.specs.Prelude.{List, ℕ};
+    ghost use Rattle.gm_conns.specs.Slots.{slots_left};
+
+    ghost Value = { List ℕ };
+
+    ghost view = { λ s. slots_left s.set.now s.from };
+}
+
+impl<'a> Iterator for SlotIter<'a> {
+    type Item = u32;
+
+    ghost next_gives = { YieldsFirst (λ s. s) };
+
+    ghost remaining = { item_count (λ s. s) };
+
+    fn next(&mut self) -> Option<u32> {
+        let slot = self.set.next(self.from)?;
+        self.from = slot + 1;
+        Some(slot)
     }
 }

@@ -1,5 +1,7 @@
 -- What is true of jobs, and of what is kept beside them.
-use Rattle.std.proofs.Common.{◌≡◌, ◌≢◌, ℕ, zero, suc, ◌+◌, ◌^◌, ◌<◌, ◌≤◌, ◌⊎◌, inl, inr, Bool, true, false, cond, not, ◌==◌, ◌&&◌, if◌then◌else◌, List, [], ◌∷◌, length, filter, Contains, Option, Some, None, IsSome, IfSome, is_some, Result, Ok, Err, IsOk, IfOk, OnOk, OnErr, refl, sym, ap, subst, ◌∙◌, arith}
+use Rattle.std.proofs.Common.{◌≡◌, ◌≢◌, ℕ, zero, suc, ◌+◌, ◌^◌, ◌<◌, ◌≤◌, ◌⊎◌, inl, inr, Bool, true, false, cond, not, ◌==◌}
+use Rattle.std.proofs.Common.{◌&&◌, if◌then◌else◌, List, [], ◌∷◌, length, filter, Contains, Option, Some, None, IsSome, IfSome}
+use Rattle.std.proofs.Common.{is_some, Result, Ok, Err, IsOk, IfOk, OnOk, OnErr, refl, sym, ap, subst, ◌∙◌, arith}
 use Rattle.std.specs.Option.{option_map, unwrap_or, SomeIff}
 use Rattle.gm_jobs.specs.declared.jobs.Jobs.TheInside.{Inside}
 use Rattle.std.proofs.lemmas.List.Elements.{All-contains, filter_passes}

@@ -1,5 +1,6 @@
 -- What is true of a roll, as pairs come and go.
-use Rattle.std.proofs.Common.{◌≡◌, ℕ, zero, suc, ◌⊎◌, inl, inr, List, [], ◌∷◌, slice_index_or, Contains, Option, Some, None, IfSome, IfNone, IsPermutation, refl, sym, ap, subst, ◌∙◌, arith}
+use Rattle.std.proofs.Common.{◌≡◌, ℕ, zero, suc, ◌⊎◌, inl, inr, List, [], ◌∷◌, slice_index_or, Contains, Option, Some, None}
+use Rattle.std.proofs.Common.{IfSome, IfNone, IsPermutation, refl, sym, ap, subst, ◌∙◌, arith}
 use Rattle.std.proofs.lemmas.List.Sorted.{Contains-permutation}
 use Rattle.gm_jobs.specs.Roll.{Pair, pair, Has, first_of}
 

@@ -1,5 +1,6 @@
 -- What is kept of the jobs that may be asked for by their order.
-use Rattle.std.specs.Prelude.{◌≡◌, ◌≢◌, ◌⊎◌, ℕ, ◌<◌, ◌≤◌, Bool, true, false, ◌||◌, Option, List, [], ◌∷◌, Contains, length, slice_index_or, is_some, IsSome, Some, None}
+use Rattle.std.specs.Prelude.{◌≡◌, ◌≢◌, ◌⊎◌, ℕ, ◌<◌, ◌≤◌, Bool, true, false, ◌||◌, Option, List, [], ◌∷◌, Contains, length}
+use Rattle.std.specs.Prelude.{slice_index_or, is_some, IsSome, Some, None}
 use Rattle.std.specs.List.{AllByRecursion}
 use Rattle.std.specs.Option.{unwrap_or}
 use Rattle.gm_jobs.specs.declared.marks.Mark.{Mark}

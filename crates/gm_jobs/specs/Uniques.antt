@@ -1,5 +1,6 @@
 -- What is kept of unique ids: a hash table whose chains are the cells that follow one another.
-use Rattle.std.specs.Prelude.{◌≡◌, ℕ, ◌+◌, ◌-◌, ◌<◌, ◌%◌, Bool, true, false, not, ◌==◌, nat_lt, max, if◌then◌else◌, List, length, slice_index_or, Some}
+use Rattle.std.specs.Prelude.{◌≡◌, ℕ, ◌+◌, ◌-◌, ◌<◌, ◌%◌, Bool, true, false, not, ◌==◌, nat_lt, max, if◌then◌else◌, List}
+use Rattle.std.specs.Prelude.{length, slice_index_or, Some}
 use Rattle.std.specs.List.{fold}
 use Rattle.std.specs.Hash as fed
 use Rattle.std.specs.Hash.DefaultHasher.{write, finish}

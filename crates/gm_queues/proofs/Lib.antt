@@ -1,3 +1,4 @@
+pub mod FunctionTableLemmas
 pub mod NameLemmas
+pub mod PositionLemmas
 pub mod QueueLemmas
-pub mod TableLemmas

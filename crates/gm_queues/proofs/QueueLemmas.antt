@@ -1,5 +1,7 @@
 -- What is true of the jobs in a ring's entries.
-use Rattle.std.proofs.Common.{◌≡◌, ℕ, zero, suc, ◌+◌, ◌-◌, ◌<◌, ◌≤◌, Bool, true, false, cond, not, ◌==◌, if◌then◌else◌, List, [], ◌∷◌, ◌++◌, length, set, drop, filter, count_by, slice_get, Contains, Option, Some, None, IfSome, IfNone, IsTrue, ◌↔◌, is_some, refl, sym, ap, ◌∙◌, arith, length-append}
+use Rattle.std.proofs.Common.{◌≡◌, ℕ, zero, suc, ◌+◌, ◌-◌, ◌<◌, ◌≤◌, Bool, true, false, cond, not, ◌==◌, if◌then◌else◌, List, [], ◌∷◌, ◌++◌}
+use Rattle.std.proofs.Common.{length, set, drop, filter, count_by, slice_get, Contains, Option, Some, None, IfSome, IfNone, IsTrue, ◌↔◌}
+use Rattle.std.proofs.Common.{is_some, refl, sym, ap, ◌∙◌, arith, length-append}
 use Rattle.std.proofs.lemmas.Bool.{false≢true}
 use Rattle.std.proofs.lemmas.Bool.Decides.{nat_tests}
 use Rattle.std.proofs.lemmas.List.Sums.{sum_by-cons}
@@ -29,17 +31,17 @@ length-filter_some (None ∷ xs) = length-filter_some xs
 length-filter_some (Some n ∷ xs) = ap suc (length-filter_some xs)
 
 -- where a job's entry is cleared, the job leaves
-pub Leaves-cleared : (xs : List (Option ℕ)) (i job places : ℕ) → slice_get xs i ≡ Some (Some job)
-    → Leaves job (record { jobs = jobs_in xs; places = places }) (record { jobs = jobs_in (set xs i None); places = places - 1 })
-Leaves-cleared [] i job places e = cc
-Leaves-cleared (None ∷ xs) zero job places e = cc
-Leaves-cleared (Some n ∷ xs) zero job places e = record { before = []; after = jobs_in xs; was = cc; left = refl; places = refl }
-Leaves-cleared (None ∷ xs) (suc i) job places e =
-    let rest = Leaves-cleared xs i job places e in
-    record { before = rest.before; after = rest.after; was = rest.was; left = rest.left; places = refl }
-Leaves-cleared (Some n ∷ xs) (suc i) job places e =
-    let rest = Leaves-cleared xs i job places e in
-    record { before = n ∷ rest.before; after = rest.after; was = ap (λ ns. n ∷ ns) rest.was; left = ap (λ ns. n ∷ ns) rest.left; places = refl }
+pub Leaves-cleared : (xs : List (Option ℕ)) (i job reserved : ℕ) → slice_get xs i ≡ Some (Some job)
+    → Leaves job (record { jobs = jobs_in xs; reserved = reserved }) (record { jobs = jobs_in (set xs i None); reserved = reserved - 1 })
+Leaves-cleared [] i job reserved e = cc
+Leaves-cleared (None ∷ xs) zero job reserved e = cc
+Leaves-cleared (Some n ∷ xs) zero job reserved e = record { before = []; after = jobs_in xs; was = cc; left = refl; reserved = refl }
+Leaves-cleared (None ∷ xs) (suc i) job reserved e =
+    let rest = Leaves-cleared xs i job reserved e in
+    record { before = rest.before; after = rest.after; was = rest.was; left = rest.left; reserved = refl }
+Leaves-cleared (Some n ∷ xs) (suc i) job reserved e =
+    let rest = Leaves-cleared xs i job reserved e in
+    record { before = n ∷ rest.before; after = rest.after; was = ap (λ ns. n ∷ ns) rest.was; left = ap (λ ns. n ∷ ns) rest.left; reserved = refl }
 
 -- and there is one job less
 pub length-cleared : (xs : List (Option ℕ)) (i job : ℕ) → slice_get xs i ≡ Some (Some job)

@@ -1,3 +1,3 @@
+pub mod FunctionTables
 pub mod Numbers
 pub mod Queues
-pub mod Tables

@@ -1,25 +1,24 @@
 -- What a queue of waiting jobs is.
 use Rattle.std.specs.Prelude.{◌≡◌, ℕ, ◌+◌, ◌-◌, List, [], ◌∷◌, ◌++◌, length, drop, Option, Some, None}
 
--- the waiting jobs, the first first, and how many places are reserved: for these jobs, and for those
--- that are to come
+-- the waiting jobs in their order, and for how many jobs room is reserved: for these, and for those that may come
 pub record Queue : Type 0 where
   pub jobs : List ℕ
-  pub places : ℕ
+  pub reserved : ℕ
 
 abbrev pub no_jobs : Queue
-no_jobs = record { jobs = []; places = 0 }
+no_jobs = record { jobs = []; reserved = 0 }
 
--- the places that no waiting job uses
+-- for how many jobs room is reserved that no waiting job uses
 abbrev pub idle : Queue → ℕ
-idle queue = queue.places - length queue.jobs
+idle queue = queue.reserved - length queue.jobs
 
--- the queue with one place more, and with one place less
-abbrev pub with_place : Queue → Queue
-with_place queue = record queue { places = queue.places + 1 }
+-- the queue with room reserved for one job more, and for one less
+abbrev pub with_reserved_one : Queue → Queue
+with_reserved_one queue = record queue { reserved = queue.reserved + 1 }
 
-abbrev pub without_place : Queue → Queue
-without_place queue = record queue { places = queue.places - 1 }
+abbrev pub without_reserved_one : Queue → Queue
+without_reserved_one queue = record queue { reserved = queue.reserved - 1 }
 
 -- the queue with the job as its last
 abbrev pub with_job : ℕ → Queue → Queue
@@ -29,13 +28,13 @@ with_job job queue = record queue { jobs = queue.jobs ++ job ∷ [] }
 abbrev pub without_first : Queue → Queue
 without_first queue = record queue { jobs = drop 1 queue.jobs }
 
--- The job left one of its places, with that place's reservation; the others keep their order.
+-- The job left the queue, and its room is no longer reserved; the others keep their order.
 pub record Leaves (job : ℕ) (old new : Queue) : Type 0 where
   pub before : List ℕ
   pub after : List ℕ
   pub was : old.jobs ≡ before ++ job ∷ after
   pub left : new.jobs ≡ before ++ after
-  pub places : new.places ≡ old.places - 1
+  pub reserved : new.reserved ≡ old.reserved - 1
 
 -- the jobs in the entries of a ring, where a taken one left nothing
 abbrev pub jobs_in : List (Option ℕ) → List ℕ

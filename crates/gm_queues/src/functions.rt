@@ -1,11 +1,14 @@
 //! The functions, their limits and their queues.
 
-ghost use Rattle.std.specs.Prelude.{◌≡◌, ℕ, ◌+◌, ◌-◌, ◌*◌, ◌<◌, ◌≤◌, ◌↔◌, ◌++◌, ◌∷◌, [], Some, None, IsSome, IsNone, IsOk, IsTrue, IfSome, IfOk, OnOk, OnErr, Contains, length, count_by, filter, not, ◌==◌, map, position, take, slice_get};
+ghost use Rattle.std.specs.Prelude.{◌≡◌, ◌+◌, ◌-◌, ◌*◌, ◌<◌, ◌≤◌, ◌==◌, ◌↔◌, not, IsTrue, Some, None, IsSome, IsNone, IsOk, IfSome, IfOk};
+ghost use Rattle.std.specs.Prelude.{OnOk, OnErr};
+ghost use Rattle.std.specs.Prelude.{[], ◌∷◌, ◌++◌, length, map, filter, count_by, position, take, slice_get, Contains};
 ghost use Rattle.std.specs.Str.{bytes_eq};
-ghost use Rattle.gm_queues.specs.Queues.{Queue, no_jobs, with_place, without_place, with_job, without_first, Leaves};
+ghost use Rattle.gm_queues.specs.Queues.{no_jobs, with_reserved_one, without_reserved_one, with_job, without_first};
 ghost use Rattle.std.specs.Vec.{vec_len, vec_capacity};
 ghost use Rattle.indexmap.specs.IndexSet.{spare};
-ghost use Rattle.gm_queues.specs.Tables.{Table, no_functions, rank, number_of, limit, queue, waiting_for, running_of, HasPlace, ChangesQueue, ForgetsJob, SetsLimit, ChangesNames, IsFree};
+ghost use Rattle.gm_queues.specs.FunctionTables.{no_functions, rank, number_of, limit, queue, waiting_for, running_of, HasIdleRoom};
+ghost use Rattle.gm_queues.specs.FunctionTables.{ChangesQueue, ForgetsJob, SetsLimit, ChangesNames, IsFree};
 
 use crate::ring::Ring;
 use gm_notes::Priority;
@@ -17,7 +20,7 @@ use std::marker::Model;
 #[cfg(test)]
 mod tests;
 
-/// Why a function isn't taken in. What is refused changes nothing.
+/// Why a new function is refused. A refusal changes nothing.
 #[derive(Clone, Copy, Debug, PartialEq, Eq)]
 pub enum MentionError {
     /// There was no memory for it.
@@ -47,7 +50,7 @@ impl From<AllocError> for MentionError {
     }
 }
 
-/// How many jobs of a function wait, and how many of its reserved places no waiting job uses.
+/// How many jobs of a function wait, and how much of its reserved room no waiting job uses.
 #[derive(Clone, Copy, Debug, PartialEq, Eq)]
 pub struct Counts {
     pub waiting: u64,
@@ -67,7 +70,7 @@ pub struct Functions {
 
 impl Model for Functions {
     ghost use Rattle.std.specs.Prelude.{◌≡◌, ◌*◌, ◌^◌, ◌<◌, ◌≤◌, length, map};
-    ghost use Rattle.gm_queues.specs.Tables.{Table};
+    ghost use Rattle.gm_queues.specs.FunctionTables.{Table};
 
     ghost Value = { Table };
 
@@ -79,9 +82,9 @@ impl Model for Functions {
         × (t.most < 2 ^ 32) };
 }
 
-// Where the ring of a function and a priority stands.
+// The index of the ring of a function and a priority.
 fn ring_of(f: u32, p: Priority) -> usize
-    ensures place { result ≡ 3 * f + rank p }
+    ensures index { result ≡ 3 * f + rank p }
     ensures within { result ≤ 3 * f + 2 }
 {
     let rank = match p {
@@ -128,8 +131,7 @@ fn add_rings(alloc: Global, rings: &mut Vec<Ring>)
 }
 
 impl Functions {
-    /// No functions, of at most so many. The names come from strangers, so the table of the names hashes
-    /// with this seed.
+    /// No functions, of at most `most`. The names are untrusted input, so their table hashes with this seed.
     pub fn new(alloc: Global, seed: RandomState, most: u32) -> Result<Functions, AllocError>
         ensures { IfOk result (λ table. table ≡ no_functions most) }
     {
@@ -179,8 +181,8 @@ impl Functions {
         self.names.as_slice()[f as usize].as_slice()
     }
 
-    /// The function of this name, taken in as the last one where it is new. `TooManyFunctions` comes where
-    /// it is new and there are as many as there may be, `Memory` only where it is new.
+    /// The function of this name. A new one becomes the last, unless there are as many as there may be
+    /// (`TooManyFunctions`) or no memory for it (`Memory`).
     pub fn mention(&mut self, name: &[u8]) -> Result<u32, MentionError>
         ensures found { IfOk result (λ f. number_of name.now self.new ≡ Some f) }
         ensures within { IfOk result (λ f. f < length self.new.names) }
@@ -205,7 +207,7 @@ impl Functions {
         Ok(f)
     }
 
-    /// Takes out the function that was mentioned last, which has no limit, no job and no reserved place.
+    /// Takes out the function that was mentioned last, which has no limit, no job and no reserved room.
     pub fn unmention(&mut self)
         requires some { 0 < length self.old.names }
         requires free { IsFree (length self.old.names - 1) self.old }
@@ -233,48 +235,48 @@ impl Functions {
         self.limits[f as usize] = size;
     }
 
-    /// Reserves a place for one job more.
+    /// Reserves room for one job more.
     pub fn reserve_one(&mut self, f: u32, p: Priority) -> Result<(), AllocError>
         requires { f < length self.old.names }
-        ensures ok { OnOk result (ChangesQueue f p with_place self.old self.new) }
-        ensures free { OnOk result (HasPlace self.new f p) }
+        ensures ok { OnOk result (ChangesQueue f p with_reserved_one self.old self.new) }
+        ensures free { OnOk result (HasIdleRoom self.new f p) }
         ensures err { OnErr result (self.new ≡ self.old) }
     {
         let ring = &mut self.rings[ring_of(f, p)];
         ring.reserve_one(self.alloc)
     }
 
-    /// Gives up a reserved place that no waiting job uses.
+    /// Gives up reserved room for one job, which no waiting job uses.
     pub fn release(&mut self, f: u32, p: Priority)
-        requires { HasPlace self.old f p }
-        ensures { ChangesQueue f p without_place self.old self.new }
+        requires { HasIdleRoom self.old f p }
+        ensures { ChangesQueue f p without_reserved_one self.old self.new }
     {
         let ring = &mut self.rings[ring_of(f, p)];
         ring.release();
     }
 
-    /// The job comes to wait, as the last, in a reserved place that no waiting job uses.
+    /// The job comes to wait, as the last, in reserved room that no waiting job uses.
     pub fn push(&mut self, f: u32, p: Priority, job: u64)
-        requires { HasPlace self.old f p }
+        requires { HasIdleRoom self.old f p }
         ensures { ChangesQueue f p (with_job job) self.old self.new }
     {
         let ring = &mut self.rings[ring_of(f, p)];
         ring.push(job);
     }
 
-    /// Takes out the oldest job of a priority. Its place stays reserved for its return.
+    /// Takes out the oldest job of a priority. Its room stays reserved for its return.
     pub fn pop(&mut self, f: u32, p: Priority) -> Option<u64>
         requires { f < length self.old.names }
         ensures value { result ≡ slice_get (queue self.old f p).jobs 0 }
         ensures rest { ChangesQueue f p without_first self.old self.new }
-        ensures free { IsSome result → HasPlace self.new f p }
+        ensures free { IsSome result → HasIdleRoom self.new f p }
     {
         let ring = &mut self.rings[ring_of(f, p)];
         ring.pop()
     }
 
-    /// Takes out a job that waits, wherever it stands, and gives up its place. Of a job that was pushed more
-    /// than once, one of its entries goes.
+    /// Takes out a job that waits, at any position, and gives up its room. Of a job that was pushed more than
+    /// once, one of its entries goes.
     pub fn forget(&mut self, f: u32, p: Priority, job: u64)
         requires { Contains (queue self.old f p).jobs job }
         ensures forgets { ForgetsJob f p job self.old self.new }
@@ -284,10 +286,10 @@ impl Functions {
         ring.forget(job);
     }
 
-    /// Whether a place is reserved that no waiting job uses.
-    pub fn has_place(&self, f: u32, p: Priority) -> bool
+    /// Whether room is reserved that no waiting job uses.
+    pub fn has_idle_room(&self, f: u32, p: Priority) -> bool
         requires { f < length self.now.names }
-        ensures { IsTrue result ↔ HasPlace self.now f p }
+        ensures { IsTrue result ↔ HasIdleRoom self.now f p }
     {
         let ring = &self.rings[ring_of(f, p)];
         ring.idle() > 0
@@ -302,7 +304,7 @@ impl Functions {
         ring.contains(job)
     }
 
-    /// How many jobs of a function wait, and how many of its places no waiting job uses.
+    /// How many jobs of a function wait, and how much of its reserved room no waiting job uses.
     pub fn counts(&self, f: u32) -> Counts
         requires { f < length self.now.names }
         ensures waiting { result.waiting ≡ length (waiting_for self.now f) }

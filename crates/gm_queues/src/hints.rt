@@ -1,4 +1,4 @@
-//! Guesses where jobs stand in a ring.
+//! Guesses at the positions of jobs in a ring.
 
 ghost use Rattle.std.specs.Prelude.{◌≡◌, Some, IfSome, slice_get};
 
@@ -8,31 +8,29 @@ use std::collections::VecDeque;
 // Two guesses that share a slot of the table, to keep them in one allocation.
 #[derive(Clone, Copy, Drop)]
 struct Link {
-    // The place of the job that was added last, of those whose numbers lead here.
+    // The position of the job that was added last, of those whose numbers lead here.
     newest: u32,
-    // For the entry at the place that leads here: the place of the job added before it, of those whose
+    // For the entry whose position leads here: the position of the job added before it, of those whose
     // numbers lead where its number does.
     older: u32,
 }
 
-/// Where jobs may stand in a ring of waiting jobs: a hash table whose chains go from the newest job to
-/// the oldest.
+/// Where jobs may be in a ring of waiting jobs: a hash table whose chains go from the newest job to the oldest.
 ///
-/// An entry has a place, which is the count of the entries that were added before it. A place that left
-/// the ring at its front stays in the chains, and ends each search that comes to it, since all that
-/// follow it are older. So nothing is ever taken out, and no call but `with_room` takes memory. What is
-/// found is compared with the ring: a wrong guess costs time, and nothing else.
+/// An entry's position is the count of the entries that were added before it. A position that left the ring at
+/// its front stays in the chains, and ends each search that comes to it, since all that follow it are older. So
+/// nothing is ever taken out, and no call but `with_room` takes memory. What is found is compared with the
+/// ring: a wrong guess costs time, and nothing else.
 #[derive(Drop)]
 pub(crate) struct Hints {
     links: Vec<Link>,
-    // The place of the ring's first entry, and that of the next one to be added. They begin again at 0
-    // beyond the greatest number.
+    // The position of the ring's first entry, and that of the next one to be added. They wrap around to 0.
     first: u32,
     next: u32,
 }
 
-// Spreads numbers over the whole range, eight that follow one another side by side: they fill a line of the
-// cache, and jobs mostly come and go in the order of their numbers.
+// Spreads numbers over the whole range, eight consecutive ones side by side: they fill a line of the cache, and
+// jobs mostly come and go in the order of their numbers.
 fn spread(job: u64) -> usize {
     let block = (job / 8).wrapping_mul(0x9E37_79B9_7F4A_7C15) >> 32;
     block.wrapping_mul(8).wrapping_add(job % 8) as usize
@@ -48,7 +46,7 @@ impl Hints {
         }
     }
 
-    /// No guesses, with room for those of a ring of at most so many entries.
+    /// No guesses, with room for those of a ring of at most `room` entries.
     pub(crate) fn with_room(alloc: Global, room: usize) -> Result<Hints, AllocError> {
         let link = Link {
             newest: u32::MAX,
@@ -89,7 +87,7 @@ impl Hints {
         }
     }
 
-    /// An index at which the job stands in the ring, if the guesses lead to one.
+    /// An index at which the job is in the ring, if the guesses lead to one.
     pub(crate) fn find(&self, entries: &VecDeque<Option<u64>>, job: u64) -> Option<usize>
         ensures { IfSome result (λ i. slice_get entries.now.items i ≡ Some (Some job)) }
     {
@@ -97,14 +95,14 @@ impl Hints {
         if room == 0 {
             return None;
         }
-        let mut place = self.links[spread(job) % room].newest;
+        let mut position = self.links[spread(job) % room].newest;
         for _ in 0..entries.len() {
-            let index = place.wrapping_sub(self.first) as usize;
+            let index = position.wrapping_sub(self.first) as usize;
             let entry = entries.get(index)?;
             if *entry == Some(job) {
                 return Some(index);
             }
-            place = self.links[place as usize % room].older;
+            position = self.links[position as usize % room].older;
         }
         None
     }

@@ -1,25 +1,27 @@
 //! The waiting jobs of one function and priority.
 
-ghost use Rattle.std.specs.Prelude.{◌≡◌, ℕ, ◌^◌, ◌<◌, ◌≤◌, ◌⊎◌, ◌↔◌, Some, None, IsTrue, IsSome, IfSome, IfNone, OnOk, OnErr, Contains, length, count_by, filter, not, ◌==◌, slice_get};
+ghost use Rattle.std.specs.Prelude.{◌≡◌, ℕ, ◌^◌, ◌<◌, ◌≤◌, ◌==◌, ◌⊎◌, ◌↔◌, not, IsTrue, Contains, length, count_by, filter, slice_get};
+ghost use Rattle.std.specs.Prelude.{Some, None, IsSome, IfSome, IfNone, OnOk, OnErr};
 ghost use Rattle.std.specs.VecDeque.{deque_len, deque_capacity};
-ghost use Rattle.gm_queues.specs.Queues.{no_jobs, idle, with_place, without_place, with_job, without_first, Leaves, jobs_in};
+ghost use Rattle.gm_queues.specs.Queues.{no_jobs, idle, with_reserved_one, without_reserved_one, with_job, without_first, Leaves, jobs_in};
 
 use crate::hints::Hints;
 use std::alloc::{AllocError, Global};
 use std::collections::VecDeque;
 use std::marker::Model;
 
-/// The waiting jobs of one function and priority in their order, and the places that are reserved.
+/// The waiting jobs of one function and priority in their order, and the room that is reserved for jobs.
 ///
-/// A job that is taken out of the middle leaves a cleared entry, which `pop` and `first` let go of once
-/// it is the first. Each reserved place that no job uses has room in the ring.
+/// A job that is taken out of the middle leaves a cleared entry, which `pop` and `first` drop once it is the
+/// first. The ring has capacity for all reserved room that no waiting job uses.
 #[derive(Drop)]
 pub(crate) struct Ring {
     entries: VecDeque<Option<u64>>,
     hints: Hints,
     // How many entries aren't cleared.
     waiting: usize,
-    places: usize,
+    // For how many jobs room is reserved, those that wait included.
+    reserved: usize,
 }
 
 impl Model for Ring {
@@ -29,18 +31,18 @@ impl Model for Ring {
 
     ghost Value = { Queue };
 
-    ghost view = { λ r. record { jobs = jobs_in r.entries.items; places = r.places } };
+    ghost view = { λ r. record { jobs = jobs_in r.entries.items; reserved = r.reserved } };
 
     ghost invariant = { λ r. (r.waiting ≡ length (jobs_in r.entries.items))
-        × (r.waiting ≤ r.places)
-        × (deque_len r.entries + r.places ≤ deque_capacity r.entries + r.waiting)
-        × (r.places ≤ 2 ^ 56) };
+        × (r.waiting ≤ r.reserved)
+        × (deque_len r.entries + r.reserved ≤ deque_capacity r.entries + r.waiting)
+        × (r.reserved ≤ 2 ^ 56) };
 }
 
-// No machine has the memory for so many places, and counts of them are easily added.
-const MOST_PLACES: usize = 1 << 56;
+// No machine has the memory for so many jobs, and the sum of three such counts fits a u64.
+const MOST_RESERVED: usize = 1 << 56;
 
-// Lets go of the cleared entries at the front.
+// Drops the cleared entries at the front.
 fn skip_cleared(entries: &mut VecDeque<Option<u64>>, hints: &mut Hints)
     ensures jobs { jobs_in entries.new.items ≡ jobs_in entries.old.items }
     ensures first { (slice_get entries.new.items 0 ≡ None) ⊎ ((job : ℕ) × (slice_get entries.new.items 0 ≡ Some (Some job))) }
@@ -53,7 +55,7 @@ fn skip_cleared(entries: &mut VecDeque<Option<u64>>, hints: &mut Hints)
     }
 }
 
-// Lets go of all cleared entries.
+// Drops all cleared entries.
 fn drop_cleared(entries: &mut VecDeque<Option<u64>>, hints: &mut Hints)
     ensures jobs { jobs_in entries.new.items ≡ jobs_in entries.old.items }
     ensures len { deque_len entries.new ≡ length (jobs_in entries.old.items) }
@@ -82,29 +84,29 @@ fn grow(
     Ok(())
 }
 
-// Makes room for one place more than these: lets go of the cleared entries, and grows only if half of the
-// ring or more is reserved, so that the next time it is full is as far away as it is long.
+// Makes room for one job more than is reserved: drops the cleared entries, and grows only if half of the ring
+// or more is reserved, so that the ring is full again only after as many pushes as it is long.
 fn make_room(
     alloc: Global,
     entries: &mut VecDeque<Option<u64>>,
     hints: &mut Hints,
-    places: usize,
+    reserved: usize,
 ) -> Result<(), AllocError>
-    requires { places ≤ deque_capacity entries.old }
+    requires { reserved ≤ deque_capacity entries.old }
     ensures jobs { jobs_in entries.new.items ≡ jobs_in entries.old.items }
     ensures len { deque_len entries.new ≡ length (jobs_in entries.old.items) }
     ensures capacity { deque_capacity entries.old ≤ deque_capacity entries.new }
-    ensures ok { OnOk result (places < deque_capacity entries.new) }
+    ensures ok { OnOk result (reserved < deque_capacity entries.new) }
 {
     drop_cleared(entries, hints);
-    if places < entries.capacity() / 2 {
+    if reserved < entries.capacity() / 2 {
         return Ok(());
     }
     grow(alloc, entries, hints)
 }
 
-// Where the job stands. The search from end to end is for a job that doesn't wait: a guess leads to every
-// other.
+// The index of the job. Hints lead to each job that waits, so only a job that doesn't is searched for from end
+// to end.
 fn index_of(entries: &VecDeque<Option<u64>>, hints: &Hints, job: u64) -> Option<usize>
     ensures found { IfSome result (λ i. slice_get entries.now.items i ≡ Some (Some job)) }
     ensures missing { IfNone result (¬ Contains (jobs_in entries.now.items) job) }
@@ -121,7 +123,7 @@ fn index_of(entries: &VecDeque<Option<u64>>, hints: &Hints, job: u64) -> Option<
 }
 
 impl Ring {
-    /// A queue with no jobs and no places. It takes no memory.
+    /// A queue with no jobs and no reserved room. It takes no memory.
     pub(crate) fn new(alloc: Global) -> Ring
         ensures { result ≡ no_jobs }
     {
@@ -129,49 +131,49 @@ impl Ring {
             entries: VecDeque::new(alloc),
             hints: Hints::new(alloc),
             waiting: 0,
-            places: 0,
+            reserved: 0,
         }
     }
 
-    /// Reserves one place more.
+    /// Reserves room for one job more.
     pub(crate) fn reserve_one(&mut self, alloc: Global) -> Result<(), AllocError>
-        ensures ok { OnOk result (self.new ≡ with_place self.old) }
-        ensures free { OnOk result (length self.new.jobs < self.new.places) }
+        ensures ok { OnOk result (self.new ≡ with_reserved_one self.old) }
+        ensures free { OnOk result (length self.new.jobs < self.new.reserved) }
         ensures err { OnErr result (self.new ≡ self.old) }
     {
-        if self.places == MOST_PLACES {
+        if self.reserved == MOST_RESERVED {
             return Err(AllocError);
         }
-        if self.entries.len() + (self.places - self.waiting) == self.entries.capacity() {
-            make_room(alloc, &mut self.entries, &mut self.hints, self.places)?;
+        if self.entries.len() + (self.reserved - self.waiting) == self.entries.capacity() {
+            make_room(alloc, &mut self.entries, &mut self.hints, self.reserved)?;
         }
-        self.places += 1;
+        self.reserved += 1;
         Ok(())
     }
 
-    /// Gives up a place that no waiting job uses.
+    /// Gives up reserved room for one job, which no waiting job uses.
     pub(crate) fn release(&mut self)
-        requires { length self.old.jobs < self.old.places }
-        ensures { self.new ≡ without_place self.old }
+        requires { length self.old.jobs < self.old.reserved }
+        ensures { self.new ≡ without_reserved_one self.old }
     {
-        self.places -= 1;
+        self.reserved -= 1;
     }
 
-    /// Puts the job at the end, in a reserved place.
+    /// Puts the job at the end, in reserved room.
     pub(crate) fn push(&mut self, job: u64)
-        requires { length self.old.jobs < self.old.places }
+        requires { length self.old.jobs < self.old.reserved }
         ensures { self.new ≡ with_job job self.old }
     {
-        let _stands = self.entries.push_back(Some(job));
+        let _pushed = self.entries.push_back(Some(job));
         self.hints.add(job);
         self.waiting += 1;
     }
 
-    /// Takes out the first job, whose place stays reserved.
+    /// Takes out the first job, whose room stays reserved.
     pub(crate) fn pop(&mut self) -> Option<u64>
         ensures value { result ≡ slice_get self.old.jobs 0 }
         ensures rest { self.new ≡ without_first self.old }
-        ensures free { IsSome result → length self.new.jobs < self.new.places }
+        ensures free { IsSome result → length self.new.jobs < self.new.reserved }
     {
         skip_cleared(&mut self.entries, &mut self.hints);
         let Some(Some(job)) = self.entries.pop_front() else {
@@ -191,7 +193,7 @@ impl Ring {
         *self.entries.front()?
     }
 
-    /// Takes out a job that waits, and gives up its place.
+    /// Takes out a job that waits, and gives up its room.
     pub(crate) fn forget(&mut self, job: u64)
         requires { Contains self.old.jobs job }
         ensures leaves { Leaves job self.old self.new }
@@ -202,7 +204,7 @@ impl Ring {
         };
         self.entries[index] = None;
         self.waiting -= 1;
-        self.places -= 1;
+        self.reserved -= 1;
     }
 
     /// Whether the job waits here.
@@ -220,15 +222,15 @@ impl Ring {
         self.waiting as u64
     }
 
-    /// How many reserved places no waiting job uses.
+    /// For how many jobs room is reserved that no waiting job uses.
     pub(crate) fn idle(&self) -> u64
         ensures value { result ≡ idle self.now }
         ensures small { result < 2 ^ 62 }
     {
-        (self.places - self.waiting) as u64
+        (self.reserved - self.waiting) as u64
     }
 
-    // The entries as they stand.
+    // The entries, the cleared ones included.
     #[cfg(test)]
     pub(crate) fn entries(&self) -> &VecDeque<Option<u64>> {
         &self.entries

@@ -12,7 +12,7 @@ fn cleared_entry(rt: HostRuntime) -> Result<(), Fail> {
     functions.reserve_one(0, Priority::Normal)?;
     functions.reserve_one(0, Priority::Normal)?;
     for job in 1..3 {
-        assert!(rt; functions.len() == 1 && functions.has_place(0, Priority::Normal));
+        assert!(rt; functions.len() == 1 && functions.has_idle_room(0, Priority::Normal));
         functions.push(0, Priority::Normal, job);
     }
     assert!(rt; functions.len() == 1 && functions.is_waiting(0, Priority::Normal, 1));

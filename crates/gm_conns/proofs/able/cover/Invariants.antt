@@ -1,6 +1,6 @@
 use Rattle.std.proofs.Common.{◌≡◌, ℕ, ◌+◌, ◌-◌, vec_len}
 use Rattle.gm_conns.specs.Slots.{has}
-use Rattle.gm_conns.specs.Tables.{able_of}
+use Rattle.gm_conns.specs.ConnTables.{able_of}
 use Rattle.gm_conns.proofs.able.cover.Given as goal
 
 abbrev pub invariant-loop-able : goal.invariant-loop-able

@@ -1,8 +1,9 @@
 use Rattle.std.proofs.Common.{◌≡◌, ◌<◌, IsTrue, [], length, refl, sym, ap, subst, ◌∙◌, arith}
 use Rattle.std.proofs.lemmas.List.{get_or_default}
 use Rattle.gm_conns.specs.Connections.{Connection, is_able}
-use Rattle.gm_conns.specs.Tables.{Able, Table, conn, in_slot, able_of, IsKept}
-use Rattle.gm_conns.proofs.TableLemmas.{open_within, read_slot, stays_able, count_below, is_added, IsKept-covered, IsKept-gains, IsKept-same}
+use Rattle.gm_conns.specs.ConnTables.{Able, Table, conn, in_slot, able_of, IsKept}
+use Rattle.gm_conns.proofs.ConnTableLemmas.{open_within, read_slot, stays_able, count_below, is_added, IsKept-covered, IsKept-gains}
+use Rattle.gm_conns.proofs.ConnTableLemmas.{IsKept-same}
 use Rattle.gm_conns.proofs.conns.Conns.can_do.Goals as goal
 use Rattle.gm_conns.proofs.conns.Conns.can_do.Goals.{In_ok-can_do}
 

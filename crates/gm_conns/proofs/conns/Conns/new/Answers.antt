@@ -1,6 +1,6 @@
 use Rattle.std.proofs.Common.{List, nat_lt, sym, ap, subst, ◌∙◌, arith}
-use Rattle.gm_conns.specs.Tables.{Able, IsKept}
-use Rattle.gm_conns.proofs.TableLemmas.{IsKept-new}
+use Rattle.gm_conns.specs.ConnTables.{Able, IsKept}
+use Rattle.gm_conns.proofs.ConnTableLemmas.{IsKept-new}
 use Rattle.gm_conns.proofs.conns.Conns.new.Goals as goal
 
 pub invariant_of-result : goal.invariant_of-result

@@ -1,7 +1,7 @@
 use Rattle.std.proofs.Common.{◌≡◌, ℕ, nat_lt, length}
 use Rattle.gm_conns.specs.Slots.{has}
 use Rattle.gm_conns.specs.Connections.{closed}
-use Rattle.gm_conns.specs.Tables.{in_slot}
+use Rattle.gm_conns.specs.ConnTables.{in_slot}
 use Rattle.gm_conns.proofs.conns.Conns.new.Given as goal
 
 abbrev pub invariant-loop-slot : goal.invariant-loop-slot

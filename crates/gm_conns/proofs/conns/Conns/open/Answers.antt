@@ -1,6 +1,6 @@
 use Rattle.std.proofs.Common.{subst, arith}
-use Rattle.gm_conns.specs.Tables.{Table, IsLeastFree}
-use Rattle.gm_conns.proofs.TableLemmas.{free_slot, taken_slot, IsKept-opened}
+use Rattle.gm_conns.specs.ConnTables.{Table, IsLeastFree}
+use Rattle.gm_conns.proofs.ConnTableLemmas.{free_slot, taken_slot, IsKept-opened}
 use Rattle.gm_conns.proofs.conns.Conns.open.Goals as goal
 
 pub invariant_of-self : goal.invariant_of-self

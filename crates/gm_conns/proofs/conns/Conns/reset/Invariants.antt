@@ -1,5 +1,5 @@
 use Rattle.std.proofs.Common.{length}
-use Rattle.gm_conns.specs.Tables.{conn, LosesAbilities}
+use Rattle.gm_conns.specs.ConnTables.{conn, LosesAbilities}
 use Rattle.gm_conns.proofs.conns.Conns.reset.Given as goal
 
 abbrev pub invariant-loop : goal.invariant-loop

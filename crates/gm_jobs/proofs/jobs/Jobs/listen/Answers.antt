@@ -1,4 +1,5 @@
-use Rattle.std.proofs.Common.{◌≡◌, ℕ, ◌+◌, Bool, true, false, not, ◌&&◌, ◌||◌, ◌==◌, ◌++◌, ◌∷◌, [], inl, inr, Contains, length, Option, Some, None, is_some, refl, sym, subst, ◌∙◌, arith, length-append}
+use Rattle.std.proofs.Common.{◌≡◌, ℕ, ◌+◌, Bool, true, false, not, ◌&&◌, ◌||◌, ◌==◌, ◌++◌, ◌∷◌, [], inl, inr, Contains, length}
+use Rattle.std.proofs.Common.{Option, Some, None, is_some, refl, sym, subst, ◌∙◌, arith, length-append}
 use Rattle.std.proofs.lemmas.List.Elements.{Contains-push_cases}
 use Rattle.std.proofs.lemmas.Bool.{false≢true, true≢false}
 use Rattle.std.proofs.lemmas.Bool.Decides.{nat_tests}
@@ -7,7 +8,8 @@ use Rattle.gm_jobs.specs.Live.{with_listener}
 use Rattle.gm_jobs.specs.Marks.{sign_at}
 use Rattle.gm_jobs.specs.Listening.{list_of}
 use Rattle.gm_jobs.specs.Kept.{IsKept}
-use Rattle.gm_jobs.proofs.JobLemmas.{beside, kept_changed, kept_room, listed_changed, listed_of, marked_changed, marked_of, reached_of, either}
+use Rattle.gm_jobs.proofs.JobLemmas.{beside, kept_changed, kept_room, listed_changed, listed_of, marked_changed, marked_of}
+use Rattle.gm_jobs.proofs.JobLemmas.{reached_of, either}
 use Rattle.gm_jobs.proofs.jobs.Jobs.listen.Goals as goal
 
 -- a job with a listener has a mark only where it runs

@@ -1,7 +1,7 @@
 use Rattle.std.proofs.Common.{sym, ap, ◌∙◌}
 use Rattle.std.specs.Str.{bytes_eq}
-use Rattle.gm_queues.specs.Tables.{number_of}
-use Rattle.gm_queues.proofs.NameLemmas.{position-map}
+use Rattle.gm_queues.specs.FunctionTables.{number_of}
+use Rattle.gm_queues.proofs.PositionLemmas.{position-map}
 use Rattle.gm_queues.proofs.functions.Functions.find.Goals as goal
 
 pub returns-in-Some-clause-value : goal.returns-in-Some-clause-value

@@ -2,9 +2,9 @@ use Rattle.std.proofs.Common.{◌≡◌, [], ◌∷◌, ◌++◌, length, map, p
 use Rattle.std.specs.Str.{bytes_eq}
 use Rattle.std.proofs.lemmas.Slice.Eq.{bytes_eq-Decides}
 use Rattle.gm_queues.specs.Queues.{no_jobs}
-use Rattle.gm_queues.specs.Tables.{Table, number_of, ChangesNames}
-use Rattle.gm_queues.proofs.NameLemmas.{position-map, position-push}
-use Rattle.gm_queues.proofs.TableLemmas.{with_function}
+use Rattle.gm_queues.specs.FunctionTables.{Table, number_of, ChangesNames}
+use Rattle.gm_queues.proofs.PositionLemmas.{position-map, position-push}
+use Rattle.gm_queues.proofs.FunctionTableLemmas.{with_function}
 use Rattle.gm_queues.proofs.functions.Functions.mention.Goals as goal
 use Rattle.gm_queues.proofs.functions.Functions.mention.Goals.{After-add_rings}
 

@@ -2,7 +2,7 @@ use Rattle.std.proofs.Common.{◌≡◌, length, map, slice_get, Some, refl, sym
 use Rattle.std.specs.Option.{option_map}
 use Rattle.std.proofs.lemmas.List.{length-map}
 use Rattle.std.proofs.lemmas.Option.{slice_get-map, slice_get_read}
-use Rattle.gm_queues.specs.Tables.{Table, number_of}
+use Rattle.gm_queues.specs.FunctionTables.{Table, number_of}
 use Rattle.gm_queues.proofs.NameLemmas.{position-distinct, IsDistinct-map}
 use Rattle.gm_queues.proofs.functions.Functions.name.Goals as goal
 

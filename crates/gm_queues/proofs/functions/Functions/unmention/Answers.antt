@@ -1,7 +1,7 @@
 use Rattle.std.proofs.Common.{◌≡◌, ◌-◌, length, map, take, sym, ap, subst, ◌∙◌, arith}
 use Rattle.std.proofs.lemmas.List.{length-map, take-map}
-use Rattle.gm_queues.specs.Tables.{Table, ChangesNames, IsFree}
-use Rattle.gm_queues.proofs.TableLemmas.{without_function}
+use Rattle.gm_queues.specs.FunctionTables.{Table, ChangesNames, IsFree}
+use Rattle.gm_queues.proofs.FunctionTableLemmas.{without_function}
 use Rattle.gm_queues.proofs.functions.Functions.unmention.Goals as goal
 
 pub returns : goal.returns

@@ -9,10 +9,10 @@ invariant_of-self c =
     let fewer = length-cleared c.self.inside.entries.items c.in-Some.index c.args.job c.in-Some.ensures.found in
     (omega arith, omega arith, omega arith, omega arith)
 
-leaves : (c : In-Some) → Leaves c.args.job c.args.self.now (record { jobs = jobs_in (set c.self.inside.entries.items c.in-Some.index None); places = c.self.inside.places - 1 })
+leaves : (c : In-Some) → Leaves c.args.job c.args.self.now (record { jobs = jobs_in (set c.self.inside.entries.items c.in-Some.index None); reserved = c.self.inside.reserved - 1 })
 leaves c =
-    subst (λ (q : Queue). Leaves c.args.job q (record { jobs = jobs_in (set c.self.inside.entries.items c.in-Some.index None); places = c.self.inside.places - 1 })) c.self.view_is
-    (Leaves-cleared c.self.inside.entries.items c.in-Some.index c.args.job c.self.inside.places c.in-Some.ensures.found)
+    subst (λ (q : Queue). Leaves c.args.job q (record { jobs = jobs_in (set c.self.inside.entries.items c.in-Some.index None); reserved = c.self.inside.reserved - 1 })) c.self.view_is
+    (Leaves-cleared c.self.inside.entries.items c.in-Some.index c.args.job c.self.inside.reserved c.in-Some.ensures.found)
 
 pub returns-clause-leaves : goal.returns-clause-leaves
 returns-clause-leaves c = leaves (goal.at.returns-clause-leaves c).In-Some

@@ -1,14 +1,22 @@
 -- What is kept beside the connections, after a slot changes.
-use Rattle.std.proofs.Common.{◌≡◌, ◌≢◌, ℕ, zero, suc, ◌+◌, ◌%◌, ◌<◌, ◌≤◌, Bool, true, false, cond, not, ◌&&◌, ◌||◌, ◌==◌, nat_lt, nat_eq, is_some, if◌then◌else◌, IsTrue, inl, inr, List, [], ◌∷◌, ◌++◌, length, get_or, set, count_by, refl, sym, ap, ◌∙◌, arith, length-set}
+use Rattle.std.proofs.Common.{◌≡◌, ◌≢◌, ℕ, zero, suc, ◌+◌, ◌%◌, ◌<◌, ◌≤◌, ◌==◌, nat_lt, nat_eq, Bool, true, false, cond, not, ◌&&◌, ◌||◌}
+use Rattle.std.proofs.Common.{if◌then◌else◌, IsTrue, is_some}
+use Rattle.std.proofs.Common.{inl, inr, List, [], ◌∷◌, ◌++◌, length, get_or, set, count_by, length-set, refl, sym, ap, subst, ◌∙◌, arith}
+use Rattle.gm_notes.specs.declared.states.Phase.{Phase}
 use Rattle.std.proofs.lemmas.List.{get_or-set_same, get_or-set_other, get_or_past, get_or_default}
 use Rattle.std.proofs.lemmas.List.Sums.{sum_by-set, sum_by-cons, count_by-le-length}
 use Rattle.std.proofs.lemmas.Bool.{cases_eq, cases_lt, false≢true}
 use Rattle.std.proofs.lemmas.Bool.Decides.{nat_tests}
 use Rattle.std.proofs.lemmas.Nat.Bits.{bit_at-zero}
 use Rattle.std.specs.Map.{lookup}
+use Rattle.gm_notes.specs.Notes.{is_asleep}
 use Rattle.gm_conns.specs.Slots.{has}
-use Rattle.gm_conns.specs.Connections.{Connection, closed, opened, is_able, is_asleep, is_sleeping}
-use Rattle.gm_conns.specs.Tables.{Able, Table, able_of, in_slot, conn, IsKept, Changes}
+use Rattle.gm_conns.specs.Connections.{Connection, closed, opened, is_able}
+use Rattle.gm_conns.specs.ConnTables.{Able, Table, able_of, in_slot, conn, IsOpen, IsKept, Changes}
+use Rattle.gm_conns.specs.declared.conns.Conns.TheInside.{Inside}
+
+abbrev phase_of : Connection → Phase
+phase_of x = x.phase
 
 -- an open slot is one of the slots
 pub open_within : (conns : List Connection) (slot : ℕ) → IsTrue (in_slot conns slot).is_open → slot < length conns
@@ -97,8 +105,8 @@ module _ (conns : List Connection) (able : List Able) (free asleep : List ℕ) (
       chosen (has (able_of able f).slots c) (is_able f now) (has (able_of able f).slots c) c slot
       (λ e. ap (has (able_of able f).slots) e ∙ kept.ables f slot ∙ sym (can f)) (λ _. refl)
 
-  asleep_stays : is_asleep now ≡ is_asleep (in_slot conns slot) → (c : ℕ) → has asleep c ≡ (if c == slot then is_asleep now else has asleep c)
-  asleep_stays same c = chosen (has asleep c) (is_asleep now) (has asleep c) c slot (λ e. ap (has asleep) e ∙ kept.sleepers slot ∙ sym same) (λ _. refl)
+  asleep_stays : is_asleep now.phase ≡ is_asleep (in_slot conns slot).phase → (c : ℕ) → has asleep c ≡ (if c == slot then is_asleep now.phase else has asleep c)
+  asleep_stays same c = chosen (has asleep c) (is_asleep now.phase) (has asleep c) c slot (λ e. ap (has asleep) e ∙ kept.sleepers slot ∙ sym same) (λ _. refl)
 
   stays_open : now.is_open ≡ (in_slot conns slot).is_open → IsTrue (in_slot conns slot).is_open → now.is_open ≡ false → now ≡ closed
   stays_open opens is_open shut = absurd (false≢true (sym shut ∙ opens ∙ is_open))
@@ -106,7 +114,7 @@ module _ (conns : List Connection) (able : List Able) (free asleep : List ℕ) (
   -- what is kept is what the connections say, where it changes as the slot does
   pub IsKept-set : (able' : List Able) (free' asleep' : List ℕ)
       → ((c : ℕ) → has free' c ≡ (if c == slot then not now.is_open else has free c))
-      → ((c : ℕ) → has asleep' c ≡ (if c == slot then is_asleep now else has asleep c))
+      → ((c : ℕ) → has asleep' c ≡ (if c == slot then is_asleep now.phase else has asleep c))
       → ((f c : ℕ) → has (able_of able' f).slots c ≡ (if c == slot then is_able f now else has (able_of able f).slots c))
       → ((f : ℕ) → (able_of able' f).count + (if is_able f (in_slot conns slot) then 1 else 0) ≡ (able_of able f).count + (if is_able f now then 1 else 0))
       → (now.is_open ≡ false → now ≡ closed)
@@ -119,7 +127,7 @@ module _ (conns : List Connection) (able : List Able) (free asleep : List ℕ) (
             frees c ∙ under_if (c == slot) (not now.is_open) _ _ (λ _. kept.frees c)
             ∙ below_here c slot (length conns) (not now.is_open) (not (in_slot conns c).is_open) within
             ∙ (λ j. nat_lt c (sym long j) && sym (at_slot (λ x. not x.is_open) conns slot c now within) j);
-        sleepers = λ c. sleepers c ∙ under_if (c == slot) (is_asleep now) _ _ (λ _. kept.sleepers c) ∙ sym (at_slot is_asleep conns slot c now within);
+        sleepers = λ c. sleepers c ∙ under_if (c == slot) (is_asleep now.phase) _ _ (λ _. kept.sleepers c) ∙ sym (at_slot (λ x. is_asleep x.phase) conns slot c now within);
         ables = λ f c. ables f c ∙ under_if (c == slot) (is_able f now) _ _ (λ _. kept.ables f c) ∙ sym (at_slot (is_able f) conns slot c now within);
         counts = λ f. omega (arith, counts f, kept.counts f, count-set (is_able f) conns slot now within);
         ends = at_ends ends;
@@ -133,7 +141,7 @@ module _ (conns : List Connection) (able : List Able) (free asleep : List ℕ) (
       let here = read_slot old read in
       let opens : now.is_open ≡ (in_slot conns slot).is_open = ap (λ x. x.is_open) is ∙ same_open ∙ ap (λ x. x.is_open) (sym here) in
       let can : (f : ℕ) → is_able f now ≡ is_able f (in_slot conns slot) = λ f. ap (is_able f) is ∙ same_able f ∙ ap (is_able f) (sym here) in
-      IsKept-set able free asleep (free_stays opens is_open) (asleep_stays (ap is_asleep is ∙ ap is_sleeping same_phase ∙ ap is_asleep (sym here)))
+      IsKept-set able free asleep (free_stays opens is_open) (asleep_stays (ap is_asleep (ap phase_of is ∙ same_phase ∙ ap phase_of (sym here))))
       (ables_stay can)
       (λ f. ap (λ b. (able_of able f).count + (if b then 1 else 0)) (sym (can f)))
       (stays_open opens is_open)
@@ -152,7 +160,7 @@ module _ (conns : List Connection) (able : List Able) (free asleep : List ℕ) (
         let at_f : able_of (set able f set_now) f ≡ set_now = get_or-set_same able f set_now (record { slots = []; count = 0 }) known in
         let off_f : (g : ℕ) → g ≢ f → able_of (set able f set_now) g ≡ able_of able g = λ g ne. get_or-set_other able f g set_now (record { slots = []; count = 0 }) ne in
         let was_f : able_of able f ≡ set_of = sym (read_set ∙ get_or_default able f set_of (record { slots = []; count = 0 }) known) in
-        IsKept-set (set able f set_now) free asleep (free_stays opens is_open) (asleep_stays (ap is_asleep is ∙ ap is_sleeping same_phase ∙ ap is_asleep (sym here)))
+        IsKept-set (set able f set_now) free asleep (free_stays opens is_open) (asleep_stays (ap is_asleep (ap phase_of is ∙ same_phase ∙ ap phase_of (sym here))))
         (λ g c. chosen (has (able_of (set able f set_now) g).slots c) (is_able g now) (has (able_of able g).slots c) c slot
         (λ e. elim (cases_eq g f) [
           | inl h ↦ (λ j. has (able_of (set able f set_now) (h j)).slots (e j)) ∙ ap (λ (a : Able). has a.slots slot) at_f ∙ slot_here ∙ sym (ap (is_able f) is) ∙ ap (λ k. is_able k now) (sym h)
@@ -203,14 +211,14 @@ module _ (conns : List Connection) (able : List Able) (free asleep : List ℕ) (
   -- the connection goes to sleep, or wakes
   pub IsKept-phase : (old changed : Connection) (asleep' : List ℕ) → now ≡ changed → old ≡ get_or conns slot old → IsTrue (in_slot conns slot).is_open
       → changed.is_open ≡ old.is_open → ((f : ℕ) → is_able f changed ≡ is_able f old)
-      → ((c : ℕ) → has asleep' c ≡ (if c == slot then is_asleep changed else has asleep c))
+      → ((c : ℕ) → has asleep' c ≡ (if c == slot then is_asleep changed.phase else has asleep c))
       → IsKept (set conns slot now) able free asleep'
   IsKept-phase old changed asleep' is read is_open same_open same_able sleeps =
       let here = read_slot old read in
       let opens : now.is_open ≡ (in_slot conns slot).is_open = ap (λ x. x.is_open) is ∙ same_open ∙ ap (λ x. x.is_open) (sym here) in
       let can : (f : ℕ) → is_able f now ≡ is_able f (in_slot conns slot) = λ f. ap (is_able f) is ∙ same_able f ∙ ap (is_able f) (sym here) in
       IsKept-set able free asleep' (free_stays opens is_open)
-      (λ c. sleeps c ∙ ap (λ b. if c == slot then b else has asleep c) (ap is_asleep (sym is)))
+      (λ c. sleeps c ∙ ap (λ b. if c == slot then b else has asleep c) (ap is_asleep (ap phase_of (sym is))))
       (ables_stay can)
       (λ f. ap (λ b. (able_of able f).count + (if b then 1 else 0)) (sym (can f)))
       (stays_open opens is_open)
@@ -223,7 +231,7 @@ module _ (conns : List Connection) (able : List Able) (free asleep : List ℕ) (
       let can : (f : ℕ) → is_able f now ≡ is_able f (in_slot conns slot) = λ f. ap (is_able f) is ∙ ap (is_able f) (sym was) in
       IsKept-set able free' asleep
       (λ c. frees c ∙ and_if (c == slot) (has free c) ∙ ap (λ b. if c == slot then b else has free c) (ap (λ x. not x.is_open) (sym is)))
-      (asleep_stays (ap is_asleep is ∙ ap is_asleep (sym was)))
+      (asleep_stays (ap is_asleep (ap phase_of is ∙ ap phase_of (sym was))))
       (ables_stay can)
       (λ f. ap (λ b. (able_of able f).count + (if b then 1 else 0)) (sym (can f)))
       (λ shut. absurd (false≢true (sym shut ∙ ap (λ (x : Connection). x.is_open) is)))
@@ -236,7 +244,7 @@ module _ (conns : List Connection) (able : List Able) (free asleep : List ℕ) (
       let can : (f : ℕ) → is_able f now ≡ is_able f (in_slot conns slot) = λ f. ap (is_able f) is ∙ ap (λ l. is_some (lookup (nat_eq f) l)) (sym idle) in
       IsKept-set able free' asleep'
       (λ c. frees c ∙ or_if (c == slot) (has free c) ∙ ap (λ b. if c == slot then b else has free c) (ap (λ x. not x.is_open) (sym is)))
-      (λ c. sleeps c ∙ and_if (c == slot) (has asleep c) ∙ ap (λ b. if c == slot then b else has asleep c) (ap is_asleep (sym is)))
+      (λ c. sleeps c ∙ and_if (c == slot) (has asleep c) ∙ ap (λ b. if c == slot then b else has asleep c) (ap is_asleep (ap phase_of (sym is))))
       (ables_stay can)
       (λ f. ap (λ b. (able_of able f).count + (if b then 1 else 0)) (sym (can f)))
       (λ shut. is)
@@ -274,7 +282,7 @@ pub IsKept-new : (conns : List Connection) (free asleep : List ℕ) → length c
 IsKept-new conns free asleep few none frees sleeps = record {
   few = few;
   frees = λ c. frees c ∙ and_true (nat_lt c (length conns)) ∙ (λ j. nat_lt c (length conns) && not (sym (none c) j).is_open);
-  sleepers = λ c. sleeps c ∙ ap is_asleep (sym (none c));
+  sleepers = λ c. sleeps c ∙ ap is_asleep (ap phase_of (sym (none c)));
   ables = λ f c. ap (λ b. b == 1) (bit_at-zero (c % 64)) ∙ ap (is_able f) (sym (none c));
   counts = λ f. sym (count-closed f conns none);
   ends = λ c _. none c;
@@ -287,18 +295,54 @@ passed : {A : Type 0} (x y : A) (b : Bool) → b ≡ false → (if b then x else
 passed x y b e = ap (λ t. if t then x else y) e
 
 -- what a change of a slot is to callers
-pub Changes-set : (conns : List Connection) (marks marks' : List ℕ) (slot : ℕ) (change : Connection → Connection) (told : Bool) (old now : Connection) → slot < length conns
-    → old ≡ get_or conns slot old → now ≡ change old → ((c : ℕ) → has marks' c ≡ ((told && (c == slot)) || has marks c))
-    → Changes slot change told (record { conns = conns; marks = marks }) (record { conns = set conns slot now; marks = marks' })
-Changes-set conns marks marks' slot change told old now within read is touched = record {
+pub Changes-set : (conns : List Connection) (touched touched' : List ℕ) (slot : ℕ) (change : Connection → Connection) (touches : Bool) (old now : Connection)
+    → slot < length conns
+    → old ≡ get_or conns slot old → now ≡ change old → ((c : ℕ) → has touched' c ≡ ((touches && (c == slot)) || has touched c))
+    → Changes slot change touches (record { conns = conns; touched = touched }) (record { conns = set conns slot now; touched = touched' })
+Changes-set conns touched touched' slot change touches old now within read is touch = record {
   slots = length-set conns slot now;
   conns = λ c.
       in_slot-set conns slot c now within
       ∙ sym (chosen (if c == slot then change (in_slot conns c) else in_slot conns c) now (in_slot conns c) c slot
       (λ e. taken (change (in_slot conns c)) (in_slot conns c) (c == slot) (ap (λ k. k == slot) e ∙ same_eq slot) ∙ ap (λ k. change (in_slot conns k)) e ∙ sym (is ∙ ap change (read ∙ get_or_default conns slot old closed within)))
       (λ ne. passed (change (in_slot conns c)) (in_slot conns c) (c == slot) (other_eq c slot ne)));
-  touched = touched;
+  touched = touch;
 }
+
+-- ---- an open slot of a table, as a call finds it
+
+module _ (t : Inside) (kept : IsKept t.conns.items t.able.items t.free t.asleep) {table : Table} (view : record { conns = t.conns.items; touched = t.touched } ≡ table)
+    (slot : ℕ) (opened : IsOpen table slot) where
+  pub open_inside : IsTrue (in_slot t.conns.items slot).is_open
+  open_inside = subst (λ (x : Table). IsOpen x slot) (sym view) opened
+
+  pub within_inside : slot < length t.conns.items
+  within_inside = open_within t.conns.items slot open_inside
+
+  module _ {old now changed : Connection} (is : now ≡ changed) (read : old ≡ get_or t.conns.items slot old) where
+    -- the connection stays open, as awake and as able as it was
+    pub keeps_same : changed.is_open ≡ old.is_open → changed.phase ≡ old.phase → ((f : ℕ) → is_able f changed ≡ is_able f old)
+        → IsKept (set t.conns.items slot now) t.able.items t.free t.asleep
+    keeps_same same_open same_phase same_able =
+        IsKept-same t.conns.items t.able.items t.free t.asleep kept slot within_inside now old changed is read open_inside same_open same_phase same_able
+
+    -- the connection can't do a function any more
+    pub loses_ability : changed.is_open ≡ old.is_open → changed.phase ≡ old.phase → (f : ℕ) (set_of set_now : Able) → set_of ≡ get_or t.able.items f set_of
+        → ((c : ℕ) → has set_now.slots c ≡ (not (c == slot) && has set_of.slots c)) → set_now.count + 1 ≡ set_of.count
+        → ((g : ℕ) → is_able g changed ≡ (not (g == f) && is_able g old)) → is_able f old ≡ true
+        → IsKept (set t.conns.items slot now) (set t.able.items f set_now) t.free t.asleep
+    loses_ability same_open same_phase f set_of set_now read_set slots count ables was =
+        let here = read_slot t.conns.items t.able.items t.free t.asleep kept slot within_inside now old read in
+        IsKept-loses t.conns.items t.able.items t.free t.asleep kept slot within_inside now old changed is read open_inside same_open same_phase f set_of set_now
+        (able_within t.able.items f slot (kept.ables f slot ∙ ap (is_able f) here ∙ was)) read_set slots count ables was
+
+  -- what the change is to callers
+  pub changes_slot : (change : Connection → Connection) (touches : Bool) {old now : Connection} {touched : List ℕ} → now ≡ change old → old ≡ get_or t.conns.items slot old
+      → ((c : ℕ) → has touched c ≡ ((touches && (c == slot)) || has t.touched c))
+      → Changes slot change touches table (record { conns = set t.conns.items slot now; touched = touched })
+  changes_slot change touches {old} {now} {touched} is read touch =
+      subst (λ (x : Table). Changes slot change touches x (record { conns = set t.conns.items slot now; touched = touched })) view
+      (Changes-set t.conns.items t.touched touched slot change touches old now within_inside read is touch)
 
 -- where the function isn't there, taking it out changes nothing
 pub stays_unable : (f : ℕ) (x : Connection) → is_able f x ≡ false → (g : ℕ) → (not (g == f) && is_able g x) ≡ is_able g x
@@ -327,14 +371,6 @@ count-push [] none empty (suc f) = refl
 count-push (x ∷ xs) none empty zero = refl
 count-push (x ∷ xs) none empty (suc f) = count-push xs none empty f
 
-once : (b : Bool) → (b && b) ≡ true → b ≡ true
-once true e = refl
-once false e = e
-
-none : (b : Bool) → (b && b) ≡ false → b ≡ false
-none true e = e
-none false e = refl
-
 below : (c n : ℕ) (b : Bool) → (nat_lt c n && b) ≡ true → c < n
 below c n b e = grind (arith, nat_tests)
 
@@ -353,19 +389,19 @@ opens false b e h = absurd (false≢true e)
 
 module _ (conns : List Connection) (able : List Able) (free asleep : List ℕ) (kept : IsKept conns able free asleep) where
   -- a slot that is free is one of the slots, and nobody is there
-  pub free_slot : (slot : ℕ) → (has free slot && has free slot) ≡ true → (slot < length conns) × (in_slot conns slot ≡ closed)
+  pub free_slot : (slot : ℕ) → has free slot ≡ true → (slot < length conns) × (in_slot conns slot ≡ closed)
   free_slot slot e =
-      let both : (nat_lt slot (length conns) && not (in_slot conns slot).is_open) ≡ true = sym (kept.frees slot) ∙ once (has free slot) e in
+      let both : (nat_lt slot (length conns) && not (in_slot conns slot).is_open) ≡ true = sym (kept.frees slot) ∙ e in
       (below slot (length conns) (not (in_slot conns slot).is_open) both, kept.ends slot (shut (nat_lt slot (length conns)) (in_slot conns slot).is_open both))
 
   -- and a slot that isn't free is open
-  pub taken_slot : (slot : ℕ) → slot < length conns → (has free slot && has free slot) ≡ false → IsTrue (in_slot conns slot).is_open
+  pub taken_slot : (slot : ℕ) → slot < length conns → has free slot ≡ false → IsTrue (in_slot conns slot).is_open
   taken_slot slot within e =
-      opens (nat_lt slot (length conns)) (in_slot conns slot).is_open (inside slot (length conns) within) (sym (kept.frees slot) ∙ none (has free slot) e)
+      opens (nat_lt slot (length conns)) (in_slot conns slot).is_open (inside slot (length conns) within) (sym (kept.frees slot) ∙ e)
 
 -- what a change makes of its slot
-pub changed_here : (slot : ℕ) (change : Connection → Connection) (told : Bool) (old new : Table) → Changes slot change told old new → conn new slot ≡ change (conn old slot)
-changed_here slot change told old new is = is.conns slot ∙ taken (change (conn old slot)) (conn old slot) (slot == slot) (same_eq slot)
+pub changed_here : (slot : ℕ) (change : Connection → Connection) (touches : Bool) (old new : Table) → Changes slot change touches old new → conn new slot ≡ change (conn old slot)
+changed_here slot change touches old new is = is.conns slot ∙ taken (change (conn old slot)) (conn old slot) (slot == slot) (same_eq slot)
 
 -- one change after another
 pub changes_twice : (slot : ℕ) (first second both : Connection → Connection) (old between new : Table) → Changes slot first false old between → Changes slot second true between new

@@ -1,13 +1,14 @@
 -- What the table of functions is to its callers.
-use Rattle.std.specs.Prelude.{◌≡◌, ℕ, ◌+◌, ◌*◌, ◌<◌, Bool, false, ◌&&◌, ◌==◌, if◌then◌else◌, List, [], ◌++◌, length, position, slice_index, slice_index_or, Option}
+use Rattle.std.specs.Prelude.{◌≡◌, ℕ, ◌+◌, ◌*◌, ◌<◌, ◌==◌, Bool, false, ◌&&◌, if◌then◌else◌, Option}
+use Rattle.std.specs.Prelude.{List, [], ◌++◌, length, position, slice_index, slice_index_or}
 use Rattle.std.specs.Str.{bytes_eq}
 use Rattle.gm_notes.specs.declared.states.Priority.{Priority}
 use Rattle.gm_notes.specs.declared.states.Priority.TheVariants.{High, Normal, Low}
 use Rattle.gm_notes.specs.Jobs.{same_priority}
 use Rattle.gm_queues.specs.Queues.{Queue, Leaves, no_jobs, idle}
 
--- The functions in the order of mention, at most so many; their limits; and their queues, three for each
--- function, as `queue` finds them.
+-- How many functions there may be; their names in the order of mention; their limits; and their queues, three for
+-- each function, as `queue` finds them.
 pub record Table : Type 0 where
   pub most : ℕ
   pub names : List (List ℕ)
@@ -19,7 +20,7 @@ rank High = 0
 rank Normal = 1
 rank Low = 2
 
--- no functions, of at most so many
+-- no functions, with this bound on their number
 abbrev pub no_functions : ℕ → Table
 no_functions most = record { most = most; names = []; limits = []; queues = [] }
 
@@ -39,13 +40,13 @@ queue table f p = slice_index_or table.queues (3 * f + rank p) no_jobs
 abbrev pub waiting_for : Table → ℕ → List ℕ
 waiting_for table f = (queue table f High).jobs ++ (queue table f Normal).jobs ++ (queue table f Low).jobs
 
--- how many places of a function no waiting job uses
+-- how much reserved room of a function no waiting job uses
 abbrev pub running_of : Table → ℕ → ℕ
 running_of table f = idle (queue table f High) + idle (queue table f Normal) + idle (queue table f Low)
 
--- a place is reserved that no waiting job uses
-abbrev pub HasPlace : Table → ℕ → Priority → Type 0
-HasPlace table f p = length (queue table f p).jobs < (queue table f p).places
+-- room is reserved that no waiting job uses
+abbrev pub HasIdleRoom : Table → ℕ → Priority → Type 0
+HasIdleRoom table f p = length (queue table f p).jobs < (queue table f p).reserved
 
 abbrev pub is_queue : ℕ → Priority → ℕ → Priority → Bool
 is_queue f p g q = f == g && same_priority p q
@@ -80,7 +81,7 @@ pub record ChangesNames (now : List (List ℕ)) (old new : Table) : Type 0 where
   pub limits : (g : ℕ) → limit new g ≡ limit old g
   pub queues : (g : ℕ) (q : Priority) → queue new g q ≡ queue old g q
 
--- The function's queues have no jobs and no places, and it has no limit.
+-- The function's queues have no jobs and no reserved room, and it has no limit.
 pub record IsFree (f : ℕ) (table : Table) : Type 0 where
   pub limit : limit table f ≡ 0
   pub queues : (q : Priority) → queue table f q ≡ no_jobs
