@@ -1,7 +1,28 @@
-mod Cutting
-pub mod OneReading
-mod Places
-mod Rests
-mod Steps
-mod Taking
-mod Unloading
+mod Running
+pub mod AddLemmas
+pub mod AssignLemmas
+pub mod CloseLemmas
+pub mod CommandLemmas
+pub mod ConnLemmas
+pub mod CoreLemmas
+pub mod CountLemmas
+pub mod EndLemmas
+pub mod FunctionLemmas
+pub mod GrabLemmas
+pub mod HandledLemmas
+pub mod JobLemmas
+pub mod LeaveLemmas
+pub mod ListLemmas
+pub mod MadeLemmas
+pub mod MentionLemmas
+pub mod OnceLemmas
+pub mod OpenLemmas
+pub mod OverLemmas
+pub mod PacketLemmas
+pub mod Ranges
+pub mod RisingLemmas
+pub mod StartLemmas
+pub mod TellLemmas
+pub mod TickLemmas
+pub mod WakeLemmas
+pub mod WorkLemmas

@@ -1,3 +1,6 @@
-pub mod Feeding
-pub mod Fronts
-pub mod Inputs
+pub mod Facts
+pub mod Holds
+pub mod Listings
+pub mod Telling
+pub mod Ticks
+pub mod NoMemory

@@ -1,15 +1,7 @@
-//! The front of a job server: what comes from outside, as bytes and openings, and the steps that the server takes
-//! of it.
-//!
-//! A front keeps a feeder for each open slot and hands the server what the bytes spell, whichever server it is and
-//! wherever the bytes are cut. `laws` holds what is true of all inputs.
+//! A job server that answers from tables: what was proved of the abstract server is true of it.
 #![tactic(auto)]
 
-mod connection;
-mod feeding;
-mod front;
-mod input;
-pub mod laws;
+mod server;
+mod telling;
 
-pub use front::Front;
-pub use input::{Input, StepError, Stepped};
+pub use server::Core;

@@ -1,0 +1,196 @@
+-- What workers say of their jobs.
+use Rattle.std.proofs.Common.{◌≡◌, ℕ, Bool, true, false, ◌&&◌, ◌==◌, if◌then◌else◌, List, [], ◌∷◌, filter, Option, Some, None}
+use Rattle.std.proofs.Common.{unwrap_or, codes, Result, Ok, Err, refl, sym, ap, subst, ◌∙◌}
+use Rattle.std.specs.Option.{option_map}
+use Rattle.std.specs.Prelude.{IsSome}
+use Rattle.std.specs.Result.{OnOk, OnErr}
+use Rattle.std.specs.declared.alloc.AllocError.{AllocError}
+use Rattle.std.proofs.lemmas.Bool.{false≢true}
+use Rattle.gm_packet.specs.Answers.{Answer, answer_packet}
+use Rattle.gm_notes.specs.declared.note.Note.{Note}
+use Rattle.gm_notes.specs.declared.note.Note.TheVariants.{Report}
+use Rattle.gm_notes.specs.Settings.{Settings}
+use Rattle.gm_notes.specs.Notes.{is_open, has_option, moment as moment_of, mode as mode_of}
+use Rattle.gm_notes.specs.Flow.{waiting}
+use Rattle.gm_notes.specs.Jobs.{job_state, listeners, report}
+use Rattle.gm_notes.specs.JobStates.{JobState, is_running_at, place_of}
+use Rattle.gm_notes.specs.JobStates as states
+use Rattle.gm_notes.specs.Past.{Past, with_note, refuse, tell_all}
+use Rattle.gm_notes.specs.Workers.{Work, hearers, keep_report, end_if, tell_work, work_on}
+use Rattle.gm_queues.specs.FunctionTables as queues
+use Rattle.gm_conns.specs.ConnTables.{conn}
+use Rattle.gm_conns.specs.ConnTables as conns
+use Rattle.gm_jobs.specs.Live.{Live, reported, place_at}
+use Rattle.gm_jobs.specs.Tables.{Table, job, place_or, listeners_of, Changes}
+use Rattle.gm_core.specs.declared.server.Core.{Core}
+use Rattle.gm_core.specs.Facts.{Seen, ConnFacts, conn_facts, function_facts, job_facts}
+use Rattle.gm_core.specs.Holds.{AllTouched, Goes, Does, AreOpen, HoldsConns, HoldsFunctions, HoldsJobs, IsJob}
+use Rattle.gm_core.specs.Telling.{Roomed, hears, poured, is_place_at, running_there, IsRunning}
+use Rattle.gm_core.proofs.TellLemmas.{touched_roomed, holds_roomed, poured_is, told_notes}
+use Rattle.gm_core.proofs.JobLemmas.{quietly, turned}
+use Rattle.gm_core.proofs.FunctionLemmas.{some_same}
+use Rattle.gm_core.proofs.OnceLemmas.{filter_alike}
+use Rattle.gm_core.proofs.CoreLemmas.{OnlyConns, goes_then, OnlyJobs, goes_jobs, goes_nothing}
+use Rattle.gm_core.proofs.Running.{running}
+
+-- ---- where it runs
+
+pub place_there : (c : ℕ) (at : JobState) → is_place_at c (place_of at) ≡ is_running_at c at
+place_there c states.Unmade = refl
+place_there c states.Waiting = refl
+place_there c (states.Running d) = refl
+place_there c states.Ended = refl
+place_there c states.Discarded = refl
+
+-- ---- reports
+
+reported_each : (names : List (List ℕ)) (notes : List Note) (is_open : ℕ → Bool) (n m : ℕ) (a b : List ℕ) (t : Bool) (l : Live) → (n == m) ≡ t → IsJob names l (job_facts notes) is_open m
+    → IsJob names (if t then reported a b l else l) (job_facts (Report n a b ∷ notes)) is_open m
+reported_each names notes is_open n m a b true l e is =
+    record { function = is.function; job = is.job; job_state = is.job_state; kept = is.kept; listeners = is.listeners; report = said (m == n) (turned n m true e); deadline = is.deadline; heard = is.heard }
+  where
+    said : (s : Bool) → s ≡ true → unwrap_or (if s then Some (a, b) else None) (report m notes) ≡ (a, b)
+    said true e = refl
+    said false e = absurd (false≢true e)
+reported_each names notes is_open n m a b false l e is =
+    record { function = is.function; job = is.job; job_state = is.job_state; kept = is.kept; listeners = is.listeners; report = said (m == n) (turned n m false e); deadline = is.deadline; heard = is.heard }
+  where
+    said : (s : Bool) → s ≡ false → unwrap_or (if s then Some (a, b) else None) (report m notes) ≡ unwrap_or l.report (codes "0", codes "0")
+    said false e = is.report
+    said true e = absurd (false≢true (sym e))
+
+jobs_reported : {k : Settings} {functions : queues.Table} {old new : Table} {is_open : ℕ → Bool} (notes : List Note) (n : ℕ) (a b : List ℕ) → Changes n (reported a b) old new
+    → HoldsJobs k functions old is_open (job_facts notes) → HoldsJobs k functions new is_open (job_facts (Report n a b ∷ notes))
+jobs_reported {k} {functions} {old} {new} {is_open} notes n a b changes holds =
+    quietly {facts = job_facts notes} {now = job_facts (Report n a b ∷ notes)} n (reported a b) changes (λ l. refl) refl refl refl refl
+    (λ m l is. reported_each functions.names notes is_open n m a b (n == m) l refl is) holds
+
+pub does_report : (old new : Core) (n : ℕ) (a b : List ℕ) (result : Result (Unit {0}) AllocError) → OnlyJobs old new
+    → OnOk result (Changes n (reported a b) old.jobs new.jobs) → OnErr result (new.jobs ≡ old.jobs) → Does old result new (with_note (Report n a b))
+does_report old new n a b (Ok done) only ok err =
+    goes_jobs old new (with_note (Report n a b)) only
+    (λ p keeps. record { conns = keeps.conns; functions = keeps.functions; jobs = jobs_reported p.notes n a b ok keeps.jobs; moment = keeps.moment; mode = keeps.mode })
+does_report old new n a b (Err wanting) only ok err = goes_nothing only.config only.conns only.functions err only.moment only.mode
+
+-- a report changes no listeners
+pub reported_listeners : (old new : Table) (n : ℕ) (a b : List ℕ) (result : Result (Unit {0}) AllocError) → OnOk result (Changes n (reported a b) old new) → OnErr result (new ≡ old)
+    → listeners_of (job new n) ≡ listeners_of (job old n)
+reported_listeners old new n a b (Ok done) ok err = ap listeners_of (ok.jobs n) ∙ by (n == n) (job old n)
+  where
+    by : (t : Bool) (o : Option Live) → listeners_of (if t then option_map (reported a b) o else o) ≡ listeners_of o
+    by true None = refl
+    by true (Some l) = refl
+    by false o = refl
+reported_listeners old new n a b (Err wanting) ok err = ap (λ (t : Table). listeners_of (job t n)) err
+
+-- ---- who hears
+
+module _ (k : Settings) (table : conns.Table) (names : List (List ℕ)) (notes : List Note) (w : ℕ → List ℕ) (holds : HoldsConns k table names (conn_facts notes) w) where
+  hears_all : (c : ℕ) → is_open c notes ≡ true → hears table false c ≡ true
+  hears_all c opened = let is = holds.opens c ∙ opened in rw is refl
+
+  all_hear : (slots : List ℕ) → AreOpen (λ c. is_open c notes) slots → filter (hears table false) slots ≡ slots
+  all_hear [] opened = refl
+  all_hear (c ∷ slots) opened = let here = hears_all c opened.0 in rw here (ap (λ (l : List ℕ). c ∷ l) (all_hear slots opened.1))
+
+  hears_some : (c : ℕ) → hears table true c ≡ (is_open c notes && has_option c notes)
+  hears_some c = by (is_open c notes) refl
+    where
+      by : (t : Bool) → is_open c notes ≡ t → hears table true c ≡ (t && has_option c notes)
+      by true e =
+          let is = holds.opens c ∙ e in
+          let option = ap (λ (s : Seen). s.has_option) (holds.seen c e) in
+          rw (is, option) refl
+      by false e = let is = holds.opens c ∙ e in rw is refl
+
+  pub hearers_are : (exceptions_only : Bool) (slots : List ℕ) → AreOpen (λ c. is_open c notes) slots → filter (hears table exceptions_only) slots ≡ hearers exceptions_only slots notes
+  hearers_are true slots opened = filter_alike (hears table true) (λ c. is_open c notes && has_option c notes) slots hears_some
+  hearers_are false slots opened = all_hear slots opened
+
+-- ---- jobs that run
+
+pub runs_from : (c : ℕ) (o : Option Live) (made : Bool) → is_place_at c (place_or o made) ≡ true → IsRunning o
+runs_from c None true e = absurd (false≢true e)
+runs_from c None false e = absurd (false≢true e)
+runs_from c (Some l) made e = by l.slot e
+  where
+    by : (s : Option ℕ) → is_place_at c (place_at s) ≡ true → IsSome s
+    by None e = absurd (false≢true e)
+    by (Some d) e = refl
+
+pub reported_runs : (old new : Table) (n : ℕ) (a b : List ℕ) (result : Result (Unit {0}) AllocError) → OnOk result (Changes n (reported a b) old new) → OnErr result (new ≡ old)
+    → IsRunning (job old n) → IsRunning (job new n)
+reported_runs old new n a b (Ok done) ok err runs = subst IsRunning (sym (ok.jobs n)) (by (n == n) (job old n) runs)
+  where
+    by : (t : Bool) (o : Option Live) → IsRunning o → IsRunning (if t then option_map (reported a b) o else o)
+    by true (Some l) runs = runs
+    by true None runs = runs
+    by false o runs = runs
+reported_runs old new n a b (Err wanting) ok err runs = subst (λ (t : Table). IsRunning (job t n)) (sym err) runs
+
+-- ---- what is said
+
+-- a report that is kept changes nothing of who hears
+pub told_after : (ends : Bool) (n : ℕ) (answer : Answer) (exceptions_only : Bool) (told : Option (List ℕ × List ℕ)) (p : Past)
+    → end_if ends n (tell_all answer (hearers exceptions_only (listeners n (keep_report n told p).notes) (keep_report n told p).notes) (keep_report n told p))
+    ≡ end_if ends n (tell_all answer (hearers exceptions_only (listeners n p.notes) p.notes) (keep_report n told p))
+told_after ends n answer true None p = refl
+told_after ends n answer false None p = refl
+told_after ends n answer true (Some numbers) p = refl
+told_after ends n answer false (Some numbers) p = refl
+
+pub works_there : (c : ℕ) (w : Work) (n : ℕ) (o : Option ℕ) (p : Past) → Some n ≡ running_there c o p.notes → tell_work w n p ≡ work_on c w o p
+works_there c w n None p e = absurd cc
+works_there c w n (Some m) p e = by (is_running_at c (job_state m p.notes)) e
+  where
+    by : (t : Bool) → Some n ≡ (if t then Some m else None) → tell_work w n p ≡ (if t then tell_work w m p else refuse c (codes "job_not_found") p)
+    by true e = ap (λ (x : ℕ). tell_work w x p) (some_same n m e)
+    by false e = absurd cc
+
+pub works_nowhere : (c : ℕ) (w : Work) (o : Option ℕ) (p : Past) → (let none : Option ℕ = None in none) ≡ running_there c o p.notes → refuse c (codes "job_not_found") p ≡ work_on c w o p
+works_nowhere c w None p e = refl
+works_nowhere c w (Some m) p e = by (is_running_at c (job_state m p.notes)) e
+  where
+    by : (t : Bool) → (let none : Option ℕ = None in none) ≡ (if t then Some m else None) → refuse c (codes "job_not_found") p ≡ (if t then tell_work w m p else refuse c (codes "job_not_found") p)
+    by true e = absurd cc
+    by false e = refl
+
+-- room is nothing that the past tells of
+pub goes_with_room : {old new : Core} → OnlyConns old new → Roomed old.conns new.conns → Goes old new (λ past. past)
+goes_with_room {old} {new} only roomed =
+    goes_then {a = old} {b = record old { conns = new.conns }}
+    (record {
+      config = refl;
+      others = touched_roomed roomed;
+      past = λ p keeps. record { conns = holds_roomed roomed keeps.conns; functions = keeps.functions; jobs = keeps.jobs; moment = keeps.moment; mode = keeps.mode };
+    })
+    (goes_nothing {a = record old { conns = new.conns }} {b = new} only.config refl only.functions only.jobs only.moment only.mode)
+
+-- what is told to those who listen to a job that runs is told in the past
+pub told_goes : (old : Core) (told : conns.Table) (n : ℕ) (e : Bool) (text slots : List ℕ) → IsRunning (job old.jobs n) → slots ≡ listeners_of (job old.jobs n) → AllTouched old.conns told
+    → ((k : Settings) (names : List (List ℕ)) (facts : ConnFacts) (bytes : ℕ → List ℕ) → HoldsConns k old.conns names facts bytes
+    → HoldsConns k told names facts (poured text (filter (hears old.conns e) slots) bytes))
+    → (answer : Answer) → text ≡ answer_packet answer → Goes old (record old { conns = told }) (λ past. tell_all answer (hearers e (listeners n past.notes) past.notes) past)
+told_goes old told n e text slots runs listening touched pours answer is_text = record {
+  config = refl;
+  others = touched;
+  past = λ p keeps.
+      let it = running old.jobs n runs in
+      let is = keeps.jobs.live n it.live it.at in
+      let heard = hearers e (listeners n p.notes) p.notes in
+      let who : filter (hears old.conns e) slots ≡ heard =
+      ap (filter (hears old.conns e)) (listening ∙ ap listeners_of it.at)
+      ∙ (hearers_are old.config old.conns old.functions.names p.notes (λ d. waiting d p.flow) keeps.conns e it.live.listeners is.heard
+      ∙ ap (λ (l : List ℕ). hearers e l p.notes) (sym is.listeners)) in
+      let notes : (tell_all answer heard p).notes ≡ p.notes = told_notes answer heard p in
+      let held = subst (λ (w : ℕ → List ℕ). HoldsConns old.config told old.functions.names (conn_facts p.notes) w)
+      ((λ i. poured (is_text i) (who i) (λ d. waiting d p.flow)) ∙ poured_is answer heard p)
+      (pours old.config old.functions.names (conn_facts p.notes) (λ d. waiting d p.flow) keeps.conns) in
+      record {
+        conns = subst (λ (l : List Note). HoldsConns old.config told old.functions.names (conn_facts l) (λ d. waiting d (tell_all answer heard p).flow)) (sym notes) held;
+        functions = subst (λ (l : List Note). HoldsFunctions old.config old.functions (function_facts l)) (sym notes) keeps.functions;
+        jobs = subst (λ (l : List Note). HoldsJobs old.config old.functions old.jobs (conn_facts l).is_open (job_facts l)) (sym notes) keeps.jobs;
+        moment = keeps.moment ∙ ap moment_of (sym notes);
+        mode = keeps.mode ∙ ap mode_of (sym notes);
+      };
+}

@@ -1,5 +1,0 @@
-use Rattle.gm_laws.proofs.ByteLaws.{run_sent}
-use Rattle.gm_core.proofs.laws.bytes_queued.Goals as goal
-
-pub returns : goal.returns
-returns c k limits inputs reading slot reads = run_sent k reading.steps slot

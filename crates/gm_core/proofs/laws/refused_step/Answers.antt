@@ -1,5 +1,0 @@
-use Rattle.gm_core.proofs.OneReading.{refused_step}
-use Rattle.gm_core.proofs.laws.refused_step.Goals as goal
-
-pub returns : goal.returns
-returns c = refused_step

@@ -1,0 +1,32 @@
+use Rattle.std.proofs.Common.{◌≡◌, ◌≢◌, length, refl, sym, subst, ◌∙◌, take, ◌-◌}
+use Rattle.gm_queues.specs.FunctionTables.{Table, number_of, IsFree, ChangesNames}
+use Rattle.gm_core.proofs.FunctionLemmas.{is_none_of, some_same}
+use Rattle.gm_core.proofs.MentionLemmas.{taken_back, number_here}
+use Rattle.gm_core.proofs.CoreLemmas.{goes_then, goes_mention, goes_back}
+use Rattle.gm_core.proofs.AddLemmas.{goes_undone}
+use Rattle.gm_core.proofs.server.Core.add_with_new_function.Goals as goal
+
+pub returns-then-is_some-clause-wanting : goal.returns-then-is_some-clause-wanting
+returns-then-is_some-clause-wanting c =
+    let name = c.args.asked.now.function.now in
+    let table = c.args.self.now.functions in
+    goes_back c.args.self.now _ (record { config = refl; conns = refl; jobs = refl; moment = refl; mode = refl }) (taken_back table c.mention.new.self c.unmention.new.self name (c.in-Ok.ensures.fresh (is_none_of (number_of name table) c.requires.new)) c.unmention.ensures)
+
+pub returns-in-Ok-add-clause-goes : goal.returns-in-Ok-add-clause-goes
+returns-in-Ok-add-clause-goes c =
+    let name = c.args.asked.now.function.now in
+    let table = c.args.self.now.functions in
+    let none = is_none_of (number_of name table) c.requires.new in
+    let room : length table.names ≢ table.most = λ e. (let wrong = c.in-Ok.ensures.full.1 (none, e) in cc) in
+    let here : c.in-Ok.f ≡ length table.names = some_same c.in-Ok.f (length table.names) (sym c.in-Ok.ensures.found ∙ number_here table c.mention.new.self name c.requires.new (c.in-Ok.ensures.fresh none)) in
+    let free = subst (λ f. IsFree f c.mention.new.self) here (c.in-Ok.ensures.free none) in
+    goes_then (goes_mention c.args.self.now (record c.args.self.now { functions = c.mention.new.self }) name (record { config = refl; conns = refl; jobs = refl; moment = refl; mode = refl }) c.requires.new (c.in-Ok.ensures.fresh none) free room) c.in-Ok-add.ensures.does
+
+pub returns-in-Err-clause-wanting : goal.returns-in-Err-clause-wanting
+returns-in-Err-clause-wanting c =
+    let name = c.args.asked.now.function.now in
+    let table = c.args.self.now.functions in
+    let back = subst (λ (t : Table). ChangesNames (take (length t.names - 1) t.names) t c.unmention-in-Err.new.self) c.in-Err.ensures.err c.unmention-in-Err.ensures in
+    goes_undone c.args.self.now _ c.in-Err.ensures.config c.in-Err.ensures.conns
+    (taken_back table c.mention.new.self c.unmention-in-Err.new.self name (c.in-Ok.ensures.fresh (is_none_of (number_of name table) c.requires.new)) back)
+    c.in-Err.ensures.roomed c.in-Err.ensures.moment c.in-Err.ensures.mode

@@ -1,0 +1,24 @@
+use Rattle.std.proofs.Common.{◌≡◌, ◌≤◌, ◌^◌, None, refl, sym, ap, subst, ◌∙◌}
+use Rattle.gm_notes.specs.declared.states.Mode.TheVariants.{Running}
+use Rattle.gm_notes.specs.Settings.{Settings, config_fault}
+use Rattle.gm_notes.specs.Past.{nothing}
+use Rattle.gm_queues.specs.FunctionTables as queues
+use Rattle.gm_queues.specs.FunctionTables.{no_functions}
+use Rattle.gm_jobs.specs.Tables as jobs
+use Rattle.gm_jobs.specs.Tables.{no_jobs}
+use Rattle.gm_core.specs.Holds.{Holds}
+use Rattle.gm_core.proofs.StartLemmas.{holds_nothing, begins_above}
+use Rattle.gm_core.proofs.server.Core.new.Goals as goal
+
+pub returns : goal.returns
+returns c =
+    let k = c.args.config in
+    let functions = c.in_ok-functions.ensures ∙ ap no_functions c.max_functions.ensures.value in
+    let live = c.in_ok-jobs.ensures ∙ ap no_jobs c.first_job.ensures.value in
+    let held = holds_nothing k c.in_ok-conns.conns (c.in_ok-conns.ensures.slots ∙ c.slots.ensures.value) c.in_ok-conns.ensures.closed (subst (λ n. n ≤ 2 ^ 64) c.first_job.ensures.value c.first_job.ensures.fits)
+    (begins_above k (subst (λ (x : Settings). config_fault x ≡ None) c.config.view_is c.config.invariant)) in
+    record {
+      settings = refl;
+      past = subst (λ (q : queues.Table). Holds k c.in_ok-conns.conns q c.in_ok-jobs.jobs 0 Running nothing) (sym functions)
+          (subst (λ (j : jobs.Table). Holds k c.in_ok-conns.conns (no_functions k.max_functions) j 0 Running nothing) (sym live) held);
+    }

@@ -1,0 +1,12 @@
+use Rattle.std.proofs.Common.{◌≡◌, true, refl, sym, ◌∙◌}
+use Rattle.gm_notes.specs.Notes.{takes_units}
+use Rattle.gm_notes.specs.Lines.{shut_one}
+use Rattle.gm_core.proofs.CoreLemmas.{goes_as, goes_shut}
+use Rattle.gm_core.proofs.server.Core.shut_one.Goals as goal
+
+pub returns-then-takes_units : goal.returns-then-takes_units
+returns-then-takes_units c =
+    goes_as (shut_one c.args.slot) (goes_shut c.args.slot (record { config = refl; functions = refl; jobs = refl; moment = refl; mode = refl }) c.shut_down.ensures)
+    (λ p keeps.
+    let takes : takes_units c.args.slot p.notes ≡ true = sym (c.takes_units.ensures.value p keeps) ∙ c.if-takes_units.true in
+    rw takes refl)

@@ -1,0 +1,73 @@
+use Rattle.std.proofs.Common.{◌≡◌, ◌+◌, ◌≤◌, ◌==◌, ◌++◌, ℕ, true, false, if◌then◌else◌, List, length, drop, filter, get_or}
+use Rattle.std.proofs.Common.{sym, ap, subst, ◌∙◌, arith}
+use Rattle.std.proofs.Math.ListN.{drop_of_length-le}
+use Rattle.gm_conns.specs.ConnTables.{conn}
+use Rattle.gm_core.specs.Holds.{HoldsConns}
+use Rattle.gm_core.specs.Telling.{hears, poured, needed}
+use Rattle.gm_core.proofs.ConnLemmas.{touched_then, touched_told}
+use Rattle.gm_core.proofs.TellLemmas.{put_hears, put_room, put_left, put_holds, heard_next, unheard_next}
+use Rattle.gm_core.proofs.telling.put_each.Goals as goal
+use Rattle.gm_core.proofs.telling.put_each.Goals.{then-hears, else-hears}
+
+pub loop-slot-preserved : goal.loop-slot-preserved
+loop-slot-preserved c =
+    let i = c.loop-slot.slot-index in
+    let slots = c.args.slots.now in
+    let e = c.args.exceptions_only in
+    let text = c.args.text.now in
+    let x = get_or slots i 0 in
+    let P = hears c.args.conns.now e in
+    elim c.if-hears.branch [
+      | then-hears w ↦
+          let heard : P x ≡ true = sym (c.loop-slot.invariant.hear e x) ∙ (sym c.hears.ensures.value ∙ w.if-hears.true) in
+          let next = heard_next P slots i c.loop-slot-test.true heard in
+          rw w.conns-is (record {
+            hear = λ b d. put_hears c.loop-slot.conns w.put_out.new.self x text w.put_out.ensures b d ∙ c.loop-slot.invariant.hear b d;
+            room = put_room c.loop-slot.conns w.put_out.new.self x text w.put_out.ensures (filter P (drop (i + 1) slots))
+                (λ d. subst (λ (l : List ℕ). needed (length text) d l ≤ (conn c.loop-slot.conns d).room) next (c.loop-slot.invariant.room d));
+            touched = touched_then c.loop-slot.invariant.touched (touched_told x w.put_out.ensures);
+            left = put_left c.loop-slot.conns w.put_out.new.self x text w.put_out.ensures (filter P (drop (i + 1) slots)) (λ d. (conn c.args.conns.now d).room) (λ d. needed (length text) d (filter P slots))
+                (λ d. subst (λ (l : List ℕ). needed (length text) d l ≤ (conn c.loop-slot.conns d).room) next (c.loop-slot.invariant.room d))
+                (λ d. subst (λ (l : List ℕ). (conn c.args.conns.now d).room + needed (length text) d l ≤ (conn c.loop-slot.conns d).room + needed (length text) d (filter P slots)) next (c.loop-slot.invariant.left d));
+            holds = λ k names facts bytes held.
+                let was = c.loop-slot.invariant.holds k names facts bytes held in
+                record {
+                  now = λ d. if d == x then was.now d ++ text else was.now d;
+                  holds = put_holds c.loop-slot.conns w.put_out.new.self x text w.put_out.ensures was.holds;
+                  leads = was.leads ∙ ap (λ (l : List ℕ). poured text l was.now) next;
+                };
+          })
+      | else-hears w ↦
+          let deaf : P x ≡ false = sym (c.loop-slot.invariant.hear e x) ∙ (sym c.hears.ensures.value ∙ w.if-hears.false) in
+          let next = unheard_next P slots i c.loop-slot-test.true deaf in
+          rw w.conns-is (record {
+            hear = c.loop-slot.invariant.hear;
+            room = λ d. subst (λ (l : List ℕ). needed (length text) d l ≤ (conn c.loop-slot.conns d).room) next (c.loop-slot.invariant.room d);
+            touched = c.loop-slot.invariant.touched;
+            left = λ d. subst (λ (l : List ℕ). (conn c.args.conns.now d).room + needed (length text) d l ≤ (conn c.loop-slot.conns d).room + needed (length text) d (filter P slots)) next (c.loop-slot.invariant.left d);
+            holds = λ k names facts bytes held.
+                let was = c.loop-slot.invariant.holds k names facts bytes held in
+                record { now = was.now; holds = was.holds; leads = was.leads ∙ ap (λ (l : List ℕ). poured text l was.now) next };
+          })
+    ]
+
+pub returns-clause-holds : goal.returns-clause-holds
+returns-clause-holds c k names facts bytes held =
+    let was = c.loop-slot.invariant.holds k names facts bytes held in
+    let P = hears c.args.conns.now c.args.exceptions_only in
+    let ends = ap (filter P) (drop_of_length-le c.args.slots.now (let over = c.loop-slot-test.false in omega (arith, over))) in
+    subst (HoldsConns k c.loop-slot.conns names facts) (sym (was.leads ∙ ap (λ (l : List ℕ). poured c.args.text.now l was.now) ends)) was.holds
+
+pub returns-clause-poured : goal.returns-clause-poured
+returns-clause-poured c =
+    let P = hears c.args.conns.now c.args.exceptions_only in
+    let text = c.args.text.now in
+    let slots = c.args.slots.now in
+    let ends = ap (filter P) (drop_of_length-le slots (let over = c.loop-slot-test.false in omega (arith, over))) in
+    record {
+      hear = c.loop-slot.invariant.hear;
+      touched = c.loop-slot.invariant.touched;
+      room = λ d.
+          let left = subst (λ (l : List ℕ). (conn c.args.conns.now d).room + needed (length text) d l ≤ (conn c.loop-slot.conns d).room + needed (length text) d (filter P slots)) ends (c.loop-slot.invariant.left d) in
+          omega (arith, left);
+    }

@@ -1,0 +1,56 @@
+-- What is told to several connections at once.
+use Rattle.std.specs.Prelude.{◌≡◌, ℕ, ◌+◌, ◌≤◌, Bool, not, ◌&&◌, ◌||◌, ◌==◌, if◌then◌else◌, List, [], ◌∷◌, ◌++◌, length, false}
+use Rattle.std.specs.Prelude.{Option, Some, None}
+use Rattle.gm_notes.specs.declared.states.Place.{Place}
+use Rattle.gm_notes.specs.declared.states.Place.TheVariants.{Unmade, Waiting, Running, Gone}
+use Rattle.gm_notes.specs.declared.note.Note.{Note}
+use Rattle.gm_notes.specs.Jobs.{job_state}
+use Rattle.gm_notes.specs.JobStates.{is_running_at}
+use Rattle.std.specs.Prelude.{IsSome}
+use Rattle.gm_jobs.specs.Live.{Live}
+use Rattle.gm_conns.specs.ConnTables.{Table, conn, is_touched}
+use Rattle.gm_core.specs.Holds.{AllTouched}
+
+-- whether slot c hears: it is open, and wants exceptions where only those who do hear
+abbrev pub hears : Table → Bool → ℕ → Bool
+hears table exceptions_only c = (conn table c).is_open && (not exceptions_only || (conn table c).has_option)
+
+-- the bytes that wait, after this text came for each of these slots, once for each time that it stands there
+abbrev pub poured : List ℕ → List ℕ → (ℕ → List ℕ) → ℕ → List ℕ
+poured text [] bytes = bytes
+poured text (c ∷ slots) bytes = poured text slots (λ d. if d == c then bytes d ++ text else bytes d)
+
+-- so many bytes for each time that slot c stands there
+abbrev pub needed : ℕ → ℕ → List ℕ → ℕ
+needed count c [] = 0
+needed count c (d ∷ slots) = if d == c then count + needed count c slots else needed count c slots
+
+-- only room was reserved
+pub record Roomed (old new : Table) : Type 0 where
+  pub slots : length new.conns ≡ length old.conns
+  pub conns : (c : ℕ) → conn new c ≡ record (conn old c) { room = (conn new c).room }
+  pub more : (c : ℕ) → (conn old c).room ≤ (conn new c).room
+  pub touched : (c : ℕ) → is_touched new c ≡ is_touched old c
+
+-- so many bytes came for each of these slots, once for each time that it stands there, into room that was reserved
+pub record Poured (count : ℕ) (slots : List ℕ) (old new : Table) : Type 0 where
+  pub hear : (exceptions_only : Bool) (c : ℕ) → hears new exceptions_only c ≡ hears old exceptions_only c
+  pub room : (c : ℕ) → (conn old c).room ≤ (conn new c).room + needed count c slots
+  pub touched : AllTouched old new
+
+-- a job of this place runs at slot c
+abbrev pub is_place_at : ℕ → Place → Bool
+is_place_at c Unmade = false
+is_place_at c Waiting = false
+is_place_at c (Running d) = c == d
+is_place_at c Gone = false
+
+-- the job, if it runs at slot c
+abbrev pub running_there : ℕ → Option ℕ → List Note → Option ℕ
+running_there c None notes = None
+running_there c (Some n) notes = if is_running_at c (job_state n notes) then Some n else None
+
+-- a live job that runs
+abbrev pub IsRunning : Option Live → Type 0
+IsRunning None = ⊥
+IsRunning (Some live) = IsSome live.slot

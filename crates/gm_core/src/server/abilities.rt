@@ -1,0 +1,157 @@
+//! What workers can do, how they sleep, and the job that each gets.
+
+ghost use Rattle.std.specs.Prelude.{◌≡◌, ◌<◌, ◌≤◌, false, Some, None, IfSome, length, slice_get};
+ghost use Rattle.std.specs.Option.{option_map};
+ghost use Rattle.gm_conns.specs.ConnTables.{IsOpen};
+ghost use Rattle.gm_queues.specs.FunctionTables.{number_of, waiting_for};
+ghost use Rattle.gm_notes.specs.Jobs.{pick};
+ghost use Rattle.gm_notes.specs.Past.{Past, with_note};
+ghost use Rattle.gm_notes.specs.Workers.{can_do, cant_do, pre_sleep};
+ghost use Rattle.gm_notes.specs.Submissions.{is_bad_name};
+ghost use Rattle.gm_notes.specs.declared.note.Note.TheVariants.{Reset};
+ghost use Rattle.gm_core.specs.Holds.{name_at, wake_if_waiting};
+ghost use Rattle.gm_core.specs.declared.server.abilities.Choice.{Choice};
+
+use super::Core;
+use gm_actions::Refusal;
+use gm_notes::{Phase, Pick};
+use gm_queues::{Functions, MentionError};
+use std::alloc::AllocError;
+
+/// A job that is to be given out, and its function.
+#[derive(Clone, Copy, Debug)]
+pub(super) struct Choice {
+    pub(super) pick: Pick,
+    pub(super) function: u32,
+}
+
+impl Core {
+    ghost use Rattle.gm_core.specs.Holds.{Keeps, Goes, Does};
+
+    /// The first job of a function, if there is such a function.
+    fn first_for(&mut self, f: u32) -> Option<u64>
+        ensures value { f < length self.old.functions.names → result ≡ slice_get (waiting_for self.old.functions f) 0 }
+        ensures within { IfSome result (λ job. f < length self.old.functions.names) }
+        ensures kept { self.new ≡ self.old }
+    {
+        if f < self.functions.len() {
+            self.functions.first(f)
+        } else {
+            None
+        }
+    }
+
+    /// The job that a grab of a slot gets.
+    pub(super) fn pick(&mut self, slot: u32) -> Option<Choice>
+        requires { IsOpen self.old.conns slot }
+        ensures value { (past : Past) → Keeps self.old past → option_map (λ (found : Choice). found.pick) result ≡ pick self.old.config slot past.notes }
+        ensures first { IfSome result (λ found. slice_get (waiting_for self.old.functions found.function) 0 ≡ Some found.pick.job) }
+        ensures within { IfSome result (λ found. found.function < length self.old.functions.names) }
+        ensures kept { self.new ≡ self.old }
+    {
+        for i in 0..self.conns.abilities_len(slot) {
+            let (function, timeout) = self.conns.able(slot, i)?;
+            if let Some(job) = self.first_for(function) {
+                return Some(Choice {
+                    pick: Pick { job, timeout },
+                    function,
+                });
+            }
+        }
+        None
+    }
+
+    /// The worker in a slot wants to sleep; beside work it is woken at once.
+    pub(super) fn pre_sleep(&mut self, slot: u32)
+        requires { IsOpen self.old.conns slot }
+        ensures { Goes self.old self.new (pre_sleep self.old.config slot) }
+    {
+        if !self.conns.phase(slot).is_awake() {
+            return;
+        }
+        let beside = self.pick(slot).is_some();
+        self.conns.set_phase(slot, Phase::Asleep);
+        if beside {
+            self.conns.set_phase(slot, Phase::Owed);
+        }
+    }
+
+    /// The worker in a slot can do nothing any longer.
+    pub(super) fn reset(&mut self, slot: u32)
+        requires { IsOpen self.old.conns slot }
+        ensures { Goes self.old self.new (with_note (Reset slot)) }
+    {
+        self.conns.reset(slot);
+    }
+
+    /// The worker in a slot can do a function.
+    pub(super) fn can_do(
+        &mut self,
+        slot: u32,
+        function: &[u8],
+        timeout: u32,
+    ) -> Result<(), AllocError>
+        requires open { IsOpen self.old.conns slot }
+        requires named { is_bad_name function.now ≡ false }
+        ensures { Does self.old result self.new (can_do self.old.config slot function.now timeout) }
+    {
+        match self.functions.find(function) {
+            Some(f) => {
+                self.conns.can_do(slot, f, timeout)?;
+                self.wake_at_once(slot, f);
+                Ok(())
+            }
+            None => self.can_do_new_function(slot, function, timeout),
+        }
+    }
+
+    /// The worker in a slot can do a function that wasn't mentioned yet, so that no job waits for it.
+    fn can_do_new_function(
+        &mut self,
+        slot: u32,
+        function: &[u8],
+        timeout: u32,
+    ) -> Result<(), AllocError>
+        requires open { IsOpen self.old.conns slot }
+        requires named { is_bad_name function.now ≡ false }
+        requires new { number_of function.now self.old.functions ≡ None }
+        ensures { Does self.old result self.new (can_do self.old.config slot function.now timeout) }
+    {
+        match self.functions.mention(function) {
+            Ok(f) => match self.conns.can_do(slot, f, timeout) {
+                Ok(()) => Ok(()),
+                Err(wanting) => {
+                    self.functions.unmention();
+                    Err(wanting)
+                }
+            },
+            Err(MentionError::TooManyFunctions) => self.refuse(slot, Refusal::TooManyFunctions),
+            Err(MentionError::Memory) => Err(AllocError),
+        }
+    }
+
+    /// A sleeping worker is owed a NOOP if a job of this function waits.
+    fn wake_at_once(&mut self, slot: u32, f: u32)
+        requires open { IsOpen self.old.conns slot }
+        requires within { f < length self.old.functions.names }
+        ensures { Goes self.old self.new (wake_if_waiting slot (name_at self.old.functions.names f)) }
+    {
+        if !self.conns.phase(slot).is_asleep() {
+            return;
+        }
+        if self.first_for(f).is_some() {
+            self.conns.set_phase(slot, Phase::Owed);
+        }
+    }
+
+    /// The worker in a slot can't do a function any longer.
+    pub(super) fn cant_do(&mut self, slot: u32, function: &[u8])
+        requires open { IsOpen self.old.conns slot }
+        requires named { is_bad_name function.now ≡ false }
+        ensures { Goes self.old self.new (cant_do slot function.now) }
+    {
+        if let Some(f) = self.functions.find(function) {
+            self.conns.cant_do(slot, f);
+        }
+    }
+}

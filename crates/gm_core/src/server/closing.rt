@@ -1,0 +1,133 @@
+//! Connections that go, and jobs that wait again or are discarded.
+
+ghost use Rattle.std.specs.Prelude.{◌≡◌, List, true, false, length, not, ◌==◌, ◌||◌, IsErrOf};
+ghost use Rattle.std.specs.Option.{option_map_or};
+ghost use Rattle.gm_notes.specs.declared.event.ApplyError.TheVariants.{Memory};
+ghost use Rattle.gm_notes.specs.Settings.{Settings};
+ghost use Rattle.gm_notes.specs.Steps.{Step, Close};
+ghost use Rattle.gm_notes.specs.Servers.{Answers, steps_after};
+ghost use Rattle.gm_notes.specs.declared.note.Note.TheVariants.{Discarded, Returned};
+ghost use Rattle.gm_notes.specs.Jobs.{job as note_job};
+ghost use Rattle.gm_notes.specs.Past.{with_note};
+ghost use Rattle.gm_notes.specs.Closings.{give_back_one, wake_for, disconnect, discard_each, give_back_each, rising};
+ghost use Rattle.gm_conns.specs.ConnTables.{IsOpen};
+ghost use Rattle.gm_jobs.specs.Live.{is_orphan, is_run_by};
+ghost use Rattle.gm_jobs.specs.Tables.{passes};
+ghost use Rattle.gm_jobs.specs.Tables as jobs;
+
+use super::Core;
+use gm_notes::{ApplyError, Done};
+
+impl Core {
+    ghost use Rattle.gm_core.specs.Holds.{Goes, AllTouched, CoreAgrees};
+
+    /// A waiting job that nobody wants is discarded. It needs no memory.
+    fn discard(&mut self, job: u64)
+        requires { passes is_orphan (jobs.job self.old.jobs job) ≡ true }
+        ensures { Goes self.old self.new (with_note (Discarded job)) }
+    {
+        let Some(found) = self.jobs.by_number(job) else {
+            return;
+        };
+        let (f, p) = (found.f(), found.p());
+        // A job that waits stands in its queue.
+        if f >= self.functions.len() {
+            return;
+        }
+        if !self.functions.is_waiting(f, p, job) {
+            return;
+        }
+        self.functions.forget(f, p, job);
+        self.jobs.end(job);
+    }
+    /// A job that runs at a slot is discarded. It needs no memory.
+    fn discard_running(&mut self, slot: u32, job: u64)
+        requires { passes (is_run_by slot) (jobs.job self.old.jobs job) ≡ true }
+        ensures { Goes self.old self.new (with_note (Discarded job)) }
+    {
+        if let Some((f, p)) = self.queue_of_running(job) {
+            self.functions.release(f, p);
+            self.jobs.end(job);
+        }
+    }
+
+    /// A job that runs at a slot waits again, as the last, and the sleeping workers that can do it are owed a NOOP.
+    /// It needs no memory.
+    fn give_back(&mut self, slot: u32, job: u64)
+        requires { passes (is_run_by slot) (jobs.job self.old.jobs job) ≡ true }
+        ensures { Goes self.old self.new (λ past. wake_for self.old.config (note_job job past.notes) (with_note (Returned job) past)) }
+    {
+        if let Some((f, p)) = self.queue_of_running(job) {
+            self.functions.push(f, p, job);
+            self.jobs.give_back(job);
+            self.wake(f);
+        }
+    }
+
+    /// Whether somebody wants a live job.
+    fn is_wanted(&self, job: u64) -> bool
+        ensures { result ≡ option_map_or (λ live. live.kept || not (length live.listeners == 0)) (jobs.job self.now.jobs job) false }
+    {
+        match self.jobs.by_number(job) {
+            Some(found) => found.kept() || !self.jobs.listeners(job).is_empty(),
+            None => false,
+        }
+    }
+
+    /// A job that runs at a slot waits again if somebody wants it, and is discarded if not.
+    fn give_back_one(&mut self, slot: u32, job: u64)
+        requires { passes (is_run_by slot) (jobs.job self.old.jobs job) ≡ true }
+        ensures { Goes self.old self.new (give_back_one self.old.config slot job) }
+    {
+        if self.is_wanted(job) {
+            self.give_back(slot, job);
+        } else {
+            self.discard_running(slot, job);
+        }
+    }
+    /// The connection in a slot goes, with what waited for it. It needs no memory.
+    fn leave(&mut self, slot: u32)
+        requires { IsOpen self.old.conns slot }
+        ensures { Goes self.old self.new (disconnect slot) }
+    {
+        self.wake_itself(slot);
+        self.conns.close(slot);
+        self.jobs.leave(slot);
+    }
+
+    /// The waiting jobs that nobody wants are discarded, in the order of their numbers. It needs no memory.
+    fn discard_each(&mut self)
+        ensures { Goes self.old self.new (λ past. discard_each (rising past) past) }
+    {
+        let mut after = 0;
+        while let Some(job) = self.jobs.next_orphan(after) {
+            self.discard(job);
+            after = job;
+        }
+    }
+    /// The jobs that ran at a slot wait again or are discarded, in the order of their numbers. It needs no memory.
+    fn give_back_each(&mut self, slot: u32)
+        ensures { Goes self.old self.new (λ past. give_back_each self.old.config slot (rising past) past) }
+    {
+        let mut after = 0;
+        while let Some(job) = self.jobs.next_run_by(slot, after) {
+            self.give_back_one(slot, job);
+            after = job;
+        }
+    }
+    /// The connection in a slot goes, with what waited for it; its jobs wait again, or go too. It needs no memory.
+    pub(super) fn close(&mut self, slot: u32) -> Result<Done, ApplyError>
+        ensures answers { (k : Settings) (steps : List Step) → CoreAgrees self.old k steps
+            → Answers k steps (Close slot) result × CoreAgrees self.new k (steps_after result (Close slot) steps) }
+        ensures touched { AllTouched self.old.conns self.new.conns }
+        ensures memory { IsErrOf result Memory → ⊥ }
+    {
+        if !self.conns.is_open(slot) {
+            return Err(ApplyError::NotOpen);
+        }
+        self.leave(slot);
+        self.discard_each();
+        self.give_back_each(slot);
+        Ok(Done::NONE)
+    }
+}

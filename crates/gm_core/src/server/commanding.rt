@@ -1,0 +1,247 @@
+//! What administrators command in text lines.
+
+ghost use Rattle.std.specs.Prelude.{◌≡◌, ◌<◌, ◌≤◌, true, false, List, Ok, OnOk, OnErr, IfOk, Some, length};
+ghost use Rattle.gm_admin.specs.Answers.{ok_text, version_text, error_text};
+ghost use Rattle.gm_admin.specs.Commands.{command_of};
+ghost use Rattle.gm_admin.specs.Views.{asked_of};
+ghost use Rattle.gm_conns.specs.ConnTables.{IsOpen, conn};
+ghost use Rattle.gm_queues.specs.FunctionTables.{number_of};
+ghost use Rattle.gm_notes.specs.Notes.{mode, slots_from};
+ghost use Rattle.gm_notes.specs.Settings.{Settings};
+ghost use Rattle.gm_notes.specs.Steps.{Step, Line};
+ghost use Rattle.gm_notes.specs.Servers.{Answers, steps_after};
+ghost use Rattle.gm_notes.specs.Past.{with_output, with_note, with_mention};
+ghost use Rattle.gm_notes.specs.Lines.{refuse_line, is_bad_word, maxqueue, go_graceful, shut_one, shut_each, shutdown, command};
+ghost use Rattle.gm_notes.specs.declared.note.Note.TheVariants.{Limit};
+ghost use Rattle.gm_actions.specs.Lines.{NamesFunction};
+
+use super::Core;
+use gm_actions::read_line;
+use gm_admin::{AdminError, Command, write_fault, write_ok, write_version};
+use gm_notes::{ApplyError, Done, Mode};
+use std::alloc::AllocError;
+
+impl Core {
+    ghost use Rattle.gm_core.specs.Holds.{Goes, Does, AllTouched, CoreAgrees};
+
+    /// A text line of a slot.
+    pub(super) fn line(&mut self, slot: u32, bytes: &[u8]) -> Result<Done, ApplyError>
+        ensures answers { (k : Settings) (steps : List Step) → CoreAgrees self.old k steps
+            → Answers k steps (Line slot bytes.now) result × CoreAgrees self.new k (steps_after result (Line slot bytes.now) steps) }
+        ensures touched { AllTouched self.old.conns self.new.conns }
+    {
+        if !self.takes_units(slot) {
+            return Err(ApplyError::NotOpen);
+        }
+        self.command(slot, bytes)?;
+        Ok(Done::NONE)
+    }
+
+    /// What a line of a slot commands is done.
+    fn command(&mut self, slot: u32, bytes: &[u8]) -> Result<(), AllocError>
+        requires { IsOpen self.old.conns slot }
+        ensures { Does self.old result self.new (command self.old.config slot (command_of bytes.now)) }
+    {
+        match read_line(bytes) {
+            Ok(asked) => self.obey(slot, &asked),
+            Err(error) => self.refuse_line(slot, error),
+        }
+    }
+
+    /// A command of a slot is done.
+    fn obey(&mut self, slot: u32, asked: &Command<'_>) -> Result<(), AllocError>
+        requires open { IsOpen self.old.conns slot }
+        requires named { NamesFunction asked.now }
+        ensures { Does self.old result self.new (command self.old.config slot (Ok (asked_of asked.now))) }
+    {
+        match *asked {
+            Command::Status => self.list_functions(slot),
+            Command::Workers => self.list_connections(slot),
+            Command::MaxQueue { name, size } => self.maxqueue(slot, name, size),
+            Command::Version => self.tell_version(slot),
+            Command::Shutdown { graceful: true } => self.go_gracefully(slot),
+            Command::Shutdown { graceful: false } => self.stop(slot),
+        }
+    }
+
+    /// Writes the line that says what is wrong, and makes room for it at a slot.
+    fn prepare_error(&mut self, slot: u32, error: AdminError) -> Result<(), AllocError>
+        requires { IsOpen self.old.conns slot }
+        ensures goes { Goes self.old self.new (λ past. past) }
+        ensures open { IsOpen self.new.conns slot }
+        ensures text { OnOk result (self.new.text.items ≡ error_text error) }
+        ensures room { OnOk result (length self.new.text.items ≤ (conn self.new.conns slot).room) }
+    {
+        self.text.clear();
+        write_fault(error, &mut self.text)?;
+        self.conns.reserve_out(slot, self.text.len())
+    }
+
+    /// Answers a line that is refused.
+    fn refuse_line(&mut self, slot: u32, error: AdminError) -> Result<(), AllocError>
+        requires { IsOpen self.old.conns slot }
+        ensures { Does self.old result self.new (refuse_line slot error) }
+    {
+        self.prepare_error(slot, error)?;
+        self.send(slot);
+        Ok(())
+    }
+
+    /// Takes over a text, and makes room for it at a slot.
+    fn prepare_text(&mut self, slot: u32, text: &[u8]) -> Result<(), AllocError>
+        requires { IsOpen self.old.conns slot }
+        ensures goes { Goes self.old self.new (λ past. past) }
+        ensures open { IsOpen self.new.conns slot }
+        ensures text { OnOk result (self.new.text.items ≡ text.now) }
+        ensures room { OnOk result (length self.new.text.items ≤ (conn self.new.conns slot).room) }
+    {
+        self.text.clear();
+        self.text.extend_from_slice(text)?;
+        self.conns.reserve_out(slot, self.text.len())
+    }
+
+    /// Writes that a command was done, and makes room for it at a slot.
+    fn prepare_ok(&mut self, slot: u32) -> Result<(), AllocError>
+        requires { IsOpen self.old.conns slot }
+        ensures goes { Goes self.old self.new (λ past. past) }
+        ensures open { IsOpen self.new.conns slot }
+        ensures text { OnOk result (self.new.text.items ≡ ok_text) }
+        ensures room { OnOk result (length self.new.text.items ≤ (conn self.new.conns slot).room) }
+    {
+        self.text.clear();
+        write_ok(&mut self.text)?;
+        self.conns.reserve_out(slot, self.text.len())
+    }
+
+    /// Tells a slot that its command was done.
+    fn say_ok(&mut self, slot: u32) -> Result<(), AllocError>
+        requires { IsOpen self.old.conns slot }
+        ensures does { Does self.old result self.new (with_output slot ok_text) }
+        ensures open { IsOpen self.new.conns slot }
+    {
+        self.prepare_ok(slot)?;
+        self.send(slot);
+        Ok(())
+    }
+
+    /// Writes the version, and makes room for it at a slot.
+    fn prepare_version(&mut self, slot: u32) -> Result<(), AllocError>
+        requires { IsOpen self.old.conns slot }
+        ensures goes { Goes self.old self.new (λ past. past) }
+        ensures open { IsOpen self.new.conns slot }
+        ensures text { OnOk result (self.new.text.items ≡ version_text) }
+        ensures room { OnOk result (length self.new.text.items ≤ (conn self.new.conns slot).room) }
+    {
+        self.text.clear();
+        write_version(&mut self.text)?;
+        self.conns.reserve_out(slot, self.text.len())
+    }
+
+    /// Tells a slot the version of the server.
+    fn tell_version(&mut self, slot: u32) -> Result<(), AllocError>
+        requires { IsOpen self.old.conns slot }
+        ensures { Does self.old result self.new (with_output slot version_text) }
+    {
+        self.prepare_version(slot)?;
+        self.send(slot);
+        Ok(())
+    }
+
+    /// Queues a text to a slot.
+    pub(super) fn say(&mut self, slot: u32, text: &[u8]) -> Result<(), AllocError>
+        requires { IsOpen self.old.conns slot }
+        ensures does { Does self.old result self.new (with_output slot text.now) }
+        ensures open { IsOpen self.new.conns slot }
+    {
+        self.prepare_text(slot, text)?;
+        self.send(slot);
+        Ok(())
+    }
+
+    /// At most so many jobs of a function may be there; 0 is no limit.
+    fn maxqueue(&mut self, slot: u32, name: &[u8], size: u32) -> Result<(), AllocError>
+        requires open { IsOpen self.old.conns slot }
+        requires named { is_bad_word name.now ≡ false }
+        ensures { Does self.old result self.new (maxqueue self.old.config slot name.now size) }
+    {
+        if self.is_one_too_many(name) {
+            return self.refuse_line(slot, AdminError::TooManyFunctions);
+        }
+        self.set_limit(slot, name, size)
+    }
+
+    /// A function is given this limit, and is mentioned if it wasn't.
+    fn set_limit(&mut self, slot: u32, name: &[u8], size: u32) -> Result<(), AllocError>
+        requires { IsOpen self.old.conns slot }
+        ensures { Does self.old result self.new (λ past. with_output slot ok_text (with_note (Limit name.now size) (with_mention name.now past))) }
+    {
+        self.prepare_ok(slot)?;
+        let f = self.mention(name)?;
+        self.functions.set_limit(f, size);
+        self.send(slot);
+        Ok(())
+    }
+
+    /// The function of this name, which is mentioned if it wasn't.
+    fn mention(&mut self, name: &[u8]) -> Result<u32, AllocError>
+        ensures goes { OnOk result (Goes self.old self.new (with_mention name.now)) }
+        ensures wanting { OnErr result (Goes self.old self.new (λ past. past)) }
+        ensures conns { self.new.conns ≡ self.old.conns }
+        ensures text { self.new.text ≡ self.old.text }
+        ensures found { IfOk result (λ f. number_of name.now self.new.functions ≡ Some f) }
+        ensures within { IfOk result (λ f. f < length self.new.functions.names) }
+    {
+        let Ok(f) = self.functions.mention(name) else {
+            return Err(AllocError);
+        };
+        Ok(f)
+    }
+
+    /// No new connections are taken from now on, if any were.
+    fn turn_away(&mut self)
+        ensures { Goes self.old self.new (λ past. go_graceful (mode past.notes) past) }
+    {
+        if self.mode.accepts_connections() {
+            self.mode = Mode::Graceful;
+        }
+    }
+
+    /// No new connections are taken from now on.
+    fn go_gracefully(&mut self, slot: u32) -> Result<(), AllocError>
+        requires { IsOpen self.old.conns slot }
+        ensures { Does self.old result self.new (shutdown self.old.config slot true) }
+    {
+        self.say_ok(slot)?;
+        self.turn_away();
+        Ok(())
+    }
+
+    /// No new connections are taken from now on, and those that are open are shut.
+    fn stop(&mut self, slot: u32) -> Result<(), AllocError>
+        requires { IsOpen self.old.conns slot }
+        ensures { Does self.old result self.new (shutdown self.old.config slot false) }
+    {
+        self.say_ok(slot)?;
+        self.mode = Mode::Stopped;
+        self.shut_each();
+        Ok(())
+    }
+
+    /// A connection is shut, if it is open and isn't shut.
+    fn shut_one(&mut self, slot: u32)
+        ensures { Goes self.old self.new (shut_one slot) }
+    {
+        if self.takes_units(slot) {
+            self.conns.shut_down(slot);
+        }
+    }
+
+    /// Every open connection that isn't shut is shut.
+    fn shut_each(&mut self)
+        ensures { Goes self.old self.new (λ past. shut_each (slots_from 0 self.old.config.slots) past) }
+    {
+        for slot in 0..self.config.slots() {
+            self.shut_one(slot);
+        }
+    }
+}

@@ -1,0 +1,127 @@
+//! Workers that ask for jobs.
+
+ghost use Rattle.std.specs.Prelude.{◌≡◌, ◌<◌, ◌≤◌, ℕ, false, Some, IfOk, OnOk, OnErr, length, slice_get};
+ghost use Rattle.std.specs.Option.{option_map};
+ghost use Rattle.gm_packet.specs.Answers.{answer_of};
+ghost use Rattle.gm_packet.specs.Packets.{Fits};
+ghost use Rattle.gm_packet.specs.Answers.{answer_packet};
+ghost use Rattle.gm_conns.specs.Connections.{with_room};
+ghost use Rattle.gm_conns.specs.ConnTables.{IsOpen, conn, Changes};
+ghost use Rattle.gm_queues.specs.FunctionTables.{waiting_for};
+ghost use Rattle.gm_jobs.specs.Live.{Live};
+ghost use Rattle.gm_jobs.specs.Tables as jobs;
+ghost use Rattle.gm_core.specs.Holds.{name_at};
+ghost use Rattle.gm_notes.specs.Settings.{Settings};
+ghost use Rattle.gm_notes.specs.declared.note.Note.TheVariants.{Assigned};
+ghost use Rattle.gm_notes.specs.Jobs.{handle};
+ghost use Rattle.gm_notes.specs.Past.{Past, with_note};
+ghost use Rattle.gm_notes.specs.Workers.{deadline_after, assignment, give_out, wake_itself, grab};
+
+use super::Core;
+use super::abilities::Choice;
+use gm_actions::{JobView, assignment, deadline_after, handle};
+use gm_conns::Conns;
+use gm_notes::Priority;
+use gm_packet::{Response, response_fits, write_response};
+use std::alloc::AllocError;
+
+/// Writes a packet and makes room for it at a slot. A packet that can't carry its texts is refused as if memory
+/// were wanting: what came in a packet fits one.
+pub(super) fn prepare_at(
+    conns: &mut Conns,
+    text: &mut Vec<u8>,
+    slot: u32,
+    response: &Response<'_>,
+) -> Result<(), AllocError>
+    requires { IsOpen conns.old slot }
+    ensures text { OnOk result (text.new.items ≡ answer_packet (answer_of response.now)) }
+    ensures conns { OnOk result (Changes slot (with_room (length text.new.items)) false conns.old conns.new) }
+    ensures err { OnErr result (conns.new ≡ conns.old) }
+{
+    text.clear();
+    if !response_fits(response) {
+        return Err(AllocError);
+    }
+    write_response(response, text)?;
+    conns.reserve_out(slot, text.len())
+}
+
+impl Core {
+    ghost use Rattle.gm_core.specs.Holds.{Keeps, Goes, Does};
+
+    /// Writes what a worker gets to know of a job, and makes room for it.
+    fn prepare_assigned(
+        &mut self,
+        slot: u32,
+        found: Choice,
+        with_unique: bool,
+    ) -> Result<Priority, AllocError>
+        requires open { IsOpen self.old.conns slot }
+        requires within { found.function < length self.old.functions.names }
+        ensures goes { Goes self.old self.new (λ past. past) }
+        ensures open { IsOpen self.new.conns slot }
+        ensures room { OnOk result (length self.new.text.items ≤ (conn self.new.conns slot).room) }
+        ensures priority { IfOk result (λ p. option_map (λ live. live.priority) (jobs.job self.old.jobs found.pick.job) ≡ Some p) }
+        ensures text { OnOk result ((live : Live) → jobs.job self.old.jobs found.pick.job ≡ Some live
+            → self.new.text.items ≡ answer_packet (assignment self.old.config with_unique found.pick.job
+            (record { function = name_at self.old.functions.names found.function; priority = live.priority; unique = live.unique; body = live.body }))) }
+        ensures functions { self.new.functions ≡ self.old.functions }
+        ensures jobs { self.new.jobs ≡ self.old.jobs }
+        ensures moment { self.new.moment ≡ self.old.moment }
+    {
+        let handle = handle(self.alloc, &self.config, found.pick.job)?;
+        // A job that was picked is live.
+        let Some(job) = self.jobs.by_number(found.pick.job) else {
+            return Err(AllocError);
+        };
+        let view = JobView {
+            function: self.functions.name(found.function),
+            priority: job.p(),
+            unique: job.unique(),
+            body: job.body(),
+        };
+        let response = assignment(&handle, &view, with_unique);
+        prepare_at(&mut self.conns, &mut self.text, slot, &response)?;
+        Ok(job.p())
+    }
+
+    /// The job that is given out next for a function runs at a slot now. It needs no memory.
+    fn give_out(&mut self, slot: u32, found: Choice, priority: Priority)
+        requires within { found.function < length self.old.functions.names }
+        requires first { slice_get (waiting_for self.old.functions found.function) 0 ≡ Some found.pick.job }
+        requires priority { option_map (λ live. live.priority) (jobs.job self.old.jobs found.pick.job) ≡ Some priority }
+        ensures { Goes self.old self.new (with_note (Assigned found.pick.job slot (deadline_after self.old.moment found.pick.timeout))) }
+    {
+        let deadline = deadline_after(self.moment, found.pick.timeout);
+        let _job = self.functions.pop(found.function, priority);
+        self.jobs.assign(found.pick.job, slot, deadline);
+    }
+
+    fn assign(&mut self, slot: u32, found: Choice, with_unique: bool) -> Result<(), AllocError>
+        requires open { IsOpen self.old.conns slot }
+        requires within { found.function < length self.old.functions.names }
+        requires first { slice_get (waiting_for self.old.functions found.function) 0 ≡ Some found.pick.job }
+        ensures { Does self.old result self.new (λ past. give_out self.old.config slot with_unique (Some found.pick) (wake_itself slot past)) }
+    {
+        let priority = self.prepare_assigned(slot, found, with_unique)?;
+        self.send(slot);
+        self.wake_itself(slot);
+        self.give_out(slot, found, priority);
+        Ok(())
+    }
+
+    /// The worker in a slot asks for a job.
+    pub(super) fn grab(&mut self, slot: u32, with_unique: bool) -> Result<(), AllocError>
+        requires { IsOpen self.old.conns slot }
+        ensures { Does self.old result self.new (grab self.old.config slot with_unique) }
+    {
+        match self.pick(slot) {
+            Some(found) => self.assign(slot, found, with_unique),
+            None => {
+                self.give(slot, &Response::NoJob)?;
+                self.wake_itself(slot);
+                Ok(())
+            }
+        }
+    }
+}

@@ -1,0 +1,61 @@
+//! Connections that are opened, and their faults.
+
+ghost use Rattle.std.specs.Prelude.{◌≡◌, ◌≤◌, List, ◌∷◌, OnOk, length};
+ghost use Rattle.gm_conns.specs.ConnTables.{IsOpen, conn};
+ghost use Rattle.gm_notes.specs.Settings.{Settings};
+ghost use Rattle.gm_notes.specs.Steps.{Step, Open, Fault};
+ghost use Rattle.gm_notes.specs.Servers.{Answers, steps_after};
+ghost use Rattle.gm_notes.specs.Texts.{fault_text};
+
+use super::Core;
+use gm_actions::append_fault;
+use gm_notes::{ApplyError, Done, UnitFault};
+use std::alloc::AllocError;
+
+impl Core {
+    ghost use Rattle.gm_core.specs.Holds.{Goes, AllTouched, CoreAgrees};
+
+    /// A connection from this address is given the least slot that isn't open.
+    pub(super) fn open(&mut self, addr: &[u8]) -> Result<Done, ApplyError>
+        ensures answers { (k : Settings) (steps : List Step) → CoreAgrees self.old k steps
+            → Answers k steps (Open addr.now) result × CoreAgrees self.new k (steps_after result (Open addr.now) steps) }
+        ensures touched { AllTouched self.old.conns self.new.conns }
+    {
+        if !self.mode.accepts_connections() {
+            return Err(ApplyError::Refusing);
+        }
+        let slot = self.conns.open(addr)?;
+        Ok(Done {
+            opened: Some(slot),
+            ..Done::NONE
+        })
+    }
+
+    /// Writes what a fault prints and makes room for it at a slot.
+    fn prepare_fault(&mut self, slot: u32, fault: UnitFault) -> Result<(), AllocError>
+        requires { IsOpen self.old.conns slot }
+        ensures goes { Goes self.old self.new (λ past. past) }
+        ensures open { IsOpen self.new.conns slot }
+        ensures text { OnOk result (self.new.text.items ≡ fault_text fault) }
+        ensures room { OnOk result (length self.new.text.items ≤ (conn self.new.conns slot).room) }
+    {
+        self.text.clear();
+        append_fault(fault, &mut self.text)?;
+        self.conns.reserve_out(slot, self.text.len())
+    }
+
+    /// Nothing that can be read follows in a slot: it is told why, and takes no more units.
+    pub(super) fn fault(&mut self, slot: u32, fault: UnitFault) -> Result<Done, ApplyError>
+        ensures answers { (k : Settings) (steps : List Step) → CoreAgrees self.old k steps
+            → Answers k steps (Fault slot fault) result × CoreAgrees self.new k (steps_after result (Fault slot fault) steps) }
+        ensures touched { AllTouched self.old.conns self.new.conns }
+    {
+        if !self.takes_units(slot) {
+            return Err(ApplyError::NotOpen);
+        }
+        self.prepare_fault(slot, fault)?;
+        self.send(slot);
+        self.conns.shut_down(slot);
+        Ok(Done::NONE)
+    }
+}

@@ -1,0 +1,122 @@
+//! Requests as they come.
+
+ghost use Rattle.std.specs.Prelude.{IsErrOf, OnErr, ◌≡◌, ◌↔◌, ◌^◌, List, true};
+ghost use Rattle.std.specs.Option.{unwrap_or};
+ghost use Rattle.gm_packet.specs.Answers.{answer_of};
+ghost use Rattle.gm_packet.specs.Kinds.{kind_of};
+ghost use Rattle.gm_packet.specs.Answers.{echo_res};
+ghost use Rattle.gm_conns.specs.ConnTables.{IsOpen};
+ghost use Rattle.gm_notes.specs.Past.{give};
+ghost use Rattle.gm_notes.specs.Requests.{packet_of};
+ghost use Rattle.gm_notes.specs.Servers.{Answers, steps_after};
+ghost use Rattle.gm_notes.specs.Settings.{Settings};
+ghost use Rattle.gm_notes.specs.Steps.{Step, Packet};
+ghost use Rattle.gm_actions.specs.Actions.{act, IsNamed, acts_without_memory, NeedsNoMemory};
+
+use super::Core;
+use super::grabbing::prepare_at;
+use gm_actions::Action;
+use gm_notes::{ApplyError, Done};
+use gm_packet::Response;
+use std::alloc::AllocError;
+
+/// Whether two next numbers are the same; none stands after the greatest of 64 bits.
+fn is_same(one: Option<u64>, other: Option<u64>) -> bool
+    ensures { (result ≡ true) ↔ (unwrap_or one (2 ^ 64) ≡ unwrap_or other (2 ^ 64)) }
+{
+    match (one, other) {
+        (Some(one), Some(other)) => one == other,
+        (None, None) => true,
+        _ => false,
+    }
+}
+
+impl Core {
+    ghost use Rattle.gm_core.specs.Holds.{Does, AllTouched, CoreAgrees};
+
+    /// A packet of a slot.
+    pub(super) fn packet(&mut self, slot: u32, kind: u32, bytes: &[u8]) -> Result<Done, ApplyError>
+        ensures answers { (k : Settings) (steps : List Step) → CoreAgrees self.old k steps
+            → Answers k steps (Packet slot kind bytes.now) result × CoreAgrees self.new k (steps_after result (Packet slot kind bytes.now) steps) }
+        ensures memory { NeedsNoMemory kind bytes.now → IsErrOf result ApplyError.Memory → ⊥ }
+        ensures touched { AllTouched self.old.conns self.new.conns }
+    {
+        if !self.takes_units(slot) {
+            return Err(ApplyError::NotOpen);
+        }
+        let before = self.jobs.next_number();
+        self.read(slot, kind, bytes)?;
+        let created = if is_same(self.jobs.next_number(), before) {
+            None
+        } else {
+            before
+        };
+        Ok(Done {
+            created,
+            ..Done::NONE
+        })
+    }
+
+    /// Does what a packet of a slot asks.
+    fn read(&mut self, slot: u32, kind: u32, bytes: &[u8]) -> Result<(), AllocError>
+        requires { IsOpen self.old.conns slot }
+        ensures does { Does self.old result self.new (packet_of self.old.config slot (kind_of kind) bytes.now) }
+        ensures memory { NeedsNoMemory kind bytes.now → OnErr result ⊥ }
+    {
+        match Action::read(kind, bytes) {
+            Ok(action) => self.act(slot, &action),
+            Err(refusal) => self.refuse(slot, refusal),
+        }
+    }
+
+    /// Does what is asked of a slot.
+    fn act(&mut self, slot: u32, action: &Action<'_>) -> Result<(), AllocError>
+        requires open { IsOpen self.old.conns slot }
+        requires named { IsNamed action.now }
+        ensures does { Does self.old result self.new (act self.old.config slot action.now) }
+        ensures memory { acts_without_memory action.now ≡ true → OnErr result ⊥ }
+    {
+        match *action {
+            Action::CanDo { function, timeout } => self.can_do(slot, function, timeout),
+            Action::CantDo { function } => {
+                self.cant_do(slot, function);
+                Ok(())
+            }
+            Action::ResetAbilities => {
+                self.reset(slot);
+                Ok(())
+            }
+            Action::PreSleep => {
+                self.pre_sleep(slot);
+                Ok(())
+            }
+            Action::Grab { with_unique } => self.grab(slot, with_unique),
+            Action::Submit(asked) => self.submit(slot, &asked),
+            Action::Tell(about) => self.work(slot, about.handle, &about.said),
+            Action::GetStatus { handle } => self.tell_status(slot, handle),
+            Action::Echo { body } => self.echo(slot, body),
+            Action::SetClientId { id } => self.set_client_id(slot, id),
+            Action::SetOption { name } => self.set_option(slot, name),
+            Action::Nothing => Ok(()),
+        }
+    }
+
+    /// The connection in a slot gets its bytes back.
+    fn echo(&mut self, slot: u32, body: &[u8]) -> Result<(), AllocError>
+        requires { IsOpen self.old.conns slot }
+        ensures { Does self.old result self.new (give slot (echo_res body.now)) }
+    {
+        self.answer(slot, &Response::EchoRes { body })
+    }
+
+    /// Queues an answer to a slot. One that no packet can carry is refused as if memory had run out: what came in a
+    /// packet fits one.
+    pub(super) fn answer(&mut self, slot: u32, response: &Response<'_>) -> Result<(), AllocError>
+        requires { IsOpen self.old.conns slot }
+        ensures { Does self.old result self.new (give slot (answer_of response.now)) }
+    {
+        prepare_at(&mut self.conns, &mut self.text, slot, response)?;
+        self.send(slot);
+        Ok(())
+    }
+}

@@ -1,0 +1,292 @@
+//! Submissions.
+
+ghost use Rattle.std.specs.Prelude.{◌≡◌, ◌<◌, ◌≤◌, false, None, IfNone, ◌+◌, ◌==◌, ◌&&◌, not, nat_le, ℕ, Some, IfSome, List};
+ghost use Rattle.std.specs.Prelude.{OnOk, OnErr, IfOk, length};
+ghost use Rattle.gm_packet.specs.Answers.{job_created, answer_packet};
+ghost use Rattle.gm_conns.specs.ConnTables.{IsOpen, conn};
+ghost use Rattle.gm_queues.specs.FunctionTables.{number_of};
+ghost use Rattle.gm_jobs.specs.Tables.{IsNamed};
+ghost use Rattle.gm_core.specs.Holds.{IsAlone, add_job, first_listener};
+ghost use Rattle.gm_notes.specs.Jobs.{handle, joined};
+ghost use Rattle.gm_notes.specs.declared.note.Note.TheVariants.{Mention};
+ghost use Rattle.gm_notes.specs.Past.{Past, with_note};
+ghost use Rattle.gm_actions.specs.Actions.{submission_of};
+ghost use Rattle.gm_notes.specs.Submissions.{is_bad_name, is_one_too_many, is_full, keep_or_listen, make, join_or_make, submit};
+
+use super::Core;
+use gm_actions::{Refusal, Submission, handle};
+use gm_jobs::NewJob;
+use gm_notes::Priority;
+use gm_packet::Response;
+use gm_queues::Counts;
+use std::alloc::AllocError;
+
+/// Who listens to a job from the start: nobody, if it was submitted in the background.
+fn first_listener(background: bool, slot: u32) -> Option<u32>
+    ensures { result ≡ first_listener background slot }
+{
+    if background { None } else { Some(slot) }
+}
+
+/// Whether so many jobs reach a limit; 0 is no limit.
+fn is_limit_reached(limit: u32, counts: Counts) -> bool
+    ensures { result ≡ (not (limit == 0) && nat_le limit (counts.waiting + counts.running)) }
+{
+    let limit = u64::from(limit);
+    limit != 0 && (limit <= counts.waiting || limit - counts.waiting <= counts.running)
+}
+
+impl Core {
+    ghost use Rattle.gm_core.specs.Holds.{Keeps, Goes, Does};
+
+    /// Joins a job, or makes one.
+    pub(super) fn submit(&mut self, slot: u32, asked: &Submission<'_>) -> Result<(), AllocError>
+        requires open { IsOpen self.old.conns slot }
+        requires named { is_bad_name asked.now.function.now ≡ false }
+        ensures { Does self.old result self.new (submit self.old.config slot (submission_of asked.now)) }
+    {
+        let found = self.functions.find(asked.function);
+        match self.joined(found, asked.unique) {
+            Some(job) => self.join(slot, asked, job),
+            None => self.make_new(slot, asked, found),
+        }
+    }
+
+    /// A job is made, unless a limit refuses it.
+    fn make_new(
+        &mut self,
+        slot: u32,
+        asked: &Submission<'_>,
+        found: Option<u32>,
+    ) -> Result<(), AllocError>
+        requires open { IsOpen self.old.conns slot }
+        requires found { number_of asked.now.function.now self.old.functions ≡ found }
+        requires within { IfSome found (λ f. f < length self.old.functions.names) }
+        requires alone { IsAlone asked.now.function.now asked.now.unique.now self.old.functions self.old.jobs }
+        ensures { Does self.old result self.new (join_or_make self.old.config slot (submission_of asked.now) None) }
+    {
+        if self.has_no_place(found) {
+            return self.refuse(slot, Refusal::TooManyFunctions);
+        }
+        if self.is_full(found) {
+            return self.refuse(slot, Refusal::QueueFull);
+        }
+        match self.jobs.next_number() {
+            Some(job) => self.make(slot, asked, found, job),
+            None => self.refuse(slot, Refusal::NoNumbers),
+        }
+    }
+
+    /// A job is made under the next number.
+    fn make(
+        &mut self,
+        slot: u32,
+        asked: &Submission<'_>,
+        found: Option<u32>,
+        job: u64,
+    ) -> Result<(), AllocError>
+        requires open { IsOpen self.old.conns slot }
+        requires found { number_of asked.now.function.now self.old.functions ≡ found }
+        requires within { IfSome found (λ f. f < length self.old.functions.names) }
+        requires alone { IsAlone asked.now.function.now asked.now.unique.now self.old.functions self.old.jobs }
+        requires number { job ≡ self.old.jobs.next }
+        ensures { Does self.old result self.new (make self.old.config slot (submission_of asked.now) (Some job)) }
+    {
+        match found {
+            Some(f) => self.make_known(slot, asked, f, job),
+            None => self.make_with_new_function(slot, asked, job),
+        }
+    }
+
+    /// A job is made, of a function that was mentioned.
+    fn make_known(
+        &mut self,
+        slot: u32,
+        asked: &Submission<'_>,
+        f: u32,
+        job: u64,
+    ) -> Result<(), AllocError>
+        requires open { IsOpen self.old.conns slot }
+        requires found { number_of asked.now.function.now self.old.functions ≡ Some f }
+        requires within { f < length self.old.functions.names }
+        requires alone { (n : ℕ) → IsNamed f asked.now.unique.now self.old.jobs n → ⊥ }
+        requires number { job ≡ self.old.jobs.next }
+        ensures { Does self.old result self.new (make self.old.config slot (submission_of asked.now) (Some job)) }
+    {
+        self.prepare_created(slot, job)?;
+        self.add(slot, asked, f)?;
+        self.send(slot);
+        self.wake(f);
+        Ok(())
+    }
+
+    /// The live job of a function with a unique id that joins, if the function has this number.
+    fn joined(&self, found: Option<u32>, unique: &[u8]) -> Option<u64>
+        ensures value { (function : List ℕ) (past : Past) → number_of function self.now.functions ≡ found → Keeps self.now past → result ≡ joined function unique.now past.notes }
+        ensures alone { IfNone result ((function : List ℕ) → number_of function self.now.functions ≡ found → IsAlone function unique.now self.now.functions self.now.jobs) }
+    {
+        match found {
+            Some(f) => self.jobs.by_unique(f, unique),
+            None => None,
+        }
+    }
+
+    /// Whether no function more can be known.
+    pub(super) fn is_one_too_many(&self, function: &[u8]) -> bool
+        ensures { (past : Past) → Keeps self.now past → result ≡ is_one_too_many self.now.config function.now past.notes }
+    {
+        self.has_no_place(self.functions.find(function))
+    }
+
+    /// Whether no function more can be known, where one has this number.
+    fn has_no_place(&self, found: Option<u32>) -> bool
+        ensures { (function : List ℕ) (past : Past) → number_of function self.now.functions ≡ found → Keeps self.now past → result ≡ is_one_too_many self.now.config function past.notes }
+    {
+        match found {
+            Some(_) => false,
+            None => self.functions.len() >= self.config.max_functions(),
+        }
+    }
+
+    /// Whether no more jobs of the function with this number may be there.
+    fn is_full(&self, found: Option<u32>) -> bool
+        requires { IfSome found (λ f. f < length self.now.functions.names) }
+        ensures { (function : List ℕ) (past : Past) → number_of function self.now.functions ≡ found → Keeps self.now past → result ≡ is_full function past.notes }
+    {
+        match found {
+            Some(f) => is_limit_reached(self.functions.limit(f), self.functions.counts(f)),
+            None => false,
+        }
+    }
+
+    /// Joins a job: in the background it is kept, and else listened to.
+    pub(super) fn join(
+        &mut self,
+        slot: u32,
+        asked: &Submission<'_>,
+        job: u64,
+    ) -> Result<(), AllocError>
+        requires { IsOpen self.old.conns slot }
+        ensures { Does self.old result self.new (join_or_make self.old.config slot (submission_of asked.now) (Some job)) }
+    {
+        self.prepare_created(slot, job)?;
+        self.keep_or_listen(slot, asked, job)?;
+        self.send(slot);
+        Ok(())
+    }
+
+    /// A background submission keeps the job, another listens to it.
+    fn keep_or_listen(
+        &mut self,
+        slot: u32,
+        asked: &Submission<'_>,
+        job: u64,
+    ) -> Result<(), AllocError>
+        requires { IsOpen self.old.conns slot }
+        ensures does { Does self.old result self.new (keep_or_listen slot (submission_of asked.now) job) }
+        ensures conns { self.new.conns ≡ self.old.conns }
+        ensures text { self.new.text ≡ self.old.text }
+    {
+        if asked.background {
+            self.jobs.keep(job);
+            return Ok(());
+        }
+        self.jobs.listen(job, slot)
+    }
+
+    /// A job is made, of a function that wasn't mentioned yet.
+    fn make_with_new_function(
+        &mut self,
+        slot: u32,
+        asked: &Submission<'_>,
+        job: u64,
+    ) -> Result<(), AllocError>
+        requires open { IsOpen self.old.conns slot }
+        requires new { number_of asked.now.function.now self.old.functions ≡ None }
+        requires number { job ≡ self.old.jobs.next }
+        ensures { Does self.old result self.new (make self.old.config slot (submission_of asked.now) (Some job)) }
+    {
+        self.prepare_created(slot, job)?;
+        let f = self.add_with_new_function(slot, asked)?;
+        self.send(slot);
+        self.wake(f);
+        Ok(())
+    }
+
+    /// A job of a function that wasn't mentioned yet comes to wait.
+    fn add_with_new_function(
+        &mut self,
+        slot: u32,
+        asked: &Submission<'_>,
+    ) -> Result<u32, AllocError>
+        requires open { IsOpen self.old.conns slot }
+        requires new { number_of asked.now.function.now self.old.functions ≡ None }
+        ensures goes { OnOk result (Goes self.old self.new (λ past. add_job slot (submission_of asked.now) self.old.jobs.next (with_note (Mention asked.now.function.now) past))) }
+        ensures wanting { OnErr result (Goes self.old self.new (λ past. past)) }
+        ensures conns { self.new.conns ≡ self.old.conns }
+        ensures text { self.new.text ≡ self.old.text }
+        ensures found { IfOk result (λ f. number_of asked.now.function.now self.new.functions ≡ Some f) }
+        ensures within { IfOk result (λ f. f < length self.new.functions.names) }
+    {
+        let Ok(f) = self.functions.mention(asked.function) else {
+            return Err(AllocError);
+        };
+        // No job is of a function that wasn't known, so this finds none.
+        if self.jobs.by_unique(f, asked.unique).is_some() {
+            self.functions.unmention();
+            return Err(AllocError);
+        }
+        match self.add(slot, asked, f) {
+            Ok(()) => Ok(f),
+            Err(wanting) => {
+                self.functions.unmention();
+                Err(wanting)
+            }
+        }
+    }
+
+    /// A job comes to wait. No live job of the function has its unique id, if that joins.
+    fn add(&mut self, slot: u32, asked: &Submission<'_>, f: u32) -> Result<(), AllocError>
+        requires open { IsOpen self.old.conns slot }
+        requires found { number_of asked.now.function.now self.old.functions ≡ Some f }
+        requires alone { (n : ℕ) → IsNamed f asked.now.unique.now self.old.jobs n → ⊥ }
+        ensures does { Does self.old result self.new (add_job slot (submission_of asked.now) self.old.jobs.next) }
+        ensures conns { self.new.conns ≡ self.old.conns }
+        ensures text { self.new.text ≡ self.old.text }
+        ensures names { self.new.functions.names ≡ self.old.functions.names }
+        ensures config { self.new.config ≡ self.old.config }
+        ensures moment { self.new.moment ≡ self.old.moment }
+        ensures mode { self.new.mode ≡ self.old.mode }
+        ensures err { OnErr result (self.new.functions ≡ self.old.functions) }
+        ensures roomed { OnErr result (self.new.jobs ≡ record self.old.jobs { room = self.new.jobs.room }) }
+    {
+        let Ok(()) = self.jobs.reserve(f, asked.unique.len(), asked.body.len()) else {
+            return Err(AllocError);
+        };
+        self.functions.reserve_one(f, asked.priority)?;
+        let job = self.jobs.insert_reserved(NewJob {
+            f,
+            p: asked.priority,
+            unique: asked.unique,
+            body: asked.body,
+            kept: asked.background,
+            listener: first_listener(asked.background, slot),
+        });
+        self.functions.push(f, asked.priority, job);
+        Ok(())
+    }
+
+    /// Writes what is answered to a submission, and makes room for it.
+    fn prepare_created(&mut self, slot: u32, job: u64) -> Result<(), AllocError>
+        requires open { IsOpen self.old.conns slot }
+        ensures goes { Goes self.old self.new (λ past. past) }
+        ensures open { IsOpen self.new.conns slot }
+        ensures text { OnOk result (self.new.text.items ≡ answer_packet (job_created (handle self.old.config job))) }
+        ensures room { OnOk result (length self.new.text.items ≤ (conn self.new.conns slot).room) }
+        ensures functions { self.new.functions ≡ self.old.functions }
+        ensures jobs { self.new.jobs ≡ self.old.jobs }
+    {
+        let handle = handle(self.alloc, &self.config, job)?;
+        self.prepare(slot, &Response::JobCreated { handle: &handle })
+    }
+}

@@ -1,0 +1,114 @@
+//! Ticks, and jobs whose deadlines are reached.
+
+ghost use Rattle.std.specs.Prelude.{◌≡◌, ℕ, ◌+◌, ◌≤◌, true, false, filter, length, max, List, IfOk, OnErr};
+ghost use Rattle.gm_packet.specs.Answers.{answer_packet, work_fail};
+ghost use Rattle.gm_conns.specs.ConnTables.{conn};
+ghost use Rattle.gm_jobs.specs.Live.{is_due};
+ghost use Rattle.gm_jobs.specs.Tables.{job as job_of, listeners_of, passes, IsLast};
+ghost use Rattle.gm_notes.specs.Closings.{expire_one, expire_each, rising};
+ghost use Rattle.gm_notes.specs.Jobs.{handle};
+ghost use Rattle.gm_notes.specs.Servers.{Answers, steps_after};
+ghost use Rattle.gm_notes.specs.Settings.{Settings};
+ghost use Rattle.gm_notes.specs.Steps.{Step, Tick};
+ghost use Rattle.gm_core.specs.Telling.{hears, needed, Roomed, Poured};
+ghost use Rattle.gm_core.specs.Ticks.{AreLate, late_bytes, OthersStay};
+
+use super::Core;
+use crate::telling::{put_each, reserve_each};
+use gm_actions::handle;
+use gm_notes::{ApplyError, Done};
+use gm_packet::{Response, write_response};
+use std::alloc::AllocError;
+
+/// A job whose deadline is reached, and the packet that tells of its failure.
+#[derive(Drop)]
+struct Late {
+    job: u64,
+    text: Vec<u8>,
+}
+
+impl Core {
+    ghost use Rattle.gm_core.specs.Holds.{Goes, AllTouched, CoreAgrees};
+
+    /// Writes the packet that tells of a job's failure, and makes room for it at each listener, beyond the room that
+    /// there is.
+    fn prepare_late(&mut self, job: u64) -> Result<Late, AllocError>
+        ensures goes { Goes self.old self.new (λ past. past) }
+        ensures config { self.new.config ≡ self.old.config }
+        ensures jobs { self.new.jobs ≡ self.old.jobs }
+        ensures moment { self.new.moment ≡ self.old.moment }
+        ensures roomed { Roomed self.old.conns self.new.conns }
+        ensures job { IfOk result (λ late. late.job ≡ job) }
+        ensures text { IfOk result (λ late. late.text.items ≡ answer_packet (work_fail (handle self.old.config job))) }
+        ensures room { IfOk result (λ late. (c : ℕ) → (conn self.old.conns c).room + needed (length late.text.items) c (filter (hears self.old.conns false) (listeners_of (job_of self.old.jobs job))) ≤ (conn self.new.conns c).room) }
+    {
+        let handle = handle(self.alloc, &self.config, job)?;
+        let mut text = Vec::new(self.alloc);
+        write_response(&Response::WorkFail { handle: &handle }, &mut text)?;
+        let slots = self.jobs.listeners(job);
+        reserve_each(&mut self.conns, slots, false, text.len())?;
+        Ok(Late { job, text })
+    }
+
+    /// The jobs whose deadlines are reached, in the order of their numbers, with room for all that is told of them.
+    fn prepare_due(&mut self, now: u64) -> Result<Vec<Late>, AllocError>
+        ensures goes { Goes self.old self.new (λ past. past) }
+        ensures config { self.new.config ≡ self.old.config }
+        ensures jobs { self.new.jobs ≡ self.old.jobs }
+        ensures moment { self.new.moment ≡ self.old.moment }
+        ensures late { IfOk result (λ lates. AreLate self.old.config now self.old.jobs.live 0 lates.items) }
+        ensures room { IfOk result (λ lates. (c : ℕ) → late_bytes (hears self.new.conns false) self.old.jobs c lates.items ≤ (conn self.new.conns c).room) }
+        ensures none { IsLast (is_due now) 0 self.old.jobs.live → OnErr result ⊥ }
+    {
+        let mut lates = Vec::new(self.alloc);
+        let mut after = 0;
+        while let Some(job) = self.jobs.due(now, after) {
+            let late = self.prepare_late(job)?;
+            lates.push(late)?;
+            after = job;
+        }
+        Ok(lates)
+    }
+
+    /// A running job whose deadline is reached has failed: its listeners hear of it, and its worker doesn't. It needs
+    /// no memory.
+    fn expire(&mut self, late: &Late)
+        requires due { passes (is_due self.old.moment) (job_of self.old.jobs late.now.job) ≡ true }
+        requires text { late.now.text.items ≡ answer_packet (work_fail (handle self.old.config late.now.job)) }
+        requires room { (c : ℕ) → needed (length late.now.text.items) c (filter (hears self.old.conns false) (listeners_of (job_of self.old.jobs late.now.job))) ≤ (conn self.old.conns c).room }
+        ensures goes { Goes self.old self.new (expire_one self.old.config late.now.job) }
+        ensures moment { self.new.moment ≡ self.old.moment }
+        ensures jobs { OthersStay late.now.job self.old.jobs self.new.jobs }
+        ensures poured { Poured (length late.now.text.items) (filter (hears self.old.conns false) (listeners_of (job_of self.old.jobs late.now.job))) self.old.conns self.new.conns }
+    {
+        let slots = self.jobs.listeners(late.job);
+        put_each(&mut self.conns, slots, false, late.text.as_slice());
+        self.end(late.job);
+    }
+
+    /// These jobs, whose deadlines are reached, have failed. It needs no memory.
+    fn expire_each(&mut self, lates: &[Late])
+        requires late { AreLate self.old.config self.old.moment self.old.jobs.live 0 lates.now }
+        requires room { (c : ℕ) → late_bytes (hears self.old.conns false) self.old.jobs c lates.now ≤ (conn self.old.conns c).room }
+        ensures { Goes self.old self.new (λ past. expire_each self.old.config (rising past) past) }
+    {
+        for late in lates {
+            self.expire(late);
+        }
+    }
+
+    /// So many seconds it is now; a clock that goes back counts as standing still. The jobs whose deadlines are reached
+    /// have failed.
+    pub(super) fn tick(&mut self, now: u64) -> Result<Done, ApplyError>
+        ensures answers { (k : Settings) (steps : List Step) → CoreAgrees self.old k steps
+            → Answers k steps (Tick now) result × CoreAgrees self.new k (steps_after result (Tick now) steps) }
+        ensures touched { AllTouched self.old.conns self.new.conns }
+        ensures memory { IsLast (is_due (max now self.old.moment)) 0 self.old.jobs.live → OnErr result ⊥ }
+    {
+        let moment = now.max(self.moment);
+        let lates = self.prepare_due(moment)?;
+        self.moment = moment;
+        self.expire_each(lates.as_slice());
+        Ok(Done::NONE)
+    }
+}

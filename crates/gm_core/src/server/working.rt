@@ -1,0 +1,165 @@
+//! What workers say of their jobs.
+
+ghost use Rattle.std.specs.Prelude.{◌≡◌, ℕ, ◌<◌, ◌≤◌, Some, IfSome, IfNone, OnOk, filter, length};
+ghost use Rattle.std.specs.Option.{option_map};
+ghost use Rattle.gm_queues.specs.FunctionTables.{HasIdleRoom};
+ghost use Rattle.gm_packet.specs.Answers.{answer_of};
+ghost use Rattle.gm_packet.specs.Answers.{Answer, answer_packet};
+ghost use Rattle.gm_conns.specs.ConnTables.{IsOpen, conn};
+ghost use Rattle.gm_jobs.specs.Tables.{job as job_of, listeners_of};
+ghost use Rattle.gm_notes.specs.Jobs.{job_of_handle, listeners};
+ghost use Rattle.gm_notes.specs.Past.{Past, with_note, tell_all};
+ghost use Rattle.gm_notes.specs.declared.note.Note.TheVariants.{Ended};
+ghost use Rattle.gm_notes.specs.Workers.{hearers, keep_report, end_if, tell_work, work};
+ghost use Rattle.gm_actions.specs.Actions.{said_report, work_of};
+ghost use Rattle.gm_core.specs.Ticks.{OthersStay};
+ghost use Rattle.gm_core.specs.Telling.{hears, needed, IsRunning, running_there};
+
+use super::Core;
+use crate::telling::{put_each, reserve_each};
+use gm_actions::{Refusal, Report, Said};
+use gm_notes::Priority;
+use gm_packet::{response_fits, write_response};
+use std::alloc::AllocError;
+
+impl Core {
+    ghost use Rattle.gm_core.specs.Holds.{Keeps, Goes, Does};
+
+    /// The worker in a slot says something of the job that a handle names.
+    pub(super) fn work(
+        &mut self,
+        slot: u32,
+        handle: &[u8],
+        said: &Said<'_>,
+    ) -> Result<(), AllocError>
+        requires { IsOpen self.old.conns slot }
+        ensures { Does self.old result self.new (work self.old.config slot handle.now (work_of said.now)) }
+    {
+        match self.running_at(slot, handle) {
+            Some(job) => self.tell_work(job, said),
+            None => self.refuse(slot, Refusal::JobNotFound),
+        }
+    }
+
+    /// The job that a handle names, if it runs at the slot.
+    fn running_at(&self, slot: u32, handle: &[u8]) -> Option<u64>
+        ensures value { (past : Past) → Keeps self.now past → result ≡ running_there slot (job_of_handle self.now.config handle.now past.notes) past.notes }
+        ensures runs { IfSome result (λ job. IsRunning (job_of self.now.jobs job)) }
+    {
+        let job = self.job_of_handle(handle)?;
+        if self.jobs.place(job).is_running_at(slot) {
+            Some(job)
+        } else {
+            None
+        }
+    }
+
+    /// Writes what is said of a job, and makes room for it at each connection that hears it.
+    fn prepare_each(&mut self, job: u64, said: &Said<'_>) -> Result<(), AllocError>
+        ensures goes { Goes self.old self.new (λ past. past) }
+        ensures text { OnOk result (self.new.text.items ≡ answer_packet (answer_of said.now.response)) }
+        ensures room { OnOk result ((c : ℕ) → needed (length self.new.text.items) c (filter (hears self.new.conns said.now.exceptions_only) (listeners_of (job_of self.new.jobs job))) ≤ (conn self.new.conns c).room) }
+        ensures jobs { self.new.jobs ≡ self.old.jobs }
+    {
+        self.text.clear();
+        if !response_fits(&said.response) {
+            return Err(AllocError);
+        }
+        write_response(&said.response, &mut self.text)?;
+        let slots = self.jobs.listeners(job);
+        reserve_each(
+            &mut self.conns,
+            slots,
+            said.exceptions_only,
+            self.text.len(),
+        )
+    }
+
+    /// How far the job is is kept, if it is said.
+    fn keep_report(&mut self, job: u64, report: Option<Report<'_>>) -> Result<(), AllocError>
+        ensures does { Does self.old result self.new (keep_report job (said_report report.entry)) }
+        ensures conns { self.new.conns ≡ self.old.conns }
+        ensures text { self.new.text ≡ self.old.text }
+        ensures listeners { listeners_of (job_of self.new.jobs job) ≡ listeners_of (job_of self.old.jobs job) }
+        ensures runs { IsRunning (job_of self.old.jobs job) → IsRunning (job_of self.new.jobs job) }
+    {
+        match report {
+            Some(report) => self.jobs.report(job, report.numerator, report.denominator),
+            None => Ok(()),
+        }
+    }
+
+    /// The packet that was written is queued to each connection that hears of a live job, where there is room.
+    fn tell_each(&mut self, job: u64, exceptions_only: bool)
+        requires runs { IsRunning (job_of self.old.jobs job) }
+        requires room { (c : ℕ) → needed (length self.old.text.items) c (filter (hears self.old.conns exceptions_only) (listeners_of (job_of self.old.jobs job))) ≤ (conn self.old.conns c).room }
+        ensures goes { (answer : Answer) → self.old.text.items ≡ answer_packet answer
+            → Goes self.old self.new (λ past. tell_all answer (hearers exceptions_only (listeners job past.notes) past.notes) past) }
+        ensures jobs { self.new.jobs ≡ self.old.jobs }
+    {
+        let slots = self.jobs.listeners(job);
+        put_each(
+            &mut self.conns,
+            slots,
+            exceptions_only,
+            self.text.as_slice(),
+        );
+    }
+
+    /// What a worker says of its job, which runs, is told to those that hear it, kept, and perhaps ends the job.
+    fn tell_work(&mut self, job: u64, said: &Said<'_>) -> Result<(), AllocError>
+        requires { IsRunning (job_of self.old.jobs job) }
+        ensures { Does self.old result self.new (tell_work (work_of said.now) job) }
+    {
+        self.prepare_each(job, said)?;
+        self.keep_report(job, said.report)?;
+        self.tell_each(job, said.exceptions_only);
+        self.end_if(job, said.ends);
+        Ok(())
+    }
+
+    /// A running job ends, if so. It needs no memory.
+    fn end_if(&mut self, job: u64, ends: bool)
+        requires { IsRunning (job_of self.old.jobs job) }
+        ensures { Goes self.old self.new (end_if ends job) }
+    {
+        if ends {
+            self.end(job);
+        }
+    }
+
+    /// A running job ends: its reserved room in its queue is given up.
+    pub(super) fn end(&mut self, job: u64)
+        requires { IsRunning (job_of self.old.jobs job) }
+        ensures goes { Goes self.old self.new (with_note (Ended job)) }
+        ensures conns { self.new.conns ≡ self.old.conns }
+        ensures moment { self.new.moment ≡ self.old.moment }
+        ensures jobs { OthersStay job self.old.jobs self.new.jobs }
+    {
+        if let Some((f, priority)) = self.queue_of_running(job) {
+            self.functions.release(f, priority);
+            self.jobs.end(job);
+        }
+    }
+
+    /// The function and the priority in whose queue room is reserved for a running job; there is one.
+    pub(super) fn queue_of_running(&self, job: u64) -> Option<(u32, Priority)>
+        ensures within { IfSome result (λ at. at.0 < length self.now.functions.names) }
+        ensures room { IfSome result (λ at. HasIdleRoom self.now.functions at.0 at.1) }
+        ensures live { IfSome result (λ at. option_map (λ live. (live.function, live.priority)) (job_of self.now.jobs job) ≡ Some at) }
+        ensures none { IfNone result ((past : Past) → Keeps self.now past → IsRunning (job_of self.now.jobs job) → ⊥) }
+    {
+        let Some(found) = self.jobs.by_number(job) else {
+            return None;
+        };
+        let (f, priority) = (found.f(), found.p());
+        if f >= self.functions.len() {
+            return None;
+        }
+        if self.functions.has_idle_room(f, priority) {
+            Some((f, priority))
+        } else {
+            None
+        }
+    }
+}

@@ -1,0 +1,66 @@
+//! A packet that several connections hear.
+
+ghost use Rattle.std.specs.Prelude.{◌≡◌, ℕ, ◌+◌, ◌≤◌, List, filter, IsTrue, OnOk, length};
+ghost use Rattle.gm_notes.specs.Settings.{Settings};
+ghost use Rattle.gm_conns.specs.ConnTables.{IsOpen, conn};
+ghost use Rattle.gm_core.specs.Facts.{ConnFacts};
+ghost use Rattle.gm_core.specs.Holds.{HoldsConns};
+ghost use Rattle.gm_core.specs.Telling.{hears, poured, needed, Roomed, Poured};
+
+use gm_conns::Conns;
+use std::alloc::AllocError;
+
+/// Whether a slot hears: it is open, and wants exceptions where only those who do hear.
+fn hears(conns: &Conns, slot: u32, exceptions_only: bool) -> bool
+    ensures value { result ≡ hears conns.now exceptions_only slot }
+    ensures open { IsTrue result → IsOpen conns.now slot }
+{
+    conns.is_open(slot) && (!exceptions_only || conns.has_option(slot))
+}
+
+/// Makes room for so many bytes more at a slot, if it hears.
+fn reserve_one(
+    conns: &mut Conns,
+    slot: u32,
+    exceptions_only: bool,
+    count: usize,
+) -> Result<(), AllocError>
+    ensures roomed { Roomed conns.old conns.new }
+    ensures room { OnOk result (IsTrue (hears conns.old exceptions_only slot) → (conn conns.old slot).room + count ≤ (conn conns.new slot).room) }
+{
+    if !hears(conns, slot, exceptions_only) {
+        return Ok(());
+    }
+    let room = conns.room(slot).checked_add(count).ok_or(AllocError)?;
+    conns.reserve_out(slot, room)
+}
+
+/// Makes room for so many bytes more at each of these slots that hears, once for each time that it stands there.
+pub fn reserve_each(
+    conns: &mut Conns,
+    slots: &[u32],
+    exceptions_only: bool,
+    count: usize,
+) -> Result<(), AllocError>
+    ensures roomed { Roomed conns.old conns.new }
+    ensures room { OnOk result ((c : ℕ) → (conn conns.old c).room + needed count c (filter (hears conns.old exceptions_only) slots.now) ≤ (conn conns.new c).room) }
+{
+    for slot in slots {
+        reserve_one(conns, *slot, exceptions_only, count)?;
+    }
+    Ok(())
+}
+
+/// Queues a text to each of these slots that hears, where there is room.
+pub fn put_each(conns: &mut Conns, slots: &[u32], exceptions_only: bool, text: &[u8])
+    requires { (c : ℕ) → needed (length text.now) c (filter (hears conns.old exceptions_only) slots.now) ≤ (conn conns.old c).room }
+    ensures poured { Poured (length text.now) (filter (hears conns.old exceptions_only) slots.now) conns.old conns.new }
+    ensures holds { (k : Settings) (names : List (List ℕ)) (facts : ConnFacts) (bytes : ℕ → List ℕ) → HoldsConns k conns.old names facts bytes
+        → HoldsConns k conns.new names facts (poured text.now (filter (hears conns.old exceptions_only) slots.now) bytes) }
+{
+    for slot in slots {
+        if hears(conns, *slot, exceptions_only) {
+            conns.put_out(*slot, text);
+        }
+    }
+}

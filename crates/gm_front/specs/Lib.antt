@@ -1,0 +1,4 @@
+pub mod Feeding
+pub mod Fronts
+pub mod Inputs
+pub mod Units

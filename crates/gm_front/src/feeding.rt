@@ -1,0 +1,90 @@
+//! A connection's bytes on their way to the server.
+
+ghost use Rattle.std.specs.Prelude.{◌≡◌, IfOk, IfErr, OnErr};
+ghost use Rattle.gm_notes.specs.Servers.{step_of, IsSized};
+ghost use Rattle.gm_front.specs.Inputs.{handed_in};
+ghost use Rattle.gm_front.specs.Feeding.{AgreesAfter, Lacks, Unloads, CutsShort, TakesPiece};
+ghost use Rattle.gm_feeder.specs.Streams.{with_bytes};
+
+use crate::units::{Next, next_event};
+use gm_feeder::Feeder;
+use gm_notes::{ApplyError, Event, JobServer, UnitFault};
+use std::alloc::AllocError;
+
+/// What came out of a feeder.
+#[derive(Clone, Copy)]
+struct Unloaded {
+    /// How many units.
+    units: u64,
+    /// The last job that they made.
+    created: Option<u64>,
+    /// The fault that stands after them.
+    fault: Option<UnitFault>,
+}
+
+/// Hands in an event, and answers the job that it made. Where it is refused, nothing happens.
+fn hand_in<S: JobServer>(server: &mut S, event: &Event<'_>) -> Result<Option<u64>, AllocError>
+    requires { IsSized event.now }
+    ensures ok { IfOk result (λ created. AgreesAfter S.agrees (λ k steps. handed_in k (step_of event.now) steps) created server.old server.new) }
+    ensures err { OnErr result (Lacks S.agrees (step_of event.now) server.old server.new) }
+{
+    match server.apply(event) {
+        Ok(done) => Ok(done.created),
+        Err(ApplyError::Memory) => Err(AllocError),
+        Err(_) => Ok(None),
+    }
+}
+
+/// Hands in each unit that stands in the feeder. Where memory is wanting, it answers how many were taken.
+fn unload<S: JobServer>(server: &mut S, feeder: &mut Feeder, slot: u32) -> Result<Unloaded, u64>
+    ensures ok { IfOk result (λ unloaded. Unloads S.agrees slot server.old feeder.old unloaded server.new feeder.new) }
+    ensures err { IfErr result (λ units. CutsShort S.agrees slot server.old feeder.old units server.new) }
+{
+    // Each unit has a byte at least, so there are no more of them.
+    let most = feeder.pending().len();
+    let mut units = 0;
+    let mut created = None;
+    loop {
+        let fault = match next_event(feeder, slot) {
+            Next::Unit(event) => {
+                let Ok(newer) = hand_in(server, &event) else {
+                    return Err(units);
+                };
+                units += 1;
+                created = newer.or(created);
+                continue;
+            }
+            Next::Wait => None,
+            Next::Fault(fault) => Some(fault),
+        };
+        return Ok(Unloaded {
+            units,
+            created,
+            fault,
+        });
+    }
+}
+
+/// Takes a piece, hands in what it completes, and answers the last job made. Where memory is wanting, it answers how
+/// many units were taken.
+pub(crate) fn take_piece<S: JobServer>(
+    server: &mut S,
+    feeder: &mut Feeder,
+    slot: u32,
+    piece: &[u8],
+) -> Result<Option<u64>, u64>
+    ensures ok { IfOk result (λ created. TakesPiece S.agrees slot piece.now created server.old feeder.old server.new feeder.new) }
+    ensures err { IfErr result (λ units. CutsShort S.agrees slot server.old (with_bytes feeder.old piece.now) units server.new) }
+{
+    let Ok(()) = feeder.feed(piece) else {
+        return Err(0);
+    };
+    let unloaded = unload(server, feeder, slot)?;
+    let Some(fault) = unloaded.fault else {
+        return Ok(unloaded.created);
+    };
+    match hand_in(server, &Event::Fault { slot, fault }) {
+        Ok(newer) => Ok(newer.or(unloaded.created)),
+        Err(_) => Err(unloaded.units),
+    }
+}

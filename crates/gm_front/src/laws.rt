@@ -1,0 +1,48 @@
+//! What is true of all inputs, and so of every front. Each function here is a law: its body does nothing, and its
+//! contract is the law.
+
+ghost use Rattle.std.specs.Prelude.{◌≡◌, ℕ, List, [], ◌∷◌, ◌++◌, false, Some};
+ghost use Rattle.gm_feeder.specs.declared.units.Limits.{Limits};
+ghost use Rattle.gm_notes.specs.declared.event.ApplyError.{ApplyError};
+ghost use Rattle.gm_notes.specs.Settings.{Settings};
+ghost use Rattle.gm_notes.specs.Notes.{is_open};
+ghost use Rattle.gm_notes.specs.Steps.{free_slot};
+ghost use Rattle.gm_notes.specs.Steps.{run};
+ghost use Rattle.gm_laws.specs.Laws.{SentSo};
+ghost use Rattle.gm_front.specs.Inputs.{Input, Opens, Gives, Reading, LeadsTo, Reads, refusal_of};
+
+/// Inputs spell one list of steps, and one rest for each slot.
+pub fn one_reading()
+    ensures { (k : Settings) (limits : Limits) (inputs : List Input) (a b : Reading)
+        → Reads k limits inputs a → Reads k limits inputs b → a ≡ b }
+{}
+
+/// A piece may be cut in two inputs that follow each other: whatever comes before and after, the steps are the
+/// same, and so each note and each byte that is queued.
+pub fn any_cut()
+    ensures { (k : Settings) (limits : Limits) (before after : List Input) (c : ℕ) (front back : List ℕ) (whole parts : Reading)
+        → Reads k limits (after ++ Gives c (front ++ back) ∷ before) whole
+        → Reads k limits (after ++ Gives c back ∷ Gives c front ∷ before) parts → whole ≡ parts }
+{}
+
+/// A closing forgets the rest: who isn't open has none, and who is opened begins without one.
+pub fn closing_forgets()
+    ensures forgets { (k : Settings) (limits : Limits) (inputs : List Input) (reading : Reading) (c : ℕ)
+        → Reads k limits inputs reading → is_open c (run k reading.steps).notes ≡ false → reading.rests c ≡ [] }
+    ensures begins { (k : Settings) (limits : Limits) (inputs : List Input) (addr : List ℕ) (old new : Reading) (c : ℕ)
+        → Reads k limits inputs old → LeadsTo k limits (Opens addr) old new
+        → free_slot k (run k old.steps) ≡ Some c → new.rests c ≡ [] }
+{}
+
+/// Of a slot that is open, what was drained since it was opened, followed by what waits, is what was sent; for one
+/// that isn't open nothing waits, and what was drained is a front of what was sent.
+pub fn bytes_queued()
+    ensures { (k : Settings) (limits : Limits) (inputs : List Input) (reading : Reading) (c : ℕ) → Reads k limits inputs reading
+        → SentSo (is_open c (run k reading.steps).notes) c (run k reading.steps).flow }
+{}
+
+/// An input that is refused adds nothing.
+pub fn refused_step()
+    ensures { (k : Settings) (limits : Limits) (input : Input) (old new : Reading) (refused : ApplyError)
+        → refusal_of k input old ≡ Some refused → LeadsTo k limits input old new → new ≡ old }
+{}

@@ -1,6 +1,0 @@
-pub mod Facts
-pub mod Holds
-pub mod Listings
-pub mod Telling
-pub mod Ticks
-pub mod Spare

@@ -1,7 +1,0 @@
-//! A job server that answers from tables: what was proved of the abstract server is true of it.
-#![tactic(auto)]
-
-mod server;
-mod telling;
-
-pub use server::Core;
