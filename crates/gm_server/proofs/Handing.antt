@@ -1,113 +1,118 @@
 -- What a session hands in, unit after unit and piece after piece.
-use Rattle.std.proofs.Common.{◌≡◌, inl, inr, ℕ, ◌<◌, Bool, true, false, List, [], ◌∷◌, ◌++◌, length, map, Option, Some, None, refl, sym, ap, subst, ◌∙◌, arith}
-use Rattle.std.proofs.lemmas.List.{append-nil, append_assoc, map-append, length-append}
+use Rattle.std.proofs.Common.{◌≡◌, ℕ, Bool, true, false, List, [], ◌∷◌, ◌++◌, map, Option, Some, None, Result, Ok, Err, length}
+use Rattle.std.proofs.Common.{refl, sym, ap, subst, ◌∙◌, arith, length-append}
+use Rattle.std.specs.Prelude.{IfSome}
+use Rattle.std.proofs.lemmas.List.{append-nil, append_assoc, map-append}
 use Rattle.std.specs.Io.KnownBytes.{Consumes}
 use Rattle.gm_feeder.specs.declared.units.Limits.{Limits}
-use Rattle.gm_feeder.specs.Units.{Item, IsUnitThen, Waits}
-use Rattle.gm_feeder.specs.Streams.{Stream, GivesUnit, GivesNone, fed}
-use Rattle.gm_feeder.proofs.FrontLemmas.{empty_goes_on}
-use Rattle.gm_feeder.proofs.StreamLemmas.{unit_not_empty, unit_stays}
-use Rattle.gm_notes.specs.Steps.{Step}
-use Rattle.gm_shared.specs.declared.tape.Told.{Told as Kept}
+use Rattle.gm_feeder.specs.Units.{Item, IsFaultOf, Waits}
+use Rattle.gm_feeder.specs.Streams.{Stream, GivesNone, with_bytes}
+use Rattle.gm_feeder.proofs.HeadLemmas.{empty_goes_on}
+use Rattle.gm_feeder.proofs.StreamLemmas.{unit_not_empty}
+use Rattle.gm_notes.specs.declared.event.UnitFault.{UnitFault}
+use Rattle.gm_notes.specs.Steps.{Step, Fault}
+use Rattle.gm_front.specs.Units.{step_of_unit, steps_of, IsFaultAt, BeginsWith, GivesEvent, GivesFaultAs}
+use Rattle.gm_front.proofs.Heads.{begins_then, begins_stay, begins_more}
+use Rattle.gm_shared.specs.declared.tape.Told.{Told}
 use Rattle.gm_shared.specs.Tapes.{events_told}
 use Rattle.gm_server.specs.declared.session.SessionEnd.{SessionEnd}
 use Rattle.gm_server.specs.declared.session.SessionEnd.TheVariants as ends
-use Rattle.gm_server.specs.declared.session.Stop.{Stop}
-use Rattle.gm_server.specs.declared.session.Look.{Look}
-use Rattle.gm_server.specs.declared.session.Look.TheVariants as looks
-use Rattle.gm_server.specs.Sessions.{step_of_unit, Adds, Begins, IsTail, IsWhole, Reads, AppliesUnit, TakesUnit, EndsHere, Looks, Unloads, TakesPiece}
+use Rattle.gm_server.specs.Sessions.{Adds, HandsIn, IsWhole, Reads, Applies, GoesOn, Breaks, Unloads, TakesPiece}
 
 -- ---- events told, one after another
 
-pub adds_none : (taped : Bool) (share : List Kept) → Adds taped [] share share
+pub adds_none : (taped : Bool) (share : List Told) → Adds taped [] share share
 adds_none true share = sym (append-nil (events_told share))
 adds_none false share = tt
 
-pub adds_then : (taped : Bool) (xs ys : List Step) (share mid after : List Kept) → Adds taped xs share mid → Adds taped ys mid after → Adds taped (xs ++ ys) share after
+adds_then : (taped : Bool) (xs ys : List Step) (share mid after : List Told) → Adds taped xs share mid → Adds taped ys mid after → Adds taped (xs ++ ys) share after
 adds_then true xs ys share mid after a b = b ∙ (ap (λ zs. zs ++ ys) a ∙ append_assoc (events_told share) xs ys)
 adds_then false xs ys share mid after a b = tt
 
-pub adds_same : (taped : Bool) (xs ys : List Step) (share after : List Kept) → xs ≡ ys → Adds taped xs share after → Adds taped ys share after
+adds_same : (taped : Bool) (xs ys : List Step) (share after : List Told) → xs ≡ ys → Adds taped xs share after → Adds taped ys share after
 adds_same taped xs ys share after e a = subst (λ zs. Adds taped zs share after) e a
 
--- ---- units, one after another
-
-begins_then : (limits : Limits) (a b c : List ℕ) (items more : List Item) → Begins limits a items b → Begins limits b more c → Begins limits a (items ++ more) c
-begins_then limits a b c [] more f s = subst (λ bytes. Begins limits bytes more c) (sym f) s
-begins_then limits a b c (item ∷ items) more f s = (f.0, f.1, begins_then limits f.0 b c items more f.2 s)
-
-begins_stay : (limits : Limits) (bytes rest more : List ℕ) (items : List Item) → Begins limits bytes items rest → Begins limits (bytes ++ more) items (rest ++ more)
-begins_stay limits bytes rest more [] b = ap (λ xs. xs ++ more) b
-begins_stay limits bytes rest more (item ∷ items) b = (b.0 ++ more, unit_stays limits bytes more item b.0 b.1, begins_stay limits b.0 rest more items b.2)
-
--- ---- a look
-
-pub look_unit : (taped : Bool) (c : ℕ) (old : Stream) (item : Item) (look : Look) (share after : List Kept) (new : Stream) → GivesUnit old item new → AppliesUnit taped (step_of_unit c item) look share after
-    → Looks taped c old look share after new
-look_unit taped c old item looks.Unit share after new g a = record { item = item; gives = g; adds = a }
-look_unit taped c old item looks.Wait share after new g a = absurd a
-look_unit taped c old item (looks.End stop) share after new g a = record { tail = []; tail_is = inl refl; adds = a }
+-- the steps of units, and then more
+steps_then : (c : ℕ) (items more : List Item) (fault : Option UnitFault) → map (step_of_unit c) items ++ steps_of c more fault ≡ steps_of c (items ++ more) fault
+steps_then c [] more fault = refl
+steps_then c (item ∷ items) more fault = ap (λ steps. step_of_unit c item ∷ steps) (steps_then c items more fault)
 
 -- ---- a feeder that is emptied
 
-pub record Handed (taped : Bool) (c : ℕ) (old : Stream) (share after : List Kept) (new : Stream) : Type 0 where
+-- these units were handed in
+pub record Handed (taped : Bool) (c : ℕ) (limits : Limits) (bytes rest : List ℕ) (share after : List Told) : Type 0 where
   pub items : List Item
-  pub begins : Begins old.limits old.pending items new.pending
-  pub limited : new.limits ≡ old.limits
+  pub begins : BeginsWith limits bytes items rest
   pub adds : Adds taped (map (step_of_unit c) items) share after
 
-pub handed_none : (taped : Bool) (c : ℕ) (old : Stream) (share : List Kept) → Handed taped c old share share old
-handed_none taped c old share = record { items = []; begins = refl; limited = refl; adds = adds_none taped share }
+pub handed_none : (taped : Bool) (c : ℕ) (limits : Limits) (bytes : List ℕ) (share : List Told) → Handed taped c limits bytes bytes share share
+handed_none taped c limits bytes share = record { items = []; begins = refl; adds = adds_none taped share }
 
--- each unit has bytes
-pub falls : (old new : Stream) (item : Item) → GivesUnit old item new → length new.pending < length old.pending
-falls old new item g =
-    let some = unit_not_empty old.limits g.unit.whole item g.unit.unit in
-    omega (arith, some, ap length g.unit.joined, length-append g.unit.whole new.pending)
+-- what was handed in, with the fault that stands behind it or without
+hands : (taped : Bool) (c : ℕ) (limits : Limits) (bytes rest : List ℕ) (fault : Option UnitFault) (share mid after : List Told) → Handed taped c limits bytes rest share mid
+    → IfSome fault (λ fault. IsFaultAt limits rest fault) → Adds taped (steps_of c [] fault) mid after → HandsIn taped c limits bytes rest fault share after
+hands taped c limits bytes rest fault share mid after h stands adds = record {
+  items = h.items;
+  begins = h.begins;
+  stands = stands;
+  adds = adds_then taped (map (step_of_unit c) h.items) (steps_of c [] fault) share mid after h.adds adds;
+}
 
-module _ (taped : Bool) (c : ℕ) (old : Stream) (share mid_share after : List Kept) (mid new : Stream) (h : Handed taped c old share mid_share mid) where
-  pub handed_more : TakesUnit taped c mid mid_share after new → Handed taped c old share after new
-  handed_more t =
-      let unit : IsUnitThen old.limits mid.pending t.item new.pending = subst (λ (l : Limits). IsUnitThen l mid.pending t.item new.pending) h.limited t.gives.unit in
-      record {
-        items = h.items ++ t.item ∷ [];
-        begins = begins_then old.limits old.pending mid.pending new.pending h.items (t.item ∷ []) h.begins (new.pending, unit, refl);
-        limited = ap (λ (s : Stream). s.limits) t.gives.kept ∙ h.limited;
-        adds = adds_same taped _ _ share after (sym (map-append (step_of_unit c) h.items (t.item ∷ []))) (adds_then taped _ _ share mid_share after h.adds t.adds);
-      }
+-- so many units of the feeder were handed in
+pub record Unloading (taped : Bool) (c : ℕ) (old : Stream) (share after : List Told) (new : Stream) : Type 0 where
+  pub handed : Handed taped c old.limits old.pending new.pending share after
+  pub limited : new.limits ≡ old.limits
 
-  pub handed_wait : GivesNone mid new × Adds taped [] mid_share after → Unloads taped c old None share after new
-  handed_wait w = (
-    record {
-      items = h.items;
-      begins = subst (λ (s : Stream). Begins old.limits old.pending h.items s.pending) (sym w.0.kept) h.begins;
-      tail_is = inl refl;
-      adds = adds_then taped _ [] share mid_share after h.adds w.1;
-    },
-    subst (λ (s : Stream). Waits old.limits s.pending) (sym w.0.kept) (subst (λ (l : Limits). Waits l mid.pending) h.limited w.0.waits),
-  )
+pub unloading_none : (taped : Bool) (c : ℕ) (old : Stream) (share : List Told) → Unloading taped c old share share old
+unloading_none taped c old share = record { handed = handed_none taped c old.limits old.pending share; limited = refl }
 
-  pub handed_end : (stop : Stop) → EndsHere taped c mid mid_share after → Unloads taped c old (Some stop) share after new
-  handed_end stop e = (
-    mid.pending,
-    e.tail,
-    record {
-      items = h.items;
-      begins = h.begins;
-      tail_is = subst (λ (l : Limits). IsTail c l mid.pending e.tail) h.limited e.tail_is;
-      adds = adds_then taped _ e.tail share mid_share after h.adds e.adds;
-    },
-  )
+module _ (taped : Bool) (c : ℕ) (old : Stream) (share mid_share after : List Told) (mid new : Stream) (u : Unloading taped c old share mid_share mid) where
+  pub unloading_more : (s : Step) → GivesEvent c mid s new → Applies taped s (Ok tt) mid_share after → Unloading taped c old share after new
+  unloading_more s g applies = record {
+    handed = record {
+      items = u.handed.items ++ g.item ∷ [];
+      begins = begins_more old.limits old.pending u.handed.items g.item mid new u.limited u.handed.begins g.gives;
+      adds = adds_same taped _ _ share after (sym (map-append (step_of_unit c) u.handed.items (g.item ∷ [])))
+          (adds_then taped _ _ share mid_share after u.handed.adds (adds_same taped _ _ mid_share after (ap (λ (s : Step). s ∷ []) g.is_step) applies));
+    };
+    limited = ap (λ (s : Stream). s.limits) g.gives.kept ∙ u.limited;
+  }
+
+  pub unloads_all : GivesNone mid new → mid_share ≡ after → Unloads taped c old (Ok tt) share after new
+  unloads_all w same = record {
+    hands = hands taped c old.limits old.pending new.pending None share mid_share after
+        (subst (λ (s : Stream). Handed taped c old.limits old.pending s.pending share mid_share) (sym w.kept) u.handed) tt (subst (λ (l : List Told). Adds taped [] mid_share l) same (adds_none taped mid_share));
+    waits = subst (λ (s : Stream). Waits old.limits s.pending) (sym w.kept) (subst (λ (l : Limits). Waits l mid.pending) u.limited w.waits);
+    limited = ap (λ (s : Stream). s.limits) w.kept ∙ u.limited;
+  }
+
+  -- the unit or the fault that stands there was refused
+  pub unloads_some : (s : Step) (end : SessionEnd) → Applies taped s (Err end) mid_share after → Unloads taped c old (Err end) share after new
+  unloads_some s end applies = record {
+    rest = mid.pending;
+    fault = None;
+    hands = hands taped c old.limits old.pending mid.pending None share mid_share after u.handed tt applies.0;
+    broken = applies.1;
+  }
+
+  pub unloads_fault : (fault : UnitFault) → GivesFaultAs mid fault new → Applies taped (Fault c fault) (Ok tt) mid_share after → Unloads taped c old (Err ends.Shut) share after new
+  unloads_fault fault g applies = record {
+    rest = mid.pending;
+    fault = Some fault;
+    hands = hands taped c old.limits old.pending mid.pending (Some fault) share mid_share after u.handed
+        (record { fed = g.fed; named = g.named; stands = subst (λ (l : Limits). IsFaultOf l mid.pending g.fed) u.limited g.gives.stands }) applies;
+    broken = λ whole. whole;
+  }
 
 -- ---- a piece
 
-pub piece_unfed : (taped : Bool) (c : ℕ) (old : Stream) (piece : List ℕ) (stop : Stop) (share : List Kept) (new : Stream) → TakesPiece taped c old piece (Some stop) share share new
-piece_unfed taped c old piece stop share new =
-    (old.pending ++ piece, [], record { items = []; begins = refl; tail_is = inl refl; adds = adds_none taped share })
-
-pub piece_fed : (taped : Bool) (c : ℕ) (old mid : Stream) (piece : List ℕ) (end : Option Stop) (share after : List Kept) (new : Stream) → mid ≡ fed old piece → Unloads taped c mid end share after new
-    → TakesPiece taped c old piece end share after new
-piece_fed taped c old mid piece end share after new is u = subst (λ (s : Stream). Unloads taped c s end share after new) is u
+pub piece_unfed : (taped : Bool) (c : ℕ) (old : Stream) (piece : List ℕ) (share : List Told) (new : Stream) → TakesPiece taped c old piece (Err ends.Memory) share share new
+piece_unfed taped c old piece share new = record {
+  rest = old.pending ++ piece;
+  fault = None;
+  hands = hands taped c old.limits (old.pending ++ piece) (old.pending ++ piece) None share share share (handed_none taped c old.limits (old.pending ++ piece) share) tt (adds_none taped share);
+  broken = λ whole. whole;
+}
 
 -- ---- a session
 
@@ -122,42 +127,51 @@ consumes_none None = tt
 consumes_none (Some xa) = refl
 
 -- so much was read, and all of it that is a unit was handed in
-pub record Reading (taped : Bool) (c : ℕ) (limits : Limits) (old now : Option (List ℕ)) (share after : List Kept) (feeder : Stream) : Type 0 where
+pub record Reading (taped : Bool) (c : ℕ) (limits : Limits) (old now : Option (List ℕ)) (share after : List Told) (feeder : Stream) : Type 0 where
   pub read : List ℕ
   pub consumes : Consumes old now read
   pub limited : feeder.limits ≡ limits
-  pub items : List Item
-  pub begins : Begins limits read items feeder.pending
+  pub handed : Handed taped c limits read feeder.pending share after
   pub waits : Waits limits feeder.pending
-  pub adds : Adds taped (map (step_of_unit c) items) share after
 
-pub reading_none : (taped : Bool) (c : ℕ) (limits : Limits) (old : Option (List ℕ)) (share : List Kept) (feeder : Stream) → feeder.limits ≡ limits → feeder.pending ≡ [] → Waits limits []
-    → Reading taped c limits old old share share feeder
-reading_none taped c limits old share feeder limited empty waits = record {
-  read = [];
-  consumes = consumes_none old;
-  limited = limited;
-  items = [];
-  begins = sym empty;
-  waits = subst (λ rest. Waits limits rest) (sym empty) waits;
-  adds = adds_none taped share;
+-- nothing stands at the end of no bytes
+waits_none : (limits : Limits) → Waits limits []
+waits_none limits = record {
+  no_unit = λ item after u. let some = unit_not_empty limits u.whole item u.unit in omega (arith, some, ap length u.joined, length-append u.whole after);
+  goes_on = empty_goes_on limits [] (omega arith) refl;
 }
 
-module _ (taped : Bool) (c : ℕ) (limits : Limits) (old now new : Option (List ℕ)) (share mid after : List Kept) (feeder : Stream) (r : Reading taped c limits old now share mid feeder) where
-  pub reading_more : (d : ℕ) → d ≡ c → (piece : List ℕ) (next : Stream) → Consumes now new piece → next.limits ≡ feeder.limits → TakesPiece taped d feeder piece None mid after next
-      → Reading taped c limits old new share after next
-  reading_more d here piece next consumes limited taken =
-      let t = subst (λ (slot : ℕ). TakesPiece taped slot feeder piece None mid after next) here taken in
-      let begins = subst (λ (l : Limits). Begins l (feeder.pending ++ piece) t.0.items next.pending) r.limited t.0.begins in
+pub reading_none : (taped : Bool) (c : ℕ) (old : Option (List ℕ)) (share : List Told) (feeder : Stream) → feeder.pending ≡ [] → Reading taped c feeder.limits old old share share feeder
+reading_none taped c old share feeder empty = record {
+  read = [];
+  consumes = consumes_none old;
+  limited = refl;
+  handed = subst (λ rest. Handed taped c feeder.limits [] rest share share) (sym empty) (handed_none taped c feeder.limits [] share);
+  waits = subst (λ rest. Waits feeder.limits rest) (sym empty) (waits_none feeder.limits);
+}
+
+module _ (taped : Bool) (c : ℕ) (limits : Limits) (old now new : Option (List ℕ)) (share mid after : List Told) (feeder : Stream) (r : Reading taped c limits old now share mid feeder) where
+  -- more units, and the fault behind them, after those that were handed in
+  hands_more : (piece rest : List ℕ) (fault : Option UnitFault) → HandsIn taped c feeder.limits (feeder.pending ++ piece) rest fault mid after → HandsIn taped c limits (r.read ++ piece) rest fault share after
+  hands_more piece rest fault h =
+      let begins = subst (λ (l : Limits). BeginsWith l (feeder.pending ++ piece) h.items rest) r.limited h.begins in
+      record {
+        items = r.handed.items ++ h.items;
+        begins = begins_then limits (r.read ++ piece) (feeder.pending ++ piece) rest r.handed.items h.items (begins_stay limits r.read feeder.pending piece r.handed.items r.handed.begins) begins;
+        stands = subst (λ (l : Limits). IfSome fault (λ fault. IsFaultAt l rest fault)) r.limited h.stands;
+        adds = adds_same taped _ _ share after (steps_then c r.handed.items h.items fault) (adds_then taped _ _ share mid after r.handed.adds h.adds);
+      }
+
+  pub reading_more : (d : ℕ) → d ≡ c → (piece : List ℕ) (next : Stream) → Consumes now new piece → TakesPiece taped d feeder piece (Ok tt) mid after next → Reading taped c limits old new share after next
+  reading_more d here piece next consumes taken =
+      let t = subst (λ (slot : ℕ). TakesPiece taped slot feeder piece (Ok tt) mid after next) here taken in
+      let more = hands_more piece next.pending None t.hands in
       record {
         read = r.read ++ piece;
         consumes = consumes_then old now new r.read piece r.consumes consumes;
-        limited = limited ∙ r.limited;
-        items = r.items ++ t.0.items;
-        begins = begins_then limits (r.read ++ piece) (feeder.pending ++ piece) next.pending r.items t.0.items (begins_stay limits r.read feeder.pending piece r.items r.begins) begins;
-        waits = subst (λ (l : Limits). Waits l next.pending) r.limited t.1;
-        adds = adds_same taped _ _ share after (ap (λ xs. map (step_of_unit c) r.items ++ xs) (append-nil (map (step_of_unit c) t.0.items)) ∙ sym (map-append (step_of_unit c) r.items t.0.items))
-            (adds_then taped _ _ share mid after r.adds t.0.adds);
+        limited = t.limited ∙ r.limited;
+        handed = record { items = more.items; begins = more.begins; adds = adds_same taped _ _ share after (append-nil (map (step_of_unit c) more.items)) more.adds };
+        waits = subst (λ (l : Limits). Waits l next.pending) r.limited t.waits;
       }
 
   pub reading_ends : (end : SessionEnd) → Consumes now new [] → Reads taped c limits old new end share mid
@@ -165,53 +179,21 @@ module _ (taped : Bool) (c : ℕ) (limits : Limits) (old now new : Option (List 
     read = r.read ++ [];
     consumes = consumes_then old now new r.read [] r.consumes consumes;
     rest = feeder.pending;
-    tail = [];
-    hands = record {
-      items = r.items;
-      begins = subst (λ bytes. Begins limits bytes r.items feeder.pending) (sym (append-nil r.read)) r.begins;
-      tail_is = inl refl;
-      adds = adds_same taped _ _ share mid (sym (append-nil (map (step_of_unit c) r.items))) r.adds;
-    };
+    fault = None;
+    hands = hands taped c limits (r.read ++ []) feeder.pending None share mid mid
+        (subst (λ bytes. Handed taped c limits bytes feeder.pending share mid) (sym (append-nil r.read)) r.handed) tt (adds_none taped mid);
     whole = λ w. (refl, r.waits);
   }
 
-  pub reading_stops : (d : ℕ) → d ≡ c → (piece : List ℕ) (next : Stream) (stop : Stop) (end : SessionEnd) → (IsWhole end → ⊥) → Consumes now new piece
-      → TakesPiece taped d feeder piece (Some stop) mid after next → Reads taped c limits old new end share after
-  reading_stops d here piece next stop end broken consumes taken =
-      let t = subst (λ (slot : ℕ). TakesPiece taped slot feeder piece (Some stop) mid after next) here taken in
-      let hands = t.2 in
-      let begins = subst (λ (l : Limits). Begins l (feeder.pending ++ piece) hands.items t.0) r.limited hands.begins in
+  pub reading_breaks : (d : ℕ) → d ≡ c → (piece : List ℕ) (next : Stream) (end : SessionEnd) → Consumes now new piece → TakesPiece taped d feeder piece (Err end) mid after next
+      → Reads taped c limits old new end share after
+  reading_breaks d here piece next end consumes taken =
+      let t = subst (λ (slot : ℕ). TakesPiece taped slot feeder piece (Err end) mid after next) here taken in
       record {
         read = r.read ++ piece;
         consumes = consumes_then old now new r.read piece r.consumes consumes;
-        rest = t.0;
-        tail = t.1;
-        hands = record {
-          items = r.items ++ hands.items;
-          begins = begins_then limits (r.read ++ piece) (feeder.pending ++ piece) t.0 r.items hands.items (begins_stay limits r.read feeder.pending piece r.items r.begins) begins;
-          tail_is = subst (λ (l : Limits). IsTail c l t.0 t.1) r.limited hands.tail_is;
-          adds = adds_same taped _ _ share after
-              (sym (append_assoc (map (step_of_unit c) r.items) (map (step_of_unit c) hands.items) t.1) ∙ ap (λ xs. xs ++ t.1) (sym (map-append (step_of_unit c) r.items hands.items)))
-              (adds_then taped _ _ share mid after r.adds hands.adds);
-        };
-        whole = λ w. absurd (broken w);
+        rest = t.rest;
+        fault = t.fault;
+        hands = hands_more piece t.rest t.fault t.hands;
+        whole = λ w. absurd (t.broken w);
       }
-
--- nothing stands at the end of no bytes
-pub waits_none : (limits : Limits) → Waits limits []
-waits_none limits = record {
-  no_unit = λ item after u. let some = unit_not_empty limits u.whole item u.unit in omega (arith, some, ap length u.joined, length-append u.whole after);
-  goes_on = empty_goes_on limits [] (omega arith) refl;
-}
-
-pub shut_breaks : IsWhole ends.Shut → ⊥
-shut_breaks (inl e) = absurd cc
-shut_breaks (inr e) = absurd cc
-
-pub memory_breaks : IsWhole ends.Memory → ⊥
-memory_breaks (inl e) = absurd cc
-memory_breaks (inr e) = absurd cc
-
-pub turns_break : IsWhole ends.Turns → ⊥
-turns_break (inl e) = absurd cc
-turns_break (inr e) = absurd cc

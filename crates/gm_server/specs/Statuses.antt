@@ -1,9 +1,10 @@
 -- The numbers of errors, and the statuses that the program ends with.
-use Rattle.std.specs.Prelude.{ℕ}
+use Rattle.std.specs.Prelude.{ℕ, Option, Result, Ok, Err}
 use Rattle.gm_server.specs.declared.error.ServeError.{ServeError}
 use Rattle.gm_server.specs.declared.error.ServeError.TheVariants as errors
-use Rattle.gm_server.specs.declared.run.Stop.{Stop}
-use Rattle.gm_server.specs.declared.run.Stop.TheVariants as stops
+use Rattle.gm_server.specs.declared.run.RunError.{RunError}
+use Rattle.gm_server.specs.declared.run.RunError.TheVariants as errors_of_run
+use Rattle.gm_server.specs.declared.settings.Served.{Served}
 
 abbrev pub serve_error_number : ServeError → ℕ
 serve_error_number errors.Memory = 6
@@ -15,10 +16,15 @@ serve_error_status errors.Memory = 3
 serve_error_status errors.Differs = 4
 serve_error_status errors.Listen = 3
 
-abbrev pub stop_status : Stop → ℕ
-stop_status stops.Words = 2
-stop_status stops.Name = 2
-stop_status (stops.Port error) = 3
-stop_status stops.Seed = 3
-stop_status stops.Output = 3
-stop_status (stops.Serve error) = serve_error_status error
+abbrev pub run_status : RunError → ℕ
+run_status errors_of_run.Arguments = 2
+run_status errors_of_run.Name = 2
+run_status (errors_of_run.Listen address error) = 3
+run_status errors_of_run.Seed = 3
+run_status errors_of_run.Output = 3
+run_status (errors_of_run.Serve error) = serve_error_status error
+
+-- however the program ended
+abbrev pub ended_status : Result (Option Served) RunError → ℕ
+ended_status (Ok served) = 0
+ended_status (Err error) = run_status error

@@ -1,6 +1,6 @@
 -- What a writer sends at a time.
 use Rattle.std.specs.Prelude.{ℕ, List, [], ◌++◌, Bool, true, false}
-use Rattle.gm_packet.specs.Writing.{noop, answer_packet}
+use Rattle.gm_packet.specs.Answers.{noop, answer_packet}
 
 -- the NOOP, where one was taken
 abbrev pub noop_if : Bool → List ℕ

@@ -3,7 +3,7 @@
 use crate::connection::start;
 use crate::error::ServeError;
 use crate::gate::Gate;
-use crate::serving::Serving;
+use crate::state::ServerState;
 use gm_notes::Event;
 use gm_shared::{BookName, Desk};
 use std::alloc::AllocError;
@@ -15,13 +15,15 @@ use std::thread::{Scope, Threads};
 use std::time::{Clock, Duration, Instant};
 use std::{io, thread};
 
-/// How many milliseconds the control thread waits for somebody to call. It is what a tick and the end may be late by.
-const CALL: u64 = 50;
+/// How long the control thread waits for a connection, in milliseconds. A tick and the end may be late by this.
+const ACCEPT_TIMEOUT: u64 = 50;
 
-/// Has `accept` return where nobody calls for a while.
-pub(crate) fn limit_waiting(listener: &TcpListener) -> io::Result<()> {
+/// Has `accept` return where no connection comes for a while.
+pub(crate) fn set_accept_timeout(listener: &TcpListener) -> io::Result<()> {
     let same = listener.try_clone()?;
-    TcpStream::from(OwnedFd::from(same)).set_read_timeout(Some(Duration::from_millis(CALL)))
+    TcpStream::from(OwnedFd::from(same)).set_read_timeout(Some(Duration::from_millis(
+        ACCEPT_TIMEOUT,
+    )))
 }
 
 /// Sets up an accepted socket, which has its listener's timeout at first.
@@ -38,7 +40,7 @@ fn goes_on(error: &io::Error) -> bool {
     )
 }
 
-/// Whether nobody called, or the one who did is gone.
+/// Whether no connection came, or the one that did is gone.
 fn is_usual(error: &io::Error) -> bool {
     matches!(
         error.kind(),
@@ -52,7 +54,7 @@ fn is_usual(error: &io::Error) -> bool {
 /// What the control thread works with.
 #[derive(Drop)]
 pub(crate) struct Control<'s, K: BookName> {
-    serving: &'s Serving<K>,
+    state: &'s ServerState<K>,
     desk: Desk<K>,
     /// How many connections were opened.
     opened: u64,
@@ -62,9 +64,9 @@ pub(crate) struct Control<'s, K: BookName> {
 }
 
 impl<'s, K: BookName + Send + Sync> Control<'s, K> {
-    pub(crate) fn new(rt: &impl Clock, serving: &'s Serving<K>, desk: Desk<K>) -> Control<'s, K> {
+    pub(crate) fn new(rt: &impl Clock, state: &'s ServerState<K>, desk: Desk<K>) -> Control<'s, K> {
         Control {
-            serving,
+            state,
             desk,
             opened: 0,
             begun: Instant::now(rt).ok(),
@@ -84,7 +86,7 @@ impl<'s, K: BookName + Send + Sync> Control<'s, K> {
         if now != self.second {
             self.second = now;
             // Where memory is wanting, the next second is told.
-            let _ = self.serving.apply(rt, &mut self.desk, Event::Tick { now });
+            let _ = self.state.apply(rt, &mut self.desk, Event::Tick { now });
         }
     }
 
@@ -100,19 +102,19 @@ impl<'s, K: BookName + Send + Sync> Control<'s, K> {
         let Ok(()) = prepare(&stream) else {
             return Ok(());
         };
-        let alloc = self.serving.alloc();
+        let alloc = self.state.alloc();
         let ip = peer.ip();
         let addr = format!(in alloc; "{ip}")?;
         let stream = Arc::new(alloc, stream)?;
         let opening = Event::Open {
             addr: addr.as_bytes(),
         };
-        let Ok(Some(slot)) = self.serving.apply(rt, &mut self.desk, opening) else {
+        let Ok(Some(slot)) = self.state.apply(rt, &mut self.desk, opening) else {
             return Ok(());
         };
         self.opened = self.opened.saturating_add(1);
-        if !start(scope, rt, self.serving, gate, slot, stream) {
-            self.serving.close(rt, &mut self.desk, slot);
+        if !start(scope, rt, self.state, gate, slot, stream) {
+            self.state.close(rt, &mut self.desk, slot);
         }
         Ok(())
     }
@@ -135,15 +137,15 @@ impl<'s, K: BookName + Send + Sync> Control<'s, K> {
                 Err(error) if is_usual(&error) => {}
                 Err(error) if goes_on(&error) => {
                     // There may be too many open files, which others have to close first.
-                    thread::sleep(rt, Duration::from_millis(CALL));
+                    thread::sleep(rt, Duration::from_millis(ACCEPT_TIMEOUT));
                 }
                 Err(_) => return Err(ServeError::Listen),
             }
-            if self.serving.is_over() {
+            if self.state.is_over() {
                 break;
             }
         }
-        if self.serving.is_wanting() {
+        if self.state.out_of_memory() {
             return Err(ServeError::Memory);
         }
         Ok(())
@@ -160,7 +162,7 @@ impl<'s, K: BookName + Send + Sync> Control<'s, K> {
     ) -> (Desk<K>, Result<u64, ServeError>) {
         let outcome = self.take_all(scope, rt, gate, listener);
         let Control {
-            serving,
+            state,
             desk,
             opened,
             ..
@@ -168,7 +170,7 @@ impl<'s, K: BookName + Send + Sync> Control<'s, K> {
         match outcome {
             Ok(()) => (desk, Ok(opened)),
             Err(error) => {
-                serving.stop();
+                state.stop();
                 (desk, Err(error))
             }
         }

@@ -1,7 +1,7 @@
 //! The threads of a connection.
 
 use crate::gate::Gate;
-use crate::serving::Serving;
+use crate::state::ServerState;
 use gm_shared::BookName;
 use std::alloc::Global;
 use std::net::TcpStream;
@@ -12,12 +12,12 @@ use std::thread::{Scope, Threads};
 pub(crate) fn start<'s, E, K: BookName + Send + Sync, G: Gate, R: Threads + Wait + Sync>(
     scope: &Scope<'s, E>,
     rt: &'s R,
-    serving: &'s Serving<K>,
+    state: &'s ServerState<K>,
     gate: &'s G,
     slot: u32,
     stream: Arc<TcpStream, Global>,
 ) -> bool {
-    let Some(lane) = serving.lane(slot) else {
+    let Some(lane) = state.lane(slot) else {
         return false;
     };
     let Ok(sending) = Arc::try_clone(&stream) else {
@@ -25,21 +25,21 @@ pub(crate) fn start<'s, E, K: BookName + Send + Sync, G: Gate, R: Threads + Wait
     };
     lane.begin(rt, sending);
     if scope
-        .spawn(move || lane.run_writer(rt, serving.shared()))
+        .spawn(move || lane.run_writer(rt, state.shared()))
         .is_err()
     {
         lane.release(rt);
         return false;
     }
-    serving.begin();
+    state.begin();
     let reader = move || {
-        serving.run_reader(rt, gate, slot, &stream);
+        state.run_reader(rt, gate, slot, &stream);
         drop(stream);
-        serving.end();
+        state.end();
     };
     if scope.spawn(reader).is_err() {
         lane.end(rt);
-        serving.end();
+        state.end();
         return false;
     }
     true

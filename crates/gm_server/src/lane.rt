@@ -1,6 +1,6 @@
 //! What a slot has of its own: where its connection's events are handed in, and the way of its bytes to the socket.
 
-use crate::turn::{Halt, noop_if, write_both};
+use crate::message::{Halt, noop_if, write_both};
 use crossbeam_utils::sync::{Parker, Unparker};
 use gm_shared::{BookName, Desk, Pen, Shared};
 use std::alloc::{AllocError, Global};
@@ -10,24 +10,24 @@ use std::sync::atomic::{AtomicBool, Ordering};
 use std::sync::{Arc, Condvar, Mutex, Wait};
 use std::time::Duration;
 
-/// How many milliseconds a write waits that isn't the writer's: about the least that a system can wait.
-const AT_ONCE: u64 = 1;
+/// How long a write waits that isn't the writer's, in milliseconds: about the least that a system can wait.
+const WRITE_TIMEOUT: u64 = 1;
 
-/// How many milliseconds a write of the writer waits at a time, for a peer that takes nothing.
-const PATIENT: u64 = 250;
+/// How long a write of the writer waits at a time for a peer that takes nothing, in milliseconds.
+const WRITER_TIMEOUT: u64 = 250;
 
-/// How many such waits in turn end a connection that is to end, where the peer takes nothing at all.
-const LAST_WAITS: u32 = 8;
+/// After this many such waits in a row a connection that is to end is ended, where the peer takes nothing at all.
+const MAX_STALLS: u32 = 8;
 
 /// What is being sent: drained bytes, and then a NOOP where one was taken.
 #[derive(Drop)]
-struct Turn {
+struct Message {
     bytes: Vec<u8>,
     took: bool,
     written: usize,
 }
 
-impl Turn {
+impl Message {
     /// Sends what isn't written yet.
     fn send<W: Write>(&mut self, w: &mut W) -> Result<(), Halt> {
         let noop = noop_if(self.took);
@@ -59,7 +59,7 @@ pub(crate) enum Delivery {
 pub(crate) struct Outgoing<K: BookName> {
     pen: Pen<K>,
     stream: Option<Arc<TcpStream, Global>>,
-    left: Option<Turn>,
+    left: Option<Message>,
     has_writer: bool,
 }
 
@@ -73,32 +73,32 @@ impl<K: BookName> Outgoing<K> {
         self.left = None;
     }
 
-    /// How much of the present turn is written.
+    /// How much of the present message is written.
     fn written(&self) -> Option<usize> {
         match &self.left {
-            Some(turn) => Some(turn.written),
+            Some(message) => Some(message.written),
             None => None,
         }
     }
 
-    /// Sets how many milliseconds a write waits.
-    fn set_patience(&self, patience: u64) {
+    /// Sets how long a write waits, in milliseconds.
+    fn set_write_timeout(&self, timeout: u64) {
         if let Some(stream) = &self.stream {
             // Where it fails, writes fail too.
-            let _ = stream.set_write_timeout(Some(Duration::from_millis(patience)));
+            let _ = stream.set_write_timeout(Some(Duration::from_millis(timeout)));
         }
     }
 
-    /// Sends what is left of the present turn.
+    /// Sends what is left of the present message.
     fn send_left(&mut self) -> Delivery {
         let Some(stream) = &self.stream else {
             return Delivery::Over;
         };
-        let Some(turn) = &mut self.left else {
+        let Some(message) = &mut self.left else {
             return Delivery::Done;
         };
         let mut socket: &TcpStream = stream;
-        match turn.send(&mut socket) {
+        match message.send(&mut socket) {
             Ok(()) => {
                 self.left = None;
                 Delivery::Done
@@ -125,7 +125,7 @@ impl<K: BookName> Outgoing<K> {
         };
         let shut = drained.shut;
         if took || !drained.bytes.is_empty() {
-            self.left = Some(Turn {
+            self.left = Some(Message {
                 bytes: drained.bytes,
                 took,
                 written: 0,
@@ -141,7 +141,7 @@ impl<K: BookName> Outgoing<K> {
 }
 
 /// What a slot has of its own. Each part is behind a lock: the desk is the reader's while a connection has the slot,
-/// the parker the writer's, and what is to be sent is whose turn it is.
+/// the parker the writer's, and what is to be sent is with whoever sends.
 #[derive(Drop)]
 pub(crate) struct Lane<K: BookName> {
     pub(crate) desk: Mutex<Desk<K>>,
@@ -187,7 +187,7 @@ impl<K: BookName> Lane<K> {
         outgoing.stream = Some(stream);
         outgoing.left = None;
         outgoing.has_writer = true;
-        outgoing.set_patience(AT_ONCE);
+        outgoing.set_write_timeout(WRITE_TIMEOUT);
     }
 
     /// Ends the connection, and lets go of it. The writer is at its end, or was never made.
@@ -201,14 +201,14 @@ impl<K: BookName> Lane<K> {
     }
 
     /// Has the writer send what there is, and end the connection.
-    pub(crate) fn hurry(&self) {
+    pub(crate) fn request_close(&self) {
         self.is_ending.store(true, Ordering::SeqCst);
         self.unparker.unpark();
     }
 
     /// Has the writer send what there is, and waits until it has let go of the connection.
     pub(crate) fn end(&self, rt: &impl Wait) {
-        self.hurry();
+        self.request_close();
         let outgoing = self
             .released
             .wait_while(rt, self.outgoing.lock(rt), |outgoing| outgoing.has_writer);
@@ -239,24 +239,24 @@ impl<K: BookName> Lane<K> {
         if outgoing.deliver(rt, shared) != Delivery::Late {
             return;
         }
-        outgoing.set_patience(PATIENT);
-        let mut waits = 0u32;
+        outgoing.set_write_timeout(WRITER_TIMEOUT);
+        let mut stalls = 0u32;
         for _ in rt.forever() {
             let before = outgoing.written();
             if outgoing.deliver(rt, shared) != Delivery::Late {
                 break;
             }
             if outgoing.written() != before {
-                waits = 0;
+                stalls = 0;
             } else if self.is_ending.load(Ordering::SeqCst) {
-                waits = waits.saturating_add(1);
+                stalls = stalls.saturating_add(1);
             }
-            if waits >= LAST_WAITS {
+            if stalls >= MAX_STALLS {
                 outgoing.hang_up();
                 break;
             }
         }
-        outgoing.set_patience(AT_ONCE);
+        outgoing.set_write_timeout(WRITE_TIMEOUT);
     }
 
     /// Runs the writer of a connection.

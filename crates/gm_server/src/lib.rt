@@ -1,4 +1,4 @@
-//! A job server over sockets: what one connection reads and writes, the threads that run them, and the words that the
+//! A job server over sockets: what one connection reads and writes, the threads that run them, and the arguments of the
 //! program `gmd` is given.
 //!
 //! A connection has two threads. Its reader cuts what it reads into units and hands them to the book; its writer
@@ -7,22 +7,23 @@
 #![tactic(auto)]
 
 mod accepting;
+mod args;
 mod connection;
+mod effects;
 mod error;
 mod gate;
 mod lane;
+mod message;
 mod run;
 mod server;
-mod serving;
 mod session;
 mod settings;
-mod turn;
-mod words;
+mod state;
 
 pub use error::ServeError;
 pub use gate::{Gate, OpenGate};
+pub use message::{WriteFault, write_turn};
 pub use run::run_words;
 pub use server::serve;
 pub use session::{SessionEnd, read_session};
 pub use settings::{Served, Settings};
-pub use turn::{WriteFault, write_turn};

@@ -1,15 +1,14 @@
-//! Runs the program on its words.
+//! Runs the program on its arguments.
 
-ghost use Rattle.std.specs.Prelude.{◌≡◌, ◌≤◌, IfOk};
-ghost use Rattle.gm_server.specs.Statuses.{stop_status};
+ghost use Rattle.std.specs.Prelude.{◌≡◌};
+ghost use Rattle.gm_server.specs.Statuses.{run_status, ended_status};
 
+use crate::args::{Args, parse_args};
 use crate::error::ServeError;
 use crate::gate::OpenGate;
 use crate::server::serve;
 use crate::settings::{Served, Settings};
-use crate::words::{Asked, read_words};
 use clap::error::ErrorKind;
-use gm_feeder::Limits;
 use gm_notes::Config;
 use std::alloc::{AllocError, Global};
 use std::hash::RandomState;
@@ -24,97 +23,91 @@ use thiserror::Error;
 
 /// Why the program ends early.
 #[derive(Debug, Drop, Error)]
-enum Stop {
-    /// The words aren't understood, and that was said.
-    #[error("the words aren't understood")]
-    Words,
+enum RunError {
+    /// The arguments are invalid, and that was said.
+    #[error("invalid arguments")]
+    Arguments,
     /// The name can't stand in a job handle.
     #[error("the name is 1 to 40 letters, digits, dots and hyphens")]
     Name,
-    /// The port can't be had.
-    #[error("the port can't be had: {0}")]
-    Port(io::Error),
-    /// There are no random bytes to be had.
-    #[error("there is no random seed")]
+    /// It can't listen.
+    #[error("can't listen on {0}: {1}")]
+    Listen(String, io::Error),
+    /// The system gives no random bytes.
+    #[error("the system gives no random seed")]
     Seed,
     /// Standard output can't be written.
-    #[error("the output can't be written")]
+    #[error("can't write to standard output")]
     Output,
-    /// It didn't serve.
+    /// It stopped serving.
     #[error("{0}")]
     Serve(ServeError),
 }
 
-impl Stop {
+impl RunError {
     /// The status that the program ends with.
     fn status(&self) -> u8
-        ensures { result ≡ stop_status self.now }
+        ensures { result ≡ run_status self.now }
     {
         match self {
-            Stop::Words | Stop::Name => 2,
-            Stop::Serve(ServeError::Differs) => 4,
-            Stop::Port(_) | Stop::Seed | Stop::Output | Stop::Serve(_) => 3,
+            RunError::Arguments | RunError::Name => 2,
+            RunError::Serve(ServeError::Differs) => 4,
+            RunError::Listen(..) | RunError::Seed | RunError::Output | RunError::Serve(_) => 3,
         }
     }
 }
 
-impl From<AllocError> for Stop {
-    fn from(_e: AllocError) -> Stop {
-        Stop::Serve(ServeError::Memory)
+impl From<AllocError> for RunError {
+    fn from(_e: AllocError) -> RunError {
+        RunError::Serve(ServeError::Memory)
     }
 }
 
 /// The outcome of a write to standard output.
-fn written(outcome: io::Result<()>) -> Result<(), Stop> {
+fn written(outcome: io::Result<()>) -> Result<(), RunError> {
     match outcome {
         Ok(()) => Ok(()),
-        Err(_) => Err(Stop::Output),
+        Err(_) => Err(RunError::Output),
     }
 }
 
-/// Says what is wrong with the words, or prints what they ask for.
-fn tell<W: Write>(rt: &impl Eprint, error: &clap::Error, w: &mut W) -> Result<(), Stop> {
+/// Says what is wrong with the arguments, or prints the help or the version that they ask for.
+fn tell<W: Write>(rt: &impl Eprint, error: &clap::Error, w: &mut W) -> Result<(), RunError> {
     if error.kind() == ErrorKind::OutOfMemory {
-        return Err(Stop::Serve(ServeError::Memory));
+        return Err(RunError::Serve(ServeError::Memory));
     }
     if error.use_stderr() {
         // Where standard error fails, there is nobody left to tell.
         let _ = rt.eprint(error);
-        return Err(Stop::Words);
+        return Err(RunError::Arguments);
     }
     written(write!(w, "{error}"))
 }
 
 /// The settings that are asked for.
-fn settings_of(alloc: Global, asked: Asked<'_>) -> Result<Settings, Stop>
-    requires { asked.max_data ≤ 1073741824 }
-    ensures { IfOk result (λ settings. settings.limits.max_bytes ≤ 1073741824) }
-{
-    let name = Vec::from_slice(alloc, asked.name.as_bytes())?;
-    let Ok(config) = Config::new(name, 1, asked.slots, 65_536) else {
-        return Err(Stop::Name);
+fn settings_of(alloc: Global, args: Args<'_>) -> Result<Settings, RunError> {
+    let name = Vec::from_slice(alloc, args.name.as_bytes())?;
+    let Ok(config) = Config::new(name, 1, args.server.slots, 65_536) else {
+        return Err(RunError::Name);
     };
     Ok(Settings {
         config,
-        limits: Limits {
-            max_bytes: asked.max_data,
-            max_line: 1024,
-        },
-        tape: asked.tape,
+        limits: args.server.limits,
+        tape: args.tape,
     })
 }
 
 /// Prints the settings.
-fn print_settings<W: Write>(asked: Asked<'_>, w: &mut W) -> io::Result<()> {
-    let Asked {
+fn print_settings<W: Write>(args: Args<'_>, w: &mut W) -> io::Result<()> {
+    let Args {
         port,
         listen,
-        slots,
         name,
-        max_data,
         tape,
         ..
-    } = asked;
+    } = args;
+    let slots = args.server.slots;
+    let max_data = args.server.limits.max_bytes;
     let tape = u8::from(tape);
     writeln!(
         w,
@@ -129,8 +122,14 @@ fn print_listening<W: Write>(w: &mut W) -> io::Result<()> {
     w.flush()
 }
 
-/// Serves as the words ask.
-fn serve_asked<
+/// That it can't listen, and why.
+fn cannot_listen(alloc: Global, args: Args<'_>, error: io::Error) -> Result<RunError, AllocError> {
+    let Args { port, listen, .. } = args;
+    Ok(RunError::Listen(format!(in alloc; "{listen}:{port}")?, error))
+}
+
+/// Serves as the arguments ask.
+fn serve_on<
     R: Threads
         + Wait
         + Clock
@@ -139,24 +138,22 @@ fn serve_asked<
         + AllocGlobal
         + Sync,
     W: Write,
->(rt: &R, asked: Asked<'_>, settings: Settings, w: &mut W) -> Result<Served, Stop>
-    requires { settings.limits.max_bytes ≤ 1073741824 }
-{
+>(rt: &R, args: Args<'_>, settings: Settings, w: &mut W) -> Result<Served, RunError> {
     let Ok(seed) = RandomState::new(rt) else {
-        return Err(Stop::Seed);
+        return Err(RunError::Seed);
     };
-    let listener = match TcpListener::bind(rt, (asked.listen, asked.port)) {
+    let listener = match TcpListener::bind(rt, (args.listen, args.port)) {
         Ok(listener) => listener,
-        Err(error) => return Err(Stop::Port(error)),
+        Err(error) => return Err(cannot_listen(rt.alloc(), args, error)?),
     };
     written(print_listening(w))?;
     match serve(rt, rt.alloc(), seed, listener, settings, &OpenGate) {
         Ok(served) => Ok(served),
-        Err(error) => Err(Stop::Serve(error)),
+        Err(error) => Err(RunError::Serve(error)),
     }
 }
 
-/// Does what the words ask for. It answers what was served, if anything was.
+/// Does what the arguments ask for. It answers what was served, if anything was.
 fn run<
     R: Threads
         + Wait
@@ -167,28 +164,60 @@ fn run<
         + AllocGlobal
         + Sync,
     W: Write,
->(rt: &R, words: &[String], w: &mut W) -> Result<Option<Served>, Stop> {
-    let asked = match read_words(rt.alloc(), words) {
-        Ok(asked) => asked,
+>(rt: &R, words: &[String], w: &mut W) -> Result<Option<Served>, RunError> {
+    let args = match parse_args(rt.alloc(), words) {
+        Ok(args) => args,
         Err(error) => {
             tell(rt, &error, w)?;
             return Ok(None);
         }
     };
-    let settings = settings_of(rt.alloc(), asked)?;
-    if asked.check {
-        written(print_settings(asked, w))?;
+    let settings = settings_of(rt.alloc(), args)?;
+    if args.check {
+        written(print_settings(args, w))?;
         return Ok(None);
     }
-    let served = serve_asked(rt, asked, settings, w)?;
+    let served = serve_on(rt, args, settings, w)?;
     Ok(Some(served))
 }
 
-/// Runs the program on its words, of which the first is its name, with this standard output. It answers the status that
-/// the program is to end with: 0 after a shutdown, a check, the help or the version; 2 for words that aren't understood
-/// or are out of range; 3 where the port or the random seed can't be had, memory is wanting at the start or, with a
-/// tape, at the end of a connection or of the server, or standard output can't be written; 4 where what the connections
-/// were told isn't what stands on the tape.
+/// How the program ended: the status that it is to end with.
+fn status_of(ended: &Result<Option<Served>, RunError>) -> u8
+    ensures { result ≡ ended_status ended.now }
+{
+    match ended {
+        Ok(_) => 0,
+        Err(error) => error.status(),
+    }
+}
+
+/// Says on standard error how the program ended. Where that fails, there is nobody left to tell.
+fn report<R: Eprint>(rt: &R, ended: &Result<Option<Served>, RunError>) {
+    match ended {
+        Ok(Some(served)) => {
+            let Served {
+                connections,
+                entries,
+            } = *served;
+            let _ = eprintln!(rt; "gmd: ended, connections served: {connections}");
+            if entries > 0 {
+                let _ = eprintln!(rt;
+                    "gmd: the connections were told what stands on the tape, entries: {entries}"
+                );
+            }
+        }
+        Ok(None) | Err(RunError::Arguments) => {}
+        Err(error) => {
+            let _ = eprintln!(rt; "gmd: {error}");
+        }
+    }
+}
+
+/// Runs the program on its arguments, of which the first is its name, with this standard output. It answers the status
+/// that the program is to end with: 0 after a shutdown, a check, the help or the version; 2 for invalid arguments; 3
+/// where it can't listen, the system gives no random seed, standard output can't be written, or memory ran out at the
+/// start or, with a tape, at the end of a connection or of the server; 4 where what the connections were told isn't what
+/// stands on the tape.
 ///
 /// The options are those of gearmand(8) of the same names, `--tape` and `--check`.
 pub fn run_words<
@@ -202,26 +231,7 @@ pub fn run_words<
         + Sync,
     W: Write,
 >(rt: &R, words: &[String], w: &mut W) -> u8 {
-    // Where standard error fails, there is nobody left to tell.
-    match run(rt, words, w) {
-        Ok(None) => 0,
-        Ok(Some(served)) => {
-            let Served {
-                connections,
-                entries,
-            } = served;
-            let _ = eprintln!(rt; "gmd: ended, connections served: {connections}");
-            if entries > 0 {
-                let _ = eprintln!(rt;
-                    "gmd: the connections were told what stands on the tape, entries: {entries}"
-                );
-            }
-            0
-        }
-        Err(Stop::Words) => 2,
-        Err(stop) => {
-            let _ = eprintln!(rt; "gmd: {stop}");
-            stop.status()
-        }
-    }
+    let ended = run(rt, words, w);
+    report(rt, &ended);
+    status_of(&ended)
 }

@@ -1,13 +1,13 @@
 //! Serves.
 
-ghost use Rattle.std.specs.Prelude.{◌≡◌, ◌≤◌, false, IfOk};
+ghost use Rattle.std.specs.Prelude.{◌≡◌, false, IfOk};
 ghost use Rattle.gm_shared.specs.Tapes.{is_on};
 
-use crate::accepting::{Control, limit_waiting};
+use crate::accepting::{Control, set_accept_timeout};
 use crate::error::ServeError;
 use crate::gate::Gate;
-use crate::serving::Serving;
 use crate::settings::{Served, Settings};
+use crate::state::ServerState;
 use gm_feeder::Limits;
 use gm_shared::{Blank, BookName, Desk, Shared, TapeMode};
 use std::alloc::Global;
@@ -23,12 +23,12 @@ use std::time::Clock;
 /// control desk comes back.
 fn run_control<'x, K: BookName + Send + Sync, R: Threads + Wait + Clock + Sync, G: Gate>(
     rt: &'x R,
-    serving: &'x Serving<K>,
+    state: &'x ServerState<K>,
     desk: Desk<K>,
     listener: &'x TcpListener,
     gate: &'x G,
 ) -> (Desk<K>, Result<u64, ServeError>) {
-    let control = Control::new(rt, serving, desk);
+    let control = Control::new(rt, state, desk);
     thread::scope(
         thread::scope_env(),
         rt,
@@ -54,14 +54,13 @@ fn serve_blank<K: BookName + Send + Sync, R: Threads + Wait + Clock + Sync, G: G
 ) -> Result<Served, ServeError>
     requires table { blank.table ≡ K.table }
     requires taped { blank.taped ≡ K.taped }
-    requires sized { limits.max_bytes ≤ 1073741824 }
     ensures { K.taped ≡ false → IfOk result (λ served. served.entries ≡ 0) }
 {
     let (shared, desks, pens, desk) = Shared::<K>::open(alloc, blank)?;
-    let serving = Serving::new(alloc, shared, desks, pens, limits)?;
-    let (desk, outcome) = run_control(rt, &serving, desk, listener, gate);
+    let state = ServerState::new(alloc, shared, desks, pens, limits)?;
+    let (desk, outcome) = run_control(rt, &state, desk, listener, gate);
     let connections = outcome?;
-    let entries = serving.settle(desk)?;
+    let entries = state.settle(desk)?;
     Ok(Served {
         connections,
         entries,
@@ -75,7 +74,7 @@ fn serve_blank<K: BookName + Send + Sync, R: Threads + Wait + Clock + Sync, G: G
 ///
 /// `Memory` comes where there is no memory for the book or for its end, and with a tape where there is none to enter the
 /// end of a connection, which stops the server; `Differs` where what was told isn't what stands on the tape; `Listen`
-/// where the listener fails. That a packet's data are at most a gigabyte is for the caller to see to.
+/// where the listener fails.
 pub fn serve<R: Threads + Wait + Clock + Sync, G: Gate>(
     rt: &R,
     alloc: Global,
@@ -84,7 +83,6 @@ pub fn serve<R: Threads + Wait + Clock + Sync, G: Gate>(
     settings: Settings,
     gate: &G,
 ) -> Result<Served, ServeError>
-    requires { settings.limits.max_bytes ≤ 1073741824 }
     ensures { settings.tape ≡ false → IfOk result (λ served. served.entries ≡ 0) }
 {
     let Settings {
@@ -92,7 +90,7 @@ pub fn serve<R: Threads + Wait + Clock + Sync, G: Gate>(
         limits,
         tape,
     } = settings;
-    let Ok(()) = limit_waiting(&listener) else {
+    let Ok(()) = set_accept_timeout(&listener) else {
         return Err(ServeError::Listen);
     };
     let blank = Blank::new(alloc, seed, config, mode(tape))?;

@@ -1,17 +1,19 @@
 //! What one connection says, from its opening to its end.
 
-ghost use Rattle.std.specs.Prelude.{◌≡◌, ◌<◌, ◌≤◌, length};
+ghost use Rattle.std.specs.Prelude.{◌≡◌, ◌<◌, ◌≤◌, [], length, IfOk, IfErr};
 ghost use Rattle.std.specs.Io.KnownBytes.{IsAtEnd};
 ghost use Rattle.gm_notes.specs.Servers.{step_of, IsSized};
-ghost use Rattle.gm_server.specs.Sessions.{IsWithin, EndsAtEnd, PieceIs, fault_of, Applies, AppliesUnit, AppliesFault, Looks, Unloads, TakesPiece, Reads};
+ghost use Rattle.gm_server.specs.Sessions.{IsPiece, Applies, Unloads, TakesPiece, Reads};
 
+use crate::effects::{Alone, Effects, Notify};
 use crate::gate::Gate;
-use gm_feeder::{FeedFault, Feeder, Limits, Unit};
-use gm_notes::{ApplyError, Event, Mode, UnitFault};
-use gm_shared::{BookName, Desk, Shared, SlotSet};
+use gm_feeder::{Feeder, Limits};
+use gm_front::{Next, next_event};
+use gm_notes::{ApplyError, Event};
+use gm_shared::{BookName, Desk, Shared};
 use std::alloc::Global;
 use std::io::{ErrorKind, Read};
-use std::sync::{Mutex, Wait};
+use std::sync::Wait;
 
 /// The most bytes that are read at a time.
 const PIECE: usize = 16_384;
@@ -20,10 +22,7 @@ const PIECE: usize = 16_384;
 const SHORT_PIECE: usize = 256;
 
 /// The most pieces that a session reads.
-const TURNS: u64 = 1_099_511_627_776;
-
-/// The most slots that there are.
-pub(crate) const MOST_SLOTS: u32 = 1024;
+const MOST_PIECES: u64 = 1_099_511_627_776;
 
 /// Why a session ended.
 #[derive(Clone, Copy, Debug, PartialEq, Eq)]
@@ -40,338 +39,202 @@ pub enum SessionEnd {
     Turns,
 }
 
-/// What came of the units of a piece.
+/// Where a connection's events are applied: its desk, past the gate.
 #[derive(Drop)]
-pub(crate) struct Told {
-    /// The slots for which there may be something to send.
-    pub(crate) touched: SlotSet,
-    /// Whether the server goes on.
-    pub(crate) mode: Mode,
-}
-
-impl Told {
-    /// Nothing came.
-    pub(crate) fn new() -> Told {
-        Told {
-            touched: SlotSet::new(),
-            mode: Mode::Running,
-        }
-    }
-
-    /// Takes a receipt's slots and mode.
-    pub(crate) fn add(&mut self, touched: &SlotSet, mode: Mode) {
-        self.mode = mode;
-        let mut from = 0;
-        for _ in 0..MOST_SLOTS {
-            let Some(slot) = touched.next(from) else {
-                return;
-            };
-            self.touched.insert(slot);
-            from = slot + 1;
-        }
-    }
-}
-
-/// Who is told of what came of a piece, with the book's lock let go.
-pub(crate) trait Notify {
-    fn notify<R: Wait>(&self, rt: &R, told: &Told);
-}
-
-/// Nobody is told.
-pub(crate) struct Nobody;
-
-impl Notify for Nobody {
-    fn notify<R: Wait>(&self, _rt: &R, _told: &Told) {}
-}
-
-/// Why a session ends with a unit or a piece.
-#[derive(Clone, Copy)]
-enum Stop {
-    /// A fault was applied, or the slot was found shut or not open.
-    Shut,
-    /// There was no memory.
-    Memory,
-}
-
-/// What a look at a feeder found.
-#[derive(Clone, Copy)]
-enum Look {
-    /// A unit, which was applied.
-    Unit,
-    /// Nothing that is whole, and no fault.
-    Wait,
-    /// The end of the session.
-    End(Stop),
-}
-
-/// Where a connection's events are applied.
-#[derive(Drop)]
-struct Session<'s, K: BookName, G> {
+struct Applier<'s, K: BookName, R, G> {
+    rt: &'s R,
     shared: &'s Shared<K>,
-    slot: u32,
+    desk: &'s mut Desk<K>,
     gate: &'s G,
-    turnstile: &'s Mutex<()>,
-    turn: u64,
+    slot: u32,
+    /// The next unit's index.
+    index: u64,
+    /// What came of the events since it was told last.
+    effects: Effects,
 }
 
-/// The book's name of a feeder's fault.
-fn unit_fault(fault: FeedFault) -> Option<UnitFault>
-    ensures { result ≡ fault_of fault }
-{
-    match fault {
-        FeedFault::BadMagic => Some(UnitFault::BadMagic),
-        FeedFault::PacketTooLarge => Some(UnitFault::PacketTooLarge),
-        FeedFault::LineTooLong => Some(UnitFault::LineTooLong),
-        FeedFault::Memory => None,
-    }
-}
-
-impl<'s, K: BookName, G: Gate> Session<'s, K, G> {
-    /// Applies an event at the desk. Where it is refused, the session is over.
-    fn apply<R: Wait>(
-        &self,
-        rt: &R,
-        desk: &mut Desk<K>,
-        event: Event<'_>,
-        told: &mut Told,
-    ) -> Result<(), Stop>
+impl<'s, K: BookName, R: Wait, G: Gate> Applier<'s, K, R, G> {
+    /// Applies an event. Where it is refused, the session is over.
+    fn apply(&mut self, event: Event<'_>) -> Result<(), SessionEnd>
         requires { IsSized event }
-        ensures { Applies K.taped (step_of event.entry) result desk.old.share.items desk.new.share.items }
+        ensures applies { Applies K.taped (step_of event.entry) result self.old.desk.now.share.items self.new.desk.now.share.items }
+        ensures same_desk { self.new.desk.ghost_name ≡ self.old.desk.ghost_name }
+        ensures slot { self.new.slot ≡ self.old.slot }
     {
-        match desk.apply(rt, self.shared, event) {
+        match self.desk.apply(self.rt, self.shared, event) {
             Ok(receipt) => {
-                told.add(&receipt.touched, receipt.mode);
+                self.effects.add(&receipt.touched, receipt.mode);
                 Ok(())
             }
-            Err(ApplyError::Memory) => Err(Stop::Memory),
-            Err(_) => Err(Stop::Shut),
+            Err(ApplyError::Memory) => Err(SessionEnd::Memory),
+            Err(_) => Err(SessionEnd::Shut),
         }
     }
 
     /// Lets a unit pass the gate, and applies it.
-    fn apply_unit<R: Wait>(
-        &mut self,
-        rt: &R,
-        desk: &mut Desk<K>,
-        event: Event<'_>,
-        told: &mut Told,
-    ) -> Look
+    fn apply_unit(&mut self, event: Event<'_>) -> Result<(), SessionEnd>
         requires { IsSized event }
-        ensures applies { AppliesUnit K.taped (step_of event.entry) result desk.old.share.items desk.new.share.items }
+        ensures applies { Applies K.taped (step_of event.entry) result self.old.desk.now.share.items self.new.desk.now.share.items }
+        ensures same_desk { self.new.desk.ghost_name ≡ self.old.desk.ghost_name }
         ensures slot { self.new.slot ≡ self.old.slot }
     {
-        self.gate.pass(rt, self.slot, self.turn);
-        self.turn = self.turn.saturating_add(1);
-        match self.apply(rt, desk, event, told) {
-            Ok(()) => Look::Unit,
-            Err(end) => Look::End(end),
-        }
+        self.gate.pass(self.rt, self.slot, self.index);
+        self.index = self.index.saturating_add(1);
+        self.apply(event)
     }
+}
 
-    /// Applies a fault, which ends the session.
-    fn apply_fault<R: Wait>(
-        &self,
-        rt: &R,
-        desk: &mut Desk<K>,
-        fault: FeedFault,
-        told: &mut Told,
-    ) -> Stop
-        ensures { AppliesFault K.taped self.now.slot fault desk.old.share.items desk.new.share.items }
-    {
-        let slot = self.slot;
-        let Some(fault) = unit_fault(fault) else {
-            return Stop::Memory;
-        };
-        match self.apply(rt, desk, Event::Fault { slot, fault }, told) {
-            Ok(()) => Stop::Shut,
-            Err(end) => end,
-        }
-    }
+/// A connection's way in: its bytes are cut into units, and each is applied at its desk.
+#[derive(Drop)]
+struct Session<'s, K: BookName, R, G, N> {
+    applier: Applier<'s, K, R, G>,
+    feeder: Feeder,
+    server: &'s N,
+}
 
-    /// Takes the next unit, and applies it.
-    fn look<R: Wait>(
-        &mut self,
-        rt: &R,
-        desk: &mut Desk<K>,
-        feeder: &mut Feeder,
-        told: &mut Told,
-    ) -> Look
-        requires { feeder.old.limits.max_bytes ≤ 1073741824 }
-        ensures looks { Looks K.taped self.old.slot feeder.old result desk.old.share.items desk.new.share.items feeder.new }
-        ensures limits { feeder.new.limits ≡ feeder.old.limits }
-        ensures slot { self.new.slot ≡ self.old.slot }
+impl<'s, K: BookName, R: Wait, G: Gate, N: Notify> Session<'s, K, R, G, N> {
+    /// Takes each unit that stands in the feeder, and the fault after them. Where the session is over, it says why.
+    fn unload(&mut self) -> Result<(), SessionEnd>
+        ensures unloads { Unloads K.taped self.old.applier.slot self.old.feeder result self.old.applier.desk.now.share.items self.new.applier.desk.now.share.items self.new.feeder }
+        ensures same_desk { self.new.applier.desk.ghost_name ≡ self.old.applier.desk.ghost_name }
+        ensures slot { self.new.applier.slot ≡ self.old.applier.slot }
     {
-        let slot = self.slot;
-        match feeder.next_unit() {
-            Ok(Some(Unit::Packet { kind, bytes })) => {
-                self.apply_unit(rt, desk, Event::Packet { slot, kind, bytes }, told)
-            }
-            Ok(Some(Unit::Line { bytes })) => {
-                self.apply_unit(rt, desk, Event::Line { slot, bytes }, told)
-            }
-            Ok(None) => Look::Wait,
-            Err(fault) => Look::End(self.apply_fault(rt, desk, fault, told)),
-        }
-    }
-
-    /// Takes each unit that stands in the feeder, and the fault after them. It says why the session is over, if it is.
-    fn unload<R: Wait>(
-        &mut self,
-        rt: &R,
-        desk: &mut Desk<K>,
-        feeder: &mut Feeder,
-        told: &mut Told,
-    ) -> Option<Stop>
-        requires { feeder.old.limits.max_bytes ≤ 1073741824 }
-        ensures unloads { Unloads K.taped self.old.slot feeder.old result desk.old.share.items desk.new.share.items feeder.new }
-        ensures limits { feeder.new.limits ≡ feeder.old.limits }
-        ensures slot { self.new.slot ≡ self.old.slot }
-    {
+        let slot = self.applier.slot;
         loop {
-            match self.look(rt, desk, feeder, told) {
-                Look::Unit => {}
-                Look::Wait => return None,
-                Look::End(end) => return Some(end),
+            match next_event(&mut self.feeder, slot) {
+                Next::Unit(event) => self.applier.apply_unit(event)?,
+                Next::Wait => return Ok(()),
+                Next::Fault(fault) => {
+                    self.applier.apply(Event::Fault { slot, fault })?;
+                    return Err(SessionEnd::Shut);
+                }
             }
         }
     }
 
     /// The same, while no other session does it. Many units in a row, of several connections at once, would wake and sleep
     /// at the book's lock at each unit.
-    fn unload_alone<R: Wait>(
-        &mut self,
-        rt: &R,
-        desk: &mut Desk<K>,
-        feeder: &mut Feeder,
-        told: &mut Told,
-    ) -> Option<Stop>
-        requires { feeder.old.limits.max_bytes ≤ 1073741824 }
-        ensures unloads { Unloads K.taped self.old.slot feeder.old result desk.old.share.items desk.new.share.items feeder.new }
-        ensures limits { feeder.new.limits ≡ feeder.old.limits }
-        ensures slot { self.new.slot ≡ self.old.slot }
+    fn unload_alone(&mut self) -> Result<(), SessionEnd>
+        ensures unloads { Unloads K.taped self.old.applier.slot self.old.feeder result self.old.applier.desk.now.share.items self.new.applier.desk.now.share.items self.new.feeder }
+        ensures same_desk { self.new.applier.desk.ghost_name ≡ self.old.applier.desk.ghost_name }
+        ensures slot { self.new.applier.slot ≡ self.old.applier.slot }
     {
-        let turnstile = self.turnstile;
-        let held = turnstile.lock(rt);
-        let end = self.unload(rt, desk, feeder, told);
+        let held = self.server.long_piece_lock().lock(self.applier.rt);
+        let outcome = self.unload();
         drop(held);
-        end
+        outcome
     }
 
-    /// Takes a piece, and tells what came of it. It says why the session is over, if it is.
-    fn take_piece<R: Wait, N: Notify>(
-        &mut self,
-        rt: &R,
-        desk: &mut Desk<K>,
-        feeder: &mut Feeder,
-        piece: &[u8],
-        notify: &N,
-    ) -> Option<Stop>
-        requires { feeder.old.limits.max_bytes ≤ 1073741824 }
-        ensures takes { TakesPiece K.taped self.old.slot feeder.old piece.now result desk.old.share.items desk.new.share.items feeder.new }
-        ensures limits { feeder.new.limits ≡ feeder.old.limits }
-        ensures slot { self.new.slot ≡ self.old.slot }
+    /// Takes a piece, and tells what came of it. Where the session is over, it says why.
+    fn take_piece(&mut self, piece: &[u8]) -> Result<(), SessionEnd>
+        ensures takes { TakesPiece K.taped self.old.applier.slot self.old.feeder piece.now result self.old.applier.desk.now.share.items self.new.applier.desk.now.share.items self.new.feeder }
+        ensures same_desk { self.new.applier.desk.ghost_name ≡ self.old.applier.desk.ghost_name }
+        ensures slot { self.new.applier.slot ≡ self.old.applier.slot }
     {
-        let Ok(()) = feeder.feed(piece) else {
-            return Some(Stop::Memory);
+        let Ok(()) = self.feeder.feed(piece) else {
+            return Err(SessionEnd::Memory);
         };
-        let mut told = Told::new();
-        let end = if piece.len() > SHORT_PIECE {
-            self.unload_alone(rt, desk, feeder, &mut told)
+        let outcome = if piece.len() > SHORT_PIECE {
+            self.unload_alone()
         } else {
-            self.unload(rt, desk, feeder, &mut told)
+            self.unload()
         };
-        notify.notify(rt, &told);
-        end
+        self.server.notify(self.applier.rt, &self.applier.effects);
+        self.applier.effects = Effects::new();
+        outcome
+    }
+
+    /// Reads a connection's stream to its end.
+    fn run<I: Read>(&mut self, reader: &mut I) -> SessionEnd
+        requires { self.old.feeder.pending ≡ [] }
+        ensures ended { result ≡ SessionEnd.Ended → IsAtEnd (I.remaining reader.new) }
+        ensures reads { Reads K.taped self.old.applier.slot self.old.feeder.limits (I.remaining reader.old) (I.remaining reader.new) result
+            self.old.applier.desk.now.share.items self.new.applier.desk.now.share.items }
+        ensures same_desk { self.new.applier.desk.ghost_name ≡ self.old.applier.desk.ghost_name }
+    {
+        let mut buffer = [0; PIECE];
+        for _ in 0..MOST_PIECES {
+            let count = match read_piece(reader, &mut buffer) {
+                Ok(count) => count,
+                Err(end) => return end,
+            };
+            match self.take_piece(&buffer[..count]) {
+                Ok(()) => {}
+                Err(end) => return end,
+            }
+        }
+        SessionEnd::Turns
     }
 }
 
-/// What a read gave.
-enum Piece {
-    /// So many bytes.
-    Bytes(usize),
-    /// Why the session is over.
-    End(SessionEnd),
-}
-
-/// Reads the next piece.
-fn read_piece<R: Read>(reader: &mut R, buffer: &mut [u8]) -> Piece
+/// Reads the next piece, and answers how many bytes it has; or it says why the session is over.
+fn read_piece<I: Read>(reader: &mut I, buffer: &mut [u8]) -> Result<usize, SessionEnd>
     requires { 0 < length buffer.old }
-    ensures within { IsWithin (length buffer.new) result }
-    ensures piece { PieceIs (R.remaining reader.old) (R.remaining reader.new) buffer.new result }
-    ensures ended { EndsAtEnd (R.remaining reader.new) result }
+    ensures within { IfOk result (λ count. count ≤ length buffer.new) }
+    ensures piece { IsPiece (I.remaining reader.old) (I.remaining reader.new) buffer.new result }
+    ensures ended { IfErr result (λ end. end ≡ SessionEnd.Ended → IsAtEnd (I.remaining reader.new)) }
 {
     match reader.read(buffer) {
-        Ok(0) => Piece::End(SessionEnd::Ended),
-        Ok(count) => Piece::Bytes(count),
+        Ok(0) => Err(SessionEnd::Ended),
+        Ok(count) => Ok(count),
         Err(error) => match error.kind() {
             // The read was broken off, and gave nothing.
-            ErrorKind::Interrupted => Piece::Bytes(0),
-            _ => Piece::End(SessionEnd::ReadFault),
+            ErrorKind::Interrupted => Ok(0),
+            _ => Err(SessionEnd::ReadFault),
         },
     }
 }
 
-/// Runs a session, and tells of each piece what came of it.
-pub(crate) fn run_session<K: BookName, S: Wait, R: Read, G: Gate, N: Notify>(
-    rt: &S,
+/// Runs a session, and tells the server of each piece what came of it.
+pub(crate) fn run_session<'s, K: BookName, R: Wait, I: Read, G: Gate, N: Notify>(
+    rt: &'s R,
     alloc: Global,
-    reader: &mut R,
-    shared: &Shared<K>,
-    desk: &mut Desk<K>,
+    reader: &mut I,
+    shared: &'s Shared<K>,
+    desk: &'s mut Desk<K>,
     slot: u32,
     limits: Limits,
-    gate: &G,
-    turnstile: &Mutex<()>,
-    notify: &N,
+    gate: &'s G,
+    server: &'s N,
 ) -> SessionEnd
-    requires { limits.max_bytes ≤ 1073741824 }
-    ensures ended { result ≡ SessionEnd.Ended → IsAtEnd (R.remaining reader.new) }
-    ensures reads { Reads K.taped slot limits (R.remaining reader.old) (R.remaining reader.new) result desk.old.share.items desk.new.share.items }
+    ensures ended { result ≡ SessionEnd.Ended → IsAtEnd (I.remaining reader.new) }
+    ensures reads { Reads K.taped slot limits (I.remaining reader.old) (I.remaining reader.new) result desk.old.share.items desk.new.share.items }
 {
     let mut session = Session {
-        shared,
-        slot,
-        gate,
-        turnstile,
-        turn: 0,
+        applier: Applier {
+            rt,
+            shared,
+            desk,
+            gate,
+            slot,
+            index: 0,
+            effects: Effects::new(),
+        },
+        feeder: Feeder::new(alloc, limits),
+        server,
     };
-    let mut feeder = Feeder::new(alloc, limits);
-    let mut buffer = [0; PIECE];
-    for _ in 0..TURNS {
-        let count = match read_piece(reader, &mut buffer) {
-            Piece::Bytes(count) => count,
-            Piece::End(end) => return end,
-        };
-        match session.take_piece(rt, desk, &mut feeder, &buffer[..count], notify) {
-            None => {}
-            Some(Stop::Shut) => return SessionEnd::Shut,
-            Some(Stop::Memory) => return SessionEnd::Memory,
-        }
-    }
-    SessionEnd::Turns
+    let end = session.run(reader);
+    // The desk is the caller's again.
+    let _desk = session.applier.desk;
+    end
 }
 
 /// Reads a connection's stream to its end, cuts it into units and applies each at the slot, in order; where no
 /// continuation of what came can be read, it applies that fault and ends. It reads pieces of at most 16,384 bytes. Each
 /// unit passes the gate first. The desk is the slot's. With a tape the desk is told of these events and of no others.
-///
-/// That a packet's data are at most a gigabyte is for the caller to see to.
-pub fn read_session<K: BookName, S: Wait, R: Read, G: Gate>(
-    rt: &S,
+pub fn read_session<K: BookName, R: Wait, I: Read, G: Gate>(
+    rt: &R,
     alloc: Global,
-    reader: &mut R,
+    reader: &mut I,
     shared: &Shared<K>,
     desk: &mut Desk<K>,
     slot: u32,
     limits: Limits,
     gate: &G,
 ) -> SessionEnd
-    requires { limits.max_bytes ≤ 1073741824 }
-    ensures ended { result ≡ SessionEnd.Ended → IsAtEnd (R.remaining reader.new) }
-    ensures reads { Reads K.taped slot limits (R.remaining reader.old) (R.remaining reader.new) result desk.old.share.items desk.new.share.items }
+    ensures ended { result ≡ SessionEnd.Ended → IsAtEnd (I.remaining reader.new) }
+    ensures reads { Reads K.taped slot limits (I.remaining reader.old) (I.remaining reader.new) result desk.old.share.items desk.new.share.items }
 {
-    let turnstile = Mutex::new(());
-    run_session(
-        rt, alloc, reader, shared, desk, slot, limits, gate, &turnstile, &Nobody,
-    )
+    let alone = Alone::new();
+    run_session(rt, alloc, reader, shared, desk, slot, limits, gate, &alone)
 }

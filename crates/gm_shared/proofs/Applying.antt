@@ -1,5 +1,6 @@
 -- What a book agrees with after an event, a drain, and nothing.
-use Rattle.std.proofs.Common.{◌≡◌, inl, inr, ℕ, zero, suc, ◌<◌, ◌≤◌, Bool, true, false, ◌&&◌, List, [], ◌∷◌, replicate, refl, sym, ap, subst, ◌∙◌, arith}
+use Rattle.std.proofs.Common.{◌≡◌, inl, inr, ℕ, zero, suc, ◌<◌, ◌≤◌, Bool, true, false, ◌&&◌, List, [], ◌∷◌, replicate, refl}
+use Rattle.std.proofs.Common.{sym, ap, subst, ◌∙◌, arith}
 use Rattle.std.proofs.lemmas.Bool.{and_parts, cases_lt}
 use Rattle.std.proofs.lemmas.List.{get_or_past}
 use Rattle.gm_notes.specs.declared.states.Phase.{Phase}
@@ -14,10 +15,10 @@ use Rattle.gm_notes.specs.Servers.{step_of, owes}
 use Rattle.gm_laws.proofs.StepsKeep.{run_history}
 use Rattle.gm_conns.specs.Slots.{has}
 use Rattle.gm_conns.specs.Connections.{closed}
-use Rattle.gm_conns.specs.Tables.{conn, is_touched}
-use Rattle.gm_tables.specs.declared.server.Core.{Core}
-use Rattle.gm_tables.specs.Facts.{Seen}
-use Rattle.gm_tables.specs.Holds.{CoreAgrees, AllTouched, lane}
+use Rattle.gm_conns.specs.ConnTables.{conn, is_touched}
+use Rattle.gm_core.specs.declared.server.Core.{Core}
+use Rattle.gm_core.specs.Facts.{Seen}
+use Rattle.gm_core.specs.Holds.{CoreAgrees, AllTouched, outbox}
 use Rattle.gm_word.specs.declared.view.Line.{Line as WordLine}
 use Rattle.gm_word.specs.Lines.{fresh_line}
 use Rattle.gm_word.specs.Steps.{line_at}
@@ -27,7 +28,8 @@ use Rattle.gm_shared.specs.declared.book.Booked.{Booked}
 use Rattle.gm_shared.specs.Words.{worded}
 use Rattle.gm_shared.specs.Events.{MayFind, entered}
 use Rattle.gm_shared.specs.Books.{takings, withdrawals, WordsAgree, Holds, FollowsCore}
-use Rattle.gm_shared.proofs.Phases.{Spares, awake_unless_open, awake_when_new, open_stays, owed_stays}
+use Rattle.gm_shared.proofs.Phases.{Spares, awake_when_new, open_stays, owed_stays}
+use Rattle.gm_laws.proofs.Phases.{awake_unless_open}
 use Rattle.gm_shared.proofs.Noops.{words_owed, owes_if, past_slots, took_awake, withdrew_awake}
 
 -- ---- events
@@ -94,8 +96,8 @@ phase_if_open core k steps h c e = ap (λ (x : Seen). x.phase) (h.past.conns.see
 
 -- ---- an event
 
-module _ (k : Settings) (e : Event) (steps : List Step) (mid after new : Booked) (told : List ℕ) (h : Holds mid k steps) (seat : after.seat ≡ mid.seat) (slots : after.slots ≡ mid.slots)
-    (core : CoreAgrees after.core k (step_of e ∷ steps)) (touched : AllTouched mid.core.conns after.core.conns) (follows : FollowsCore (step_of e) told after new)
+module _ (k : Settings) (e : Event) (steps : List Step) (mid after new : Booked) (touched : List ℕ) (h : Holds mid k steps) (seat : after.seat ≡ mid.seat) (slots : after.slots ≡ mid.slots)
+    (core : CoreAgrees after.core k (step_of e ∷ steps)) (all_touched : AllTouched mid.core.conns after.core.conns) (follows : FollowsCore (step_of e) touched after new)
     (calm : (c : ℕ) → step_of e ≡ Close c → phase c (run k steps).notes ≡ Owed → ⊥) where
   before : ℕ → Phase
   before c = phase c (run k steps).notes
@@ -106,45 +108,45 @@ module _ (k : Settings) (e : Event) (steps : List Step) (mid after new : Booked)
   stays_owed : (c : ℕ) → phase c (run k steps).notes ≡ Owed → phase c (run k (step_of e ∷ steps)).notes ≡ Owed
   stays_owed c owed = owed_stays k (step_of e) steps c (spares c (step_of e) (event_step e) (λ is. calm c is owed)) owed
 
-  told_phase : (c : ℕ) → has told c ≡ true → (line_at c new.seat.lines).phase ≡ worded (phase c (run k (step_of e ∷ steps)).notes)
-  told_phase c is =
+  touched_phase : (c : ℕ) → has touched c ≡ true → (line_at c new.seat.lines).phase ≡ worded (phase c (run k (step_of e ∷ steps)).notes)
+  touched_phase c is =
       let now = follows.follows.there c is k (step_of e ∷ steps) core in
       (follows.follows.here c is).phase_is
       (λ owed. now ∙ stays_owed c (words_owed (phase c (run k steps).notes) (sym (h.words.phases c) ∙ (ap (λ (l : WordLine). l.phase) (sym (line_before c)) ∙ owed))))
       ∙ ap worded now
 
-  not_closed : (c : ℕ) → c < mid.slots → has told c ≡ false → step_of e ≡ Close c → ⊥
+  not_closed : (c : ℕ) → c < mid.slots → has touched c ≡ false → step_of e ≡ Close c → ⊥
   not_closed c lt is closes = let bad : true ≡ false = sym (follows.closed c (omega arith) closes) ∙ is in let worse : ⊥ = cc in worse
 
-  untouched : (c : ℕ) → c < mid.slots → has told c ≡ false → (is_touched mid.core.conns c ≡ false) × (lane (conn after.core.conns c) ≡ lane (conn mid.core.conns c))
-  untouched c lt is = touched.others c (follows.missed c (omega arith) is)
+  untouched : (c : ℕ) → c < mid.slots → has touched c ≡ false → (is_touched mid.core.conns c ≡ false) × (outbox (conn after.core.conns c) ≡ outbox (conn mid.core.conns c))
+  untouched c lt is = all_touched.others c (follows.missed c (omega arith) is)
 
   new_phase : (c : ℕ) → is_open c (run k steps).notes ≡ false → phase c (run k steps).notes ≡ phase c (run k (step_of e ∷ steps)).notes
   new_phase c is = awake_unless_open k c (run k steps).notes (run_history k steps) is ∙ sym (awake_when_new k (step_of e) steps c is)
 
-  same_phase : (c : ℕ) (t : Bool) → is_open c (run k steps).notes ≡ t → c < mid.slots → has told c ≡ false → phase c (run k steps).notes ≡ phase c (run k (step_of e ∷ steps)).notes
+  same_phase : (c : ℕ) (t : Bool) → is_open c (run k steps).notes ≡ t → c < mid.slots → has touched c ≡ false → phase c (run k steps).notes ≡ phase c (run k (step_of e ∷ steps)).notes
   same_phase c false opened lt is = new_phase c opened
   same_phase c true opened lt is =
       let still = open_stays k (step_of e) steps c (not_closed c lt is) opened in
       sym (phase_if_open mid.core k steps h.core c opened)
       ∙ (sym (ap (λ l. l.1) (untouched c lt is).1) ∙ phase_if_open after.core k (step_of e ∷ steps) core c still)
 
-  left_phase : (c : ℕ) → has told c ≡ false → phase c (run k steps).notes ≡ phase c (run k (step_of e ∷ steps)).notes
+  left_phase : (c : ℕ) → has touched c ≡ false → phase c (run k steps).notes ≡ phase c (run k (step_of e ∷ steps)).notes
   left_phase c is = elim (cases_lt c mid.slots) [
     | inl lt ↦ same_phase c (is_open c (run k steps).notes) refl lt is
     | inr le ↦ new_phase c (past_slots mid k steps h c le)
   ]
 
-  phases : (c : ℕ) (t : Bool) → has told c ≡ t → (line_at c new.seat.lines).phase ≡ worded (phase c (run k (step_of e ∷ steps)).notes)
-  phases c true is = told_phase c is
+  phases : (c : ℕ) (t : Bool) → has touched c ≡ t → (line_at c new.seat.lines).phase ≡ worded (phase c (run k (step_of e ∷ steps)).notes)
+  phases c true is = touched_phase c is
   phases c false is =
       ap (λ (l : WordLine). l.phase) (follows.follows.elsewhere c is ∙ line_before c) ∙ (h.words.phases c ∙ ap worded (left_phase c is))
 
-  found_taken : (c : ℕ) (t : Bool) → has told c ≡ t → (line_at c new.seat.lines).entered ≡ (line_at c after.seat.lines).entered
+  found_taken : (c : ℕ) (t : Bool) → has touched c ≡ t → (line_at c new.seat.lines).entered ≡ (line_at c after.seat.lines).entered
   found_taken c true is = (follows.follows.here c is).entered
   found_taken c false is = ap (λ (l : WordLine). l.entered) (follows.follows.elsewhere c is)
 
-  taken_back : (c : ℕ) (t : Bool) → has told c ≡ t → (line_at c new.seat.lines).withdrawals ≡ (line_at c after.seat.lines).withdrawals
+  taken_back : (c : ℕ) (t : Bool) → has touched c ≡ t → (line_at c new.seat.lines).withdrawals ≡ (line_at c after.seat.lines).withdrawals
   taken_back c true is = (follows.follows.here c is).withdrawals
   taken_back c false is = ap (λ (l : WordLine). l.withdrawals) (follows.follows.elsewhere c is)
 
@@ -153,19 +155,19 @@ module _ (k : Settings) (e : Event) (steps : List Step) (mid after new : Booked)
     core = follows.follows.agrees k (step_of e ∷ steps) core;
     slots = follows.follows.slots ∙ (slots ∙ h.slots);
     words = record {
-      phases = λ c. phases c (has told c) refl;
-      entered = λ c. found_taken c (has told c) refl ∙ (ap (λ (l : WordLine). l.entered) (line_before c) ∙ (h.words.entered c ∙ sym (none_taken c (step_of e) steps (event_step e))));
-      withdrawn = λ c. taken_back c (has told c) refl ∙ (ap (λ (l : WordLine). l.withdrawals) (line_before c) ∙ (h.words.withdrawn c ∙ sym (none_withdrawn c (step_of e) steps (event_step e))));
+      phases = λ c. phases c (has touched c) refl;
+      entered = λ c. found_taken c (has touched c) refl ∙ (ap (λ (l : WordLine). l.entered) (line_before c) ∙ (h.words.entered c ∙ sym (none_taken c (step_of e) steps (event_step e))));
+      withdrawn = λ c. taken_back c (has touched c) refl ∙ (ap (λ (l : WordLine). l.withdrawals) (line_before c) ∙ (h.words.withdrawn c ∙ sym (none_withdrawn c (step_of e) steps (event_step e))));
     };
   }
 
-  -- whose lane changed since before the holding was told
-  pub lanes_after : (old : Booked) (older : List Step) → CoreAgrees old.core k older → AllTouched old.core.conns mid.core.conns → (c : ℕ) → has told c ≡ false → lane (conn new.core.conns c) ≡ lane (conn old.core.conns c)
+  -- whose outbox changed since before the holding is touched
+  pub lanes_after : (old : Booked) (older : List Step) → CoreAgrees old.core k older → AllTouched old.core.conns mid.core.conns → (c : ℕ) → has touched c ≡ false → outbox (conn new.core.conns c) ≡ outbox (conn old.core.conns c)
   lanes_after old older was settled c is = elim (cases_lt c mid.slots) [
     | inl lt ↦ let u = untouched c lt is in follows.follows.lanes c ∙ (u.1 ∙ (settled.others c u.0).1)
     | inr le ↦
         let least : k.slots ≤ c = omega (arith, h.slots) in
-        ap lane (past_conn new.core k (step_of e ∷ steps) (follows.follows.agrees k (step_of e ∷ steps) core) c least ∙ sym (past_conn old.core k older was c least))
+        ap outbox (past_conn new.core k (step_of e ∷ steps) (follows.follows.agrees k (step_of e ∷ steps) core) c least ∙ sym (past_conn old.core k older was c least))
   ]
 
 -- ---- a new book

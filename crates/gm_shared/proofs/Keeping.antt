@@ -1,5 +1,6 @@
 -- What the lock keeps after a holding, and the pens that it is opened with.
-use Rattle.std.proofs.Common.{◌≡◌, ℕ, Bool, zero, suc, ◌<◌, List, [], ◌∷◌, ◌++◌, ◌+◌, length, map, Result, Ok, Err, refl, sym, ap, subst, ◌∙◌, arith, add-one}
+use Rattle.std.proofs.Common.{◌≡◌, ℕ, Bool, zero, suc, ◌<◌, List, [], ◌∷◌, ◌++◌, ◌+◌, length, map, Result, Ok, Err, refl, sym}
+use Rattle.std.proofs.Common.{ap, subst, ◌∙◌, arith, add-one}
 use Rattle.std.proofs.lemmas.List.{map-append}
 use Rattle.atomic_table.specs.Seated.{TableId}
 use Rattle.gm_notes.specs.declared.event.ApplyError.{ApplyError}
@@ -12,14 +13,14 @@ use Rattle.gm_shared.specs.declared.receipt.Receipt.{Receipt}
 use Rattle.gm_shared.specs.declared.receipt.Drained.{Drained}
 use Rattle.gm_shared.specs.Events.{entered}
 use Rattle.gm_shared.specs.Books.{Held, asked, unasked, Drains}
-use Rattle.gm_shared.specs.Shared.{IsKept, numbers_below}
+use Rattle.gm_shared.specs.Shared.{IsGuarded, numbers_below}
 
 pub held_so : {k : Settings} {steps : List Step} {s : Step} {desk : ℕ} {result same : Result Receipt ApplyError} {old new : Booked} {told : List Told}
     → result ≡ same → Held k steps s desk same old new told → Held k steps s desk result old new told
 held_so {k} {steps} {s} {desk} {result} {same} {old} {new} {told} e h = subst (λ r. Held k steps s desk r old new told) (sym e) h
 
 pub applied_keeps : (table : TableId) (taped : Bool) (k : Settings) (steps : List Step) (s : Step) (desk : ℕ) (result : Result Receipt ApplyError) (old new : Booked) (told : List Told)
-    → Held k steps s desk result old new told → new.seat.table ≡ table → old.tape.on ≡ taped → IsKept table taped new
+    → Held k steps s desk result old new told → new.seat.table ≡ table → old.tape.on ≡ taped → IsGuarded table taped new
 applied_keeps table taped k steps s desk (Ok receipt) old new told (asked noop h) same on =
     record { settings = k; steps = s ∷ entered noop steps; agrees = h.event.agrees; table_is = same; on = h.tape.on ∙ on }
 applied_keeps table taped k steps s desk (Err refused) old new told (asked noop h) same on =
@@ -28,7 +29,7 @@ applied_keeps table taped k steps s desk result old new told (unasked h) same on
     record { settings = k; steps = steps; agrees = h.agrees; table_is = same; on = h.tape.on ∙ on }
 
 pub drained_keeps : (table : TableId) (taped : Bool) (k : Settings) (steps : List Step) (pen slot : ℕ) (result : Result Drained ApplyError) (old new : Booked) (told : List Told)
-    → Drains k steps pen slot result old new told → new.seat.table ≡ table → old.tape.on ≡ taped → IsKept table taped new
+    → Drains k steps pen slot result old new told → new.seat.table ≡ table → old.tape.on ≡ taped → IsGuarded table taped new
 drained_keeps table taped k steps pen slot (Ok drained) old new told h same on =
     record { settings = k; steps = Drain slot ∷ steps; agrees = h.agrees; table_is = same; on = h.tape.on ∙ on }
 drained_keeps table taped k steps pen slot (Err refused) old new told h same on =

@@ -1,4 +1,3 @@
-mod SlotLemmas
 mod Phases
 mod Noops
 mod Following

@@ -1,5 +1,6 @@
 -- What the taking and the withdrawal of a NOOP do to what a book agrees with.
-use Rattle.std.proofs.Common.{◌≡◌, ℕ, ◌+◌, ◌<◌, ◌≤◌, Bool, true, false, cond, ◌&&◌, if◌then◌else◌, List, ◌∷◌, length, Some, None, Result, Ok, Err, refl, sym, ap, ap₂, subst, ◌∙◌, arith}
+use Rattle.std.proofs.Common.{◌≡◌, ℕ, ◌+◌, ◌<◌, ◌≤◌, Bool, true, false, cond, ◌&&◌, if◌then◌else◌, List, ◌∷◌, length, Some}
+use Rattle.std.proofs.Common.{None, Result, Ok, Err, refl, sym, ap, ap₂, subst, ◌∙◌, arith}
 use Rattle.std.specs.Prelude.{◌==◌, unwrap_or, slice_set}
 use Rattle.std.proofs.lemmas.Bool.Decides.{nat_tests}
 use Rattle.std.proofs.lemmas.List.{get_or-set_same, get_or-set_other, get_or_past}
@@ -11,23 +12,23 @@ use Rattle.gm_notes.specs.declared.event.ApplyError.{ApplyError}
 use Rattle.gm_notes.specs.declared.event.ApplyError.TheVariants.{NotOpen, NotOwed}
 use Rattle.gm_notes.specs.Settings.{Settings}
 use Rattle.gm_notes.specs.Notes.{is_open, phase, is_owed, said_of, says_phase}
-use Rattle.gm_notes.specs.Past.{noted}
+use Rattle.gm_notes.specs.Past.{with_note}
 use Rattle.gm_notes.specs.Steps.{Step, Took, Withdrew, if_owed, refusal, unless}
 use Rattle.gm_notes.specs.Steps.{run}
 use Rattle.gm_notes.specs.Servers.{AnswersAt, steps_after_that, owes}
 use Rattle.gm_laws.proofs.StepsKeep.{run_history}
 use Rattle.gm_conns.specs.Connections.{Connection, closed}
-use Rattle.gm_tables.specs.declared.server.Core.{Core}
-use Rattle.gm_tables.specs.Holds.{CoreAgrees}
+use Rattle.gm_core.specs.declared.server.Core.{Core}
+use Rattle.gm_core.specs.Holds.{CoreAgrees}
 use Rattle.gm_word.specs.declared.phase.Phase.TheVariants as words
 use Rattle.gm_word.specs.declared.view.Line.{Line}
-use Rattle.gm_word.specs.Lines.{fresh_line, withdrawn, entered}
+use Rattle.gm_word.specs.Lines.{fresh_line, with_withdrawal, with_take_found}
 use Rattle.gm_word.specs.Seats.{BookState, with_line}
 use Rattle.gm_word.specs.Steps.{line_at, at_slot}
 use Rattle.gm_shared.specs.declared.book.Booked.{Booked}
 use Rattle.gm_shared.specs.Words.{worded}
 use Rattle.gm_shared.specs.Books.{takings, withdrawals, WordsAgree, Holds}
-use Rattle.gm_shared.proofs.Phases.{awake_unless_open}
+use Rattle.gm_laws.proofs.Phases.{awake_unless_open}
 
 same_slot : (c : ℕ) → (c == c) ≡ true
 same_slot c = grind (arith, nat_tests)
@@ -82,10 +83,10 @@ module _ (k : Settings) (c : ℕ) (s : Step) (note : Note) (steps : List Step) (
 
 module _ (k : Settings) (c : ℕ) (steps : List Step) (is : phase c (run k steps).notes ≡ Owed) where
   took_adds : (run k (Took c ∷ steps)).notes ≡ notes.Took c ∷ (run k steps).notes
-  took_adds = ap (λ r. (unless r (noted (notes.Took c) (run k steps)) (run k steps)).notes) (allowed k c steps is)
+  took_adds = ap (λ r. (unless r (with_note (notes.Took c) (run k steps)) (run k steps)).notes) (allowed k c steps is)
 
   withdrew_adds : (run k (Withdrew c ∷ steps)).notes ≡ notes.Withdrew c ∷ (run k steps).notes
-  withdrew_adds = ap (λ r. (unless r (noted (notes.Withdrew c) (run k steps)) (run k steps)).notes) (allowed k c steps is)
+  withdrew_adds = ap (λ r. (unless r (with_note (notes.Withdrew c) (run k steps)) (run k steps)).notes) (allowed k c steps is)
 
   pub took_awake : phase c (run k (Took c ∷ steps)).notes ≡ Awake
   took_awake = awake_here k c (Took c) (notes.Took c) steps took_adds (λ d. refl)
@@ -100,21 +101,21 @@ module _ (k : Settings) (c : ℕ) (steps : List Step) (is : phase c (run k steps
   not_counted n m t e f = omega (arith, ap (λ (u : Bool). (if u then 1 else 0) + m) e)
 
   module _ (lines : List Line) (w : WordsAgree lines k steps) (lt : c < length lines) where
-    pub took_words : WordsAgree (at_slot c entered lines) k (Took c ∷ steps)
+    pub took_words : WordsAgree (at_slot c with_take_found lines) k (Took c ∷ steps)
     took_words = record {
-      phases = each_written (λ d line. line.phase ≡ worded (phase d (run k (Took c ∷ steps)).notes)) lines c (entered (line_at c lines)) lt (ap worded (sym took_awake))
+      phases = each_written (λ d line. line.phase ≡ worded (phase d (run k (Took c ∷ steps)).notes)) lines c (with_take_found (line_at c lines)) lt (ap worded (sym took_awake))
           (λ d e. w.phases d ∙ ap worded (sym (same_there k c (Took c) (notes.Took c) steps took_adds (λ d. refl) d e)));
-      entered = each_written (λ d line. line.entered ≡ takings d (Took c ∷ steps)) lines c (entered (line_at c lines)) lt (counted _ _ (c == c) (same_slot c) (w.entered c))
+      entered = each_written (λ d line. line.entered ≡ takings d (Took c ∷ steps)) lines c (with_take_found (line_at c lines)) lt (counted _ _ (c == c) (same_slot c) (w.entered c))
           (λ d e. not_counted _ _ (d == c) e (w.entered d));
-      withdrawn = each_written (λ d line. line.withdrawals ≡ withdrawals d steps) lines c (entered (line_at c lines)) lt (w.withdrawn c) (λ d e. w.withdrawn d);
+      withdrawn = each_written (λ d line. line.withdrawals ≡ withdrawals d steps) lines c (with_take_found (line_at c lines)) lt (w.withdrawn c) (λ d e. w.withdrawn d);
     }
 
-    pub withdrew_words : WordsAgree (at_slot c withdrawn lines) k (Withdrew c ∷ steps)
+    pub withdrew_words : WordsAgree (at_slot c with_withdrawal lines) k (Withdrew c ∷ steps)
     withdrew_words = record {
-      phases = each_written (λ d line. line.phase ≡ worded (phase d (run k (Withdrew c ∷ steps)).notes)) lines c (withdrawn (line_at c lines)) lt (ap worded (sym withdrew_awake))
+      phases = each_written (λ d line. line.phase ≡ worded (phase d (run k (Withdrew c ∷ steps)).notes)) lines c (with_withdrawal (line_at c lines)) lt (ap worded (sym withdrew_awake))
           (λ d e. w.phases d ∙ ap worded (sym (same_there k c (Withdrew c) (notes.Withdrew c) steps withdrew_adds (λ d. refl) d e)));
-      entered = each_written (λ d line. line.entered ≡ takings d steps) lines c (withdrawn (line_at c lines)) lt (w.entered c) (λ d e. w.entered d);
-      withdrawn = each_written (λ d line. line.withdrawals ≡ withdrawals d (Withdrew c ∷ steps)) lines c (withdrawn (line_at c lines)) lt (counted _ _ (c == c) (same_slot c) (w.withdrawn c))
+      entered = each_written (λ d line. line.entered ≡ takings d steps) lines c (with_withdrawal (line_at c lines)) lt (w.entered c) (λ d e. w.entered d);
+      withdrawn = each_written (λ d line. line.withdrawals ≡ withdrawals d (Withdrew c ∷ steps)) lines c (with_withdrawal (line_at c lines)) lt (counted _ _ (c == c) (same_slot c) (w.withdrawn c))
           (λ d e. not_counted _ _ (d == c) e (w.withdrawn d));
     }
 
@@ -141,7 +142,7 @@ module _ (booked : Booked) (k : Settings) (steps : List Step) (h : Holds booked 
   has_line = omega (arith, booked.wide)
 
   -- the book enters that the NOOP was taken
-  pub took_book : seat ≡ with_line c entered booked.seat → ((k : Settings) (steps : List Step) → CoreAgrees booked.core k steps → AnswersAt k steps (Took c) r × CoreAgrees core k (steps_after_that r (Took c) steps))
+  pub took_book : seat ≡ with_line c with_take_found booked.seat → ((k : Settings) (steps : List Step) → CoreAgrees booked.core k steps → AnswersAt k steps (Took c) r × CoreAgrees core k (steps_after_that r (Took c) steps))
       → (owes c (run k steps) ≡ true) × CoreAgrees core k (Took c ∷ steps) × WordsAgree seat.lines k (Took c ∷ steps)
   took_book e answers = (
     owes_if k c steps is_owed_here,
@@ -150,7 +151,7 @@ module _ (booked : Booked) (k : Settings) (steps : List Step) (h : Holds booked 
   )
 
   -- the book withdraws it
-  pub withdrew_book : seat ≡ with_line c withdrawn booked.seat → ((k : Settings) (steps : List Step) → CoreAgrees booked.core k steps → AnswersAt k steps (Withdrew c) r × CoreAgrees core k (steps_after_that r (Withdrew c) steps))
+  pub withdrew_book : seat ≡ with_line c with_withdrawal booked.seat → ((k : Settings) (steps : List Step) → CoreAgrees booked.core k steps → AnswersAt k steps (Withdrew c) r × CoreAgrees core k (steps_after_that r (Withdrew c) steps))
       → (owes c (run k steps) ≡ true) × CoreAgrees core k (Withdrew c ∷ steps) × WordsAgree seat.lines k (Withdrew c ∷ steps)
   withdrew_book e answers = (
     owes_if k c steps is_owed_here,

@@ -16,7 +16,7 @@ use Rattle.gm_shared.specs.declared.tape.TapeStep.{TapeStep}
 use Rattle.gm_shared.specs.declared.tape.TapeStep.TheVariants as tape
 use Rattle.gm_shared.specs.declared.tape.Told.{Told}
 use Rattle.gm_shared.specs.Books.{Held, asked, unasked}
-use Rattle.gm_shared.specs.Tapes.{kept, noop_entries, event_entry, told_from, if_event, events_told}
+use Rattle.gm_shared.specs.Tapes.{tape_step, noop_entries, event_entry, told_from, if_event, events_told}
 use Rattle.gm_shared.specs.Shared.{Applied, AddsEvent}
 
 -- ---- events told
@@ -36,7 +36,7 @@ events_more : (xs ys : List Told) → events_told (xs ++ ys) ≡ events_told xs 
 events_more [] ys = refl
 events_more (told ∷ xs) ys = ap (if_event told.step) (events_more xs ys) ∙ if_more told.step (events_told xs) (events_told ys)
 
-one_event : (e : Event) → if_event (kept (step_of e)) [] ≡ step_of e ∷ []
+one_event : (e : Event) → if_event (tape_step (step_of e)) [] ≡ step_of e ∷ []
 one_event (events.Open addr) = refl
 one_event (events.Packet c kind bytes) = refl
 one_event (events.Line c bytes) = refl
@@ -45,7 +45,7 @@ one_event (events.Close c) = refl
 one_event (events.Tick now) = refl
 
 told_event : (on : Bool) (at desk : ℕ) (noop : Noop) (e : Event) (done : Done)
-    → events_told (if on then told_from at (noop_entries desk noop ++ event_entry desk (kept (step_of e)) done ∷ []) else []) ≡ (if on then step_of e ∷ [] else [])
+    → events_told (if on then told_from at (noop_entries desk noop ++ event_entry desk (tape_step (step_of e)) done ∷ []) else []) ≡ (if on then step_of e ∷ [] else [])
 told_event true at desk Left e done = one_event e
 told_event true at desk (Taken c) e done = one_event e
 told_event true at desk (Withdrawn c) e done = one_event e

@@ -1,6 +1,5 @@
 -- What a book agrees with, and what one holding of it does.
 use Rattle.std.specs.Prelude.{◌≡◌, ℕ, ◌+◌, ◌<◌, Bool, true, false, ◌==◌, if◌then◌else◌, List, [], ◌∷◌, None, Result, Ok, Err}
-use Rattle.std.specs.Result.{IsErrOf}
 use Rattle.gm_notes.specs.declared.event.ApplyError.{ApplyError}
 use Rattle.gm_notes.specs.declared.event.ApplyError.TheVariants.{Memory, NotOpen}
 use Rattle.gm_notes.specs.Settings.{Settings}
@@ -10,8 +9,8 @@ use Rattle.gm_notes.specs.Steps.{Step, Close, Took, Withdrew, Drain, refusal, do
 use Rattle.gm_notes.specs.Steps.{run}
 use Rattle.gm_notes.specs.Servers.{IsRefusal, is_closing}
 use Rattle.gm_conns.specs.Slots.{has}
-use Rattle.gm_conns.specs.Tables.{conn, is_touched}
-use Rattle.gm_tables.specs.Holds.{CoreAgrees, lane}
+use Rattle.gm_conns.specs.ConnTables.{conn, is_touched}
+use Rattle.gm_core.specs.Holds.{CoreAgrees, outbox}
 use Rattle.gm_word.specs.declared.view.Line.{Line as WordLine}
 use Rattle.gm_word.specs.Steps.{line_at}
 use Rattle.gm_shared.specs.declared.book.Booked.{Booked}
@@ -64,8 +63,8 @@ pub record IsTaken (k : Settings) (steps : List Step) (s : Step) (receipt : Rece
   pub done_is : receipt.done ≡ done k s (run k steps)
   pub mode_is : receipt.mode ≡ mode (run k (s ∷ steps)).notes
   pub agrees : BookedAgrees new k (s ∷ steps)
-  -- whose waiting bytes, phase or shut changed is among the slots told
-  pub touched : (c : ℕ) → has receipt.touched c ≡ false → lane (conn new.core.conns c) ≡ lane (conn old.core.conns c)
+  -- whose waiting bytes, phase or shut changed is among the touched slots
+  pub touched : (c : ℕ) → has receipt.touched c ≡ false → outbox (conn new.core.conns c) ≡ outbox (conn old.core.conns c)
 
 abbrev pub IsDone : Settings → List Step → Step → Result Receipt ApplyError → Booked → Booked → Type 0
 IsDone k steps s (Ok receipt) old new = IsTaken k steps s receipt old new
@@ -95,10 +94,10 @@ pub data Held (k : Settings) (steps : List Step) (s : Step) (desk : ℕ) (result
   asked : (noop : Noop) → Holding k steps s desk noop result old new told → Held k steps s desk result old new told
   unasked : NoRoom k steps result old new told → Held k steps s desk result old new told
 
--- without a tape a closing never wants memory
-abbrev pub ClosesAlways : Bool → Step → Result Receipt ApplyError → Type 0
-ClosesAlways on (Close c) result = on ≡ false → IsErrOf result Memory → ⊥
-ClosesAlways on other result = Unit {0}
+-- a closing needs no memory, where no tape is kept
+abbrev pub NeedsNoMemory : Bool → Step → Type 0
+NeedsNoMemory on (Close c) = on ≡ false
+NeedsNoMemory on other = ⊥
 
 -- what the drain of a slot did
 pub record IsDrained (k : Settings) (steps : List Step) (pen slot : ℕ) (drained : Drained) (old new : Booked) (told : List Told) : Type 0 where
@@ -121,18 +120,18 @@ Drains k steps pen slot (Err refused) old new told =
 
 -- ---- following the core
 
--- The slots told are some of those that were touched, and their words follow the core; each other word is as it was.
-pub record FollowsAt (told : List ℕ) (old new : Booked) : Type 0 where
+-- These slots are some of those that were touched, and their words follow the core; each other word is as it was.
+pub record FollowsAt (touched : List ℕ) (old new : Booked) : Type 0 where
   pub slots : new.slots ≡ old.slots
   pub table : new.seat.table ≡ old.seat.table
-  pub lanes : (c : ℕ) → lane (conn new.core.conns c) ≡ lane (conn old.core.conns c)
+  pub lanes : (c : ℕ) → outbox (conn new.core.conns c) ≡ outbox (conn old.core.conns c)
   pub agrees : (k : Settings) (steps : List Step) → CoreAgrees old.core k steps → CoreAgrees new.core k steps
-  pub here : (c : ℕ) → has told c ≡ true → Follows (conn old.core.conns c).phase (line_at c old.seat.lines) (line_at c new.seat.lines)
-  pub there : (c : ℕ) → has told c ≡ true → (k : Settings) (steps : List Step) → CoreAgrees old.core k steps → (conn old.core.conns c).phase ≡ phase c (run k steps).notes
-  pub elsewhere : (c : ℕ) → has told c ≡ false → line_at c new.seat.lines ≡ line_at c old.seat.lines
+  pub here : (c : ℕ) → has touched c ≡ true → Follows (conn old.core.conns c).phase (line_at c old.seat.lines) (line_at c new.seat.lines)
+  pub there : (c : ℕ) → has touched c ≡ true → (k : Settings) (steps : List Step) → CoreAgrees old.core k steps → (conn old.core.conns c).phase ≡ phase c (run k steps).notes
+  pub elsewhere : (c : ℕ) → has touched c ≡ false → line_at c new.seat.lines ≡ line_at c old.seat.lines
 
 -- No touched slot is missed, and no slot that was closed.
-pub record FollowsCore (s : Step) (told : List ℕ) (old new : Booked) : Type 0 where
-  pub follows : FollowsAt told old new
-  pub missed : (c : ℕ) → c < old.slots → has told c ≡ false → is_touched old.core.conns c ≡ false
-  pub closed : (c : ℕ) → c < old.slots → s ≡ Close c → has told c ≡ true
+pub record FollowsCore (s : Step) (touched : List ℕ) (old new : Booked) : Type 0 where
+  pub follows : FollowsAt touched old new
+  pub missed : (c : ℕ) → c < old.slots → has touched c ≡ false → is_touched old.core.conns c ≡ false
+  pub closed : (c : ℕ) → c < old.slots → s ≡ Close c → has touched c ≡ true

@@ -5,8 +5,8 @@ use Rattle.gm_notes.specs.declared.event.ApplyError.{ApplyError}
 use Rattle.gm_notes.specs.Settings.{Settings}
 use Rattle.gm_notes.specs.Steps.{Step, run}
 use Rattle.gm_notes.specs.Servers.{owes}
-use Rattle.gm_tables.specs.declared.server.Core.{Core}
-use Rattle.gm_tables.specs.Holds.{CoreAgrees}
+use Rattle.gm_core.specs.declared.server.Core.{Core}
+use Rattle.gm_core.specs.Holds.{CoreAgrees}
 use Rattle.gm_word.specs.Seats.{PenState, fresh_pens}
 use Rattle.gm_shared.specs.declared.book.Booked.{Booked}
 use Rattle.gm_shared.specs.declared.tape.Actor.{Actor}
@@ -33,7 +33,7 @@ pub record IsBlank (table : TableId) (slots : ℕ) (booked : Booked) (seats : Li
 
 -- What the lock keeps: the book agrees with some settings and some list of steps, its words are in this table, and it keeps a
 -- tape or not.
-pub record IsKept (table : TableId) (taped : Bool) (booked : Booked) : Type 0 where
+pub record IsGuarded (table : TableId) (taped : Bool) (booked : Booked) : Type 0 where
   pub settings : Settings
   pub steps : List Step
   pub agrees : BookedAgrees booked settings steps

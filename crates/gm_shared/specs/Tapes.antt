@@ -1,5 +1,6 @@
 -- The tape: what is entered of an accepted call, when a tape is one history, and what a desk or a pen is told of it.
-use Rattle.std.specs.Prelude.{◌≡◌, ℕ, ◌+◌, ◌≤◌, Bool, true, false, ◌==◌, if◌then◌else◌, List, [], ◌∷◌, ◌++◌, length, reverse, Option, Some, None, Result, Ok, Err, vec_len, vec_capacity}
+use Rattle.std.specs.Prelude.{◌≡◌, ℕ, ◌+◌, ◌≤◌, Bool, true, false, ◌==◌, if◌then◌else◌, List, [], ◌∷◌, ◌++◌, length, reverse}
+use Rattle.std.specs.Prelude.{Option, Some, None, Result, Ok, Err, vec_len, vec_capacity}
 use Rattle.gm_notes.specs.declared.event.Done.{Done}
 use Rattle.gm_notes.specs.declared.event.ApplyError.{ApplyError}
 use Rattle.gm_notes.specs.Numbers.{unit_fault_number}
@@ -37,16 +38,16 @@ actor_is a b = false
 
 -- ---- what is kept of a step
 
-abbrev pub kept : Step → TapeStep
-kept (Open addr) = tape.Open addr
-kept (Packet c kind bytes) = tape.Packet c kind bytes
-kept (Line c bytes) = tape.Line c bytes
-kept (Fault c fault) = tape.Fault c fault
-kept (Close c) = tape.Close c
-kept (Tick now) = tape.Tick now
-kept (Took c) = tape.Took c
-kept (Withdrew c) = tape.Withdrew c
-kept (Drain c) = tape.Drain c
+abbrev pub tape_step : Step → TapeStep
+tape_step (Open addr) = tape.Open addr
+tape_step (Packet c kind bytes) = tape.Packet c kind bytes
+tape_step (Line c bytes) = tape.Line c bytes
+tape_step (Fault c fault) = tape.Fault c fault
+tape_step (Close c) = tape.Close c
+tape_step (Tick now) = tape.Tick now
+tape_step (Took c) = tape.Took c
+tape_step (Withdrew c) = tape.Withdrew c
+tape_step (Drain c) = tape.Drain c
 
 -- and the step that it stands for
 abbrev pub step_in : TapeStep → Step
@@ -100,7 +101,7 @@ drain_entry pen slot bytes = record { actor = Pen pen; step = tape.Drain slot; a
 
 -- what a holding enters: what it found of the NOOP, then the event, if that was taken
 abbrev pub holding_entries : ℕ → Noop → Step → Result Receipt ApplyError → List Entry
-holding_entries desk noop s (Ok receipt) = noop_entries desk noop ++ event_entry desk (kept s) receipt.done ∷ []
+holding_entries desk noop s (Ok receipt) = noop_entries desk noop ++ event_entry desk (tape_step s) receipt.done ∷ []
 holding_entries desk noop s (Err refused) = noop_entries desk noop
 
 -- what the actor of entries is told of them, from this place on

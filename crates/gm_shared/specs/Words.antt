@@ -22,7 +22,7 @@ pub record Follows (phase : Phase) (old new : Line) : Type 0 where
   pub withdrawals : new.withdrawals ≡ old.withdrawals
 
 -- the line of a slot follows the core, where the slot is in this phase, and no other line changes
-pub record Brings (slot : ℕ) (phase : Phase) (old new : BookState) : Type 0 where
+pub record SyncsWord (slot : ℕ) (phase : Phase) (old new : BookState) : Type 0 where
   pub table : new.table ≡ old.table
   pub wide : length new.lines ≡ length old.lines
   pub here : Follows phase (line_at slot old.lines) (line_at slot new.lines)

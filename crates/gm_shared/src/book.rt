@@ -2,21 +2,22 @@
 
 ghost use Rattle.std.specs.Prelude.{◌≡◌, ◌<◌, ◌≤◌, ◌++◌, ℕ, [], List, IfOk, false, length};
 ghost use Rattle.gm_conns.specs.Slots.{has};
-ghost use Rattle.gm_conns.specs.Tables.{is_touched};
+ghost use Rattle.gm_conns.specs.ConnTables.{is_touched};
 ghost use Rattle.gm_word.specs.Seats.{fresh_pens};
 ghost use Rattle.gm_notes.specs.Settings.{Settings};
 ghost use Rattle.gm_notes.specs.Steps.{Step, run};
 ghost use Rattle.gm_notes.specs.Servers.{step_of, IsSized};
-ghost use Rattle.gm_tables.specs.Holds.{AllTouched, CoreAgrees};
+ghost use Rattle.gm_core.specs.Holds.{AllTouched, CoreAgrees};
+ghost use Rattle.std.specs.Result.{IsErrOf};
 
 use crate::events::{Noop, asks_a_job, slot_of};
 use crate::receipt::{Drained, Receipt};
 use crate::tape::{Entry, Tape, TapeMode, Told};
-use crate::touched::SlotSet;
-use crate::words::{bring, phase_in};
+use crate::words::sync_word;
+use gm_conns::SlotSet;
+use gm_core::Core;
 use gm_laws::laws::may_be_taken_later;
 use gm_notes::{ApplyError, Config, Event, JobServer};
-use gm_tables::Core;
 use gm_word::{BookSeat, PenSeat, Phase, SleepTable};
 use std::alloc::{AllocError, Global};
 use std::hash::RandomState;
@@ -38,7 +39,7 @@ pub struct Booked {
 
 impl Booked {
     ghost use Rattle.gm_laws.specs.Laws.{MayBeTakenLater};
-    ghost use Rattle.gm_shared.specs.Books.{Holds, BookedAgrees, Held, ClosesAlways, Drains, FollowsAt, FollowsCore};
+    ghost use Rattle.gm_shared.specs.Books.{Holds, BookedAgrees, Held, NeedsNoMemory, Drains, FollowsAt, FollowsCore};
     ghost use Rattle.gm_shared.specs.Events.{takes_back, MayFind, entered};
     ghost use Rattle.gm_shared.specs.Tapes.{is_on};
 
@@ -90,7 +91,7 @@ impl Booked {
         requires table { self.old.seat.table ≡ table.now }
         ensures holding { (k : Settings) (steps : List Step) → BookedAgrees self.old k steps
             → (told : List Told) × Held k steps (step_of event.now) desk result self.old self.new told }
-        ensures memory { ClosesAlways self.old.tape.on (step_of event.now) result }
+        ensures memory { NeedsNoMemory self.old.tape.on (step_of event.now) → IsErrOf result ApplyError.Memory → ⊥ }
         ensures table { self.new.seat.table ≡ self.old.seat.table }
         // That a taking is entered only when the book next looks at the slot changes no other step.
         ensures later { MayBeTakenLater }
@@ -113,11 +114,11 @@ impl Booked {
         ensures holding { (k : Settings) (steps : List Step) → BookedAgrees self.old k steps
             → (told : List Told) × (share.new.items ≡ share.old.items ++ told)
             × Held k steps (step_of event.now) desk result self.old self.new told }
-        ensures memory { ClosesAlways self.old.tape.on (step_of event.now) result }
+        ensures memory { NeedsNoMemory self.old.tape.on (step_of event.now) → IsErrOf result ApplyError.Memory → ⊥ }
         ensures table { self.new.seat.table ≡ self.old.seat.table }
     {
         let copies = self.tape.room_for(self.alloc, share, event)?;
-        let noop = self.settle(table, event);
+        let noop = self.resolve_noop(table, event);
         self.tape.enter_noop(share, desk, noop);
         let done = self.core.apply(event)?;
         let at = self.tape.enter_event(share, desk, copies, done);
@@ -163,7 +164,7 @@ impl Booked {
             .room_for_bytes(self.alloc, share, conns.waiting(slot))?;
         let shut = self.core.shut(slot);
         let bytes = self.core.drain(slot);
-        // The drain touched its slot, of which nobody has to be told.
+        // The drain touched its slot, for which no writer has anything to do.
         let _slot = self.core.take_touched();
         self.tape.enter_drain(share, pen, slot, copies);
         Ok(Drained { bytes, shut })
@@ -190,7 +191,7 @@ impl Booked {
     }
 
     /// Looks at the word of the event's slot, and enters what it finds of the NOOP that is owed there.
-    fn settle(&mut self, table: &SleepTable, event: &Event<'_>) -> Noop
+    fn resolve_noop(&mut self, table: &SleepTable, event: &Event<'_>) -> Noop
         requires { self.old.seat.table ≡ table.now }
         ensures found { (k : Settings) (steps : List Step) → Holds self.old k steps
             → MayFind result (step_of event.now) (run k steps) × Holds self.new k (entered result steps) }
@@ -227,19 +228,19 @@ impl Booked {
         ensures tape { self.new.tape ≡ self.old.tape }
         ensures missed { (c : ℕ) → c < self.old.slots → has result c ≡ false → is_touched self.old.core.conns c ≡ false }
     {
-        let mut told = SlotSet::new();
+        let mut touched = SlotSet::new();
         for _at in 0..self.slots {
             let Some(slot) = self.core.take_touched() else {
-                return told;
+                return touched;
             };
             if slot >= self.slots {
-                return told;
+                return touched;
             }
-            let phase = phase_in(&self.core, slot);
-            bring(&mut self.seat, table, slot, phase);
-            told.insert(slot);
+            let phase = self.core.phase(slot);
+            sync_word(&mut self.seat, table, slot, phase);
+            touched.insert(slot);
         }
-        told
+        touched
     }
 
     /// Makes the words follow the core after an event, and gives the slots that were touched.
@@ -248,14 +249,14 @@ impl Booked {
         ensures follows { FollowsCore (step_of event.now) result self.old self.new }
         ensures tape { self.new.tape ≡ self.old.tape }
     {
-        let mut told = self.follow_touched(table);
+        let mut touched = self.follow_touched(table);
         if let Event::Close { slot } = *event
             && slot < self.slots
         {
-            let phase = phase_in(&self.core, slot);
-            bring(&mut self.seat, table, slot, phase);
-            told.insert(slot);
+            let phase = self.core.phase(slot);
+            sync_word(&mut self.seat, table, slot, phase);
+            touched.insert(slot);
         }
-        told
+        touched
     }
 }

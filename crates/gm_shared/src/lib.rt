@@ -15,13 +15,12 @@
 mod blank;
 mod book;
 mod events;
-mod kept;
+mod guarded;
 mod name;
 mod receipt;
 mod settling;
 mod shared;
 mod tape;
-mod touched;
 mod words;
 
 pub use blank::Blank;
@@ -31,4 +30,3 @@ pub use receipt::{Drained, Receipt};
 pub use settling::{SettleError, Settled, settle};
 pub use shared::{Desk, Pen, Shared};
 pub use tape::{Actor, Answer, Entry, TapeMode, TapeStep};
-pub use touched::SlotSet;

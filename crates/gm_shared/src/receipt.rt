@@ -1,6 +1,6 @@
 //! What a book answers.
 
-use crate::touched::SlotSet;
+use gm_conns::SlotSet;
 use gm_notes::{Done, Mode};
 
 /// What an event that was taken made.

@@ -15,7 +15,7 @@ ghost use Rattle.gm_shared.specs.Shared.{IsSettled, TookThose, Differing};
 use crate::name::BookName;
 use crate::shared::{Desk, Pen, Shared};
 use crate::tape::{Actor, Answer, Entry, TapeStep, Told};
-use gm_tables::Core;
+use gm_core::Core;
 use gm_word::{BookSeat, PenSeat, SleepTable, close_words};
 use std::alloc::{AllocError, Global};
 

@@ -4,11 +4,12 @@
 ghost use Rattle.std.specs.Prelude.{◌≡◌, ◌+◌, IfOk, MatchBool, map};
 ghost use Rattle.gm_notes.specs.Servers.{step_of, IsSized};
 ghost use Rattle.gm_word.specs.Seats.{fresh_pens};
-ghost use Rattle.gm_shared.specs.Books.{ClosesAlways};
+ghost use Rattle.gm_shared.specs.Books.{NeedsNoMemory};
 ghost use Rattle.gm_shared.specs.Shared.{Applied, AddsEvent, Emptied, numbers_below};
+ghost use Rattle.std.specs.Result.{IsErrOf};
 
 use crate::blank::Blank;
-use crate::kept::Kept;
+use crate::guarded::Guarded;
 use crate::name::BookName;
 use crate::receipt::{Drained, Receipt};
 use crate::tape::Told;
@@ -22,7 +23,7 @@ use std::sync::{Mutex, Wait};
 #[derive(Drop)]
 pub struct Shared<K: BookName> {
     pub(crate) table: SleepTable,
-    pub(crate) book: Mutex<Kept<K>>,
+    pub(crate) book: Mutex<Guarded<K>>,
     ghost named: { table ≡ K.table },
 }
 
@@ -64,7 +65,7 @@ impl<K: BookName> Shared<K> {
         let pens = new_pens(alloc, blank.seats, slots)?;
         let shared = Shared {
             table: blank.table,
-            book: Mutex::new(Kept::new(blank.booked)),
+            book: Mutex::new(Guarded::new(blank.booked)),
         };
         Ok((shared, desks, pens, Desk::new(alloc, slots)))
     }
@@ -93,7 +94,7 @@ impl<K: BookName> Desk<K> {
         requires { IsSized event }
         ensures applied { Applied K.taped (step_of event.entry) self.old.number result self.old.share.items self.new.share.items }
         ensures adds { AddsEvent K.taped (step_of event.entry) result self.old.share.items self.new.share.items }
-        ensures memory { ClosesAlways K.taped (step_of event.entry) result }
+        ensures memory { NeedsNoMemory K.taped (step_of event.entry) → IsErrOf result ApplyError.Memory → ⊥ }
         ensures number { self.new.number ≡ self.old.number }
     {
         shared

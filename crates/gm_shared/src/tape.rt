@@ -109,11 +109,11 @@ pub struct Told {
 }
 
 impl TapeStep {
-    ghost use Rattle.gm_shared.specs.Tapes.{kept};
+    ghost use Rattle.gm_shared.specs.Tapes.{tape_step};
 
     /// An event with bytes of its own.
     pub(crate) fn of(alloc: Global, event: &Event<'_>) -> Result<TapeStep, AllocError>
-        ensures { IfOk result (λ step. step ≡ kept (step_of event.now)) }
+        ensures { IfOk result (λ step. step ≡ tape_step (step_of event.now)) }
     {
         Ok(match *event {
             Event::Open { addr } => TapeStep::Open {
@@ -163,7 +163,8 @@ pub(crate) struct Tape {
 }
 
 impl Tape {
-    ghost use Rattle.gm_shared.specs.Tapes.{is_on, kept, AreCopies, AreOn, HasRoom, HaveWaited, Tells, noop_entries, event_entry, drain_entry, place_behind};
+    ghost use Rattle.gm_shared.specs.Tapes.{is_on, tape_step, AreCopies, AreOn, HasRoom, HaveWaited, Tells, noop_entries};
+    ghost use Rattle.gm_shared.specs.Tapes.{event_entry, drain_entry, place_behind};
 
     /// A tape on which nothing stands.
     pub(crate) fn new(alloc: Global, mode: TapeMode) -> Tape
@@ -195,7 +196,7 @@ impl Tape {
         ensures entries { self.new.entries.items ≡ self.old.entries.items }
         ensures share { share.new.items ≡ share.old.items }
         ensures room { OnOk result (HasRoom 2 self.new (vec_len share.new) (vec_capacity share.new)) }
-        ensures copies { IfOk result (λ copies. AreCopies self.new.on (kept (step_of event.now)) copies) }
+        ensures copies { IfOk result (λ copies. AreCopies self.new.on (tape_step (step_of event.now)) copies) }
         ensures kept { IfOk result (λ copies. AreOn self.new.on copies) }
         ensures wanting { OnErr result (self.new.on ≡ true) }
     {

@@ -13,7 +13,7 @@ only_one : (P : PenState → Type 0) (pen : PenState) → P pen → All P (pen �
 only_one P pen p zero d low = p
 only_one P pen p (suc k) d low = absurd (omega arith)
 
--- they are the table's
+-- the pens are the table's
 pub fresh_pens-fit : (table : TableId) (slots : ℕ) → All (λ (pen : PenState). pen.table ≡ table) (fresh_pens table slots)
 fresh_pens-fit table zero = λ k d low. absurd (omega arith)
 fresh_pens-fit table (suc slots) =

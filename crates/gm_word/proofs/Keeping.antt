@@ -1,5 +1,6 @@
 -- Each kind of step keeps the word rule.
-use Rattle.std.proofs.Common.{◌≡◌, ◌≢◌, ℕ, ◌+◌, ◌<◌, ◌≤◌, List, [], ◌∷◌, ◌++◌, length, set, replicate, refl, sym, ap, ◌∙◌, subst, arith, length-set, get_or-set_same, get_or-set_other}
+use Rattle.std.proofs.Common.{◌≡◌, ◌≢◌, ℕ, ◌+◌, ◌<◌, ◌≤◌, List, [], ◌∷◌, ◌++◌, length, set, replicate, refl, sym, ap, ◌∙◌, subst, arith}
+use Rattle.std.proofs.Common.{length-set, get_or-set_same, get_or-set_other}
 use Rattle.std.specs.Prelude.{slice_index, slice_set}
 use Rattle.std.proofs.lemmas.List.{get_or-replicate, length-replicate, set-get_or}
 use mathlib.Core.Option.{some, some-injective}
@@ -13,9 +14,11 @@ use Rattle.gm_word.specs.declared.view.Page.{Page}
 use Rattle.gm_word.specs.declared.view.View.{View}
 use Rattle.gm_word.specs.declared.view.View.TheVariants.{Book, Pen, Spent}
 use Rattle.gm_word.specs.Lines.{fresh_line, owing, cleared, Agrees, Kind, phase_for, Finds, word_after, line_after}
-use Rattle.gm_word.specs.Steps.{line_at, at_slot, opening_view, book_after, pen_after, with_next_pen, next_pen, with_back, Step, books, takes, splits, joins, Reached, opens, steps, takes_among, pens_among, counts_of, total, takes_of, pens_of, Keeps}
+use Rattle.gm_word.specs.Steps.{line_at, at_slot, opening_view, book_after, pen_after, with_next_pen, next_pen, with_back, Step, books}
+use Rattle.gm_word.specs.Steps.{takes, splits, joins, Reached, opens, steps, takes_among, pens_among, counts_of, total, takes_of, pens_of}
+use Rattle.gm_word.specs.Steps.{Keeps}
 use Rattle.gm_word.proofs.Totals.{inside, total-set, total-push, if_same, if_other}
-use Rattle.gm_word.proofs.Turns.{turns, taken, fresh_agrees}
+use Rattle.gm_word.proofs.LineSteps.{step_agrees, taken, fresh_agrees}
 
 -- the book's page is one
 pub page_is : (words : List ℕ) (views : List View) (k : Keeps words views) (page : Page) → get_elem? views 0 ≡ some (Book page) → k.page ≡ page
@@ -64,7 +67,7 @@ books_keep words views kind slot page k at low phase found =
       book = set_here views 0 after (inside views 0 (Book page) at);
       wide = length-set page.lines slot (line_after kind word (line_at slot page.lines)) ∙ wide ∙ sym (length-set words slot (word_after kind word));
       agrees = changed words page.lines slot (word_after kind word) (line_after kind word (line_at slot page.lines)) (λ j. takes_of j views) (λ j. takes_of j (set views 0 after)) wide all
-          (λ _. rw (takes_same slot) (turns kind word (line_at slot page.lines) (takes_of slot views) (all slot low) phase found))
+          (λ _. rw (takes_same slot) (step_agrees kind word (line_at slot page.lines) (takes_of slot views) (all slot low) phase found))
           (λ j _. takes_same j);
       one_pen = λ j. rw (pens_same j) (k.one_pen j);
       no_pen = λ j above. pens_same j ∙ k.no_pen j (subst (λ (p : Page). p.made ≤ j) (sym is) above);

@@ -1,5 +1,5 @@
 pub mod Totals
-pub mod Turns
+pub mod LineSteps
 pub mod Keeping
 pub mod Moves
 pub mod Sitting

@@ -1,5 +1,6 @@
 -- The pens are handed in one after another, and at the end what they have taken agrees with the words.
-use Rattle.std.proofs.Common.{◌≡◌, ℕ, zero, suc, ◌+◌, ◌<◌, ◌≤◌, List, [], ◌∷◌, ◌++◌, length, get_or, refl, sym, ap, ◌∙◌, subst, arith, append_assoc, length-append}
+use Rattle.std.proofs.Common.{◌≡◌, ℕ, zero, suc, ◌+◌, ◌<◌, ◌≤◌, List, [], ◌∷◌, ◌++◌, length, get_or, refl, sym, ap, ◌∙◌, subst, arith}
+use Rattle.std.proofs.Common.{append_assoc, length-append}
 use Rattle.std.specs.Prelude.{All, Contains, slice_index}
 use mathlib.Core.Option.{some, some-injective, some-ne-none}
 use mathlib.Core.Logic.{dite}
@@ -17,19 +18,19 @@ use Rattle.gm_word.specs.Steps.{line_at, with_back, takes_among, pens_among, cou
 use Rattle.gm_word.specs.Seats.{PenState, takes_in, SitsAtPen, count_of, AtBook, Settles}
 use Rattle.gm_word.proofs.Totals.{total-has, if_same, if_other, none_taken, none_taken_of}
 use Rattle.gm_word.proofs.Keeping.{page_is, reached_keeps}
-use Rattle.gm_word.proofs.Moves.{Stands}
+use Rattle.gm_word.proofs.Moves.{IsReached}
 
-abbrev Place : Type 0
-Place = Seat (Unit {0}) View
+abbrev WordSeat : Type 0
+WordSeat = Seat (Unit {0}) View
 
 -- some of the pens are left, and the others were handed in
-pub record HandedSoFar (seat : Place) (lines : List Line) (left all : List PenState) : Type 0 where
+pub record HandedSoFar (seat : WordSeat) (lines : List Line) (left all : List PenState) : Type 0 where
   pub handed : List PenState
   pub all_are : all ≡ left ++ handed
   pub book : AtBook seat lines handed
 
 -- what a pen's seat knows is what callers see
-pub pen_knows : (seat : Place) (slot : ℕ) (pen : PenState) → SitsAtPen seat slot → record { table = seat.table_id; slot = slot; takes = takes_in seat.me.0 } ≡ pen → seat.me.0 ≡ Pen (count_of pen)
+pub pen_knows : (seat : WordSeat) (slot : ℕ) (pen : PenState) → SitsAtPen seat slot → record { table = seat.table_id; slot = slot; takes = takes_in seat.me.0 } ≡ pen → seat.me.0 ≡ Pen (count_of pen)
 pen_knows seat slot pen sits is =
     let at : seat.me.0 ≡ Pen sits.count = ap (λ (m : Me (Unit {0}) View). m.0) sits.knows in
     let slots : sits.count.slot ≡ pen.slot = sits.slot_is ∙ ap (λ (p : PenState). p.slot) is in
@@ -49,7 +50,7 @@ back_more handed pen back all zero d low = (0, omega arith, refl)
 back_more handed pen back all (suc k) d low = let c = all k d (omega arith) in (suc c.0, omega arith, c.2)
 
 -- the last of the pens that are left is handed in
-pub handed_more : (old new : Place) (lines : List Line) (left more all : List PenState) (pen : PenState) → HandedSoFar old lines left all → left ≡ more ++ pen ∷ [] → new.id ≡ old.id
+pub handed_more : (old new : WordSeat) (lines : List Line) (left more all : List PenState) (pen : PenState) → HandedSoFar old lines left all → left ≡ more ++ pen ∷ [] → new.id ≡ old.id
     → new.me ≡ (with_back old.me.0 (Pen (count_of pen)), old.me.1) → HandedSoFar new lines more all
 handed_more old new lines left more all pen so_far is id told =
     let book = so_far.book in
@@ -115,7 +116,7 @@ slot_inside words views page count k at has =
     (λ above. let none = k.no_pen slot above in absurd (omega arith))
     (λ below. let made = k.made in omega arith)
 
-pub settles : (seat : Place) (lines : List Line) (pens : List PenState) (words : List ℕ) (slots : List (Unit {0})) → AtBook seat lines pens → Final (Seen Stands seat.id seat.me.0) words slots → Settles words lines pens
+pub settles : (seat : WordSeat) (lines : List Line) (pens : List PenState) (words : List ℕ) (slots : List (Unit {0})) → AtBook seat lines pens → Final (Seen IsReached seat.id seat.me.0) words slots → Settles words lines pens
 settles seat lines pens words slots book final =
     let s : State (Unit {0}) View = final.0 in
     let page = book.page in

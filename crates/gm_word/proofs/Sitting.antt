@@ -1,5 +1,6 @@
--- A seat after its step.
-use Rattle.std.proofs.Common.{◌≡◌, ◌≢◌, ℕ, zero, suc, ◌<◌, List, ◌∷◌, map, length, get_or, replicate, refl, sym, ap, ◌∙◌, subst, length-set, ne_eqb}
+-- The book's seat after a step.
+use Rattle.std.proofs.Common.{◌≡◌, ◌≢◌, ℕ, zero, suc, ◌<◌, List, ◌∷◌, map, length, get_or, replicate, refl, sym, ap, ◌∙◌, subst}
+use Rattle.std.proofs.Common.{length-set, ne_eqb}
 use Rattle.std.specs.Prelude.{slice_set}
 use Rattle.std.proofs.lemmas.List.{set-get_or, get_or-map}
 use lib.Seq.{map-set}
@@ -8,24 +9,24 @@ use native.Mathlib.Decide.{ℕ_discrete}
 use Rattle.atomic_table.specs.Table.{Me}
 use Rattle.atomic_table.specs.declared.shared.Seat.{Seat}
 use Rattle.gm_word.specs.declared.phase.Phase.{Phase}
-use Rattle.gm_word.specs.declared.phase.Phase.TheVariants.{Awake}
+use Rattle.gm_word.specs.declared.phase.Phase.TheVariants.{Awake, Asleep, Owed}
 use Rattle.gm_word.specs.declared.view.Line.{Line}
 use Rattle.gm_word.specs.declared.view.Page.{Page}
 use Rattle.gm_word.specs.declared.view.View.{View}
 use Rattle.gm_word.specs.declared.view.View.TheVariants.{Book}
-use Rattle.gm_word.specs.Lines.{Kind, withdraw, look, line_after, fresh_line}
+use Rattle.gm_word.specs.Lines.{Kind, withdraw, look, line_after, kind_to, line_to, fresh_line}
 use Rattle.gm_word.specs.Steps.{line_at, book_after}
-use Rattle.gm_word.specs.Seats.{SitsAtBook}
+use Rattle.gm_word.specs.Seats.{BookState, with_line, lines_of, SitsAtBook}
 
-abbrev pub Place : Type 0
-Place = Seat (Unit {0}) View
+abbrev pub WordSeat : Type 0
+WordSeat = Seat (Unit {0}) View
 
 pub map-replicate : {A B : Type 0} (f : A → B) (n : ℕ) (x : A) → map f (replicate n x) ≡ replicate n (f x)
 map-replicate f zero x = refl
 map-replicate f (suc n) x = ap (λ l. f x ∷ l) (map-replicate f n x)
 
 -- the book's seat after a step at a slot, the phase beside it set
-pub sits_after : (kind : Kind) (slot found : ℕ) (old new : Place) (phases : List Phase) (phase : Phase) → (sits : SitsAtBook old phases) → new.table_id ≡ old.table_id → new.id ≡ old.id
+pub sits_after : (kind : Kind) (slot found : ℕ) (old new : WordSeat) (phases : List Phase) (phase : Phase) → (sits : SitsAtBook old phases) → new.table_id ≡ old.table_id → new.id ≡ old.id
     → ((page : Page) → old.me.0 ≡ Book page → new.me ≡ (book_after kind slot found page, old.me.1))
     → ((line : Line) → (line_after kind found line).phase ≡ phase) → SitsAtBook new (slice_set phases slot phase)
 sits_after kind slot found old new phases phase sits table id told phase_is =
@@ -40,6 +41,35 @@ sits_after kind slot found old new phases phase sits table id told phase_is =
           ∙ ap (λ (p : Phase). slice_set (map (λ (x : Line). x.phase) page.lines) slot p) (sym (phase_is (line_at slot page.lines)))
           ∙ sym (map-set (λ (x : Line). x.phase) page.lines slot line);
     }
+
+-- what a swap makes of a line, whatever word it found
+swapped : (phase : Phase) (found : ℕ) (line : Line) → line_after (kind_to phase) found line ≡ line_to phase line
+swapped Awake found line = refl
+swapped Asleep found line = refl
+swapped Owed found line = refl
+
+swapped_phase : (phase : Phase) (line : Line) → (line_to phase line).phase ≡ phase
+swapped_phase Awake line = refl
+swapped_phase Asleep line = refl
+swapped_phase Owed line = refl
+
+pub phase_after_swap : (phase : Phase) (found : ℕ) (line : Line) → (line_after (kind_to phase) found line).phase ≡ phase
+phase_after_swap phase found line = ap (λ (l : Line). l.phase) (swapped phase found line) ∙ swapped_phase phase line
+
+-- what callers see of the book after a swap
+pub sees_swap : (phase : Phase) (slot found : ℕ) (old new : WordSeat) (phases : List Phase) (book : BookState) → SitsAtBook old phases
+    → record { table = old.table_id; lines = lines_of old.me.0 } ≡ book → new.table_id ≡ old.table_id
+    → ((page : Page) → old.me.0 ≡ Book page → new.me ≡ (book_after (kind_to phase) slot found page, old.me.1))
+    → record { table = new.table_id; lines = lines_of new.me.0 } ≡ with_line slot (line_to phase) book
+sees_swap phase slot found old new phases book sits saw table told =
+    let page = sits.page in
+    let at : old.me.0 ≡ Book page = ap (λ (m : Me (Unit {0}) View). m.0) sits.knows in
+    let line : Line = line_at slot page.lines in
+    let lines : lines_of new.me.0 ≡ slice_set page.lines slot (line_to phase line) =
+    ap (λ (m : Me (Unit {0}) View). lines_of m.0) (told page at) ∙ ap (λ (l : Line). slice_set page.lines slot l) (swapped phase found line) in
+    let was : book.lines ≡ page.lines = sym (ap (λ (b : BookState). b.lines) saw) ∙ ap lines_of at in
+    let same : new.table_id ≡ book.table = table ∙ ap (λ (b : BookState). b.table) saw in
+    (λ i. record { table = same i; lines = (lines ∙ sym (ap (λ (l : List Line). slice_set l slot (line_to phase (line_at slot l))) was)) i })
 
 -- the phase beside the seat is that of the line
 pub phase_beside : (phases : List Phase) (lines : List Line) (slot : ℕ) (phase : Phase) → phases ≡ map (λ (line : Line). line.phase) lines → slot < length lines → phase ≡ get_or phases slot phase
@@ -58,7 +88,7 @@ pub awake_after_look : (found : ℕ) (line : Line) → found ≢ 2 → (line_aft
 awake_after_look found line other = rw (ne_eqb found 2 other) refl
 
 -- a look that finds the NOOP still owed changes nothing
-pub sits_still : (slot found : ℕ) (old new : Place) (phases : List Phase) → (sits : SitsAtBook old phases) → new.table_id ≡ old.table_id → new.id ≡ old.id
+pub sits_still : (slot found : ℕ) (old new : WordSeat) (phases : List Phase) → (sits : SitsAtBook old phases) → new.table_id ≡ old.table_id → new.id ≡ old.id
     → ((page : Page) → old.me.0 ≡ Book page → new.me ≡ (book_after look slot found page, old.me.1)) → found ≡ 2 → new.me ≡ old.me
 sits_still slot found old new phases sits table id told owed =
     let page = sits.page in
@@ -66,6 +96,6 @@ sits_still slot found old new phases sits table id told owed =
     let same : book_after look slot 2 page ≡ Book page = ap (λ (l : List Line). Book record page { lines = l }) (set-get_or page.lines slot fresh_line) in
     told page at ∙ ap (λ (n : ℕ). (book_after look slot n page, old.me.1)) owed ∙ ap (λ (v : View). (v, old.me.1)) (same ∙ sym at)
 
-pub sits_again : (old new : Place) (phases : List Phase) → SitsAtBook old phases → new.table_id ≡ old.table_id → new.id ≡ old.id → new.me ≡ old.me → SitsAtBook new phases
+pub sits_again : (old new : WordSeat) (phases : List Phase) → SitsAtBook old phases → new.table_id ≡ old.table_id → new.id ≡ old.id → new.me ≡ old.me → SitsAtBook new phases
 sits_again old new phases sits table id me =
     record { page = sits.page; first = id ∙ sits.first; knows = me ∙ sits.knows; wide = sits.wide ∙ ap (λ t. t.words) (sym table); phases_are = sits.phases_are }

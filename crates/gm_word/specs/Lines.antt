@@ -10,16 +10,16 @@ number Awake = 0
 number Asleep = 1
 number Owed = 2
 
--- 1 where the word says that a NOOP is owed, and else 0
+-- 1 where the word says that a NOOP is owed, and 0 otherwise
 abbrev pub owing : ℕ → ℕ
 owing word = if word == 2 then 1 else 0
 
--- nothing has befallen the slot
+-- the line of a slot at which no step was made
 abbrev pub fresh_line : Line
 fresh_line = record { phase = Awake; wakes = 0; entered = 0; withdrawals = 0 }
 
 -- What a slot's word, the book's line and the takes of its pen agree on. Each wake became one take, or one withdrawal, or is
--- still owed, and the book has entered each of these but the takes that it hasn't looked for yet.
+-- still owed, and the book has entered each of these except a take that it hasn't looked for yet.
 pub record Agrees (word : ℕ) (line : Line) (takes : ℕ) : Type 0 where
   pub small : word < 3
   pub phase : (word ≡ number line.phase) ⊎ ((line.phase ≡ Owed) × (word ≡ 0))
@@ -62,27 +62,39 @@ word_after stir found = 0
 word_after withdraw found = cleared found
 word_after look found = found
 
-abbrev pub slept : Line → Line
-slept line = record line { phase = Asleep }
+-- the line after each of these kinds
+abbrev pub with_sleep : Line → Line
+with_sleep line = record line { phase = Asleep }
 
-abbrev pub woken : Line → Line
-woken line = record line { phase = Owed; wakes = line.wakes + 1 }
+abbrev pub with_wake : Line → Line
+with_wake line = record line { phase = Owed; wakes = line.wakes + 1 }
 
-abbrev pub stirred : Line → Line
-stirred line = record line { phase = Awake }
+abbrev pub with_stir : Line → Line
+with_stir line = record line { phase = Awake }
 
--- the NOOP was withdrawn
-abbrev pub withdrawn : Line → Line
-withdrawn line = record line { phase = Awake; withdrawals = line.withdrawals + 1 }
+abbrev pub with_withdrawal : Line → Line
+with_withdrawal line = record line { phase = Awake; withdrawals = line.withdrawals + 1 }
 
 -- the NOOP was found taken
-abbrev pub entered : Line → Line
-entered line = record line { phase = Awake; entered = line.entered + 1 }
+abbrev pub with_take_found : Line → Line
+with_take_found line = record line { phase = Awake; entered = line.entered + 1 }
 
 -- what the book knows of the slot then
 abbrev pub line_after : Kind → ℕ → Line → Line
-line_after sleep found line = slept line
-line_after wake found line = woken line
-line_after stir found line = stirred line
-line_after withdraw found line = if found == 2 then withdrawn line else entered line
-line_after look found line = if found == 2 then line else entered line
+line_after sleep found line = with_sleep line
+line_after wake found line = with_wake line
+line_after stir found line = with_stir line
+line_after withdraw found line = if found == 2 then with_withdrawal line else with_take_found line
+line_after look found line = if found == 2 then line else with_take_found line
+
+-- ---- the three kinds that write the word of a phase, by that phase
+
+abbrev pub kind_to : Phase → Kind
+kind_to Asleep = sleep
+kind_to Owed = wake
+kind_to Awake = stir
+
+abbrev pub line_to : Phase → Line → Line
+line_to Asleep = with_sleep
+line_to Owed = with_wake
+line_to Awake = with_stir

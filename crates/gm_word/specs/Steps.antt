@@ -1,14 +1,16 @@
 -- A table of sleep words: its words, and what the seats know. The eight kinds of step, and the rule that they keep.
-use Rattle.std.specs.Prelude.{◌≡◌, ℕ, ◌+◌, ◌<◌, ◌≤◌, ◌==◌, if◌then◌else◌, List, [], ◌∷◌, ◌++◌, length, replicate, slice_index, slice_index_or, slice_set}
+use Rattle.std.specs.Prelude.{◌≡◌, ℕ, ◌+◌, ◌<◌, ◌≤◌, ◌==◌, if◌then◌else◌, List, [], ◌∷◌, ◌++◌, length, replicate, slice_index}
+use Rattle.std.specs.Prelude.{slice_index_or, slice_set}
 use mathlib.Core.Option.{some}
 use lib.ListN.{get_elem?}
 use Rattle.atomic_table.specs.Table.{Me, Step as Operands}
+use Rattle.gm_word.specs.declared.phase.Phase.{Phase}
 use Rattle.gm_word.specs.declared.view.Line.{Line}
 use Rattle.gm_word.specs.declared.view.Count.{Count}
 use Rattle.gm_word.specs.declared.view.Page.{Page}
 use Rattle.gm_word.specs.declared.view.View.{View}
 use Rattle.gm_word.specs.declared.view.View.TheVariants.{Book, Pen, Spent}
-use Rattle.gm_word.specs.Lines.{fresh_line, owing, cleared, Agrees, Kind, phase_for, Finds, word_after, line_after}
+use Rattle.gm_word.specs.Lines.{number, fresh_line, owing, cleared, Agrees, Kind, phase_for, Finds, word_after, line_after, kind_to}
 
 -- the line of a slot
 abbrev pub line_at : ℕ → List Line → Line
@@ -18,7 +20,7 @@ line_at slot lines = slice_index_or lines slot fresh_line
 abbrev pub at_slot : ℕ → (Line → Line) → List Line → List Line
 at_slot slot change lines = slice_set lines slot (change (line_at slot lines))
 
--- the one seat that there is at first: the book, for so many slots
+-- the one seat that a new table has: the book, for this number of slots
 abbrev pub opening_view : ℕ → View
 opening_view slots = Book record { lines = replicate slots fresh_line; made = 0; back = [] }
 
@@ -105,6 +107,10 @@ pub record Keeps (words : List ℕ) (views : List View) : Type 0 where
 -- a step of the book tells it what it knows then
 abbrev pub Tells : Kind → Operands (Unit {0}) → Me (Unit {0}) View → ℕ → Me (Unit {0}) View → Type 0
 Tells kind step before found after = (page : Page) → before.0 ≡ Book page → after ≡ (book_after kind step.word found page, before.1)
+
+-- a swap of the book tells it of the phase whose word it wrote
+abbrev pub TellsSwap : Operands (Unit {0}) → Me (Unit {0}) View → ℕ → Me (Unit {0}) View → Type 0
+TellsSwap step before found after = (phase : Phase) → step.first ≡ number phase → Tells (kind_to phase) step before found after
 
 -- and a take tells the pen whether it got the NOOP
 abbrev pub TellsPen : Operands (Unit {0}) → Me (Unit {0}) View → ℕ → Me (Unit {0}) View → Type 0

@@ -2,12 +2,13 @@
 
 ghost use Rattle.std.specs.Prelude.{◌≡◌, ◌<◌, length, MatchBool};
 ghost use Rattle.gm_word.specs.declared.phase.Phase.TheVariants.{Awake, Asleep, Owed};
-ghost use Rattle.gm_word.specs.Lines.{slept, woken, stirred, withdrawn, entered};
+ghost use Rattle.gm_word.specs.Lines.{number, phase_for, kind_to, line_to, with_sleep, with_wake, with_stir, with_withdrawal};
+ghost use Rattle.gm_word.specs.Lines.{with_take_found};
 ghost use Rattle.gm_word.specs.Steps.{line_at};
 ghost use Rattle.gm_word.specs.Seats.{with_line};
 
 use crate::phase::Phase;
-use crate::rule::{Look, Sleep, Stir, Wake, Withdraw};
+use crate::rule::{Look, Swap, Withdraw};
 use crate::table::SleepTable;
 use crate::view::View;
 use atomic_table::Seat;
@@ -15,9 +16,18 @@ use std::marker::Model;
 
 pub(crate) const AWAKE: u64 = 0;
 
-const ASLEEP: u64 = 1;
-
 pub(crate) const OWED: u64 = 2;
+
+// The word of a phase.
+fn word_of(phase: Phase) -> u64
+    ensures { result ≡ number phase }
+{
+    match phase {
+        Phase::Awake => AWAKE,
+        Phase::Asleep => 1,
+        Phase::Owed => OWED,
+    }
+}
 
 /// Changes the words as the book says. There is one for each table; it may cross threads.
 ///
@@ -50,18 +60,28 @@ impl BookSeat {
         self.phases[at]
     }
 
+    // Writes the word of a phase, where no pen can change the word at the same time.
+    fn swap_to(&mut self, table: &SleepTable, slot: u32, phase: Phase)
+        requires table { self.old.table ≡ table.now }
+        requires slot { slot < length self.old.lines }
+        requires before { (line_at slot self.old.lines).phase ≡ phase_for (kind_to phase) }
+        ensures { self.new ≡ with_line slot (line_to phase) self.old }
+    {
+        table
+            .words
+            .shared
+            .swap::<Swap>(&mut self.seat, slot as usize, word_of(phase));
+        self.phases[slot as usize] = phase;
+    }
+
     /// The worker of the slot, which is awake, goes to sleep.
     pub fn sleep(&mut self, table: &SleepTable, slot: u32)
         requires table { self.old.table ≡ table.now }
         requires slot { slot < length self.old.lines }
         requires awake { (line_at slot self.old.lines).phase ≡ Awake }
-        ensures { self.new ≡ with_line slot slept self.old }
+        ensures { self.new ≡ with_line slot with_sleep self.old }
     {
-        table
-            .words
-            .shared
-            .swap::<Sleep>(&mut self.seat, slot as usize, ASLEEP);
-        self.phases[slot as usize] = Phase::Asleep;
+        self.swap_to(table, slot, Phase::Asleep);
     }
 
     /// The worker of the slot, which is asleep, is owed a NOOP from now on.
@@ -69,36 +89,28 @@ impl BookSeat {
         requires table { self.old.table ≡ table.now }
         requires slot { slot < length self.old.lines }
         requires asleep { (line_at slot self.old.lines).phase ≡ Asleep }
-        ensures { self.new ≡ with_line slot woken self.old }
+        ensures { self.new ≡ with_line slot with_wake self.old }
     {
-        table
-            .words
-            .shared
-            .swap::<Wake>(&mut self.seat, slot as usize, OWED);
-        self.phases[slot as usize] = Phase::Owed;
+        self.swap_to(table, slot, Phase::Owed);
     }
 
-    /// The worker of the slot, which is asleep, has awoken by itself, or is gone.
+    /// The worker of the slot, which is asleep, woke up by itself or is gone.
     pub fn stir(&mut self, table: &SleepTable, slot: u32)
         requires table { self.old.table ≡ table.now }
         requires slot { slot < length self.old.lines }
         requires asleep { (line_at slot self.old.lines).phase ≡ Asleep }
-        ensures { self.new ≡ with_line slot stirred self.old }
+        ensures { self.new ≡ with_line slot with_stir self.old }
     {
-        table
-            .words
-            .shared
-            .swap::<Stir>(&mut self.seat, slot as usize, AWAKE);
-        self.phases[slot as usize] = Phase::Awake;
+        self.swap_to(table, slot, Phase::Awake);
     }
 
-    /// Takes back the NOOP that the slot is owed. True where it was withdrawn, false where the pen had
-    /// taken it; the slot is awake after both. One try.
+    /// Withdraws the NOOP that the slot is owed. True where it was withdrawn, false where the pen had taken it;
+    /// the slot is awake after both. One try.
     pub fn withdraw(&mut self, table: &SleepTable, slot: u32) -> bool
         requires table { self.old.table ≡ table.now }
         requires slot { slot < length self.old.lines }
         requires owed { (line_at slot self.old.lines).phase ≡ Owed }
-        ensures { MatchBool result (self.new ≡ with_line slot withdrawn self.old) (self.new ≡ with_line slot entered self.old) }
+        ensures { MatchBool result (self.new ≡ with_line slot with_withdrawal self.old) (self.new ≡ with_line slot with_take_found self.old) }
     {
         let found = table
             .words
@@ -108,12 +120,12 @@ impl BookSeat {
         found == OWED
     }
 
-    /// Whether the NOOP that the slot is owed is found taken; it is awake then. False where it is owed
-    /// none, or is still owed it, and then nothing changes.
+    /// Whether the NOOP that the slot is owed was taken; the slot is awake then. False where it is owed none, or
+    /// is still owed it, and then nothing changes.
     pub fn look(&mut self, table: &SleepTable, slot: u32) -> bool
         requires table { self.old.table ≡ table.now }
         requires slot { slot < length self.old.lines }
-        ensures { MatchBool result (((line_at slot self.old.lines).phase ≡ Owed) × (self.new ≡ with_line slot entered self.old)) (self.new ≡ self.old) }
+        ensures { MatchBool result (((line_at slot self.old.lines).phase ≡ Owed) × (self.new ≡ with_line slot with_take_found self.old)) (self.new ≡ self.old) }
     {
         let Phase::Owed = self.phases[slot as usize] else {
             return false;

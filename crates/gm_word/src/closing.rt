@@ -38,10 +38,11 @@ fn read_words(closed: &Closed<(), Global>, words: &mut Vec<u64>)
     }
 }
 
-/// Closes a table, once no thread shares it any more, and gives its last words, one for each slot. These,
-/// what the book knows and what the pens that are handed in have taken agree.
+/// Closes a table, once no thread shares it any more, and returns its last words, one for each slot. They agree
+/// with what the book knows and with what the pens that are handed in have taken.
 ///
-/// All of them are gone on refusal, too.
+/// An error means that there was no memory for the list of words. The table, the book and the pens are gone
+/// then, too.
 pub fn close_words(
     alloc: Global,
     table: SleepTable,

@@ -1,6 +1,6 @@
 //! The phases of a worker.
 
-/// Where the book says that the worker of a slot is.
+/// The phase of the worker in a slot, as the book has it.
 #[derive(Clone, Copy, Debug, PartialEq, Eq)]
 pub enum Phase {
     /// It is awake: it asks by itself.

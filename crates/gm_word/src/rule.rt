@@ -1,87 +1,60 @@
 //! The rule of a table of sleep words, and what each kind of step tells the seat that makes it.
 
+ghost use Rattle.gm_word.specs.declared.view.View.TheVariants.{Spent};
+ghost use Rattle.gm_word.specs.Lines.{withdraw, look};
+ghost use Rattle.gm_word.specs.Steps.{Reached, Tells, TellsSwap, TellsPen};
+ghost use Rattle.gm_word.specs.Steps.{opening_view, with_next_pen, next_pen, with_back};
+
 use crate::view::View;
 use atomic_table::{Join, Play, Split, TableRule};
 
-/// The table stands as steps of the eight kinds, and no others, have left it.
-pub struct WordRule;
+/// The table is as steps of the eight kinds, and no others, have left it.
+pub(crate) struct WordRule;
 
 impl TableRule<(), View, u32> for WordRule {
-    ghost use Rattle.gm_word.specs.Steps.{Reached, opening_view};
-
     ghost holds = { λ _ s. Reached s.words s.views };
 
     ghost first = { opening_view };
 }
 
-pub struct Sleep;
+/// The book writes the word of a phase: the worker goes to sleep, is woken or stirs.
+pub(crate) struct Swap;
 
-impl Play<(), View> for Sleep {
-    ghost use Rattle.gm_word.specs.Lines.{sleep};
-    ghost use Rattle.gm_word.specs.Steps.{Tells};
-
-    ghost then = { Tells sleep };
+impl Play<(), View> for Swap {
+    ghost then = { TellsSwap };
 }
 
-pub struct Wake;
-
-impl Play<(), View> for Wake {
-    ghost use Rattle.gm_word.specs.Lines.{wake};
-    ghost use Rattle.gm_word.specs.Steps.{Tells};
-
-    ghost then = { Tells wake };
-}
-
-pub struct Stir;
-
-impl Play<(), View> for Stir {
-    ghost use Rattle.gm_word.specs.Lines.{stir};
-    ghost use Rattle.gm_word.specs.Steps.{Tells};
-
-    ghost then = { Tells stir };
-}
-
-pub struct Withdraw;
+/// The book tries to withdraw a NOOP.
+pub(crate) struct Withdraw;
 
 impl Play<(), View> for Withdraw {
-    ghost use Rattle.gm_word.specs.Lines.{withdraw};
-    ghost use Rattle.gm_word.specs.Steps.{Tells};
-
     ghost then = { Tells withdraw };
 }
 
-pub struct Look;
+/// The book looks whether a NOOP was taken.
+pub(crate) struct Look;
 
 impl Play<(), View> for Look {
-    ghost use Rattle.gm_word.specs.Lines.{look};
-    ghost use Rattle.gm_word.specs.Steps.{Tells};
-
     ghost then = { Tells look };
 }
 
-pub struct Take;
+/// A pen tries to take a NOOP.
+pub(crate) struct Take;
 
 impl Play<(), View> for Take {
-    ghost use Rattle.gm_word.specs.Steps.{TellsPen};
-
     ghost then = { TellsPen };
 }
 
 /// The book gives the next slot its pen, and takes a pen in.
-pub struct Pens;
+pub(crate) struct Pens;
 
 impl Split<View> for Pens {
-    ghost use Rattle.gm_word.specs.Steps.{with_next_pen, next_pen};
-
     ghost left = { with_next_pen };
 
     ghost right = { next_pen };
 }
 
 impl Join<View> for Pens {
-    ghost use Rattle.gm_word.specs.Steps.{with_back};
-    ghost use Rattle.gm_word.specs.declared.view.View.TheVariants.{Spent};
-
     ghost both = { with_back };
 
     ghost spent = { Spent };

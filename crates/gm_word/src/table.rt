@@ -33,8 +33,8 @@ impl Model for SleepTable {
 }
 
 impl SleepTable {
-    /// A table of so many slots, at least one, whose workers are all awake; the seat of its book; and a pen
-    /// for each slot, in their order.
+    /// A table of `slots` slots, at least one, whose workers are all awake; the seat of its book; and a pen for
+    /// each slot, in their order. An error means that there was no memory for them.
     pub fn new(
         alloc: Global,
         slots: u32,

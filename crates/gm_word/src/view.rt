@@ -1,4 +1,4 @@
-//! What the seats at a table know. No value of these types is made: they stand in proofs alone.
+//! What the seats at a table know. No value of these types is made: only proofs speak of them.
 
 use crate::phase::Phase;
 use std::collections::LinkedList;

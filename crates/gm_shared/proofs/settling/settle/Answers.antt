@@ -1,6 +1,6 @@
 use Rattle.std.proofs.Common.{◌++◌, map, sym, subst}
 use Rattle.std.proofs.lemmas.Result.{err_from_is_err_and}
-use Rattle.gm_tables.specs.Holds.{CoreAgrees}
+use Rattle.gm_core.specs.Holds.{CoreAgrees}
 use Rattle.gm_shared.specs.Books.{WordsAgree}
 use Rattle.gm_shared.specs.declared.tape.Actor.TheVariants as actors
 use Rattle.gm_shared.specs.Tapes.{AddUp}

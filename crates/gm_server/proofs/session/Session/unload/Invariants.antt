@@ -1,12 +1,13 @@
 use Rattle.std.proofs.Common.{◌≡◌, length}
-use Rattle.gm_server.proofs.Handing.{Handed}
+use Rattle.gm_server.proofs.Handing.{Unloading}
 use Rattle.gm_server.proofs.session.Session.unload.Given as goal
 
-abbrev pub invariant-loop-end : goal.invariant-loop-end
-invariant-loop-end g l = record {
-  handed : Handed g.K.BookName.taped l.fn.self.slot l.fn.feeder l.fn.desk.share.items l.desk.share.items l.feeder;
-  slot : l.self.slot ≡ l.fn.self.slot;
+abbrev pub invariant-loop-event : goal.invariant-loop-event
+invariant-loop-event g l = record {
+  unloading : Unloading g.K.BookName.taped l.slot l.fn.self.feeder l.fn.self.applier.desk.now.share.items l.self.applier.desk.now.share.items l.self.feeder;
+  same_desk : l.self.applier.desk.ghost_name ≡ l.fn.self.applier.desk.ghost_name;
+  slot : l.self.applier.slot ≡ l.fn.self.applier.slot;
 }
 
-abbrev pub decreases-loop-end : goal.decreases-loop-end
-decreases-loop-end g l = length l.feeder.pending
+abbrev pub decreases-loop-event : goal.decreases-loop-event
+decreases-loop-event g l = length l.self.feeder.pending

@@ -1,5 +1,5 @@
 use Rattle.std.proofs.Common.{◌≡◌, [], ◌∷◌, ◌++◌, sym, ap, subst, ◌∙◌}
-use Rattle.gm_conns.specs.Tables.{Table, conn}
+use Rattle.gm_conns.specs.ConnTables.{Table, conn}
 use Rattle.gm_notes.specs.Steps.{Drain}
 use Rattle.gm_shared.specs.declared.tape.Answer.TheVariants as answers
 use Rattle.gm_shared.specs.Tapes.{HaveWaited, drain_entry, told_of}

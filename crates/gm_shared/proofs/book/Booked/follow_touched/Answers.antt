@@ -2,20 +2,20 @@ use Rattle.std.proofs.Common.{refl, ◌∙◌, arith}
 use Rattle.gm_shared.proofs.Following.{follows_none, follows_more, follows_still, none_missed}
 use Rattle.gm_shared.proofs.book.Booked.follow_touched.Goals as goal
 
-pub bring-requires-clause-table : goal.bring-requires-clause-table
-bring-requires-clause-table c = c.loop-at.invariant.following.follows.table ∙ c.requires
+pub sync_word-requires-clause-table : goal.sync_word-requires-clause-table
+sync_word-requires-clause-table c = c.loop-at.invariant.following.follows.table ∙ c.requires
 
 pub loop-at-init : goal.loop-at-init
-loop-at-init c = record { following = follows_none c.args.self.now c.new-told.result c.new-told.ensures; tape = refl }
+loop-at-init c = record { following = follows_none c.args.self.now c.new-touched.result c.new-touched.ensures; tape = refl }
 
 pub loop-at-preserved : goal.loop-at-preserved
 loop-at-preserved c =
     let taken = c.in-Some.ensures in
     record {
       tape = c.loop-at.invariant.tape;
-      following = follows_more _ c.loop-at.self _ c.loop-at.told _ c.loop-at._at c.in-Some.slot c.phase_in-phase.result c.loop-at.invariant.following
+      following = follows_more _ c.loop-at.self _ c.loop-at.touched _ c.loop-at._at c.in-Some.slot c.phase-phase.result c.loop-at.invariant.following
           taken.found taken.least taken.rest taken.lanes taken.agrees
-          c.phase_in-phase.ensures.value c.phase_in-phase.ensures.agrees c.bring.ensures refl c.insert.ensures;
+          c.phase-phase.ensures.value c.phase-phase.ensures.agrees c.sync_word.ensures refl c.insert.ensures;
     }
 
 pub returns-in_default-clause-follows : goal.returns-in_default-clause-follows

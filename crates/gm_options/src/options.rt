@@ -1,0 +1,105 @@
+//! Options, and those of every job server.
+
+ghost use Rattle.std.specs.Prelude.{◌≡◌, ◌≤◌, Some};
+
+use clap::{Arg, ArgAction, ArgMatches, Command};
+use gm_feeder::Limits;
+use std::alloc::{AllocError, Global};
+
+/// The most bytes of data that a packet may be allowed.
+const MOST_DATA: u32 = 1_073_741_824;
+
+/// The most bytes that a text line may have before its newline.
+const MAX_LINE: u32 = 1024;
+
+/// An option that takes a number from `least` to `most`, and this one if it isn't given.
+pub fn number<'a>(
+    alloc: Global,
+    name: &'a str,
+    least: i64,
+    most: i64,
+    default: &'a str,
+    help: &'a str,
+) -> Arg<'a>
+    ensures { result.long ≡ Some name.entry }
+{
+    Arg::new(alloc, name)
+        .long(name)
+        .value_name("N")
+        .value_parser(clap::value_parser!(u32).range(least..=most))
+        .default_value(default)
+        .help(help)
+}
+
+/// An option that takes a text, and this one if it isn't given.
+pub fn text<'a>(
+    alloc: Global,
+    name: &'a str,
+    value: &'a str,
+    default: &'a str,
+    help: &'a str,
+) -> Arg<'a>
+    ensures { result.long ≡ Some name.entry }
+{
+    Arg::new(alloc, name)
+        .long(name)
+        .value_name(value)
+        .default_value(default)
+        .help(help)
+}
+
+/// An option that takes nothing.
+pub fn flag<'a>(alloc: Global, name: &'a str, help: &'a str) -> Arg<'a>
+    ensures { result.long ≡ Some name.entry }
+{
+    Arg::new(alloc, name)
+        .long(name)
+        .action(ArgAction::SetTrue)
+        .help(help)
+}
+
+/// The command with the options of every job server: how many connections there may be, and how large a packet may be.
+pub fn with_server_options<'a>(
+    alloc: Global,
+    command: Command<'a>,
+) -> Result<Command<'a>, AllocError> {
+    command
+        .arg(number(
+            alloc,
+            "slots",
+            1,
+            1024,
+            "64",
+            "How many connections may be open at once",
+        ))?
+        .arg(number(
+            alloc,
+            "max-data",
+            0,
+            1_073_741_824,
+            "67108864",
+            "How many bytes of data a packet may have",
+        ))
+}
+
+/// What the options of every job server ask for.
+#[derive(Clone, Copy, PartialEq, Eq)]
+pub struct ServerOptions {
+    /// How many connections may be open at once.
+    pub slots: u32,
+    /// How large a packet or a text line may be.
+    pub limits: Limits,
+}
+
+/// What the options of every job server ask for, where the command had them.
+pub fn server_options(matches: &ArgMatches<'_>) -> ServerOptions {
+    let max_data = matches.get_one::<u32>("max-data").unwrap_or(67_108_864);
+    ServerOptions {
+        slots: matches.get_one::<u32>("slots").unwrap_or(64),
+        limits: Limits {
+            // The option's range has seen to this.
+            max_bytes: max_data.min(MOST_DATA),
+            max_line: MAX_LINE,
+        },
+    }
+}

@@ -1,0 +1,25 @@
+use Rattle.std.proofs.Common.{◌∙◌, refl, subst, Ok, Err}
+use Rattle.gm_server.specs.declared.session.SessionEnd.TheVariants as ends
+use Rattle.gm_server.specs.Sessions.{TakesPiece}
+use Rattle.gm_server.proofs.Handing.{reading_none, reading_more, reading_ends, reading_breaks, consumes_none}
+use Rattle.gm_server.proofs.session.Session.run.Goals as goal
+
+pub loop-init : goal.loop-init
+loop-init g c = record {
+  reading = reading_none g.K.BookName.taped c.args.self.now.applier.slot (g.I.Read.remaining c.args.reader.now) c.args.self.now.applier.desk.now.share.items c.args.self.now.feeder c.requires;
+  same_desk = refl;
+  slot = refl;
+}
+
+pub loop-preserved : goal.loop-preserved
+loop-preserved g c = record {
+  reading = reading_more _ _ _ _ (g.I.Read.remaining c.loop.reader) _ _ c.loop.self.applier.desk.now.share.items c.take_piece.new.self.applier.desk.now.share.items c.loop.self.feeder c.loop.invariant.reading
+      c.loop.self.applier.slot c.loop.invariant.slot _ c.take_piece.new.self.feeder c.in-Ok.ensures.piece c.in-Ok-take_piece.ensures.takes;
+  same_desk = c.in-Ok-take_piece.ensures.same_desk ∙ c.loop.invariant.same_desk;
+  slot = c.in-Ok-take_piece.ensures.slot ∙ c.loop.invariant.slot;
+}
+
+pub returns-in-Err-take_piece-clause-reads : goal.returns-in-Err-take_piece-clause-reads
+returns-in-Err-take_piece-clause-reads g c =
+    reading_breaks _ _ _ _ (g.I.Read.remaining c.loop.reader) _ _ c.loop.self.applier.desk.now.share.items c.take_piece.new.self.applier.desk.now.share.items c.loop.self.feeder c.loop.invariant.reading
+    c.loop.self.applier.slot c.loop.invariant.slot _ c.take_piece.new.self.feeder c.in-Err-take_piece.end c.in-Ok.ensures.piece c.in-Err-take_piece.ensures.takes

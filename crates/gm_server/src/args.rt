@@ -1,0 +1,72 @@
+//! The arguments of `gmd`.
+
+ghost use Rattle.std.specs.Prelude.{◌≤◌, IfOk};
+
+use clap::{Command, Error};
+use gm_options::{ServerOptions, flag, number, server_options, text, with_server_options};
+use std::alloc::{AllocError, Global};
+use std::convert::AsStr;
+
+/// What the arguments ask for.
+#[derive(Clone, Copy, PartialEq, Eq)]
+pub(crate) struct Args<'a> {
+    pub(crate) port: u16,
+    pub(crate) listen: &'a str,
+    pub(crate) name: &'a str,
+    pub(crate) server: ServerOptions,
+    pub(crate) check: bool,
+    pub(crate) tape: bool,
+}
+
+/// The command with the options of where it listens, and of what it is called.
+fn with_names<'a>(alloc: Global, command: Command<'a>) -> Result<Command<'a>, AllocError> {
+    command
+        .arg(number(alloc, "port", 1, 65_535, "4730", "The port to listen on"))?
+        .arg(text(
+            alloc,
+            "listen",
+            "ADDR",
+            "0.0.0.0",
+            "The address to listen on",
+        ))?
+        .arg(text(
+            alloc,
+            "name",
+            "NAME",
+            "gmd",
+            "The name in job handles: 1 to 40 letters, digits, dots and hyphens",
+        ))
+}
+
+/// The command with the options that take nothing.
+fn with_flags<'a>(alloc: Global, command: Command<'a>) -> Result<Command<'a>, AllocError> {
+    command
+        .arg(flag(
+            alloc,
+            "tape",
+            "Keeps every accepted call with its bytes for as long as it serves, so its memory grows with each; in the end the record is compared with what each connection was told, and the status is 4 where they differ",
+        ))?
+        .arg(flag(alloc, "check", "Prints the settings, and ends"))
+}
+
+/// The program's command: its options, with the range and the default of each.
+fn command<'a>(alloc: Global) -> Result<Command<'a>, AllocError> {
+    let command = Command::new(alloc, "gmd")
+        .version("1.0.0")
+        .about("A Gearman job server");
+    let command = with_server_options(alloc, with_names(alloc, command)?)?;
+    with_flags(alloc, command)
+}
+
+/// What the arguments ask for, of which the first is the program's name.
+pub(crate) fn parse_args<'a, S: AsStr>(alloc: Global, args: &'a [S]) -> Result<Args<'a>, Error> {
+    let matches = command(alloc)?.try_get_matches_from(args)?;
+    Ok(Args {
+        port: matches.get_one::<u16>("port").unwrap_or(4730),
+        listen: matches.get_str("listen").unwrap_or("0.0.0.0"),
+        name: matches.get_str("name").unwrap_or("gmd"),
+        server: server_options(&matches),
+        check: matches.get_flag("check"),
+        tape: matches.get_flag("tape"),
+    })
+}

@@ -1,0 +1,80 @@
+//! What the lock guards.
+
+ghost use Rattle.std.specs.Prelude.{◌≡◌};
+ghost use Rattle.gm_notes.specs.Servers.{step_of, IsSized};
+ghost use Rattle.gm_shared.specs.Books.{NeedsNoMemory};
+ghost use Rattle.gm_shared.specs.Shared.{IsGuarded, Applied, Emptied};
+ghost use Rattle.std.specs.Result.{IsErrOf};
+
+use crate::book::Booked;
+use crate::name::BookName;
+use crate::receipt::{Drained, Receipt};
+use crate::tape::Told;
+use gm_notes::{ApplyError, Event};
+use gm_word::SleepTable;
+use std::marker::{Model, PhantomData};
+
+/// A book under its lock: it agrees with some settings and some list of steps, and its words are in the table that
+/// `K` names.
+#[derive(Drop)]
+pub(crate) struct Guarded<K: BookName> {
+    booked: Booked,
+    of: PhantomData<K>,
+}
+
+impl<K: BookName> Model for Guarded<K> {
+    ghost use Rattle.gm_shared.specs.declared.book.Booked.{Booked};
+    ghost use Rattle.gm_shared.specs.Shared.{IsGuarded};
+
+    ghost Value = { Booked };
+
+    ghost view = { λ g. g.booked };
+
+    ghost invariant = { λ g. IsGuarded K.table K.taped g.booked };
+}
+
+impl<K: BookName> Guarded<K> {
+    pub(crate) fn new(booked: Booked) -> Guarded<K>
+        requires { IsGuarded K.table K.taped booked }
+    {
+        Guarded {
+            booked,
+            of: PhantomData,
+        }
+    }
+
+    /// `Booked::apply`, in one holding of the lock.
+    pub(crate) fn apply(
+        &mut self,
+        table: &SleepTable,
+        desk: u32,
+        event: &Event<'_>,
+        share: &mut Vec<Told>,
+    ) -> Result<Receipt, ApplyError>
+        requires size { IsSized event.now }
+        requires table { table.now ≡ K.table }
+        ensures applied { Applied K.taped (step_of event.now) desk result share.old.items share.new.items }
+        ensures memory { NeedsNoMemory K.taped (step_of event.now) → IsErrOf result ApplyError.Memory → ⊥ }
+    {
+        self.booked.hold(table, desk, event, share)
+    }
+
+    /// `Booked::drain`, in one holding of the lock.
+    pub(crate) fn drain(
+        &mut self,
+        pen: u32,
+        slot: u32,
+        share: &mut Vec<Told>,
+    ) -> Result<Drained, ApplyError>
+        ensures { Emptied K.taped pen slot result share.old.items share.new.items }
+    {
+        self.booked.drain_into(pen, slot, share)
+    }
+
+    /// The book, which is under no lock any more.
+    pub(crate) fn into_book(self) -> Booked
+        ensures { IsGuarded K.table K.taped result }
+    {
+        self.booked
+    }
+}
