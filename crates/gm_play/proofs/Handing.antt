@@ -10,10 +10,10 @@ use Rattle.gm_notes.specs.Past.{Past}
 use Rattle.gm_notes.specs.Steps.{Step}
 use Rattle.gm_notes.specs.Steps.{run}
 use Rattle.gm_notes.specs.Servers.{IsRefusal}
-use Rattle.gm_core.specs.declared.front.Front.{Front}
-use Rattle.gm_core.specs.declared.input.Stepped.{Stepped}
-use Rattle.gm_core.specs.Inputs.{Input, Opens, Gives, Cuts, Closes, Ticks, Takes, Withdraws, Drains, Reading, fresh, refusal_of, opened_by}
-use Rattle.gm_core.specs.Fronts.{IsHeld, Agrees, IsTaken, IsRefused, Refuses}
+use Rattle.gm_front.specs.declared.front.Front.{Front}
+use Rattle.gm_front.specs.declared.input.Stepped.{Stepped}
+use Rattle.gm_front.specs.Inputs.{Input, Opens, Gives, Cuts, Closes, Ticks, Takes, Withdraws, Drains, Reading, fresh, refusal_of, opened_by}
+use Rattle.gm_front.specs.Fronts.{IsHeld, Agrees, IsTaken, IsRefused, Refuses}
 use Rattle.gm_play.specs.Scripts.{Skip, Hands}
 use Rattle.gm_play.specs.Prints.{refused_text, said_of, told, drained, Handing}
 use Rattle.gm_play.specs.Players.{IsHeldSince, IsReady, TellsAll, Plays}

@@ -1,5 +1,4 @@
 pub mod Cuts
-pub mod Digits
 pub mod Handing
 pub mod Hex
 pub mod OneText

@@ -4,8 +4,8 @@ use Rattle.gm_feeder.specs.declared.units.Limits.{Limits}
 use Rattle.gm_notes.specs.declared.event.ApplyError.{ApplyError}
 use Rattle.gm_notes.specs.Settings.{Settings}
 use Rattle.gm_notes.specs.Steps.{run}
-use Rattle.gm_core.specs.Inputs.{Input, Reading, fresh, refusal_of, opened_by}
-use Rattle.gm_core.proofs.OneReading.{one_adding}
+use Rattle.gm_front.specs.Inputs.{Input, Reading, fresh, refusal_of, opened_by}
+use Rattle.gm_front.proofs.OneReading.{one_adding}
 use Rattle.gm_play.specs.Scripts.{Order, Skip, Bad, Hands, order_of, lines_of}
 use Rattle.gm_play.specs.Prints.{Settles, Handing, Tells, Prints, IsTextOf, told, drained, said_of}
 

@@ -6,8 +6,8 @@ use Rattle.std.specs.Io.KnownBytes.{Appends}
 use Rattle.gm_feeder.specs.declared.units.Limits.{Limits}
 use Rattle.gm_notes.specs.Settings.{Settings}
 use Rattle.gm_notes.specs.Steps.{Step}
-use Rattle.gm_core.specs.declared.front.Front.{Front}
-use Rattle.gm_core.specs.Inputs.{Reading}
+use Rattle.gm_front.specs.declared.front.Front.{Front}
+use Rattle.gm_front.specs.Inputs.{Reading}
 use Rattle.gm_play.specs.Scripts.{cuts, order_of}
 use Rattle.gm_play.specs.Orders.{cut}
 use Rattle.gm_play.specs.Prints.{Prints}

@@ -3,7 +3,7 @@ use Rattle.std.proofs.Common.{◌≡◌, ◌<◌, ◌≤◌, ◌+◌, ℕ, zero,
 use Rattle.std.specs.Prelude.{if◌then◌else◌}
 use Rattle.std.proofs.Math.Numerals.{add-one}
 use Rattle.gm_feeder.specs.declared.units.Limits.{Limits}
-use Rattle.gm_packet.specs.Writing.{noop, answer_packet}
+use Rattle.gm_packet.specs.Answers.{noop, answer_packet}
 use Rattle.gm_notes.specs.declared.event.ApplyError.{ApplyError}
 use Rattle.gm_notes.specs.declared.event.ApplyError.TheVariants.{NotOpen, NotOwed}
 use Rattle.gm_notes.specs.Settings.{Settings}
@@ -13,12 +13,12 @@ use Rattle.gm_notes.specs.Past.{Past}
 use Rattle.gm_notes.specs.Steps.{Step, Drain, Took, refusal, unless}
 use Rattle.gm_notes.specs.Steps.{add, run}
 use Rattle.gm_notes.specs.Servers.{is_closing, owes}
-use Rattle.gm_core.specs.declared.front.Front.{Front}
-use Rattle.gm_core.specs.declared.input.Stepped.{Stepped}
-use Rattle.gm_core.specs.Inputs.{Takes, Drains, Reading}
-use Rattle.gm_core.specs.declared.input.StepError.{StepError}
-use Rattle.gm_core.specs.declared.input.StepError.TheVariants.{Refused, Cut}
-use Rattle.gm_core.specs.Fronts.{IsHeld, IsTaken, IsRefused, Answers}
+use Rattle.gm_front.specs.declared.front.Front.{Front}
+use Rattle.gm_front.specs.declared.input.Stepped.{Stepped}
+use Rattle.gm_front.specs.Inputs.{Takes, Drains, Reading}
+use Rattle.gm_front.specs.declared.input.StepError.{StepError}
+use Rattle.gm_front.specs.declared.input.StepError.TheVariants.{Refused, Cut}
+use Rattle.gm_front.specs.Fronts.{IsHeld, IsTaken, IsRefused, Answers}
 use Rattle.gm_play.specs.Prints.{bytes_text, shut_text, noop_if, took_if, told_of, drain_of, told, drained}
 use Rattle.gm_play.specs.Players.{IsHeldSince, TakesNoop, TellsOne, TellsAll}
 

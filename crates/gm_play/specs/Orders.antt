@@ -6,7 +6,7 @@ use Rattle.gm_play.specs.declared.order.Words.{Words}
 use Rattle.gm_play.specs.declared.order.Words.TheVariants.{Two, Three, Other}
 use Rattle.gm_play.specs.declared.order.Order.{Order as Read}
 use Rattle.gm_play.specs.declared.order.Order.TheVariants as reads
-use Rattle.gm_core.specs.Inputs.{Opens, Gives, Closes, Ticks}
+use Rattle.gm_front.specs.Inputs.{Opens, Gives, Closes, Ticks}
 use Rattle.gm_play.specs.Scripts.{Order, Skip, Bad, Hands, words_of, order_of_words}
 
 -- the bytes before the first that is this one, and those after it

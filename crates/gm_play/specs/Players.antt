@@ -7,9 +7,9 @@ use Rattle.gm_notes.specs.Past.{Past}
 use Rattle.gm_notes.specs.Steps.{Step}
 use Rattle.gm_notes.specs.Steps.{run}
 use Rattle.gm_notes.specs.Servers.{is_closing, owes}
-use Rattle.gm_core.specs.declared.front.Front.{Front}
-use Rattle.gm_core.specs.Inputs.{Reading}
-use Rattle.gm_core.specs.Fronts.{IsHeld}
+use Rattle.gm_front.specs.declared.front.Front.{Front}
+use Rattle.gm_front.specs.Inputs.{Reading}
+use Rattle.gm_front.specs.Fronts.{IsHeld}
 use Rattle.gm_play.specs.Scripts.{Order}
 use Rattle.gm_play.specs.Prints.{noop_if, took_if, told_of, drain_of, told, drained, Tells}
 

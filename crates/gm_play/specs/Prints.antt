@@ -3,7 +3,7 @@ use Rattle.std.specs.Prelude.{◌≡◌, ℕ, zero, suc, ◌/◌, ◌%◌, ◌==
 use Rattle.std.specs.List.{flat_map}
 use Rattle.std.specs.Char.{digit_char}
 use Rattle.gm_feeder.specs.declared.units.Limits.{Limits}
-use Rattle.gm_packet.specs.Writing.{noop, answer_packet}
+use Rattle.gm_packet.specs.Answers.{noop, answer_packet}
 use Rattle.gm_notes.specs.declared.event.ApplyError.{ApplyError}
 use Rattle.gm_notes.specs.Numbers.{apply_error_number}
 use Rattle.gm_notes.specs.Settings.{Settings}
@@ -13,7 +13,7 @@ use Rattle.gm_notes.specs.Past.{Past}
 use Rattle.gm_notes.specs.Steps.{Step, Took, Drain}
 use Rattle.gm_notes.specs.Steps.{run}
 use Rattle.gm_notes.specs.Servers.{is_closing, owes}
-use Rattle.gm_core.specs.Inputs.{Input, Reading, fresh, Adds, refusal_of, opened_by}
+use Rattle.gm_front.specs.Inputs.{Input, Reading, fresh, Adds, refusal_of, opened_by}
 use Rattle.gm_play.specs.Scripts.{Order, Skip, Bad, Hands, order_of, lines_of}
 
 -- ---- printed lines, each with its newline (10)

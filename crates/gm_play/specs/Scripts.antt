@@ -1,10 +1,9 @@
 -- What the lines of a script say.
 use Rattle.std.specs.Prelude.{ℕ, ◌+◌, ◌*◌, ◌^◌, ◌==◌, Bool, not, ◌&&◌, nat_le, nat_lt, if◌then◌else◌, List, [], ◌∷◌, length, codes, Option, Some, None}
-use Rattle.std.specs.List.{list_all}
 use Rattle.std.specs.Str.{bytes_eq}
-use Rattle.std.specs.Char.{digit_value, is_ascii_digit}
-use Rattle.std.specs.Str.Parse.{digits_value}
-use Rattle.gm_core.specs.Inputs.{Input, Opens, Gives, Closes, Ticks}
+use Rattle.std.specs.Char.{digit_value}
+use Rattle.gm_packet.specs.Decimals.{decimal_below}
+use Rattle.gm_front.specs.Inputs.{Input, Opens, Gives, Closes, Ticks}
 
 -- ---- pieces between separators
 
@@ -28,22 +27,13 @@ words_of line = cuts 32 line
 
 -- ---- numbers and bytes
 
--- 1 to so many decimal digits
-abbrev pub is_number : ℕ → List ℕ → Bool
-is_number most word = nat_lt 0 (length word) && nat_le (length word) most && list_all is_ascii_digit word
-
--- the number that a word of so many digits says, if it is below the limit
-abbrev pub number_below : ℕ → ℕ → List ℕ → Option ℕ
-number_below limit most word =
-    if is_number most word then (if nat_lt (digits_value 10 word) limit then Some (digits_value 10 word) else None) else None
-
 -- the slot that a word says: 1 to 10 digits
 abbrev pub slot_of : List ℕ → Option ℕ
-slot_of word = number_below (2 ^ 32) 10 word
+slot_of word = decimal_below (2 ^ 32) 10 word
 
 -- the moment: 1 to 20 digits
 abbrev pub moment_of : List ℕ → Option ℕ
-moment_of word = number_below (2 ^ 64) 20 word
+moment_of word = decimal_below (2 ^ 64) 20 word
 
 -- the byte before these bytes, where both are there
 abbrev pub before : Option ℕ → Option (List ℕ) → Option (List ℕ)

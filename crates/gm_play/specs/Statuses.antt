@@ -2,8 +2,8 @@
 use Rattle.std.specs.Prelude.{ℕ}
 use Rattle.gm_play.specs.declared.error.PlayError.{PlayError}
 use Rattle.gm_play.specs.declared.error.PlayError.TheVariants as faults
-use Rattle.gm_play.specs.declared.stop.Stop.{Stop}
-use Rattle.gm_play.specs.declared.stop.Stop.TheVariants.{Words, Seed, Play}
+use Rattle.gm_play.specs.declared.run_error.RunError.{RunError}
+use Rattle.gm_play.specs.declared.run_error.RunError.TheVariants.{Arguments, Seed, Play}
 
 -- 2 where the script can't be had, 3 where memory or the output is wanting
 abbrev pub play_status : PlayError → ℕ
@@ -13,7 +13,7 @@ play_status faults.TooLong = 2
 play_status faults.Memory = 3
 
 -- 2 where the words aren't understood, 3 where there is no random seed
-abbrev pub stop_status : Stop → ℕ
-stop_status Words = 2
-stop_status Seed = 3
-stop_status (Play fault) = play_status fault
+abbrev pub run_status : RunError → ℕ
+run_status Arguments = 2
+run_status Seed = 3
+run_status (Play fault) = play_status fault

@@ -4,15 +4,15 @@ ghost use Rattle.std.specs.Prelude.{◌≡◌, ◌^◌, ◌<◌, ℕ, List, leng
 ghost use Rattle.gm_feeder.specs.declared.units.Limits.{Limits};
 ghost use Rattle.gm_notes.specs.Settings.{Settings};
 ghost use Rattle.gm_notes.specs.Past.{Past};
-ghost use Rattle.gm_core.specs.Inputs.{input_of, Reading};
-ghost use Rattle.gm_core.specs.Fronts.{IsHeld};
+ghost use Rattle.gm_front.specs.Inputs.{input_of, Reading};
+ghost use Rattle.gm_front.specs.Fronts.{IsHeld};
 ghost use Rattle.gm_play.specs.Scripts.{Hands, order_of};
 ghost use Rattle.gm_play.specs.Orders.{order_view};
 ghost use Rattle.gm_play.specs.Players.{IsHeldSince, IsReady, TakesNoop, TellsOne, TellsAll, Plays};
 
 use crate::order::{Order, order_of};
 use crate::text::{put_bad, put_bytes, put_open, put_refused, put_shut};
-use gm_core::{Front, Input, StepError};
+use gm_front::{Front, Input, StepError};
 use gm_notes::{ApplyError, JobServer};
 use gm_packet::{Response, write_response};
 use std::alloc::{AllocError, Global};

@@ -4,6 +4,7 @@
 //! connections is printed in hexadecimal digits.
 #![tactic(auto)]
 
+mod args;
 mod error;
 pub mod laws;
 mod line;
@@ -15,96 +16,67 @@ mod playing;
 mod random;
 #[cfg(test)]
 mod rows;
-mod stop;
+mod run_error;
 #[cfg(test)]
 mod tests;
 mod text;
-mod words;
 
-ghost use Rattle.std.specs.Prelude.{◌≤◌, IfOk};
-
+use args::{Args, parse_args};
 use clap::error::ErrorKind;
 use error::PlayError;
-use gm_feeder::Limits;
 use gm_notes::Config;
+use gm_options::arguments;
 use playing::{PlaySettings, play};
+use run_error::RunError;
 use std::alloc::Global;
-use std::env::Env;
 use std::hash::RandomState;
 use std::io::{BufWriter, Write};
 use std::process::ExitCode;
-use std::{env, io};
-use stop::Stop;
-use words::{Asked, read_words};
 
-/// Why the words can't be had: where it isn't for memory, one of them isn't text.
-fn words_stop(error: io::Error) -> Stop {
-    match error.kind() {
-        io::ErrorKind::OutOfMemory => Stop::Play(PlayError::Memory),
-        _ => Stop::Words,
-    }
-}
-
-/// The words that the program is given, the first of which is its name.
-fn words_given<R: Env + AllocGlobal>(rt: &R) -> Result<Vec<String>, Stop> {
-    match env::args(rt) {
-        Ok(words) => Ok(words.collect(rt.alloc())?),
-        Err(error) => Err(words_stop(error)),
-    }
-}
-
-/// Says what is wrong with the words, or prints the help that they ask for.
-fn tell(rt: &HostRuntime, error: &clap::Error) -> Result<(), Stop> {
+/// Says what is wrong with the arguments, or prints the help that they ask for.
+fn tell(rt: &HostRuntime, error: &clap::Error) -> Result<(), RunError> {
     let Ok(()) = error.print(rt) else {
-        return Err(Stop::Play(PlayError::Write));
+        return Err(RunError::Play(PlayError::Write));
     };
     match error.kind() {
         ErrorKind::DisplayHelp => Ok(()),
-        ErrorKind::OutOfMemory => Err(Stop::Play(PlayError::Memory)),
-        _ => Err(Stop::Words),
+        ErrorKind::OutOfMemory => Err(RunError::Play(PlayError::Memory)),
+        _ => Err(RunError::Arguments),
     }
 }
 
 /// The settings that are asked for.
-fn settings_of(alloc: Global, asked: Asked) -> Result<PlaySettings, Stop>
-    requires { asked.max_data ≤ 1073741824 }
-    ensures { IfOk result (λ settings. settings.limits.max_bytes ≤ 1073741824) }
-{
+fn settings_of(alloc: Global, args: Args) -> Result<PlaySettings, RunError> {
     let name = Vec::from_slice(alloc, b"gmd")?;
-    let Ok(config) = Config::new(name, asked.first_job, asked.slots, asked.functions) else {
-        return Err(Stop::Words);
+    let Ok(config) = Config::new(name, args.first_job, args.server.slots, args.functions) else {
+        return Err(RunError::Arguments);
     };
     Ok(PlaySettings {
         config,
-        limits: Limits {
-            max_bytes: asked.max_data,
-            max_line: 1024,
-        },
-        plain: asked.plain,
+        limits: args.server.limits,
+        plain: args.plain,
     })
 }
 
 /// Plays the script on standard input.
-fn play_input(rt: &HostRuntime, settings: PlaySettings) -> Result<(), Stop>
-    requires { settings.limits.max_bytes ≤ 1073741824 }
-{
+fn play_input(rt: &HostRuntime, settings: PlaySettings) -> Result<(), RunError> {
     let Ok(seed) = RandomState::new(rt) else {
-        return Err(Stop::Seed);
+        return Err(RunError::Seed);
     };
     let Ok(mut writer) = BufWriter::new(rt.alloc(), rt.stdout()) else {
-        return Err(Stop::Play(PlayError::Memory));
+        return Err(RunError::Play(PlayError::Memory));
     };
     play(rt.alloc(), seed, settings, &mut rt.stdin(), &mut writer)?;
     match writer.flush() {
         Ok(()) => Ok(()),
-        Err(_) => Err(Stop::Play(PlayError::Write)),
+        Err(_) => Err(RunError::Play(PlayError::Write)),
     }
 }
 
-fn run(rt: &HostRuntime) -> Result<(), Stop> {
-    let words = words_given(rt)?;
-    match read_words(rt.alloc(), &words) {
-        Ok(asked) => play_input(rt, settings_of(rt.alloc(), asked)?),
+fn run(rt: &HostRuntime) -> Result<(), RunError> {
+    let words = arguments(rt)?;
+    match parse_args(rt.alloc(), &words) {
+        Ok(args) => play_input(rt, settings_of(rt.alloc(), args)?),
         Err(error) => tell(rt, &error),
     }
 }
@@ -112,10 +84,10 @@ fn run(rt: &HostRuntime) -> Result<(), Stop> {
 fn main(rt: HostRuntime) -> ExitCode {
     match run(&rt) {
         Ok(()) => ExitCode::SUCCESS,
-        Err(stop) => {
+        Err(error) => {
             // Where standard error fails too, there is nobody left to tell.
-            let _ = eprintln!(rt; "gm_play: {stop}");
-            ExitCode::from(stop.status())
+            let _ = eprintln!(rt; "gm_play: {error}");
+            ExitCode::from(error.status())
         }
     }
 }

@@ -5,7 +5,7 @@ ghost use Rattle.std.specs.Prelude.{◌≤◌};
 use crate::playing::PlaySettings;
 use crate::rows::USUAL;
 use crate::tests::{same, settings_of};
-use gm_core::{Front, Input, StepError};
+use gm_front::{Front, Input, StepError};
 use gm_notes::{ApplyError, Place};
 use gm_plain::PlainServer;
 use std::alloc::Global;
@@ -16,9 +16,7 @@ const PIECE: &[u8] =
     b"\0REQ\0\0\0\x12\0\0\0\x05f\0-\0d\0REQ\0\0\0\x12\0\0\0\x05f\0-\0d\0REQ\0\0\0\x12\0\0\0\x05f\0-\0d";
 
 // A plain server behind its front.
-fn front_of(alloc: Global, settings: PlaySettings) -> Result<Front<PlainServer>, Fail>
-    requires { settings.limits.max_bytes ≤ 1073741824 }
-{
+fn front_of(alloc: Global, settings: PlaySettings) -> Result<Front<PlainServer>, Fail> {
     let server = PlainServer::new(alloc, settings.config)?;
     Ok(Front::new(alloc, server, settings.limits)?)
 }

@@ -1,13 +1,12 @@
 //! What the lines of a script ask for.
 
 ghost use Rattle.std.specs.Prelude.{◌≡◌, ◌^◌, ◌<◌, ◌==◌, true, ◌∷◌, length, position, IfOk, MatchOption};
-ghost use Rattle.std.specs.Char.{digit_value, is_ascii_digit};
-ghost use Rattle.std.specs.List.{list_all};
-ghost use Rattle.std.specs.Option.{option_map, SomeIff};
-ghost use Rattle.std.specs.Str.Parse.{digits_value};
-ghost use Rattle.gm_play.specs.Scripts.{words_of, number_below, slot_of, hex_byte, hex_bytes, piece_of, order_of_two, order_of_three, order_of};
+ghost use Rattle.std.specs.Char.{digit_value};
+ghost use Rattle.std.specs.Option.{option_map};
+ghost use Rattle.gm_play.specs.Scripts.{words_of, slot_of, hex_byte, hex_bytes, piece_of, order_of_two, order_of_three, order_of};
 ghost use Rattle.gm_play.specs.Orders.{cut, SaysDigit, IsReading, order_view};
 
+use gm_packet::read_decimal;
 use std::alloc::{AllocError, Global};
 
 /// What a line asks for.
@@ -67,42 +66,11 @@ fn words_of(line: &[u8]) -> Words<'_>
     }
 }
 
-/// Whether each byte is a decimal digit.
-fn are_digits(word: &[u8]) -> bool
-    ensures { result ≡ list_all is_ascii_digit word.now }
-{
-    word.iter().all(|b| b.is_ascii_digit())
-}
-
-/// The number that digits write, if it fits 64 bits.
-fn value_of(digits: &[u8]) -> Option<u64>
-    requires { list_all is_ascii_digit digits.now ≡ true }
-    ensures { SomeIff result (digits_value 10 digits.now < 2 ^ 64) (digits_value 10 digits.now) }
-{
-    let mut value: u64 = 0;
-    for digit in digits {
-        value = value
-            .checked_mul(10)?
-            .checked_add(u64::from(*digit - b'0'))?;
-    }
-    Some(value)
-}
-
-/// The number that 1 to so many decimal digits say, if it fits 64 bits.
-fn number_of(word: &[u8], most: usize) -> Option<u64>
-    ensures { result ≡ number_below (2 ^ 64) most word.now }
-{
-    if word.is_empty() || word.len() > most || !are_digits(word) {
-        return None;
-    }
-    value_of(word)
-}
-
 /// The slot that 1 to 10 decimal digits say, if it fits 32 bits.
 fn slot_of(word: &[u8]) -> Option<u32>
     ensures { result ≡ slot_of word.now }
 {
-    u32::try_from(number_of(word, 10)?).ok()
+    u32::try_from(read_decimal(word, 10)?).ok()
 }
 
 /// What a hexadecimal digit of either case says.
@@ -178,7 +146,7 @@ fn order_of_two<'a>(verb: &[u8], word: &'a [u8]) -> Order<'a>
     if verb != b"tick".as_slice() {
         return Order::Bad;
     }
-    match number_of(word, 20) {
+    match read_decimal(word, 20) {
         Some(now) => Order::Tick { now },
         None => Order::Bad,
     }

@@ -4,7 +4,7 @@ ghost use Rattle.std.specs.Prelude.{◌≡◌, ◌^◌, ◌<◌, ◌≤◌, ℕ,
 ghost use Rattle.std.specs.Io.KnownBytes.{Appends};
 ghost use Rattle.gm_notes.specs.Settings.{Settings};
 ghost use Rattle.gm_feeder.specs.declared.units.Limits.{Limits as Limited};
-ghost use Rattle.gm_core.specs.Inputs.{Reading};
+ghost use Rattle.gm_front.specs.Inputs.{Reading};
 ghost use Rattle.gm_play.specs.Prints.{IsTextOf, Prints};
 ghost use Rattle.gm_play.specs.Scripts.{lines_of, order_of};
 ghost use Rattle.gm_play.specs.Players.{IsReady, Writes};
@@ -12,11 +12,11 @@ ghost use Rattle.gm_play.specs.Players.{IsReady, Writes};
 use crate::error::PlayError;
 use crate::line::play_line;
 use crate::order::cut;
-use gm_core::Front;
+use gm_core::Core;
 use gm_feeder::Limits;
+use gm_front::Front;
 use gm_notes::{Config, JobServer};
 use gm_plain::PlainServer;
-use gm_tables::Core;
 use std::alloc::Global;
 use std::hash::RandomState;
 use std::io::{ErrorKind, Read, Write};
@@ -97,8 +97,7 @@ fn play_lines<S: JobServer, W: Write>(
 
 /// Plays the script that a reader gives on a server with so many slots, and writes what comes of it.
 ///
-/// The server is to have taken no step yet. That a packet's data are at most a gigabyte is for the
-/// caller to see to. What was written before an error isn't said.
+/// The server is to have taken no step yet. What was written before an error isn't said.
 pub fn play_on<S: JobServer + Drop, R: Read, W: Write>(
     alloc: Global,
     server: S,
@@ -107,7 +106,6 @@ pub fn play_on<S: JobServer + Drop, R: Read, W: Write>(
     reader: &mut R,
     writer: &mut W,
 ) -> Result<(), PlayError>
-    requires { limits.max_bytes ≤ 1073741824 }
     ensures text { OnOk result ((k : Settings) → k.slots ≡ slots → k.slots ≤ 1024 → S.agrees server k []
         → IfSome (R.remaining reader.old) (λ script. (text : List ℕ) × IsTextOf k limits script text
         × Appends (W.contents writer.old) (W.contents writer.new) text)) }
@@ -121,8 +119,7 @@ pub fn play_on<S: JobServer + Drop, R: Read, W: Write>(
 
 /// Plays the script that a reader gives, and writes what comes of it.
 ///
-/// That a packet's data are at most a gigabyte is for the caller to see to. What was written before an
-/// error isn't said.
+/// What was written before an error isn't said.
 pub fn play<R: Read, W: Write>(
     alloc: Global,
     seed: RandomState,
@@ -130,7 +127,6 @@ pub fn play<R: Read, W: Write>(
     reader: &mut R,
     writer: &mut W,
 ) -> Result<(), PlayError>
-    requires { settings.limits.max_bytes ≤ 1073741824 }
     ensures text { OnOk result (IfSome (R.remaining reader.old) (λ script. (text : List ℕ)
         × IsTextOf settings.config settings.limits script text
         × Appends (W.contents writer.old) (W.contents writer.new) text)) }

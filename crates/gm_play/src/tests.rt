@@ -1,7 +1,5 @@
 //! What no clause says: that calls succeed where there is memory, worked scripts, and devices that fail.
 
-ghost use Rattle.std.specs.Prelude.{◌≤◌, IfOk};
-
 use crate::error::PlayError;
 use crate::order::{Order, order_of};
 use crate::playing::{PlaySettings, play};
@@ -28,9 +26,7 @@ pub fn same<T: PartialEq + Debug>(rt: &impl Abort, at: &str, got: &T, wanted: &T
 }
 
 // The settings that terms say.
-pub fn settings_of(alloc: Global, terms: Terms, plain: bool) -> Result<PlaySettings, Fail>
-    ensures { IfOk result (λ settings. settings.limits.max_bytes ≤ 1073741824) }
-{
+pub fn settings_of(alloc: Global, terms: Terms, plain: bool) -> Result<PlaySettings, Fail> {
     let name = Vec::from_slice(alloc, b"gmd")?;
     let config = Config::new(name, terms.first_job, terms.slots, terms.functions)?;
     Ok(PlaySettings {

@@ -1,5 +1,5 @@
 use Rattle.std.proofs.Common.{◌≡◌, ◌++◌, sym, append-nil}
-use Rattle.gm_core.specs.Inputs.{input_of}
+use Rattle.gm_front.specs.Inputs.{input_of}
 use Rattle.gm_play.specs.Prints.{said_of}
 use Rattle.gm_play.proofs.Outcomes.{on_ok, not_some}
 use Rattle.gm_play.proofs.Handing.{hands, refuses}

@@ -1,7 +1,7 @@
 use Rattle.gm_feeder.specs.declared.units.Limits.{Limits}
 use Rattle.gm_notes.specs.Settings.{Settings}
 use Rattle.gm_notes.specs.Past.{Past}
-use Rattle.gm_core.specs.Inputs.{Reading}
+use Rattle.gm_front.specs.Inputs.{Reading}
 use Rattle.gm_play.specs.Players.{IsHeldSince}
 use Rattle.gm_play.proofs.Telling.{Telling}
 use Rattle.gm_play.proofs.line.tell.Given as goal

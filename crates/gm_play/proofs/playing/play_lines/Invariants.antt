@@ -1,7 +1,7 @@
 use Rattle.std.proofs.Common.{length}
 use Rattle.gm_feeder.specs.declared.units.Limits.{Limits}
 use Rattle.gm_notes.specs.Settings.{Settings}
-use Rattle.gm_core.specs.Inputs.{Reading}
+use Rattle.gm_front.specs.Inputs.{Reading}
 use Rattle.gm_play.specs.Players.{IsReady}
 use Rattle.gm_play.proofs.Printing.{Playing}
 use Rattle.gm_play.proofs.playing.play_lines.Given as goal

@@ -1,6 +1,6 @@
 use Rattle.std.proofs.Common.{◌∙◌, ℕ, List, sym, subst}
 use Rattle.std.specs.Io.KnownBytes.{Appends}
-use Rattle.gm_core.specs.Inputs.{fresh}
+use Rattle.gm_front.specs.Inputs.{fresh}
 use Rattle.gm_play.specs.Prints.{Prints}
 use Rattle.gm_play.specs.Scripts.{lines_of}
 use Rattle.gm_play.proofs.Outcomes.{on_ok, if_some}

@@ -1,0 +1,53 @@
+//! The arguments of `gm_play`.
+
+use clap::{Arg, Command, Error};
+use gm_options::{ServerOptions, flag, number, server_options, with_server_options};
+use std::alloc::{AllocError, Global};
+use std::convert::AsStr;
+
+/// What the arguments ask for.
+#[derive(Clone, Copy, PartialEq, Eq)]
+pub(crate) struct Args {
+    pub(crate) plain: bool,
+    pub(crate) first_job: u64,
+    pub(crate) functions: u32,
+    pub(crate) server: ServerOptions,
+}
+
+/// The option that takes the first job's number.
+fn first_job<'a>(alloc: Global) -> Arg<'a> {
+    Arg::new(alloc, "first-job")
+        .long("first-job")
+        .value_name("N")
+        .value_parser(clap::value_parser!(u64).range(1..))
+        .default_value("1")
+        .help("The number of the first job")
+}
+
+/// The program's command: its options, with the range and the default of each.
+fn command<'a>(alloc: Global) -> Result<Command<'a>, AllocError> {
+    let command = Command::new(alloc, "gm_play")
+        .about("Plays the script on standard input on a job server, and prints what comes of it")
+        .arg(flag(alloc, "plain", "Plays on the plain server"))?
+        .arg(first_job(alloc))?
+        .arg(number(
+            alloc,
+            "functions",
+            1,
+            65_536,
+            "65536",
+            "How many functions may be mentioned",
+        ))?;
+    with_server_options(alloc, command)
+}
+
+/// What the arguments ask for, of which the first is the program's name.
+pub(crate) fn parse_args<S: AsStr>(alloc: Global, args: &[S]) -> Result<Args, Error> {
+    let matches = command(alloc)?.try_get_matches_from(args)?;
+    Ok(Args {
+        plain: matches.get_flag("plain"),
+        first_job: matches.get_one::<u64>("first-job").unwrap_or(1),
+        functions: matches.get_one::<u32>("functions").unwrap_or(65_536),
+        server: server_options(&matches),
+    })
+}
