@@ -707,10 +707,7 @@ enum Order {
 }
 
 fn sum_of(stepped: &Stepped) -> u64 {
-    let bytes = &stepped.drained;
-    let kind = u64::from(bytes.get(7).copied().unwrap_or(0));
-    let last = u64::from(bytes.last().copied().unwrap_or(0));
-    bytes.len() as u64 + kind + last + u64::from(stepped.opened.unwrap_or(0)) + stepped.created.unwrap_or(0)
+    stepped.drained.len() as u64 + u64::from(stepped.opened.unwrap_or(0)) + stepped.created.unwrap_or(0)
 }
 
 #[inline(never)]

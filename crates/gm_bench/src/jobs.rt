@@ -1,8 +1,8 @@
 //! Rounds over the table of jobs.
 
-use crate::asked::{Asked, Outcome};
 use crate::clock::{now, outcome_since};
-use crate::stop::{Stop, of_reserving};
+use crate::error::BenchError;
+use crate::outcome::{Amount, Outcome};
 use gm_jobs::{Jobs, NewJob};
 use gm_notes::Priority;
 use std::alloc::Global;
@@ -11,7 +11,7 @@ use std::time::Clock;
 
 /// What a round does.
 #[derive(Clone, Copy, Drop)]
-pub(crate) enum Turn {
+pub(crate) enum Round {
     /// A job with a unique id is made, and the oldest ends.
     MakeEnd,
     /// A job is found by its unique id, and looked at.
@@ -28,11 +28,11 @@ pub(crate) enum Turn {
     DueSome,
 }
 
-impl Turn {
+impl Round {
     /// Whether it is about jobs that run, and not about such as wait.
     fn runs(self) -> bool {
         match self {
-            Turn::DueNothing | Turn::DueSome => true,
+            Round::DueNothing | Round::DueSome => true,
             _ => false,
         }
     }
@@ -57,13 +57,13 @@ fn id_of(number: u64) -> [u8; 16] {
 }
 
 /// A job is made, of whose unique id there is none. Where nobody listens it is kept.
-fn make(jobs: &mut Jobs, number: u64, listener: Option<u32>) -> Result<u64, Stop> {
+fn make(jobs: &mut Jobs, number: u64, listener: Option<u32>) -> Result<u64, BenchError> {
     let unique = id_of(number);
-    if let Err(error) = jobs.reserve(0, 16, 16) {
-        return Err(of_reserving(error));
+    if jobs.reserve(0, 16, 16).is_err() {
+        return Err(BenchError::Memory);
     }
     if jobs.by_unique(0, &unique).is_some() {
-        return Err(Stop::Refused);
+        return Err(BenchError::Refused);
     }
     Ok(jobs.insert_reserved(NewJob {
         f: 0,
@@ -76,7 +76,7 @@ fn make(jobs: &mut Jobs, number: u64, listener: Option<u32>) -> Result<u64, Stop
 }
 
 /// So many jobs come to wait, from number 1 on.
-fn fill(jobs: &mut Jobs, size: u64) -> Result<(), Stop> {
+fn fill(jobs: &mut Jobs, size: u64) -> Result<(), BenchError> {
     for index in 0..size {
         let _number = make(jobs, index.wrapping_add(1), None)?;
     }
@@ -90,7 +90,7 @@ fn assign_all(jobs: &mut Jobs, size: u64) {
     }
 }
 
-fn make_end(jobs: &mut Jobs, next: u64, oldest: u64) -> Result<u64, Stop> {
+fn make_end(jobs: &mut Jobs, next: u64, oldest: u64) -> Result<u64, BenchError> {
     let made = make(jobs, next, None)?;
     jobs.end(oldest);
     Ok(made.wrapping_sub(next).wrapping_add(1))
@@ -117,14 +117,14 @@ fn assign_return(jobs: &mut Jobs, number: u64) -> u64 {
     u64::from(first == number)
 }
 
-fn listen_leave(jobs: &mut Jobs, number: u64) -> Result<u64, Stop> {
+fn listen_leave(jobs: &mut Jobs, number: u64) -> Result<u64, BenchError> {
     jobs.listen(number, LISTENER)?;
     let count = jobs.listeners(number).len() as u64;
     jobs.leave(LISTENER);
     Ok(count)
 }
 
-fn orphan(jobs: &mut Jobs, number: u64) -> Result<u64, Stop> {
+fn orphan(jobs: &mut Jobs, number: u64) -> Result<u64, BenchError> {
     let made = make(jobs, number, Some(LISTENER))?;
     jobs.leave(LISTENER);
     let found = jobs.next_orphan(0).unwrap_or(0);
@@ -147,32 +147,32 @@ fn due_some(jobs: &mut Jobs, number: u64, now: u64) -> u64 {
 }
 
 /// A round: the number of the round, and that of a job that lives.
-fn turn_once(jobs: &mut Jobs, turn: Turn, next: u64, live: u64) -> Result<u64, Stop> {
-    match turn {
-        Turn::MakeEnd => make_end(jobs, next, live),
-        Turn::Find => Ok(find(jobs, live)),
-        Turn::AssignReturn => Ok(assign_return(jobs, live)),
-        Turn::ListenLeave => listen_leave(jobs, live),
-        Turn::Orphan => orphan(jobs, next),
-        Turn::DueNothing => Ok(due_nothing(jobs)),
-        Turn::DueSome => Ok(due_some(jobs, live, next)),
+fn do_round(jobs: &mut Jobs, round: Round, next: u64, live: u64) -> Result<u64, BenchError> {
+    match round {
+        Round::MakeEnd => make_end(jobs, next, live),
+        Round::Find => Ok(find(jobs, live)),
+        Round::AssignReturn => Ok(assign_return(jobs, live)),
+        Round::ListenLeave => listen_leave(jobs, live),
+        Round::Orphan => orphan(jobs, next),
+        Round::DueNothing => Ok(due_nothing(jobs)),
+        Round::DueSome => Ok(due_some(jobs, live, next)),
     }
 }
 
 /// The job that a round is about: the oldest, or one far from that of the round before.
-fn live_at(turn: Turn, size: u64, round: u64) -> u64 {
-    match turn {
-        Turn::MakeEnd => round.wrapping_add(1),
-        _ => (round.wrapping_mul(7919) % size.max(1)).wrapping_add(1),
+fn live_at(round: Round, size: u64, index: u64) -> u64 {
+    match round {
+        Round::MakeEnd => index.wrapping_add(1),
+        _ => (index.wrapping_mul(7919) % size.max(1)).wrapping_add(1),
     }
 }
 
 /// Runs so many rounds, and answers the sum of what came of them.
-fn run(jobs: &mut Jobs, size: u64, rounds: u64, turn: Turn) -> Result<u64, Stop> {
+fn run(jobs: &mut Jobs, size: u64, rounds: u64, round: Round) -> Result<u64, BenchError> {
     let mut sum: u64 = 0;
-    for round in 0..rounds {
-        let next = size.wrapping_add(round).wrapping_add(1);
-        let came = turn_once(jobs, turn, next, live_at(turn, size, round))?;
+    for index in 0..rounds {
+        let next = size.wrapping_add(index).wrapping_add(1);
+        let came = do_round(jobs, round, next, live_at(round, size, index))?;
         sum = sum.wrapping_add(came);
     }
     Ok(sum)
@@ -181,15 +181,15 @@ fn run(jobs: &mut Jobs, size: u64, rounds: u64, turn: Turn) -> Result<u64, Stop>
 fn fill_and_time<R: Clock>(
     rt: &R,
     jobs: &mut Jobs,
-    turn: Turn,
-    asked: Asked,
-) -> Result<Outcome, Stop> {
-    fill(jobs, asked.size)?;
-    if turn.runs() {
-        assign_all(jobs, asked.size);
+    round: Round,
+    amount: Amount,
+) -> Result<Outcome, BenchError> {
+    fill(jobs, amount.size)?;
+    if round.runs() {
+        assign_all(jobs, amount.size);
     }
     let start = now(rt)?;
-    let sum = run(jobs, asked.size, asked.rounds, turn)?;
+    let sum = run(jobs, amount.size, amount.rounds, round)?;
     outcome_since(rt, start, sum)
 }
 
@@ -198,9 +198,9 @@ pub(crate) fn measure<R: Clock>(
     rt: &R,
     alloc: Global,
     seed: RandomState,
-    turn: Turn,
-    asked: Asked,
-) -> Result<Outcome, Stop> {
+    round: Round,
+    amount: Amount,
+) -> Result<Outcome, BenchError> {
     let mut jobs = Jobs::new(alloc, seed, 1)?;
-    fill_and_time(rt, &mut jobs, turn, asked)
+    fill_and_time(rt, &mut jobs, round, amount)
 }

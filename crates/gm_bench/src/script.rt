@@ -1,8 +1,8 @@
 //! What clients and workers do, made before the clock starts.
 
-use crate::order::Order;
-use crate::pieces::{ANOTHER, BODY, FUNCTION, handle_of, piece, unique_of};
-use crate::stop::Stop;
+use crate::error::BenchError;
+use crate::requests::{ANOTHER, BODY, FUNCTION, bytes_of, handle_of, unique_of};
+use gm_front::Input;
 use gm_packet::Request;
 use std::alloc::Global;
 
@@ -15,7 +15,7 @@ const WORKER: u32 = 1;
 /// The slot of the first connection after these.
 const OTHERS: u32 = 2;
 
-/// The seconds that a job may take, so many that no deadline is reached.
+/// The seconds that a job may take: no deadline is reached.
 const LONG: u32 = 4_000_000_000;
 
 /// Which job's status is asked for.
@@ -28,7 +28,7 @@ pub(crate) enum Which {
 
 /// What is done in a round.
 #[derive(Clone, Copy, Drop)]
-pub(crate) enum Turn {
+pub(crate) enum Round {
     /// The client has 16 bytes echoed.
     Echo,
     /// The client submits a background job, whose unique id is new.
@@ -52,6 +52,37 @@ pub(crate) enum Turn {
     Sleeper,
 }
 
+/// Something that is done to a server.
+#[derive(Drop)]
+pub(crate) enum Order {
+    /// A connection is opened.
+    Open,
+    /// A connection sends these bytes.
+    Give { slot: u32, bytes: Vec<u8> },
+    /// A connection's answers are taken.
+    Drain(u32),
+    /// A connection's NOOP is taken.
+    Take(u32),
+    /// A connection goes.
+    Close(u32),
+    /// The clock shows this second.
+    Tick(u64),
+}
+
+impl Order {
+    /// The order, as a front is handed it.
+    pub(crate) fn input(&self) -> Input<'_> {
+        match self {
+            Order::Open => Input::Open(b"127.0.0.1"),
+            Order::Give { slot, bytes } => Input::Piece(*slot, bytes),
+            Order::Drain(slot) => Input::Drain(*slot),
+            Order::Take(slot) => Input::Took(*slot),
+            Order::Close(slot) => Input::Close(*slot),
+            Order::Tick(now) => Input::Tick(*now),
+        }
+    }
+}
+
 /// A list of orders, and what those before them did.
 #[derive(Drop)]
 pub(crate) struct Script {
@@ -60,7 +91,7 @@ pub(crate) struct Script {
     made: u64,
     done: u64,
     opened: u32,
-    moment: u64,
+    second: u64,
 }
 
 impl Script {
@@ -72,7 +103,7 @@ impl Script {
             made: 0,
             done: 0,
             opened: 0,
-            moment: 0,
+            second: 0,
         }
     }
 
@@ -81,25 +112,25 @@ impl Script {
         &self.orders
     }
 
-    fn push(&mut self, order: Order) -> Result<(), Stop> {
+    fn push(&mut self, order: Order) -> Result<(), BenchError> {
         self.orders.push(order)?;
         Ok(())
     }
 
     /// A connection sends a request.
-    fn send(&mut self, slot: u32, request: &Request<'_>) -> Result<(), Stop> {
-        let bytes = piece(self.alloc, request)?;
+    fn send(&mut self, slot: u32, request: &Request<'_>) -> Result<(), BenchError> {
+        let bytes = bytes_of(self.alloc, request)?;
         self.push(Order::Give { slot, bytes })
     }
 
     /// A connection sends a request, and is answered.
-    fn ask(&mut self, slot: u32, request: &Request<'_>) -> Result<(), Stop> {
+    fn ask(&mut self, slot: u32, request: &Request<'_>) -> Result<(), BenchError> {
         self.send(slot, request)?;
         self.push(Order::Drain(slot))
     }
 
-    /// The list is anew that the client and the worker come.
-    pub(crate) fn begin(&mut self) -> Result<(), Stop> {
+    /// The orders are now that the client and the worker come.
+    pub(crate) fn begin(&mut self) -> Result<(), BenchError> {
         self.orders.clear();
         self.push(Order::Open)?;
         self.push(Order::Open)?;
@@ -112,7 +143,7 @@ impl Script {
         )
     }
 
-    fn submit_background(&mut self) -> Result<(), Stop> {
+    fn submit_background(&mut self) -> Result<(), BenchError> {
         self.made = self.made.wrapping_add(1);
         self.ask(
             CLIENT,
@@ -124,7 +155,7 @@ impl Script {
         )
     }
 
-    fn work(&mut self) -> Result<(), Stop> {
+    fn work(&mut self) -> Result<(), BenchError> {
         self.done = self.done.wrapping_add(1);
         let handle = handle_of(self.alloc, self.done)?;
         self.ask(WORKER, &Request::GrabJob)?;
@@ -137,7 +168,7 @@ impl Script {
         )
     }
 
-    fn status(&mut self, which: Which) -> Result<(), Stop> {
+    fn status(&mut self, which: Which) -> Result<(), BenchError> {
         let number = match which {
             Which::Oldest => self.done.wrapping_add(1),
             Which::Newest => self.made,
@@ -147,7 +178,7 @@ impl Script {
         self.ask(CLIENT, &Request::GetStatus { handle: &handle })
     }
 
-    fn foreground(&mut self) -> Result<(), Stop> {
+    fn foreground(&mut self) -> Result<(), BenchError> {
         self.made = self.made.wrapping_add(1);
         self.send(WORKER, &Request::PreSleep)?;
         self.ask(
@@ -163,9 +194,9 @@ impl Script {
         self.push(Order::Drain(CLIENT))
     }
 
-    fn tick(&mut self) -> Result<(), Stop> {
-        self.moment = self.moment.wrapping_add(1);
-        self.push(Order::Tick(self.moment))
+    fn tick(&mut self) -> Result<(), BenchError> {
+        self.second = self.second.wrapping_add(1);
+        self.push(Order::Tick(self.second))
     }
 
     /// The slot of the connection that comes next.
@@ -173,17 +204,17 @@ impl Script {
         OTHERS.wrapping_add(self.opened)
     }
 
-    fn open(&mut self) -> Result<(), Stop> {
+    fn open(&mut self) -> Result<(), BenchError> {
         self.opened = self.opened.wrapping_add(1);
         self.push(Order::Open)
     }
 
-    fn close(&mut self) -> Result<(), Stop> {
+    fn close(&mut self) -> Result<(), BenchError> {
         self.opened = self.opened.wrapping_sub(1);
         self.push(Order::Close(self.next_slot()))
     }
 
-    fn sleeper(&mut self) -> Result<(), Stop> {
+    fn sleeper(&mut self) -> Result<(), BenchError> {
         let slot = self.next_slot();
         self.open()?;
         self.send(slot, &Request::CanDo { function: &ANOTHER })?;
@@ -191,26 +222,26 @@ impl Script {
     }
 
     /// Adds what is done in a round.
-    fn put(&mut self, turn: Turn) -> Result<(), Stop> {
-        match turn {
-            Turn::Echo => self.ask(CLIENT, &Request::EchoReq { body: &BODY }),
-            Turn::Submit => self.submit_background(),
-            Turn::Work => self.work(),
-            Turn::Status(which) => self.status(which),
-            Turn::Foreground => self.foreground(),
-            Turn::Open => self.open(),
-            Turn::Close => self.close(),
-            Turn::Tick => self.tick(),
-            Turn::Grab => self.ask(WORKER, &Request::GrabJob),
-            Turn::Sleeper => self.sleeper(),
+    fn put(&mut self, round: Round) -> Result<(), BenchError> {
+        match round {
+            Round::Echo => self.ask(CLIENT, &Request::EchoReq { body: &BODY }),
+            Round::Submit => self.submit_background(),
+            Round::Work => self.work(),
+            Round::Status(which) => self.status(which),
+            Round::Foreground => self.foreground(),
+            Round::Open => self.open(),
+            Round::Close => self.close(),
+            Round::Tick => self.tick(),
+            Round::Grab => self.ask(WORKER, &Request::GrabJob),
+            Round::Sleeper => self.sleeper(),
         }
     }
 
-    /// The list is anew so many rounds of this.
-    pub(crate) fn fill(&mut self, turn: Turn, rounds: u32) -> Result<(), Stop> {
+    /// The orders are now these rounds.
+    pub(crate) fn fill(&mut self, round: Round, rounds: u32) -> Result<(), BenchError> {
         self.orders.clear();
         for _ in 0..rounds {
-            self.put(turn)?;
+            self.put(round)?;
         }
         Ok(())
     }
