@@ -27,7 +27,7 @@ fn assert_drains(rt: &impl Abort, conns: &mut Conns, slot: u32, bytes: &[u8]) {
     same(rt, "what waits", &conns.drain(slot).as_slice(), &bytes);
 }
 
-fn assert_able(rt: &impl Abort, conns: &Conns, slot: u32, i: u32, ability: Option<(u32, u32)>) {
+fn assert_able(rt: &impl Abort, conns: &Conns, slot: u32, i: usize, ability: Option<(u32, u32)>) {
     must(rt, conns.is_open(slot));
     same(rt, "an ability", &conns.able(slot, i), &ability);
 }
@@ -242,7 +242,7 @@ fn compare(rt: &impl Abort, conns: &Conns, plain: &Plain, slot: u32) {
         &plain.waiting.as_slice(),
     );
     for i in 0..5 {
-        let ability = plain.abilities.get(i as usize).copied();
+        let ability = plain.abilities.get(i).copied();
         same(rt, "an ability", &conns.able(slot, i), &ability);
     }
 }

@@ -23,7 +23,7 @@ fn must_know(rt: &impl Abort, functions: &Functions, f: u32)
 // Puts a job into a place that is reserved for it.
 fn push_checked(rt: &impl Abort, functions: &mut Functions, f: u32, p: Priority, job: u64) {
     must_know(rt, functions, f);
-    must(rt, functions.has_place(f, p));
+    must(rt, functions.has_idle_room(f, p));
     functions.push(f, p, job);
     must_know(rt, functions, f);
     must(rt, functions.is_waiting(f, p, job));
@@ -40,7 +40,7 @@ fn forget_checked(rt: &impl Abort, functions: &mut Functions, f: u32, p: Priorit
 
 fn release_checked(rt: &impl Abort, functions: &mut Functions, f: u32, p: Priority) {
     must_know(rt, functions, f);
-    must(rt, functions.has_place(f, p));
+    must(rt, functions.has_idle_room(f, p));
     functions.release(f, p);
 }
 
@@ -273,7 +273,7 @@ fn release_both(
     same(
         rt,
         "a place",
-        &functions.has_place(f, p),
+        &functions.has_idle_room(f, p),
         &plain.has_idle(f, p),
     );
     if plain.has_idle(f, p) {

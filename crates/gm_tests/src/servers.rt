@@ -19,11 +19,12 @@ fn server(alloc: Global, open: u32) -> Result<PlainServer, Fail> {
 
 /// The slot is closed, and nothing waits there.
 fn close(rt: &impl Abort, server: &mut PlainServer, slot: u32) {
-    let closed = Done {
-        opened: None,
-        created: None,
-    };
-    same(rt, slot, &server.apply(&Event::Close { slot }), &Ok(closed));
+    same(
+        rt,
+        slot,
+        &server.apply(&Event::Close { slot }),
+        &Ok(Done::NONE),
+    );
     must(rt, server.drain(slot).is_empty());
 }
 
@@ -54,8 +55,8 @@ fn withdrawn_noop(rt: HostRuntime) -> Result<(), Fail> {
         same(&rt, kind, &server.owed(1), &false);
         same(&rt, kind, &server.took(1), &Err(ApplyError::NotOwed));
         let done = Done {
-            opened: None,
             created,
+            ..Done::NONE
         };
         same(
             &rt,

@@ -1,7 +1,7 @@
 //! Jobs over loopback: workers sleep, and clients have a thousand jobs run, or two thousand.
 
 use crate::client::{Client, joined};
-use crate::serving::{Script, goes_right};
+use crate::loopback::{Script, goes_right};
 use gm_server::OpenGate;
 use std::alloc::{AllocError, Global};
 use std::net::{Net, SocketAddr, TcpStream};

@@ -1,10 +1,14 @@
 //! Tests of what threads do at once: a shared book, by worked cases over its desks and pens and by threads that work at
-//! it; and the server: sessions, what a writer writes, the program's words, and clients over loopback. It holds nothing
+//! it; and the server: sessions, what a writer writes, the program's arguments, and clients over loopback. It holds nothing
 //! else.
 #![tactic(auto)]
 
 #[cfg(test)]
+mod arguments;
+#[cfg(test)]
 mod books;
+#[cfg(test)]
+mod calls;
 #[cfg(test)]
 mod checks;
 #[cfg(test)]
@@ -16,16 +20,12 @@ mod devices;
 #[cfg(test)]
 mod jobs;
 #[cfg(test)]
+mod loopback;
+#[cfg(test)]
 mod packets;
 #[cfg(test)]
 mod room;
 #[cfg(test)]
-mod serving;
-#[cfg(test)]
 mod sessions;
 #[cfg(test)]
 mod tapes;
-#[cfg(test)]
-mod turns;
-#[cfg(test)]
-mod words;

@@ -1,4 +1,4 @@
-//! The program's words.
+//! The program's arguments.
 
 use crate::checks::same;
 use gm_server::run_words;
@@ -10,17 +10,17 @@ use std::test::Fail;
 use std::thread::Threads;
 use std::time::Clock;
 
-/// These words after the program's name.
-fn all_words(alloc: Global, words: &[&str]) -> Result<Vec<String>, AllocError> {
+/// These arguments after the program's name.
+fn with_program(alloc: Global, arguments: &[&str]) -> Result<Vec<String>, AllocError> {
     let mut all = Vec::new(alloc);
     all.push(String::from_str(alloc, "gmd")?)?;
-    for word in words {
-        all.push(String::from_str(alloc, word)?)?;
+    for argument in arguments {
+        all.push(String::from_str(alloc, argument)?)?;
     }
     Ok(all)
 }
 
-/// The status for these words after the program's name, and what is printed.
+/// The status for these arguments after the program's name, and what is printed.
 fn outcome<
     R: Threads
         + Wait
@@ -30,14 +30,14 @@ fn outcome<
         + Eprint
         + AllocGlobal
         + Sync,
->(rt: &R, words: &[&str]) -> Result<(u8, Vec<u8>), AllocError> {
-    let all = all_words(rt.alloc(), words)?;
+>(rt: &R, arguments: &[&str]) -> Result<(u8, Vec<u8>), AllocError> {
+    let all = with_program(rt.alloc(), arguments)?;
     let mut printed = Vec::new(rt.alloc());
     let status = run_words(rt, &all, &mut printed);
     Ok((status, printed))
 }
 
-/// Words, and the status.
+/// Arguments, and the status.
 static STATUSES: [(&[&str], u8); 14] = [
     (&["--check"], 0),
     (&["--help"], 0),
@@ -57,9 +57,9 @@ static STATUSES: [(&[&str], u8); 14] = [
 
 #[test]
 fn statuses(rt: HostRuntime) -> Result<(), Fail> {
-    for (words, status) in &STATUSES {
-        let (found, _) = outcome(&rt, words)?;
-        same(&rt, words, &found, status);
+    for (arguments, status) in &STATUSES {
+        let (found, _) = outcome(&rt, arguments)?;
+        same(&rt, arguments, &found, status);
     }
     Ok(())
 }

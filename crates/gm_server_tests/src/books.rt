@@ -15,7 +15,7 @@ use std::test::Fail;
 fn is_opening(rt: &impl Abort, receipt: &Receipt) {
     let done = Done {
         opened: Some(0),
-        created: None,
+        ..Done::NONE
     };
     same(rt, "the opening", &receipt.done, &done);
     same(rt, "the opening", &receipt.mode, &Mode::Running);

@@ -1,73 +1,80 @@
 //! Sessions over readers in memory.
 
-ghost use Rattle.std.specs.Prelude.{◌≡◌, ◌≤◌};
-
 use crate::checks::same;
 use crate::devices::FailingReader;
-use crate::room::{Room, blank};
+use crate::room::{Room, Scene, play_settled};
 use gm_feeder::Limits;
 use gm_notes::Event;
 use gm_server::{OpenGate, SessionEnd, read_session};
-use gm_shared::{Blank, BookName, TapeMode};
+use gm_shared::{BookName, TapeMode};
 use std::alloc::Global;
-use std::io::Read;
-use std::marker::Brand;
 use std::process::Abort;
 use std::random::RandomSource;
 use std::sync::Wait;
 use std::test::Fail;
-
-/// How a session ended, what then waited for the slot, and how many entries the tape has.
-type Ended = (SessionEnd, Vec<u8>, usize);
+use std::thread::Threads;
 
 const LIMITS: Limits = Limits {
     max_bytes: 67_108_864,
     max_line: 1024,
 };
 
-/// How a session at slot 0 ends, and what then waits for the slot.
-fn end_in<K: BookName, S: Wait + Abort, R: Read>(
-    rt: &S,
+/// A session at slot 0, which is opened before or isn't: how it ends, and what then waits for the slot.
+#[derive(Drop)]
+struct OneSession<'a> {
     alloc: Global,
-    room: &mut Room<K>,
-    reader: &mut R,
-) -> Result<(SessionEnd, Vec<u8>), Fail> {
-    let desk = room.desks.get_mut(0).ok_or("there is a slot")?;
-    let end = read_session(rt, alloc, reader, &room.shared, desk, 0, LIMITS, &OpenGate);
-    match room.drain(rt, 0) {
-        Ok(drained) => Ok((end, drained.bytes)),
-        Err(_) => Ok((end, Vec::new(alloc))),
-    }
-}
-
-/// The same in a room of its own, where the slot is opened before or isn't. It keeps a tape.
-fn ended_on<K: BookName, S: Wait + Abort, R: Read>(
-    rt: &S,
-    alloc: Global,
-    blank: Blank,
     is_open: bool,
-    reader: &mut R,
-) -> Result<Ended, Fail>
-    requires table { blank.table ≡ K.table }
-    requires taped { blank.taped ≡ K.taped }
-{
-    let mut room: Room<K> = Room::new(alloc, blank, TapeMode::On)?;
-    if is_open {
-        room.apply(rt, 1, Event::Open { addr: b"a" })?;
-    }
-    let (end, bytes) = end_in(rt, alloc, &mut room, reader)?;
-    Ok((end, bytes, room.settle(alloc)?.len()))
+    reader: FailingReader<'a>,
+    end: SessionEnd,
+    waiting: Vec<u8>,
 }
 
-/// How a session ends at a new book with one slot.
-fn ended<R: Wait + RandomSource + AllocGlobal + Abort>(
+impl<'a> Scene for OneSession<'a> {
+    fn play<K: BookName + Send + Sync, R: Threads + Wait + Abort + Sync>(
+        &mut self,
+        rt: &R,
+        room: &mut Room<K>,
+    ) -> Result<(), Fail> {
+        if self.is_open {
+            room.apply(rt, 1, Event::Open { addr: b"a" })?;
+        }
+        let desk = room.desks.get_mut(0).ok_or("there is a slot")?;
+        self.end = read_session(
+            rt,
+            self.alloc,
+            &mut self.reader,
+            &room.shared,
+            desk,
+            0,
+            LIMITS,
+            &OpenGate,
+        );
+        if let Ok(drained) = room.drain(rt, 0) {
+            self.waiting = drained.bytes;
+        }
+        Ok(())
+    }
+}
+
+/// A session at a new book with one slot ends like this, with these bytes waiting and so many entries on the tape.
+fn assert_session<R: RandomSource + Threads + Wait + Abort + AllocGlobal + Sync>(
     rt: &R,
     is_open: bool,
-    mut reader: FailingReader<'_>,
-) -> Result<Ended, Fail> {
+    reader: FailingReader<'_>,
+    wanted: (SessionEnd, &[u8], usize),
+) -> Result<(), Fail> {
     let alloc = rt.alloc();
-    let blank = blank(rt, alloc, 1, TapeMode::On)?;
-    ended_on::<Brand, _, _>(rt, alloc, blank, is_open, &mut reader)
+    let mut scene = OneSession {
+        alloc,
+        is_open,
+        reader,
+        end: SessionEnd::ReadFault,
+        waiting: Vec::new(alloc),
+    };
+    let entries = play_settled(rt, alloc, 1, TapeMode::On, &mut scene)?.len();
+    let got = (scene.end, scene.waiting.as_slice(), entries);
+    same(rt, "the session", &got, &wanted);
+    Ok(())
 }
 
 /// An echo of two bytes, asked for.
@@ -108,10 +115,7 @@ fn session_ends(rt: HostRuntime) -> Result<(), Fail> {
             piece: *piece,
             calls: *calls,
         };
-        let (found, bytes, told) = ended(&rt, true, reader)?;
-        same(&rt, "the end", &found, end);
-        same(&rt, "what waits", &bytes.as_slice(), waiting);
-        same(&rt, "the entries", &told, entries);
+        assert_session(&rt, true, reader, (*end, waiting, *entries))?;
     }
     Ok(())
 }
@@ -123,9 +127,5 @@ fn session_at_a_closed_slot(rt: HostRuntime) -> Result<(), Fail> {
         piece: 14,
         calls: 9,
     };
-    let (found, bytes, told) = ended(&rt, false, reader)?;
-    same(&rt, "the end", &found, &SessionEnd::Shut);
-    same(&rt, "what waits", &bytes.as_slice(), &b"".as_slice());
-    same(&rt, "the entries", &told, &0);
-    Ok(())
+    assert_session(&rt, false, reader, (SessionEnd::Shut, b"", 0))
 }

@@ -53,8 +53,8 @@ impl Write for FailingWriter {
     }
 }
 
-/// What comes of a turn where there is room for so many bytes, and the bytes that were taken.
-fn turn_in(
+/// What comes of a message where there is room for so many bytes, and the bytes that were taken.
+fn written(
     alloc: Global,
     room: usize,
     took: bool,
@@ -73,13 +73,13 @@ static TWO: [u8; 14] = [97, 98, 0, 82, 69, 83, 0, 0, 0, 6, 0, 0, 0, 0];
 
 #[test]
 fn write_turns(rt: HostRuntime) -> std::result::Result<(), Fail> {
-    let (outcome, taken) = turn_in(rt.alloc(), 100, true, b"ab");
-    same(&rt, "a turn", &outcome, &Ok(()));
+    let (outcome, taken) = written(rt.alloc(), 100, true, b"ab");
+    same(&rt, "a message", &outcome, &Ok(()));
     same(&rt, "its bytes", &taken.as_slice(), &TWO.as_slice());
-    let (outcome, taken) = turn_in(rt.alloc(), 100, false, b"ab");
+    let (outcome, taken) = written(rt.alloc(), 100, false, b"ab");
     same(&rt, "no NOOP", &outcome, &Ok(()));
     same(&rt, "the bytes alone", &taken.as_slice(), &b"ab".as_slice());
-    let (outcome, _) = turn_in(rt.alloc(), 1, true, b"ab");
+    let (outcome, _) = written(rt.alloc(), 1, true, b"ab");
     same(&rt, "one byte", &outcome, &Err(WriteFault { written: 1 }));
     Ok(())
 }
@@ -87,10 +87,10 @@ fn write_turns(rt: HostRuntime) -> std::result::Result<(), Fail> {
 #[test]
 fn device_fails(rt: HostRuntime) {
     for room in 0..15 {
-        let (outcome, taken) = turn_in(rt.alloc(), room, true, b"abc");
+        let (outcome, taken) = written(rt.alloc(), room, true, b"abc");
         same(&rt, "a fault", &outcome, &Err(WriteFault { written: room }));
         same(&rt, "what was taken", &taken.len(), &room);
     }
-    let (outcome, _) = turn_in(rt.alloc(), 15, true, b"abc");
+    let (outcome, _) = written(rt.alloc(), 15, true, b"abc");
     same(&rt, "none", &outcome, &Ok(()));
 }

@@ -1,0 +1,366 @@
+//! Worked cases: what is called at the desks and pens of a shared book, and what comes of it.
+
+use crate::checks::same;
+use crate::room::{Room, Scene, play_settled};
+use gm_conns::SlotSet;
+use gm_notes::{ApplyError, Done, Event, Mode, UnitFault};
+use gm_shared::{Actor, BookName, Drained, Entry, Receipt, TapeMode, TapeStep};
+use std::process::Abort;
+use std::random::RandomSource;
+use std::sync::Wait;
+use std::test::Fail;
+use std::thread::Threads;
+
+/// A call, and what comes of it.
+#[derive(Clone, Copy)]
+pub enum Call {
+    /// An event is handed in at a desk: what the receipt says of it, and which slots it touches.
+    Apply {
+        desk: usize,
+        event: Event<'static>,
+        answer: Result<(Done, Mode), ApplyError>,
+        touched: &'static [u32],
+    },
+    /// A pen tries to take its NOOP.
+    Take {
+        slot: usize,
+        taken: bool,
+    },
+    /// A pen drains: the bytes, and whether its slot is shut.
+    Drain {
+        slot: usize,
+        answer: Result<(&'static [u8], bool), ApplyError>,
+    },
+}
+
+/// A row of what is done, and what comes of it. Where it names no desk, an event goes in at that of its slot.
+macro_rules! call {
+    (open $slot:literal) => {
+        Call::Apply {
+            desk: 1024,
+            event: Event::Open { addr: b"127.0.0.1" },
+            answer: Ok((Done { opened: Some($slot), created: None }, Mode::Running)),
+            touched: &[$slot],
+        }
+    };
+    (packet $slot:literal, $kind:literal, $bytes:literal => $created:expr, $touched:expr) => {
+        Call::Apply {
+            desk: $slot,
+            event: Event::Packet { slot: $slot, kind: $kind, bytes: $bytes },
+            answer: Ok((Done { opened: None, created: $created }, Mode::Running)),
+            touched: &$touched,
+        }
+    };
+    (event $desk:literal, $event:expr => $mode:ident, $touched:expr) => {
+        Call::Apply {
+            desk: $desk,
+            event: $event,
+            answer: Ok((Done::NONE, Mode::$mode)),
+            touched: &$touched,
+        }
+    };
+    (refused $desk:literal, $event:expr => $error:ident) => {
+        Call::Apply {
+            desk: $desk,
+            event: $event,
+            answer: Err(ApplyError::$error),
+            touched: &[],
+        }
+    };
+    (take $slot:literal => $taken:literal) => {
+        Call::Take { slot: $slot, taken: $taken }
+    };
+    (drain $slot:literal => $bytes:literal, $shut:literal) => {
+        Call::Drain { slot: $slot, answer: Ok(($bytes, $shut)) }
+    };
+    (closed $slot:literal) => {
+        Call::Drain { slot: $slot, answer: Err(ApplyError::NotOpen) }
+    };
+}
+
+/// A worker that was told to wake finds that another has the job, and sleeps again: the next job wakes it anew.
+static STALE_NOOP: [Call; 14] = [
+    call!(open 0),
+    call!(open 1),
+    call!(open 2),
+    call!(packet 1, 1, b"f" => None, []),
+    call!(packet 1, 4, b"" => None, [1]),
+    call!(packet 0, 18, b"f\0a\x001" => Some(1), [0, 1]),
+    call!(take 1 => true),
+    call!(packet 2, 1, b"f" => None, []),
+    call!(packet 2, 9, b"" => None, [2]),
+    call!(packet 1, 4, b"" => None, [1]),
+    call!(packet 0, 18, b"f\0b\x002" => Some(2), [0, 1]),
+    call!(take 1 => true),
+    call!(drain 0 => b"\0RES\0\0\0\x08\0\0\0\x07H:gmd:1\0RES\0\0\0\x08\0\0\0\x07H:gmd:2", false),
+    call!(drain 2 => b"\0RES\0\0\0\x0b\0\0\0\x0bH:gmd:1\0f\x001", false),
+];
+
+/// A worker sleeps and is owed a NOOP.
+pub static OWED: [Call; 5] = [
+    call!(open 0),
+    call!(open 1),
+    call!(packet 1, 1, b"f" => None, []),
+    call!(packet 1, 4, b"" => None, [1]),
+    call!(packet 0, 18, b"f\0-\0d" => Some(1), [0, 1]),
+];
+
+/// It asks for a job and gets it, and no NOOP is left to be taken.
+static GRABS: [Call; 3] = [
+    call!(packet 1, 9, b"" => None, [1]),
+    call!(take 1 => false),
+    call!(drain 1 => b"\0RES\0\0\0\x0b\0\0\0\x0bH:gmd:1\0f\0d", false),
+];
+
+/// So it is awake, as the next job doesn't wake it. It goes to sleep beside that one, and is woken once.
+static SLEEPS_AGAIN: [Call; 6] = [
+    call!(packet 0, 18, b"f\0-\0e" => Some(2), [0]),
+    call!(take 1 => false),
+    call!(packet 1, 4, b"" => None, [1]),
+    call!(take 1 => true),
+    call!(take 1 => false),
+    call!(drain 1 => b"", false),
+];
+
+/// The same by the other request for a job.
+static GRABS_WITH_ID: [Call; 3] = [
+    call!(packet 1, 30, b"" => None, [1]),
+    call!(take 1 => false),
+    call!(drain 1 => b"\0RES\0\0\0\x1f\0\0\0\x0dH:gmd:1\0f\0-\0d", false),
+];
+
+/// It goes, and who comes to its slot next is owed nothing, until it sleeps beside the job.
+static GOES: [Call; 9] = [
+    call!(event 1, Event::Close { slot: 1 } => Running, [1]),
+    call!(take 1 => false),
+    call!(open 1),
+    call!(packet 1, 1, b"f" => None, []),
+    call!(take 1 => false),
+    call!(packet 1, 4, b"" => None, [1]),
+    call!(take 1 => true),
+    call!(take 1 => false),
+    call!(drain 1 => b"", false),
+];
+
+/// The pen takes the NOOP, once.
+static TAKEN_FIRST: [Call; 2] = [call!(take 1 => true), call!(take 1 => false)];
+
+/// Each refusal, and what it takes to meet it.
+static REFUSALS: [Call; 24] = [
+    call!(refused 0, Event::Packet { slot: 0, kind: 16, bytes: b"hi" } => NotOpen),
+    call!(closed 0),
+    call!(refused 0, Event::Close { slot: 0 } => NotOpen),
+    call!(open 0),
+    call!(open 1),
+    call!(refused 2, Event::Open { addr: b"10.0.0.2" } => NoSlot),
+    call!(packet 0, 16, b"hi" => None, [0]),
+    call!(drain 0 => b"\0RES\0\0\0\x11\0\0\0\x02hi", false),
+    call!(event 1, Event::Fault { slot: 1, fault: UnitFault::BadMagic } => Running, [1]),
+    call!(drain 1 => b"\0RES\0\0\0\x13\0\0\0\x13bad_magic\0bad magic", true),
+    call!(refused 1, Event::Packet { slot: 1, kind: 16, bytes: b"hi" } => NotOpen),
+    call!(event 1, Event::Close { slot: 1 } => Running, [1]),
+    call!(closed 1),
+    call!(take 1 => false),
+    call!(open 1),
+    call!(event 0, Event::Line { slot: 0, bytes: b"shutdown graceful" } => Graceful, [0]),
+    call!(drain 0 => b"OK\n", false),
+    call!(refused 2, Event::Open { addr: b"10.0.0.2" } => Refusing),
+    call!(event 0, Event::Line { slot: 0, bytes: b"shutdown" } => Stopped, [0, 1]),
+    call!(drain 0 => b"OK\n", true),
+    call!(drain 1 => b"", true),
+    call!(refused 1, Event::Line { slot: 1, bytes: b"version" } => NotOpen),
+    call!(event 2, Event::Tick { now: 1 } => Stopped, []),
+    call!(event 1, Event::Close { slot: 1 } => Stopped, [1]),
+];
+
+/// The slots of the set are these, in their order.
+fn assert_slots(rt: &impl Abort, event: Event<'static>, set: &SlotSet, slots: &[u32]) {
+    let mut left = set.iter();
+    for slot in slots {
+        same(rt, event, &left.next(), &Some(*slot));
+    }
+    same(rt, event, &left.next(), &None);
+}
+
+/// The receipt says this. It has a place where a tape is kept.
+fn assert_answer(
+    rt: &impl Abort,
+    tape: TapeMode,
+    event: Event<'static>,
+    got: Result<Receipt, ApplyError>,
+    answer: Result<(Done, Mode), ApplyError>,
+    touched: &[u32],
+) {
+    match (got, answer) {
+        (Ok(receipt), Ok(answer)) => {
+            same(rt, event, &receipt.at.is_some(), &(tape == TapeMode::On));
+            same(rt, event, &(receipt.done, receipt.mode), &answer);
+            assert_slots(rt, event, &receipt.touched, touched);
+        }
+        (got, answer) => same(rt, event, &got.err(), &answer.err()),
+    }
+}
+
+/// The drain gave this.
+fn assert_drained(
+    rt: &impl Abort,
+    slot: usize,
+    got: Result<Drained, ApplyError>,
+    answer: Result<(&[u8], bool), ApplyError>,
+) {
+    match (got, answer) {
+        (Ok(drained), Ok(answer)) => same(
+            rt,
+            slot,
+            &(drained.bytes.as_slice(), drained.shut),
+            &answer,
+        ),
+        (got, answer) => same(rt, slot, &got.err(), &answer.err()),
+    }
+}
+
+/// A call at this room is answered as it says.
+fn assert_call<K: BookName, R: Wait + Abort>(
+    rt: &R,
+    room: &mut Room<K>,
+    tape: TapeMode,
+    call: Call,
+) {
+    match call {
+        Call::Apply {
+            desk,
+            event,
+            answer,
+            touched,
+        } => assert_answer(
+            rt,
+            tape,
+            event,
+            room.apply(rt, desk, event),
+            answer,
+            touched,
+        ),
+        Call::Take { slot, taken } => same(rt, slot, &room.take(rt, slot), &taken),
+        Call::Drain { slot, answer } => assert_drained(rt, slot, room.drain(rt, slot), answer),
+    }
+}
+
+/// Each of these is answered as it says, one after another.
+pub fn assert_calls<K: BookName, R: Wait + Abort>(
+    rt: &R,
+    room: &mut Room<K>,
+    tape: TapeMode,
+    calls: &[Call],
+) {
+    for call in calls {
+        assert_call(rt, room, tape, *call);
+    }
+}
+
+/// Calls, in parts.
+#[derive(Clone, Copy)]
+struct Calls<'a> {
+    tape: TapeMode,
+    parts: &'a [&'a [Call]],
+}
+
+impl<'a> Scene for Calls<'a> {
+    fn play<K: BookName + Send + Sync, R: Threads + Wait + Abort + Sync>(
+        &mut self,
+        rt: &R,
+        room: &mut Room<K>,
+    ) -> Result<(), Fail> {
+        for calls in self.parts {
+            assert_calls(rt, room, self.tape, calls);
+        }
+        Ok(())
+    }
+}
+
+/// The calls are made in a new book with so many slots. It gives the book's tape, which is settled.
+fn play_calls<R: RandomSource + Threads + Wait + Abort + AllocGlobal + Sync>(
+    rt: &R,
+    slots: u32,
+    tape: TapeMode,
+    parts: &[&[Call]],
+) -> Result<Vec<Entry>, Fail> {
+    play_settled(rt, rt.alloc(), slots, tape, &mut Calls { tape, parts })
+}
+
+/// Without a tape there are no entries, and with one so many.
+fn play_both<R: RandomSource + Threads + Wait + Abort + AllocGlobal + Sync>(
+    rt: &R,
+    slots: u32,
+    parts: &[&[Call]],
+    entries: usize,
+) -> Result<(), Fail> {
+    let off = play_calls(rt, slots, TapeMode::Off, parts)?.len();
+    let on = play_calls(rt, slots, TapeMode::On, parts)?.len();
+    same(rt, "the entries", &(off, on), &(0, entries));
+    Ok(())
+}
+
+/// A worker that is owed a NOOP does this where the pen has taken the NOOP, and where it hasn't.
+fn play_owed<R: RandomSource + Threads + Wait + Abort + AllocGlobal + Sync>(
+    rt: &R,
+    end: &[Call],
+    entries: usize,
+) -> Result<(), Fail> {
+    play_both(rt, 2, &[&OWED, end], entries)?;
+    play_both(rt, 2, &[&OWED, &TAKEN_FIRST, end], entries)
+}
+
+/// What the tape says that became of the NOOP of slot 1, where it says that the slot's desk found it.
+fn found(entry: Option<&Entry>) -> Option<bool> {
+    match entry {
+        Some(
+            Entry {
+                actor: Actor::Desk(1),
+                step: TapeStep::Took { slot: 1 },
+                ..
+            },
+        ) => Some(true),
+        Some(
+            Entry {
+                actor: Actor::Desk(1),
+                step: TapeStep::Withdrew { slot: 1 },
+                ..
+            },
+        ) => Some(false),
+        _ => None,
+    }
+}
+
+/// The worker asks for a job. Before that its NOOP is entered, as taken or as withdrawn.
+fn assert_found<R: RandomSource + Threads + Wait + Abort + AllocGlobal + Sync>(
+    rt: &R,
+    parts: &[&[Call]],
+    taken: bool,
+) -> Result<(), Fail> {
+    let tape = play_calls(rt, 2, TapeMode::On, parts)?;
+    same(rt, "the entries", &tape.len(), &8);
+    same(rt, "the NOOP", &found(tape.get(5)), &Some(taken));
+    Ok(())
+}
+
+#[test]
+fn stale_noop(rt: HostRuntime) -> Result<(), Fail> {
+    play_both(&rt, 3, &[&STALE_NOOP], 13)
+}
+
+/// The pen takes the NOOP before the worker asks for a job or goes, or it is withdrawn: all else is the same.
+#[test]
+fn withdrawn_or_taken(rt: HostRuntime) -> Result<(), Fail> {
+    assert_found(&rt, &[&OWED, &GRABS], false)?;
+    assert_found(&rt, &[&OWED, &TAKEN_FIRST, &GRABS], true)?;
+    play_both(&rt, 2, &[&OWED, &GRABS, &SLEEPS_AGAIN], 11)?;
+    play_both(&rt, 2, &[&OWED, &TAKEN_FIRST, &GRABS, &SLEEPS_AGAIN], 11)?;
+    play_owed(&rt, &GRABS_WITH_ID, 8)?;
+    play_owed(&rt, &GOES, 11)
+}
+
+/// Each call that can be refused is answered where there is memory, and refused where it has to be.
+#[test]
+fn shared_ample(rt: HostRuntime) -> Result<(), Fail> {
+    play_both(&rt, 2, &[&REFUSALS], 15)
+}

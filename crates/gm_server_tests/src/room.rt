@@ -1,0 +1,158 @@
+//! A shared book with all its desks and pens, and the one function that makes it, has something done there and settles
+//! it: the proof of a function that owns a room says at each way out how all its parts are dropped, so there is one.
+
+ghost use Rattle.std.specs.Prelude.{◌≡◌};
+
+use crate::checks::must;
+use gm_notes::{ApplyError, Config, Event};
+use gm_shared::{
+    Blank, BookName, Desk, Drained, Entry, Pen, Receipt, SettleError, Shared, TapeMode, settle,
+};
+use std::alloc::{AllocError, Global};
+use std::hash::RandomState;
+use std::marker::Brand;
+use std::process::Abort;
+use std::random::RandomSource;
+use std::sync::Wait;
+use std::test::Fail;
+use std::thread::Threads;
+
+/// The settings of a server with so many slots.
+pub fn config(alloc: Global, slots: u32) -> Result<Config, Fail> {
+    Ok(Config::new(Vec::from_slice(alloc, b"gmd")?, 1, slots, 65536)?)
+}
+
+/// A shared book, with all its desks and pens.
+#[derive(Drop)]
+pub struct Room<K: BookName> {
+    pub shared: Shared<K>,
+    pub desks: Vec<Desk<K>>,
+    pub pens: Vec<Pen<K>>,
+    pub control: Desk<K>,
+}
+
+/// What is done in a room.
+pub trait Scene {
+    fn play<K: BookName + Send + Sync, R: Threads + Wait + Abort + Sync>(
+        &mut self,
+        rt: &R,
+        room: &mut Room<K>,
+    ) -> Result<(), Fail>;
+}
+
+/// Hands in an event, which isn't too large.
+pub fn apply<K: BookName, R: Wait + Abort>(
+    rt: &R,
+    shared: &Shared<K>,
+    desk: &mut Desk<K>,
+    event: Event<'_>,
+) -> Result<Receipt, ApplyError> {
+    if let Event::Packet { bytes, .. } = event {
+        must(rt, bytes.len() <= 1_073_741_824);
+    }
+    desk.apply(rt, shared, event)
+}
+
+impl<K: BookName> Room<K> {
+    fn new(alloc: Global, blank: Blank) -> Result<Room<K>, AllocError>
+        requires table { blank.table ≡ K.table }
+        requires taped { blank.taped ≡ K.taped }
+    {
+        let (shared, desks, pens, control) = Shared::open(alloc, blank)?;
+        Ok(Room {
+            shared,
+            desks,
+            pens,
+            control,
+        })
+    }
+
+    /// Keeps the first desk back, or the first pen.
+    pub fn lose(&mut self, desk: bool, pen: bool) {
+        if desk && self.desks.len() > 0 {
+            let _ = self.desks.swap_remove(0);
+        }
+        if pen && self.pens.len() > 0 {
+            let _ = self.pens.swap_remove(0);
+        }
+    }
+
+    /// Gives all desks and pens back, and gets the tape.
+    fn settle(self, alloc: Global) -> Result<Vec<Entry>, SettleError> {
+        let Room {
+            shared,
+            mut desks,
+            pens,
+            control,
+        } = self;
+        let Ok(()) = desks.push(control) else {
+            return Err(SettleError::Memory);
+        };
+        Ok(settle(alloc, shared, desks, pens)?.tape)
+    }
+
+    /// Hands in an event at the desk of this number, or at the control desk where no slot has it.
+    pub fn apply<R: Wait + Abort>(
+        &mut self,
+        rt: &R,
+        desk: usize,
+        event: Event<'_>,
+    ) -> Result<Receipt, ApplyError> {
+        match self.desks.get_mut(desk) {
+            Some(desk) => apply(rt, &self.shared, desk, event),
+            None => apply(rt, &self.shared, &mut self.control, event),
+        }
+    }
+
+    pub fn take(&mut self, rt: &impl Abort, slot: usize) -> bool {
+        self.pens
+            .get_mut(slot)
+            .expect(rt, "each slot has a pen")
+            .take(&self.shared)
+    }
+
+    pub fn drain<R: Wait + Abort>(&mut self, rt: &R, slot: usize) -> Result<Drained, ApplyError> {
+        self.pens
+            .get_mut(slot)
+            .expect(rt, "each slot has a pen")
+            .drain(rt, &self.shared)
+    }
+}
+
+/// Plays in a room with this book, which is settled then.
+fn play_at<K: BookName + Send + Sync, S: Scene, R: Threads + Wait + Abort + Sync>(
+    rt: &R,
+    alloc: Global,
+    blank: Blank,
+    scene: &mut S,
+) -> Result<Result<Vec<Entry>, SettleError>, Fail>
+    requires table { blank.table ≡ K.table }
+    requires taped { blank.taped ≡ K.taped }
+{
+    let mut room: Room<K> = Room::new(alloc, blank)?;
+    scene.play(rt, &mut room)?;
+    Ok(room.settle(alloc))
+}
+
+/// Plays in a new room with so many slots, with a tape or without, and says what the book's settling answers.
+pub fn play_to_the_end<S: Scene, R: RandomSource + Threads + Wait + Abort + Sync>(
+    rt: &R,
+    alloc: Global,
+    slots: u32,
+    tape: TapeMode,
+    scene: &mut S,
+) -> Result<Result<Vec<Entry>, SettleError>, Fail> {
+    let blank = Blank::new(alloc, RandomState::new(rt)?, config(alloc, slots)?, tape)?;
+    play_at::<Brand, S, R>(rt, alloc, blank, scene)
+}
+
+/// The same where the book is settled: its tape.
+pub fn play_settled<S: Scene, R: RandomSource + Threads + Wait + Abort + Sync>(
+    rt: &R,
+    alloc: Global,
+    slots: u32,
+    tape: TapeMode,
+    scene: &mut S,
+) -> Result<Vec<Entry>, Fail> {
+    Ok(play_to_the_end(rt, alloc, slots, tape, scene)??)
+}

@@ -1,0 +1,123 @@
+//! What settles a tape, and what doesn't.
+
+use crate::calls::{OWED, assert_calls};
+use crate::checks::same;
+use crate::room::{Room, Scene, play_settled, play_to_the_end};
+use gm_notes::{ApplyError, Event};
+use gm_shared::{BookName, SettleError, TapeMode};
+use std::process::Abort;
+use std::random::RandomSource;
+use std::sync::Wait;
+use std::test::Fail;
+use std::thread::Threads;
+
+/// What isn't given back in the end.
+#[derive(Clone, Copy, Debug, PartialEq, Eq)]
+enum Lost {
+    Nothing,
+    Desk,
+    Pen,
+}
+
+/// An opening, an echo and its drain, after which something isn't given back: the places that the receipts tell.
+#[derive(Clone, Copy)]
+struct Echo {
+    lost: Lost,
+    places: [Option<u64>; 2],
+}
+
+/// Slot 0 is opened, asks for an echo and gets it.
+fn echo<K: BookName, R: Wait + Abort>(
+    rt: &R,
+    room: &mut Room<K>,
+) -> Result<[Option<u64>; 2], ApplyError> {
+    let opening = room.apply(rt, 2, Event::Open { addr: b"127.0.0.1" })?.at;
+    let event = Event::Packet {
+        slot: 0,
+        kind: 16,
+        bytes: b"hi",
+    };
+    let echo = room.apply(rt, 0, event)?.at;
+    let drained = room.drain(rt, 0)?;
+    let wanted = b"\0RES\0\0\0\x11\0\0\0\x02hi".as_slice();
+    same(rt, "the echo", &drained.bytes.as_slice(), &wanted);
+    Ok([opening, echo])
+}
+
+impl Scene for Echo {
+    fn play<K: BookName + Send + Sync, R: Threads + Wait + Abort + Sync>(
+        &mut self,
+        rt: &R,
+        room: &mut Room<K>,
+    ) -> Result<(), Fail> {
+        self.places = echo(rt, room)?;
+        room.lose(self.lost == Lost::Desk, self.lost == Lost::Pen);
+        Ok(())
+    }
+}
+
+/// The receipts tell these places, and so many entries are settled in the end.
+fn assert_ends<R: RandomSource + Threads + Wait + Abort + AllocGlobal + Sync>(
+    rt: &R,
+    tape: TapeMode,
+    lost: Lost,
+    places: [Option<u64>; 2],
+    entries: Result<usize, SettleError>,
+) -> Result<(), Fail> {
+    let mut scene = Echo {
+        lost,
+        places: [None, None],
+    };
+    let got = match play_to_the_end(rt, rt.alloc(), 2, tape, &mut scene)? {
+        Ok(tape) => Ok(tape.len()),
+        Err(error) => Err(error),
+    };
+    same(rt, lost, &scene.places, &places);
+    same(rt, lost, &got, &entries);
+    Ok(())
+}
+
+/// Each call stands on the tape at the place that was told, and what isn't given back is missed.
+#[test]
+fn tape_and_shares(rt: HostRuntime) -> Result<(), Fail> {
+    let places = [Some(0), Some(1)];
+    let differs = Err(SettleError::Differs);
+    assert_ends(&rt, TapeMode::On, Lost::Nothing, places, Ok(3))?;
+    assert_ends(&rt, TapeMode::On, Lost::Desk, places, differs)?;
+    assert_ends(&rt, TapeMode::On, Lost::Pen, places, differs)?;
+    assert_ends(&rt, TapeMode::Off, Lost::Nothing, [None, None], Ok(0))?;
+    same(&rt, "the number", &SettleError::Differs.number(), &16);
+    Ok(())
+}
+
+/// A worker that is owed a NOOP goes. Where there is no memory for that, nothing changes, and it goes the next time. Its
+/// desk's share has three entries before, so that the closing finds no room for two more.
+#[derive(Clone, Copy)]
+struct Goes;
+
+impl Scene for Goes {
+    fn play<K: BookName + Send + Sync, R: Threads + Wait + Abort + Sync>(
+        &mut self,
+        rt: &R,
+        room: &mut Room<K>,
+    ) -> Result<(), Fail> {
+        assert_calls(rt, room, TapeMode::On, &OWED);
+        let line = Event::Line {
+            slot: 1,
+            bytes: b"version",
+        };
+        room.apply(rt, 1, line)?;
+        if let Err(error) = room.apply(rt, 1, Event::Close { slot: 1 }) {
+            same(rt, "a closing", &error, &ApplyError::Memory);
+            room.apply(rt, 1, Event::Close { slot: 1 })?;
+        }
+        Ok(())
+    }
+}
+
+#[test]
+fn close_tape(rt: HostRuntime) -> Result<(), Fail> {
+    let tape = play_settled(&rt, rt.alloc(), 2, TapeMode::On, &mut Goes)?;
+    same(&rt, "the entries", &tape.len(), &8);
+    Ok(())
+}
