@@ -1,15 +1,15 @@
 //! What no clause says: that calls succeed where there is memory, worked scripts, and devices that fail.
 
+use crate::args::{Args, parse_args};
 use crate::error::PlayError;
 use crate::order::{Order, order_of};
 use crate::playing::{PlaySettings, play};
 use crate::rows::{Row, Terms, USUAL, all};
-use crate::stop::Stop;
+use crate::run_error::RunError;
 use crate::text::put_bytes;
-use crate::words::{Asked, read_words};
-use crate::words_given;
 use gm_feeder::Limits;
 use gm_notes::Config;
+use gm_options::{ArgumentsError, ServerOptions, arguments};
 use std::alloc::{AllocError, Global};
 use std::env::{Env, FillError};
 use std::fmt::Debug;
@@ -250,19 +250,27 @@ fn writer_fails(rt: HostRuntime) -> Result<(), Fail> {
     Ok(())
 }
 
-// What is asked for without words.
-const NO_WORDS: Asked = Asked {
-    plain: false,
-    first_job: 1,
-    slots: 64,
-    functions: 65_536,
-    max_data: 67_108_864,
-};
+// What the options of every job server ask for.
+const fn server_options_of(slots: u32, max_bytes: u32) -> ServerOptions {
+    ServerOptions {
+        slots,
+        limits: Limits {
+            max_bytes,
+            max_line: 1024,
+        },
+    }
+}
 
 #[test]
-fn words(rt: HostRuntime) -> Result<(), Fail> {
-    let asked = read_words(rt.alloc(), &["gm_play"])?;
-    assert!(rt; asked == NO_WORDS);
+fn defaults(rt: HostRuntime) -> Result<(), Fail> {
+    let args = parse_args(rt.alloc(), &["gm_play"])?;
+    let wanted = Args {
+        plain: false,
+        first_job: 1,
+        functions: 65_536,
+        server: server_options_of(64, 67_108_864),
+    };
+    assert!(rt; args == wanted);
     Ok(())
 }
 
@@ -281,19 +289,18 @@ static OPTIONS: [&str; 9] = [
 
 #[test]
 fn options(rt: HostRuntime) -> Result<(), Fail> {
-    let asked = read_words(rt.alloc(), &OPTIONS)?;
-    let wanted = Asked {
+    let args = parse_args(rt.alloc(), &OPTIONS)?;
+    let wanted = Args {
         plain: true,
         first_job: 18_446_744_073_709_551_615,
-        slots: 1024,
         functions: 1,
-        max_data: 0,
+        server: server_options_of(1024, 0),
     };
-    assert!(rt; asked == wanted);
+    assert!(rt; args == wanted);
     Ok(())
 }
 
-// Words that aren't understood, or are out of range.
+// Arguments that are invalid, or out of range.
 static REFUSED: [[&str; 2]; 9] = [
     ["x", "x"],
     ["--jump", "1"],
@@ -306,19 +313,19 @@ static REFUSED: [[&str; 2]; 9] = [
     ["--plain", "--slots"],
 ];
 
-// The status that the reading of words ends with, where they aren't to be played.
-fn exit_code(alloc: Global, words: &[&str]) -> Option<i32> {
-    match read_words(alloc, words) {
+// The status that the reading of arguments ends with, where they ask for no play.
+fn exit_code(alloc: Global, args: &[&str]) -> Option<i32> {
+    match parse_args(alloc, args) {
         Ok(_) => None,
         Err(error) => Some(error.exit_code()),
     }
 }
 
 #[test]
-fn refused_words(rt: HostRuntime) {
-    for [word, value] in &REFUSED {
-        let code = exit_code(rt.alloc(), &["gm_play", *word, *value]);
-        same(&rt, word, &code, &Some(2));
+fn refused_arguments(rt: HostRuntime) {
+    for [option, value] in &REFUSED {
+        let code = exit_code(rt.alloc(), &["gm_play", *option, *value]);
+        same(&rt, option, &code, &Some(2));
     }
 }
 
@@ -328,7 +335,7 @@ fn help(rt: HostRuntime) {
     same(&rt, "help", &code, &Some(0));
 }
 
-// A program whose only word is a byte that no text has.
+// A program whose only argument is a byte that no text has.
 #[derive(Drop)]
 struct Byte;
 
@@ -356,10 +363,10 @@ impl Env for Byte {
 }
 
 #[test]
-fn words_that_are_no_text(rt: HostRuntime) {
-    let status = match words_given(&(Byte, rt.alloc())) {
+fn arguments_that_are_no_text(rt: HostRuntime) {
+    let status = match arguments(&(Byte, rt.alloc())) {
         Ok(_) => 0,
-        Err(stop) => stop.status(),
+        Err(error) => RunError::from(error).status(),
     };
     same(&rt, "status", &status, &2);
 }
@@ -367,12 +374,13 @@ fn words_that_are_no_text(rt: HostRuntime) {
 #[test]
 fn statuses(rt: HostRuntime) {
     let statuses = [
-        Stop::Words.status(),
-        Stop::Seed.status(),
-        Stop::Play(PlayError::Read).status(),
-        Stop::Play(PlayError::TooLong).status(),
-        Stop::Play(PlayError::Write).status(),
-        Stop::Play(PlayError::Memory).status(),
+        RunError::Arguments.status(),
+        RunError::Seed.status(),
+        RunError::Play(PlayError::Read).status(),
+        RunError::Play(PlayError::TooLong).status(),
+        RunError::Play(PlayError::Write).status(),
+        RunError::Play(PlayError::Memory).status(),
+        RunError::from(ArgumentsError::Memory).status(),
     ];
-    same(&rt, "statuses", &statuses, &[2, 3, 2, 2, 3, 3]);
+    same(&rt, "statuses", &statuses, &[2, 3, 2, 2, 3, 3, 3]);
 }
