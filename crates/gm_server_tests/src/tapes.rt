@@ -27,7 +27,7 @@ struct Echo {
 }
 
 /// Slot 0 is opened, asks for an echo and gets it.
-fn echo<K: BookName, R: Wait + Abort>(
+fn echo_once<K: BookName, R: Wait + Abort>(
     rt: &R,
     room: &mut Room<K>,
 ) -> Result<[Option<u64>; 2], ApplyError> {
@@ -50,7 +50,7 @@ impl Scene for Echo {
         rt: &R,
         room: &mut Room<K>,
     ) -> Result<(), Fail> {
-        self.places = echo(rt, room)?;
+        self.places = echo_once(rt, room)?;
         room.lose(self.lost == Lost::Desk, self.lost == Lost::Pen);
         Ok(())
     }
