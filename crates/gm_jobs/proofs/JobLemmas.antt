@@ -411,6 +411,10 @@ pub either : {T E : Type 0} (r : Result T E) {P Q : Type 0} → OnOk r P → OnE
 either (Ok x) p q = inl p
 either (Err e) p q = inr q
 
+pub on_ok_map : {T E : Type 0} (r : Result T E) {P Q : Type 0} → (P → Q) → OnOk r P → OnOk r Q
+on_ok_map (Ok x) f h = f h
+on_ok_map (Err e) f h = h
+
 pub on_err_map : {T E : Type 0} (r : Result T E) {P Q : Type 0} → (P → Q) → OnErr r P → OnErr r Q
 on_err_map (Ok x) f h = h
 on_err_map (Err e) f h = f h

@@ -1,5 +1,6 @@
 pub mod CellLemmas
 pub mod DueLemmas
+pub mod EntryLemmas
 pub mod JobLemmas
 pub mod ListLemmas
 pub mod MarkLemmas

@@ -1,16 +1,27 @@
 -- What becomes of one job among all.
-use Rattle.std.specs.Prelude.{◌≡◌, ℕ, ◌==◌, ◌⊎◌, if◌then◌else◌, List, length}
+use Rattle.std.specs.Prelude.{◌≡◌, ℕ, ◌==◌, ◌⊎◌, Bool, true, false, if◌then◌else◌, List, length}
 use Rattle.std.specs.Option.{option_map}
-use Rattle.gm_jobs.specs.declared.jobs.Change.{Change}
-use Rattle.gm_jobs.specs.declared.jobs.Change.TheVariants.{Assign, GiveBack, Keep, Leave}
-use Rattle.gm_jobs.specs.Live.{Live, assigned, returned, kept, without_listener}
+use Rattle.gm_jobs.specs.declared.job.Change.{Change}
+use Rattle.gm_jobs.specs.declared.job.Change.TheVariants.{Assign, GiveBack, Keep, Listen, Leave, Report}
+use Rattle.gm_jobs.specs.Live.{Live, assigned, returned, kept, reported, with_listener, without_listener}
 use Rattle.gm_jobs.specs.Tables.{find_job}
 
 abbrev pub changed : Change → Live → Live
 changed (Assign slot deadline) live = assigned slot deadline live
 changed GiveBack live = returned live
 changed Keep live = kept live
+changed (Listen slot) live = with_listener slot live
 changed (Leave slot) live = without_listener slot live
+changed (Report numerator denominator) live = reported numerator.now denominator.now live
+
+-- the changes that take memory
+abbrev pub takes_memory : Change → Bool
+takes_memory (Assign slot deadline) = false
+takes_memory GiveBack = false
+takes_memory Keep = false
+takes_memory (Listen slot) = true
+takes_memory (Leave slot) = false
+takes_memory (Report numerator denominator) = true
 
 -- The job, if it is live, is what the change makes of it.
 pub record ChangesJob (n : ℕ) (change : Live → Live) (old new : List (ℕ × Live)) : Type 0 where

@@ -1,3 +1,4 @@
+pub mod ByNumber
 pub mod Changes
 pub mod Dues
 pub mod Kept

@@ -50,7 +50,7 @@ impl Model for Dues {
 fn deadline_of(jobs: &JobMap, number: u64) -> Option<u64>
     ensures { result ≡ deadline_of (find_job jobs.now.entries number) }
 {
-    match jobs.get(&number) {
+    match jobs.get(number) {
         Some(job) => job.deadline(),
         None => None,
     }

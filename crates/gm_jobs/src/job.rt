@@ -1,11 +1,12 @@
 //! What is known of one job.
 
-ghost use Rattle.std.specs.Prelude.{◌≡◌, ◌≤◌, ◌&&◌, not, ◌==◌, ◌↔◌, length, IsTrue, IfOk, OnOk, OnErr, Some, None, is_some};
+ghost use Rattle.std.specs.Prelude.{◌≡◌, ◌≤◌, ◌&&◌, not, ◌==◌, ◌↔◌, length, IsTrue, false, IsOk, IfOk, OnOk, OnErr, Some, None, is_some};
 ghost use Rattle.std.specs.Option.{option_map};
-ghost use Rattle.gm_jobs.specs.Live.{Live, fresh, assigned, returned, kept, reported, with_listener, without_listener, place_at, is_named, is_run_by, is_orphan, is_due};
+ghost use Rattle.gm_jobs.specs.Live.{Live, fresh, reported, with_listener, without_listener, place_at, is_named, is_run_by, is_orphan, is_due};
 ghost use Rattle.gm_notes.specs.Jobs.{joins};
 ghost use Rattle.gm_jobs.specs.Marks.{is_marked, sign_of};
 ghost use Rattle.gm_jobs.specs.Tables.{Room};
+ghost use Rattle.gm_jobs.specs.Changes.{changed, takes_memory};
 
 use crate::marks::Sign;
 use gm_notes::{Place, Priority};
@@ -29,6 +30,23 @@ pub struct NewJob<'a> {
 struct Report {
     numerator: Vec<u8>,
     denominator: Vec<u8>,
+}
+
+/// What becomes of a job.
+#[derive(Clone, Copy)]
+pub(crate) enum Change<'a> {
+    /// It runs at this slot, until the deadline if there is one.
+    Assign(u32, Option<u64>),
+    /// It waits again.
+    GiveBack,
+    /// A background submission keeps it.
+    Keep,
+    /// The slot listens, once more.
+    Listen(u32),
+    /// The slot listens no more.
+    Leave(u32),
+    /// It is so far: a numerator and a denominator.
+    Report(&'a [u8], &'a [u8]),
 }
 
 /// A live job.
@@ -179,28 +197,8 @@ impl Job {
         }
     }
 
-    pub(crate) fn assign(&mut self, slot: u32, deadline: Option<u64>)
-        ensures { self.new ≡ assigned slot deadline self.old }
-    {
-        self.slot = Some(slot);
-        self.deadline = deadline;
-    }
-
-    pub(crate) fn give_back(&mut self)
-        ensures { self.new ≡ returned self.old }
-    {
-        self.slot = None;
-        self.deadline = None;
-    }
-
-    pub(crate) fn keep(&mut self)
-        ensures { self.new ≡ kept self.old }
-    {
-        self.kept = true;
-    }
-
-    /// It is so far.
-    pub(crate) fn report_so_far(
+    // It is so far.
+    fn report_so_far(
         &mut self,
         alloc: Global,
         numerator: &[u8],
@@ -217,8 +215,8 @@ impl Job {
         Ok(())
     }
 
-    /// The slot listens, once more.
-    pub(crate) fn listen(&mut self, slot: u32) -> Result<(), AllocError>
+    // The slot listens, once more.
+    fn listen(&mut self, slot: u32) -> Result<(), AllocError>
         ensures ok { OnOk result (self.new ≡ with_listener slot self.old) }
         ensures err { OnErr result (self.new ≡ self.old) }
     {
@@ -226,11 +224,36 @@ impl Job {
         Ok(())
     }
 
-    /// The slot listens no more.
-    pub(crate) fn leave(&mut self, slot: u32)
+    // The slot listens no more.
+    fn leave(&mut self, slot: u32)
         ensures { self.new ≡ without_listener slot self.old }
     {
         self.listeners.retain(|c| *c != slot);
+    }
+
+    /// It changes so, unless there is no memory for that.
+    pub(crate) fn change(&mut self, alloc: Global, change: Change<'_>) -> Result<(), AllocError>
+        ensures ok { OnOk result (self.new ≡ changed change.entry self.old) }
+        ensures err { OnErr result (self.new ≡ self.old) }
+        ensures succeeds { takes_memory change.entry ≡ false → IsOk result }
+    {
+        match change {
+            Change::Assign(slot, deadline) => {
+                self.slot = Some(slot);
+                self.deadline = deadline;
+            }
+            Change::GiveBack => {
+                self.slot = None;
+                self.deadline = None;
+            }
+            Change::Keep => self.kept = true,
+            Change::Listen(slot) => return self.listen(slot),
+            Change::Leave(slot) => self.leave(slot),
+            Change::Report(numerator, denominator) => {
+                return self.report_so_far(alloc, numerator, denominator);
+            }
+        }
+        Ok(())
     }
 }
 

@@ -2,23 +2,21 @@
 
 ghost use Rattle.std.specs.Prelude.{◌≡◌, ℕ, ◌+◌, ◌<◌, ◌≤◌, ◌^◌, ◌↔◌, true, Some, None, IsSome, IfSome, IfNone, IfOk, OnOk, OnErr, Err, Contains, length};
 ghost use Rattle.std.specs.Option.{option_copied, option_map};
-ghost use Rattle.indexmap.specs.IndexMap.{spare};
 ghost use Rattle.gm_jobs.specs.Live.{Live, fresh, assigned, returned, kept, reported, with_listener, without_listener, is_run_by, is_orphan, is_due};
 ghost use Rattle.gm_jobs.specs.Tables.{no_jobs, job, find_job, is_made, place, listeners_of, IsNamed, HasRoom, with_room, Makes, Changes, Ends, Leaves, IsNext, IsLast};
 ghost use Rattle.gm_jobs.specs.Marks.{Marked, is_marked, mark_of, sign_of};
 ghost use Rattle.gm_jobs.specs.Dues.{IsListed};
 ghost use Rattle.gm_jobs.specs.Listening.{Heard};
-ghost use Rattle.gm_jobs.specs.Changes.{changed, ChangesJob, LeavesOne, LeavesSome};
+ghost use Rattle.gm_jobs.specs.Changes.{ChangesJob, LeavesOne, LeavesSome};
 ghost use Rattle.gm_jobs.specs.Uniques.{Reached};
 
-use crate::by_number::{JobMap, NumberHash};
+use crate::by_number::JobMap;
 use crate::dues::{Dues, Known};
-use crate::job::{Job, NewJob, Space, joins};
+use crate::job::{Change, Job, NewJob, Space, joins};
 use crate::listening::Listening;
 use crate::marks::{Marks, Query, Sign};
 use crate::uniques::{Uniques, digest};
 use gm_notes::Place;
-use indexmap::IndexMap;
 use std::alloc::{AllocError, Global};
 use std::hash::RandomState;
 use std::marker::Model;
@@ -75,7 +73,6 @@ pub struct Jobs {
 impl Model for Jobs {
     ghost use Rattle.std.specs.Prelude.{◌^◌, is_some};
     ghost use Rattle.std.specs.Option.{unwrap_or};
-    ghost use Rattle.indexmap.specs.IndexMap.{spare};
     ghost use Rattle.gm_jobs.specs.Tables.{Table};
     ghost use Rattle.gm_jobs.specs.Kept.{Beside, IsKept};
 
@@ -83,71 +80,16 @@ impl Model for Jobs {
 
     ghost view = { λ t. record { first = t.first; next = unwrap_or t.next (2 ^ 64); room = t.space; live = t.jobs.entries } };
 
-    ghost invariant = { λ t. IsKept (record { seed = t.seed; first = t.first; next = unwrap_or t.next (2 ^ 64); left = is_some t.next; uniques = t.uniques; marks = t.marks; listening = t.listening; dues = t.dues }) t.space (spare t.jobs) t.jobs.entries };
+    ghost invariant = { λ t. IsKept (record { seed = t.seed; first = t.first; next = unwrap_or t.next (2 ^ 64); left = is_some t.next; uniques = t.uniques; marks = t.marks; listening = t.listening; dues = t.dues }) t.space t.jobs.room t.jobs.entries };
 }
 
-// What becomes of a job.
-#[derive(Clone, Copy)]
-pub(crate) enum Change {
-    Assign(u32, Option<u64>),
-    GiveBack,
-    Keep,
-    Leave(u32),
-}
-
-// Changes a job, and answers what its mark says then.
-fn make_change(job: &mut Job, change: Change) -> Sign
-    ensures job { job.new ≡ changed change job.old }
-    ensures sign { result ≡ sign_of job.new }
+// What the mark of the job of a number says, if it is live.
+fn sign_of(jobs: &JobMap, number: u64) -> Option<Sign>
+    ensures { result ≡ option_map sign_of (find_job jobs.now.entries number) }
 {
-    match change {
-        Change::Assign(slot, deadline) => job.assign(slot, deadline),
-        Change::GiveBack => job.give_back(),
-        Change::Keep => job.keep(),
-        Change::Leave(slot) => job.leave(slot),
-    }
-    job.sign()
-}
-
-// Changes the job of a number, if it is live, and answers what its mark says then.
-fn change_job(jobs: &mut JobMap, number: u64, change: Change) -> Option<Sign>
-    ensures jobs { ChangesJob number (changed change) jobs.old.entries jobs.new.entries }
-    ensures spare { spare jobs.new ≡ spare jobs.old }
-    ensures sign { result ≡ option_map sign_of (find_job jobs.new.entries number) }
-{
-    match jobs.get_mut(&number) {
-        Some(job) => Some(make_change(job, change)),
+    match jobs.get(number) {
+        Some(job) => Some(job.sign()),
         None => None,
-    }
-}
-
-// The job of a number, if it is live, is so far.
-fn report_job(
-    alloc: Global,
-    jobs: &mut JobMap,
-    number: u64,
-    numerator: &[u8],
-    denominator: &[u8],
-) -> Result<(), AllocError>
-    ensures ok { OnOk result (ChangesJob number (reported numerator.now denominator.now) jobs.old.entries jobs.new.entries) }
-    ensures err { OnErr result (jobs.new.entries ≡ jobs.old.entries) }
-    ensures spare { spare jobs.new ≡ spare jobs.old }
-{
-    match jobs.get_mut(&number) {
-        Some(job) => job.report_so_far(alloc, numerator, denominator),
-        None => Ok(()),
-    }
-}
-
-// The slot listens to the job of a number, if it is live.
-fn listen_job(jobs: &mut JobMap, number: u64, slot: u32) -> Result<(), AllocError>
-    ensures ok { OnOk result (ChangesJob number (with_listener slot) jobs.old.entries jobs.new.entries) }
-    ensures err { OnErr result (jobs.new.entries ≡ jobs.old.entries) }
-    ensures spare { spare jobs.new ≡ spare jobs.old }
-{
-    match jobs.get_mut(&number) {
-        Some(job) => job.listen(slot),
-        None => Ok(()),
     }
 }
 
@@ -156,11 +98,12 @@ fn leave_one(jobs: &mut JobMap, marks: &mut Marks, number: u64, slot: u32)
     requires room { length jobs.old.entries ≤ marks.old.room }
     requires marked { Marked jobs.old.entries marks.old.marks }
     ensures jobs { ChangesJob number (without_listener slot) jobs.old.entries jobs.new.entries }
-    ensures spare { spare jobs.new ≡ spare jobs.old }
+    ensures slots { jobs.new.room ≡ jobs.old.room }
     ensures marked { Marked jobs.new.entries marks.new.marks }
     ensures room { marks.new.room ≡ marks.old.room }
 {
-    let sign = change_job(jobs, number, Change::Leave(slot));
+    let _left = jobs.change(number, Change::Leave(slot));
+    let sign = sign_of(jobs, number);
     marks.note(jobs, number, sign);
 }
 
@@ -170,7 +113,7 @@ fn leave_all(jobs: &mut JobMap, marks: &mut Marks, numbers: &[u64], slot: u32)
     requires marked { Marked jobs.old.entries marks.old.marks }
     ensures left { LeavesSome slot jobs.old.entries jobs.new.entries }
     ensures these { (n : ℕ) → Contains numbers.now n → LeavesOne slot n jobs.old.entries jobs.new.entries }
-    ensures spare { spare jobs.new ≡ spare jobs.old }
+    ensures slots { jobs.new.room ≡ jobs.old.room }
     ensures marked { Marked jobs.new.entries marks.new.marks }
     ensures room { marks.new.room ≡ marks.old.room }
 {
@@ -185,7 +128,7 @@ fn leave_maybe(jobs: &mut JobMap, marks: &mut Marks, number: Option<u64>, slot: 
     requires marked { Marked jobs.old.entries marks.old.marks }
     ensures left { LeavesSome slot jobs.old.entries jobs.new.entries }
     ensures this { (n : ℕ) → number ≡ Some n → LeavesOne slot n jobs.old.entries jobs.new.entries }
-    ensures spare { spare jobs.new ≡ spare jobs.old }
+    ensures slots { jobs.new.room ≡ jobs.old.room }
     ensures marked { Marked jobs.new.entries marks.new.marks }
     ensures room { marks.new.room ≡ marks.old.room }
 {
@@ -207,7 +150,7 @@ fn make_room(
 ) -> Result<(), AllocError>
     requires { Reached seed.now jobs.old.entries uniques.old.cells }
     ensures jobs { jobs.new.entries ≡ jobs.old.entries }
-    ensures spare { spare jobs.old ≤ spare jobs.new }
+    ensures slots { jobs.old.room ≤ jobs.new.room }
     ensures reached { Reached seed.now jobs.old.entries uniques.new.cells }
     ensures used { uniques.old.used < length uniques.old.cells → uniques.new.used < length uniques.new.cells }
     ensures marks { marks.new.marks ≡ marks.old.marks }
@@ -215,9 +158,9 @@ fn make_room(
     ensures listed { (n : ℕ) (live : Live) → (is_marked live ≡ true → Contains marks.old.marks (mark_of n live)) → IsListed dues.old n live → IsListed dues.new n live }
     ensures heard { (c n : ℕ) → IsSome (find_job jobs.old.entries n) → Heard listening.old c n → Heard listening.new c n }
     ensures fresh { listening.old.fresh ≡ None → listening.new.fresh ≡ None }
-    ensures ok { OnOk result ((0 < spare jobs.new) × (uniques.new.used < length uniques.new.cells) × (length jobs.new.entries < marks.new.room) × (listening.new.fresh ≡ None)) }
+    ensures ok { OnOk result ((0 < jobs.new.room) × (uniques.new.used < length uniques.new.cells) × (length jobs.new.entries < marks.new.room) × (listening.new.fresh ≡ None)) }
 {
-    jobs.reserve(1)?;
+    jobs.reserve_one()?;
     marks.reserve(jobs.len() + 1)?;
     dues.reserve(marks, jobs.len() + 1)?;
     if uniques.is_full() {
@@ -237,7 +180,7 @@ impl Jobs {
             seed,
             first: first_job,
             next: Some(first_job),
-            jobs: IndexMap::with_hasher(alloc, NumberHash::new(&seed)),
+            jobs: JobMap::new(alloc, &seed),
             uniques: Uniques::new(alloc),
             marks: Marks::new(alloc),
             listening: Listening::new(alloc),
@@ -283,7 +226,7 @@ impl Jobs {
         self.next = number.checked_add(1);
         let job = space.fill(self.alloc, new);
         let sign = job.sign();
-        let _fits = self.jobs.insert(number, job);
+        self.jobs.insert(number, job);
         self.uniques.enter(&self.seed, new.f, new.unique, number);
         self.listening.begin(new.listener, number);
         self.marks.note(&self.jobs, number, Some(sign));
@@ -294,7 +237,7 @@ impl Jobs {
     pub fn by_number(&self, n: u64) -> Option<&Job>
         ensures { option_copied result ≡ job self.now n }
     {
-        self.jobs.get(&n)
+        self.jobs.get(n)
     }
 
     /// The live job of this function with this unique id; none where the id is empty or a dash.
@@ -348,7 +291,8 @@ impl Jobs {
     pub fn assign(&mut self, n: u64, slot: u32, deadline: Option<u64>)
         ensures { Changes n (assigned slot deadline) self.old self.new }
     {
-        let sign = change_job(&mut self.jobs, n, Change::Assign(slot, deadline));
+        let _changed = self.jobs.change(n, Change::Assign(slot, deadline));
+        let sign = sign_of(&self.jobs, n);
         self.marks.note(&self.jobs, n, sign);
         self.dues.note(&self.marks, n, deadline);
     }
@@ -357,7 +301,8 @@ impl Jobs {
     pub fn give_back(&mut self, n: u64)
         ensures { Changes n returned self.old self.new }
     {
-        let sign = change_job(&mut self.jobs, n, Change::GiveBack);
+        let _changed = self.jobs.change(n, Change::GiveBack);
+        let sign = sign_of(&self.jobs, n);
         self.marks.note(&self.jobs, n, sign);
     }
 
@@ -365,7 +310,7 @@ impl Jobs {
     pub fn end(&mut self, n: u64)
         ensures { Ends n self.old self.new }
     {
-        let _ended = self.jobs.swap_remove(&n);
+        self.jobs.remove(n);
         self.marks.unmark(n);
     }
 
@@ -373,7 +318,8 @@ impl Jobs {
     pub fn keep(&mut self, n: u64)
         ensures { Changes n kept self.old self.new }
     {
-        let sign = change_job(&mut self.jobs, n, Change::Keep);
+        let _changed = self.jobs.change(n, Change::Keep);
+        let sign = sign_of(&self.jobs, n);
         self.marks.note(&self.jobs, n, sign);
     }
 
@@ -382,7 +328,7 @@ impl Jobs {
         ensures ok { OnOk result (Changes n (reported numerator.now denominator.now) self.old self.new) }
         ensures err { OnErr result (self.new ≡ self.old) }
     {
-        report_job(self.alloc, &mut self.jobs, n, numerator, denominator)
+        self.jobs.change(n, Change::Report(numerator, denominator))
     }
 
     /// Who listens to the job, in the order in which they came.
@@ -401,7 +347,7 @@ impl Jobs {
         ensures err { OnErr result (self.new ≡ self.old) }
     {
         self.listening.add(&self.jobs, slot, n)?;
-        listen_job(&mut self.jobs, n, slot)
+        self.jobs.change(n, Change::Listen(slot))
     }
 
     /// The slot listens to no job any more.

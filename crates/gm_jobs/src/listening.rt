@@ -43,7 +43,7 @@ impl SlotJobs {
     fn drop_ended(&mut self, jobs: &JobMap)
         ensures { (n : ℕ) → IsSome (find_job jobs.now.entries n) → Contains self.old n → Contains self.new n }
     {
-        self.numbers.retain(|number| jobs.contains_key(number));
+        self.numbers.retain(|number| jobs.contains(*number));
     }
 
     // Makes room for one number more: lets go of those of jobs that ended, and grows unless that made half of

@@ -71,7 +71,7 @@ const FEW: usize = 64;
 fn is_marked(jobs: &JobMap, number: u64) -> bool
     ensures { result ≡ passes is_marked (find_job jobs.now.entries number) }
 {
-    match jobs.get(&number) {
+    match jobs.get(number) {
         Some(job) => job.is_marked(),
         None => false,
     }
@@ -114,7 +114,7 @@ impl Query {
     pub(crate) fn meets(self, jobs: &JobMap, number: u64) -> bool
         ensures { result ≡ passes (meets self) (find_job jobs.now.entries number) }
     {
-        match jobs.get(&number) {
+        match jobs.get(number) {
             Some(job) => match self {
                 Query::RunBy(slot) => job.is_run_by(slot),
                 Query::Orphan => job.is_orphan(),

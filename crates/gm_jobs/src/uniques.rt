@@ -71,7 +71,7 @@ fn cell_behind(home: usize, k: usize, len: usize) -> usize
 fn is_named(jobs: &JobMap, number: u64, f: u32, unique: &[u8]) -> bool
     ensures { result ≡ passes (is_named f unique.now) (find_job jobs.now.entries number) }
 {
-    match jobs.get(&number) {
+    match jobs.get(number) {
         Some(job) => job.is_named(f, unique),
         None => false,
     }
@@ -185,8 +185,8 @@ impl Uniques {
         let len = jobs.len().saturating_mul(2).saturating_add(8);
         let mut made = Uniques::with_cells(alloc, len)?;
         for i in 0..jobs.len() {
-            if let Some((number, job)) = jobs.get_index(i) {
-                made.enter(seed, job.f(), job.unique(), *number);
+            if let Some((number, job)) = jobs.at(i) {
+                made.enter(seed, job.f(), job.unique(), number);
             }
         }
         Ok(made)

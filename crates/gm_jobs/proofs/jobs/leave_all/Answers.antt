@@ -17,7 +17,7 @@ loop-number-preserved c =
       these = below_more (λ k. LeavesOne slot (get_or c.args.numbers.now k 0) first new) c.loop-number.number-index
           (λ k h. left_before slot first old new before some _ (c.loop-number.invariant.these k h))
           (left_after slot first old new before some _ (leaves_one slot _ old new c.leave_one.ensures.jobs));
-      spare = c.leave_one.ensures.spare ∙ c.loop-number.invariant.spare;
+      slots = c.leave_one.ensures.slots ∙ c.loop-number.invariant.slots;
       marked = c.leave_one.ensures.marked;
       room = c.leave_one.ensures.room ∙ c.loop-number.invariant.room;
     }

@@ -1,4 +1,3 @@
-use Rattle.std.proofs.Common.{arith}
 use Rattle.gm_jobs.proofs.JobLemmas.{beside, kept_ended}
 use Rattle.gm_jobs.proofs.jobs.Jobs.end.Goals as goal
 
@@ -6,6 +5,6 @@ pub invariant_of-self : goal.invariant_of-self
 invariant_of-self c =
     let t = c.self.inside in
     let old = t.jobs.entries in
-    let new = c.swap_remove-ended.new.self.entries in
-    kept_ended (beside t) c.args.n old new c.unmark.new.self t.space _ _ c.self.invariant c.swap_remove-ended.ensures.updates.0 (omega (arith, c.swap_remove-ended.ensures.len)) c.swap_remove-ended.ensures.room.0
+    let new = c.remove.new.self.entries in
+    kept_ended (beside t) c.args.n old new c.unmark.new.self t.space _ _ c.self.invariant c.remove.ensures.jobs c.remove.ensures.len c.remove.ensures.room
     c.unmark.ensures.kept c.unmark.ensures.room

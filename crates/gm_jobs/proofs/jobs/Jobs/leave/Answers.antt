@@ -29,7 +29,7 @@ invariant_of-self c =
     let d = (goal.at.invariant_of-self c).After-leave_maybe in
     let t = c.self.inside in
     kept_left c.args.slot t.jobs.entries c.leave_maybe.new.jobs.entries (some d) (all d) (beside t) c.leave_maybe.new.marks c.take-list.new.self t.space _ _ c.self.invariant
-    (c.leave_maybe.ensures.spare ∙ c.leave_all.ensures.spare) (c.leave_maybe.ensures.room ∙ c.leave_all.ensures.room) c.leave_maybe.ensures.marked
+    (c.leave_maybe.ensures.slots ∙ c.leave_all.ensures.slots) (c.leave_maybe.ensures.room ∙ c.leave_all.ensures.room) c.leave_maybe.ensures.marked
     c.take-list.ensures.others c.take-list.ensures.fresh
 
 pub returns : goal.returns

@@ -3,7 +3,6 @@ use Rattle.std.proofs.Common.{Option, Some, None, is_some, refl, sym, subst, ◌
 use Rattle.std.proofs.lemmas.List.Elements.{Contains-push_cases}
 use Rattle.std.proofs.lemmas.Bool.{false≢true, true≢false}
 use Rattle.std.proofs.lemmas.Bool.Decides.{nat_tests}
-use Rattle.indexmap.specs.IndexMap.{spare}
 use Rattle.gm_jobs.specs.Live.{with_listener}
 use Rattle.gm_jobs.specs.Marks.{sign_at}
 use Rattle.gm_jobs.specs.Listening.{list_of}
@@ -36,11 +35,11 @@ invariant_of-self c =
 pub invariant_of-self-2 : goal.invariant_of-self-2
 invariant_of-self-2 c =
     let t = c.self.inside in
-    elim (either c.listen_job.result c.listen_job.ensures.ok c.listen_job.ensures.err) [
+    elim (either c.change.result c.change.ensures.ok c.change.ensures.err) [
       | inl change ↦
-          kept_changed (beside t) c.args.n (with_listener c.args.slot) t.jobs.entries c.listen_job.new.jobs.entries t.marks c.add.new.self t.dues t.space _ _ c.self.invariant change
-          (λ l. refl) (λ l. refl) c.listen_job.ensures.spare refl
-          (marked_changed c.args.n (with_listener c.args.slot) t.jobs.entries c.listen_job.new.jobs.entries t.marks change (marked_of (beside t) t.jobs.entries t.space _ c.self.invariant) (λ l e. same_sign l.slot _ _ _ (never (is_some l.slot) l.kept (length l.listeners) (length (l.listeners ++ c.args.slot ∷ [])) (length-append l.listeners (c.args.slot ∷ []))) e)
+          kept_changed (beside t) c.args.n (with_listener c.args.slot) t.jobs.entries c.change.new.self.entries t.marks c.add.new.self t.dues t.space _ _ c.self.invariant change
+          (λ l. refl) (λ l. refl) c.change.ensures.room refl
+          (marked_changed c.args.n (with_listener c.args.slot) t.jobs.entries c.change.new.self.entries t.marks change (marked_of (beside t) t.jobs.entries t.space _ c.self.invariant) (λ l e. same_sign l.slot _ _ _ (never (is_some l.slot) l.kept (length l.listeners) (length (l.listeners ++ c.args.slot ∷ [])) (length-append l.listeners (c.args.slot ∷ []))) e)
           (λ l e. still (is_some l.slot) l.kept (length l.listeners) (length (l.listeners ++ c.args.slot ∷ [])) (length-append l.listeners (c.args.slot ∷ [])) e))
           c.add.ensures.kept
           (λ l d there. elim (Contains-push_cases l.listeners c.args.slot d there) [
@@ -48,9 +47,9 @@ invariant_of-self-2 c =
             | inr new ↦ inr (inl (subst (λ i. Contains (list_of c.add.new.self i) c.args.n) new c.in_ok-add.ensures.ok))
           ])
           (λ e. c.add.ensures.fresh ∙ e)
-          (listed_changed c.args.n (with_listener c.args.slot) t.jobs.entries c.listen_job.new.jobs.entries t.dues change (listed_of (beside t) t.jobs.entries t.space _ c.self.invariant) (λ l h. h))
+          (listed_changed c.args.n (with_listener c.args.slot) t.jobs.entries c.change.new.self.entries t.dues change (listed_of (beside t) t.jobs.entries t.space _ c.self.invariant) (λ l h. h))
       | inr same ↦
-          subst (λ es. IsKept (record (beside t) { listening = c.add.new.self }) t.space (spare c.listen_job.new.jobs) es) (sym same)
-          (kept_room (beside t) t.jobs.entries t.uniques t.marks c.add.new.self t.dues t.space (spare t.jobs) (spare c.listen_job.new.jobs) c.self.invariant (let less = c.listen_job.ensures.spare in omega arith) (reached_of (beside t) t.jobs.entries t.space _ c.self.invariant) (λ h. h) refl (omega arith)
+          subst (λ es. IsKept (record (beside t) { listening = c.add.new.self }) t.space c.change.new.self.room es) (sym same)
+          (kept_room (beside t) t.jobs.entries t.uniques t.marks c.add.new.self t.dues t.space t.jobs.room c.change.new.self.room c.self.invariant (let less = c.change.ensures.room in omega arith) (reached_of (beside t) t.jobs.entries t.space _ c.self.invariant) (λ h. h) refl (omega arith)
           c.add.ensures.kept (λ e. c.add.ensures.fresh ∙ e) (λ n live m h. h))
     ]
