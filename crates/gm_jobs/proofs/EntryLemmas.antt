@@ -7,37 +7,15 @@ use Rattle.std.specs.Map.{lookup, keys_of}
 use Rattle.std.proofs.lemmas.Map.Entries.{lookup_from_place}
 use Rattle.std.specs.Option.{option_map}
 use Rattle.std.proofs.lemmas.Bool.{cases_eq, true≢false, false≢true}
-use Rattle.std.proofs.lemmas.Bool.Decides.{nat_tests}
 use Rattle.gm_jobs.specs.Live.{Live}
-use Rattle.gm_jobs.specs.Tables.{find_job}
+use Rattle.gm_jobs.specs.Links.{AllUnique, Stands, stands_in}
+use Rattle.gm_jobs.specs.Tables.{find_job, passes}
+use Rattle.gm_jobs.proofs.NumberLemmas.{at_number, number_same, number_other, not_some}
 use Rattle.gm_jobs.specs.Changes.{ChangesJob}
-use Rattle.slab.specs.Slab.{Slab, get}
-use Rattle.gm_jobs.specs.declared.by_number.Entry.{Entry}
-use Rattle.gm_jobs.specs.ByNumber.{with_job, jobs_of, card, held, with_change, Changed, IsIndexed}
-
--- one thing where two numbers are equal, another where they differ
-pub at_number : {A : Type 0} (n m : ℕ) (r x y : A) → (n ≡ m → r ≡ x) → (n ≢ m → r ≡ y) → r ≡ (if n == m then x else y)
-at_number n m r x y same apart = by (n == m) refl
-  where
-    by : (b : Bool) → (n == m) ≡ b → r ≡ (if b then x else y)
-    by true e = same (grind (arith, nat_tests))
-    by false e = apart (λ h. true≢false (sym (let t : (n == m) ≡ true = grind (arith, nat_tests) in t) ∙ e))
-
-pub number_same : {A : Type 0} (n : ℕ) (x y : A) → (if n == n then x else y) ≡ x
-number_same n x y = ap (λ b. if b then x else y) (let t : (n == n) ≡ true = grind (arith, nat_tests) in t)
-
-pub number_other : {A : Type 0} (n m : ℕ) (x y : A) → n ≢ m → (if n == m then x else y) ≡ y
-number_other n m x y ne = ap (λ b. if b then x else y) (let h : n ≢ m = ne in let t : (n == m) ≡ false = grind (arith, nat_tests) in t)
-
-not_some : {A : Type 0} (o : Option A) → o ≡ None → IsSome o → ⊥
-not_some o e h = false≢true (sym (ap is_some e) ∙ h)
+use Rattle.gm_jobs.specs.ByNumber.{with_job, with_live, jobs_of, IsIndexed}
 
 abbrev At : Type 0
 At = ℕ → Option (ℕ × Live)
-
-abbrev pub with_live : (Live → Live) → Option (ℕ × Live) → Option (ℕ × Live)
-with_live f None = None
-with_live f (Some q) = Some (q.0, f q.1)
 
 abbrev found : Option ℕ → At → Option Live
 found None at = None
@@ -255,18 +233,48 @@ pub jobs_same : (keys : List (ℕ × ℕ)) (at at' : At) → ((k : ℕ) → at' 
 jobs_same [] at at' same = refl
 jobs_same (p ∷ ps) at at' same = (λ j. with_job p.0 (same p.1 j) (jobs_same ps at at' same j))
 
--- ---- in the slab
+-- no job of the number passes, where none that stands does
+pub passes_false : (keys : List (ℕ × ℕ)) (at : At) → IsIndexed keys at → (test : Live → Bool) (m : ℕ) → ((k : ℕ) (live : Live) → at k ≡ Some (m, live) → test live ≡ false) → passes test (find_job (jobs_of keys at) m) ≡ false
+passes_false keys at i test m none = by (lookup (nat_eq m) keys) refl
+  where
+    by : (o : Option ℕ) → lookup (nat_eq m) keys ≡ o → passes test (find_job (jobs_of keys at) m) ≡ false
+    by None e = ap (passes test) (find_none keys at i m e)
+    by (Some k) e =
+        let l = i.leads m k e in
+        ap (passes test) (find_here keys at i m k e ∙ ap (option_map (λ (q : ℕ × Live). q.1)) l.1) ∙ none k l.0 l.1
 
-module _ (n k : ℕ) (f : Live → Live) (old new : Slab Entry) (change : Changed k f old new) where
-  pub held_changed : held new k ≡ with_live f (held old k)
-  held_changed = ap (card) change.updates.changed ∙ by (get old k)
+pub passes_true : (keys : List (ℕ × ℕ)) (at : At) → IsIndexed keys at → (test : Live → Bool) (k m : ℕ) (live : Live) → at k ≡ Some (m, live) → test live ≡ true → passes test (find_job (jobs_of keys at) m) ≡ true
+passes_true keys at i test k m live there met = ap (passes test) (find_here keys at i m k (i.stands k m live there) ∙ ap (option_map (λ (q : ℕ × Live). q.1)) there) ∙ met
+
+-- ---- where the job at one key changes
+module _ (at at' : At) (key : ℕ) (f : Live → Live) (here : at' key ≡ with_live f (at key)) (others : (k : ℕ) → k ≢ key → at' k ≡ at k) where
+  was_with : (o : Option (ℕ × Live)) (n : ℕ) (live : Live) → with_live f o ≡ Some (n, live) → (old : Live) × (o ≡ Some (n, old))
+  was_with None n live e = cc
+  was_with (Some q) n live e = (q.1, λ j. Some (number (q.0, f q.1) (n, live) e j, q.1))
+
+  was_there : (k n : ℕ) (live : Live) → at' k ≡ Some (n, live) → (old : Live) × (at k ≡ Some (n, old))
+  was_there k n live e = by (cases_eq k key)
     where
-      by : (o : Option Entry) → card (option_map (with_change f) o) ≡ with_live f (card o)
-      by None = refl
-      by (Some e) = refl
+      by : (k ≡ key) ⊎ (k ≡ key → ⊥) → (old : Live) × (at k ≡ Some (n, old))
+      by (inl same) = let w = was_with (at key) n live (sym here ∙ ap at' (sym same) ∙ e) in (w.0, ap at same ∙ w.1)
+      by (inr ne) = (live, sym (others k ne) ∙ e)
 
-  pub held_others : (j : ℕ) → j ≢ k → held new j ≡ held old j
-  held_others j ne = ap (card) (change.updates.others j ne)
+  pub unique_changed : AllUnique at → AllUnique at'
+  unique_changed one i j n x y e g = let v = was_there i n x e in let w = was_there j n y g in one i j n v.0 w.0 v.1 w.1
+
+-- where it stays in its list, the same jobs stand in the lists
+pub stands_changed : (at at' : At) (key number : ℕ) (was is : Live) → at key ≡ Some (number, was) → at' key ≡ Some (number, is) → ((k : ℕ) → k ≢ key → at' k ≡ at k) → stands_in is ≡ stands_in was
+    → (list k n : ℕ) → Stands at' list k n → Stands at list k n
+stands_changed at at' key number' was is e e' others same list k n s = by (cases_eq k key)
+  where
+    by : (k ≡ key) ⊎ (k ≡ key → ⊥) → Stands at list k n
+    by (inr ne) = record { live = s.live; there = sym (others k ne) ∙ s.there; in_list = s.in_list }
+    by (inl here) =
+        let pair = card_of (n, s.live) (number', is) (sym s.there ∙ ap at' here ∙ e') in
+        record { live = was; there = ap at here ∙ e ∙ ap (λ (p : ℕ × Live). Some (p.0, was)) (sym pair); in_list = sym same ∙ ap (λ (p : ℕ × Live). stands_in p.1) (sym pair) ∙ s.in_list }
+      where
+        card_of : (a b : ℕ × Live) → Some a ≡ Some b → a ≡ b
+        card_of a b h = cc
 
 -- a job that isn't live doesn't change
 pub changes_none : (n : ℕ) (f : Live → Live) (jobs : List (ℕ × Live)) → find_job jobs n ≡ None → ChangesJob n f jobs jobs
@@ -276,3 +284,7 @@ changes_none n f jobs none = record {
       (λ ne. refl);
   len = refl;
 }
+
+-- no two jobs that stand have one number
+pub unique_of : (keys : List (ℕ × ℕ)) (at : At) → IsIndexed keys at → AllUnique at
+unique_of keys at indexed i j n x y e f = key i j (sym (indexed.stands i n x e) ∙ indexed.stands j n y f)

@@ -1,24 +1,17 @@
 -- How the live jobs stand in a slab, under keys that their numbers lead to.
-use Rattle.std.specs.Prelude.{◌≡◌, ℕ, nat_eq, List, [], ◌∷◌, Option, Some, None}
+use Rattle.std.specs.Prelude.{◌≡◌, ◌≢◌, ℕ, nat_eq, List, [], ◌∷◌, Option, Some, None}
 use Rattle.std.specs.List.{IsDistinct}
 use Rattle.std.specs.Map.{lookup, keys_of}
-use Rattle.std.specs.Option.{option_map}
-use Rattle.slab.specs.Slab.{Slab, get, slab_len, Updates}
-use Rattle.gm_jobs.specs.declared.by_number.Entry.{Entry}
+use Rattle.slab.specs.Slab.{Slab, slab_len}
+use Rattle.gm_jobs.specs.declared.lists.Entry.{Entry}
+use Rattle.gm_jobs.specs.declared.lists.Ends.{Ends}
 use Rattle.gm_jobs.specs.Live.{Live}
+use Rattle.gm_jobs.specs.Links.{held, next_of, AllLinked}
 
 -- the live jobs by their numbers, and for how many more there is room
 pub record JobTable : Type 0 where
   pub entries : List (ℕ × Live)
   pub room : ℕ
-
-abbrev pub card : Option Entry → Option (ℕ × Live)
-card None = None
-card (Some entry) = Some (entry.number, entry.job)
-
--- the number and the job at each key
-abbrev pub held : Slab Entry → ℕ → Option (ℕ × Live)
-held slab k = card (get slab k)
 
 abbrev pub with_job : ℕ → Option (ℕ × Live) → List (ℕ × Live) → List (ℕ × Live)
 with_job n None rest = rest
@@ -35,12 +28,18 @@ pub record IsIndexed (keys : List (ℕ × ℕ)) (at : ℕ → Option (ℕ × Liv
   pub stands : (k n : ℕ) (live : Live) → at k ≡ Some (n, live) → lookup (nat_eq n) keys ≡ Some k
   pub distinct : IsDistinct nat_eq (keys_of keys)
 
--- the entry, with its job changed
-abbrev pub with_change : (Live → Live) → Entry → Entry
-with_change change e = record e { job = change e.job }
+-- The numbers lead to the jobs, and the lists lead from job to job.
+pub record IsJobMap (keys : List (ℕ × ℕ)) (slab : Slab Entry) (ends : List Ends) : Type 0 where
+  pub indexed : IsIndexed keys (held slab)
+  pub linked : AllLinked (held slab) (next_of slab ends)
 
--- The job at a key, if there is one, is what the change makes of it, and nothing else changed.
+abbrev pub with_live : (Live → Live) → Option (ℕ × Live) → Option (ℕ × Live)
+with_live change None = None
+with_live change (Some q) = Some (q.0, change q.1)
+
+-- The job at a key, if there is one, is what the change makes of it, and the others are as before.
 pub record Changed (key : ℕ) (change : Live → Live) (old new : Slab Entry) : Type 0 where
-  pub updates : Updates old new key (option_map (with_change change) (get old key))
+  pub here : held new key ≡ with_live change (held old key)
+  pub others : (k : ℕ) → k ≢ key → held new k ≡ held old k
   pub len : slab_len new ≡ slab_len old
   pub capacity : new.capacity ≡ old.capacity

@@ -2,6 +2,7 @@ pub mod ByNumber
 pub mod Changes
 pub mod Dues
 pub mod Kept
+pub mod Links
 pub mod Listening
 pub mod Live
 pub mod Marks

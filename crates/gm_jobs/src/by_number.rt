@@ -1,12 +1,20 @@
 //! The jobs by their numbers.
 
-ghost use Rattle.std.specs.Prelude.{◌≡◌, ℕ, ◌+◌, ◌<◌, ◌≤◌, ◌^◌, ◌==◌, if◌then◌else◌, false, [], length, slice_get, is_some, Some, None, IsOk, OnOk, OnErr};
+ghost use Rattle.std.specs.Prelude.{◌≡◌, ℕ, ◌+◌, ◌<◌, ◌≤◌, ◌^◌, ◌==◌, if◌then◌else◌, false, [], length, slice_get, true, is_some, Some, None, IfSome, IfNone, IsOk, IfOk, OnOk, OnErr};
 ghost use Rattle.std.specs.Option.{option_copied, option_map};
-ghost use Rattle.gm_jobs.specs.Tables.{find_job};
+ghost use Rattle.std.specs.Vec.{vec_len};
+ghost use Rattle.slab.specs.Slab.{get};
+ghost use Rattle.gm_jobs.specs.declared.lists.Way.{Way};
+ghost use Rattle.gm_jobs.specs.Live.{Live};
+ghost use Rattle.gm_jobs.specs.Tables.{find_job, IsNext, IsLast};
 ghost use Rattle.gm_jobs.specs.Changes.{changed, takes_memory, ChangesJob};
+ghost use Rattle.gm_jobs.specs.Queries.{meets};
+ghost use Rattle.gm_jobs.specs.Links.{stands_in, held, AllUnique, AllLinked, next_of, link_of};
 ghost use Rattle.gm_jobs.specs.ByNumber.{Changed};
 
 use crate::job::{Change, Job};
+use crate::lists::{Ends, Entry, LISTS, enter, find_next, leave, list_at};
+use crate::marks::Query;
 use indexmap::IndexMap;
 use slab::Slab;
 use std::alloc::{AllocError, Global};
@@ -38,36 +46,33 @@ impl BuildHasher for NumberHash {
     }
 }
 
-// A live job, with its number.
-#[derive(Drop)]
-pub(crate) struct Entry {
-    number: u64,
-    job: Job,
-}
-
-/// The live jobs. Each stands in a slab, under a key that its number leads to.
+/// The live jobs. Each stands in a slab, under a key that its number leads to, and in a list if it runs or nobody wants
+/// it.
 #[derive(Drop)]
 pub(crate) struct JobMap {
     alloc: Global,
     slab: Slab<Entry>,
     keys: IndexMap<u64, usize, NumberHash>,
+    ends: Vec<Ends>,
 }
 
 impl Model for JobMap {
-    ghost use Rattle.std.specs.Prelude.{min, ◌-◌};
+    ghost use Rattle.std.specs.Prelude.{◌≡◌, min, ◌-◌};
+    ghost use Rattle.std.specs.Vec.{vec_len};
     ghost use Rattle.indexmap.specs.IndexMap.{spare};
     ghost use Rattle.slab.specs.Slab.{slab_len};
-    ghost use Rattle.gm_jobs.specs.ByNumber.{JobTable, held, jobs_of, IsIndexed};
+    ghost use Rattle.gm_jobs.specs.Links.{held};
+    ghost use Rattle.gm_jobs.specs.ByNumber.{JobTable, jobs_of, IsJobMap};
 
     ghost Value = { JobTable };
 
     ghost view = { λ m. record { entries = jobs_of m.keys.entries (held m.slab); room = min (spare m.keys) (m.slab.capacity - slab_len m.slab) } };
 
-    ghost invariant = { λ m. IsIndexed m.keys.entries (held m.slab) };
+    ghost invariant = { λ m. IsJobMap m.keys.entries m.slab m.ends.items × (vec_len m.ends ≡ 1025) };
 }
 
-// Changes the job at a key, if there is one.
-fn change_at(
+// Changes the job at a key, if there is one. Its neighbours stay.
+fn change_job(
     alloc: Global,
     slab: &mut Slab<Entry>,
     key: usize,
@@ -76,6 +81,7 @@ fn change_at(
     ensures ok { OnOk result (Changed key (changed change.entry) slab.old slab.new) }
     ensures err { OnErr result (Changed key (λ live. live) slab.old slab.new) }
     ensures succeeds { takes_memory change.entry ≡ false → IsOk result }
+    ensures links { (k : ℕ) (way : Way) → link_of way (get slab.new k) ≡ link_of way (get slab.old k) }
 {
     match slab.get_mut(key) {
         Some(entry) => entry.job.change(alloc, change),
@@ -83,16 +89,45 @@ fn change_at(
     }
 }
 
+// Changes the job of a number, which stands at this key. It goes from its list to another where that is so.
+fn change_at(
+    alloc: Global,
+    slab: &mut Slab<Entry>,
+    ends: &mut Vec<Ends>,
+    key: usize,
+    number: u64,
+    change: Change<'_>,
+) -> Result<(), AllocError>
+    requires len { vec_len ends.old ≡ 1025 }
+    requires there { (live : Live) × (held slab.old key ≡ Some (number, live)) }
+    requires unique { AllUnique (held slab.old) }
+    requires linked { AllLinked (held slab.old) (next_of slab.old ends.old.items) }
+    ensures ok { OnOk result (Changed key (changed change.entry) slab.old slab.new) }
+    ensures err { OnErr result (Changed key (λ live. live) slab.old slab.new) }
+    ensures succeeds { takes_memory change.entry ≡ false → IsOk result }
+    ensures linked { AllLinked (held slab.new) (next_of slab.new ends.new.items) }
+    ensures len { vec_len ends.new ≡ vec_len ends.old }
+{
+    let list = list_at(slab, key);
+    let result = change_job(alloc, slab, key, change);
+    if list_at(slab, key) != list {
+        leave(slab, ends, list, key);
+        enter(slab, ends, key, number);
+    }
+    result
+}
+
 impl JobMap {
     /// No jobs.
-    pub(crate) fn new(alloc: Global, seed: &RandomState) -> JobMap
-        ensures { result.entries ≡ [] }
+    pub(crate) fn new(alloc: Global, seed: &RandomState) -> Result<JobMap, AllocError>
+        ensures { IfOk result (λ m. m.entries ≡ []) }
     {
-        JobMap {
+        Ok(JobMap {
             alloc,
             slab: Slab::new(alloc),
             keys: IndexMap::with_hasher(alloc, NumberHash::new(seed)),
-        }
+            ends: Vec::from_elem(alloc, Ends::NONE, LISTS)?,
+        })
     }
 
     /// Makes room for one job more.
@@ -154,7 +189,14 @@ impl JobMap {
         ensures room { self.new.room ≡ self.old.room }
     {
         match self.keys.get(&number) {
-            Some(key) => change_at(self.alloc, &mut self.slab, *key, change),
+            Some(key) => change_at(
+                self.alloc,
+                &mut self.slab,
+                &mut self.ends,
+                *key,
+                number,
+                change,
+            ),
             None => Ok(()),
         }
     }
@@ -166,8 +208,9 @@ impl JobMap {
         ensures jobs { (m : ℕ) → find_job self.new.entries m ≡ (if number == m then Some job else find_job self.old.entries m) }
         ensures len { length self.new.entries ≤ length self.old.entries + 1 }
     {
-        let key = self.slab.insert_reserved(Entry { number, job });
+        let key = self.slab.insert_reserved(Entry::new(number, job));
         let _fits = self.keys.insert(number, key);
+        enter(&mut self.slab, &mut self.ends, key, number);
     }
 
     /// Lets go of the job of a number.
@@ -179,6 +222,18 @@ impl JobMap {
         let Some(key) = self.keys.swap_remove(&number) else {
             return;
         };
+        let list = list_at(&self.slab, key);
+        leave(&mut self.slab, &mut self.ends, list, key);
         let _removed = self.slab.try_remove(key);
+    }
+
+    /// The least number above `after` of a live job that is what is asked for. Each that is stands in this list.
+    pub(crate) fn next(&self, list: usize, query: Query, after: u64) -> Option<u64>
+        requires small { list < 1025 }
+        requires listed { (live : Live) → meets query live ≡ true → stands_in live ≡ Some list }
+        ensures next { IfSome result (IsNext (meets query) after self.now.entries) }
+        ensures last { IfNone result (IsLast (meets query) after self.now.entries) }
+    {
+        find_next(&self.slab, &self.ends, list, query, after)
     }
 }

@@ -1,17 +1,21 @@
 //! What is known of one job.
 
-ghost use Rattle.std.specs.Prelude.{◌≡◌, ◌≤◌, ◌&&◌, not, ◌==◌, ◌↔◌, length, IsTrue, false, IsOk, IfOk, OnOk, OnErr, Some, None, is_some};
+ghost use Rattle.std.specs.Prelude.{◌≡◌, ◌≤◌, ◌&&◌, not, ◌==◌, ◌↔◌, length, IsTrue, false, IsOk, IfSome, ◌<◌, IfOk, OnOk, OnErr, Some, None, is_some};
 ghost use Rattle.std.specs.Option.{option_map};
 ghost use Rattle.gm_jobs.specs.Live.{Live, fresh, reported, with_listener, without_listener, place_at, is_named, is_run_by, is_orphan, is_due};
 ghost use Rattle.gm_notes.specs.Jobs.{joins};
 ghost use Rattle.gm_jobs.specs.Marks.{is_marked, sign_of};
 ghost use Rattle.gm_jobs.specs.Tables.{Room};
 ghost use Rattle.gm_jobs.specs.Changes.{changed, takes_memory};
+ghost use Rattle.gm_jobs.specs.Links.{stands_in};
 
 use crate::marks::Sign;
 use gm_notes::{Place, Priority};
 use std::alloc::{AllocError, Global};
 use std::marker::Model;
+
+/// The list in which the orphans stand, after those of the jobs that run.
+pub(crate) const ORPHANS: usize = 1024;
 
 /// A job to be made: its function by number, and who listens to it from the start, if anybody does.
 #[derive(Clone, Copy)]
@@ -164,6 +168,24 @@ impl Job {
         ensures { result ≡ is_orphan self.now }
     {
         self.slot.is_none() && !self.kept && self.listeners.is_empty()
+    }
+
+    /// The list in which it stands, if there is one: of the lists for the slots, which some slots share, or that of the
+    /// orphans.
+    pub(crate) fn list(&self) -> Option<usize>
+        ensures list { result ≡ stands_in self.now }
+        ensures within { IfSome result (λ l. l < 1025) }
+    {
+        match self.slot {
+            Some(slot) => Some(slot as usize % ORPHANS),
+            None => {
+                if self.is_orphan() {
+                    Some(ORPHANS)
+                } else {
+                    None
+                }
+            }
+        }
     }
 
     pub(crate) fn is_marked(&self) -> bool

@@ -12,7 +12,7 @@ ghost use Rattle.gm_jobs.specs.Uniques.{Reached};
 
 use crate::by_number::JobMap;
 use crate::dues::{Dues, Known};
-use crate::job::{Change, Job, NewJob, Space, joins};
+use crate::job::{Change, Job, NewJob, ORPHANS, Space, joins};
 use crate::listening::Listening;
 use crate::marks::{Marks, Query, Sign};
 use crate::uniques::{Uniques, digest};
@@ -180,7 +180,7 @@ impl Jobs {
             seed,
             first: first_job,
             next: Some(first_job),
-            jobs: JobMap::new(alloc, &seed),
+            jobs: JobMap::new(alloc, &seed)?,
             uniques: Uniques::new(alloc),
             marks: Marks::new(alloc),
             listening: Listening::new(alloc),
@@ -364,7 +364,8 @@ impl Jobs {
         ensures next { IfSome result (IsNext (is_run_by slot) after self.now.live) }
         ensures last { IfNone result (IsLast (is_run_by slot) after self.now.live) }
     {
-        self.marks.next(&self.jobs, Query::RunBy(slot), after)
+        self.jobs
+            .next(slot as usize % ORPHANS, Query::RunBy(slot), after)
     }
 
     /// The least number above `after` of a job that waits though nobody wants it: it isn't kept, and nobody
@@ -373,7 +374,7 @@ impl Jobs {
         ensures next { IfSome result (IsNext is_orphan after self.now.live) }
         ensures last { IfNone result (IsLast is_orphan after self.now.live) }
     {
-        self.marks.next(&self.jobs, Query::Orphan, after)
+        self.jobs.next(ORPHANS, Query::Orphan, after)
     }
 
     /// The least number above `after` of a running job whose deadline is reached.

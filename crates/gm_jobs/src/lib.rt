@@ -11,6 +11,7 @@ mod dues;
 mod job;
 mod jobs;
 mod listening;
+mod lists;
 mod marks;
 mod roll;
 mod uniques;

@@ -9,6 +9,7 @@ ghost use Rattle.gm_jobs.specs.Queries.{meets, may_meet};
 ghost use Rattle.gm_jobs.specs.Roll.{Has};
 
 use crate::by_number::JobMap;
+use crate::job::Job;
 use crate::roll::Roll;
 use std::alloc::{AllocError, Global};
 use std::marker::Model;
@@ -110,16 +111,23 @@ impl Query {
         }
     }
 
+    /// Whether a job is what is asked for.
+    pub(crate) fn is_met(self, job: &Job) -> bool
+        ensures { result ≡ meets self job.now }
+    {
+        match self {
+            Query::RunBy(slot) => job.is_run_by(slot),
+            Query::Orphan => job.is_orphan(),
+            Query::Due(now) => job.is_due(now),
+        }
+    }
+
     /// Whether the job of a number is live and what is asked for.
     pub(crate) fn meets(self, jobs: &JobMap, number: u64) -> bool
         ensures { result ≡ passes (meets self) (find_job jobs.now.entries number) }
     {
         match jobs.get(number) {
-            Some(job) => match self {
-                Query::RunBy(slot) => job.is_run_by(slot),
-                Query::Orphan => job.is_orphan(),
-                Query::Due(now) => job.is_due(now),
-            },
+            Some(job) => self.is_met(job),
             None => false,
         }
     }

@@ -1,5 +1,13 @@
-use Rattle.gm_jobs.proofs.JobLemmas.{beside, marked_of}
+use Rattle.std.proofs.Common.{◌≡◌, ℕ, ◌%◌, Bool, true, Option, Some, None, ap, arith}
+use Rattle.std.proofs.lemmas.Bool.{false≢true}
+use Rattle.std.proofs.lemmas.Bool.Decides.{nat_tests}
+use Rattle.gm_jobs.specs.Live.{is_at}
+use Rattle.gm_jobs.specs.Links.{list_at}
 use Rattle.gm_jobs.proofs.jobs.Jobs.next_run_by.Goals as goal
 
-pub next-requires : goal.next-requires
-next-requires c = marked_of (beside c.self.inside) c.self.inside.jobs.entries c.self.inside.space _ c.self.invariant
+run_at : (slot : ℕ) (at : Option ℕ) (orphan : Bool) → is_at slot at ≡ true → list_at at orphan ≡ Some (slot % 1024)
+run_at slot None orphan e = absurd (false≢true e)
+run_at slot (Some c) orphan e = ap (λ i. Some (i % 1024)) (let same : c ≡ slot = grind (arith, nat_tests) in same)
+
+pub next-requires-clause-listed : goal.next-requires-clause-listed
+next-requires-clause-listed c = λ live met. run_at c.args.slot live.slot _ met
