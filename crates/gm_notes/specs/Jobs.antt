@@ -2,6 +2,7 @@
 use Rattle.std.specs.Prelude.{ℕ, ◌+◌, ◌^◌, Bool, true, false, not, ◌&&◌, ◌||◌, ◌==◌, nat_lt, if◌then◌else◌, List, [], ◌∷◌}
 use Rattle.std.specs.Prelude.{◌++◌, length, filter, find, codes, decimal, Option, Some, None}
 use Rattle.std.specs.List.{list_any}
+use Rattle.std.specs.Option.{option_map}
 use Rattle.std.specs.Str.{bytes_eq}
 use Rattle.gm_notes.specs.declared.states.Priority.{Priority}
 use Rattle.gm_notes.specs.declared.states.Priority.TheVariants.{High, Normal, Low}
@@ -186,9 +187,31 @@ abbrev pub pick_from : List Ability → List Note → Option Pick
 pick_from [] notes = None
 pick_from (ability ∷ abilities) notes = first_of (waiting_for ability.function notes) ability.timeout (pick_from abilities notes)
 
--- the abilities of slot c in the order in which they are tried
+-- the function of the job that slot c was given last, since it was opened
+abbrev pub last_function : ℕ → List Note → Option (List ℕ)
+last_function c [] = None
+last_function c (Opened d addr ∷ older) = if c == d then None else last_function c older
+last_function c (Assigned n d deadline ∷ older) = if c == d then option_map (λ job. job.function) (job n older) else last_function c older
+last_function c (note ∷ older) = last_function c older
+
+-- the abilities behind the one for f
+abbrev pub behind : List ℕ → List Ability → List Ability
+behind f [] = []
+behind f (ability ∷ abilities) = if is_of f ability then abilities else behind f abilities
+
+-- the abilities up to the one for f, and that
+abbrev pub up_to : List ℕ → List Ability → List Ability
+up_to f [] = []
+up_to f (ability ∷ abilities) = if is_of f ability then ability ∷ [] else ability ∷ up_to f abilities
+
+-- in turn: those behind the one for f, and then the others up to it; as they stand, where none is for f
+abbrev pub turned : Option (List ℕ) → List Ability → List Ability
+turned None abilities = abilities
+turned (Some f) abilities = behind f abilities ++ up_to f abilities
+
+-- the abilities of slot c in the order in which they are tried: as they were added, or in turn
 abbrev pub scan : Settings → ℕ → List Note → List Ability
-scan k c notes = abilities c notes
+scan k c notes = if k.round_robin then turned (last_function c notes) (abilities c notes) else abilities c notes
 
 -- the job that a grab of slot c gets
 abbrev pub pick : Settings → ℕ → List Note → Option Pick

@@ -5,12 +5,14 @@ use Rattle.std.specs.List.{list_all}
 use Rattle.gm_notes.specs.declared.config.ConfigError.{ConfigError}
 use Rattle.gm_notes.specs.declared.config.ConfigError.TheVariants.{BadName, BadNumber, BadSlots, BadFunctions}
 
--- the name in job handles, the first job's number, and the most connections and functions at once
+-- the name in job handles, the first job's number, the most connections and functions at once, and whether a worker's
+-- functions take turns
 pub record Settings : Type 0 where
   pub name : List ℕ
   pub first_job : ℕ
   pub slots : ℕ
   pub max_functions : ℕ
+  pub round_robin : Bool
 
 -- a letter, a digit, a dot (46) or a dash (45)
 abbrev pub is_name_byte : ℕ → Bool

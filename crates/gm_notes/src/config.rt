@@ -32,14 +32,15 @@ impl ConfigError {
     }
 }
 
-/// The settings of a server: the name in job handles, the first job's number, and the most
-/// connections and functions that there may be at once.
+/// The settings of a server: the name in job handles, the first job's number, the most
+/// connections and functions that there may be at once, and whether a worker's functions take turns.
 #[derive(Debug, Drop)]
 pub struct Config {
     name: Text,
     first_job: u64,
     slots: u32,
     max_functions: u32,
+    round_robin: bool,
 }
 
 impl Model for Config {
@@ -71,15 +72,15 @@ fn is_name(name: &[u8]) -> bool
 
 impl Config {
     /// Settings with this name in job handles, this number for the first job, and at most so many
-    /// connections and functions. What is wrong is answered in the order of `ConfigError`. It takes no
-    /// memory.
+    /// connections and functions. A worker's functions don't take turns. What is wrong is answered in the
+    /// order of `ConfigError`. It takes no memory.
     pub fn new(
         name: Vec<u8>,
         first_job: u64,
         slots: u32,
         max_functions: u32,
     ) -> Result<Config, ConfigError>
-        ensures { let asked : Settings = record { name = name.items; first_job = first_job; slots = slots; max_functions = max_functions } in
+        ensures { let asked : Settings = record { name = name.items; first_job = first_job; slots = slots; max_functions = max_functions; round_robin = false } in
             MatchResult result (λ config. (config ≡ asked)) (λ fault. config_fault asked ≡ Some fault) }
     {
         if !is_name(&name) {
@@ -99,7 +100,30 @@ impl Config {
             first_job,
             slots,
             max_functions,
+            round_robin: false,
         })
+    }
+
+    /// The same settings, but that a worker's functions take turns, or don't: with it a grab tries the functions
+    /// that the worker added after the one of its last job, then the others in their order, and that one last.
+    /// It takes no memory.
+    pub fn with_round_robin(self, on: bool) -> Config
+        ensures { result ≡ record self { round_robin = on } }
+    {
+        Config {
+            name: self.name,
+            first_job: self.first_job,
+            slots: self.slots,
+            max_functions: self.max_functions,
+            round_robin: on,
+        }
+    }
+
+    /// Whether a worker's functions take turns.
+    pub fn round_robin(&self) -> bool
+        ensures { result ≡ self.now.round_robin }
+    {
+        self.round_robin
     }
 
     /// The name in job handles.
