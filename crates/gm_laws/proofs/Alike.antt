@@ -12,7 +12,7 @@ use Rattle.gm_notes.specs.Notes.{phase, says_phase, is_asleep, moment, says_mome
 use Rattle.gm_notes.specs.Jobs.{Ability, job_state, says_job_state, is_empty, job, says_job, made, is_kept, says_kept}
 use Rattle.gm_notes.specs.Jobs.{listeners, is_wanted, report, says_report, deadline, says_deadline, functions, is_mentioned}
 use Rattle.gm_notes.specs.Jobs.{limit, says_limit, abilities, is_able, as_they_came, waiting_for, pick_from, pick, joined}
-use Rattle.gm_notes.specs.Jobs.{next_number, total, is_live_of, is_live_named, is_queued, job_of_handle, scan}
+use Rattle.gm_notes.specs.Jobs.{next_number, total, is_live_of, is_live_named, is_queued, job_of_handle, last_function, scan}
 use Rattle.gm_notes.specs.JobStates.{is_waiting, is_running}
 use Rattle.gm_notes.specs.Submissions.{is_one_too_many, is_full}
 use Rattle.gm_notes.specs.Workers.{hearers}
@@ -39,6 +39,7 @@ pub record Alike (l m : List Note) : Type 0 where
   pub known : functions l ≡ functions m
   pub most : (f : List ℕ) → limit f l ≡ limit f m
   pub can : (c : ℕ) → abilities c l ≡ abilities c m
+  pub last : (c : ℕ) → last_function c l ≡ last_function c m
   pub came : as_they_came l ≡ as_they_came m
 
 -- ---- one note more
@@ -69,6 +70,11 @@ can_more c (notes.Can d f t) l m e = rw e refl
 can_more c (notes.Cant d f) l m e = rw e refl
 can_more c note l m e = e
 
+last_more : (c : ℕ) (note : Note) (l m : List Note) → ((n : ℕ) → job n l ≡ job n m) → last_function c l ≡ last_function c m → last_function c (note ∷ l) ≡ last_function c (note ∷ m)
+last_more c (notes.Opened d addr) l m what e = rw e refl
+last_more c (notes.Assigned n d deadline) l m what e = rw e (rw (what n) refl)
+last_more c note l m what e = e
+
 came_more : (note : Note) (l m : List Note) → as_they_came l ≡ as_they_came m → as_they_came (note ∷ l) ≡ as_they_came (note ∷ m)
 came_more (notes.Made n f p u body) l m e = rw e refl
 came_more (notes.Returned n) l m e = rw e refl
@@ -94,6 +100,7 @@ alike_more note l m a = record {
   known = known_more note l m a.known;
   most = λ f. ap (unwrap_or (says_limit f note)) (a.most f);
   can = λ c. can_more c note l m (a.can c);
+  last = λ c. last_more c note l m a.what (a.last c);
   came = came_more note l m a.came;
 }
 
@@ -122,6 +129,7 @@ alike_taken c l m a asleep = record {
   known = a.known;
   most = a.most;
   can = a.can;
+  last = a.last;
   came = a.came;
 }
 
@@ -145,6 +153,7 @@ alike_untaken c l asleep = record {
   known = refl;
   most = λ f. refl;
   can = λ d. refl;
+  last = λ d. refl;
   came = refl;
 }
 
@@ -210,8 +219,11 @@ module _ {l m : List Note} (a : Alike l m) where
   pick_from_alike [] = refl
   pick_from_alike (ability ∷ abilities) = let first = waiting_alike ability.function in let rest = pick_from_alike abilities in cc
 
+  scan_alike : (k : Settings) (c : ℕ) → scan k c l ≡ scan k c m
+  scan_alike k c = simp (a.can, a.last)
+
   pub pick_alike : (k : Settings) (c : ℕ) → pick k c l ≡ pick k c m
-  pick_alike k c = ap (λ can. pick_from can l) (a.can c) ∙ pick_from_alike (scan k c m)
+  pick_alike k c = ap (λ can. pick_from can l) (scan_alike k c) ∙ pick_from_alike (scan k c m)
 
   pub statuses_alike : (k : Settings) → status_rows k l ≡ status_rows k m
   statuses_alike k = simp (live_alike, a.place, a.what, a.numbers, a.known, a.opened, a.can)

@@ -15,4 +15,6 @@ mod SideBySide
 mod Sleepers
 pub mod StepLaws
 pub mod StepsKeep
+pub mod TurnLaws
+mod Turned
 mod Waiting

@@ -152,13 +152,13 @@ module _ (k : Settings) (s : Step) (start : Past) (history : History k start.not
 
 -- ---- a grab gets its pick
 
-assigned_notes : (k : Settings) (c : ℕ) (uniq : Bool) (n : ℕ) (o : Option Job) (past : Past) → (tell_assigned k c uniq n o past).notes ≡ past.notes
+pub assigned_notes : (k : Settings) (c : ℕ) (uniq : Bool) (n : ℕ) (o : Option Job) (past : Past) → (tell_assigned k c uniq n o past).notes ≡ past.notes
 assigned_notes k c uniq n None past = refl
 assigned_notes k c uniq n (Some job) past = refl
 
-given_out : (k : Settings) (c : ℕ) (uniq : Bool) (o : Option Pick) (found : Pick) (past : Past) → o ≡ Some found → job_state found.job (give_out k c uniq o past).notes ≡ states.Running c
-given_out k c uniq None found past is = absurd cc
-given_out k c uniq (Some other) found past is =
+pub pick_runs : (k : Settings) (c : ℕ) (uniq : Bool) (o : Option Pick) (found : Pick) (past : Past) → o ≡ Some found → job_state found.job (give_out k c uniq o past).notes ≡ states.Running c
+pick_runs k c uniq None found past is = absurd cc
+pick_runs k c uniq (Some other) found past is =
     let same = same_Some other found is in
     let n = other.job in
     let runs : job_state n (notes.Assigned n c (deadline_after (moment past.notes) other.timeout) ∷ past.notes) ≡ states.Running c = rw (same_number n) refl in
@@ -167,8 +167,8 @@ given_out k c uniq (Some other) found past is =
 
 grabbed : (k : Settings) (c : ℕ) (o : Option Kind) (found : Pick) (start : Past) → is_one_of is_grab o ≡ true → pick k c start.notes ≡ Some found → job_state found.job (packet_of k c o [] start).notes ≡ states.Running c
 grabbed k c None found start e is = absurd cc
-grabbed k c (Some GrabJob) found start e is = given_out k c false (pick k c start.notes) found (wake_itself c start) is
-grabbed k c (Some GrabJobUniq) found start e is = given_out k c true (pick k c start.notes) found (wake_itself c start) is
+grabbed k c (Some GrabJob) found start e is = pick_runs k c false (pick k c start.notes) found (wake_itself c start) is
+grabbed k c (Some GrabJobUniq) found start e is = pick_runs k c true (pick k c start.notes) found (wake_itself c start) is
 grabbed k c (Some kind) found start e is = absurd cc
 
 taken_is : (t : Bool) (after before : Past) → t ≡ true → unless (unless_not_open t) after before ≡ after

@@ -6,4 +6,5 @@ pub mod JobRows
 pub mod Laws
 pub mod LineRows
 pub mod RowWords
+pub mod Turns
 pub mod WorkerRows

@@ -1,6 +1,6 @@
 -- The words that rows are written in.
 use Prim.Native.String.{String}
-use Rattle.std.specs.Prelude.{◌≡◌, ℕ, Bool, List, [], ◌∷◌, ◌++◌, reverse, filter, codes, Some, None}
+use Rattle.std.specs.Prelude.{◌≡◌, ℕ, Bool, true, false, List, [], ◌∷◌, ◌++◌, reverse, filter, codes, Some, None}
 use Rattle.std.specs.List.{join_with_byte, flat_map}
 use Rattle.gm_packet.specs.Answers.{Answer, answer_packet}
 use Rattle.gm_packet.specs.Answers as writing
@@ -20,10 +20,15 @@ use Rattle.gm_notes.specs.Steps.{Step, Open, Packet, Line, refusal, run, done}
 -- ---- settings
 
 abbrev pub settings : ℕ → ℕ → ℕ → Settings
-settings first slots functions = record { name = codes "gmd"; first_job = first; slots = slots; max_functions = functions }
+settings first slots functions =
+    record { name = codes "gmd"; first_job = first; slots = slots; max_functions = functions; round_robin = false }
 
 abbrev pub defaults : Settings
 defaults = settings 1 64 65536
+
+-- a worker's functions take turns
+abbrev pub in_turn : Settings
+in_turn = record defaults { round_robin = true }
 
 abbrev pub from_the_last : Settings
 from_the_last = settings 18446744073709551615 64 65536

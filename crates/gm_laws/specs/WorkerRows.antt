@@ -2,7 +2,7 @@
 use Rattle.std.specs.Prelude.{true, false, [], ◌∷◌, ◌++◌}
 use Rattle.gm_notes.specs.Steps.{Close, Tick, Took, Withdrew}
 use Rattle.gm_notes.specs.declared.event.ApplyError.TheVariants.{NotOpen, NotOwed}
-use Rattle.gm_laws.specs.RowWords.{defaults, four_slots, connect, says, can_do, cant_do, reset_abilities, pre_sleep}
+use Rattle.gm_laws.specs.RowWords.{defaults, in_turn, four_slots, connect, says, can_do, cant_do, reset_abilities, pre_sleep}
 use Rattle.gm_laws.specs.RowWords.{submit_job, grab_job, work_complete, get_status, submit_job_bg, submit_job_high}
 use Rattle.gm_laws.specs.RowWords.{can_do_timeout, grab_job_uniq, line, created, no_job, assigned, assigned_uniq, completed}
 use Rattle.gm_laws.specs.RowWords.{failed, status, error, Plays, Owes, Refuses}
@@ -16,6 +16,27 @@ AbilityOrder =
     ∷ grab_job 1 ∷ []) (
     created 0 "H:gmd:1" ∷ created 0 "H:gmd:2" ∷ created 0 "H:gmd:3" ∷ created 0 "H:gmd:4" ∷ assigned 1 "H:gmd:2" "g" "2"
     ∷ assigned 1 "H:gmd:1" "f" "1" ∷ assigned 1 "H:gmd:3" "f" "3" ∷ assigned 1 "H:gmd:4" "g" "4" ∷ [])
+
+-- with round-robin on, a grab goes on behind the function of the last job; without it, it begins with the first
+abbrev pub RoundRobin : Type 0
+RoundRobin =
+    let steps =
+    connect ∷ connect ∷ submit_job_bg 0 "a" "-" "1" ∷ submit_job_bg 0 "a" "-" "2" ∷ submit_job_bg 0 "b" "-" "3" ∷ can_do 1 "a"
+    ∷ can_do 1 "b" ∷ grab_job 1 ∷ grab_job 1 ∷ grab_job 1 ∷ [] in
+    let accepted =
+    created 0 "H:gmd:1" ∷ created 0 "H:gmd:2" ∷ created 0 "H:gmd:3" ∷ [] in
+    Plays in_turn steps (accepted ++ assigned 1 "H:gmd:1" "a" "1" ∷ assigned 1 "H:gmd:3" "b" "3" ∷ assigned 1 "H:gmd:2" "a" "2" ∷ [])
+    × Plays defaults steps (accepted ++ assigned 1 "H:gmd:1" "a" "1" ∷ assigned 1 "H:gmd:2" "a" "2" ∷ assigned 1 "H:gmd:3" "b" "3" ∷ [])
+
+-- a new connection begins with its first function, whatever its slot was given before
+abbrev pub RoundRobinAnew : Type 0
+RoundRobinAnew =
+    Plays in_turn (
+    connect ∷ connect ∷ submit_job_bg 0 "a" "-" "1" ∷ submit_job_bg 0 "b" "-" "2" ∷ submit_job_bg 0 "a" "-" "3" ∷ can_do 1 "a"
+    ∷ can_do 1 "b" ∷ grab_job 1 ∷ work_complete 1 "H:gmd:1" "x" ∷ Close 1 ∷ connect ∷ can_do 1 "a" ∷ can_do 1 "b" ∷ grab_job 1
+    ∷ []) (
+    created 0 "H:gmd:1" ∷ created 0 "H:gmd:2" ∷ created 0 "H:gmd:3" ∷ assigned 1 "H:gmd:1" "a" "1"
+    ∷ assigned 1 "H:gmd:3" "a" "3" ∷ [])
 
 -- a grab gets only what the worker can do: not what it can't do any more, nor what another can
 abbrev pub OnlyItsFunctions : Type 0

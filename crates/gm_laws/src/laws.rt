@@ -6,6 +6,7 @@ ghost use Rattle.gm_laws.specs.History.{History};
 ghost use Rattle.gm_laws.specs.Laws.{AfterAnySteps, AreNumbers, AreSlots, HavePlaces, AreOne, StayGone, AllIsSent, BytesArrive};
 ghost use Rattle.gm_laws.specs.Laws.{InEachStep, NotesAreCaused, DiscardsTheUnwanted, EndsWithItsWorker, GivesThePick};
 ghost use Rattle.gm_laws.specs.Laws.{GrabsGetThePick, SaysNoJobWhereNoneIs, OnlyDrainsTake, MayBeTakenLater};
+ghost use Rattle.gm_laws.specs.Turns.{TurnsAreFair};
 ghost use Rattle.gm_laws.specs.Between.{ListenersAreOpen, RunnersAreOpen, NoWaitingJobIsOrphaned, NoOneSleepsBesideWork, SleepersAreOpen};
 
 /// Every note of the past was allowed when it was added: only a waiting job was given out, and only to whose
@@ -85,6 +86,14 @@ pub fn gives_the_pick()
 /// A grab of a slot that takes units gets its pick: the job runs there.
 pub fn grabs_get_the_pick()
     ensures { GrabsGetThePick }
+{}
+
+/// With round-robin on, the functions of a worker take turns: between two grabs that give it jobs of one function it
+/// is given a job of each other of its functions, if one waits each time that it is given a job, and if its
+/// abilities stay as they are. Where jobs of both wait all the time, it is given just one of the other in between:
+/// two would have one of the first between them, by the same law.
+pub fn turns_are_fair()
+    ensures { TurnsAreFair }
 {}
 
 /// NO_JOB is queued only for a grab, and only where there is no pick.

@@ -5,8 +5,9 @@ ghost use Rattle.gm_laws.specs.JobRows.{Priorities, SixPriorities, SixKeepings, 
 ghost use Rattle.gm_laws.specs.JobRows.{JoiningKeys, JoinsRunning, EndedJobs, OnlyItsWorker, Progress, ReportKept};
 ghost use Rattle.gm_laws.specs.JobRows.{ExceptionsOption, DataWithNul, QueueLimit, LimitCounts, FunctionLimit, LastNumber};
 ghost use Rattle.gm_laws.specs.JobRows.{RefusalOrder, FunctionNames, Handles, Places};
-ghost use Rattle.gm_laws.specs.WorkerRows.{AbilityOrder, OnlyItsFunctions, QueueOrder, OneWake, OneWakeThen, AllWake};
-ghost use Rattle.gm_laws.specs.WorkerRows.{OnlyAbleWake, WorkBeforeSleep, WorkBeforeAbility, OnlyItsWork, WorkBeforeGrab};
+ghost use Rattle.gm_laws.specs.WorkerRows.{AbilityOrder, RoundRobin, RoundRobinAnew, OnlyItsFunctions, QueueOrder, OneWake};
+ghost use Rattle.gm_laws.specs.WorkerRows.{OneWakeThen, AllWake, OnlyAbleWake, WorkBeforeSleep, WorkBeforeAbility};
+ghost use Rattle.gm_laws.specs.WorkerRows.{OnlyItsWork, WorkBeforeGrab};
 ghost use Rattle.gm_laws.specs.WorkerRows.{GrabStirs, StaleNoop, StillOwed, WithdrawnNoop, TakenNoop, Deadline, NoDeadline};
 ghost use Rattle.gm_laws.specs.WorkerRows.{TimeLimits, TimeStands, EdgesOfTime, ExpiredTogether, DeadlineForgotten};
 ghost use Rattle.gm_laws.specs.ConnectionRows.{LeastSlot, MadeJobs, SlotsSpent, ClosedSlots, NothingInherited};
@@ -136,6 +137,17 @@ pub fn places()
 /// nothing.
 pub fn ability_order()
     ensures { AbilityOrder }
+{}
+
+/// With round-robin on, a grab goes on behind the function of the last job; without it, it begins with the
+/// first.
+pub fn round_robin()
+    ensures { RoundRobin }
+{}
+
+/// A new connection begins with its first function, whatever its slot was given before.
+pub fn round_robin_anew()
+    ensures { RoundRobinAnew }
 {}
 
 /// A grab gets only what the worker can do: not what it can't do any more, nor what another can.

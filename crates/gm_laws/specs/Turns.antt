@@ -1,0 +1,47 @@
+-- With round-robin on, the functions of a worker take turns.
+use Rattle.std.specs.Prelude.{◌≡◌, ◌⊎◌, ℕ, true, false, List, [], ◌∷◌, ◌++◌}
+use Rattle.std.specs.Str.{bytes_eq}
+use Rattle.gm_notes.specs.Settings.{Settings}
+use Rattle.gm_notes.specs.Jobs.{job_state, job, is_job_of, abilities, is_able, waiting_for, is_empty}
+use Rattle.gm_notes.specs.JobStates as states
+use Rattle.gm_notes.specs.Steps.{Step, run}
+
+-- ---- what a step does after earlier ones
+
+-- it gives slot c a job of function f: one that waited before the step runs at the slot after it
+abbrev pub Gives : Settings → ℕ → List ℕ → List Step → Step → Type 0
+Gives k c f earlier s =
+    (n : ℕ) × (is_job_of f (job n (run k earlier).notes) ≡ true)
+    × (job_state n (run k earlier).notes ≡ states.Waiting) × (job_state n (run k (s ∷ earlier)).notes ≡ states.Running c)
+
+-- if it gives slot c a job, then a job of function h waits before it
+abbrev pub FindsWaiting : Settings → ℕ → List ℕ → List Step → Step → Type 0
+FindsWaiting k c h earlier s = (g : List ℕ) → Gives k c g earlier s → is_empty (waiting_for h (run k earlier).notes) ≡ false
+
+-- it leaves the abilities of slot c as they were; a closing takes them all
+abbrev pub LeavesAbilities : Settings → ℕ → List Step → Step → Type 0
+LeavesAbilities k c earlier s = abilities c (run k (s ∷ earlier)).notes ≡ abilities c (run k earlier).notes
+
+-- ---- what newer steps do after earlier ones, the newest first
+
+-- P holds of each of them
+abbrev pub Each : (List Step → Step → Type 0) → List Step → List Step → Type 0
+Each P [] earlier = Unit {0}
+Each P (s ∷ newer) earlier = P (newer ++ earlier) s × Each P newer earlier
+
+-- P holds of one of them
+abbrev pub One : (List Step → Step → Type 0) → List Step → List Step → Type 0
+One P [] earlier = ⊥
+One P (s ∷ newer) earlier = P (newer ++ earlier) s ⊎ One P newer earlier
+
+-- between two steps that give slot c a job of function f, one of the steps gives it a job of h, another of its functions:
+-- if its abilities stay as they are, and a job of h waits each time that it is given a job
+abbrev pub TurnsAreFair : Type 0
+TurnsAreFair = (k : Settings) (c : ℕ) (f h : List ℕ) (before between : List Step) (first again : Step) →
+    let start = first ∷ before in
+    k.round_robin ≡ true →
+    bytes_eq f h ≡ false → is_able c h (run k start).notes ≡ true →
+    Gives k c f before first → Gives k c f (between ++ start) again →
+    Each (LeavesAbilities k c) between start →
+    Each (FindsWaiting k c h) (again ∷ between) start →
+    One (Gives k c h) between start
