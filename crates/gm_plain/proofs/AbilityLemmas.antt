@@ -1,13 +1,13 @@
 -- What notes say of abilities and queues, note by note.
-use Rattle.std.proofs.Common.{◌≡◌, ℕ, zero, suc, ◌<◌, Bool, true, false, cond, List, [], ◌∷◌, ◌++◌, length, map, take, drop, get_or, set}
+use Rattle.std.proofs.Common.{◌≡◌, ℕ, suc, ◌+◌, ◌<◌, ◌≤◌, Bool, true, false, cond, List, [], ◌∷◌, ◌++◌, length, map, drop, get_or, set}
 use Rattle.std.proofs.Common.{filter, find, Option, Some, None, refl, sym, ap, ap₂, subst, ◌∙◌, arith}
-use Rattle.std.specs.Prelude.{not, ◌&&◌, ◌||◌, ◌==◌, unwrap_or}
-use Rattle.std.specs.List.{list_any}
+use Rattle.std.specs.Prelude.{not, ◌&&◌, ◌||◌, ◌==◌, nat_lt, position, unwrap_or}
+use Rattle.std.specs.List.{list_any, position_or_len}
 use Rattle.std.specs.Option.{option_map}
 use Rattle.std.specs.Str.{bytes_eq}
 use Rattle.std.proofs.Math.Seq.{drop-cons}
-use Rattle.std.proofs.lemmas.List.{map-set, get_or_default}
 use Rattle.std.proofs.lemmas.Bool.Decides.{nat_tests}
+use borrow.Author.Tests.{ltb-true, ltb-false}
 use Rattle.std.proofs.lemmas.Slice.Eq.{bytes_eq-Decides}
 use Rattle.gm_notes.specs.declared.note.Note.{Note}
 use Rattle.gm_notes.specs.Notes.{last_said}
@@ -194,13 +194,68 @@ pick_later ability abilities notes e = go (waiting_for ability.function notes) e
 
 -- ---- an ability in its place
 
-pub put_found : {V : Type 0} (f : V → Ability) (items : List V) (i : ℕ) (x new : V) → i < length items → x ≡ get_or items i x
-    → bytes_eq (f x).function (f new).function ≡ true
-    → map f (set items i new) ≡ map f (take i items) ++ put (f new).function (f new).timeout (map f (drop i items))
-put_found f [] i x new lt is e = absurd (omega (arith, lt))
-put_found f (y ∷ items) zero x new lt is e =
-    let here : bytes_eq (f y).function (f new).function ≡ true = subst (λ z. bytes_eq (f z).function (f new).function ≡ true) is e in rw here refl
-put_found f (y ∷ items) (suc i) x new lt is e = ap (λ l. f y ∷ l) (put_found f items i x new (omega (arith, lt)) is e)
+-- how many abilities stand before the one for f
+abbrev pub before : {V : Type 0} → (V → Ability) → List ℕ → List V → ℕ
+before view f items = position_or_len (λ x. is_of f (view x)) items
+
+position_at : (t : Bool) (n len i : ℕ) → nat_lt n len ≡ t → Some i ≡ cond t (Some n) None → (i ≡ n) × (n < len)
+position_at true n len i lt is = (cc, ltb-true n len lt)
+position_at false n len i lt is = absurd cc
+
+position_none : (t : Bool) (n len : ℕ) → nat_lt n len ≡ t → (let o : Option ℕ = None in o) ≡ cond t (Some n) None → len ≤ n
+position_none true n len lt is = absurd cc
+position_none false n len lt is = ltb-false n len lt
+
+-- a position is the number of those before it
+pub there : {V : Type 0} (view : V → Ability) (f : List ℕ) (items : List V) (i : ℕ) → Some i ≡ position (λ x. is_of f (view x)) items
+    → (i ≡ before view f items) × (before view f items < length items)
+there view f items i is = position_at (nat_lt (before view f items) (length items)) (before view f items) (length items) i refl is
+
+-- where there is none, all stand before it
+pub nowhere : {V : Type 0} (view : V → Ability) (f : List ℕ) (items : List V) → (let o : Option ℕ = None in o) ≡ position (λ x. is_of f (view x)) items
+    → length items ≤ before view f items
+nowhere view f items is = position_none (nat_lt (before view f items) (length items)) (before view f items) (length items) refl is
+
+set_next : (n : ℕ) (x new : Ability) (rest : List Ability) → set (x ∷ rest) (1 + n) new ≡ x ∷ set rest n new
+set_next n x new rest = let e : 1 + n ≡ suc n = omega arith in rw e refl
+
+put_there : {V : Type 0} (view : V → Ability) (f : List ℕ) (t : ℕ) (items : List V) → before view f items < length items
+    → put f t (map view items) ≡ set (map view items) (before view f items) (record { function = f; timeout = t })
+put_there view f t [] lt = absurd (omega (arith, lt))
+put_there view f t (x ∷ items) lt = by (is_of f (view x)) (put_there view f t items) lt
+  where
+    by : (here : Bool) → (before view f items < length items → put f t (map view items) ≡ set (map view items) (before view f items) (record { function = f; timeout = t }))
+        → cond (not here) (1 + before view f items) 0 < length (x ∷ items)
+        → cond here (record { function = f; timeout = t } ∷ map view items) (view x ∷ put f t (map view items))
+        ≡ set (view x ∷ map view items) (cond (not here) (1 + before view f items) 0) (record { function = f; timeout = t })
+    by true rest below = refl
+    by false rest below =
+        ap (λ l. view x ∷ l) (rest (omega (arith, below)))
+        ∙ sym (set_next (before view f items) (view x) (record { function = f; timeout = t }) (map view items))
+
+put_last : {V : Type 0} (view : V → Ability) (f : List ℕ) (t : ℕ) (items : List V) → length items ≤ before view f items
+    → put f t (map view items) ≡ map view items ++ record { function = f; timeout = t } ∷ []
+put_last view f t [] le = refl
+put_last view f t (x ∷ items) le = by (is_of f (view x)) (put_last view f t items) le
+  where
+    by : (here : Bool) → (length items ≤ before view f items → put f t (map view items) ≡ map view items ++ record { function = f; timeout = t } ∷ [])
+        → length (x ∷ items) ≤ cond (not here) (1 + before view f items) 0
+        → cond here (record { function = f; timeout = t } ∷ map view items) (view x ∷ put f t (map view items))
+        ≡ view x ∷ (map view items ++ record { function = f; timeout = t } ∷ [])
+    by true rest above = absurd (omega (arith, above))
+    by false rest above = ap (λ l. view x ∷ l) (rest (omega (arith, above)))
+
+-- an ability for a function that has one takes its place
+pub put_at_position : {V : Type 0} (view : V → Ability) (f : List ℕ) (t : ℕ) (items : List V) (i : ℕ) → Some i ≡ position (λ x. is_of f (view x)) items
+    → put f t (map view items) ≡ set (map view items) i (record { function = f; timeout = t })
+put_at_position view f t items i is =
+    let found = there view f items i is in
+    put_there view f t items found.1 ∙ ap (λ n. set (map view items) n (record { function = f; timeout = t })) (sym found.0)
+
+-- and any other goes to the end
+pub put_at_end : {V : Type 0} (view : V → Ability) (f : List ℕ) (t : ℕ) (items : List V) → (let o : Option ℕ = None in o) ≡ position (λ x. is_of f (view x)) items
+    → put f t (map view items) ≡ map view items ++ record { function = f; timeout = t } ∷ []
+put_at_end view f t items is = put_last view f t items (nowhere view f items is)
 
 kept_at : {V : Type 0} (f : V → Ability) (P : Ability → Bool) (x : V) (items : List V) (t : Bool) → map f (filter (λ y. P (f y)) items) ≡ filter P (map f items)
     → map f (cond t (x ∷ filter (λ y. P (f y)) items) (filter (λ y. P (f y)) items)) ≡ cond t (f x ∷ filter P (map f items)) (filter P (map f items))
@@ -222,11 +277,3 @@ pub pick_at : {V : Type 0} (f : V → Ability) (items : List V) (i : ℕ) (d : V
     → pick_from (map f (drop i items)) notes ≡ Some (record { job = n; timeout = (f (get_or items i d)).timeout })
 pick_at f items i d notes n lt e =
     ap (λ l. pick_from (map f l) notes) (drop-cons items i d lt) ∙ pick_here (f (get_or items i d)) (map f (drop (suc i) items)) notes n (sym e)
-
--- where an ability for the same function stands, another takes its place
-pub put_in_place : {V : Type 0} (f : V → Ability) (items : List V) (i : ℕ) (d new : V) (all : List Ability) → i < length items
-    → bytes_eq (f (get_or items i d)).function (f new).function ≡ true
-    → all ≡ map f (take i items) ++ put (f new).function (f new).timeout (map f (drop i items)) → all ≡ set (map f items) i (f new)
-put_in_place f items i d new all lt e is =
-    let same : get_or items i d ≡ get_or items i (get_or items i d) = get_or_default items i d (get_or items i d) lt in
-    is ∙ (sym (put_found f items i (get_or items i d) new lt same e) ∙ map-set f items i new)

@@ -13,4 +13,5 @@ pub mod Picks
 pub mod ServerLemmas
 pub mod ServerLoops
 pub mod TakingBack
+pub mod Turns
 pub mod Wakings

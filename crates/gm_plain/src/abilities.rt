@@ -1,15 +1,15 @@
 //! What notes say of abilities and queues, found by searching them.
 
-ghost use Rattle.std.specs.Prelude.{◌≡◌, ◌<◌, true, map, not, ◌&&◌, [], ◌∷◌, ◌++◌, length, slice_set, find, IfOk, OnOk, IfSome, IfNone};
-ghost use Rattle.gm_notes.specs.Jobs.{job_state, job, put, abilities, is_able, as_they_came, is_queued, waiting_for, is_empty, pick};
-ghost use Rattle.gm_notes.specs.Jobs.{pick_from, able};
+ghost use Rattle.std.specs.Prelude.{◌≡◌, Some, true, map, not, ◌&&◌, position, find, IfOk, OnOk, IfSome};
+ghost use Rattle.std.specs.Option.{option_copied};
+ghost use Rattle.gm_notes.specs.Jobs.{job_state, job, is_of, put, abilities, is_able, as_they_came, is_queued, waiting_for, is_empty, pick};
+ghost use Rattle.gm_notes.specs.Jobs.{pick_from, able, last_function, turned, scan};
 ghost use Rattle.gm_notes.specs.JobStates.{is_waiting};
 ghost use Rattle.gm_notes.specs.Notes.{is_open, phase, is_asleep};
 ghost use Rattle.gm_plain.specs.Searches.{says_able, ability_of, abilities_after, order_after, head, wakes_for};
-ghost use Rattle.gm_notes.specs.Settings.{Settings};
 
 use crate::connections::{is_asleep, is_open};
-use crate::jobs::{is_job_with, is_waiting, job};
+use crate::jobs::{is_job_with, is_waiting, job, job_in};
 use crate::log::Log;
 use gm_notes::{Config, Note, Pick, Priority};
 use std::alloc::{AllocError, Global};
@@ -80,20 +80,13 @@ pub struct Ability<'a> {
     pub timeout: u32,
 }
 
-/// Where an ability for the same function stands.
-fn position(abilities: &[Ability<'_>], ability: &Ability<'_>) -> Option<usize>
-    ensures some { IfSome result (λ i. (i < length abilities.now)
-        × (put ability.now.function.now ability.now.timeout (map ability_of abilities.now)
-        ≡ slice_set (map ability_of abilities.now) i (ability_of ability.now))) }
-    ensures none { IfNone result (put ability.now.function.now ability.now.timeout (map ability_of abilities.now)
-        ≡ map ability_of abilities.now ++ ability_of ability.now ∷ []) }
+/// Where the ability for a function is.
+fn position(abilities: &[Ability<'_>], function: &[u8]) -> Option<usize>
+    ensures { result ≡ position (λ ability. is_of function.now (ability_of ability)) abilities.now }
 {
-    for i in 0..abilities.len() {
-        if abilities[i].function == ability.function {
-            return Some(i);
-        }
-    }
-    None
+    abilities
+        .iter()
+        .position(|ability| ability.function == function)
 }
 
 /// An ability that stands keeps its place and takes the new timeout; another goes to the end.
@@ -101,7 +94,7 @@ fn put<'a>(abilities: &mut Vec<Ability<'a>>, ability: Ability<'a>) -> Result<(),
     ensures { OnOk result (map ability_of abilities.new.items
         ≡ put ability.entry.function.now ability.entry.timeout (map ability_of abilities.old.items)) }
 {
-    match position(abilities, &ability) {
+    match position(abilities, ability.function) {
         Some(i) => abilities[i] = ability,
         None => abilities.push(ability)?,
     }
@@ -248,12 +241,65 @@ fn pick_from(log: &Log, jobs: &[u64], abilities: &[Ability<'_>]) -> Option<Pick>
     None
 }
 
+/// The function of the job that a slot was given last, since it was opened.
+fn last_function(log: &Log, slot: u32) -> Option<&[u8]>
+    ensures { option_copied result ≡ last_function slot log.now.notes }
+{
+    let mut notes = log.notes();
+    while let Some((note, older)) = notes.split_last() {
+        match note {
+            // What an earlier connection in this slot did doesn't count.
+            Note::Opened { slot: c, .. } if *c == slot => return None,
+            // The job was made before it was given out.
+            Note::Assigned { job, slot: c, .. } if *c == slot => {
+                return job_in(older, *job).map(|found| found.function);
+            }
+            _ => notes = older,
+        }
+    }
+    None
+}
+
+/// Puts the abilities behind the one for a function first, so that this one comes last. Nothing changes where
+/// none is for it.
+fn turn(abilities: &mut Vec<Ability<'_>>, last: &[u8])
+    ensures { map ability_of abilities.new.items ≡ turned (Some last.now) (map ability_of abilities.old.items) }
+{
+    if let Some(i) = position(abilities, last) {
+        abilities.rotate_left(i + 1);
+    }
+}
+
+/// What the worker in a slot can do, in the order in which a grab tries it: as added, or with the function of
+/// its last job at the end.
+fn scan<'a>(
+    alloc: Global,
+    log: &'a Log,
+    config: &Config,
+    slot: u32,
+) -> Result<Vec<Ability<'a>>, AllocError>
+    ensures { IfOk result (λ found. map ability_of found.items ≡ scan config.now slot log.now.notes) }
+{
+    let mut abilities = abilities(alloc, log, slot)?;
+    if config.round_robin()
+        && let Some(last) = last_function(log, slot)
+    {
+        turn(&mut abilities, last);
+    }
+    Ok(abilities)
+}
+
 /// The job that a grab of a slot gets.
-pub fn pick(alloc: Global, log: &Log, slot: u32) -> Result<Option<Pick>, AllocError>
-    ensures value { IfOk result (λ found. (k : Settings) → found ≡ pick k slot log.now.notes) }
+pub fn pick(
+    alloc: Global,
+    log: &Log,
+    config: &Config,
+    slot: u32,
+) -> Result<Option<Pick>, AllocError>
+    ensures value { IfOk result (λ found. found ≡ pick config.now slot log.now.notes) }
     ensures waits { IfOk result (λ found. IfSome found (λ picked. is_waiting (job_state picked.job log.now.notes) ≡ true)) }
 {
-    let abilities = abilities(alloc, log, slot)?;
+    let abilities = scan(alloc, log, config, slot)?;
     let jobs = as_they_came(alloc, log)?;
     Ok(pick_from(log, &jobs, &abilities))
 }

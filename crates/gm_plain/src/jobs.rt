@@ -16,7 +16,7 @@ ghost use Rattle.gm_notes.specs.Submissions.{is_one_too_many, is_full};
 ghost use Rattle.gm_plain.specs.Searches.{said_place, says_mentioned, listeners_after, says_listening, is_listening, is_running_of};
 
 use crate::connections::moment;
-use crate::log::Log;
+use crate::log::{Log, last_said};
 use gm_actions::{JobView, Report};
 use gm_notes::{Config, Note, Place, Priority};
 use std::alloc::{AllocError, Global};
@@ -89,12 +89,19 @@ fn says_job(note: &Note, job: u64) -> Option<Option<JobView<'_>>>
     }
 }
 
+/// What the job is by these notes, the newest last.
+pub fn job_in(notes: &[Note], number: u64) -> Option<JobView<'_>>
+    ensures { option_map job_of result ≡ job number (reverse notes.now) }
+{
+    last_said(notes, None, |note| says_job(note, number))
+}
+
 /// What the job is.
 pub fn job(log: &Log, number: u64) -> Option<JobView<'_>>
     ensures value { option_map job_of result ≡ job number log.now.notes }
     ensures carried { IfSome result (λ found. IsCarried found.function.now found.unique.now found.body.now) }
 {
-    log.last_said(None, |note| says_job(note, number))
+    job_in(log.notes(), number)
 }
 
 /// What a note changes of who hears of a job.

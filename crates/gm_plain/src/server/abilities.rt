@@ -82,7 +82,7 @@ impl PlainServer {
         if !is_awake(&self.log, slot) {
             return Ok(());
         }
-        let beside = pick(self.alloc, &self.log, slot)?.is_some();
+        let beside = pick(self.alloc, &self.log, &self.config, slot)?.is_some();
         self.make_room(3)?;
         self.note(Note::Slept { slot });
         if beside {

@@ -23,7 +23,7 @@ impl PlainServer {
         requires { slot < self.old.config.slots }
         ensures { Does self.old result self.new (grab self.old.config slot with_unique) }
     {
-        match pick(self.alloc, &self.log, slot)? {
+        match pick(self.alloc, &self.log, &self.config, slot)? {
             Some(found) => self.assign(slot, found, with_unique),
             None => {
                 self.give(slot, &Response::NoJob)?;

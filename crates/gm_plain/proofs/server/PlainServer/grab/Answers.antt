@@ -16,7 +16,7 @@ returns-in-Some c =
     does_as c.assign.result (grab c.args.self.now.config c.args.slot c.args.with_unique) c.assign.ensures
     (λ p keeps.
     let found : Some c.in-Some.found ≡ pick c.args.self.now.config c.args.slot p.notes =
-    sym c.in-Some.is ∙ (c.in_ok-found.ensures.value c.args.self.now.config ∙ ap (pick c.args.self.now.config c.args.slot) keeps.notes_are) in
+    sym c.in-Some.is ∙ (c.in_ok-found.ensures.value ∙ ap (pick c.args.self.now.config c.args.slot) keeps.notes_are) in
     ap (λ (o : Option Pick). give_out c.args.self.now.config c.args.slot c.args.with_unique o (wake_itself c.args.slot p)) found)
 
 pub returns-in_ok-give-in-None : goal.returns-in_ok-give-in-None
@@ -24,5 +24,5 @@ returns-in_ok-give-in-None c =
     goes_as (grab c.args.self.now.config c.args.slot c.args.with_unique) (goes_then c.in_ok-give-in-None.ensures.does c.wake_itself.ensures.goes)
     (λ p keeps.
     let found : (let o : Option Pick = None in o) ≡ pick c.args.self.now.config c.args.slot p.notes =
-    sym c.in-None.is ∙ (c.in_ok-found.ensures.value c.args.self.now.config ∙ ap (pick c.args.self.now.config c.args.slot) keeps.notes_are) in
+    sym c.in-None.is ∙ (c.in_ok-found.ensures.value ∙ ap (pick c.args.self.now.config c.args.slot) keeps.notes_are) in
     woken_given c.args.slot no_job p ∙ ap (λ (o : Option Pick). give_out c.args.self.now.config c.args.slot c.args.with_unique o (wake_itself c.args.slot p)) found)

@@ -20,7 +20,7 @@ returns-then-beside c =
     let awake : is_awake (phase c.args.slot p.notes) ≡ true =
     ap (λ (l : List Note). is_awake (phase c.args.slot l)) (sym keeps.notes_are) ∙ (sym c.is_awake.ensures ∙ c.if-not-is_awake.false) in
     let found : is_some (pick c.args.self.now.config c.args.slot p.notes) ≡ true =
-    ap is_some (ap (pick c.args.self.now.config c.args.slot) (sym keeps.notes_are) ∙ sym (c.in_ok-pick.ensures.value c.args.self.now.config)) ∙ sym c.if-beside.ensures in
+    ap is_some (ap (pick c.args.self.now.config c.args.slot) (sym keeps.notes_are) ∙ sym c.in_ok-pick.ensures.value) ∙ sym c.if-beside.ensures in
     rw awake (beside_some c.args.slot (pick c.args.self.now.config c.args.slot p.notes) (with_note (Slept c.args.slot) p) found))
 
 pub returns-else-beside : goal.returns-else-beside
@@ -30,5 +30,5 @@ returns-else-beside c =
     let awake : is_awake (phase c.args.slot p.notes) ≡ true =
     ap (λ (l : List Note). is_awake (phase c.args.slot l)) (sym keeps.notes_are) ∙ (sym c.is_awake.ensures ∙ c.if-not-is_awake.false) in
     let found : is_some (pick c.args.self.now.config c.args.slot p.notes) ≡ false =
-    ap is_some (ap (pick c.args.self.now.config c.args.slot) (sym keeps.notes_are) ∙ sym (c.in_ok-pick.ensures.value c.args.self.now.config)) ∙ sym c.if-beside.ensures in
+    ap is_some (ap (pick c.args.self.now.config c.args.slot) (sym keeps.notes_are) ∙ sym c.in_ok-pick.ensures.value) ∙ sym c.if-beside.ensures in
     rw awake (beside_none c.args.slot (pick c.args.self.now.config c.args.slot p.notes) (with_note (Slept c.args.slot) p) found))
