@@ -2,7 +2,7 @@
 
 ghost use Rattle.std.specs.Prelude.{◌≡◌, ℕ, ◌<◌, ◌≤◌, ◌==◌, not, ◌&&◌, ◌||◌, IsTrue, IfSome, IfNone, OnOk, OnErr, [], length, slice_get};
 ghost use Rattle.gm_conns.specs.Connections.{closed, opened, shut, with_option, with_phase, with_id, with_ability, without_ability};
-ghost use Rattle.gm_conns.specs.Connections.{with_room, with_bytes, drained, timeout_of, is_able};
+ghost use Rattle.gm_conns.specs.Connections.{with_last, with_room, with_bytes, drained, timeout_of, is_able, index_of};
 
 use gm_notes::Phase;
 use indexmap::IndexMap;
@@ -21,6 +21,8 @@ pub(crate) struct Conn {
     id: Vec<u8>,
     // The timeout of each function that it can do, in the order added.
     abilities: IndexMap<u32, u32>,
+    // The function of its last job.
+    last: Option<u32>,
     waiting: Vec<u8>,
     // How many bytes more there is room for, whatever the allocation has.
     room: usize,
@@ -33,7 +35,7 @@ impl Model for Conn {
 
     ghost Value = { Connection };
 
-    ghost view = { λ c. record { is_open = c.open; is_shut = c.shut; has_option = c.option; phase = c.phase; addr = c.addr.items; id = c.id.items; abilities = c.abilities.entries; waiting = c.waiting.items; room = c.room } };
+    ghost view = { λ c. record { is_open = c.open; is_shut = c.shut; has_option = c.option; phase = c.phase; addr = c.addr.items; id = c.id.items; abilities = c.abilities.entries; last = c.last; waiting = c.waiting.items; room = c.room } };
 
     ghost invariant = { λ c. vec_len c.waiting + c.room ≤ vec_capacity c.waiting };
 }
@@ -51,6 +53,7 @@ impl Conn {
             addr: Vec::new(alloc),
             id: Vec::new(alloc),
             abilities: IndexMap::new(alloc),
+            last: None,
             waiting: Vec::new(alloc),
             room: 0,
         }
@@ -192,6 +195,27 @@ impl Conn {
         ensures { result ≡ is_able f self.now }
     {
         self.timeout_of(f).is_some()
+    }
+
+    /// Where the ability for a function stands.
+    pub(crate) fn index_of(&self, f: u32) -> Option<usize>
+        ensures value { result ≡ index_of f self.now }
+        ensures within { IfSome result (λ i. i < length self.now.abilities) }
+    {
+        self.abilities.get_index_of(&f)
+    }
+
+    /// It was given a job of the function.
+    pub(crate) fn set_last(&mut self, f: u32)
+        ensures { self.new ≡ with_last f self.old }
+    {
+        self.last = Some(f);
+    }
+
+    pub(crate) fn last(&self) -> Option<u32>
+        ensures { result ≡ self.now.last }
+    {
+        self.last
     }
 
     /// Makes room for `n` bytes beyond those that wait.

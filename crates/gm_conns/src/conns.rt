@@ -3,7 +3,7 @@
 ghost use Rattle.std.specs.Prelude.{◌≡◌, ℕ, ◌<◌, ◌≤◌, ◌↔◌, ◌⊎◌, true, false, not, ◌&&◌, ◌==◌, [], IsTrue, length, slice_get};
 ghost use Rattle.std.specs.Prelude.{IfSome, IfNone, IfOk, IfErr, OnOk, OnErr, Err};
 ghost use Rattle.gm_conns.specs.Connections.{closed, opened, shut, with_option, with_phase, with_id, with_ability, without_ability};
-ghost use Rattle.gm_conns.specs.Connections.{without_abilities, with_room, with_bytes, drained, timeout_of};
+ghost use Rattle.gm_conns.specs.Connections.{without_abilities, with_last, with_room, with_bytes, drained, timeout_of, index_of};
 ghost use Rattle.gm_conns.specs.ConnTables.{conn, IsOpen, is_touched, able_count, is_sleeper, Changes, IsLeastFree, IsFull, LosesAbilities};
 
 use crate::able::{AbleSet, cover};
@@ -215,6 +215,34 @@ impl Conns {
     {
         let conn = &self.conns[slot as usize];
         conn.timeout_of(f)
+    }
+
+    /// Where the ability for the function stands, in the order added.
+    pub fn index_of(&self, slot: u32, f: u32) -> Option<usize>
+        requires { IsOpen self.now slot }
+        ensures value { result ≡ index_of f (conn self.now slot) }
+        ensures within { IfSome result (λ i. i < length (conn self.now slot).abilities) }
+    {
+        let conn = &self.conns[slot as usize];
+        conn.index_of(f)
+    }
+
+    /// The last job that the connection was given was one of this function.
+    pub fn set_last(&mut self, slot: u32, f: u32)
+        requires { IsOpen self.old slot }
+        ensures { Changes slot (with_last f) false self.old self.new }
+    {
+        let conn = &mut self.conns[slot as usize];
+        conn.set_last(f);
+    }
+
+    /// The function of the last job that the connection was given; none before the first.
+    pub fn last(&self, slot: u32) -> Option<u32>
+        requires { IsOpen self.now slot }
+        ensures { result ≡ (conn self.now slot).last }
+    {
+        let conn = &self.conns[slot as usize];
+        conn.last()
     }
 
     /// How many connections can do the function.
