@@ -9,7 +9,7 @@ use Rattle.gm_notes.specs.Jobs.{Ability, is_of, put}
 use Rattle.gm_conns.specs.Connections.{Connection}
 use Rattle.gm_conns.specs.ConnTables.{Table, conn, is_touched, Changes}
 use Rattle.gm_core.specs.Facts.{Seen, ConnFacts}
-use Rattle.gm_core.specs.Holds.{AreFunctions, HoldsConns, shown, outbox, AllTouched}
+use Rattle.gm_core.specs.Holds.{NamesFunctions, HoldsConns, shown, outbox, AllTouched}
 
 -- what is so in the slot and elsewhere is so wherever
 pub either : {A : Type 0} (f : Connection → A) (t : Bool) (now then_not : Connection) (x y : A) → (t ≡ true → f now ≡ x) → (t ≡ false → f then_not ≡ y)
@@ -24,9 +24,9 @@ same_slot d c e = grind (arith, nat_tests)
 pub conn_changes : {k : Settings} {old new : Table} {names : List (List ℕ)} {facts now : ConnFacts} {w v : ℕ → List ℕ} {told : Bool} (c : ℕ) (change : Connection → Connection)
     (effect : Seen → Seen) (pour : List ℕ → List ℕ) → Changes c change told old new
     → ((x : Connection) → (change x).is_open ≡ x.is_open)
-    → ((x : Connection) → AreFunctions names x.abilities → shown names (change x) ≡ effect (shown names x))
+    → ((x : Connection) → NamesFunctions names x → shown names (change x) ≡ effect (shown names x))
     → ((x : Connection) → (change x).waiting ≡ pour x.waiting)
-    → ((x : Connection) → AreFunctions names x.abilities → AreFunctions names (change x).abilities)
+    → ((x : Connection) → NamesFunctions names x → NamesFunctions names (change x))
     → ((d : ℕ) → facts.is_open d ≡ now.is_open d)
     → ((d : ℕ) → (if d == c then effect (facts.seen d) else facts.seen d) ≡ now.seen d)
     → ((d : ℕ) → (if d == c then pour (w d) else w d) ≡ v d)
@@ -36,7 +36,7 @@ conn_changes {k} {old} {new} {names} {facts} {now} {w} {v} c change effect pour 
   opens = λ d. ap (λ (x : Connection). x.is_open) (changes.conns d) ∙ (same_open d (d == c) ∙ (holds.opens d ∙ same d));
   seen = λ d e. ap (shown names) (changes.conns d) ∙ (same_seen d (d == c) (same d ∙ e) ∙ sees d);
   waiting = λ d. ap (λ (x : Connection). x.waiting) (changes.conns d) ∙ (same_waiting d (d == c) ∙ flows d);
-  able = λ d. subst (λ (x : Connection). AreFunctions names x.abilities) (sym (changes.conns d)) (same_able d (d == c));
+  able = λ d. subst (NamesFunctions names) (sym (changes.conns d)) (same_able d (d == c));
 }
   where
     same_open : (d : ℕ) (t : Bool) → (if t then change (conn old d) else conn old d).is_open ≡ (conn old d).is_open
@@ -51,7 +51,7 @@ conn_changes {k} {old} {new} {names} {facts} {now} {w} {v} c change effect pour 
     same_waiting d true = pours (conn old d) ∙ ap pour (holds.waiting d)
     same_waiting d false = holds.waiting d
 
-    same_able : (d : ℕ) (t : Bool) → AreFunctions names (if t then change (conn old d) else conn old d).abilities
+    same_able : (d : ℕ) (t : Bool) → NamesFunctions names (if t then change (conn old d) else conn old d)
     same_able d true = ables (conn old d) (holds.able d)
     same_able d false = holds.able d
 
@@ -105,6 +105,13 @@ with_ability f t s = with_abilities (put f t s.abilities) s
 pub can_seen : (f : List ℕ) (timeout : ℕ) (t : Bool) (s : Seen) → (if t then with_ability f timeout s else s) ≡ with_abilities (if t then put f timeout s.abilities else s.abilities) s
 can_seen f timeout true s = refl
 can_seen f timeout false s = refl
+
+abbrev pub with_last : List ℕ → Seen → Seen
+with_last f s = record s { last = Some f }
+
+pub last_seen : (f : List ℕ) (t : Bool) (s : Seen) → (if t then with_last f s else s) ≡ record s { last = if t then Some f else s.last }
+last_seen f true s = refl
+last_seen f false s = refl
 
 -- where what is seen stays as it was
 pub seen_same : {k : Settings} {table : Table} {names : List (List ℕ)} {facts now : ConnFacts} {w : ℕ → List ℕ} → HoldsConns k table names facts w

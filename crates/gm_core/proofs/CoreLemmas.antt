@@ -30,7 +30,7 @@ use Rattle.gm_jobs.specs.Tables as jobs
 use Rattle.gm_notes.specs.declared.states.Mode.{Mode}
 use Rattle.gm_core.specs.declared.server.Core.{Core}
 use Rattle.gm_core.specs.Facts.{Seen, seen, conn_facts, function_facts, job_facts}
-use Rattle.gm_core.specs.Holds.{Holds, Keeps, AreFunctions, ability_named, shown, HoldsConns, HoldsFunctions, HoldsJobs}
+use Rattle.gm_core.specs.Holds.{Holds, Keeps, NamesFunctions, ability_named, shown, HoldsConns, HoldsFunctions, HoldsJobs}
 use Rattle.gm_core.specs.Holds.{AllTouched, Goes, Does}
 use Rattle.gm_core.proofs.ConnLemmas.{touched_same, touched_then, touched_told, touched_apart, conn_changes, same_here}
 use Rattle.gm_core.proofs.ConnLemmas.{seen_same, phase_seen, shut_seen, option_seen, id_seen, can_seen, cant_seen}
@@ -104,9 +104,9 @@ pub record Touches (c : ℕ) (effect : Seen → Seen) (pour : List ℕ → List 
 -- what a change of a slot means for what is seen
 pub record Alters (names : List (List ℕ)) (change : Connection → Connection) (effect : Seen → Seen) (pour : List ℕ → List ℕ) : Type 0 where
   pub opens : (x : Connection) → (change x).is_open ≡ x.is_open
-  pub shown : (x : Connection) → AreFunctions names x.abilities → shown names (change x) ≡ effect (shown names x)
+  pub shown : (x : Connection) → NamesFunctions names x → shown names (change x) ≡ effect (shown names x)
   pub waiting : (x : Connection) → (change x).waiting ≡ pour x.waiting
-  pub able : (x : Connection) → AreFunctions names x.abilities → AreFunctions names (change x).abilities
+  pub able : (x : Connection) → NamesFunctions names x → NamesFunctions names (change x)
 
 pub goes_conn : {old new : Core} {change : Connection → Connection} {told : Bool} (c : ℕ) (effect : Seen → Seen) (pour : List ℕ → List ℕ) (step : Past → Past)
     → OnlyConns old new → Changes c change told old.conns new.conns → AllTouched old.conns new.conns
@@ -215,10 +215,10 @@ module _ {old new : Core} (c : ℕ) (only : OnlyConns old new) where
         opens = λ x. refl;
         shown = λ x able.
             ap (λ (l : List Ability). lemmas.with_abilities l (shown old.functions.names x))
-            (taken_out keeps.functions f x.abilities able within
+            (taken_out keeps.functions f x.abilities able.0 within
             ∙ ap (λ (g : List ℕ). filter (λ ability. not (is_of g ability)) (map (ability_named old.functions.names) x.abilities)) is);
         waiting = λ x. refl;
-        able = λ x able. able_out old.functions.names f x.abilities able;
+        able = λ x able. (able_out old.functions.names f x.abilities able.0, able.1);
       })
       (record { opens = λ p. refl; seen = λ p d. cant_seen name (d == c) (seen d p.notes); waiting = λ p d. same_here (d == c) (waiting d p.flow); functions = λ p. refl; jobs = λ p. refl; moment = λ p. refl; mode = λ p. refl })
 
@@ -232,10 +232,10 @@ module _ {old new : Core} (c : ℕ) (only : OnlyConns old new) where
         opens = λ x. refl;
         shown = λ x able.
             ap (λ (l : List Ability). lemmas.with_abilities l (shown old.functions.names x))
-            (put_named keeps.functions f t x.abilities able within
+            (put_named keeps.functions f t x.abilities able.0 within
             ∙ ap (λ (g : List ℕ). put g t (map (ability_named old.functions.names) x.abilities)) is);
         waiting = λ x. refl;
-        able = λ x able. able_put old.functions.names f t x.abilities able within;
+        able = λ x able. (able_put old.functions.names f t x.abilities able.0 within, able.1);
       })
       (record { opens = λ p. refl; seen = λ p d. can_seen name t (d == c) (seen d p.notes); waiting = λ p d. same_here (d == c) (waiting d p.flow); functions = λ p. refl; jobs = λ p. refl; moment = λ p. refl; mode = λ p. refl })
 
@@ -249,7 +249,7 @@ goes_cant_unknown core c name none = record {
         (λ d opened.
         let shows = ap (λ (s : Seen). s.abilities) (keeps.conns.seen d opened) in
         let same : abilities d p.notes ≡ filter (λ ability. not (is_of name ability)) (abilities d p.notes) =
-        subst (λ (l : List Ability). l ≡ filter (λ ability. not (is_of name ability)) l) shows (none_out keeps.functions name (conn core.conns d).abilities none (keeps.conns.able d)) in
+        subst (λ (l : List Ability). l ≡ filter (λ ability. not (is_of name ability)) l) shows (none_out keeps.functions name (conn core.conns d).abilities none (keeps.conns.able d).0) in
         ap (λ (l : List Ability). lemmas.with_abilities l (seen d p.notes)) (either_same (d == c) same));
     functions = keeps.functions;
     jobs = keeps.jobs;

@@ -18,7 +18,7 @@ use Rattle.gm_jobs.specs.Tables.{place_or, is_made, Leaves}
 use Rattle.gm_jobs.specs.Tables as jobs
 use Rattle.gm_core.specs.declared.server.Core.{Core}
 use Rattle.gm_core.specs.Facts.{Seen, seen, conn_facts, job_facts}
-use Rattle.gm_core.specs.Holds.{AreFunctions, AreOpen, HoldsConns, HoldsJobs, IsJob, Holds, Goes, shown}
+use Rattle.gm_core.specs.Holds.{NamesFunctions, AreOpen, HoldsConns, HoldsJobs, IsJob, Holds, Goes, shown}
 use Rattle.gm_core.proofs.ConnLemmas.{touched_told}
 use Rattle.gm_core.proofs.JobLemmas.{was_live, made_same}
 
@@ -30,7 +30,7 @@ conns_closed k old new names c told p changes holds = record {
   opens = λ d. ap (λ (x : Connection). x.is_open) (changes.conns d) ∙ opens d (d == c) (holds.opens d);
   seen = λ d e. ap (shown names) (changes.conns d) ∙ sees d (d == c) e (seen d p.notes) (holds.seen d);
   waiting = λ d. ap (λ (x : Connection). x.waiting) (changes.conns d) ∙ waits d (d == c) (holds.waiting d);
-  able = λ d. subst (λ (x : Connection). AreFunctions names x.abilities) (sym (changes.conns d)) (able d (d == c));
+  able = λ d. subst (NamesFunctions names) (sym (changes.conns d)) (able d (d == c));
 }
   where
     opens : (d : ℕ) (t : Bool) → (conn old d).is_open ≡ is_open d p.notes → (if t then closed else conn old d).is_open ≡ unwrap_or (if t then Some false else None) (is_open d p.notes)
@@ -47,8 +47,8 @@ conns_closed k old new names c told p changes holds = record {
     waits d true e = refl
     waits d false e = e
 
-    able : (d : ℕ) (t : Bool) → AreFunctions names (if t then closed else conn old d).abilities
-    able d true = tt
+    able : (d : ℕ) (t : Bool) → NamesFunctions names (if t then closed else conn old d)
+    able d true = (tt, tt)
     able d false = holds.able d
 
 -- the listeners that are left are open still

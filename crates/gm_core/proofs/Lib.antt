@@ -24,5 +24,6 @@ pub mod RisingLemmas
 pub mod StartLemmas
 pub mod TellLemmas
 pub mod TickLemmas
+pub mod TurnLemmas
 pub mod WakeLemmas
 pub mod WorkLemmas

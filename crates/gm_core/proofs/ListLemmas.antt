@@ -133,7 +133,7 @@ module _ {k : Settings} {table : conns.Table} {functions : queues.Table} {live :
     worker_is c =
         ap (λ b. b && connections.is_able f (conn table c)) (holds.conns.opens c)
         ∙ both_open (is_open c p.notes) (connections.is_able f (conn table c)) (is_able c (name_at functions.names f) p.notes)
-        (λ opened. sym (able_is holds.functions f within (conn table c).abilities (holds.conns.able c)) ∙ ap (λ (s : Seen). list_any (is_of (name_at functions.names f)) s.abilities) (holds.conns.seen c opened))
+        (λ opened. sym (able_is holds.functions f within (conn table c).abilities (holds.conns.able c).0) ∙ ap (λ (s : Seen). list_any (is_of (name_at functions.names f)) s.abilities) (holds.conns.seen c opened))
 
     workers_are : workers table f ≡ able k (name_at functions.names f) p.notes
     workers_are = (λ i. length (filter (λ c. worker_is c i) (slots_from 0 (holds.conns.slots i))))

@@ -1,5 +1,6 @@
 -- A function that is mentioned for the first time.
 use Rattle.std.proofs.Common.{◌≡◌, ◌≢◌, ℕ, zero, suc, ◌+◌, ◌<◌, ◌≤◌, Bool, true, false, ◌&&◌, ◌⊎◌, inl, inr, List, [], ◌∷◌}
+use Rattle.std.specs.Option.{option_map}
 use Rattle.std.proofs.Common.{◌++◌, length, map, filter, Option, Some, None, refl, sym, ap, subst, ◌∙◌, arith, length-append}
 use Rattle.std.proofs.Common.{take, ◌-◌}
 use Rattle.std.specs.Prelude.{slice_get}
@@ -23,7 +24,7 @@ use Rattle.gm_jobs.specs.Live.{Live}
 use Rattle.gm_jobs.specs.Tables.{job, place, place_or, is_made}
 use Rattle.gm_jobs.specs.Tables as jobs
 use Rattle.gm_core.specs.Facts.{ConnFacts, FunctionFacts, JobFacts, function_facts, runs_with, running_with}
-use Rattle.gm_core.specs.Holds.{name_at, ability_named, shown, described, AreFunctions, HoldsConns, HoldsFunctions, HoldsJobs}
+use Rattle.gm_core.specs.Holds.{name_at, ability_named, shown, described, AreFunctions, IsFunction, NamesFunctions, HoldsConns, HoldsFunctions, HoldsJobs}
 use Rattle.gm_core.specs.Holds.{IsJob, limit_named, jobs_named}
 use Rattle.gm_queues.proofs.PositionLemmas.{position-push, position-stays, position-misses}
 use Rattle.gm_core.proofs.FunctionLemmas.{unknown, some_same}
@@ -48,8 +49,18 @@ are_still : (names : List (List ℕ)) (name : List ℕ) (xs : List (ℕ × ℕ))
 are_still names name [] all = tt
 are_still names name (x ∷ xs) all = (let long = length-append names (name ∷ []) in omega (arith, long, all.0), are_still names name xs all.1)
 
-shown_stays : (names : List (List ℕ)) (name : List ℕ) (x : Connection) → AreFunctions names x.abilities → shown (names ++ name ∷ []) x ≡ shown names x
-shown_stays names name x all = ap (λ (l : List Ability). record (shown names x) { abilities = l }) (abilities_stay names name x.abilities all)
+last_stays : (names : List (List ℕ)) (name : List ℕ) (last : Option ℕ) → IsFunction names last → option_map (name_at (names ++ name ∷ [])) last ≡ option_map (name_at names) last
+last_stays names name None there = refl
+last_stays names name (Some f) there = ap Some (name_stays names name f there)
+
+is_still : (names : List (List ℕ)) (name : List ℕ) (last : Option ℕ) → IsFunction names last → IsFunction (names ++ name ∷ []) last
+is_still names name None there = tt
+is_still names name (Some f) there = let long = length-append names (name ∷ []) in omega (arith, long, there)
+
+shown_stays : (names : List (List ℕ)) (name : List ℕ) (x : Connection) → NamesFunctions names x → shown (names ++ name ∷ []) x ≡ shown names x
+shown_stays names name x all =
+    ap (λ (l : List Ability). record (shown (names ++ name ∷ []) x) { abilities = l }) (abilities_stay names name x.abilities all.0)
+    ∙ ap (λ (o : Option (List ℕ)). record (shown names x) { last = o }) (last_stays names name x.last all.1)
 
 pub conns_mention : {k : Settings} {table : conns.Table} {names : List (List ℕ)} {facts : ConnFacts} {w : ℕ → List ℕ} (name : List ℕ) → HoldsConns k table names facts w
     → HoldsConns k table (names ++ name ∷ []) facts w
@@ -58,7 +69,7 @@ conns_mention {k} {table} {names} {facts} {w} name holds = record {
   opens = holds.opens;
   seen = λ c opened. shown_stays names name (conn table c) (holds.able c) ∙ holds.seen c opened;
   waiting = holds.waiting;
-  able = λ c. are_still names name (conn table c).abilities (holds.able c);
+  able = λ c. (are_still names name (conn table c).abilities (holds.able c).0, is_still names name (conn table c).last (holds.able c).1);
 }
 
 -- ---- functions

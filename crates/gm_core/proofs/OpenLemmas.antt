@@ -24,7 +24,7 @@ use Rattle.gm_queues.specs.FunctionTables as queues
 use Rattle.gm_jobs.specs.Tables as jobs
 use Rattle.gm_core.specs.declared.server.Core.{Core}
 use Rattle.gm_core.specs.Facts.{Seen, JobFacts, seen, conn_facts, job_facts}
-use Rattle.gm_core.specs.Holds.{AreFunctions, AreOpen, HoldsConns, HoldsJobs, Keeps, Holds, Goes, CoreAgrees, shown}
+use Rattle.gm_core.specs.Holds.{NamesFunctions, AreOpen, HoldsConns, HoldsJobs, Keeps, Holds, Goes, CoreAgrees, shown}
 use Rattle.gm_core.proofs.ConnLemmas.{touched_told}
 use Rattle.gm_core.proofs.CoreLemmas.{OnlyConns, open_is}
 
@@ -93,7 +93,7 @@ conns_opened k old new names c addr told p changes holds = record {
   opens = λ d. ap (λ (x : Connection). x.is_open) (changes.conns d) ∙ opens d (d == c) (holds.opens d);
   seen = λ d e. ap (shown names) (changes.conns d) ∙ sees d (d == c) e (seen d p.notes) (holds.seen d);
   waiting = λ d. ap (λ (x : Connection). x.waiting) (changes.conns d) ∙ waits d (d == c) (holds.waiting d);
-  able = λ d. subst (λ (x : Connection). AreFunctions names x.abilities) (sym (changes.conns d)) (able d (d == c));
+  able = λ d. subst (NamesFunctions names) (sym (changes.conns d)) (able d (d == c));
 }
   where
     opens : (d : ℕ) (t : Bool) → (conn old d).is_open ≡ is_open d p.notes → (if t then opened addr else conn old d).is_open ≡ unwrap_or (if t then Some true else None) (is_open d p.notes)
@@ -109,6 +109,7 @@ conns_opened k old new names c addr told p changes holds = record {
           addr = unwrap_or (if t then Some addr else None) s.addr;
           id = unwrap_or (if t then Some [] else None) s.id;
           abilities = if t then [] else s.abilities;
+          last = if t then None else s.last;
         }
     sees d true e s shows = refl
     sees d false e s shows = shows e
@@ -117,8 +118,8 @@ conns_opened k old new names c addr told p changes holds = record {
     waits d true e = refl
     waits d false e = e
 
-    able : (d : ℕ) (t : Bool) → AreFunctions names (if t then opened addr else conn old d).abilities
-    able d true = tt
+    able : (d : ℕ) (t : Bool) → NamesFunctions names (if t then opened addr else conn old d)
+    able d true = (tt, tt)
     able d false = holds.able d
 
 are_still_open : (before after : ℕ → Bool) → ((c : ℕ) → before c ≡ true → after c ≡ true) → (slots : List ℕ) → AreOpen before slots → AreOpen after slots

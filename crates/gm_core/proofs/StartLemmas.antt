@@ -10,7 +10,7 @@ use Rattle.gm_conns.specs.Connections.{Connection, closed}
 use Rattle.gm_conns.specs.ConnTables.{Table, conn}
 use Rattle.gm_queues.specs.FunctionTables.{no_functions}
 use Rattle.gm_jobs.specs.Tables.{no_jobs, place_or}
-use Rattle.gm_core.specs.Holds.{AreFunctions, Holds}
+use Rattle.gm_core.specs.Holds.{NamesFunctions, Holds}
 
 none_made : (first n : ℕ) → (nat_le first n && nat_lt n first) ≡ false
 none_made first n = grind (arith, nat_tests)
@@ -23,7 +23,7 @@ holds_nothing k table slots ends fits positive = record {
     opens = λ c. ap (λ (x : Connection). x.is_open) (ends c);
     seen = λ c opened. absurd cc;
     waiting = λ c. ap (λ (x : Connection). x.waiting) (ends c);
-    able = λ c. subst (λ (x : Connection). AreFunctions [] x.abilities) (sym (ends c)) tt;
+    able = λ c. subst (NamesFunctions []) (sym (ends c)) (tt, tt);
   };
   functions = record { most = refl; few = omega arith; names = refl; distinct = λ f name at. absurd cc; limits = λ name. refl };
   jobs = record {

@@ -13,7 +13,7 @@ use Rattle.gm_notes.specs.Past.{Past, give, tell_all}
 use Rattle.gm_conns.specs.Connections.{Connection, with_room, with_bytes}
 use Rattle.gm_conns.specs.ConnTables.{Table, conn, Changes}
 use Rattle.gm_core.specs.Facts.{ConnFacts}
-use Rattle.gm_core.specs.Holds.{outbox, AllTouched, HoldsConns}
+use Rattle.gm_core.specs.Holds.{outbox, AllTouched, HoldsConns, NamesFunctions}
 use Rattle.gm_core.proofs.ConnLemmas.{conn_changes, same_here}
 use Rattle.gm_core.specs.Telling.{hears, poured, needed, Roomed}
 
@@ -74,7 +74,7 @@ holds_roomed {k} {old} {new} {names} {facts} {w} roomed holds = record {
   opens = λ c. ap (λ (x : Connection). x.is_open) (roomed.conns c) ∙ holds.opens c;
   seen = λ c opened. ap (λ (x : Connection). Rattle.gm_core.specs.Holds.shown names x) (roomed.conns c) ∙ holds.seen c opened;
   waiting = λ c. ap (λ (x : Connection). x.waiting) (roomed.conns c) ∙ holds.waiting c;
-  able = λ c. subst (λ (x : Connection). Rattle.gm_core.specs.Holds.AreFunctions names x.abilities) (sym (roomed.conns c)) (holds.able c);
+  able = λ c. subst (NamesFunctions names) (sym (roomed.conns c)) (holds.able c);
 }
 
 pub hears_roomed : (old new : Table) (e : Bool) → Roomed old new → (c : ℕ) → hears new e c ≡ hears old e c

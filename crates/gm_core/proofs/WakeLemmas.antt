@@ -65,7 +65,7 @@ module _ {k : Settings} {connections : tables.Table} {mentioned : queues.Table} 
       let shows = holds.conns.seen c opened in
       ap (λ b. b && is_some (lookup (nat_eq f) x.abilities)) (ap (λ (s : Seen). is_asleep s.phase) shows)
       ∙ ap (λ b. is_asleep (phase c p.notes) && b)
-      (sym (able_is holds.functions f within x.abilities (holds.conns.able c)) ∙ ap (λ (s : Seen). list_any (is_of (name_at mentioned.names f)) s.abilities) shows)
+      (sym (able_is holds.functions f within x.abilities (holds.conns.able c).0) ∙ ap (λ (s : Seen). list_any (is_of (name_at mentioned.names f)) s.abilities) shows)
 
   -- who sleeps not isn't woken
   pub wakes_not : is_sleeper f (conn connections c) ≡ false → wake_one (name_at mentioned.names f) c p ≡ p

@@ -6,7 +6,7 @@ use Rattle.gm_notes.specs.declared.states.Priority.{Priority}
 use Rattle.gm_notes.specs.declared.note.Note.{Note}
 use Rattle.gm_notes.specs.Notes.{is_open, is_shut, has_option, phase, addr, id}
 use Rattle.gm_notes.specs.Jobs.{Ability, Job, abilities, functions, limit, made, as_they_came, job_state, is_job_with, job}
-use Rattle.gm_notes.specs.Jobs.{is_kept, listeners, report, deadline}
+use Rattle.gm_notes.specs.Jobs.{is_kept, listeners, report, deadline, last_function}
 use Rattle.gm_notes.specs.JobStates.{JobState, is_waiting, is_running}
 
 -- what is known of the connection in a slot while it is open
@@ -17,10 +17,19 @@ pub record Seen : Type 0 where
   pub addr : List ℕ
   pub id : List ℕ
   pub abilities : List Ability
+  pub last : Option (List ℕ)
 
 abbrev pub seen : ℕ → List Note → Seen
 seen c notes =
-    record { is_shut = is_shut c notes; has_option = has_option c notes; phase = phase c notes; addr = addr c notes; id = id c notes; abilities = abilities c notes }
+    record {
+      is_shut = is_shut c notes;
+      has_option = has_option c notes;
+      phase = phase c notes;
+      addr = addr c notes;
+      id = id c notes;
+      abilities = abilities c notes;
+      last = last_function c notes;
+    }
 
 -- the connections: which slots are open, and what is known of each
 pub record ConnFacts : Type 0 where

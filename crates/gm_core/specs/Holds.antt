@@ -1,7 +1,7 @@
 -- What a core's tables hold, against the definitions.
 use Rattle.std.specs.Prelude.{◌≡◌, ℕ, zero, suc, ◌+◌, ◌<◌, ◌≤◌, ◌^◌, true, false, not, ◌&&◌, codes, List, [], ◌∷◌, length, map}
 use Rattle.std.specs.Prelude.{filter, slice_get, slice_index_or, Option, Some, None, Bool, Result}
-use Rattle.std.specs.Option.{unwrap_or}
+use Rattle.std.specs.Option.{unwrap_or, option_map}
 use Rattle.gm_notes.specs.declared.states.Priority.{Priority}
 use Rattle.gm_notes.specs.declared.states.Phase.{Phase}
 use Rattle.gm_notes.specs.declared.states.Mode.{Mode}
@@ -40,19 +40,36 @@ ability_named names ability = record { function = name_at names ability.0; timeo
 -- what the table says of a connection, with the functions by name
 abbrev pub shown : List (List ℕ) → Connection → Seen
 shown names conn =
-    record { is_shut = conn.is_shut; has_option = conn.has_option; phase = conn.phase; addr = conn.addr; id = conn.id; abilities = map (ability_named names) conn.abilities }
+    record {
+      is_shut = conn.is_shut;
+      has_option = conn.has_option;
+      phase = conn.phase;
+      addr = conn.addr;
+      id = conn.id;
+      abilities = map (ability_named names) conn.abilities;
+      last = option_map (name_at names) conn.last;
+    }
 
 -- each is for a function that there is
 abbrev pub AreFunctions : List (List ℕ) → List (ℕ × ℕ) → Type 0
 AreFunctions names [] = Unit {0}
 AreFunctions names (ability ∷ abilities) = (ability.0 < length names) × AreFunctions names abilities
 
+-- if there is one, it is a function that there is
+abbrev pub IsFunction : List (List ℕ) → Option ℕ → Type 0
+IsFunction names None = Unit {0}
+IsFunction names (Some f) = f < length names
+
+-- all functions that the connection names are there
+abbrev pub NamesFunctions : List (List ℕ) → Connection → Type 0
+NamesFunctions names conn = AreFunctions names conn.abilities × IsFunction names conn.last
+
 pub record HoldsConns (k : Settings) (table : conns.Table) (names : List (List ℕ)) (facts : ConnFacts) (bytes : ℕ → List ℕ) : Type 0 where
   pub slots : length table.conns ≡ k.slots
   pub opens : (c : ℕ) → (conn table c).is_open ≡ facts.is_open c
   pub seen : (c : ℕ) → facts.is_open c ≡ true → shown names (conn table c) ≡ facts.seen c
   pub waiting : (c : ℕ) → (conn table c).waiting ≡ bytes c
-  pub able : (c : ℕ) → AreFunctions names (conn table c).abilities
+  pub able : (c : ℕ) → NamesFunctions names (conn table c)
 
 -- ---- functions
 

@@ -1,15 +1,15 @@
 //! What workers can do, how they sleep, and the job that each gets.
 
-ghost use Rattle.std.specs.Prelude.{◌≡◌, ◌<◌, ◌≤◌, false, Some, None, IfSome, length, slice_get};
+ghost use Rattle.std.specs.Prelude.{◌≡◌, ◌<◌, ◌≤◌, ◌++◌, false, Some, None, IfSome, length, map, drop, take, slice_get};
 ghost use Rattle.std.specs.Option.{option_map};
-ghost use Rattle.gm_conns.specs.ConnTables.{IsOpen};
+ghost use Rattle.gm_conns.specs.ConnTables.{IsOpen, conn};
 ghost use Rattle.gm_queues.specs.FunctionTables.{number_of, waiting_for};
-ghost use Rattle.gm_notes.specs.Jobs.{pick};
+ghost use Rattle.gm_notes.specs.Jobs.{scan, pick_from, pick};
 ghost use Rattle.gm_notes.specs.Past.{Past, with_note};
 ghost use Rattle.gm_notes.specs.Workers.{can_do, cant_do, pre_sleep};
 ghost use Rattle.gm_notes.specs.Submissions.{is_bad_name};
 ghost use Rattle.gm_notes.specs.declared.note.Note.TheVariants.{Reset};
-ghost use Rattle.gm_core.specs.Holds.{name_at, wake_if_waiting};
+ghost use Rattle.gm_core.specs.Holds.{name_at, ability_named, wake_if_waiting};
 ghost use Rattle.gm_core.specs.declared.server.abilities.Choice.{Choice};
 
 use super::Core;
@@ -41,15 +41,38 @@ impl Core {
         }
     }
 
-    /// The job that a grab of a slot gets.
-    pub(super) fn pick(&mut self, slot: u32) -> Option<Choice>
-        requires { IsOpen self.old.conns slot }
-        ensures value { (past : Past) → Keeps self.old past → option_map (λ (found : Choice). found.pick) result ≡ pick self.old.config slot past.notes }
+    /// How many of the abilities of a slot, which has so many, are tried last: where functions take turns, those up to
+    /// the one of its last job.
+    fn tried_last(&self, slot: u32, len: usize) -> usize
+        requires open { IsOpen self.now.conns slot }
+        requires len { len ≡ length (conn self.now.conns slot).abilities }
+        ensures scan { (past : Past) → Keeps self.now past → scan self.now.config slot past.notes
+            ≡ map (ability_named self.now.functions.names) (drop result (conn self.now.conns slot).abilities ++ take result (conn self.now.conns slot).abilities) }
+        ensures within { result ≤ length (conn self.now.conns slot).abilities }
+    {
+        if !self.config.round_robin() {
+            return 0;
+        }
+        let Some(last) = self.conns.last(slot) else {
+            return 0;
+        };
+        match self.conns.index_of(slot, last) {
+            Some(i) => i + 1,
+            None => 0,
+        }
+    }
+
+    /// The first job for one of these abilities of a slot.
+    fn pick_among(&mut self, slot: u32, from: usize, to: usize) -> Option<Choice>
+        requires open { IsOpen self.old.conns slot }
+        requires to { to ≤ length (conn self.old.conns slot).abilities }
+        ensures value { (past : Past) → Keeps self.old past → option_map (λ (found : Choice). found.pick) result
+            ≡ pick_from (map (ability_named self.old.functions.names) (drop from (take to (conn self.old.conns slot).abilities))) past.notes }
         ensures first { IfSome result (λ found. slice_get (waiting_for self.old.functions found.function) 0 ≡ Some found.pick.job) }
         ensures within { IfSome result (λ found. found.function < length self.old.functions.names) }
         ensures kept { self.new ≡ self.old }
     {
-        for i in 0..self.conns.abilities_len(slot) {
+        for i in from..to {
             let (function, timeout) = self.conns.able(slot, i)?;
             if let Some(job) = self.first_for(function) {
                 return Some(Choice {
@@ -59,6 +82,22 @@ impl Core {
             }
         }
         None
+    }
+
+    /// The job that a grab of a slot gets.
+    pub(super) fn pick(&mut self, slot: u32) -> Option<Choice>
+        requires { IsOpen self.old.conns slot }
+        ensures value { (past : Past) → Keeps self.old past → option_map (λ (found : Choice). found.pick) result ≡ pick self.old.config slot past.notes }
+        ensures first { IfSome result (λ found. slice_get (waiting_for self.old.functions found.function) 0 ≡ Some found.pick.job) }
+        ensures within { IfSome result (λ found. found.function < length self.old.functions.names) }
+        ensures kept { self.new ≡ self.old }
+    {
+        let len = self.conns.abilities_len(slot);
+        let last = self.tried_last(slot, len);
+        match self.pick_among(slot, last, len) {
+            Some(found) => Some(found),
+            None => self.pick_among(slot, 0, last),
+        }
     }
 
     /// The worker in a slot wants to sleep; beside work it is woken at once.

@@ -87,6 +87,7 @@ impl Core {
 
     /// The job that is given out next for a function runs at a slot now. It needs no memory.
     fn give_out(&mut self, slot: u32, found: Choice, priority: Priority)
+        requires open { IsOpen self.old.conns slot }
         requires within { found.function < length self.old.functions.names }
         requires first { slice_get (waiting_for self.old.functions found.function) 0 ≡ Some found.pick.job }
         requires priority { option_map (λ live. live.priority) (jobs.job self.old.jobs found.pick.job) ≡ Some priority }
@@ -95,6 +96,7 @@ impl Core {
         let deadline = deadline_after(self.moment, found.pick.timeout);
         let _job = self.functions.pop(found.function, priority);
         self.jobs.assign(found.pick.job, slot, deadline);
+        self.conns.set_last(slot, found.function);
     }
 
     fn assign(&mut self, slot: u32, found: Choice, with_unique: bool) -> Result<(), AllocError>

@@ -1,52 +1,28 @@
-use Rattle.std.proofs.Common.{◌≡◌, ◌<◌, ℕ, suc, length, map, drop, Option, Some, sym, ap, subst, ◌∙◌}
-use Rattle.std.specs.Prelude.{slice_get}
-use Rattle.std.proofs.Math.Numerals.{add-one}
-use Rattle.gm_notes.specs.Jobs.{pick, pick_from}
-use Rattle.gm_notes.specs.Past.{Past}
-use Rattle.gm_conns.specs.ConnTables.{conn, IsOpen}
-use Rattle.gm_queues.specs.FunctionTables as queues
+use Rattle.std.proofs.Common.{map, take, Option, Some, None, refl, sym, ap, subst, ◌∙◌}
+use Rattle.std.specs.Option.{option_map}
+use Rattle.gm_notes.specs.declared.states.Pick.{Pick}
+use Rattle.gm_notes.specs.Jobs.{pick_from}
+use Rattle.gm_conns.specs.ConnTables.{conn}
 use Rattle.gm_core.specs.declared.server.Core.{Core}
-use Rattle.gm_core.specs.Facts.{Seen}
+use Rattle.gm_core.specs.declared.server.abilities.Choice.{Choice}
 use Rattle.gm_core.specs.Holds.{Keeps, ability_named}
-use Rattle.gm_core.proofs.FunctionLemmas.{pick_at, pick_or}
-use Rattle.gm_core.proofs.CoreLemmas.{seen_is}
+use Rattle.gm_core.proofs.TurnLemmas.{pick_parts}
 use Rattle.gm_core.proofs.server.Core.pick.Goals as goal
-
--- the pick goes over the abilities that the table has
-whole : (core : Core) (past : Past) (c : ℕ) → Keeps core past → IsOpen core.conns c
-    → pick_from (map (ability_named core.functions.names) (conn core.conns c).abilities) past.notes ≡ pick core.config c past.notes
-whole core past c keeps opened = ap (λ (s : Seen). pick_from s.abilities past.notes) (seen_is keeps c opened)
-
-pub able-requires : goal.able-requires
-able-requires c = subst (λ (x : Core). IsOpen x.conns c.args.slot) (sym c.loop-i.invariant.kept) c.requires
-
--- what the loop goes on with after this ability
-step : (core self : Core) (past : Past) (c i f t : ℕ) (o : Option ℕ) → self ≡ core → Keeps core past
-    → Some (f, t) ≡ slice_get (conn self.conns c).abilities i → (f < length self.functions.names → o ≡ slice_get (queues.waiting_for self.functions f) 0)
-    → pick_from (map (ability_named core.functions.names) (drop i (conn core.conns c).abilities)) past.notes
-    ≡ pick_or o t (pick_from (map (ability_named core.functions.names) (drop (suc i) (conn core.conns c).abilities)) past.notes)
-step core self past c i f t o kept keeps at first =
-    pick_at past.notes keeps.functions keeps.jobs (conn core.conns c).abilities (keeps.conns.able c) i f t
-    (sym (subst (λ (x : Core). Some (f, t) ≡ slice_get (conn x.conns c).abilities i) kept at)) o
-    (subst (λ (x : Core). f < length x.functions.names → o ≡ slice_get (queues.waiting_for x.functions f) 0) kept first)
 
 pub returns-in-Some-clause-value : goal.returns-in-Some-clause-value
 returns-in-Some-clause-value c past keeps =
-    let t = c.in_ok-function.timeout in
-    let rest = pick_from (map (ability_named c.args.self.now.functions.names) (drop (suc c.loop-i.i) (conn c.args.self.now.conns c.args.slot).abilities)) past.notes in
-    sym (sym (whole c.args.self.now past c.args.slot keeps c.requires)
-    ∙ (c.loop-i.invariant.leads past keeps
-    ∙ (step c.args.self.now c.loop-i.self past c.args.slot c.loop-i.i c.in_ok-function.function t c.first_for.result c.loop-i.invariant.kept keeps c.in_ok-function.ensures c.first_for.ensures.value
-    ∙ ap (λ (o : Option ℕ). pick_or o t rest) c.in-Some.is)))
+    let core = c.args.self.now in
+    let last = c.tried_last-last.result in
+    pick_parts core past c.args.slot c.abilities_len-len.result last (Some (c.in-Some.found.pick))
+    (pick_from (map (ability_named core.functions.names) (take last (conn core.conns c.args.slot).abilities)) past.notes)
+    c.abilities_len-len.ensures (c.tried_last-last.ensures.scan past keeps) (c.in-Some.ensures.value past keeps) refl
 
-pub loop-i-preserved : goal.loop-i-preserved
-loop-i-preserved c = record {
-  kept = c.first_for.ensures.kept ∙ c.loop-i.invariant.kept;
-  leads = λ past keeps.
-      let t = c.in_ok-function.timeout in
-      let rest = pick_from (map (ability_named c.args.self.now.functions.names) (drop (suc c.loop-i.i) (conn c.args.self.now.conns c.args.slot).abilities)) past.notes in
-      c.loop-i.invariant.leads past keeps
-      ∙ (step c.args.self.now c.loop-i.self past c.args.slot c.loop-i.i c.in_ok-function.function t c.first_for.result c.loop-i.invariant.kept keeps c.in_ok-function.ensures c.first_for.ensures.value
-      ∙ (ap (λ (o : Option ℕ). pick_or o t rest) c.in_default.is
-      ∙ ap (λ (i : ℕ). pick_from (map (ability_named c.args.self.now.functions.names) (drop i (conn c.args.self.now.conns c.args.slot).abilities)) past.notes) (sym (add-one c.loop-i.i))));
-}
+pub returns-in-None-clause-value : goal.returns-in-None-clause-value
+returns-in-None-clause-value c past keeps =
+    let core = c.args.self.now in
+    let none : Option Pick = None in
+    pick_parts core past c.args.slot c.abilities_len-len.result c.tried_last-last.result none
+    (option_map (λ (found : Choice). found.pick) c.pick_among-in-None.result)
+    c.abilities_len-len.ensures (c.tried_last-last.ensures.scan past keeps) (c.in-None.ensures.value past keeps)
+    (c.pick_among-in-None.ensures.value past (subst (λ (x : Core). Keeps x past) (sym c.pick_among.ensures.kept) keeps)
+    ∙ ap (λ (x : Core). pick_from (map (ability_named x.functions.names) (take c.tried_last-last.result (conn x.conns c.args.slot).abilities)) past.notes) c.pick_among.ensures.kept)
