@@ -58,7 +58,8 @@ pub fn flag<'a>(alloc: Global, name: &'a str, help: &'a str) -> Arg<'a>
         .help(help)
 }
 
-/// The command with the options of every job server: how many connections there may be, and how large a packet may be.
+/// The command with the options of every job server: how many connections there may be, how large a packet may be, and
+/// whether a worker's functions take turns.
 pub fn with_server_options<'a>(
     alloc: Global,
     command: Command<'a>,
@@ -79,6 +80,11 @@ pub fn with_server_options<'a>(
             1_073_741_824,
             "67108864",
             "How many bytes of data a packet may have",
+        ))?
+        .arg(flag(
+            alloc,
+            "round-robin",
+            "A worker's functions take turns: a grab tries first the functions that the worker added after the one of its last job",
         ))
 }
 
@@ -89,6 +95,8 @@ pub struct ServerOptions {
     pub slots: u32,
     /// How large a packet or a text line may be.
     pub limits: Limits,
+    /// Whether a worker's functions take turns.
+    pub round_robin: bool,
 }
 
 /// What the options of every job server ask for, where the command had them.
@@ -101,5 +109,6 @@ pub fn server_options(matches: &ArgMatches<'_>) -> ServerOptions {
             max_bytes: max_data.min(MOST_DATA),
             max_line: MAX_LINE,
         },
+        round_robin: matches.get_flag("round-robin"),
     }
 }

@@ -52,7 +52,7 @@ fn settings_of(alloc: Global, args: Args) -> Result<PlaySettings, RunError> {
         return Err(RunError::Arguments);
     };
     Ok(PlaySettings {
-        config,
+        config: config.with_round_robin(args.server.round_robin),
         limits: args.server.limits,
         plain: args.plain,
     })

@@ -191,18 +191,22 @@ fn script(alloc: Global, seed: u64) -> Result<Vec<u8>, AllocError> {
     Ok(script)
 }
 
-const TERMS: Terms = Terms {
-    first_job: 1,
-    slots: 6,
-    functions: 3,
-};
+// What a script is played under. The functions of every second one take turns.
+fn terms_of(seed: u64) -> Terms {
+    Terms {
+        first_job: 1,
+        slots: 6,
+        functions: 3,
+        round_robin: seed % 2 == 1,
+    }
+}
 
 #[test]
 fn random_scripts(rt: HostRuntime) -> Result<(), Fail> {
     for seed in 0..4 {
         let script = script(rt.alloc(), seed)?;
-        let fast = printed_by(&rt, TERMS, false, &script)?;
-        let plain = printed_by(&rt, TERMS, true, &script)?;
+        let fast = printed_by(&rt, terms_of(seed), false, &script)?;
+        let plain = printed_by(&rt, terms_of(seed), true, &script)?;
         same(&rt, "random script", &(fast == plain), &true);
     }
     Ok(())

@@ -6,14 +6,16 @@ mod packets;
 mod runs;
 mod streams;
 mod submissions;
+mod turns;
 mod workers;
 
-/// The first job's number, and how many slots and functions there may be.
+/// The first job's number, how many slots and functions there may be, and whether a worker's functions take turns.
 #[derive(Clone, Copy)]
 pub struct Terms {
     pub first_job: u64,
     pub slots: u32,
     pub functions: u32,
+    pub round_robin: bool,
 }
 
 /// A script under settings, and what it prints.
@@ -30,16 +32,18 @@ pub const USUAL: Terms = Terms {
     first_job: 1,
     slots: 64,
     functions: 65536,
+    round_robin: false,
 };
 
 /// All rows, by topic. A topic has few, and hands them on by a function: so only its own proof spells them out.
-pub fn all() -> [&'static [Row]; 6] {
+pub fn all() -> [&'static [Row]; 7] {
     [
         packets::rows(),
         streams::rows(),
         submissions::rows(),
         runs::rows(),
         workers::rows(),
+        turns::rows(),
         lines::rows(),
     ]
 }

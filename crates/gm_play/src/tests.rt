@@ -30,7 +30,7 @@ pub fn settings_of(alloc: Global, terms: Terms, plain: bool) -> Result<PlaySetti
     let name = Vec::from_slice(alloc, b"gmd")?;
     let config = Config::new(name, terms.first_job, terms.slots, terms.functions)?;
     Ok(PlaySettings {
-        config,
+        config: config.with_round_robin(terms.round_robin),
         limits: Limits {
             max_bytes: 67_108_864,
             max_line: 1024,
@@ -251,13 +251,14 @@ fn writer_fails(rt: HostRuntime) -> Result<(), Fail> {
 }
 
 // What the options of every job server ask for.
-const fn server_options_of(slots: u32, max_bytes: u32) -> ServerOptions {
+const fn server_options_of(slots: u32, max_bytes: u32, round_robin: bool) -> ServerOptions {
     ServerOptions {
         slots,
         limits: Limits {
             max_bytes,
             max_line: 1024,
         },
+        round_robin,
     }
 }
 
@@ -268,14 +269,14 @@ fn defaults(rt: HostRuntime) -> Result<(), Fail> {
         plain: false,
         first_job: 1,
         functions: 65_536,
-        server: server_options_of(64, 67_108_864),
+        server: server_options_of(64, 67_108_864, false),
     };
     assert!(rt; args == wanted);
     Ok(())
 }
 
 // Each option.
-static OPTIONS: [&str; 9] = [
+static OPTIONS: [&str; 10] = [
     "gm_play",
     "--plain",
     "--first-job",
@@ -285,6 +286,7 @@ static OPTIONS: [&str; 9] = [
     "--functions=1",
     "--max-data",
     "0",
+    "--round-robin",
 ];
 
 #[test]
@@ -294,7 +296,7 @@ fn options(rt: HostRuntime) -> Result<(), Fail> {
         plain: true,
         first_job: 18_446_744_073_709_551_615,
         functions: 1,
-        server: server_options_of(1024, 0),
+        server: server_options_of(1024, 0, true),
     };
     assert!(rt; args == wanted);
     Ok(())

@@ -91,7 +91,7 @@ fn settings_of(alloc: Global, args: Args<'_>) -> Result<Settings, RunError> {
         return Err(RunError::Name);
     };
     Ok(Settings {
-        config,
+        config: config.with_round_robin(args.server.round_robin),
         limits: args.server.limits,
         tape: args.tape,
     })
@@ -109,9 +109,10 @@ fn print_settings<W: Write>(args: Args<'_>, w: &mut W) -> io::Result<()> {
     let slots = args.server.slots;
     let max_data = args.server.limits.max_bytes;
     let tape = u8::from(tape);
+    let round_robin = u8::from(args.server.round_robin);
     writeln!(
         w,
-        "port={port} listen={listen} slots={slots} name={name} max-data={max_data} tape={tape}"
+        "port={port} listen={listen} slots={slots} name={name} max-data={max_data} tape={tape} round-robin={round_robin}"
     )?;
     w.flush()
 }

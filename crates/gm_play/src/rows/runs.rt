@@ -122,6 +122,7 @@ static ROWS: [Row; 8] = [
             first_job: 1,
             slots: 2,
             functions: 65536,
+            round_robin: false,
         },
         script: "open 127.0.0.1\n\
         open 127.0.0.1\n\

@@ -14,6 +14,7 @@ static ROWS: [Row; 8] = [
             first_job: 1,
             slots: 1,
             functions: 65536,
+            round_robin: false,
         },
         script: "open a\n\
         open b\n\

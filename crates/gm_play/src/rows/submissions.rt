@@ -47,6 +47,7 @@ static ROWS: [Row; 8] = [
             first_job: 18446744073709551615,
             slots: 64,
             functions: 65536,
+            round_robin: false,
         },
         script: "open 127.0.0.1\n\
         bytes 0 0052455100000007000000056600610031\n\
@@ -63,6 +64,7 @@ static ROWS: [Row; 8] = [
             first_job: 1,
             slots: 64,
             functions: 1,
+            round_robin: false,
         },
         script: "open 127.0.0.1\n\
         bytes 0 00524551000000010000000166\n\
