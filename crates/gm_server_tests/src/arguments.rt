@@ -68,9 +68,18 @@ fn statuses(rt: HostRuntime) -> Result<(), Fail> {
 fn check_line(rt: HostRuntime) -> Result<(), Fail> {
     let (_, printed) = outcome(
         &rt,
-        &["--check", "--tape", "--port", "1", "--name", "a.b-c"],
+        &[
+            "--check",
+            "--tape",
+            "--round-robin",
+            "--port",
+            "1",
+            "--name",
+            "a.b-c",
+        ],
     )?;
-    let line = b"port=1 listen=0.0.0.0 slots=64 name=a.b-c max-data=67108864 tape=1\n";
+    let line =
+        b"port=1 listen=0.0.0.0 slots=64 name=a.b-c max-data=67108864 tape=1 round-robin=1\n";
     same(&rt, "the settings", &printed.as_slice(), &line.as_slice());
     Ok(())
 }

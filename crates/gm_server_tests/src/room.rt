@@ -17,9 +17,10 @@ use std::sync::Wait;
 use std::test::Fail;
 use std::thread::Threads;
 
-/// The settings of a server with so many slots.
-pub fn config(alloc: Global, slots: u32) -> Result<Config, Fail> {
-    Ok(Config::new(Vec::from_slice(alloc, b"gmd")?, 1, slots, 65536)?)
+/// The settings of a server with so many slots, whose workers' functions take turns or don't.
+pub fn config(alloc: Global, slots: u32, round_robin: bool) -> Result<Config, Fail> {
+    let config = Config::new(Vec::from_slice(alloc, b"gmd")?, 1, slots, 65536)?;
+    Ok(config.with_round_robin(round_robin))
 }
 
 /// A shared book, with all its desks and pens.
@@ -134,7 +135,8 @@ fn play_at<K: BookName + Send + Sync, S: Scene, R: Threads + Wait + Abort + Sync
     Ok(room.settle(alloc))
 }
 
-/// Plays in a new room with so many slots, with a tape or without, and says what the book's settling answers.
+/// Plays in a new room with so many slots, with a tape or without, and says what the book's settling answers. Functions
+/// take turns where a tape is kept.
 pub fn play_to_the_end<S: Scene, R: RandomSource + Threads + Wait + Abort + Sync>(
     rt: &R,
     alloc: Global,
@@ -142,7 +144,8 @@ pub fn play_to_the_end<S: Scene, R: RandomSource + Threads + Wait + Abort + Sync
     tape: TapeMode,
     scene: &mut S,
 ) -> Result<Result<Vec<Entry>, SettleError>, Fail> {
-    let blank = Blank::new(alloc, RandomState::new(rt)?, config(alloc, slots)?, tape)?;
+    let config = config(alloc, slots, tape == TapeMode::On)?;
+    let blank = Blank::new(alloc, RandomState::new(rt)?, config, tape)?;
     play_at::<Brand, S, R>(rt, alloc, blank, scene)
 }
 
