@@ -6,7 +6,7 @@ use Rattle.std.specs.List.{IsDistinct}
 use Rattle.std.specs.Map.{lookup, keys_of}
 use Rattle.std.proofs.lemmas.Map.Entries.{lookup_from_place}
 use Rattle.std.specs.Option.{option_map}
-use Rattle.std.proofs.lemmas.Bool.{cases_eq, true≢false, false≢true}
+use Rattle.std.proofs.lemmas.Bool.{cases_eq, false≢true}
 use Rattle.gm_jobs.specs.Live.{Live}
 use Rattle.gm_jobs.specs.Links.{AllUnique, Stands, stands_in}
 use Rattle.gm_jobs.specs.Tables.{find_job, passes}
@@ -39,16 +39,6 @@ number x y h = cc
 
 key : (x y : ℕ) → Some x ≡ Some y → x ≡ y
 key x y h = cc
-
-pub length_same : (keys : List (ℕ × ℕ)) (at at' : At) → ((k : ℕ) → is_some (at' k) ≡ is_some (at k)) → length (jobs_of keys at') ≡ length (jobs_of keys at)
-length_same [] at at' same = refl
-length_same (p ∷ ps) at at' same = by (at' p.1) (at p.1) (same p.1) (length_same ps at at' same)
-  where
-    by : (x y : Option (ℕ × Live)) → is_some x ≡ is_some y → length (jobs_of ps at') ≡ length (jobs_of ps at) → length (with_job p.0 x (jobs_of ps at')) ≡ length (with_job p.0 y (jobs_of ps at))
-    by None None e rest = rest
-    by None (Some y) e rest = absurd (false≢true e)
-    by (Some x) None e rest = absurd (true≢false e)
-    by (Some x) (Some y) e rest = omega arith
 
 module _ (keys : List (ℕ × ℕ)) (at : At) (i : IsIndexed keys at) where
   there : (n k : ℕ) → lookup (nat_eq n) keys ≡ Some k → IsSome (at k)
@@ -108,25 +98,11 @@ module _ (keys : List (ℕ × ℕ)) (at : At) (i : IsIndexed keys at) where
           stands j m live e (inl same) = let w = was (at j) m live (ap (λ x. with_live f (at x)) same ∙ sym new ∙ ap at' (sym same) ∙ e) in i.stands j m w.0 w.1
           stands j m live e (inr ne) = i.stands j m live (sym (others j ne) ∙ e)
 
-      some_changed : (j : ℕ) → is_some (at' j) ≡ is_some (at j)
-      some_changed j = by (cases_eq j k)
-        where
-          mapped : (o : Option (ℕ × Live)) → is_some (with_live f o) ≡ is_some o
-          mapped None = refl
-          mapped (Some q) = refl
-
-          by : (j ≡ k) ⊎ (j ≡ k → ⊥) → is_some (at' j) ≡ is_some (at j)
-          by (inl same) = ap (λ x. is_some (at' x)) same ∙ ap is_some new ∙ mapped (at k) ∙ ap (λ x. is_some (at x)) (sym same)
-          by (inr ne) = ap is_some (others j ne)
-
       pub changes_job : ChangesJob n f (jobs_of keys at) (jobs_of keys at')
-      changes_job = record {
-        jobs = λ m. at_number n m _ _ _
-            (λ same. ap (find_job (jobs_of keys at')) (sym same) ∙ find_here keys at' indexed_changed n k here ∙ ap (option_map (λ (q : ℕ × Live). q.1)) new ∙ twice (at k)
-            ∙ sym (ap (option_map f) (ap (find_job (jobs_of keys at)) (sym same) ∙ find_here keys at i n k here)))
-            (λ ne. find_same keys at' indexed_changed m refl (λ j e. others j (apart_keys keys at i n m k j here e ne)));
-        len = length_same keys at at' some_changed;
-      }
+      changes_job = λ m. at_number n m _ _ _
+          (λ same. ap (find_job (jobs_of keys at')) (sym same) ∙ find_here keys at' indexed_changed n k here ∙ ap (option_map (λ (q : ℕ × Live). q.1)) new ∙ twice (at k)
+          ∙ sym (ap (option_map f) (ap (find_job (jobs_of keys at)) (sym same) ∙ find_here keys at i n k here)))
+          (λ ne. find_same keys at' indexed_changed m refl (λ j e. others j (apart_keys keys at i n m k j here e ne)))
         where
           twice : (o : Option (ℕ × Live)) → option_map (λ (q : ℕ × Live). q.1) (with_live f o) ≡ option_map f (option_map (λ (q : ℕ × Live). q.1) o)
           twice None = refl
@@ -278,12 +254,9 @@ stands_changed at at' key number' was is e e' others same list k n s = by (cases
 
 -- a job that isn't live doesn't change
 pub changes_none : (n : ℕ) (f : Live → Live) (jobs : List (ℕ × Live)) → find_job jobs n ≡ None → ChangesJob n f jobs jobs
-changes_none n f jobs none = record {
-  jobs = λ m. at_number n m _ _ _
-      (λ same. let gone = ap (find_job jobs) (sym same) ∙ none in gone ∙ sym (ap (option_map f) gone))
-      (λ ne. refl);
-  len = refl;
-}
+changes_none n f jobs none = λ m. at_number n m _ _ _
+    (λ same. let gone = ap (find_job jobs) (sym same) ∙ none in gone ∙ sym (ap (option_map f) gone))
+    (λ ne. refl)
 
 -- no two jobs that stand have one number
 pub unique_of : (keys : List (ℕ × ℕ)) (at : At) → IsIndexed keys at → AllUnique at

@@ -1,20 +1,17 @@
 -- What is true of jobs, and of what is kept beside them.
 use Rattle.std.proofs.Common.{◌≡◌, ◌≢◌, ℕ, zero, suc, ◌+◌, ◌^◌, ◌<◌, ◌≤◌, ◌⊎◌, inl, inr, Bool, true, false, cond, not, ◌==◌}
 use Rattle.std.proofs.Common.{◌&&◌, if◌then◌else◌, List, [], ◌∷◌, length, filter, Contains, Option, Some, None, IsSome, IfSome}
-use Rattle.std.proofs.Common.{is_some, Result, Ok, Err, IsOk, IfOk, OnOk, OnErr, refl, sym, ap, subst, ◌∙◌, arith}
+use Rattle.std.proofs.Common.{is_some, refl, sym, ap, subst, ◌∙◌, arith}
 use Rattle.std.specs.Option.{option_map, unwrap_or, SomeIff}
 use Rattle.gm_jobs.specs.declared.jobs.Jobs.TheInside.{Inside}
 use Rattle.std.proofs.lemmas.List.Elements.{All-contains, filter_passes}
-use Rattle.gm_jobs.proofs.MarkLemmas.{Contains-from_filter}
+use Rattle.gm_jobs.proofs.ListLemmas.{Contains-from_filter}
 use Rattle.std.proofs.lemmas.Bool.{cases_lt, cases_eq, true≢false, false≢true}
 use Rattle.std.proofs.lemmas.Bool.Decides.{nat_tests}
 use Rattle.gm_notes.specs.Jobs.{joins}
 use Rattle.gm_jobs.specs.Live.{Live, is_named, listed, without_listener}
 use Rattle.gm_jobs.specs.Tables.{Room, find_job, passes}
 use Rattle.gm_jobs.specs.Changes.{ChangesJob, LeavesOne, LeavesSome}
-use Rattle.gm_jobs.specs.declared.marks.Mark.{Mark}
-use Rattle.gm_jobs.specs.declared.marks.Sign.{Sign}
-use Rattle.gm_jobs.specs.Marks.{MarkTable, Marked, MarkedBut, is_marked, sign_of, mark_of}
 use Rattle.gm_jobs.specs.Dues.{DueTable, IsListed, AllListed}
 use Rattle.gm_jobs.specs.Listening.{Lists, Heard}
 use Rattle.std.specs.Str.{bytes_eq}
@@ -48,20 +45,20 @@ named_flip live other e = let parts = named_parts live other e in is_named_same 
 -- what a changed table has at a number
 module _ (n : ℕ) (f : Live → Live) (old new : List (ℕ × Live)) (change : ChangesJob n f old new) where
   pub other_job : (m : ℕ) → m ≢ n → find_job new m ≡ find_job old m
-  other_job m ne = change.jobs m ∙ at (n == m) (let ne : m ≢ n = ne in grind (arith, nat_tests))
+  other_job m ne = change m ∙ at (n == m) (let ne : m ≢ n = ne in grind (arith, nat_tests))
     where
       at : (b : Bool) → b ≡ false → (if b then option_map f (find_job old m) else find_job old m) ≡ find_job old m
       at true e = absurd (true≢false e)
       at false e = refl
 
   pub this_job : find_job new n ≡ option_map f (find_job old n)
-  this_job = change.jobs n ∙ at (n == n) (grind (arith, nat_tests))
+  this_job = change n ∙ at (n == n) (grind (arith, nat_tests))
     where
       at : (b : Bool) → b ≡ true → (if b then option_map f (find_job old n) else find_job old n) ≡ option_map f (find_job old n)
       at true e = refl
       at false e = absurd (false≢true e)
 
-  mapped : (o : Option Live) (live : Live) → option_map f o ≡ Some live → (was : Live) × (o ≡ Some was) × (f was ≡ live)
+  pub mapped : (o : Option Live) (live : Live) → option_map f o ≡ Some live → (was : Live) × (o ≡ Some was) × (f was ≡ live)
   mapped None live e = cc
   mapped (Some was) live e = (was, refl, cc)
 
@@ -76,8 +73,9 @@ module _ (n : ℕ) (f : Live → Live) (old new : List (ℕ × Live)) (change : 
           let was = mapped (find_job old n) live (sym this_job ∙ ap (find_job new) (sym e) ∙ found) in
           subst (λ i. Q i live) (sym e) (subst (λ l. Q n l) was.2 (here was.0 (all n was.0 was.1)))
 
-  pub marked_but : (marks : MarkTable) → Marked old marks.marks → MarkedBut n new marks.marks
-  marked_but marks marked m live ne found is = marked m live (sym (other_job m ne) ∙ found) is
+  -- what is listed of the others is still
+  pub listed_others : (dues : DueTable) → AllListed old dues → (m : ℕ) (live : Live) → m ≢ n → find_job new m ≡ Some live → IsListed dues m live
+  listed_others dues listed m live ne found = listed m live (sym (other_job m ne) ∙ found)
 
 -- the job was live before, with this function and unique id
 pub record Was (jobs : List (ℕ × Live)) (n : ℕ) (live : Live) : Type 0 where
@@ -98,13 +96,13 @@ names_changed n f old new change function unique =
 
 module _ (b : Beside) (old : List (ℕ × Live)) where
   -- what is kept beside jobs with the same names
-  pub kept_names : (new : List (ℕ × Live)) (marks : MarkTable) (listening : Lists) (dues : DueTable) (room : Option Room) (spare spare' : ℕ)
-      → IsKept b room spare old → SameNames old new → length new ≤ length old → spare ≤ spare' → marks.room ≡ b.marks.room → Marked new marks.marks
+  pub kept_names : (new : List (ℕ × Live)) (listening : Lists) (dues : DueTable) (room : Option Room) (spare spare' : ℕ)
+      → IsKept b room spare old → SameNames old new → spare ≤ spare'
       → ((m : ℕ) (live : Live) → find_job new m ≡ Some live → (c : ℕ) → Contains live.listeners c → Heard listening c m)
       → AllListed new dues
       → (b.listening.fresh ≡ None → listening.fresh ≡ None)
-      → IsKept (record b { marks = marks; listening = listening; dues = dues }) room spare' new
-  kept_names new marks listening dues room spare spare' k names shorter more wide marked heard listed fresh = record {
+      → IsKept (record b { listening = listening; dues = dues }) room spare' new
+  kept_names new listening dues room spare spare' k names more heard listed fresh = record {
     known = λ n live e.
         let w = names n live e in
         let known = k.known n w.old w.found in
@@ -112,7 +110,6 @@ module _ (b : Beside) (old : List (ℕ × Live)) where
           made = known.made;
           spent = known.spent;
           reached = λ good. Reaches-same b.uniques.cells b.seed w.old.function live.function n n w.old.unique live.unique w.function w.unique refl (known.reached (ap joins w.unique ∙ good));
-          marked = marked n live e;
           heard = heard n live e;
           listed = listed n live e;
         };
@@ -121,49 +118,43 @@ module _ (b : Beside) (old : List (ℕ × Live)) where
         let v = names m other e' in
         k.single n m w.old v.old w.found v.found (ap joins w.unique ∙ good)
         ((λ i. (v.function i == w.function i) && bytes_eq (v.unique i) (w.unique i)) ∙ same);
-    marks = omega (arith, k.marks);
     order = k.order;
     ready = λ r e. let y = k.ready r e in record {
       job = omega (arith, y.job);
       cell = y.cell;
-      mark = omega (arith, y.mark);
       number = y.number;
       fresh = fresh y.fresh;
     };
   }
 
   -- and where there is more room
-  pub kept_room : (uniques : Cells) (marks : MarkTable) (listening : Lists) (dues : DueTable) (room : Option Room) (spare spare' : ℕ)
+  pub kept_room : (uniques : Cells) (listening : Lists) (dues : DueTable) (room : Option Room) (spare spare' : ℕ)
       → IsKept b room spare old → spare ≤ spare' → Reached b.seed old uniques.cells → (b.uniques.used < length b.uniques.cells → uniques.used < length uniques.cells)
-      → marks.marks ≡ b.marks.marks → b.marks.room ≤ marks.room
       → ((c n : ℕ) → IsSome (find_job old n) → Heard b.listening c n → Heard listening c n) → (b.listening.fresh ≡ None → listening.fresh ≡ None)
-      → ((n : ℕ) (live : Live) → (is_marked live ≡ true → Contains b.marks.marks (mark_of n live)) → IsListed b.dues n live → IsListed dues n live)
-      → IsKept (record b { uniques = uniques; marks = marks; listening = listening; dues = dues }) room spare' old
-  kept_room uniques marks listening dues room spare spare' k more reached used same wide heard fresh stays = record {
+      → AllListed old dues
+      → IsKept (record b { uniques = uniques; listening = listening; dues = dues }) room spare' old
+  kept_room uniques listening dues room spare spare' k more reached used heard fresh listed = record {
     known = λ n live e.
         let known = k.known n live e in
         record {
           made = known.made;
           spent = known.spent;
           reached = reached n live e;
-          marked = λ is. subst (λ ms. Contains ms (mark_of n live)) (sym same) (known.marked is);
           heard = λ c there. heard c n (ap is_some e) (known.heard c there);
-          listed = stays n live known.marked known.listed;
+          listed = listed n live e;
         };
     single = k.single;
-    marks = omega (arith, k.marks);
     order = k.order;
     ready = λ r e. let y = k.ready r e in record {
       job = omega (arith, y.job);
       cell = used y.cell;
-      mark = omega (arith, y.mark);
       number = y.number;
       fresh = fresh y.fresh;
     };
   }
 
-  pub kept_ready : (room room' : Option Room) (spare : ℕ) → IsKept b room spare old → IsReady b spare (length old) → IsKept b room' spare old
-  kept_ready room room' spare k y = record { known = k.known; single = k.single; marks = k.marks; order = k.order; ready = λ r e. y }
+  pub kept_ready : (room room' : Option Room) (spare : ℕ) → IsKept b room spare old → IsReady b spare → IsKept b room' spare old
+  kept_ready room room' spare k y = record { known = k.known; single = k.single; order = k.order; ready = λ r e. y }
 
   -- the next number is no live job's
   pub next_absent : (room : Option Room) (spare : ℕ) → IsKept b room spare old → find_job old b.next ≡ None
@@ -189,37 +180,31 @@ module _ (b : Beside) (old : List (ℕ × Live)) where
         at true e = absurd (true≢false e)
         at false e = refl
 
-    pub marked_but_made : (marks : MarkTable) → Marked old marks.marks → MarkedBut b.next new marks.marks
-    marked_but_made marks marked m live ne found is = marked m live (sym (made_other m ne) ∙ found) is
-
     some_same : (x y : Live) → Some x ≡ Some y → x ≡ y
     some_same x y e = cc
 
-    pub kept_made : (left : Bool) (room : Option Room) (r : Room) (spare spare' : ℕ) (uniques : Cells) (marks : MarkTable) (listening : Lists)
-        → IsKept b room spare old → length new ≤ length old + 1 → IsReady b spare (length old)
+    pub kept_made : (left : Bool) (room : Option Room) (r : Room) (spare spare' : ℕ) (uniques : Cells) (listening : Lists)
+        → IsKept b room spare old → IsReady b spare
         → (joins made.unique ≡ true → Reaches uniques.cells (digest_of b.seed made.function made.unique) b.next)
         → ((d n : ℕ) → Reaches b.uniques.cells d n → Reaches uniques.cells d n)
-        → marks.room ≡ b.marks.room → Marked new marks.marks
         → ((c n : ℕ) → Heard b.listening c n → Heard listening c n) → ((c : ℕ) → Contains made.listeners c → Heard listening c b.next)
         → made.slot ≡ None
         → ((m : ℕ) (live : Live) → joins made.unique ≡ true → find_job old m ≡ Some live → is_named made.function made.unique live ≡ true → ⊥)
-        → IsKept (record b { next = b.next + 1; left = left; uniques = uniques; marks = marks; listening = listening }) None spare' new
-    kept_made left room r spare spare' uniques marks listening k longer y reached kept wide marked heard first waits fresh = record {
+        → IsKept (record b { next = b.next + 1; left = left; uniques = uniques; listening = listening }) None spare' new
+    kept_made left room r spare spare' uniques listening k y reached kept heard first waits fresh = record {
       known = λ n live e. known n live e (cases_eq n b.next);
       single = λ n m live other e e' good same. single n m live other e e' good same (cases_eq n b.next) (cases_eq m b.next);
-      marks = omega (arith, y.mark);
       order = omega (arith, k.order);
       ready = λ q e. absurd (let no : ◌≡◌ {A = Option Room} None (Some q) = e in cc);
     }
       where
-        known : (n : ℕ) (live : Live) → find_job new n ≡ Some live → (n ≡ b.next) ⊎ (n ≡ b.next → ⊥) → IsKnown (record b { next = b.next + 1; left = left; uniques = uniques; marks = marks; listening = listening }) n live
+        known : (n : ℕ) (live : Live) → find_job new n ≡ Some live → (n ≡ b.next) ⊎ (n ≡ b.next → ⊥) → IsKnown (record b { next = b.next + 1; left = left; uniques = uniques; listening = listening }) n live
         known n live e (inr ne) =
             let was = k.known n live (sym (made_other n ne) ∙ e) in
             record {
               made = was.made;
               spent = omega (arith, was.spent);
               reached = λ good. kept _ n (was.reached good);
-              marked = marked n live e;
               heard = λ c there. heard c n (was.heard c there);
               listed = was.listed;
             }
@@ -229,9 +214,8 @@ module _ (b : Beside) (old : List (ℕ × Live)) where
               made = omega (arith, k.order);
               spent = omega arith;
               reached = λ good. subst (λ i. Reaches uniques.cells (digest_of b.seed live.function live.unique) i) (sym is) (subst (λ (l : Live). Reaches uniques.cells (digest_of b.seed l.function l.unique) b.next) same (reached (ap (λ (l : Live). joins l.unique) same ∙ good)));
-              marked = marked n live e;
               heard = λ c there. subst (λ i. Heard listening c i) (sym is) (first c (subst (λ (l : Live). Contains l.listeners c) (sym same) there));
-              listed = λ whole d runs until less. absurd (let none : is_some made.slot ≡ false = ap is_some waits in true≢false (sym (ap (λ (l : Live). is_some l.slot) same ∙ runs) ∙ none));
+              listed = λ whole d runs until. absurd (let none : is_some made.slot ≡ false = ap is_some waits in true≢false (sym (ap (λ (l : Live). is_some l.slot) same ∙ runs) ∙ none));
             }
 
         single : (n m : ℕ) (live other : Live) → find_job new n ≡ Some live → find_job new m ≡ Some other → joins live.unique ≡ true → is_named live.function live.unique other ≡ true
@@ -248,46 +232,24 @@ module _ (b : Beside) (old : List (ℕ × Live)) where
 
 -- what stands beside the jobs of a table
 abbrev pub beside : Inside → Beside
-beside t = record { seed = t.seed; first = t.first; next = unwrap_or t.next (2 ^ 64); left = is_some t.next; uniques = t.uniques; marks = t.marks; listening = t.listening; dues = t.dues }
-
-pub marked_of : (b : Beside) (jobs : List (ℕ × Live)) (room : Option Room) (spare : ℕ) → IsKept b room spare jobs → Marked jobs b.marks.marks
-marked_of b jobs room spare k n live e = (k.known n live e).marked
-
--- a change that gives no job a mark leaves all marked
-pub marked_changed : (n : ℕ) (f : Live → Live) (old new : List (ℕ × Live)) (marks : MarkTable) → ChangesJob n f old new → Marked old marks.marks → ((l : Live) → is_marked (f l) ≡ true → sign_of (f l) ≡ sign_of l) → ((l : Live) → is_marked (f l) ≡ true → is_marked l ≡ true) → Marked new marks.marks
-marked_changed n f old new marks change marked sign less =
-    each_changed n f old new change (λ m live. is_marked live ≡ true → Contains marks.marks (mark_of m live)) (λ m live. is_marked live ≡ true → Contains marks.marks (mark_of m live))
-    marked (λ m live h. h) (λ live h is. subst (λ (s : Sign). Contains marks.marks (record { number = n; sign = s })) (sym (sign live is)) (h (less live is)))
+beside t = record { seed = t.seed; first = t.first; next = unwrap_or t.next (2 ^ 64); left = is_some t.next; uniques = t.uniques; listening = t.listening; dues = t.dues }
 
 -- a change that gives no job a deadline leaves all listed
 pub listed_changed : (n : ℕ) (f : Live → Live) (old new : List (ℕ × Live)) (dues : DueTable) → ChangesJob n f old new → AllListed old dues → ((l : Live) → IsListed dues n l → IsListed dues n (f l)) → AllListed new dues
 listed_changed n f old new dues change all here =
     each_changed n f old new change (λ m live. IsListed dues m live) (λ m live. IsListed dues m live) all (λ m live h. h) here
 
--- a job that gets a deadline is listed where its mark stands, and so are the others still
-pub listed_assigned : (n : ℕ) (f : Live → Live) (old new : List (ℕ × Live)) (before after : DueTable) (marks : List Mark) → ChangesJob n f old new → AllListed old before → Marked new marks
-    → ((m : ℕ) (live : Live) → (is_marked live ≡ true → Contains marks (mark_of m live)) → IsListed before m live → IsListed after m live)
-    → ((l : Live) → (is_marked (f l) ≡ true → Contains marks (mark_of n (f l))) → IsListed after n (f l)) → AllListed new after
-listed_assigned n f old new before after marks change all marked stays here m live found = by (cases_eq m n)
-  where
-    by : (m ≡ n) ⊎ (m ≡ n → ⊥) → IsListed after m live
-    by (inr ne) = stays m live (marked m live found) (all m live (sym (other_job n f old new change m ne) ∙ found))
-    by (inl e) =
-        let found_n : find_job new n ≡ Some live = ap (find_job new) (sym e) ∙ found in
-        let was = mapped n f old new change (find_job old n) live (sym (this_job n f old new change) ∙ found_n) in
-        subst (λ i. IsListed after i live) (sym e) (subst (λ l. IsListed after n l) was.2 (here was.0 (subst (λ l. is_marked l ≡ true → Contains marks (mark_of n l)) (sym was.2) (marked n live found_n))))
-
 pub listed_of : (b : Beside) (jobs : List (ℕ × Live)) (room : Option Room) (spare : ℕ) → IsKept b room spare jobs → AllListed jobs b.dues
 listed_of b jobs room spare k n live e = (k.known n live e).listed
 
 -- what is kept beside the jobs, where one changed
-pub kept_changed : (b : Beside) (n : ℕ) (f : Live → Live) (old new : List (ℕ × Live)) (marks : MarkTable) (listening : Lists) (dues : DueTable) (room : Option Room) (spare spare' : ℕ)
-    → IsKept b room spare old → ChangesJob n f old new → ((l : Live) → (f l).function ≡ l.function) → ((l : Live) → (f l).unique ≡ l.unique) → spare' ≡ spare → marks.room ≡ b.marks.room → Marked new marks.marks
+pub kept_changed : (b : Beside) (n : ℕ) (f : Live → Live) (old new : List (ℕ × Live)) (listening : Lists) (dues : DueTable) (room : Option Room) (spare spare' : ℕ)
+    → IsKept b room spare old → ChangesJob n f old new → ((l : Live) → (f l).function ≡ l.function) → ((l : Live) → (f l).unique ≡ l.unique) → spare' ≡ spare
     → ((c m : ℕ) → IsSome (find_job old m) → Heard b.listening c m → Heard listening c m) → ((l : Live) (c : ℕ) → Contains (f l).listeners c → Contains l.listeners c ⊎ Heard listening c n) → (b.listening.fresh ≡ None → listening.fresh ≡ None)
     → AllListed new dues
-    → IsKept (record b { marks = marks; listening = listening; dues = dues }) room spare' new
-kept_changed b n f old new marks listening dues room spare spare' k change function unique same wide marked heard first fresh all =
-    kept_names b old new marks listening dues room spare spare' k (names_changed n f old new change function unique) (omega (arith, change.len)) (omega arith) wide marked
+    → IsKept (record b { listening = listening; dues = dues }) room spare' new
+kept_changed b n f old new listening dues room spare spare' k change function unique same heard first fresh all =
+    kept_names b old new listening dues room spare spare' k (names_changed n f old new change function unique) (omega arith)
     (each_changed n f old new change (λ m live. (c : ℕ) → Contains live.listeners c → Heard listening c m) (λ m live. (c : ℕ) → Contains live.listeners c → Heard listening c m)
     (λ m live e c there. heard c m (ap is_some e) ((k.known m live e).heard c there)) (λ m live h. h) (λ live h c there. at live c h (first live c there)))
     all fresh
@@ -317,7 +279,7 @@ module _ (slot : ℕ) where
   leaves_one n old new change = this_job n (without_listener slot) old new change
 
   pub leaves_some : (n : ℕ) (old new : List (ℕ × Live)) → ChangesJob n (without_listener slot) old new → LeavesSome slot old new
-  leaves_some n old new change = record { jobs = λ m. by m (cases_eq m n); len = change.len }
+  leaves_some n old new change = λ m. by m (cases_eq m n)
     where
       by : (m : ℕ) → (m ≡ n) ⊎ (m ≡ n → ⊥) → (find_job new m ≡ find_job old m) ⊎ LeavesOne slot m old new
       by m (inl e) = inr (ap (find_job new) e ∙ this_job n (without_listener slot) old new change ∙ ap (λ i. option_map (without_listener slot) (find_job old i)) (sym e))
@@ -325,12 +287,12 @@ module _ (slot : ℕ) where
 
   -- it leaves none
   pub leaves_none : (old : List (ℕ × Live)) → LeavesSome slot old old
-  leaves_none old = record { jobs = λ n. inl refl; len = refl }
+  leaves_none old = λ n. inl refl
 
   module _ (first old new : List (ℕ × Live)) (before : LeavesSome slot first old) (after : LeavesSome slot old new) where
     -- a job that it left stays left
     pub left_before : (n : ℕ) → LeavesOne slot n first old → LeavesOne slot n first new
-    left_before n e = by (after.jobs n)
+    left_before n e = by (after n)
       where
         by : (find_job new n ≡ find_job old n) ⊎ LeavesOne slot n old new → LeavesOne slot n first new
         by (inl same) = same ∙ e
@@ -338,14 +300,14 @@ module _ (slot : ℕ) where
 
     -- and a job that it leaves then was left or not
     pub left_after : (n : ℕ) → LeavesOne slot n old new → LeavesOne slot n first new
-    left_after n e = by (before.jobs n)
+    left_after n e = by (before n)
       where
         by : (find_job old n ≡ find_job first n) ⊎ LeavesOne slot n first old → LeavesOne slot n first new
         by (inl same) = e ∙ ap (option_map (without_listener slot)) same
         by (inr left) = e ∙ ap (option_map (without_listener slot)) left ∙ twice (find_job first n)
 
     pub leaves_more : LeavesSome slot first new
-    leaves_more = record { jobs = λ n. by n (before.jobs n) (after.jobs n); len = after.len ∙ before.len }
+    leaves_more = λ n. by n (before n) (after n)
       where
         by : (n : ℕ) → (find_job old n ≡ find_job first n) ⊎ LeavesOne slot n first old → (find_job new n ≡ find_job old n) ⊎ LeavesOne slot n old new → (find_job new n ≡ find_job first n) ⊎ LeavesOne slot n first new
         by n (inl e) (inl f) = inl (f ∙ e)
@@ -373,7 +335,7 @@ module _ (slot : ℕ) where
   module _ (old new : List (ℕ × Live)) (some : LeavesSome slot old new) (all : (n : ℕ) (live : Live) → find_job old n ≡ Some live → Contains live.listeners slot → LeavesOne slot n old new) where
     -- where it left each job that it listened to, it left all
     pub left_all : (n : ℕ) → find_job new n ≡ option_map (without_listener slot) (find_job old n)
-    left_all n = by (find_job old n) refl (some.jobs n)
+    left_all n = by (find_job old n) refl (some n)
       where
         by : (o : Option Live) → find_job old n ≡ o → (find_job new n ≡ find_job old n) ⊎ LeavesOne slot n old new → find_job new n ≡ option_map (without_listener slot) (find_job old n)
         by o e (inr left) = left
@@ -391,37 +353,19 @@ module _ (slot : ℕ) where
     was_left : (n : ℕ) (live : Live) → find_job new n ≡ Some live → (was : Live) × (find_job old n ≡ Some was) × (without_listener slot was ≡ live)
     was_left n live e = mapped_left (find_job old n) live (sym (left_all n) ∙ e)
 
-    pub kept_left : (b : Beside) (marks : MarkTable) (listening : Lists) (room : Option Room) (spare spare' : ℕ) → IsKept b room spare old → spare' ≡ spare → marks.room ≡ b.marks.room → Marked new marks.marks
+    pub kept_left : (b : Beside) (listening : Lists) (room : Option Room) (spare spare' : ℕ) → IsKept b room spare old → spare' ≡ spare
         → ((c n : ℕ) → c ≢ slot → Heard b.listening c n → Heard listening c n) → (b.listening.fresh ≡ None → listening.fresh ≡ None)
-        → IsKept (record b { marks = marks; listening = listening }) room spare' new
-    kept_left b marks listening room spare spare' k same wide marked heard fresh =
-        kept_names b old new marks listening b.dues room spare spare' k
+        → IsKept (record b { listening = listening }) room spare' new
+    kept_left b listening room spare spare' k same heard fresh =
+        kept_names b old new listening b.dues room spare spare' k
         (λ n live e. let w = was_left n live e in record { old = w.0; found = w.1; function = ap (λ (l : Live). l.function) w.2; unique = ap (λ (l : Live). l.unique) w.2 })
-        (omega (arith, some.len)) (omega arith) wide marked
+        (omega arith)
         (λ n live e c there.
         let w = was_left n live e in
         let s = stays w.0.listeners c (subst (λ (l : Live). Contains l.listeners c) (sym w.2) there) in
         heard c n s.0 ((k.known n w.0 w.1).heard c s.1))
         (λ n live e. let w = was_left n live e in subst (λ (l : Live). IsListed b.dues n l) w.2 (k.known n w.0 w.1).listed)
         fresh
-
--- ---- results
-
-pub either : {T E : Type 0} (r : Result T E) {P Q : Type 0} → OnOk r P → OnErr r Q → P ⊎ Q
-either (Ok x) p q = inl p
-either (Err e) p q = inr q
-
-pub on_ok_map : {T E : Type 0} (r : Result T E) {P Q : Type 0} → (P → Q) → OnOk r P → OnOk r Q
-on_ok_map (Ok x) f h = f h
-on_ok_map (Err e) f h = h
-
-pub on_err_map : {T E : Type 0} (r : Result T E) {P Q : Type 0} → (P → Q) → OnErr r P → OnErr r Q
-on_err_map (Ok x) f h = h
-on_err_map (Err e) f h = f h
-
-pub if_some_map : {T : Type 0} (o : Option T) (P Q : T → Type 0) → ((x : T) → P x → Q x) → IfSome o P → IfSome o Q
-if_some_map None P Q f h = h
-if_some_map (Some x) P Q f h = f x h
 
 pub reached_of : (b : Beside) (jobs : List (ℕ × Live)) (room : Option Room) (spare : ℕ) → IsKept b room spare jobs → Reached b.seed jobs b.uniques.cells
 reached_of b jobs room spare k n live e good = (k.known n live e).reached good
@@ -437,27 +381,18 @@ removed n old new gone m live e = at (n == m) (sym (gone m) ∙ e)
 
 pub kept_dues : (b : Beside) (jobs : List (ℕ × Live)) (dues : DueTable) (room : Option Room) (spare : ℕ) → IsKept b room spare jobs → AllListed jobs dues → IsKept (record b { dues = dues }) room spare jobs
 kept_dues b jobs dues room spare k all =
-    kept_names b jobs jobs b.marks b.listening dues room spare spare k
-    (λ n live e. record { old = live; found = e; function = refl; unique = refl }) (omega arith) (omega arith) refl
-    (λ n live e. (k.known n live e).marked) (λ n live e. (k.known n live e).heard) all (λ e. e)
+    kept_names b jobs jobs b.listening dues room spare spare k
+    (λ n live e. record { old = live; found = e; function = refl; unique = refl }) (omega arith)
+    (λ n live e. (k.known n live e).heard) all (λ e. e)
 
-pub kept_ended : (b : Beside) (n : ℕ) (old new : List (ℕ × Live)) (marks : MarkTable) (room : Option Room) (spare spare' : ℕ) → IsKept b room spare old → ((m : ℕ) → find_job new m ≡ (if n == m then None else find_job old m))
-    → length new ≤ length old → spare ≤ spare' → ((y : Mark) → y.number ≢ n → Contains b.marks.marks y → Contains marks.marks y) → marks.room ≡ b.marks.room → IsKept (record b { marks = marks }) room spare' new
-kept_ended b n old new marks room spare spare' k gone shorter more others wide =
-    kept_names b old new marks b.listening b.dues room spare spare' k
-    (λ m live e. record { old = live; found = was m live e; function = refl; unique = refl }) shorter more wide
-    (λ m live e is. others (mark_of m live) (apart m live e) ((k.known m live (was m live e)).marked is))
+pub kept_ended : (b : Beside) (n : ℕ) (old new : List (ℕ × Live)) (room : Option Room) (spare spare' : ℕ) → IsKept b room spare old → ((m : ℕ) → find_job new m ≡ (if n == m then None else find_job old m)) → spare ≤ spare' → IsKept b room spare' new
+kept_ended b n old new room spare spare' k gone more =
+    kept_names b old new b.listening b.dues room spare spare' k
+    (λ m live e. record { old = live; found = was m live e; function = refl; unique = refl }) more
     (λ m live e. (k.known m live (was m live e)).heard) (λ m live e. (k.known m live (was m live e)).listed) (λ e. e)
   where
     was : (m : ℕ) (live : Live) → find_job new m ≡ Some live → find_job old m ≡ Some live
     was = removed n old new gone
-
-    apart : (m : ℕ) (live : Live) → find_job new m ≡ Some live → m ≢ n
-    apart m live e same = at (n == m) (let equal : (n == m) ≡ true = grind (arith, nat_tests) in equal) (gone m)
-      where
-        at : (t : Bool) → t ≡ true → find_job new m ≡ (if t then None else find_job old m) → ⊥
-        at true is g = cc
-        at false is g = absurd (false≢true is)
 
 -- ---- a job is found by its name
 
@@ -475,18 +410,6 @@ one_named b jobs room spare k f unique m n good one other =
     k.single m n x.0 y.0 x.1 y.1 (ap joins x.3 ∙ good) (is_named_same y.0 x.0 (y.2 ∙ sym x.2) (y.3 ∙ sym x.3))
 
 -- ---- a job is made
-
-pub on_ok : {T E : Type 0} (r : Result T E) {Q : Type 0} → IsOk r → OnOk r Q → Q
-on_ok (Ok x) h q = q
-on_ok (Err e) h q = absurd (false≢true h)
-
-pub if_ok : {T E : Type 0} (r : Result T E) (P : T → Type 0) → IsOk r → IfOk r P → (x : T) × P x
-if_ok (Ok x) P h p = (x, p)
-if_ok (Err e) P h p = absurd (false≢true h)
-
-pub one_more : {T : Type 0} (n m : ℕ) (o : Option T) → m ≡ n + (if is_some o then 0 else 1) → m ≤ n + 1
-one_more n m None e = omega arith
-one_more n m (Some x) e = omega arith
 
 -- the number after this one, or all are spent
 pub next_is : (r : Option ℕ) (n : ℕ) → SomeIff r (n + 1 < 2 ^ 64) (n + 1) → n < 2 ^ 64 → unwrap_or r (2 ^ 64) ≡ n + 1

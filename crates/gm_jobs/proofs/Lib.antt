@@ -4,6 +4,5 @@ pub mod EntryLemmas
 pub mod JobLemmas
 pub mod LinkLemmas
 pub mod ListLemmas
-pub mod MarkLemmas
 pub mod NumberLemmas
 pub mod RollLemmas

@@ -1,8 +1,9 @@
--- What is true of the lists of who listens to what.
-use Rattle.std.proofs.Common.{◌≡◌, ℕ, ◌<◌, ◌⊎◌, inl, inr, List, [], length, get_or, set, Contains, slice_index_or, Option, sym}
-use Rattle.std.proofs.Common.{ap, subst, ◌∙◌}
+-- What is true of the lists of who listens to what, and of a filter.
+use Rattle.std.proofs.Common.{◌≡◌, ℕ, zero, suc, ◌<◌, ◌⊎◌, inl, inr, Bool, true, false, cond, filter, List, [], ◌∷◌, length, get_or, set, Contains, slice_index_or, Option, sym}
+use Rattle.std.proofs.Common.{ap, subst, ◌∙◌, arith}
 use Rattle.std.proofs.lemmas.List.{get_or-set_other, get_or-set_same, get_or_default}
-use Rattle.std.proofs.lemmas.Bool.{cases_eq}
+use Rattle.std.proofs.lemmas.Bool.{cases_eq, false≢true}
+use Rattle.std.proofs.lemmas.List.Elements.{Contains-append_right}
 use Rattle.gm_jobs.specs.Listening.{Heard}
 
 module _ (lists longer : List (List ℕ)) (fresh : Option (ℕ × ℕ)) (same : (c : ℕ) → slice_index_or longer c [] ≡ slice_index_or lists c []) (slot : ℕ) (within : slot < length longer)
@@ -20,3 +21,27 @@ module _ (lists longer : List (List ℕ)) (fresh : Option (ℕ × ℕ)) (same : 
 
   pub list_of-set : slice_index_or (set longer slot new) slot [] ≡ new
   list_of-set = get_or-set_same longer slot new [] within
+
+-- ---- a filter keeps what passes
+
+pub Contains-filter : {X : Type 0} (p : X → Bool) (xs : List X) (y : X) → p y ≡ true → Contains xs y → Contains (filter p xs) y
+Contains-filter p [] y good there = there
+Contains-filter p (x ∷ xs) y good (zero, w, e) = by (p x) (ap p e ∙ good)
+  where
+    by : (b : Bool) → b ≡ true → Contains (cond b (x ∷ filter p xs) (filter p xs)) y
+    by true t = (0, omega arith, e)
+    by false t = absurd (false≢true t)
+Contains-filter p (x ∷ xs) y good (suc k, w, e) = by (p x) (Contains-filter p xs y good (k, omega arith, e))
+  where
+    by : (b : Bool) → Contains (filter p xs) y → Contains (cond b (x ∷ filter p xs) (filter p xs)) y
+    by true rest = Contains-append_right (x ∷ []) (filter p xs) y rest
+    by false rest = rest
+
+pub Contains-from_filter : {X : Type 0} (p : X → Bool) (xs : List X) (y : X) → Contains (filter p xs) y → Contains xs y
+Contains-from_filter p [] y there = there
+Contains-from_filter {X} p (x ∷ xs) y there = by (p x) there (λ h. Contains-from_filter p xs y h)
+  where
+    by : (b : Bool) → Contains (cond b (x ∷ filter p xs) (filter p xs)) y → (Contains (filter p xs) y → Contains xs y) → Contains (x ∷ xs) y
+    by true (zero, w, e) rest = (0, omega arith, e)
+    by true (suc k, w, e) rest = Contains-append_right (x ∷ []) xs y (rest (k, omega arith, e))
+    by false h rest = Contains-append_right (x ∷ []) xs y (rest h)

@@ -1,5 +1,5 @@
 -- What becomes of one job among all.
-use Rattle.std.specs.Prelude.{◌≡◌, ℕ, ◌==◌, ◌⊎◌, Bool, true, false, if◌then◌else◌, List, length}
+use Rattle.std.specs.Prelude.{◌≡◌, ℕ, ◌==◌, ◌⊎◌, Bool, true, false, if◌then◌else◌, List}
 use Rattle.std.specs.Option.{option_map}
 use Rattle.gm_jobs.specs.declared.job.Change.{Change}
 use Rattle.gm_jobs.specs.declared.job.Change.TheVariants.{Assign, GiveBack, Keep, Listen, Leave, Report}
@@ -24,15 +24,13 @@ takes_memory (Leave slot) = false
 takes_memory (Report numerator denominator) = true
 
 -- The job, if it is live, is what the change makes of it.
-pub record ChangesJob (n : ℕ) (change : Live → Live) (old new : List (ℕ × Live)) : Type 0 where
-  pub jobs : (m : ℕ) → find_job new m ≡ (if n == m then option_map change (find_job old m) else find_job old m)
-  pub len : length new ≡ length old
+abbrev pub ChangesJob : ℕ → (Live → Live) → List (ℕ × Live) → List (ℕ × Live) → Type 0
+ChangesJob n change old new = (m : ℕ) → find_job new m ≡ (if n == m then option_map change (find_job old m) else find_job old m)
 
 -- the slot listens no more to the job
 abbrev pub LeavesOne : ℕ → ℕ → List (ℕ × Live) → List (ℕ × Live) → Type 0
 LeavesOne slot n old new = find_job new n ≡ option_map (without_listener slot) (find_job old n)
 
 -- The slot listens no more to some of the jobs.
-pub record LeavesSome (slot : ℕ) (old new : List (ℕ × Live)) : Type 0 where
-  pub jobs : (n : ℕ) → (find_job new n ≡ find_job old n) ⊎ LeavesOne slot n old new
-  pub len : length new ≡ length old
+abbrev pub LeavesSome : ℕ → List (ℕ × Live) → List (ℕ × Live) → Type 0
+LeavesSome slot old new = (n : ℕ) → (find_job new n ≡ find_job old n) ⊎ LeavesOne slot n old new

@@ -5,7 +5,6 @@ pub mod Kept
 pub mod Links
 pub mod Listening
 pub mod Live
-pub mod Marks
 pub mod Numbers
 pub mod Queries
 pub mod Roll

@@ -12,9 +12,8 @@ ghost use Rattle.gm_jobs.specs.Queries.{meets};
 ghost use Rattle.gm_jobs.specs.Links.{stands_in, held, AllUnique, AllLinked, next_of, link_of};
 ghost use Rattle.gm_jobs.specs.ByNumber.{Changed};
 
-use crate::job::{Change, Job};
+use crate::job::{Change, Job, Query};
 use crate::lists::{Ends, Entry, LISTS, enter, find_next, leave, list_at};
-use crate::marks::Query;
 use indexmap::IndexMap;
 use slab::Slab;
 use std::alloc::{AllocError, Global};
@@ -170,7 +169,8 @@ impl JobMap {
 
     /// The job at this position among all, in no particular order, with its number.
     pub(crate) fn at(&self, i: usize) -> Option<(u64, &Job)>
-        ensures { option_map (λ p. (p.0, p.1.now)) result ≡ slice_get self.now.entries i }
+        ensures entry { option_map (λ p. (p.0, p.1.now)) result ≡ slice_get self.now.entries i }
+        ensures live { IfSome result (λ p. find_job self.now.entries p.0 ≡ Some p.1.now) }
     {
         match self.keys.get_index(i) {
             Some((number, key)) => match self.slab.get(*key) {
@@ -206,7 +206,6 @@ impl JobMap {
         requires room { 0 < self.old.room }
         requires absent { find_job self.old.entries number ≡ None }
         ensures jobs { (m : ℕ) → find_job self.new.entries m ≡ (if number == m then Some job else find_job self.old.entries m) }
-        ensures len { length self.new.entries ≤ length self.old.entries + 1 }
     {
         let key = self.slab.insert_reserved(Entry::new(number, job));
         let _fits = self.keys.insert(number, key);
@@ -216,7 +215,6 @@ impl JobMap {
     /// Lets go of the job of a number.
     pub(crate) fn remove(&mut self, number: u64)
         ensures jobs { (m : ℕ) → find_job self.new.entries m ≡ (if number == m then None else find_job self.old.entries m) }
-        ensures len { length self.new.entries ≤ length self.old.entries }
         ensures room { self.old.room ≤ self.new.room }
     {
         let Some(key) = self.keys.swap_remove(&number) else {

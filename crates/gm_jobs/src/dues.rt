@@ -1,80 +1,191 @@
 //! When running jobs are due.
 
-ghost use Rattle.std.specs.Prelude.{◌≡◌, ℕ, ◌<◌, ◌≤◌, true, Some, Contains, IfSome, IfNone};
-ghost use Rattle.gm_jobs.specs.Live.{Live, is_due};
-ghost use Rattle.gm_jobs.specs.Tables.{find_job, passes};
-ghost use Rattle.gm_jobs.specs.Marks.{is_marked, mark_of};
+ghost use Rattle.std.specs.Prelude.{◌≡◌, ◌≢◌, ℕ, ◌<◌, ◌≤◌, true, false, Some, None, Contains, slice_get, IfSome, IfNone};
+ghost use Rattle.std.specs.List.Sorted.{IsNonDecreasingBy};
+ghost use Rattle.gm_jobs.specs.Live.{Live, is_at, is_due};
+ghost use Rattle.gm_jobs.specs.Tables.{find_job, passes, IsNext, IsLast};
 ghost use Rattle.gm_jobs.specs.Roll.{Has};
-ghost use Rattle.gm_jobs.specs.Dues.{deadline_of, IsListed, AllListed, IsCollected, IsKnownDue};
+ghost use Rattle.gm_jobs.specs.Dues.{deadline_of, IsListed, AllListed, listing, AllLater, NoneReached, IsFirstReached, least_of};
 
 use crate::by_number::JobMap;
-use crate::marks::{Marks, Query};
 use crate::roll::Roll;
 use std::alloc::{AllocError, Global};
 use std::marker::Model;
 
-/// What is known of the next job that is due.
-#[derive(Clone, Copy)]
-pub(crate) enum Known {
-    /// It is the job of this number.
-    Next(u64),
-    /// There is none.
-    Last,
-    /// The marks have to be asked.
-    Nothing,
-}
-
 /// The deadlines of the jobs that run, and of some that don't run any more.
 ///
-/// The deadline of a job that doesn't run until then any more does no harm: it is compared with the job. It goes when it
-/// is reached, or when all are made anew from the marks, which is when there is no room for one more.
+/// The deadline of a job that doesn't run until then any more does no harm: it is compared with the job. Those that were
+/// reached go when there is nothing more to tell, and the others when they are reached, or when all are made anew from
+/// the jobs, which is when there is no room for one more.
 #[derive(Drop)]
 pub(crate) struct Dues {
     // Each deadline with the number of its job: the soonest is first.
     waiting: Roll,
-    // Those that were reached, the number before the deadline: the least number is first.
-    reached: Roll,
+    // Those that were reached, the number before the deadline, in the order of the numbers.
+    reached: Vec<(u64, u64)>,
     // Whether no deadline is missing.
     whole: bool,
 }
 
 impl Model for Dues {
+    ghost use Rattle.std.specs.List.Sorted.{IsNonDecreasingBy};
     ghost use Rattle.gm_jobs.specs.Dues.{DueTable};
 
     ghost Value = { DueTable };
 
-    ghost view = { λ d. record { waiting = d.waiting; reached = d.reached; whole = d.whole } };
+    ghost view = { λ d. record { waiting = d.waiting; reached = d.reached.items; whole = d.whole } };
+
+    ghost invariant = { λ d. IsNonDecreasingBy (λ p. p.0) d.reached.items };
 }
 
-// Until when the job of a number runs, if it is live and has a deadline.
-fn deadline_of(jobs: &JobMap, number: u64) -> Option<u64>
-    ensures { result ≡ deadline_of (find_job jobs.now.entries number) }
+// Whether the job of a number has this deadline.
+fn has_deadline(jobs: &JobMap, number: u64, deadline: u64) -> bool
+    ensures { result ≡ is_at deadline (deadline_of (find_job jobs.now.entries number)) }
 {
     match jobs.get(number) {
-        Some(job) => job.deadline(),
-        None => None,
-    }
-}
-
-// Whether the job of a number runs until this moment.
-fn runs_until(jobs: &JobMap, number: u64, deadline: u64) -> bool
-    ensures { deadline_of (find_job jobs.now.entries number) ≡ Some deadline → result ≡ true }
-{
-    match deadline_of(jobs, number) {
-        Some(until) => until == deadline,
+        Some(job) => match job.deadline() {
+            Some(d) => d == deadline,
+            None => false,
+        },
         None => false,
     }
 }
 
-// The job of a number is among the reached, if it is due. Answers whether there was room.
-fn reach(reached: &mut Roll, jobs: &JobMap, now: u64, deadline: u64, number: u64) -> bool
-    ensures kept { (a b : ℕ) → Has reached.old a b → Has reached.new a b }
-    ensures stands { result ≡ true → passes (is_due now) (find_job jobs.now.entries number) ≡ true → Has reached.new number deadline }
+// Whether the job of a number is live and due.
+fn is_due(jobs: &JobMap, number: u64, now: u64) -> bool
+    ensures { result ≡ passes (is_due now) (find_job jobs.now.entries number) }
 {
-    if !Query::Due(now).meets(jobs, number) {
+    match jobs.get(number) {
+        Some(job) => job.is_due(now),
+        None => false,
+    }
+}
+
+// The deadline of the job at this position goes into the roll, if there is one. Answers whether there was room.
+fn list_deadline(roll: &mut Roll, jobs: &JobMap, i: usize) -> bool
+    ensures kept { (a b : ℕ) → Has roll.old a b → Has roll.new a b }
+    ensures stands { result ≡ true → (n d : ℕ) (live : Live) → slice_get jobs.now.entries i ≡ Some (n, live) → live.deadline ≡ Some d → Has roll.new d n }
+{
+    match jobs.at(i) {
+        Some((number, job)) => match job.deadline() {
+            Some(deadline) => roll.put(deadline, number),
+            None => true,
+        },
+        None => true,
+    }
+}
+
+// The deadlines of all jobs go into the roll. Answers whether there was room.
+fn list_deadlines(roll: &mut Roll, jobs: &JobMap) -> bool
+    ensures { result ≡ true → (n d : ℕ) (live : Live) → find_job jobs.now.entries n ≡ Some live → live.deadline ≡ Some d → Has roll.new d n }
+{
+    for i in 0..jobs.len() {
+        if !list_deadline(roll, jobs, i) {
+            return false;
+        }
+    }
+    true
+}
+
+// The job of a number is among the reached, if it is due. Answers whether there was room.
+fn reach(reached: &mut Vec<(u64, u64)>, jobs: &JobMap, now: u64, deadline: u64, number: u64) -> bool
+    ensures kept { (n d : ℕ) → Contains reached.old.items (n, d) → Contains reached.new.items (n, d) }
+    ensures stands { result ≡ true → passes (is_due now) (find_job jobs.now.entries number) ≡ true → Contains reached.new.items (number, deadline) }
+{
+    if !is_due(jobs, number, now) {
         return true;
     }
-    reached.put(number, deadline)
+    if reached.len() == reached.capacity() {
+        return false;
+    }
+    let _fits = reached.push((number, deadline));
+    true
+}
+
+// Whether a deadline is reached.
+fn is_reached(waiting: &Roll, now: u64) -> bool
+    ensures { result ≡ false → AllLater now waiting.now }
+{
+    match waiting.first() {
+        Some((deadline, _number)) => deadline <= now,
+        None => false,
+    }
+}
+
+// The jobs that are due are among the reached then. Answers whether there was room for all.
+fn gather(waiting: &mut Roll, reached: &mut Vec<(u64, u64)>, jobs: &JobMap, now: u64) -> bool
+    requires { AllListed jobs.now.entries (listing waiting.old reached.old.items) }
+    ensures listed { AllListed jobs.now.entries (listing waiting.new reached.new.items) }
+    ensures all { result ≡ true → AllLater now waiting.new }
+{
+    while let Some((deadline, number)) = waiting.first() {
+        if deadline > now {
+            return true;
+        }
+        if !reach(reached, jobs, now, deadline, number) {
+            return false;
+        }
+        waiting.pop();
+    }
+    true
+}
+
+// The least number above `after` of those reached whose job is due.
+fn first_reached(reached: &[(u64, u64)], jobs: &JobMap, now: u64, after: u64) -> Option<u64>
+    requires { IsNonDecreasingBy (λ p. p.0) reached.now }
+    ensures first { IfSome result (IsFirstReached now after jobs.now.entries reached.now) }
+    ensures none { IfNone result (NoneReached now after jobs.now.entries reached.now) }
+{
+    let start = reached.partition_point(|due| due.0 <= after);
+    for i in start..reached.len() {
+        let number = reached[i].0;
+        if is_due(jobs, number, now) {
+            return Some(number);
+        }
+    }
+    None
+}
+
+// The number of the job at this position, if that is due and its number is above `after`.
+fn due_at(jobs: &JobMap, i: usize, now: u64, after: u64) -> Option<u64>
+    ensures due { IfSome result (λ n. (after < n) × (passes (is_due now) (find_job jobs.now.entries n) ≡ true)) }
+    ensures all { (n : ℕ) (live : Live) → slice_get jobs.now.entries i ≡ Some (n, live) → after < n → is_due now live ≡ true → result ≡ Some n }
+{
+    match jobs.at(i) {
+        Some((number, job)) => {
+            if number > after && job.is_due(now) {
+                Some(number)
+            } else {
+                None
+            }
+        }
+        None => None,
+    }
+}
+
+// The lesser of two numbers, where there are any.
+fn least_of(a: Option<u64>, b: Option<u64>) -> Option<u64>
+    ensures { result ≡ least_of a b }
+{
+    match a {
+        None => b,
+        Some(a) => match b {
+            None => Some(a),
+            Some(b) => Some(a.min(b)),
+        },
+    }
+}
+
+// The least number above `after` of a job that is due, among all jobs.
+fn search(jobs: &JobMap, now: u64, after: u64) -> Option<u64>
+    ensures next { IfSome result (IsNext (is_due now) after jobs.now.entries) }
+    ensures last { IfNone result (IsLast (is_due now) after jobs.now.entries) }
+{
+    let mut best = None;
+    for i in 0..jobs.len() {
+        best = least_of(best, due_at(jobs, i, now, after));
+    }
+    best
 }
 
 impl Dues {
@@ -82,100 +193,89 @@ impl Dues {
     pub(crate) fn new(alloc: Global) -> Dues {
         Dues {
             waiting: Roll::new(alloc),
-            reached: Roll::new(alloc),
+            reached: Vec::new(alloc),
             whole: true,
         }
     }
 
-    // All deadlines of the jobs that run, from their marks.
-    fn renew(&mut self, marks: &Marks)
-        ensures { (n : ℕ) (live : Live) → (is_marked live ≡ true → Contains marks.now.marks (mark_of n live)) → IsListed self.new n live }
+    // All deadlines, from the jobs.
+    fn renew(&mut self, jobs: &JobMap)
+        ensures { AllListed jobs.now.entries self.new }
     {
         self.waiting.clear();
         self.reached.clear();
-        self.whole = marks.list_deadlines(&mut self.waiting);
+        self.whole = list_deadlines(&mut self.waiting, jobs);
     }
 
-    /// Makes room for the deadlines of so many jobs, and for some that are reached: where more are, it is no dearer to
-    /// look through the marks.
-    pub(crate) fn reserve(&mut self, marks: &Marks, count: usize) -> Result<(), AllocError>
-        ensures { (n : ℕ) (live : Live) → (is_marked live ≡ true → Contains marks.now.marks (mark_of n live)) → IsListed self.old n live → IsListed self.new n live }
+    /// Makes room for the deadlines of so many jobs.
+    pub(crate) fn reserve(&mut self, jobs: &JobMap, count: usize) -> Result<(), AllocError>
+        ensures { AllListed jobs.now.entries self.old → AllListed jobs.now.entries self.new }
     {
         self.waiting
             .reserve(count.saturating_add(count / 4).saturating_add(16))?;
-        self.reached.reserve((count / 16).saturating_add(64))?;
+        self.reached
+            .reserve(count.saturating_sub(self.reached.len()))?;
         if !self.whole {
-            self.renew(marks);
+            self.renew(jobs);
         }
         Ok(())
     }
 
-    /// The job of a number, whose mark stands, runs until this deadline, if there is one.
-    pub(crate) fn note(&mut self, marks: &Marks, number: u64, deadline: Option<u64>)
-        ensures kept { (n : ℕ) (live : Live) → (is_marked live ≡ true → Contains marks.now.marks (mark_of n live)) → IsListed self.old n live → IsListed self.new n live }
-        ensures stands { (live : Live) → (is_marked live ≡ true → Contains marks.now.marks (mark_of number live)) → live.deadline ≡ deadline → IsListed self.new number live }
+    /// The job of a number runs until this deadline, if there is one.
+    pub(crate) fn note(&mut self, jobs: &JobMap, number: u64, deadline: Option<u64>)
+        requires others { (n : ℕ) (live : Live) → n ≢ number → find_job jobs.now.entries n ≡ Some live → IsListed self.old n live }
+        requires this { (live : Live) → find_job jobs.now.entries number ≡ Some live → live.deadline ≡ deadline }
+        ensures { AllListed jobs.now.entries self.new }
     {
         if let Some(deadline) = deadline {
             if !self.waiting.put(deadline, number) {
-                self.renew(marks);
+                self.renew(jobs);
             }
         }
     }
 
-    // Finds the jobs that are due, and answers whether all are among those that are reached: it needs room for them.
+    // Lets go of the reached deadlines that no job has any more.
+    fn drop_passed(&mut self, jobs: &JobMap)
+        ensures listed { AllListed jobs.now.entries self.old → AllListed jobs.now.entries self.new }
+        ensures waiting { self.new.waiting ≡ self.old.waiting }
+        ensures whole { self.new.whole ≡ self.old.whole }
+    {
+        self.reached.retain(|due| has_deadline(jobs, due.0, due.1));
+    }
+
+    // The jobs that are due are among the reached then. Answers whether all are: it needs room for them.
     fn collect(&mut self, jobs: &JobMap, now: u64) -> bool
         requires { AllListed jobs.now.entries self.old }
         ensures listed { AllListed jobs.now.entries self.new }
-        ensures all { result ≡ true → IsCollected now self.new }
+        ensures whole { result ≡ true → self.new.whole ≡ true }
+        ensures all { result ≡ true → AllLater now self.new.waiting }
     {
-        if !self.whole || now == u64::MAX {
+        if !self.whole {
             return false;
         }
-        while let Some((deadline, number)) = self.waiting.first() {
-            if deadline > now {
-                return true;
-            }
-            if !reach(&mut self.reached, jobs, now, deadline, number) {
-                return false;
-            }
-            self.waiting.pop();
+        if !is_reached(&self.waiting, now) {
+            return true;
         }
-        true
-    }
-
-    // The least number of a job whose deadline was reached.
-    fn first(&mut self, jobs: &JobMap) -> Option<u64>
-        requires { AllListed jobs.now.entries self.old }
-        ensures listed { AllListed jobs.now.entries self.new }
-        ensures waiting { self.new.waiting ≡ self.old.waiting }
-        ensures whole { self.new.whole ≡ self.old.whole }
-        ensures least { IfSome result (λ first. (n d : ℕ) → Has self.new.reached n d → first ≤ n) }
-        ensures none { IfNone result ((n d : ℕ) → Has self.new.reached n d → ⊥) }
-    {
-        while let Some((number, deadline)) = self.reached.first() {
-            if runs_until(jobs, number, deadline) {
-                return Some(number);
-            }
-            self.reached.pop();
-        }
-        None
+        self.drop_passed(jobs);
+        let all = gather(&mut self.waiting, &mut self.reached, jobs, now);
+        self.reached.sort_unstable_by_key(|due| due.0);
+        all
     }
 
     /// The least number above `after` of a job that is due.
-    pub(crate) fn next(&mut self, jobs: &JobMap, now: u64, after: u64) -> Known
+    pub(crate) fn next(&mut self, jobs: &JobMap, now: u64, after: u64) -> Option<u64>
         requires { AllListed jobs.now.entries self.old }
         ensures listed { AllListed jobs.now.entries self.new }
-        ensures known { IsKnownDue now after jobs.now.entries result }
+        ensures next { IfSome result (IsNext (is_due now) after jobs.now.entries) }
+        ensures last { IfNone result (IsLast (is_due now) after jobs.now.entries) }
     {
         if !self.collect(jobs, now) {
-            return Known::Nothing;
+            return search(jobs, now, after);
         }
-        let Some(first) = self.first(jobs) else {
-            return Known::Last;
-        };
-        if first > after && Query::Due(now).meets(jobs, first) {
-            return Known::Next(first);
+        let first = first_reached(self.reached.as_slice(), jobs, now, after);
+        if first.is_none() {
+            self.drop_passed(jobs);
         }
-        Known::Nothing
+        first
     }
 }

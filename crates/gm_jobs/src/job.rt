@@ -4,12 +4,11 @@ ghost use Rattle.std.specs.Prelude.{◌≡◌, ◌≤◌, ◌&&◌, not, ◌==�
 ghost use Rattle.std.specs.Option.{option_map};
 ghost use Rattle.gm_jobs.specs.Live.{Live, fresh, reported, with_listener, without_listener, place_at, is_named, is_run_by, is_orphan, is_due};
 ghost use Rattle.gm_notes.specs.Jobs.{joins};
-ghost use Rattle.gm_jobs.specs.Marks.{is_marked, sign_of};
+ghost use Rattle.gm_jobs.specs.Queries.{meets};
 ghost use Rattle.gm_jobs.specs.Tables.{Room};
 ghost use Rattle.gm_jobs.specs.Changes.{changed, takes_memory};
 ghost use Rattle.gm_jobs.specs.Links.{stands_in};
 
-use crate::marks::Sign;
 use gm_notes::{Place, Priority};
 use std::alloc::{AllocError, Global};
 use std::marker::Model;
@@ -51,6 +50,30 @@ pub(crate) enum Change<'a> {
     Leave(u32),
     /// It is so far: a numerator and a denominator.
     Report(&'a [u8], &'a [u8]),
+}
+
+/// What is asked of a job.
+#[derive(Clone, Copy)]
+pub(crate) enum Query {
+    /// Whether it runs at this slot.
+    RunBy(u32),
+    /// Whether it waits and nobody wants it.
+    Orphan,
+    /// Whether it runs and its deadline is reached at this moment.
+    Due(u64),
+}
+
+impl Query {
+    /// Whether a job is what is asked for.
+    pub(crate) fn is_met(self, job: &Job) -> bool
+        ensures { result ≡ meets self job.now }
+    {
+        match self {
+            Query::RunBy(slot) => job.is_run_by(slot),
+            Query::Orphan => job.is_orphan(),
+            Query::Due(now) => job.is_due(now),
+        }
+    }
 }
 
 /// A live job.
@@ -183,28 +206,6 @@ impl Job {
                     Some(ORPHANS)
                 } else {
                     None
-                }
-            }
-        }
-    }
-
-    pub(crate) fn is_marked(&self) -> bool
-        ensures { result ≡ is_marked self.now }
-    {
-        self.slot.is_some() || self.is_orphan()
-    }
-
-    /// What its mark says.
-    pub(crate) fn sign(&self) -> Sign
-        ensures { result ≡ sign_of self.now }
-    {
-        match self.slot {
-            Some(slot) => Sign::Runs(slot, self.deadline.unwrap_or(u64::MAX)),
-            None => {
-                if self.is_orphan() {
-                    Sign::Unwanted
-                } else {
-                    Sign::Nothing
                 }
             }
         }

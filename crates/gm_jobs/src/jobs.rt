@@ -4,17 +4,15 @@ ghost use Rattle.std.specs.Prelude.{◌≡◌, ℕ, ◌+◌, ◌<◌, ◌≤◌,
 ghost use Rattle.std.specs.Option.{option_copied, option_map};
 ghost use Rattle.gm_jobs.specs.Live.{Live, fresh, assigned, returned, kept, reported, with_listener, without_listener, is_run_by, is_orphan, is_due};
 ghost use Rattle.gm_jobs.specs.Tables.{no_jobs, job, find_job, is_made, place, listeners_of, IsNamed, HasRoom, with_room, Makes, Changes, Ends, Leaves, IsNext, IsLast};
-ghost use Rattle.gm_jobs.specs.Marks.{Marked, is_marked, mark_of, sign_of};
-ghost use Rattle.gm_jobs.specs.Dues.{IsListed};
+ghost use Rattle.gm_jobs.specs.Dues.{AllListed};
 ghost use Rattle.gm_jobs.specs.Listening.{Heard};
-ghost use Rattle.gm_jobs.specs.Changes.{ChangesJob, LeavesOne, LeavesSome};
+ghost use Rattle.gm_jobs.specs.Changes.{LeavesOne, LeavesSome};
 ghost use Rattle.gm_jobs.specs.Uniques.{Reached};
 
 use crate::by_number::JobMap;
-use crate::dues::{Dues, Known};
-use crate::job::{Change, Job, NewJob, ORPHANS, Space, joins};
+use crate::dues::Dues;
+use crate::job::{Change, Job, NewJob, ORPHANS, Query, Space, joins};
 use crate::listening::Listening;
-use crate::marks::{Marks, Query, Sign};
 use crate::uniques::{Uniques, digest};
 use gm_notes::Place;
 use std::alloc::{AllocError, Global};
@@ -64,7 +62,6 @@ pub struct Jobs {
     next: Option<u64>,
     jobs: JobMap,
     uniques: Uniques,
-    marks: Marks,
     listening: Listening,
     dues: Dues,
     space: Option<Space>,
@@ -80,61 +77,28 @@ impl Model for Jobs {
 
     ghost view = { λ t. record { first = t.first; next = unwrap_or t.next (2 ^ 64); room = t.space; live = t.jobs.entries } };
 
-    ghost invariant = { λ t. IsKept (record { seed = t.seed; first = t.first; next = unwrap_or t.next (2 ^ 64); left = is_some t.next; uniques = t.uniques; marks = t.marks; listening = t.listening; dues = t.dues }) t.space t.jobs.room t.jobs.entries };
-}
-
-// What the mark of the job of a number says, if it is live.
-fn sign_of(jobs: &JobMap, number: u64) -> Option<Sign>
-    ensures { result ≡ option_map sign_of (find_job jobs.now.entries number) }
-{
-    match jobs.get(number) {
-        Some(job) => Some(job.sign()),
-        None => None,
-    }
-}
-
-// The slot listens no more to the job.
-fn leave_one(jobs: &mut JobMap, marks: &mut Marks, number: u64, slot: u32)
-    requires room { length jobs.old.entries ≤ marks.old.room }
-    requires marked { Marked jobs.old.entries marks.old.marks }
-    ensures jobs { ChangesJob number (without_listener slot) jobs.old.entries jobs.new.entries }
-    ensures slots { jobs.new.room ≡ jobs.old.room }
-    ensures marked { Marked jobs.new.entries marks.new.marks }
-    ensures room { marks.new.room ≡ marks.old.room }
-{
-    let _left = jobs.change(number, Change::Leave(slot));
-    let sign = sign_of(jobs, number);
-    marks.note(jobs, number, sign);
+    ghost invariant = { λ t. IsKept (record { seed = t.seed; first = t.first; next = unwrap_or t.next (2 ^ 64); left = is_some t.next; uniques = t.uniques; listening = t.listening; dues = t.dues }) t.space t.jobs.room t.jobs.entries };
 }
 
 // The slot listens no more to these jobs.
-fn leave_all(jobs: &mut JobMap, marks: &mut Marks, numbers: &[u64], slot: u32)
-    requires room { length jobs.old.entries ≤ marks.old.room }
-    requires marked { Marked jobs.old.entries marks.old.marks }
+fn leave_all(jobs: &mut JobMap, numbers: &[u64], slot: u32)
     ensures left { LeavesSome slot jobs.old.entries jobs.new.entries }
     ensures these { (n : ℕ) → Contains numbers.now n → LeavesOne slot n jobs.old.entries jobs.new.entries }
     ensures slots { jobs.new.room ≡ jobs.old.room }
-    ensures marked { Marked jobs.new.entries marks.new.marks }
-    ensures room { marks.new.room ≡ marks.old.room }
 {
     for number in numbers {
-        leave_one(jobs, marks, *number, slot);
+        let _left = jobs.change(*number, Change::Leave(slot));
     }
 }
 
 // The slot listens no more to this job, if there is one.
-fn leave_maybe(jobs: &mut JobMap, marks: &mut Marks, number: Option<u64>, slot: u32)
-    requires room { length jobs.old.entries ≤ marks.old.room }
-    requires marked { Marked jobs.old.entries marks.old.marks }
+fn leave_maybe(jobs: &mut JobMap, number: Option<u64>, slot: u32)
     ensures left { LeavesSome slot jobs.old.entries jobs.new.entries }
     ensures this { (n : ℕ) → number ≡ Some n → LeavesOne slot n jobs.old.entries jobs.new.entries }
     ensures slots { jobs.new.room ≡ jobs.old.room }
-    ensures marked { Marked jobs.new.entries marks.new.marks }
-    ensures room { marks.new.room ≡ marks.old.room }
 {
-    match number {
-        Some(number) => leave_one(jobs, marks, number, slot),
-        None => {}
+    if let Some(number) = number {
+        let _left = jobs.change(number, Change::Leave(slot));
     }
 }
 
@@ -144,7 +108,6 @@ fn make_room(
     seed: &RandomState,
     jobs: &mut JobMap,
     uniques: &mut Uniques,
-    marks: &mut Marks,
     dues: &mut Dues,
     listening: &mut Listening,
 ) -> Result<(), AllocError>
@@ -153,16 +116,13 @@ fn make_room(
     ensures slots { jobs.old.room ≤ jobs.new.room }
     ensures reached { Reached seed.now jobs.old.entries uniques.new.cells }
     ensures used { uniques.old.used < length uniques.old.cells → uniques.new.used < length uniques.new.cells }
-    ensures marks { marks.new.marks ≡ marks.old.marks }
-    ensures room { marks.old.room ≤ marks.new.room }
-    ensures listed { (n : ℕ) (live : Live) → (is_marked live ≡ true → Contains marks.old.marks (mark_of n live)) → IsListed dues.old n live → IsListed dues.new n live }
+    ensures listed { AllListed jobs.old.entries dues.old → AllListed jobs.old.entries dues.new }
     ensures heard { (c n : ℕ) → IsSome (find_job jobs.old.entries n) → Heard listening.old c n → Heard listening.new c n }
     ensures fresh { listening.old.fresh ≡ None → listening.new.fresh ≡ None }
-    ensures ok { OnOk result ((0 < jobs.new.room) × (uniques.new.used < length uniques.new.cells) × (length jobs.new.entries < marks.new.room) × (listening.new.fresh ≡ None)) }
+    ensures ok { OnOk result ((0 < jobs.new.room) × (uniques.new.used < length uniques.new.cells) × (listening.new.fresh ≡ None)) }
 {
     jobs.reserve_one()?;
-    marks.reserve(jobs.len() + 1)?;
-    dues.reserve(marks, jobs.len() + 1)?;
+    dues.reserve(jobs, jobs.len() + 1)?;
     if uniques.is_full() {
         *uniques = Uniques::of_jobs(alloc, seed, jobs)?;
     }
@@ -182,7 +142,6 @@ impl Jobs {
             next: Some(first_job),
             jobs: JobMap::new(alloc, &seed)?,
             uniques: Uniques::new(alloc),
-            marks: Marks::new(alloc),
             listening: Listening::new(alloc),
             dues: Dues::new(alloc),
             space: None,
@@ -205,7 +164,6 @@ impl Jobs {
             &self.seed,
             &mut self.jobs,
             &mut self.uniques,
-            &mut self.marks,
             &mut self.dues,
             &mut self.listening,
         )?;
@@ -225,11 +183,9 @@ impl Jobs {
         let number = self.next.unwrap();
         self.next = number.checked_add(1);
         let job = space.fill(self.alloc, new);
-        let sign = job.sign();
         self.jobs.insert(number, job);
         self.uniques.enter(&self.seed, new.f, new.unique, number);
         self.listening.begin(new.listener, number);
-        self.marks.note(&self.jobs, number, Some(sign));
         number
     }
 
@@ -292,9 +248,7 @@ impl Jobs {
         ensures { Changes n (assigned slot deadline) self.old self.new }
     {
         let _changed = self.jobs.change(n, Change::Assign(slot, deadline));
-        let sign = sign_of(&self.jobs, n);
-        self.marks.note(&self.jobs, n, sign);
-        self.dues.note(&self.marks, n, deadline);
+        self.dues.note(&self.jobs, n, deadline);
     }
 
     /// The job waits again.
@@ -302,8 +256,6 @@ impl Jobs {
         ensures { Changes n returned self.old self.new }
     {
         let _changed = self.jobs.change(n, Change::GiveBack);
-        let sign = sign_of(&self.jobs, n);
-        self.marks.note(&self.jobs, n, sign);
     }
 
     /// The job is live no more.
@@ -311,7 +263,6 @@ impl Jobs {
         ensures { Ends n self.old self.new }
     {
         self.jobs.remove(n);
-        self.marks.unmark(n);
     }
 
     /// A background submission keeps the job.
@@ -319,8 +270,6 @@ impl Jobs {
         ensures { Changes n kept self.old self.new }
     {
         let _changed = self.jobs.change(n, Change::Keep);
-        let sign = sign_of(&self.jobs, n);
-        self.marks.note(&self.jobs, n, sign);
     }
 
     /// The job is so far: a numerator and a denominator.
@@ -355,8 +304,8 @@ impl Jobs {
         ensures { Leaves slot self.old self.new }
     {
         let (list, fresh) = self.listening.take(slot);
-        leave_all(&mut self.jobs, &mut self.marks, list.numbers(), slot);
-        leave_maybe(&mut self.jobs, &mut self.marks, fresh, slot);
+        leave_all(&mut self.jobs, list.numbers(), slot);
+        leave_maybe(&mut self.jobs, fresh, slot);
     }
 
     /// The least number above `after` of a job that runs at the slot.
@@ -383,10 +332,6 @@ impl Jobs {
         ensures last { IfNone result (IsLast (is_due now) after self.old.live) }
         ensures kept { self.new ≡ self.old }
     {
-        match self.dues.next(&self.jobs, now, after) {
-            Known::Next(n) => Some(n),
-            Known::Last => None,
-            Known::Nothing => self.marks.next(&self.jobs, Query::Due(now), after),
-        }
+        self.dues.next(&self.jobs, now, after)
     }
 }

@@ -8,8 +8,7 @@ ghost use Rattle.gm_jobs.specs.Live.{Live};
 ghost use Rattle.gm_jobs.specs.Queries.{meets};
 ghost use Rattle.gm_jobs.specs.Links.{stands_in, held, without, Stands, back, Before, IsNearest, AllLinked, AllUnique, FindsNext, FindsLast, link_of, end_of, with_link, with_end, no_ends, next_of, spot_of, IsWithin, IsThere, Sets, KeepsJobs};
 
-use crate::job::Job;
-use crate::marks::Query;
+use crate::job::{Job, Query};
 use slab::Slab;
 
 /// A live job with its number, and the keys of its neighbours in the list in which it stands.

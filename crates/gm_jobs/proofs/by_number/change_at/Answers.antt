@@ -11,7 +11,7 @@ use Rattle.gm_jobs.specs.Links.{held, next_of}
 use Rattle.gm_jobs.specs.ByNumber.{Changed, with_live}
 use Rattle.gm_jobs.proofs.EntryLemmas.{unique_changed, stands_changed}
 use Rattle.gm_jobs.proofs.LinkLemmas.{linked_same}
-use Rattle.gm_jobs.proofs.JobLemmas.{either}
+use Rattle.gm_jobs.proofs.NumberLemmas.{either}
 use Rattle.gm_jobs.proofs.by_number.change_at.Goals as goal
 use Rattle.gm_jobs.proofs.by_number.change_at.Goals.{After-ne, After-leave}
 

@@ -1,6 +1,5 @@
 use Rattle.std.proofs.Common.{◌≡◌, ℕ, ◌<◌, get_or}
 use Rattle.gm_jobs.specs.Changes.{LeavesSome, LeavesOne}
-use Rattle.gm_jobs.specs.Marks.{Marked}
 use Rattle.gm_jobs.proofs.jobs.leave_all.Given as goal
 
 abbrev pub invariant-loop-number : goal.invariant-loop-number
@@ -8,6 +7,4 @@ invariant-loop-number l = record {
   left : LeavesSome l.slot l.initial.jobs.entries l.jobs.entries;
   these : (k : ℕ) → k < l.number-index → LeavesOne l.slot (get_or l.numbers k 0) l.initial.jobs.entries l.jobs.entries;
   slots : l.jobs.room ≡ l.initial.jobs.room;
-  marked : Marked l.jobs.entries l.marks.marks;
-  room : l.marks.room ≡ l.initial.marks.room;
 }

@@ -5,7 +5,7 @@ use Rattle.gm_jobs.specs.Changes.{changed, ChangesJob}
 use Rattle.gm_jobs.specs.Links.{held}
 use Rattle.gm_jobs.specs.ByNumber.{JobTable, jobs_of, Changed, IsIndexed}
 use Rattle.gm_jobs.proofs.EntryLemmas.{find_none, indexed_changed, changes_job, changes_none, unique_of}
-use Rattle.gm_jobs.proofs.JobLemmas.{either, on_ok, on_ok_map}
+use Rattle.gm_jobs.proofs.NumberLemmas.{either, on_ok, on_ok_map}
 use Rattle.gm_jobs.proofs.by_number.JobMap.change.Goals as goal
 use Rattle.gm_jobs.proofs.by_number.JobMap.change.Goals.{After-change_at}
 

@@ -1,16 +1,16 @@
-use Rattle.std.proofs.Common.{◌≡◌, ◌≢◌, ℕ, ◌+◌, ◌≤◌, ◌==◌, inl, inr, if◌then◌else◌, nat_eq, IsOk, List, Some, None, length, refl, sym, ap, subst, ◌∙◌, arith}
+use Rattle.std.proofs.Common.{◌≡◌, ◌≢◌, ℕ, ◌==◌, inl, inr, if◌then◌else◌, nat_eq, IsOk, List, Some, None, refl, sym, ap, subst, ◌∙◌, arith}
 use Rattle.gm_jobs.specs.Live.{Live}
 use Rattle.gm_jobs.specs.declared.lists.Entry.{Entry}
 use Rattle.std.specs.Map.{lookup}
 use Rattle.gm_jobs.specs.Tables.{find_job}
 use Rattle.gm_jobs.specs.Links.{card, held, without, link_of}
 use Rattle.gm_jobs.specs.ByNumber.{JobTable, jobs_of, IsIndexed}
-use Rattle.gm_jobs.proofs.EntryLemmas.{leads_nowhere, indexed_inserted, find_inserted, length_is, jobs_same, unique_of}
+use Rattle.gm_jobs.proofs.EntryLemmas.{leads_nowhere, indexed_inserted, find_inserted, jobs_same, unique_of}
 use Rattle.slab.specs.Slab.{get}
 use Rattle.std.proofs.lemmas.Bool.{cases_eq}
 use Rattle.gm_jobs.proofs.NumberLemmas.{number_same, number_other}
 use Rattle.gm_jobs.proofs.LinkLemmas.{same_card, from_without, linked_there, stands_equal}
-use Rattle.gm_jobs.proofs.JobLemmas.{on_ok, if_ok, one_more}
+use Rattle.gm_jobs.proofs.NumberLemmas.{on_ok}
 use Rattle.gm_jobs.proofs.by_number.JobMap.insert.Goals as goal
 use Rattle.gm_jobs.proofs.by_number.JobMap.insert.Goals.{After-insert-fits}
 
@@ -66,23 +66,13 @@ invariant_of-self c = (
   c.enter.ensures.len ∙ c.self.invariant.1,
 )
 
-pub returns-clause-jobs : goal.returns-clause-jobs
-returns-clause-jobs c =
-    let d = (goal.at.returns-clause-jobs c).After-insert-fits in
+pub returns : goal.returns
+returns c =
+    let d = (goal.at.returns c).After-insert-fits in
     let t = c.self.inside in
-    λ m. subst (λ (s : JobTable). find_job (jobs_of c.insert-fits.new.self.entries (held c.enter.new.slab)) m ≡ (if c.args.number == m then Some c.args.job else find_job s.entries m)) c.self.view_is
-    (ap (λ (es : List (ℕ × Live)). find_job es m) (jobs_same c.insert-fits.new.self.entries (held c.insert_reserved-key.new.self) (held c.enter.new.slab) c.enter.ensures.keeps.same)
-    ∙ find_inserted t.keys.entries (held t.slab) c.self.invariant.0.indexed c.args.number c.insert_reserved-key.result (held c.insert_reserved-key.new.self) (others d) c.insert-fits.new.self.entries c.insert-fits.ensures.unique
-    c.args.job (absent d) (ap card c.insert_reserved-key.ensures.was_vacant) (came d) (ap card (here d)) m)
-
-pub returns-clause-len : goal.returns-clause-len
-returns-clause-len c =
-    let d = (goal.at.returns-clause-len c).After-insert-fits in
-    let t = c.self.inside in
-    let longer = if_ok c.insert-fits.result _ (fits d) c.insert-fits.ensures.len in
-    let more : length c.insert-fits.new.self.entries ≤ length t.keys.entries + 1 = one_more _ _ longer.0 longer.1 in
-    let before = length_is (held t.slab) t.keys.entries c.self.invariant.0.indexed in
-    let after = length_is (held c.insert_reserved-key.new.self) c.insert-fits.new.self.entries (indexed d) in
-    let same = ap (λ (es : List (ℕ × Live)). length es) (jobs_same c.insert-fits.new.self.entries (held c.insert_reserved-key.new.self) (held c.enter.new.slab) c.enter.ensures.keeps.same) in
-    let view = ap (λ (s : JobTable). length s.entries) c.self.view_is in
-    omega arith
+    record {
+      jobs = λ m. subst (λ (s : JobTable). find_job (jobs_of c.insert-fits.new.self.entries (held c.enter.new.slab)) m ≡ (if c.args.number == m then Some c.args.job else find_job s.entries m)) c.self.view_is
+          (ap (λ (es : List (ℕ × Live)). find_job es m) (jobs_same c.insert-fits.new.self.entries (held c.insert_reserved-key.new.self) (held c.enter.new.slab) c.enter.ensures.keeps.same)
+          ∙ find_inserted t.keys.entries (held t.slab) c.self.invariant.0.indexed c.args.number c.insert_reserved-key.result (held c.insert_reserved-key.new.self) (others d) c.insert-fits.new.self.entries c.insert-fits.ensures.unique
+          c.args.job (absent d) (ap card c.insert_reserved-key.ensures.was_vacant) (came d) (ap card (here d)) m);
+    }

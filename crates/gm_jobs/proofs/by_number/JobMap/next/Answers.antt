@@ -1,11 +1,11 @@
-use Rattle.std.proofs.Common.{◌≡◌, ℕ, Bool, true, false, Option, Some, None, IfSome, IfNone, refl, sym, subst, ◌∙◌}
+use Rattle.std.proofs.Common.{◌≡◌, ℕ, Bool, true, false, Some, IfSome, IfNone, refl, sym, subst, ◌∙◌}
 use Rattle.gm_jobs.specs.Live.{Live}
 use Rattle.gm_jobs.specs.Tables.{IsNext, IsLast}
 use Rattle.gm_jobs.specs.Queries.{meets}
 use Rattle.gm_jobs.specs.Links.{held, stands_in}
 use Rattle.gm_jobs.specs.ByNumber.{JobTable}
 use Rattle.gm_jobs.proofs.EntryLemmas.{passes_false, passes_true}
-use Rattle.gm_jobs.proofs.JobLemmas.{if_some_map}
+use Rattle.gm_jobs.proofs.NumberLemmas.{if_some_map, if_none_map}
 use Rattle.gm_jobs.proofs.by_number.JobMap.next.Goals as goal
 
 -- what passes stands in the list, so what doesn't pass there passes nowhere
@@ -34,7 +34,3 @@ returns-clause-last c =
     (if_none_map c.find_next.result
     (λ none m above. passes_false t.keys.entries (held t.slab) c.self.invariant.0.indexed (meets c.args.query) m
     (λ k live e. nowhere (meets c.args.query) c.args.list live (c.requires.listed live) (λ its. none k m live e its above))) c.find_next.ensures.last)
-  where
-    if_none_map : {T : Type 0} (o : Option T) {P Q : Type 0} → (P → Q) → IfNone o P → IfNone o Q
-    if_none_map None f h = f h
-    if_none_map (Some x) f h = h

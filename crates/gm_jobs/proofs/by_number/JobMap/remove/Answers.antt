@@ -1,8 +1,8 @@
-use Rattle.std.proofs.Common.{◌≡◌, ◌≢◌, ℕ, ◌==◌, inl, inr, if◌then◌else◌, List, None, length, refl, sym, ap, subst, ◌∙◌, arith}
+use Rattle.std.proofs.Common.{◌≡◌, ◌≢◌, ℕ, ◌==◌, inl, inr, if◌then◌else◌, List, None, refl, sym, ap, subst, ◌∙◌}
 use Rattle.gm_jobs.specs.Tables.{find_job}
 use Rattle.gm_jobs.specs.Links.{card, held, without, link_of}
 use Rattle.gm_jobs.specs.ByNumber.{JobTable, jobs_of, IsIndexed}
-use Rattle.gm_jobs.proofs.EntryLemmas.{find_none, indexed_removed, find_removed, length_is, unique_of}
+use Rattle.gm_jobs.proofs.EntryLemmas.{find_none, indexed_removed, find_removed, unique_of}
 use Rattle.gm_jobs.proofs.NumberLemmas.{at_number, number_same, number_other}
 use Rattle.gm_jobs.proofs.LinkLemmas.{from_without, linked_there, stands_equal}
 use Rattle.std.proofs.lemmas.Bool.{cases_eq}
@@ -50,15 +50,6 @@ returns-clause-jobs c =
     λ m. subst (λ (s : JobTable). find_job (jobs_of c.swap_remove.new.self.entries (held c.try_remove-removed.new.self)) m ≡ (if c.args.number == m then None else find_job s.entries m)) c.self.view_is
     (find_removed t.keys.entries (held t.slab) c.self.invariant.0.indexed c.args.number c.in-Some.key (held c.try_remove-removed.new.self) (others d) c.swap_remove.new.self.entries c.swap_remove.ensures.unique
     (sym c.in-Some.ensures.value) c.swap_remove.ensures.updates.0 (ap card c.try_remove-removed.ensures.updates.changed) m)
-
-pub returns-clause-len : goal.returns-clause-len
-returns-clause-len c =
-    let d = (goal.at.returns-clause-len c).After-try_remove-removed in
-    let t = c.self.inside in
-    let before = length_is (held t.slab) t.keys.entries c.self.invariant.0.indexed in
-    let after = length_is (held c.try_remove-removed.new.self) c.swap_remove.new.self.entries (indexed d) in
-    let view = ap (λ (s : JobTable). length s.entries) c.self.view_is in
-    omega arith
 
 pub returns-in_default-clause-jobs : goal.returns-in_default-clause-jobs
 returns-in_default-clause-jobs c =

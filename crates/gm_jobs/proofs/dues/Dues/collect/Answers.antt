@@ -1,28 +1,22 @@
-use Rattle.std.proofs.Common.{sym, subst, ◌∙◌, arith}
-use Rattle.gm_jobs.specs.Dues.{DueTable, AllListed}
-use Rattle.gm_jobs.proofs.DueLemmas.{listed_popped, listed_more}
+use Rattle.std.proofs.Common.{◌≡◌, ℕ, true, inl, inr, rules, refl, sym, ap, subst, ◌∙◌}
+use Rattle.std.proofs.lemmas.List.Sorted.{IsNonDecreasingBy-from_sort_by_key, Contains-permutation}
+use Rattle.gm_jobs.specs.Dues.{DueTable, AllListed, AllLater}
 use Rattle.gm_jobs.proofs.dues.Dues.collect.Goals as goal
 
-pub loop-deadline-init : goal.loop-deadline-init
-loop-deadline-init c = record {
-  listed = subst (λ (t : DueTable). AllListed c.args.jobs.now.entries t) (sym c.self.view_is) c.requires;
-  whole = c.if-not-self.false;
-}
+pub returns-then-not-is_reached-clause-all : goal.returns-then-not-is_reached-clause-all
+returns-then-not-is_reached-clause-all c = λ _. subst (λ (t : DueTable). AllLater c.args.now t.waiting) c.self.view_is (c.is_reached.ensures c.if-not-is_reached.true)
 
-pub loop-deadline-preserved : goal.loop-deadline-preserved
-loop-deadline-preserved c = record {
-  listed = listed_popped c.args.jobs.now.entries c.loop-deadline.self-inside.waiting c.pop.new.self c.loop-deadline.self-inside.reached c.reach.new.reached c.loop-deadline.self-inside.whole c.args.now
-      c.in-Some.deadline c.in-Some.number c.loop-deadline.invariant.listed c.pop.ensures.kept c.reach.ensures.kept (sym c.first.ensures.first ∙ c.in-Some.is) (omega arith) (c.reach.ensures.stands c.if-not-reach.false);
-  whole = c.loop-deadline.invariant.whole;
-}
+pub gather-all-requires : goal.gather-all-requires
+gather-all-requires c = λ n live found _ d runs is.
+    let whole : c.self-2.inside.whole ≡ true = ap (λ (t : DueTable). t.whole) c.self-2.view_is ∙ c.drop_passed.ensures.whole ∙ ap (λ (t : DueTable). t.whole) (sym c.self.view_is) ∙ c.if-not-self.false in
+    subst (λ (t : DueTable). AllListed c.args.jobs.now.entries t) (sym c.self-2.view_is) (c.drop_passed.ensures.listed c.requires) n live found whole d runs is
 
-pub returns-then-not-reach-clause-listed : goal.returns-then-not-reach-clause-listed
-returns-then-not-reach-clause-listed c =
-    listed_more c.args.jobs.now.entries c.loop-deadline.self-inside.waiting c.loop-deadline.self-inside.reached c.reach.new.reached c.loop-deadline.self-inside.whole c.loop-deadline.invariant.listed c.reach.ensures.kept
+pub invariant_of-self : goal.invariant_of-self
+invariant_of-self c = IsNonDecreasingBy-from_sort_by_key (λ (p : ℕ × ℕ). p.0) _ c.sort_unstable_by_key.ensures.sorted (λ a r q k. search rules)
 
-pub returns-then-deadline-now-clause-all : goal.returns-then-deadline-now-clause-all
-returns-then-deadline-now-clause-all c = λ all. record {
-  whole = c.loop-deadline.invariant.whole;
-  some = omega arith;
-  later = λ d n there. let least = c.in-Some.ensures.least d n there in omega arith;
-}
+pub returns-clause-listed : goal.returns-clause-listed
+returns-clause-listed c = λ n live found whole d runs is.
+    elim (c.gather-all.ensures.listed n live found refl d runs is) [
+      | inl there ↦ inl there
+      | inr there ↦ inr (Contains-permutation _ _ (n, d) c.sort_unstable_by_key.ensures.permutation there)
+    ]

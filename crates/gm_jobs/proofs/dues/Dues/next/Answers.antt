@@ -1,20 +1,17 @@
-use Rattle.std.proofs.Common.{sym, ◌∙◌}
-use Rattle.gm_jobs.specs.Dues.{IsCollected}
-use Rattle.gm_jobs.proofs.DueLemmas.{collected_same, none_due, none_before}
+use Rattle.std.proofs.Common.{ap, ◌∙◌}
+use Rattle.gm_jobs.specs.Dues.{DueTable}
+use Rattle.gm_jobs.proofs.DueLemmas.{due_next, due_last}
+use Rattle.gm_jobs.proofs.NumberLemmas.{if_some_map, if_none_map}
 use Rattle.gm_jobs.proofs.dues.Dues.next.Goals as goal
-use Rattle.gm_jobs.proofs.dues.Dues.next.Goals.{After-first}
 
--- they are still collected after a look at the first
-collected : (c : After-first) → IsCollected c.args.now c.first.new.self
-collected c = collected_same c.collect.new.self c.first.new.self c.args.now (c.collect.ensures.all c.if-not-collect.false) c.first.ensures.waiting c.first.ensures.whole
+pub returns-then-is_none-clause-last : goal.returns-then-is_none-clause-last
+returns-then-is_none-clause-last c =
+    if_none_map c.first_reached-first.result
+    (due_last c.args.jobs.now.entries c.collect.new.self c.as_slice.result.now (c.as_slice.ensures.value ∙ ap (λ (t : DueTable). t.reached) c.self.view_is) c.args.now c.args.after c.collect.ensures.listed (c.collect.ensures.whole c.if-not-collect.false) (c.collect.ensures.all c.if-not-collect.false))
+    c.first_reached-first.ensures.none
 
-pub returns-in_default-clause-known : goal.returns-in_default-clause-known
-returns-in_default-clause-known c = λ m above.
-    none_due c.args.jobs.now.entries c.first.new.self c.args.now m c.first.ensures.listed (collected (goal.at.returns-in_default-clause-known c).After-first) c.in_default.ensures.none
-
-pub returns-then-meets-clause-known : goal.returns-then-meets-clause-known
-returns-then-meets-clause-known c = record {
-  above = c.if-first-after.true;
-  found = sym c.meets.ensures ∙ c.if-meets.true;
-  least = λ m above before. none_before c.args.jobs.now.entries c.first.new.self c.args.now c.in-Some.first m c.first.ensures.listed (collected (goal.at.returns-then-meets-clause-known c).After-first) c.in-Some.ensures.least before;
-}
+pub returns-else-is_none-clause-next : goal.returns-else-is_none-clause-next
+returns-else-is_none-clause-next c =
+    if_some_map c.first_reached-first.result _ _
+    (due_next c.args.jobs.now.entries c.collect.new.self c.as_slice.result.now (c.as_slice.ensures.value ∙ ap (λ (t : DueTable). t.reached) c.self.view_is) c.args.now c.args.after c.collect.ensures.listed (c.collect.ensures.whole c.if-not-collect.false) (c.collect.ensures.all c.if-not-collect.false))
+    c.first_reached-first.ensures.first

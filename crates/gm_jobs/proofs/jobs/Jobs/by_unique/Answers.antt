@@ -1,7 +1,8 @@
 use Rattle.std.proofs.Common.{◌≡◌, true, subst, sym}
 use Rattle.gm_jobs.specs.Live.{is_named}
 use Rattle.gm_jobs.specs.Tables.{Table, find_job, passes}
-use Rattle.gm_jobs.proofs.JobLemmas.{beside, one_named, if_some_map}
+use Rattle.gm_jobs.proofs.JobLemmas.{beside, one_named}
+use Rattle.gm_jobs.proofs.NumberLemmas.{if_some_map}
 use Rattle.gm_jobs.proofs.jobs.Jobs.by_unique.Goals as goal
 
 pub returns-clause-only : goal.returns-clause-only

@@ -1,18 +1,12 @@
 use Rattle.std.proofs.Common.{inl, refl}
 use Rattle.std.proofs.lemmas.Bool.{false≢true}
 use Rattle.gm_jobs.specs.Live.{returned}
-use Rattle.gm_jobs.proofs.JobLemmas.{beside, kept_changed, listed_changed, listed_of, marked_but, marked_of}
+use Rattle.gm_jobs.proofs.JobLemmas.{beside, kept_changed, listed_changed, listed_of}
 use Rattle.gm_jobs.proofs.jobs.Jobs.give_back.Goals as goal
-
-pub note-requires-clause-others : goal.note-requires-clause-others
-note-requires-clause-others c =
-    let t = c.self.inside in
-    marked_but c.args.n returned t.jobs.entries c.change-changed.new.self.entries (c.change-changed.ensures.free refl) t.marks (marked_of (beside t) t.jobs.entries t.space _ c.self.invariant)
 
 pub invariant_of-self : goal.invariant_of-self
 invariant_of-self c =
     let t = c.self.inside in
-    kept_changed (beside t) c.args.n returned t.jobs.entries c.change-changed.new.self.entries c.note.new.self t.listening t.dues t.space _ _ c.self.invariant (c.change-changed.ensures.free refl) (λ l. refl) (λ l. refl) c.change-changed.ensures.room
-    c.note.ensures.room c.note.ensures.marked
+    kept_changed (beside t) c.args.n returned t.jobs.entries c.change-changed.new.self.entries t.listening t.dues t.space _ _ c.self.invariant (c.change-changed.ensures.free refl) (λ l. refl) (λ l. refl) c.change-changed.ensures.room
     (λ d m s h. h) (λ l d there. inl there) (λ e. e)
     (listed_changed c.args.n returned t.jobs.entries c.change-changed.new.self.entries t.dues (c.change-changed.ensures.free refl) (listed_of (beside t) t.jobs.entries t.space _ c.self.invariant) (λ l h whole until runs. absurd (false≢true runs)))

@@ -1,21 +1,20 @@
-use Rattle.std.proofs.Common.{◌≡◌, ℕ, ◌+◌, ◌^◌, ◌==◌, true, if◌then◌else◌, Contains, Option, Some, None, is_some, length}
+use Rattle.std.proofs.Common.{◌≡◌, ℕ, ◌+◌, ◌^◌, ◌==◌, true, if◌then◌else◌, Contains, Option, Some, None, is_some}
 use Rattle.std.proofs.Common.{unwrap_or, sym, ap, subst, ◌∙◌, arith}
 use Rattle.gm_notes.specs.Jobs.{joins}
 use Rattle.gm_jobs.specs.Live.{Live, is_named}
 use Rattle.gm_jobs.specs.Tables.{Room, Table, find_job, passes}
 use Rattle.gm_jobs.specs.Kept.{IsReady, IsKept}
-use Rattle.gm_jobs.specs.Marks.{MarkedBut}
 use Rattle.gm_jobs.specs.Listening.{Heard}
 use Rattle.gm_jobs.specs.Uniques.{Reaches, digest_of}
 use Rattle.gm_jobs.proofs.CellLemmas.{Reaches-same}
-use Rattle.gm_jobs.proofs.JobLemmas.{beside, marked_of, marked_but_made, kept_made, next_absent, next_is, listed_heard}
+use Rattle.gm_jobs.proofs.JobLemmas.{beside, kept_made, next_absent, next_is, listed_heard}
 use Rattle.gm_jobs.proofs.jobs.Jobs.insert_reserved.Goals as goal
 use Rattle.gm_jobs.proofs.jobs.Jobs.insert_reserved.Goals.{After-begin}
 
 number : (c : After-begin) → (beside c.self.inside).next ≡ c.unwrap-number.result
 number c = ap (λ o. unwrap_or o (2 ^ 64)) c.unwrap-number.ensures
 
-ready : (c : After-begin) → IsReady (beside c.self.inside) c.self.inside.jobs.room (length c.self.inside.jobs.entries)
+ready : (c : After-begin) → IsReady (beside c.self.inside) c.self.inside.jobs.room
 ready c = c.self.invariant.ready c.unwrap-space.result (sym c.take.ensures.value ∙ c.unwrap-space.ensures)
 
 pub insert-requires-clause-absent : goal.insert-requires-clause-absent
@@ -29,13 +28,6 @@ insert-requires-clause-room c = (c.self.invariant.ready c.unwrap-space.result (s
 adds : (c : After-begin) → (m : ℕ) → find_job c.insert.new.self.entries m ≡ (if (beside c.self.inside).next == m then Some c.fill-job.result else find_job c.self.inside.jobs.entries m)
 adds c =
     subst (λ i. (m : ℕ) → find_job c.insert.new.self.entries m ≡ (if i == m then Some c.fill-job.result else find_job c.self.inside.jobs.entries m)) (sym (number c)) c.insert.ensures.jobs
-
-pub note-requires-clause-others : goal.note-requires-clause-others
-note-requires-clause-others c =
-    let d = (goal.at.note-requires-clause-others c).After-begin in
-    let t = c.self.inside in
-    subst (λ i. MarkedBut i c.insert.new.self.entries t.marks.marks) (number d)
-    (marked_but_made (beside t) t.jobs.entries c.fill-job.result c.insert.new.self.entries (adds d) t.marks (marked_of (beside t) t.jobs.entries t.space _ c.self.invariant))
 
 made_reached : (c : After-begin) → joins c.fill-job.result.unique ≡ true → Reaches c.enter.new.self.cells (digest_of c.self.inside.seed c.fill-job.result.function c.fill-job.result.unique) (beside c.self.inside).next
 made_reached c good =
@@ -61,7 +53,7 @@ invariant_of-self c =
     let d = (goal.at.invariant_of-self c).After-begin in
     let t = c.self.inside in
     let next : unwrap_or c.checked_add-self-inside.result (2 ^ 64) ≡ (beside t).next + 1 = next_is c.checked_add-self-inside.result c.unwrap-number.result c.checked_add-self-inside.ensures (omega arith) ∙ ap (λ i. i + 1) (sym (number d)) in
-    subst (λ i. IsKept (record (beside t) { next = i; left = is_some c.checked_add-self-inside.result; uniques = c.enter.new.self; marks = c.note.new.self; listening = c.begin.new.self }) c.take.new.self c.insert.new.self.room c.insert.new.self.entries) (sym next)
-    (subst (λ (r : Option Room). IsKept (record (beside t) { next = (beside t).next + 1; left = is_some c.checked_add-self-inside.result; uniques = c.enter.new.self; marks = c.note.new.self; listening = c.begin.new.self }) r c.insert.new.self.room c.insert.new.self.entries) (sym c.take.ensures.after)
-    (kept_made (beside t) t.jobs.entries c.fill-job.result c.insert.new.self.entries (adds d) (is_some c.checked_add-self-inside.result) t.space c.unwrap-space.result t.jobs.room c.insert.new.self.room c.enter.new.self c.note.new.self c.begin.new.self
-    c.self.invariant c.insert.ensures.len (ready d) (made_reached d) c.enter.ensures.kept c.note.ensures.room c.note.ensures.marked c.begin.ensures.kept (made_heard d) (ap (λ (l : Live). l.slot) c.fill-job.ensures) (made_single d)))
+    subst (λ i. IsKept (record (beside t) { next = i; left = is_some c.checked_add-self-inside.result; uniques = c.enter.new.self; listening = c.begin.new.self }) c.take.new.self c.insert.new.self.room c.insert.new.self.entries) (sym next)
+    (subst (λ (r : Option Room). IsKept (record (beside t) { next = (beside t).next + 1; left = is_some c.checked_add-self-inside.result; uniques = c.enter.new.self; listening = c.begin.new.self }) r c.insert.new.self.room c.insert.new.self.entries) (sym c.take.ensures.after)
+    (kept_made (beside t) t.jobs.entries c.fill-job.result c.insert.new.self.entries (adds d) (is_some c.checked_add-self-inside.result) t.space c.unwrap-space.result t.jobs.room c.insert.new.self.room c.enter.new.self c.begin.new.self
+    c.self.invariant (ready d) (made_reached d) c.enter.ensures.kept c.begin.ensures.kept (made_heard d) (ap (λ (l : Live). l.slot) c.fill-job.ensures) (made_single d)))

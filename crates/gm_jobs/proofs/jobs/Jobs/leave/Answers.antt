@@ -2,12 +2,9 @@ use Rattle.std.proofs.Common.{◌≡◌, ℕ, inl, inr, ◌^◌, Contains, Some,
 use Rattle.gm_jobs.specs.Live.{Live}
 use Rattle.gm_jobs.specs.Tables.{Table, Leaves, find_job}
 use Rattle.gm_jobs.specs.Changes.{LeavesOne, LeavesSome}
-use Rattle.gm_jobs.proofs.JobLemmas.{beside, marked_of, leaves_more, left_before, left_after, left_all, kept_left}
+use Rattle.gm_jobs.proofs.JobLemmas.{beside, leaves_more, left_before, left_after, left_all, kept_left}
 use Rattle.gm_jobs.proofs.jobs.Jobs.leave.Goals as goal
 use Rattle.gm_jobs.proofs.jobs.Jobs.leave.Goals.{After-leave_maybe}
-
-pub leave_all-requires-clause-marked : goal.leave_all-requires-clause-marked
-leave_all-requires-clause-marked c = marked_of (beside c.self.inside) c.self.inside.jobs.entries c.self.inside.space _ c.self.invariant
 
 -- each job that the slot listened to is left
 all : (c : After-leave_maybe) (n : ℕ) (live : Live) → find_job c.self.inside.jobs.entries n ≡ Some live → Contains live.listeners c.args.slot → LeavesOne c.args.slot n c.self.inside.jobs.entries c.leave_maybe.new.jobs.entries
@@ -28,8 +25,8 @@ pub invariant_of-self : goal.invariant_of-self
 invariant_of-self c =
     let d = (goal.at.invariant_of-self c).After-leave_maybe in
     let t = c.self.inside in
-    kept_left c.args.slot t.jobs.entries c.leave_maybe.new.jobs.entries (some d) (all d) (beside t) c.leave_maybe.new.marks c.take-list.new.self t.space _ _ c.self.invariant
-    (c.leave_maybe.ensures.slots ∙ c.leave_all.ensures.slots) (c.leave_maybe.ensures.room ∙ c.leave_all.ensures.room) c.leave_maybe.ensures.marked
+    kept_left c.args.slot t.jobs.entries c.leave_maybe.new.jobs.entries (some d) (all d) (beside t) c.take-list.new.self t.space _ _ c.self.invariant
+    (c.leave_maybe.ensures.slots ∙ c.leave_all.ensures.slots)
     c.take-list.ensures.others c.take-list.ensures.fresh
 
 pub returns : goal.returns

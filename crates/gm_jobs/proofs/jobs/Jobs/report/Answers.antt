@@ -1,7 +1,8 @@
 use Rattle.std.proofs.Common.{inl, inr, refl, sym, subst}
 use Rattle.gm_jobs.specs.Live.{reported}
 use Rattle.gm_jobs.specs.Kept.{IsKept}
-use Rattle.gm_jobs.proofs.JobLemmas.{beside, kept_changed, listed_changed, listed_of, marked_changed, marked_of, either}
+use Rattle.gm_jobs.proofs.JobLemmas.{beside, kept_changed, listed_changed, listed_of}
+use Rattle.gm_jobs.proofs.NumberLemmas.{either}
 use Rattle.gm_jobs.proofs.jobs.Jobs.report.Goals as goal
 
 pub invariant_of-self : goal.invariant_of-self
@@ -9,10 +10,8 @@ invariant_of-self c =
     let t = c.self.inside in
     elim (either c.change.result c.change.ensures.ok c.change.ensures.err) [
       | inl change ↦
-          kept_changed (beside t) c.args.n (reported c.args.numerator.now c.args.denominator.now) t.jobs.entries c.change.new.self.entries t.marks t.listening t.dues t.space _ _ c.self.invariant change
-          (λ l. refl) (λ l. refl) c.change.ensures.room refl
-          (marked_changed c.args.n (reported c.args.numerator.now c.args.denominator.now) t.jobs.entries c.change.new.self.entries t.marks change (marked_of (beside t) t.jobs.entries t.space _ c.self.invariant) (λ l e. refl) (λ l e. e))
-          (λ d m s h. h) (λ l d there. inl there) (λ e. e)
+          kept_changed (beside t) c.args.n (reported c.args.numerator.now c.args.denominator.now) t.jobs.entries c.change.new.self.entries t.listening t.dues t.space _ _ c.self.invariant change
+          (λ l. refl) (λ l. refl) c.change.ensures.room (λ d m s h. h) (λ l d there. inl there) (λ e. e)
           (listed_changed c.args.n (reported c.args.numerator.now c.args.denominator.now) t.jobs.entries c.change.new.self.entries t.dues change (listed_of (beside t) t.jobs.entries t.space _ c.self.invariant) (λ l h. h))
       | inr same ↦
           subst (λ es. IsKept (beside t) t.space c.change.new.self.room es) (sym same) (subst (λ s. IsKept (beside t) t.space s t.jobs.entries) (sym c.change.ensures.room) c.self.invariant)

@@ -1,7 +1,7 @@
 use Rattle.std.proofs.Common.{◌≡◌, ℕ, rules, List, filter, is_some, Contains, subst, sym}
 use Rattle.std.proofs.lemmas.Fn.{filter_same}
 use Rattle.gm_jobs.specs.Tables.{find_job}
-use Rattle.gm_jobs.proofs.MarkLemmas.{Contains-filter}
+use Rattle.gm_jobs.proofs.ListLemmas.{Contains-filter}
 use Rattle.gm_jobs.proofs.listening.SlotJobs.drop_ended.Goals as goal
 
 pub returns : goal.returns

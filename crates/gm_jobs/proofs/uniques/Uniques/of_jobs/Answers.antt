@@ -27,7 +27,7 @@ loop-i-preserved c = elim c.match-at.branch [
           | inl before ↦ w.enter.ensures.kept _ n (c.loop-i.invariant.reached k n live before at good)
           | inr last ↦
               let same : k ≡ c.loop-i.i = omega arith in
-              let pair : Some (w.in-Some.number, w.in-Some.job.now) ≡ Some (n, live) = w.in-Some.ensures ∙ ap (slice_get c.args.jobs.now.entries) (sym same) ∙ at in
+              let pair : Some (w.in-Some.number, w.in-Some.job.now) ≡ Some (n, live) = w.in-Some.ensures.entry ∙ ap (slice_get c.args.jobs.now.entries) (sym same) ∙ at in
               let number : w.in-Some.number ≡ n = ap (λ (o : Option (ℕ × Live)). (unwrap_or o (n, live)).0) pair in
               let job : w.in-Some.job.now ≡ live = ap (λ (o : Option (ℕ × Live)). (unwrap_or o (n, live)).1) pair in
               let unique = w.unique.ensures ∙ ap (λ (j : Live). j.unique) job in
@@ -35,7 +35,7 @@ loop-i-preserved c = elim c.match-at.branch [
               (w.enter.ensures.stands (ap joins unique ∙ good))
         ]);
   }
-  | in_default w ↦ absurd (within c.args.jobs.now.entries c.loop-i.i (omega (arith, c.len-i-end.ensures.count)) (sym w.in_default.ensures))
+  | in_default w ↦ absurd (within c.args.jobs.now.entries c.loop-i.i (omega (arith, c.len-i-end.ensures.count)) (sym w.in_default.ensures.entry))
 ]
 
 pub returns-clause-reached : goal.returns-clause-reached
