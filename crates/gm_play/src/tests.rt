@@ -250,18 +250,6 @@ fn writer_fails(rt: HostRuntime) -> Result<(), Fail> {
     Ok(())
 }
 
-// What the options of every job server ask for.
-const fn server_options_of(slots: u32, max_bytes: u32, round_robin: bool) -> ServerOptions {
-    ServerOptions {
-        slots,
-        limits: Limits {
-            max_bytes,
-            max_line: 1024,
-        },
-        round_robin,
-    }
-}
-
 #[test]
 fn defaults(rt: HostRuntime) -> Result<(), Fail> {
     let args = parse_args(rt.alloc(), &["gm_play"])?;
@@ -269,7 +257,14 @@ fn defaults(rt: HostRuntime) -> Result<(), Fail> {
         plain: false,
         first_job: 1,
         functions: 65_536,
-        server: server_options_of(64, 67_108_864, false),
+        server: ServerOptions {
+            slots: 64,
+            limits: Limits {
+                max_bytes: 67_108_864,
+                max_line: 1024,
+            },
+            round_robin: false,
+        },
     };
     assert!(rt; args == wanted);
     Ok(())
@@ -296,7 +291,14 @@ fn options(rt: HostRuntime) -> Result<(), Fail> {
         plain: true,
         first_job: 18_446_744_073_709_551_615,
         functions: 1,
-        server: server_options_of(1024, 0, true),
+        server: ServerOptions {
+            slots: 1024,
+            limits: Limits {
+                max_bytes: 0,
+                max_line: 1024,
+            },
+            round_robin: true,
+        },
     };
     assert!(rt; args == wanted);
     Ok(())
