@@ -58,6 +58,14 @@ impl SlotJobs {
         Ok(())
     }
 
+    // Each number once, in their order.
+    fn sort(&mut self)
+        ensures { (n : ℕ) → Contains self.old n → Contains self.new n }
+    {
+        self.numbers.sort_unstable();
+        self.numbers.dedup();
+    }
+
     // One number more.
     fn add(&mut self, jobs: &JobMap, number: u64) -> Result<(), AllocError>
         ensures kept { (n : ℕ) → IsSome (find_job jobs.now.entries n) → Contains self.old n → Contains self.new n }
@@ -173,13 +181,15 @@ impl Listening {
         Some(number)
     }
 
-    /// Takes out the jobs that the slot listens to: those of its list, and one that may not be in it yet.
+    /// Takes out the jobs that the slot listens to: those of its list, each once and in the order of their numbers,
+    /// however often it listens, and one that may not be in it yet.
     pub(crate) fn take(&mut self, slot: u32) -> (SlotJobs, Option<u64>)
         ensures taken { (n : ℕ) → Heard self.old slot n → Contains result.0 n ⊎ (result.1 ≡ Some n) }
         ensures others { (c n : ℕ) → c ≢ slot → Heard self.old c n → Heard self.new c n }
         ensures fresh { self.old.fresh ≡ None → self.new.fresh ≡ None }
     {
-        let list = self.take_list(slot);
+        let mut list = self.take_list(slot);
+        list.sort();
         let fresh = self.take_fresh(slot);
         (list, fresh)
     }
