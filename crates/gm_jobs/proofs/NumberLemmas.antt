@@ -30,10 +30,6 @@ pub on_ok_map : {T E : Type 0} (r : Result T E) {P Q : Type 0} → (P → Q) →
 on_ok_map (Ok x) f h = f h
 on_ok_map (Err e) f h = h
 
-pub on_err_map : {T E : Type 0} (r : Result T E) {P Q : Type 0} → (P → Q) → OnErr r P → OnErr r Q
-on_err_map (Ok x) f h = h
-on_err_map (Err e) f h = f h
-
 pub if_some_map : {T : Type 0} (o : Option T) (P Q : T → Type 0) → ((x : T) → P x → Q x) → IfSome o P → IfSome o Q
 if_some_map None P Q f h = h
 if_some_map (Some x) P Q f h = f x h

@@ -1,5 +1,5 @@
 -- What is kept of unique ids: a hash table whose chains are the cells that follow one another.
-use Rattle.std.specs.Prelude.{◌≡◌, ℕ, ◌+◌, ◌-◌, ◌<◌, ◌%◌, Bool, true, false, not, ◌==◌, nat_lt, max, if◌then◌else◌, List}
+use Rattle.std.specs.Prelude.{◌≡◌, ℕ, ◌+◌, ◌-◌, ◌<◌, ◌%◌, Bool, true, false, not, ◌==◌, ◌&&◌, ◌||◌, is_some, nat_lt, max, if◌then◌else◌, List}
 use Rattle.std.specs.Prelude.{length, slice_index_or, Some}
 use Rattle.std.specs.List.{fold}
 use Rattle.std.specs.Hash as fed
@@ -23,6 +23,10 @@ cell cells i = slice_index_or cells i no_cell
 
 abbrev pub is_taken : Cell → Bool
 is_taken c = not (c.digest == 0)
+
+-- the cell has a number, and its job is live, unless all numbers do
+abbrev pub is_good : Bool → List (ℕ × Live) → Cell → Bool
+is_good all jobs c = not (c.digest == 0) && (all || is_some (find_job jobs c.number))
 
 -- the cell that is k behind `home`, where the first follows the last
 abbrev pub cell_behind : ℕ → ℕ → ℕ → ℕ

@@ -7,7 +7,7 @@ ghost use Rattle.gm_jobs.specs.Tables.{no_jobs, job, find_job, is_made, place, l
 ghost use Rattle.gm_jobs.specs.Dues.{AllListed};
 ghost use Rattle.gm_jobs.specs.Listening.{Heard};
 ghost use Rattle.gm_jobs.specs.Changes.{LeavesOne, LeavesSome};
-ghost use Rattle.gm_jobs.specs.Uniques.{Reached};
+ghost use Rattle.gm_jobs.specs.Uniques.{Reaches};
 
 use crate::by_number::JobMap;
 use crate::dues::Dues;
@@ -105,16 +105,14 @@ fn leave_maybe(jobs: &mut JobMap, number: Option<u64>, slot: u32)
 // Makes room for one job more in each table.
 fn make_room(
     alloc: Global,
-    seed: &RandomState,
     jobs: &mut JobMap,
     uniques: &mut Uniques,
     dues: &mut Dues,
     listening: &mut Listening,
 ) -> Result<(), AllocError>
-    requires { Reached seed.now jobs.old.entries uniques.old.cells }
     ensures jobs { jobs.new.entries ≡ jobs.old.entries }
     ensures slots { jobs.old.room ≤ jobs.new.room }
-    ensures reached { Reached seed.now jobs.old.entries uniques.new.cells }
+    ensures reached { (d n : ℕ) → IsSome (find_job jobs.old.entries n) → Reaches uniques.old.cells d n → Reaches uniques.new.cells d n }
     ensures used { uniques.old.used < length uniques.old.cells → uniques.new.used < length uniques.new.cells }
     ensures listed { AllListed jobs.old.entries dues.old → AllListed jobs.old.entries dues.new }
     ensures heard { (c n : ℕ) → IsSome (find_job jobs.old.entries n) → Heard listening.old c n → Heard listening.new c n }
@@ -124,7 +122,7 @@ fn make_room(
     jobs.reserve_one()?;
     dues.reserve(jobs, jobs.len() + 1)?;
     if uniques.is_full() {
-        *uniques = Uniques::of_jobs(alloc, seed, jobs)?;
+        *uniques = uniques.renewed(alloc, jobs)?;
     }
     listening.file(jobs)
 }
@@ -161,7 +159,6 @@ impl Jobs {
         let space = Space::new(self.alloc, f, unique_len, body_len)?;
         make_room(
             self.alloc,
-            &self.seed,
             &mut self.jobs,
             &mut self.uniques,
             &mut self.dues,

@@ -1,10 +1,10 @@
 //! Where a job with a unique id is found.
 
-ghost use Rattle.std.specs.Prelude.{◌≡◌, ℕ, ◌+◌, ◌-◌, ◌*◌, ◌<◌, ◌≤◌, ◌^◌, nat_lt, if◌then◌else◌, true, false, length, IsTrue, IfSome, IfNone, IfOk, Some};
+ghost use Rattle.std.specs.Prelude.{◌≡◌, ℕ, ◌+◌, ◌-◌, ◌*◌, ◌<◌, ◌≤◌, ◌^◌, nat_lt, if◌then◌else◌, true, false, length, IsTrue, IfSome, IfNone, IfOk, IsSome, count_by};
 ghost use Rattle.gm_notes.specs.Jobs.{joins};
 ghost use Rattle.gm_jobs.specs.Live.{Live, is_named};
 ghost use Rattle.gm_jobs.specs.Tables.{find_job, passes};
-ghost use Rattle.gm_jobs.specs.Uniques.{digest_of, cell_behind, IsFreeFor, Reaches};
+ghost use Rattle.gm_jobs.specs.Uniques.{digest_of, cell_behind, is_good, IsFreeFor, Reaches};
 
 use crate::by_number::JobMap;
 use crate::job::joins;
@@ -75,6 +75,26 @@ fn is_named(jobs: &JobMap, number: u64, f: u32, unique: &[u8]) -> bool
         Some(job) => job.is_named(f, unique),
         None => false,
     }
+}
+
+// Whether a cell has a number, and its job is live, unless all numbers do.
+fn is_good(jobs: &JobMap, cell: Cell, all: bool) -> bool
+    ensures { result ≡ is_good all jobs.now.entries cell }
+{
+    cell.digest != 0 && (all || jobs.contains(cell.number))
+}
+
+// How many cells have such a number.
+fn count_good(cells: &[Cell], jobs: &JobMap, all: bool) -> usize
+    ensures { result ≡ count_by (is_good all jobs.now.entries) cells.now }
+{
+    let mut count = 0;
+    for cell in cells {
+        if is_good(jobs, *cell, all) {
+            count += 1;
+        }
+    }
+    count
 }
 
 impl Uniques {
@@ -173,21 +193,30 @@ impl Uniques {
         }
     }
 
-    /// Cells for these jobs, with room for as many more.
-    pub(crate) fn of_jobs(
-        alloc: Global,
-        seed: &RandomState,
-        jobs: &JobMap,
-    ) -> Result<Uniques, AllocError>
-        ensures reached { IfOk result (λ u. (n : ℕ) (live : Live) → find_job jobs.now.entries n ≡ Some live → joins live.unique ≡ true → Reaches u.cells (digest_of seed.now live.function live.unique) n) }
+    // The number of this cell goes into a free cell, if it has one whose job is live, unless all numbers do.
+    fn copy(&mut self, jobs: &JobMap, cell: Cell, all: bool)
+        requires { is_good all jobs.now.entries cell ≡ true → self.old.used < length self.old.cells }
+        ensures stands { is_good all jobs.now.entries cell ≡ true → Reaches self.new.cells cell.digest cell.number }
+        ensures kept { (d n : ℕ) → Reaches self.old.cells d n → Reaches self.new.cells d n }
+        ensures used { self.new.used ≤ self.old.used + (if is_good all jobs.now.entries cell then 1 else 0) }
+        ensures len { length self.new.cells ≡ length self.old.cells }
+    {
+        if is_good(jobs, cell, all) {
+            self.put(cell.digest, cell.number);
+        }
+    }
+
+    /// Cells for the live jobs of these, with room for as many more. Nothing is hashed anew, and where most of the jobs
+    /// are live, none is looked up.
+    pub(crate) fn renewed(&self, alloc: Global, jobs: &JobMap) -> Result<Uniques, AllocError>
+        ensures reached { IfOk result (λ u. (d n : ℕ) → IsSome (find_job jobs.now.entries n) → Reaches self.now.cells d n → Reaches u.cells d n) }
         ensures free { IfOk result (λ u. u.used < length u.cells) }
     {
-        let len = jobs.len().saturating_mul(2).saturating_add(8);
-        let mut made = Uniques::with_cells(alloc, len)?;
-        for i in 0..jobs.len() {
-            if let Some((number, job)) = jobs.at(i) {
-                made.enter(seed, job.f(), job.unique(), number);
-            }
+        let all = self.used / 2 <= jobs.len();
+        let count = count_good(self.cells.as_slice(), jobs, all);
+        let mut made = Uniques::with_cells(alloc, count.saturating_mul(2).saturating_add(8))?;
+        for i in 0..self.cells.len() {
+            made.copy(jobs, self.cells[i], all);
         }
         Ok(made)
     }

@@ -9,7 +9,7 @@ roomy : (c : After-make_room) → IsKept (record (beside c.self.inside) { unique
 roomy c =
     let t = c.self.inside in
     let e = c.make_room.ensures in
-    kept_room (beside t) t.jobs.entries c.make_room.new.uniques c.make_room.new.listening c.make_room.new.dues t.space _ _ c.self.invariant e.slots e.reached e.used e.heard e.fresh (e.listed (listed_of (beside t) t.jobs.entries t.space _ c.self.invariant))
+    kept_room (beside t) t.jobs.entries c.make_room.new.uniques c.make_room.new.listening c.make_room.new.dues t.space _ _ c.self.invariant e.slots (λ n live found good. e.reached _ n (ap is_some found) ((c.self.invariant.known n live found).reached good)) e.used e.heard e.fresh (e.listed (listed_of (beside t) t.jobs.entries t.space _ c.self.invariant))
 
 pub invariant_of-self : goal.invariant_of-self
 invariant_of-self c =
