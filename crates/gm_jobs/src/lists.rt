@@ -198,7 +198,8 @@ fn is_in(slab: &Slab<Entry>, list: usize, key: usize) -> bool
     }
 }
 
-// A job of the list, from which on a number's place is looked for: the last, where that comes before it, else the one that came last.
+// A job of the list, from which on a number's place is looked for: the last or the first, where the number stands beyond it,
+// else the one that came last.
 fn start(slab: &Slab<Entry>, ends: Ends, list: usize, but: usize, number: u64) -> Option<usize>
     requires { IsNearest Way.Down (without but (held slab.now)) list None ends.last }
     ensures some { IfSome result (λ k. (n : ℕ) × Stands (without but (held slab.now)) list k n) }
@@ -207,7 +208,11 @@ fn start(slab: &Slab<Entry>, ends: Ends, list: usize, but: usize, number: u64) -
     let Some(last) = ends.last else {
         return None;
     };
-    let Some(near) = ends.near else {
+    let is_first = match ends.first {
+        Some(first) => comes_before(slab, Way::Down, first, number),
+        None => false,
+    };
+    let Some(near) = (if is_first { ends.first } else { ends.near }) else {
         return Some(last);
     };
     if near == but || comes_before(slab, Way::Up, last, number) || !is_in(slab, list, near) {
