@@ -38,7 +38,7 @@ pub(crate) enum Spot {
     At(usize),
 }
 
-/// The keys of the first and the last job of a list, and of the one that came last, if that still stands there.
+/// The keys of the first and the last job of a list, and of the one that was linked last, which may be gone since.
 #[derive(Clone, Copy)]
 pub(crate) struct Ends {
     first: Option<usize>,
@@ -94,8 +94,8 @@ pub(crate) fn list_at(slab: &Slab<Entry>, key: usize) -> Option<usize>
     }
 }
 
-/// The neighbour of the job at a key.
-pub(crate) fn neighbour(slab: &Slab<Entry>, way: Way, key: usize) -> Option<usize>
+// The neighbour of the job at a key.
+fn neighbour(slab: &Slab<Entry>, way: Way, key: usize) -> Option<usize>
     ensures { result ≡ link_of way (get slab.now key) }
 {
     match slab.get(key) {
@@ -107,7 +107,7 @@ pub(crate) fn neighbour(slab: &Slab<Entry>, way: Way, key: usize) -> Option<usiz
     }
 }
 
-// From this key, this way, it goes there.
+// Makes this key the neighbour of the job at a key.
 fn set_neighbour(slab: &mut Slab<Entry>, way: Way, key: usize, to: Option<usize>)
     ensures updates { Updates slab.old slab.new key (option_map (with_link way to) (get slab.old key)) }
     ensures len { slab_len slab.new ≡ slab_len slab.old }
@@ -121,7 +121,7 @@ fn set_neighbour(slab: &mut Slab<Entry>, way: Way, key: usize, to: Option<usize>
     }
 }
 
-// From outside of this list, this way, it goes there.
+// Makes this key the first of a list, or the last, seen from the way that starts there.
 fn set_end(ends: &mut Vec<Ends>, way: Way, list: usize, to: Option<usize>)
     requires { list < vec_len ends.old }
     ensures ends { ends.new.items ≡ slice_set ends.old.items list (with_end way to (slice_index_or ends.old.items list no_ends)) }
@@ -133,7 +133,7 @@ fn set_end(ends: &mut Vec<Ends>, way: Way, list: usize, to: Option<usize>)
     }
 }
 
-// From this spot, this way, it goes there.
+// Makes this key the next one from a spot.
 fn set_next(slab: &mut Slab<Entry>, ends: &mut Vec<Ends>, way: Way, from: Spot, to: Option<usize>)
     requires { IsWithin (vec_len ends.old) from }
     ensures sets { IsThere slab.old from → Sets way from to (next_of slab.old ends.old.items) (next_of slab.new ends.new.items) }
@@ -160,7 +160,8 @@ fn comes_before(slab: &Slab<Entry>, way: Way, key: usize, number: u64) -> bool
     }
 }
 
-// The neighbours of a number, from a job of the list on that comes before it: that before it, and that after it, if there is one.
+// The jobs of the list between which a number stands, looked for from a job that comes before it: the one that comes
+// last before it, and the first after it, if there is one.
 fn walk(
     slab: &Slab<Entry>,
     way: Way,
@@ -198,8 +199,8 @@ fn is_in(slab: &Slab<Entry>, list: usize, key: usize) -> bool
     }
 }
 
-// A job of the list, from which on a number's place is looked for: the last or the first, where the number stands beyond it,
-// else the one that came last.
+// A job of the list from which the place of a number is looked for: the last or the first, where the number is beyond
+// it, and otherwise the one that was linked last.
 fn start(slab: &Slab<Entry>, ends: Ends, list: usize, but: usize, number: u64) -> Option<usize>
     requires { IsNearest Way.Down (without but (held slab.now)) list None ends.last }
     ensures some { IfSome result (λ k. (n : ℕ) × Stands (without but (held slab.now)) list k n) }
@@ -248,7 +249,7 @@ fn neighbours(
     }
 }
 
-// The job at this key came last into the list.
+// The job at this key was linked last.
 fn set_near(ends: &mut Vec<Ends>, list: usize, key: usize)
     requires { list < vec_len ends.old }
     ensures ends { (way : Way) (l : ℕ) → end_of way (slice_index_or ends.new.items l no_ends) ≡ end_of way (slice_index_or ends.old.items l no_ends) }
