@@ -41,8 +41,7 @@ impl Core {
         }
     }
 
-    /// How many of the abilities of a slot, which has so many, are tried last: where functions take turns, those up to
-    /// the one of its last job.
+    /// How many of a slot's `len` abilities are tried last: where functions take turns, those up to the one of its last job.
     fn tried_last(&self, slot: u32, len: usize) -> usize
         requires open { IsOpen self.now.conns slot }
         requires len { len ≡ length (conn self.now.conns slot).abilities }
