@@ -1,11 +1,14 @@
 //! Threads that submit and grab at one book, a thousand times each.
 
+ghost use Rattle.std.specs.Prelude.{◌≡◌};
+
 use crate::checks::{must, same};
 use crate::packets::{assigned, cut, handle};
-use crate::room::{Room, Scene, apply, play_settled};
+use crate::room::{Room, apply, blank};
 use gm_notes::{ApplyError, Event};
-use gm_shared::{BookName, Desk, Shared, TapeMode};
+use gm_shared::{Blank, BookName, Desk, Shared, TapeMode};
 use std::alloc::{AllocError, Global};
+use std::marker::Brand;
 use std::mem;
 use std::process::Abort;
 use std::random::RandomSource;
@@ -303,43 +306,61 @@ fn assert_places<K: BookName, R: Wait + Abort>(
 }
 
 /// Two threads submit and the others, if any, grab. Then each number was told once, and each job waits or runs.
-#[derive(Clone, Copy)]
-struct Crowd {
+fn crowd_in<K: BookName + Send + Sync, R: Threads + Wait + Abort + Sync>(
+    rt: &R,
+    alloc: Global,
+    room: &mut Room<K>,
+    slots: u32,
+) -> Result<(), Fail> {
+    for _ in 0..slots {
+        room.control
+            .apply(rt, &room.shared, Event::Open { addr: b"127.0.0.1" })?;
+    }
+    let told = work_all(rt, alloc, room)?;
+    assert_numbers(rt, alloc, &told, 2000)?;
+    assert_all_created(rt, alloc, room, &told)?;
+    let running = assigned_jobs(rt, alloc, room)?;
+    assert_status(rt, alloc, room, running.len(), slots.saturating_sub(2))?;
+    assert_places(rt, alloc, room, &running)
+}
+
+/// The same in a room of its own. What each desk and pen was told stands on the tape, if one is kept, and has so many
+/// entries.
+fn crowd<K: BookName + Send + Sync, R: Threads + Wait + Abort + Sync>(
+    rt: &R,
+    alloc: Global,
+    blank: Blank,
+    slots: u32,
+) -> Result<usize, Fail>
+    requires table { blank.table ≡ K.table }
+    requires taped { blank.taped ≡ K.taped }
+{
+    let mut room: Room<K> = Room::new(alloc, blank)?;
+    crowd_in(rt, alloc, &mut room, slots)?;
+    Ok(room.settle(alloc)?.len())
+}
+
+/// The same in a new book.
+fn crowd_anew<R: RandomSource + Threads + Wait + Abort + Sync>(
+    rt: &R,
     alloc: Global,
     slots: u32,
+    tape: TapeMode,
+) -> Result<usize, Fail> {
+    crowd::<Brand, R>(rt, alloc, blank(rt, alloc, slots, tape)?, slots)
 }
 
-impl Scene for Crowd {
-    fn play<K: BookName + Send + Sync, R: Threads + Wait + Abort + Sync>(
-        &mut self,
-        rt: &R,
-        room: &mut Room<K>,
-    ) -> Result<(), Fail> {
-        let alloc = self.alloc;
-        for _ in 0..self.slots {
-            room.control
-                .apply(rt, &room.shared, Event::Open { addr: b"127.0.0.1" })?;
-        }
-        let told = work_all(rt, alloc, room)?;
-        assert_numbers(rt, alloc, &told, 2000)?;
-        assert_all_created(rt, alloc, room, &told)?;
-        let running = assigned_jobs(rt, alloc, room)?;
-        assert_status(rt, alloc, room, running.len(), self.slots.saturating_sub(2))?;
-        assert_places(rt, alloc, room, &running)
-    }
-}
-
-/// A crowd goes right without a tape, and with one, which has so many entries in the end.
+/// The same without a tape, and with one, which has so many entries in the end.
 fn both_crowds<R: RandomSource + Threads + Wait + Abort + Sync>(
     rt: &R,
     alloc: Global,
     slots: u32,
     entries: usize,
 ) -> Result<(), Fail> {
-    let mut crowd = Crowd { alloc, slots };
-    let off = play_settled(rt, alloc, slots, TapeMode::Off, &mut crowd)?.len();
-    let on = play_settled(rt, alloc, slots, TapeMode::On, &mut crowd)?.len();
-    same(rt, "the entries", &(off, on), &(0, entries));
+    let off = crowd_anew(rt, alloc, slots, TapeMode::Off)?;
+    same(rt, "without a tape", &off, &0);
+    let on = crowd_anew(rt, alloc, slots, TapeMode::On)?;
+    same(rt, "with a tape", &on, &entries);
     Ok(())
 }
 

@@ -1,5 +1,6 @@
-//! A shared book with all its desks and pens, and the one function that makes it, has something done there and settles
-//! it: the proof of a function that owns a room says at each way out how all its parts are dropped, so there is one.
+//! A shared book with all its desks and pens, and the function that makes it, has something done there and settles it: the
+//! proof of a function that owns a room says at each way out how all its parts are dropped, so there is this one, and one
+//! more where desks go to threads, which no method of a trait can hand them to.
 
 ghost use Rattle.std.specs.Prelude.{◌≡◌};
 
@@ -55,7 +56,7 @@ pub fn apply<K: BookName, R: Wait + Abort>(
 }
 
 impl<K: BookName> Room<K> {
-    fn new(alloc: Global, blank: Blank) -> Result<Room<K>, AllocError>
+    pub fn new(alloc: Global, blank: Blank) -> Result<Room<K>, AllocError>
         requires table { blank.table ≡ K.table }
         requires taped { blank.taped ≡ K.taped }
     {
@@ -79,7 +80,7 @@ impl<K: BookName> Room<K> {
     }
 
     /// Gives all desks and pens back, and gets the tape.
-    fn settle(self, alloc: Global) -> Result<Vec<Entry>, SettleError> {
+    pub fn settle(self, alloc: Global) -> Result<Vec<Entry>, SettleError> {
         let Room {
             shared,
             mut desks,
@@ -135,8 +136,18 @@ fn play_at<K: BookName + Send + Sync, S: Scene, R: Threads + Wait + Abort + Sync
     Ok(room.settle(alloc))
 }
 
-/// Plays in a new room with so many slots, with a tape or without, and says what the book's settling answers. Functions
-/// take turns where a tape is kept.
+/// A new book with so many slots, with a tape or without. Functions take turns where a tape is kept.
+pub fn blank<R: RandomSource>(
+    rt: &R,
+    alloc: Global,
+    slots: u32,
+    tape: TapeMode,
+) -> Result<Blank, Fail> {
+    let config = config(alloc, slots, tape == TapeMode::On)?;
+    Ok(Blank::new(alloc, RandomState::new(rt)?, config, tape)?)
+}
+
+/// Plays in a new room with so many slots, with a tape or without, and says what the book's settling answers.
 pub fn play_to_the_end<S: Scene, R: RandomSource + Threads + Wait + Abort + Sync>(
     rt: &R,
     alloc: Global,
@@ -144,8 +155,7 @@ pub fn play_to_the_end<S: Scene, R: RandomSource + Threads + Wait + Abort + Sync
     tape: TapeMode,
     scene: &mut S,
 ) -> Result<Result<Vec<Entry>, SettleError>, Fail> {
-    let config = config(alloc, slots, tape == TapeMode::On)?;
-    let blank = Blank::new(alloc, RandomState::new(rt)?, config, tape)?;
+    let blank = blank(rt, alloc, slots, tape)?;
     play_at::<Brand, S, R>(rt, alloc, blank, scene)
 }
 
