@@ -15,7 +15,7 @@ use Rattle.gm_notes.specs.declared.states.Priority.TheVariants.{High, Normal, Lo
 use Rattle.gm_notes.specs.declared.note.Note.{Note}
 use Rattle.gm_notes.specs.Settings.{Settings}
 use Rattle.gm_notes.specs.Notes.{is_open, is_shut, phase, is_asleep, is_awake, slots_from}
-use Rattle.gm_notes.specs.Jobs.{Job, job, job_state, is_wanted, is_mentioned, is_able, listeners, joined, job_of_handle}
+use Rattle.gm_notes.specs.Jobs.{Job, job, job_state, is_wanted, is_last_try, is_mentioned, is_able, listeners, joined, job_of_handle}
 use Rattle.gm_notes.specs.Jobs.{next_number, pick, waiting_for, is_empty}
 use Rattle.gm_notes.specs.declared.states.Pick.{Pick}
 use Rattle.gm_notes.specs.JobStates.{is_live, is_waiting, is_running_at}
@@ -23,8 +23,8 @@ use Rattle.gm_notes.specs.Past.{Past, with_note, give, with_mention, tell_all, w
 use Rattle.gm_notes.specs.Submissions.{Submission, is_bad_name, is_one_too_many, is_full, keep_or_listen, make, join_or_make, submit}
 use Rattle.gm_notes.specs.Workers.{Work, wake_if, add_ability, can_do, cant_do, sleep_beside, pre_sleep, wake_itself}
 use Rattle.gm_notes.specs.Workers.{tell_assigned, give_out, grab, keep_report, end_if, hearers, tell_work, work_on, work}
-use Rattle.gm_notes.specs.declared.note.Note.TheVariants.{Returned}
-use Rattle.gm_notes.specs.Closings.{discard_one, discard_each, wake_for, give_back_one, give_back_each, disconnect, rising, close}
+use Rattle.gm_notes.specs.declared.note.Note.TheVariants.{Returned, Lost}
+use Rattle.gm_notes.specs.Closings.{discard_one, discard_each, wake_for, return_or_lose, give_back_one, give_back_each, disconnect, rising, close}
 use Rattle.gm_notes.specs.Requests.{first, second, third, submission, passing, ending, tell_status, set_option, request}
 use Rattle.gm_notes.specs.Requests.{request_if_read, packet_of}
 
@@ -210,12 +210,16 @@ wake_for_stays : (k : Settings) (o : Option Job) (past : Past) → Stays past.no
 wake_for_stays k None past = stays_here past.notes
 wake_for_stays k (Some job) past = wake_stays job.function (slots_from 0 k.slots) past
 
+return_or_lose_stays : (k : Settings) (n : ℕ) (past : Past) → Stays past.notes (return_or_lose k n past).notes
+return_or_lose_stays k n past =
+    either (is_last_try k n past.notes) past.notes (with_note (Lost n) past) (wake_for k (job n past.notes) (with_note (Returned n) past))
+    (record { opens = λ d. refl; shuts = λ d. refl })
+    (stays_then past.notes (Returned n ∷ past.notes) _ (record { opens = λ d. refl; shuts = λ d. refl }) (wake_for_stays k (job n past.notes) (with_note (Returned n) past)))
+
 give_back_stays : (k : Settings) (c n : ℕ) (past : Past) → Stays past.notes (give_back_one k c n past).notes
 give_back_stays k c n past =
     either (is_running_at c (job_state n past.notes)) past.notes _ past
-    (either (is_wanted n past.notes) past.notes _ _
-    (stays_then past.notes (Returned n ∷ past.notes) _ (record { opens = λ d. refl; shuts = λ d. refl }) (wake_for_stays k (job n past.notes) (with_note (Returned n) past)))
-    (record { opens = λ d. refl; shuts = λ d. refl }))
+    (either (is_wanted n past.notes) past.notes _ _ (return_or_lose_stays k n past) (record { opens = λ d. refl; shuts = λ d. refl }))
     (stays_here past.notes)
 
 give_backs_stay : (k : Settings) (c : ℕ) (jobs : List ℕ) (past : Past) → Stays past.notes (give_back_each k c jobs past).notes

@@ -1,11 +1,11 @@
 -- What closings and ticks do.
 use Rattle.std.specs.Prelude.{ℕ, Bool, false, not, ◌&&◌, nat_le, max, if◌then◌else◌, List, [], ◌∷◌, reverse, Option, Some, None}
 use Rattle.gm_packet.specs.Answers.{work_fail}
-use Rattle.gm_notes.specs.declared.note.Note.TheVariants.{Closed, Returned, Ended, Discarded, Now}
+use Rattle.gm_notes.specs.declared.note.Note.TheVariants.{Closed, Returned, Lost, Ended, Discarded, Now}
 use Rattle.gm_notes.specs.Settings.{Settings}
 use Rattle.gm_notes.specs.Notes.{moment}
 use Rattle.gm_notes.specs.Flow.{Emptied}
-use Rattle.gm_notes.specs.Jobs.{Job, job_state, job, made, is_wanted, listeners, deadline, handle}
+use Rattle.gm_notes.specs.Jobs.{Job, job_state, job, made, is_wanted, is_last_try, listeners, deadline, handle}
 use Rattle.gm_notes.specs.JobStates.{is_waiting, is_running, is_running_at}
 use Rattle.gm_notes.specs.Past.{Past, with_note, with_flow, tell_all, wake}
 use Rattle.gm_notes.specs.Workers.{wake_itself}
@@ -24,11 +24,16 @@ abbrev pub wake_for : Settings → Option Job → Past → Past
 wake_for k None past = past
 wake_for k (Some job) past = wake k job.function past
 
--- a job that ran at slot c waits again if somebody wants it, and is discarded if not
+-- a job that its worker gives back waits again, or is lost if that was its last try
+abbrev pub return_or_lose : Settings → ℕ → Past → Past
+return_or_lose k n past =
+    if is_last_try k n past.notes then with_note (Lost n) past else wake_for k (job n past.notes) (with_note (Returned n) past)
+
+-- a job that ran at slot c is given back if somebody wants it, and is discarded if not
 abbrev pub give_back_one : Settings → ℕ → ℕ → Past → Past
 give_back_one k c n past =
     if is_running_at c (job_state n past.notes)
-    then (if is_wanted n past.notes then wake_for k (job n past.notes) (with_note (Returned n) past) else with_note (Discarded n) past)
+    then (if is_wanted n past.notes then return_or_lose k n past else with_note (Discarded n) past)
     else past
 
 abbrev pub give_back_each : Settings → ℕ → List ℕ → Past → Past

@@ -8,6 +8,7 @@ pub data JobState : Type 0 where
   Unmade : JobState
   Waiting : JobState
   Running : ℕ → JobState  -- at this slot
+  Lost : JobState  -- running at no slot
   Ended : JobState
   Discarded : JobState
 
@@ -16,6 +17,7 @@ abbrev pub place_of : JobState → Place
 place_of Unmade = places.Unmade
 place_of Waiting = places.Waiting
 place_of (Running c) = places.Running c
+place_of Lost = places.Lost
 place_of Ended = places.Gone
 place_of Discarded = places.Gone
 

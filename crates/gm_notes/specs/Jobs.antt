@@ -1,5 +1,5 @@
 -- What the notes say of jobs and functions.
-use Rattle.std.specs.Prelude.{ℕ, ◌+◌, ◌^◌, Bool, true, false, not, ◌&&◌, ◌||◌, ◌==◌, nat_lt, if◌then◌else◌, List, [], ◌∷◌}
+use Rattle.std.specs.Prelude.{ℕ, suc, ◌+◌, ◌^◌, Bool, true, false, not, ◌&&◌, ◌||◌, ◌==◌, nat_lt, nat_le, if◌then◌else◌, List, [], ◌∷◌}
 use Rattle.std.specs.Prelude.{◌++◌, length, filter, find, codes, decimal, Option, Some, None}
 use Rattle.std.specs.List.{list_any}
 use Rattle.std.specs.Option.{option_map}
@@ -9,7 +9,7 @@ use Rattle.gm_notes.specs.declared.states.Priority.TheVariants.{High, Normal, Lo
 use Rattle.gm_notes.specs.declared.states.Pick.{Pick}
 use Rattle.gm_notes.specs.declared.note.Note.{Note}
 use Rattle.gm_notes.specs.declared.note.Note.TheVariants.{Opened, Closed, Can, Cant, Reset, Made, Kept, Listens, Assigned}
-use Rattle.gm_notes.specs.declared.note.Note.TheVariants.{Returned, Ended, Discarded, Report, Mention, Limit}
+use Rattle.gm_notes.specs.declared.note.Note.TheVariants.{Returned, Lost, Ended, Discarded, Report, Mention, Limit}
 use Rattle.gm_notes.specs.Settings.{Settings}
 use Rattle.gm_notes.specs.JobStates.{JobState, is_waiting, is_running, is_live}
 use Rattle.gm_notes.specs.JobStates as states
@@ -22,6 +22,7 @@ abbrev pub says_job_state : ℕ → Note → Option JobState
 says_job_state n (Made m f p u body) = said_of n m states.Waiting
 says_job_state n (Returned m) = said_of n m states.Waiting
 says_job_state n (Assigned m c deadline) = said_of n m (states.Running c)
+says_job_state n (Lost m) = said_of n m states.Lost
 says_job_state n (Ended m) = said_of n m states.Ended
 says_job_state n (Discarded m) = said_of n m states.Discarded
 says_job_state n note = None
@@ -80,15 +81,27 @@ says_report n note = None
 abbrev pub report : ℕ → List Note → List ℕ × List ℕ
 report n notes = last_said (says_report n) (codes "0", codes "0") notes
 
--- the moment at which it fails, if there is one
+-- the moment at which it fails, if there is one; a lost job fails with the next tick, whenever that is
 abbrev pub says_deadline : ℕ → Note → Option (Option ℕ)
 says_deadline n (Made m f p u body) = said_of n m None
 says_deadline n (Returned m) = said_of n m None
+says_deadline n (Lost m) = said_of n m (Some 0)
 says_deadline n (Assigned m c deadline) = said_of n m deadline
 says_deadline n note = None
 
 abbrev pub deadline : ℕ → List Note → Option ℕ
 deadline n notes = last_said (says_deadline n) None notes
+
+-- how often it came back from a worker that went
+abbrev pub returns : ℕ → List Note → ℕ
+returns n [] = 0
+returns n (Made m f p u body ∷ older) = if n == m then 0 else returns n older
+returns n (Returned m ∷ older) = if n == m then suc (returns n older) else returns n older
+returns n (note ∷ older) = returns n older
+
+-- its worker is the last one, where a job is given to so many workers at most
+abbrev pub is_last_try : Settings → ℕ → List Note → Bool
+is_last_try k n notes = not (k.retries == 0) && nat_le k.retries (returns n notes + 1)
 
 -- ---- functions and abilities
 

@@ -5,14 +5,15 @@ use Rattle.std.specs.List.{list_all}
 use Rattle.gm_notes.specs.declared.config.ConfigError.{ConfigError}
 use Rattle.gm_notes.specs.declared.config.ConfigError.TheVariants.{BadName, BadNumber, BadSlots, BadFunctions}
 
--- the name in job handles, the first job's number, the most connections and functions at once, and whether a worker's
--- functions take turns
+-- the name in job handles, the first job's number, the most connections and functions at once, whether a worker's
+-- functions take turns, and to how many workers a job may be given; 0 is no limit
 pub record Settings : Type 0 where
   pub name : List ℕ
   pub first_job : ℕ
   pub slots : ℕ
   pub max_functions : ℕ
   pub round_robin : Bool
+  pub retries : ℕ
 
 -- a letter, a digit, a dot (46) or a dash (45)
 abbrev pub is_name_byte : ℕ → Bool

@@ -33,7 +33,8 @@ impl ConfigError {
 }
 
 /// The settings of a server: the name in job handles, the first job's number, the most
-/// connections and functions that there may be at once, and whether a worker's functions take turns.
+/// connections and functions that there may be at once, whether a worker's functions take turns, and to how
+/// many workers a job may be given.
 #[derive(Debug, Drop)]
 pub struct Config {
     name: Text,
@@ -41,6 +42,7 @@ pub struct Config {
     slots: u32,
     max_functions: u32,
     round_robin: bool,
+    retries: u32,
 }
 
 impl Model for Config {
@@ -72,15 +74,15 @@ fn is_name(name: &[u8]) -> bool
 
 impl Config {
     /// Settings with this name in job handles, this number for the first job, and at most so many
-    /// connections and functions. A worker's functions don't take turns. What is wrong is answered in the
-    /// order of `ConfigError`. It takes no memory.
+    /// connections and functions. A worker's functions don't take turns, and a job may be given to any number of
+    /// workers. What is wrong is answered in the order of `ConfigError`. It takes no memory.
     pub fn new(
         name: Vec<u8>,
         first_job: u64,
         slots: u32,
         max_functions: u32,
     ) -> Result<Config, ConfigError>
-        ensures { let asked : Settings = record { name = name.items; first_job = first_job; slots = slots; max_functions = max_functions; round_robin = false } in
+        ensures { let asked : Settings = record { name = name.items; first_job = first_job; slots = slots; max_functions = max_functions; round_robin = false; retries = 0 } in
             MatchResult result (λ config. (config ≡ asked)) (λ fault. config_fault asked ≡ Some fault) }
     {
         if !is_name(&name) {
@@ -101,6 +103,7 @@ impl Config {
             slots,
             max_functions,
             round_robin: false,
+            retries: 0,
         })
     }
 
@@ -116,6 +119,22 @@ impl Config {
             slots: self.slots,
             max_functions: self.max_functions,
             round_robin: on,
+            retries: self.retries,
+        }
+    }
+
+    /// The same settings, but that a job may be given to so many workers; 0 is no limit. When the last of them
+    /// goes with the job in hand, the job isn't given out again and fails with the next tick. It takes no memory.
+    pub fn with_retries(self, r: u32) -> Config
+        ensures { result ≡ record self { retries = r } }
+    {
+        Config {
+            name: self.name,
+            first_job: self.first_job,
+            slots: self.slots,
+            max_functions: self.max_functions,
+            round_robin: self.round_robin,
+            retries: r,
         }
     }
 
@@ -124,6 +143,13 @@ impl Config {
         ensures { result ≡ self.now.round_robin }
     {
         self.round_robin
+    }
+
+    /// To how many workers a job may be given; 0 is no limit.
+    pub fn retries(&self) -> u32
+        ensures { result ≡ self.now.retries }
+    {
+        self.retries
     }
 
     /// The name in job handles.

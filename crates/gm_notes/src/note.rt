@@ -90,6 +90,10 @@ pub enum Note {
     Returned {
         job: u64,
     },
+    /// The job's last try is over: it waits no more, and fails with the next tick.
+    Lost {
+        job: u64,
+    },
     /// The job is done or has failed.
     Ended {
         job: u64,

@@ -17,6 +17,8 @@ pub enum Place {
     Waiting,
     /// It runs at this slot.
     Running(u32),
+    /// The worker of its last try went: it runs at no slot, and fails with the next tick.
+    Lost,
     /// It ended or was discarded.
     Gone,
 }
@@ -31,7 +33,7 @@ impl Place {
     {
         match self {
             Place::Unmade => false,
-            Place::Waiting | Place::Running(_) | Place::Gone => true,
+            Place::Waiting | Place::Running(_) | Place::Lost | Place::Gone => true,
         }
     }
 
@@ -41,16 +43,16 @@ impl Place {
     {
         match self {
             Place::Waiting => true,
-            Place::Unmade | Place::Running(_) | Place::Gone => false,
+            Place::Unmade | Place::Running(_) | Place::Lost | Place::Gone => false,
         }
     }
 
-    /// Whether the job runs.
+    /// Whether the job runs. A lost one does.
     pub fn is_running(self) -> bool
         ensures { result ≡ is_running self }
     {
         match self {
-            Place::Running(_) => true,
+            Place::Running(_) | Place::Lost => true,
             Place::Unmade | Place::Waiting | Place::Gone => false,
         }
     }
@@ -61,7 +63,7 @@ impl Place {
     {
         match self {
             Place::Running(at) => slot == at,
-            Place::Unmade | Place::Waiting | Place::Gone => false,
+            Place::Unmade | Place::Waiting | Place::Lost | Place::Gone => false,
         }
     }
 
