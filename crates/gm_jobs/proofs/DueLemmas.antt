@@ -1,11 +1,11 @@
 -- What is true of the deadlines that are kept.
-use Rattle.std.proofs.Common.{◌≡◌, ℕ, ◌<◌, ◌≤◌, ◌⊎◌, inl, inr, Bool, true, false, ◌&&◌, List, length, slice_index_or, min, Contains, Option, Some}
+use Rattle.std.proofs.Common.{◌≡◌, ℕ, ◌<◌, ◌≤◌, ◌⊎◌, inl, inr, Bool, true, false, not, ◌&&◌, List, length, slice_index_or, min, Contains, Option, Some}
 use Rattle.std.proofs.Common.{None, is_some, refl, sym, ap, subst, ◌∙◌, arith}
 use Rattle.std.proofs.lemmas.Bool.{cases_lt, false≢true}
 use Rattle.std.proofs.lemmas.List.{get_or_default}
 use Rattle.std.specs.List.Sorted.{IsNonDecreasingBy}
 use Rattle.std.proofs.lemmas.Bool.Decides.{nat_tests}
-use Rattle.gm_jobs.specs.Live.{Live, is_due, is_reached}
+use Rattle.gm_jobs.specs.Live.{Live, is_due, is_reached, waits}
 use Rattle.gm_jobs.specs.Tables.{find_job, passes, IsNext, IsLast}
 use Rattle.gm_jobs.specs.Roll.{Pair, Has, first_of}
 use Rattle.gm_jobs.specs.Dues.{DueTable, AllListed, AllLater, NoneReached, IsFirstReached, listing, least_of}
@@ -34,7 +34,7 @@ listed_popped jobs waiting waiting' reached reached' now d n listed pops kept fi
     reached_now is_it same = subst (λ i. Contains reached' (i, e)) same.1 (subst (λ i. Contains reached' (n, i)) same.0 (due (ap (λ i. passes (is_due now) (find_job jobs i)) same.1 ∙ ap (passes (is_due now)) found ∙ is_it)))
 
     is_it : e ≤ now → is_due now live ≡ true
-    is_it soon = (λ i. runs i && is_reached now (is i)) ∙ grind (arith, nat_tests)
+    is_it soon = (λ i. not (runs i) && is_reached now (is i)) ∙ grind (arith, nat_tests)
 
     at : Has waiting' e m ⊎ (first_of waiting ≡ Some (e, m)) → Has waiting' e m ⊎ Contains reached' (m, e)
     at (inl there) = inl there
@@ -52,10 +52,10 @@ pub due_reached : (jobs : List (ℕ × Live)) (waiting : List Pair) (reached : L
     → (d : ℕ) × Contains reached (n, d)
 due_reached jobs waiting reached now n listed later due = by (find_job jobs n) refl due
   where
-    here : (live : Live) → find_job jobs n ≡ Some live → (s : Bool) → is_some live.slot ≡ s → (o : Option ℕ) → live.deadline ≡ o → (s && is_reached now o) ≡ true → (d : ℕ) × Contains reached (n, d)
-    here live e false runs o is h = absurd (false≢true h)
-    here live e true runs None is h = absurd (false≢true h)
-    here live e true runs (Some d) is h = at (listed n live e refl d runs is)
+    here : (live : Live) → find_job jobs n ≡ Some live → (s : Bool) → waits live.stage ≡ s → (o : Option ℕ) → live.deadline ≡ o → (not s && is_reached now o) ≡ true → (d : ℕ) × Contains reached (n, d)
+    here live e true runs o is h = absurd (false≢true h)
+    here live e false runs None is h = absurd (false≢true h)
+    here live e false runs (Some d) is h = at (listed n live e refl d runs is)
       where
         at : Has waiting d n ⊎ Contains reached (n, d) → (d : ℕ) × Contains reached (n, d)
         at (inl there) = absurd (let late = later d n there in let early : d ≤ now = grind (arith, nat_tests) in omega arith)
@@ -63,7 +63,7 @@ due_reached jobs waiting reached now n listed later due = by (find_job jobs n) r
 
     by : (o : Option Live) → find_job jobs n ≡ o → passes (is_due now) o ≡ true → (d : ℕ) × Contains reached (n, d)
     by None e h = absurd (false≢true h)
-    by (Some live) e h = here live e (is_some live.slot) refl live.deadline refl h
+    by (Some live) e h = here live e (waits live.stage) refl live.deadline refl h
 
 pub is_false : (b : Bool) → (b ≡ true → ⊥) → b ≡ false
 is_false true never = absurd (never refl)

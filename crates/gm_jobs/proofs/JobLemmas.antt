@@ -9,7 +9,8 @@ use Rattle.gm_jobs.proofs.ListLemmas.{Contains-from_filter}
 use Rattle.std.proofs.lemmas.Bool.{cases_lt, cases_eq, true≢false, false≢true}
 use Rattle.std.proofs.lemmas.Bool.Decides.{nat_tests}
 use Rattle.gm_notes.specs.Jobs.{joins}
-use Rattle.gm_jobs.specs.Live.{Live, is_named, listed, without_listener}
+use Rattle.gm_jobs.specs.declared.job.Stage.TheVariants.{Waiting}
+use Rattle.gm_jobs.specs.Live.{Live, is_named, listed, waits, lost, returned, is_last_try, given_back, without_listener}
 use Rattle.gm_jobs.specs.Tables.{Room, find_job, passes}
 use Rattle.gm_jobs.specs.Changes.{ChangesJob, LeavesOne, LeavesSome}
 use Rattle.gm_jobs.specs.Dues.{DueTable, IsListed, AllListed}
@@ -188,10 +189,10 @@ module _ (b : Beside) (old : List (ℕ × Live)) where
         → (joins made.unique ≡ true → Reaches uniques.cells (digest_of b.seed made.function made.unique) b.next)
         → ((d n : ℕ) → Reaches b.uniques.cells d n → Reaches uniques.cells d n)
         → ((c n : ℕ) → Heard b.listening c n → Heard listening c n) → ((c : ℕ) → Contains made.listeners c → Heard listening c b.next)
-        → made.slot ≡ None
+        → made.stage ≡ Waiting
         → ((m : ℕ) (live : Live) → joins made.unique ≡ true → find_job old m ≡ Some live → is_named made.function made.unique live ≡ true → ⊥)
         → IsKept (record b { next = b.next + 1; left = left; uniques = uniques; listening = listening }) None spare' new
-    kept_made left room r spare spare' uniques listening k y reached kept heard first waits fresh = record {
+    kept_made left room r spare spare' uniques listening k y reached kept heard first waiting fresh = record {
       known = λ n live e. known n live e (cases_eq n b.next);
       single = λ n m live other e e' good same. single n m live other e e' good same (cases_eq n b.next) (cases_eq m b.next);
       order = omega (arith, k.order);
@@ -215,7 +216,7 @@ module _ (b : Beside) (old : List (ℕ × Live)) where
               spent = omega arith;
               reached = λ good. subst (λ i. Reaches uniques.cells (digest_of b.seed live.function live.unique) i) (sym is) (subst (λ (l : Live). Reaches uniques.cells (digest_of b.seed l.function l.unique) b.next) same (reached (ap (λ (l : Live). joins l.unique) same ∙ good)));
               heard = λ c there. subst (λ i. Heard listening c i) (sym is) (first c (subst (λ (l : Live). Contains l.listeners c) (sym same) there));
-              listed = λ whole d runs until. absurd (let none : is_some made.slot ≡ false = ap is_some waits in true≢false (sym (ap (λ (l : Live). is_some l.slot) same ∙ runs) ∙ none));
+              listed = λ whole d runs until. absurd (true≢false (sym (ap waits waiting) ∙ ap (λ (l : Live). waits l.stage) same ∙ runs));
             }
 
         single : (n m : ℕ) (live other : Live) → find_job new n ≡ Some live → find_job new m ≡ Some other → joins live.unique ≡ true → is_named live.function live.unique other ≡ true
@@ -257,6 +258,32 @@ kept_changed b n f old new listening dues room spare spare' k change function un
     at : (live : Live) (c : ℕ) → ((c : ℕ) → Contains live.listeners c → Heard listening c n) → Contains live.listeners c ⊎ Heard listening c n → Heard listening c n
     at live c h (inl old) = h c old
     at live c h (inr now) = now
+
+-- ---- a job is given back
+
+module _ (limit : ℕ) (l : Live) where
+  -- whether it waits or is lost, this stays
+  pub given_back_same : {A : Type 0} (part : Live → A) → part (lost l) ≡ part l → part (returned limit l) ≡ part l → part (given_back limit l) ≡ part l
+  given_back_same part lost_same returned_same = by (is_last_try limit l)
+    where
+      by : (b : Bool) → part (if b then lost l else returned limit l) ≡ part l
+      by true = lost_same
+      by false = returned_same
+
+  -- where it isn't lost it waits
+  pub given_back_waits : is_last_try limit l ≡ false → waits (given_back limit l).stage ≡ true
+  given_back_waits e = ap (λ b. waits (if b then lost l else returned limit l).stage) e
+
+-- the deadlines of the others are listed, and it has none that counts
+pub listed_given_back : (n limit : ℕ) (old new : List (ℕ × Live)) (dues : DueTable) → ChangesJob n (given_back limit) old new → AllListed old dues
+    → passes (is_last_try limit) (find_job old n) ≡ false → AllListed new dues
+listed_given_back n limit old new dues change all more m live found = by (cases_eq m n)
+  where
+    by : (m ≡ n) ⊎ (m ≡ n → ⊥) → IsListed dues m live
+    by (inr ne) = listed_others n (given_back limit) old new change dues all m live ne found
+    by (inl e) = λ whole d runs until.
+        let was = mapped n (given_back limit) old new change (find_job old n) live (sym (this_job n (given_back limit) old new change) ∙ ap (find_job new) (sym e) ∙ found) in
+        absurd (true≢false (sym (given_back_waits limit was.0 (sym (ap (passes (is_last_try limit)) was.1) ∙ more)) ∙ ap (λ (x : Live). waits x.stage) was.2 ∙ runs))
 
 -- ---- a slot leaves
 

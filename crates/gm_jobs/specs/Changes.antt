@@ -3,12 +3,12 @@ use Rattle.std.specs.Prelude.{◌≡◌, ℕ, ◌==◌, ◌⊎◌, Bool, true, f
 use Rattle.std.specs.Option.{option_map}
 use Rattle.gm_jobs.specs.declared.job.Change.{Change}
 use Rattle.gm_jobs.specs.declared.job.Change.TheVariants.{Assign, GiveBack, Keep, Listen, Leave, Report}
-use Rattle.gm_jobs.specs.Live.{Live, assigned, returned, kept, reported, with_listener, without_listener}
+use Rattle.gm_jobs.specs.Live.{Live, assigned, given_back, kept, reported, with_listener, without_listener}
 use Rattle.gm_jobs.specs.Tables.{find_job}
 
 abbrev pub changed : Change → Live → Live
 changed (Assign slot deadline) live = assigned slot deadline live
-changed GiveBack live = returned live
+changed (GiveBack limit) live = given_back limit live
 changed Keep live = kept live
 changed (Listen slot) live = with_listener slot live
 changed (Leave slot) live = without_listener slot live
@@ -17,7 +17,7 @@ changed (Report numerator denominator) live = reported numerator.now denominator
 -- the changes that take memory
 abbrev pub takes_memory : Change → Bool
 takes_memory (Assign slot deadline) = false
-takes_memory GiveBack = false
+takes_memory (GiveBack limit) = false
 takes_memory Keep = false
 takes_memory (Listen slot) = true
 takes_memory (Leave slot) = false

@@ -1,6 +1,6 @@
 -- What is kept of the moments at which running jobs are due.
-use Rattle.std.specs.Prelude.{◌≡◌, ℕ, ◌<◌, ◌⊎◌, Bool, true, false, List, Contains, Option, Some, None, is_some, min}
-use Rattle.gm_jobs.specs.Live.{Live, is_due}
+use Rattle.std.specs.Prelude.{◌≡◌, ℕ, ◌<◌, ◌⊎◌, Bool, true, false, List, Contains, Option, Some, None, ◌==◌, min}
+use Rattle.gm_jobs.specs.Live.{Live, is_due, waits}
 use Rattle.gm_jobs.specs.Tables.{find_job, passes}
 use Rattle.gm_jobs.specs.Roll.{Pair, Has}
 
@@ -14,9 +14,13 @@ abbrev pub deadline_of : Option Live → Option ℕ
 deadline_of None = None
 deadline_of (Some live) = live.deadline
 
+abbrev pub is_same : ℕ → Option ℕ → Bool
+is_same deadline None = false
+is_same deadline (Some d) = d == deadline
+
 -- where the job runs until a deadline, that is here or there, unless some are missing
 abbrev pub IsListed : DueTable → ℕ → Live → Type 0
-IsListed dues n live = dues.whole ≡ true → (d : ℕ) → is_some live.slot ≡ true → live.deadline ≡ Some d → Has dues.waiting d n ⊎ Contains dues.reached (n, d)
+IsListed dues n live = dues.whole ≡ true → (d : ℕ) → waits live.stage ≡ false → live.deadline ≡ Some d → Has dues.waiting d n ⊎ Contains dues.reached (n, d)
 
 -- so it is of each live job
 abbrev pub AllListed : List (ℕ × Live) → DueTable → Type 0

@@ -7,16 +7,19 @@ use Rattle.gm_jobs.specs.declared.lists.Way.{Way}
 use Rattle.gm_jobs.specs.declared.lists.Way.TheVariants.{Up, Down}
 use Rattle.gm_jobs.specs.declared.lists.Spot.{Spot}
 use Rattle.gm_jobs.specs.declared.lists.Spot.TheVariants.{Outside, At}
+use Rattle.gm_jobs.specs.declared.job.Stage.{Stage}
+use Rattle.gm_jobs.specs.declared.job.Stage.TheVariants.{Waiting, Running, Lost}
 use Rattle.gm_jobs.specs.Live.{Live, is_orphan}
 
-abbrev pub list_at : Option ℕ → Bool → Option ℕ
-list_at (Some slot) orphan = Some (slot % 1024)
-list_at None true = Some 1024
-list_at None false = None
+abbrev pub list_at : Stage → Bool → Option ℕ
+list_at (Running slot) orphan = Some (slot % 1024)
+list_at Waiting true = Some 1024
+list_at Waiting false = None
+list_at Lost orphan = None
 
 -- the list in which a job stands: one for the slot where it runs, or the one of the orphans
 abbrev pub stands_in : Live → Option ℕ
-stands_in live = list_at live.slot (is_orphan live)
+stands_in live = list_at live.stage (is_orphan live)
 
 -- ---- keys, and what stands there
 

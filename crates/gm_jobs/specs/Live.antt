@@ -1,13 +1,15 @@
 -- What a live job is.
-use Rattle.std.specs.Prelude.{ℕ, Bool, true, false, not, ◌&&◌, ◌==◌, nat_le, List, [], ◌∷◌, ◌++◌, length, filter, is_some}
+use Rattle.std.specs.Prelude.{ℕ, Bool, true, false, not, ◌&&◌, ◌==◌, ◌+◌, nat_le, if◌then◌else◌, List, [], ◌∷◌, ◌++◌, length, filter}
 use Rattle.std.specs.Prelude.{Option, Some, None}
 use Rattle.std.specs.Str.{bytes_eq}
 use Rattle.gm_notes.specs.declared.states.Priority.{Priority}
 use Rattle.gm_notes.specs.declared.states.Place.{Place}
-use Rattle.gm_notes.specs.declared.states.Place.TheVariants.{Waiting, Running}
+use Rattle.gm_notes.specs.declared.states.Place.TheVariants as places
+use Rattle.gm_jobs.specs.declared.job.Stage.{Stage}
+use Rattle.gm_jobs.specs.declared.job.Stage.TheVariants.{Waiting, Running, Lost}
 
--- Its function, priority, unique id and body; whether a background submission keeps it; the slot where it runs,
--- none while it waits, and the moment at which it fails then; how far it is, once that was told; and who
+-- Its function, priority, unique id and body; whether a background submission keeps it; whether it waits or runs, how
+-- often it came back where that is counted, and the moment at which it fails; how far it is, once that was told; and who
 -- listens, in the order in which they came, once for each time.
 pub record Live : Type 0 where
   pub function : ℕ
@@ -15,7 +17,8 @@ pub record Live : Type 0 where
   pub unique : List ℕ
   pub body : List ℕ
   pub kept : Bool
-  pub slot : Option ℕ
+  pub stage : Stage
+  pub returns : ℕ
   pub deadline : Option ℕ
   pub report : Option (List ℕ × List ℕ)
   pub listeners : List ℕ
@@ -27,13 +30,25 @@ listed (Some slot) = slot ∷ []
 -- a job as it is made
 abbrev pub fresh : ℕ → Priority → List ℕ → List ℕ → Bool → Option ℕ → Live
 fresh f p unique body kept listener =
-    record { function = f; priority = p; unique = unique; body = body; kept = kept; slot = None; deadline = None; report = None; listeners = listed listener }
+    record { function = f; priority = p; unique = unique; body = body; kept = kept; stage = Waiting; returns = 0; deadline = None; report = None; listeners = listed listener }
 
 abbrev pub assigned : ℕ → Option ℕ → Live → Live
-assigned slot deadline live = record live { slot = Some slot; deadline = deadline }
+assigned slot deadline live = record live { stage = Running slot; deadline = deadline }
 
-abbrev pub returned : Live → Live
-returned live = record live { slot = None; deadline = None }
+-- it waits again, and came back once more; without a limit that isn't counted
+abbrev pub returned : ℕ → Live → Live
+returned limit live = record live { stage = Waiting; deadline = None; returns = (if limit == 0 then live.returns else live.returns + 1) }
+
+-- its last worker went: the next tick fails it
+abbrev pub lost : Live → Live
+lost live = record live { stage = Lost; deadline = Some 0 }
+
+-- its worker is the last one, where a job is given to so many workers at most; 0 is no limit
+abbrev pub is_last_try : ℕ → Live → Bool
+is_last_try limit live = not (limit == 0) && nat_le limit (live.returns + 1)
+
+abbrev pub given_back : ℕ → Live → Live
+given_back limit live = if is_last_try limit live then lost live else returned limit live
 
 abbrev pub kept : Live → Live
 kept live = record live { kept = true }
@@ -48,18 +63,25 @@ with_listener slot live = record live { listeners = live.listeners ++ slot ∷ [
 abbrev pub without_listener : ℕ → Live → Live
 without_listener slot live = record live { listeners = filter (λ c. not (c == slot)) live.listeners }
 
-abbrev pub place_at : Option ℕ → Place
-place_at None = Waiting
-place_at (Some slot) = Running slot
+abbrev pub place_at : Stage → Place
+place_at Waiting = places.Waiting
+place_at (Running slot) = places.Running slot
+place_at Lost = places.Lost
 
 -- ---- questions
 
 abbrev pub is_named : ℕ → List ℕ → Live → Bool
 is_named f unique live = live.function == f && bytes_eq live.unique unique
 
-abbrev pub is_at : ℕ → Option ℕ → Bool
-is_at slot None = false
-is_at slot (Some c) = c == slot
+abbrev pub waits : Stage → Bool
+waits Waiting = true
+waits (Running slot) = false
+waits Lost = false
+
+abbrev pub runs_at : ℕ → Stage → Bool
+runs_at slot Waiting = false
+runs_at slot (Running c) = c == slot
+runs_at slot Lost = false
 
 abbrev pub is_reached : ℕ → Option ℕ → Bool
 is_reached now None = false
@@ -67,12 +89,12 @@ is_reached now (Some deadline) = nat_le deadline now
 
 -- it runs at the slot
 abbrev pub is_run_by : ℕ → Live → Bool
-is_run_by slot live = is_at slot live.slot
+is_run_by slot live = runs_at slot live.stage
 
 -- it waits, and nobody wants it
 abbrev pub is_orphan : Live → Bool
-is_orphan live = not (is_some live.slot) && not live.kept && length live.listeners == 0
+is_orphan live = waits live.stage && not live.kept && length live.listeners == 0
 
--- it runs, and its deadline is reached
+-- it doesn't wait, and its deadline is reached
 abbrev pub is_due : ℕ → Live → Bool
-is_due now live = is_some live.slot && is_reached now live.deadline
+is_due now live = not (waits live.stage) && is_reached now live.deadline

@@ -6,7 +6,9 @@ use Rattle.std.specs.Map.{lookup}
 use Rattle.gm_notes.specs.declared.states.Place.{Place}
 use Rattle.gm_notes.specs.declared.states.Place.TheVariants.{Unmade, Gone}
 use Rattle.gm_notes.specs.Jobs.{joins}
-use Rattle.gm_jobs.specs.Live.{Live, place_at, is_named, without_listener}
+use Rattle.gm_jobs.specs.declared.jobs.Back.{Back}
+use Rattle.gm_jobs.specs.declared.jobs.Back.TheVariants as backs
+use Rattle.gm_jobs.specs.Live.{Live, place_at, is_named, without_listener, is_last_try}
 
 -- room for one job more: of this function, with texts of these lengths at most
 pub record Room : Type 0 where
@@ -41,11 +43,19 @@ listeners_of (Some live) = live.listeners
 abbrev pub passes : (Live → Bool) → Option Live → Bool
 passes test found = option_map_or test found false
 
+-- what becomes of a job that is given back
+abbrev pub back_of : Bool → Back
+back_of true = backs.Lost
+back_of false = backs.Returned
+
+abbrev pub back : ℕ → Option Live → Back
+back limit found = back_of (passes (is_last_try limit) found)
+
 abbrev pub is_made : Table → ℕ → Bool
 is_made table n = nat_le table.first n && nat_lt n table.next
 
 abbrev pub place_or : Option Live → Bool → Place
-place_or (Some live) made = place_at live.slot
+place_or (Some live) made = place_at live.stage
 place_or None true = Gone
 place_or None false = Unmade
 

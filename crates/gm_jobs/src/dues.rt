@@ -2,10 +2,10 @@
 
 ghost use Rattle.std.specs.Prelude.{◌≡◌, ◌≢◌, ℕ, ◌<◌, ◌≤◌, true, false, Some, None, Contains, slice_get, IfSome, IfNone};
 ghost use Rattle.std.specs.List.Sorted.{IsNonDecreasingBy};
-ghost use Rattle.gm_jobs.specs.Live.{Live, is_at, is_due};
+ghost use Rattle.gm_jobs.specs.Live.{Live, is_due};
 ghost use Rattle.gm_jobs.specs.Tables.{find_job, passes, IsNext, IsLast};
 ghost use Rattle.gm_jobs.specs.Roll.{Has};
-ghost use Rattle.gm_jobs.specs.Dues.{deadline_of, IsListed, AllListed, listing, AllLater, NoneReached, IsFirstReached, least_of};
+ghost use Rattle.gm_jobs.specs.Dues.{is_same, deadline_of, IsListed, AllListed, listing, AllLater, NoneReached, IsFirstReached, least_of};
 
 use crate::by_number::JobMap;
 use crate::roll::Roll;
@@ -40,7 +40,7 @@ impl Model for Dues {
 
 // Whether the job of a number has this deadline.
 fn has_deadline(jobs: &JobMap, number: u64, deadline: u64) -> bool
-    ensures { result ≡ is_at deadline (deadline_of (find_job jobs.now.entries number)) }
+    ensures { result ≡ is_same deadline (deadline_of (find_job jobs.now.entries number)) }
 {
     match jobs.get(number) {
         Some(job) => match job.deadline() {

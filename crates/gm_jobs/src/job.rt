@@ -2,7 +2,7 @@
 
 ghost use Rattle.std.specs.Prelude.{◌≡◌, ◌≤◌, ◌&&◌, not, ◌==◌, ◌↔◌, length, IsTrue, false, IsOk, IfSome, ◌<◌, IfOk, OnOk, OnErr, Some, None, is_some};
 ghost use Rattle.std.specs.Option.{option_map};
-ghost use Rattle.gm_jobs.specs.Live.{Live, fresh, reported, with_listener, without_listener, place_at, is_named, is_run_by, is_orphan, is_due};
+ghost use Rattle.gm_jobs.specs.Live.{Live, fresh, given_back, reported, with_listener, without_listener, place_at, is_named, is_run_by, is_orphan, is_due, is_last_try, waits, runs_at};
 ghost use Rattle.gm_notes.specs.Jobs.{joins};
 ghost use Rattle.gm_jobs.specs.Queries.{meets};
 ghost use Rattle.gm_jobs.specs.Tables.{Room};
@@ -35,13 +35,45 @@ struct Report {
     denominator: Vec<u8>,
 }
 
+/// Whether a job waits or runs.
+#[derive(Clone, Copy)]
+pub(crate) enum Stage {
+    Waiting,
+    /// It runs at this slot.
+    Running(u32),
+    /// Its last worker went. It runs at no slot until the next tick fails it.
+    Lost,
+}
+
+impl Stage {
+    // Whether it is that of a job that waits.
+    fn waits(self) -> bool
+        ensures { result ≡ waits self }
+    {
+        match self {
+            Stage::Waiting => true,
+            Stage::Running(_) | Stage::Lost => false,
+        }
+    }
+
+    // Whether it is that of a job that runs at this slot.
+    fn runs_at(self, slot: u32) -> bool
+        ensures { result ≡ runs_at slot self }
+    {
+        match self {
+            Stage::Running(c) => c == slot,
+            Stage::Waiting | Stage::Lost => false,
+        }
+    }
+}
+
 /// What becomes of a job.
 #[derive(Clone, Copy)]
 pub(crate) enum Change<'a> {
     /// It runs at this slot, until the deadline if there is one.
     Assign(u32, Option<u64>),
-    /// It waits again.
-    GiveBack,
+    /// It waits again, or is lost, where a job is given to so many workers at most; 0 is no limit.
+    GiveBack(u32),
     /// A background submission keeps it.
     Keep,
     /// The slot listens, once more.
@@ -82,7 +114,9 @@ pub struct Job {
     f: u32,
     p: Priority,
     kept: bool,
-    slot: Option<u32>,
+    stage: Stage,
+    // How often it came back. Without a limit that isn't counted.
+    returns: u32,
     deadline: Option<u64>,
     unique: Vec<u8>,
     body: Vec<u8>,
@@ -96,7 +130,7 @@ impl Model for Job {
 
     ghost Value = { Live };
 
-    ghost view = { λ j. record { function = j.f; priority = j.p; unique = j.unique.items; body = j.body.items; kept = j.kept; slot = j.slot; deadline = j.deadline; report = option_map (λ r. (r.value.numerator.items, r.value.denominator.items)) j.report; listeners = j.listeners.items } };
+    ghost view = { λ j. record { function = j.f; priority = j.p; unique = j.unique.items; body = j.body.items; kept = j.kept; stage = j.stage; returns = j.returns; deadline = j.deadline; report = option_map (λ r. (r.value.numerator.items, r.value.denominator.items)) j.report; listeners = j.listeners.items } };
 }
 
 /// Whether a unique id names a job: it isn't empty, and no dash.
@@ -140,11 +174,12 @@ impl Job {
     }
 
     pub fn place(&self) -> Place
-        ensures { result ≡ place_at self.now.slot }
+        ensures { result ≡ place_at self.now.stage }
     {
-        match self.slot {
-            Some(slot) => Place::Running(slot),
-            None => Place::Waiting,
+        match self.stage {
+            Stage::Waiting => Place::Waiting,
+            Stage::Running(slot) => Place::Running(slot),
+            Stage::Lost => Place::Lost,
         }
     }
 
@@ -181,16 +216,13 @@ impl Job {
     pub(crate) fn is_run_by(&self, slot: u32) -> bool
         ensures { result ≡ is_run_by slot self.now }
     {
-        match self.slot {
-            Some(c) => c == slot,
-            None => false,
-        }
+        self.stage.runs_at(slot)
     }
 
     pub(crate) fn is_orphan(&self) -> bool
         ensures { result ≡ is_orphan self.now }
     {
-        self.slot.is_none() && !self.kept && self.listeners.is_empty()
+        self.stage.waits() && !self.kept && self.listeners.is_empty()
     }
 
     /// The list in which it stands, if there is one: of the lists for the slots, which some slots share, or that of the
@@ -199,15 +231,16 @@ impl Job {
         ensures list { result ≡ stands_in self.now }
         ensures within { IfSome result (λ l. l < 1025) }
     {
-        match self.slot {
-            Some(slot) => Some(slot as usize % ORPHANS),
-            None => {
+        match self.stage {
+            Stage::Running(slot) => Some(slot as usize % ORPHANS),
+            Stage::Waiting => {
                 if self.is_orphan() {
                     Some(ORPHANS)
                 } else {
                     None
                 }
             }
+            Stage::Lost => None,
         }
     }
 
@@ -215,8 +248,31 @@ impl Job {
         ensures { result ≡ is_due now self.now }
     {
         match self.deadline {
-            Some(deadline) => self.slot.is_some() && deadline <= now,
+            Some(deadline) => !self.stage.waits() && deadline <= now,
             None => false,
+        }
+    }
+
+    /// Whether its worker is the last one, where a job is given to so many workers at most; 0 is no limit.
+    pub(crate) fn is_last_try(&self, limit: u32) -> bool
+        ensures { result ≡ is_last_try limit self.now }
+    {
+        limit != 0 && self.returns >= limit - 1
+    }
+
+    // It waits again, or is lost if that was its last try.
+    fn give_back(&mut self, limit: u32)
+        ensures { self.new ≡ given_back limit self.old }
+    {
+        if self.is_last_try(limit) {
+            self.stage = Stage::Lost;
+            self.deadline = Some(0);
+            return;
+        }
+        self.stage = Stage::Waiting;
+        self.deadline = None;
+        if limit != 0 {
+            self.returns += 1;
         }
     }
 
@@ -262,13 +318,10 @@ impl Job {
     {
         match change {
             Change::Assign(slot, deadline) => {
-                self.slot = Some(slot);
+                self.stage = Stage::Running(slot);
                 self.deadline = deadline;
             }
-            Change::GiveBack => {
-                self.slot = None;
-                self.deadline = None;
-            }
+            Change::GiveBack(limit) => self.give_back(limit),
             Change::Keep => self.kept = true,
             Change::Listen(slot) => return self.listen(slot),
             Change::Leave(slot) => self.leave(slot),
@@ -342,7 +395,8 @@ impl Space {
             f: new.f,
             p: new.p,
             kept: new.kept,
-            slot: None,
+            stage: Stage::Waiting,
+            returns: 0,
             deadline: None,
             unique,
             body,

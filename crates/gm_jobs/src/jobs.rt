@@ -2,8 +2,8 @@
 
 ghost use Rattle.std.specs.Prelude.{◌≡◌, ℕ, ◌+◌, ◌<◌, ◌≤◌, ◌^◌, ◌↔◌, true, Some, None, IsSome, IfSome, IfNone, IfOk, OnOk, OnErr, Err, Contains, length};
 ghost use Rattle.std.specs.Option.{option_copied, option_map};
-ghost use Rattle.gm_jobs.specs.Live.{Live, fresh, assigned, returned, kept, reported, with_listener, without_listener, is_run_by, is_orphan, is_due};
-ghost use Rattle.gm_jobs.specs.Tables.{no_jobs, job, find_job, is_made, place, listeners_of, IsNamed, HasRoom, with_room, Makes, Changes, Ends, Leaves, IsNext, IsLast};
+ghost use Rattle.gm_jobs.specs.Live.{Live, fresh, assigned, given_back, kept, reported, with_listener, without_listener, is_run_by, is_orphan, is_due, is_last_try};
+ghost use Rattle.gm_jobs.specs.Tables.{no_jobs, job, find_job, is_made, place, back, listeners_of, passes, IsNamed, HasRoom, with_room, Makes, Changes, Ends, Leaves, IsNext, IsLast};
 ghost use Rattle.gm_jobs.specs.Dues.{AllListed};
 ghost use Rattle.gm_jobs.specs.Listening.{Heard};
 ghost use Rattle.gm_jobs.specs.Changes.{LeavesOne, LeavesSome};
@@ -47,6 +47,15 @@ impl From<AllocError> for JobError {
     fn from(_e: AllocError) -> JobError {
         JobError::Memory
     }
+}
+
+/// What became of a job that its worker gave back.
+#[derive(Clone, Copy, Debug, PartialEq, Eq)]
+pub enum Back {
+    /// It waits again.
+    Returned,
+    /// That was its last try: it runs at no slot, and the next tick fails it.
+    Lost,
 }
 
 /// The live jobs by their numbers.
@@ -248,11 +257,30 @@ impl Jobs {
         self.dues.note(&self.jobs, n, deadline);
     }
 
-    /// The job waits again.
-    pub fn give_back(&mut self, n: u64)
-        ensures { Changes n returned self.old self.new }
+    // Whether the worker of a live job is the last one, where a job is given to so many workers at most.
+    fn is_last_try(&self, n: u64, limit: u32) -> bool
+        ensures { result ≡ passes (is_last_try limit) (job self.now n) }
     {
-        let _changed = self.jobs.change(n, Change::GiveBack);
+        match self.by_number(n) {
+            Some(job) => job.is_last_try(limit),
+            None => false,
+        }
+    }
+
+    /// The job waits again, or is lost if that was its last try: where a job is given to at most so many workers
+    /// and it came back from all but one of them before. A limit of 0 is none.
+    pub fn give_back(&mut self, n: u64, limit: u32) -> Back
+        ensures back { result ≡ back limit (job self.old n) }
+        ensures changes { Changes n (given_back limit) self.old self.new }
+    {
+        let is_lost = self.is_last_try(n, limit);
+        let _changed = self.jobs.change(n, Change::GiveBack(limit));
+        if is_lost {
+            self.dues.note(&self.jobs, n, Some(0));
+            Back::Lost
+        } else {
+            Back::Returned
+        }
     }
 
     /// The job is live no more.

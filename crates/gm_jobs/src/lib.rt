@@ -17,4 +17,4 @@ mod roll;
 mod uniques;
 
 pub use job::{Job, NewJob};
-pub use jobs::{JobError, Jobs};
+pub use jobs::{Back, JobError, Jobs};
