@@ -10,7 +10,7 @@ use Rattle.gm_notes.specs.Settings.{Settings}
 use Rattle.gm_notes.specs.Notes.{is_open, says_open, is_shut, says_shut, addr, says_addr, id, says_id, has_option, says_option}
 use Rattle.gm_notes.specs.Notes.{phase, says_phase, is_asleep, moment, says_moment, mode, says_mode, takes_units}
 use Rattle.gm_notes.specs.Jobs.{Ability, job_state, says_job_state, is_empty, job, says_job, made, is_kept, says_kept}
-use Rattle.gm_notes.specs.Jobs.{listeners, is_wanted, report, says_report, deadline, says_deadline, functions, is_mentioned}
+use Rattle.gm_notes.specs.Jobs.{listeners, is_wanted, returns, is_last_try, report, says_report, deadline, says_deadline, functions, is_mentioned}
 use Rattle.gm_notes.specs.Jobs.{limit, says_limit, abilities, is_able, as_they_came, waiting_for, pick_from, pick, joined}
 use Rattle.gm_notes.specs.Jobs.{next_number, total, is_live_of, is_live_named, is_queued, job_of_handle, last_function, scan}
 use Rattle.gm_notes.specs.JobStates.{is_waiting, is_running}
@@ -41,6 +41,7 @@ pub record Alike (l m : List Note) : Type 0 where
   pub can : (c : ℕ) → abilities c l ≡ abilities c m
   pub last : (c : ℕ) → last_function c l ≡ last_function c m
   pub came : as_they_came l ≡ as_they_came m
+  pub back : (n : ℕ) → returns n l ≡ returns n m
 
 -- ---- one note more
 
@@ -80,6 +81,11 @@ came_more (notes.Made n f p u body) l m e = rw e refl
 came_more (notes.Returned n) l m e = rw e refl
 came_more note l m e = e
 
+back_more : (n : ℕ) (note : Note) (l m : List Note) → returns n l ≡ returns n m → returns n (note ∷ l) ≡ returns n (note ∷ m)
+back_more n (notes.Made o f p u body) l m e = rw e refl
+back_more n (notes.Returned o) l m e = rw e refl
+back_more n note l m e = e
+
 pub alike_more : (note : Note) (l m : List Note) → Alike l m → Alike (note ∷ l) (note ∷ m)
 alike_more note l m a = record {
   opened = λ c. ap (unwrap_or (says_open c note)) (a.opened c);
@@ -102,6 +108,7 @@ alike_more note l m a = record {
   can = λ c. can_more c note l m (a.can c);
   last = λ c. last_more c note l m a.what (a.last c);
   came = came_more note l m a.came;
+  back = λ n. back_more n note l m (a.back n);
 }
 
 pub alike_on : (newer l m : List Note) → Alike l m → Alike (newer ++ l) (newer ++ m)
@@ -131,6 +138,7 @@ alike_taken c l m a asleep = record {
   can = a.can;
   last = a.last;
   came = a.came;
+  back = a.back;
 }
 
 pub alike_untaken : (c : ℕ) (l : List Note) → ((d : ℕ) → is_asleep (phase d l) ≡ is_asleep (phase d (notes.Took c ∷ l))) → Alike l (notes.Took c ∷ l)
@@ -155,6 +163,7 @@ alike_untaken c l asleep = record {
   can = λ d. refl;
   last = λ d. refl;
   came = refl;
+  back = λ n. refl;
 }
 
 -- ---- what else is asked
@@ -165,6 +174,9 @@ module _ {l m : List Note} (a : Alike l m) where
 
   pub wanted_alike : (n : ℕ) → is_wanted n l ≡ is_wanted n m
   wanted_alike n = simp (a.kept, a.hear)
+
+  pub last_try_alike : (k : Settings) (n : ℕ) → is_last_try k n l ≡ is_last_try k n m
+  last_try_alike k n = simp a.back
 
   pub mentioned_alike : (f : List ℕ) → is_mentioned f l ≡ is_mentioned f m
   mentioned_alike f = simp a.known

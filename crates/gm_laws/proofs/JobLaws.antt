@@ -8,17 +8,17 @@ use Rattle.std.proofs.lemmas.Bool.{and_parts, and_from, or_left, or_right}
 use Rattle.std.proofs.lemmas.Bool.Decides.{nat_tests}
 use Rattle.std.proofs.lemmas.Slice.Eq.{bytes_eq-Decides}
 use Rattle.gm_notes.specs.declared.note.Note.{Note}
-use Rattle.gm_notes.specs.declared.note.Note.TheVariants.{Made, Assigned, Returned, Ended, Discarded}
+use Rattle.gm_notes.specs.declared.note.Note.TheVariants.{Made, Assigned, Returned, Lost, Ended, Discarded}
 use Rattle.gm_notes.specs.declared.states.Priority.TheVariants.{Normal}
 use Rattle.gm_notes.specs.Settings.{Settings}
 use Rattle.gm_notes.specs.Jobs.{Job, job_state, job, is_job_named, joins, joined, made, next_number}
 use Rattle.gm_notes.specs.JobStates.{JobState, is_live, is_waiting, is_running}
 use Rattle.gm_notes.specs.JobStates as states
 use Rattle.gm_notes.specs.Steps.{Step, run}
-use Rattle.gm_laws.specs.History.{Allowed, History}
+use Rattle.gm_laws.specs.History.{runs_at_a_slot, Allowed, History}
 use Rattle.gm_laws.specs.Laws.{AreNumbers, is_made, has_place, HavePlaces, is_live_named, AreOne, is_gone, StayGone}
 use Rattle.gm_laws.proofs.StepsKeep.{step_keeps, run_history}
-use Rattle.gm_laws.proofs.Keeping.{keeps_notes}
+use Rattle.gm_laws.proofs.Keeping.{keeps_notes, slot_runs}
 use Rattle.gm_laws.proofs.NumberLaws.{numbers}
 
 -- ---- numbers that are equal or not
@@ -32,6 +32,7 @@ is_same n m e = grind (arith, nat_tests)
 running_place : (s : JobState) → is_running s ≡ true → has_place s ≡ true
 running_place (states.Running c) e = refl
 running_place states.Waiting e = refl
+running_place states.Lost e = refl
 running_place states.Unmade e = absurd cc
 running_place states.Ended e = refl
 running_place states.Discarded e = refl
@@ -39,6 +40,7 @@ running_place states.Discarded e = refl
 waiting_place : (s : JobState) → is_waiting s ≡ true → has_place s ≡ true
 waiting_place states.Waiting e = refl
 waiting_place (states.Running c) e = refl
+waiting_place states.Lost e = refl
 waiting_place states.Unmade e = absurd cc
 waiting_place states.Ended e = refl
 waiting_place states.Discarded e = refl
@@ -46,9 +48,22 @@ waiting_place states.Discarded e = refl
 pub live_place : (s : JobState) → is_live s ≡ true → has_place s ≡ true
 live_place states.Waiting e = refl
 live_place (states.Running c) e = refl
+live_place states.Lost e = refl
 live_place states.Unmade e = absurd cc
 live_place states.Ended e = refl
 live_place states.Discarded e = refl
+
+slot_place : (s : JobState) → runs_at_a_slot s ≡ true → has_place s ≡ true
+slot_place s e = running_place s (slot_runs s e)
+
+slot_live : (s : JobState) → runs_at_a_slot s ≡ true → is_live s ≡ true
+slot_live s e = or_right (is_waiting s) (is_running s) (slot_runs s e)
+
+-- what may be discarded is live
+discarded_live : (s : JobState) → (is_waiting s || runs_at_a_slot s) ≡ true → is_live s ≡ true
+discarded_live states.Waiting e = refl
+discarded_live (states.Running c) e = refl
+discarded_live other e = absurd cc
 
 -- ---- places
 
@@ -66,10 +81,11 @@ place_made n m older false rest = rest
 pub places : (k : Settings) (notes : List Note) → History k notes → HavePlaces k notes
 places k [] h n = refl
 places k (Made m f p u body ∷ older) h n = place_made n m older (n == m) (places k older h.1 n) ∙ ap (λ t. t || is_made n older) (sym (same_test n m))
-places k (Returned m ∷ older) h n = place_moved n m older states.Waiting (n == m) refl refl (running_place (job_state m older) h.0.0) (places k older h.1 n)
+places k (Returned m ∷ older) h n = place_moved n m older states.Waiting (n == m) refl refl (slot_place (job_state m older) h.0.0) (places k older h.1 n)
+places k (Lost m ∷ older) h n = place_moved n m older states.Lost (n == m) refl refl (slot_place (job_state m older) h.0.0) (places k older h.1 n)
 places k (Assigned m c late ∷ older) h n = place_moved n m older (states.Running c) (n == m) refl refl (waiting_place (job_state m older) h.0.0) (places k older h.1 n)
 places k (Ended m ∷ older) h n = place_moved n m older states.Ended (n == m) refl refl (running_place (job_state m older) h.0) (places k older h.1 n)
-places k (Discarded m ∷ older) h n = place_moved n m older states.Discarded (n == m) refl refl (live_place (job_state m older) h.0.0) (places k older h.1 n)
+places k (Discarded m ∷ older) h n = place_moved n m older states.Discarded (n == m) refl refl (live_place (job_state m older) (discarded_live (job_state m older) h.0.0)) (places k older h.1 n)
 places k (note ∷ older) h n = places k older h.1 n
 
 -- ---- one live job for each function and id
@@ -141,8 +157,11 @@ one_live k (Made m g pr v body ∷ older) h f u a b joining p q =
     two_made k f u a b m new older (a == m) (b == m) h.1 refl refl joining h.0.1 (one_live k older h.1 f u a b joining)
     (made_named f u a m new older (a == m) p) (made_named f u b m new older (b == m) q)
 one_live k (Returned m ∷ older) h f u a b joining p q =
-    let lived = running_live (job_state m older) h.0.0 in
+    let lived = slot_live (job_state m older) h.0.0 in
     one_live k older h.1 f u a b joining (moved_live f u a m older states.Waiting (a == m) refl lived p) (moved_live f u b m older states.Waiting (b == m) refl lived q)
+one_live k (Lost m ∷ older) h f u a b joining p q =
+    let lived = slot_live (job_state m older) h.0.0 in
+    one_live k older h.1 f u a b joining (moved_live f u a m older states.Lost (a == m) refl lived p) (moved_live f u b m older states.Lost (b == m) refl lived q)
 one_live k (Assigned m c late ∷ older) h f u a b joining p q =
     let lived = waiting_live (job_state m older) h.0.0 in
     one_live k older h.1 f u a b joining (moved_live f u a m older (states.Running c) (a == m) refl lived p) (moved_live f u b m older (states.Running c) (b == m) refl lived q)
@@ -150,7 +169,8 @@ one_live k (Ended m ∷ older) h f u a b joining p q =
     let lived = running_live (job_state m older) h.0 in
     one_live k older h.1 f u a b joining (moved_live f u a m older states.Ended (a == m) refl lived p) (moved_live f u b m older states.Ended (b == m) refl lived q)
 one_live k (Discarded m ∷ older) h f u a b joining p q =
-    one_live k older h.1 f u a b joining (moved_live f u a m older states.Discarded (a == m) refl h.0.0 p) (moved_live f u b m older states.Discarded (b == m) refl h.0.0 q)
+    let lived = discarded_live (job_state m older) h.0.0 in
+    one_live k older h.1 f u a b joining (moved_live f u a m older states.Discarded (a == m) refl lived p) (moved_live f u b m older states.Discarded (b == m) refl lived q)
 one_live k (note ∷ older) h f u a b joining p q = one_live k older h.1 f u a b joining p q
 
 -- ---- who is gone stays so
@@ -170,6 +190,7 @@ gone_place states.Discarded e = refl
 gone_place states.Unmade e = absurd cc
 gone_place states.Waiting e = absurd cc
 gone_place (states.Running c) e = absurd cc
+gone_place states.Lost e = absurd cc
 
 gone_dead : (s : JobState) → is_gone s ≡ true → is_live s ≡ true → ⊥
 gone_dead states.Ended e h = let bad : ⊥ = cc in bad
@@ -177,6 +198,7 @@ gone_dead states.Discarded e h = let bad : ⊥ = cc in bad
 gone_dead states.Unmade e h = let bad : ⊥ = cc in bad
 gone_dead states.Waiting e h = let bad : ⊥ = cc in bad
 gone_dead (states.Running c) e h = let bad : ⊥ = cc in bad
+gone_dead states.Lost e h = let bad : ⊥ = cc in bad
 
 -- a note that moves a live job m leaves a job that is gone
 gone_moved : (n m : ℕ) (older : List Note) (new : JobState) (t : Bool) → (n == m) ≡ t → is_gone (job_state n older) ≡ true → is_live (job_state m older) ≡ true → unwrap_or (cond t (Some new) None) (job_state n older) ≡ job_state n older
@@ -195,10 +217,11 @@ gone_made k n m older false is h next gone = refl
 
 gone_stays : (k : Settings) (note : Note) (older : List Note) (n : ℕ) → Allowed k note older → History k older → is_gone (job_state n older) ≡ true → job_state n (note ∷ older) ≡ job_state n older
 gone_stays k (Made m f p u body) older n h past gone = gone_made k n m older (n == m) refl past h.0 gone
-gone_stays k (Returned m) older n h past gone = gone_moved n m older states.Waiting (n == m) refl gone (running_live (job_state m older) h.0)
+gone_stays k (Returned m) older n h past gone = gone_moved n m older states.Waiting (n == m) refl gone (slot_live (job_state m older) h.0)
+gone_stays k (Lost m) older n h past gone = gone_moved n m older states.Lost (n == m) refl gone (slot_live (job_state m older) h.0)
 gone_stays k (Assigned m c late) older n h past gone = gone_moved n m older (states.Running c) (n == m) refl gone (waiting_live (job_state m older) h.0)
 gone_stays k (Ended m) older n h past gone = gone_moved n m older states.Ended (n == m) refl gone (running_live (job_state m older) h)
-gone_stays k (Discarded m) older n h past gone = gone_moved n m older states.Discarded (n == m) refl gone h.0
+gone_stays k (Discarded m) older n h past gone = gone_moved n m older states.Discarded (n == m) refl gone (discarded_live (job_state m older) h.0)
 gone_stays k note older n h past gone = refl
 
 gone_step : (k : Settings) (s : Step) (steps : List Step) (n : ℕ) → is_gone (job_state n (run k steps).notes) ≡ true → job_state n (run k (s ∷ steps)).notes ≡ job_state n (run k steps).notes

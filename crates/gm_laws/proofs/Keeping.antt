@@ -22,7 +22,7 @@ use Rattle.gm_notes.specs.Submissions.{Submission, is_bad_name, is_one_too_many,
 use Rattle.gm_notes.specs.Workers.{wake_if, can_do, cant_do, sleep_beside, pre_sleep, wake_itself, deadline_after, assignment}
 use Rattle.gm_notes.specs.Workers.{tell_assigned, give_out, grab, Work, keep_report, end_if, hearers, tell_work, work_on, work}
 use Rattle.gm_notes.specs.Steps.{Step}
-use Rattle.gm_laws.specs.History.{Allowed, History}
+use Rattle.gm_laws.specs.History.{runs_at_a_slot, Allowed, History}
 use Rattle.gm_laws.specs.Causes.{Caused, Ends, MaySay, is_request, is_submission, is_foreground, is_background, is_enabling}
 use Rattle.gm_laws.specs.Causes.{is_disabling, is_sleeping, is_grab, is_reporting, is_line, is_closing, asks, closes}
 use Rattle.gm_laws.specs.Between.{AllOpen}
@@ -66,7 +66,12 @@ pub record MaySubmit (s : Step) (c : ℕ) (background : Bool) : Type 0 where
   pub keeps : background ≡ true → is_request is_background s ≡ true
   pub hears : background ≡ false → asks is_foreground c s ≡ true
 
-pub runs_somewhere : (c : ℕ) (p : JobState) → is_running_at c p ≡ true → is_running p ≡ true
+-- what runs at a slot runs
+pub slot_runs : (p : JobState) → runs_at_a_slot p ≡ true → is_running p ≡ true
+slot_runs (states.Running c) e = refl
+slot_runs other e = absurd cc
+
+pub runs_somewhere : (c : ℕ) (p : JobState) → is_running_at c p ≡ true → runs_at_a_slot p ≡ true
 runs_somewhere c (states.Running d) e = refl
 runs_somewhere c other e = absurd cc
 
@@ -74,6 +79,7 @@ runs_there : (c : ℕ) (p : JobState) → is_running_at c p ≡ true → p ≡ s
 runs_there c (states.Running d) e = let same : c ≡ d = grind (arith, nat_tests) in ap states.Running (sym same)
 runs_there c states.Unmade e = absurd cc
 runs_there c states.Waiting e = absurd cc
+runs_there c states.Lost e = absurd cc
 runs_there c states.Ended e = absurd cc
 runs_there c states.Discarded e = absurd cc
 
@@ -241,7 +247,7 @@ module _ {k : Settings} {before : List Note} {s : Step} {I : Past → Type 0} (K
     ended_keeps true n past may running h = note_keeps (notes.Ended n) past refl running (may refl) h
     ended_keeps false n past may running h = h
 
-    report_keeps : (n : ℕ) (o : Option (List ℕ × List ℕ)) (past : Past) → ((a b : List ℕ) → o ≡ Some (a, b) → is_request is_reporting s ≡ true) → is_running (job_state n past.notes) ≡ true → Held k I past → Held k I (keep_report n o past)
+    report_keeps : (n : ℕ) (o : Option (List ℕ × List ℕ)) (past : Past) → ((a b : List ℕ) → o ≡ Some (a, b) → is_request is_reporting s ≡ true) → runs_at_a_slot (job_state n past.notes) ≡ true → Held k I past → Held k I (keep_report n o past)
     report_keeps n None past may running h = h
     report_keeps n (Some numbers) past may running h = note_keeps (notes.Report n numbers.0 numbers.1) past refl running (may numbers.0 numbers.1 refl) h
 
@@ -253,13 +259,14 @@ module _ {k : Settings} {before : List Note} {s : Step} {I : Past → Type 0} (K
     hearers_open true slots l all = filtered_open slots l
     hearers_open false slots l all = all
 
-    tells_work_keeps : (w : Work) (n : ℕ) (past : Past) → Other (answer_packet w.answer) → ((a b : List ℕ) → w.report ≡ Some (a, b) → is_request is_reporting s ≡ true) → (w.ends ≡ true → Ends k before s n) → is_running (job_state n past.notes) ≡ true → Held k I past → Held k I (tell_work w n past)
+    tells_work_keeps : (w : Work) (n : ℕ) (past : Past) → Other (answer_packet w.answer) → ((a b : List ℕ) → w.report ≡ Some (a, b) → is_request is_reporting s ≡ true) → (w.ends ≡ true → Ends k before s n) → runs_at_a_slot (job_state n past.notes) ≡ true → Held k I past → Held k I (tell_work w n past)
     tells_work_keeps w n past other reports ends running h =
         let slots = hearers w.exceptions_only (listeners n past.notes) past.notes in
         let one = keep_report n w.report past in
         let all = hearers_open w.exceptions_only (listeners n past.notes) past.notes (listeners_open k past.notes h.0 n) in
         let all_one = report_notes (λ l. AllOpen slots l) n w.report past all (λ a b. open_after slots past.notes (notes.Report n a b ∷ past.notes) (λ d e. e) all) in
-        let running_one = report_notes (λ l. is_running (job_state n l) ≡ true) n w.report past running (λ a b. running) in
+        let runs = slot_runs (job_state n past.notes) running in
+        let running_one = report_notes (λ l. is_running (job_state n l) ≡ true) n w.report past runs (λ a b. runs) in
         ended_keeps w.ends n (tell_all w.answer slots one) ends
         (subst (λ l. is_running (job_state n l) ≡ true) (sym (tell_all_notes w.answer slots one)) running_one)
         (tells_keeps w.answer slots one other all_one (report_keeps n w.report past reports running h))

@@ -12,14 +12,14 @@ use Rattle.gm_notes.specs.declared.note.Note.{Note}
 use Rattle.gm_notes.specs.declared.note.Note.TheVariants as notes
 use Rattle.gm_notes.specs.Settings.{Settings}
 use Rattle.gm_notes.specs.Notes.{phase, is_asleep, slots_from}
-use Rattle.gm_notes.specs.Jobs.{Job, job_state, job, is_wanted, is_kept, listeners, is_mentioned, joined, next_number}
+use Rattle.gm_notes.specs.Jobs.{Job, job_state, job, is_wanted, is_last_try, is_kept, listeners, is_mentioned, joined, next_number}
 use Rattle.gm_notes.specs.JobStates.{is_waiting, is_running_at}
 use Rattle.gm_notes.specs.JobStates as states
 use Rattle.gm_notes.specs.Past.{Past, with_note, refuse, with_mention}
 use Rattle.gm_notes.specs.Submissions.{Submission, is_bad_name, is_one_too_many, is_full, keep_or_listen, make, join_or_make, submit}
 use Rattle.gm_notes.specs.Workers.{wake_itself}
 use Rattle.gm_notes.specs.Requests.{packet_of, submission, request}
-use Rattle.gm_notes.specs.Closings.{discard_one, discard_each, wake_for, give_back_one, give_back_each, disconnect, rising, close}
+use Rattle.gm_notes.specs.Closings.{discard_one, discard_each, wake_for, return_or_lose, give_back_one, give_back_each, disconnect, rising, close}
 use Rattle.gm_notes.specs.Steps.{Step, Packet, Close, refusal, step, run}
 use Rattle.gm_laws.specs.History.{Allowed, History}
 use Rattle.gm_laws.specs.Causes.{Caused, is_closing, is_submission, is_request, is_one_of}
@@ -65,6 +65,7 @@ wanted_more but k (notes.Returned m) older closes makes allowed w n e =
     from (moved n m states.Waiting (job_state n older) states.Waiting (n == m) refl e) (λ h. inl (subst (λ x. is_wanted x older ≡ true) (sym h.0) allowed.1)) (λ h. w n h.1)
 wanted_more but k (notes.Assigned m c late) older closes makes allowed w n e = from (moved n m (states.Running c) (job_state n older) states.Waiting (n == m) refl e) (λ h. absurd (let x = h.1 in cc)) (λ h. w n h.1)
 wanted_more but k (notes.Ended m) older closes makes allowed w n e = from (moved n m states.Ended (job_state n older) states.Waiting (n == m) refl e) (λ h. absurd (let x = h.1 in cc)) (λ h. w n h.1)
+wanted_more but k (notes.Lost m) older closes makes allowed w n e = from (moved n m states.Lost (job_state n older) states.Waiting (n == m) refl e) (λ h. absurd (let x = h.1 in cc)) (λ h. w n h.1)
 wanted_more but k (notes.Discarded m) older closes makes allowed w n e = from (moved n m states.Discarded (job_state n older) states.Waiting (n == m) refl e) (λ h. absurd (let x = h.1 in cc)) (λ h. w n h.1)
 wanted_more but k note older closes makes allowed w n e = w n e
 
@@ -135,11 +136,16 @@ module _ (k : Settings) (c : ℕ) where
   wakes_for_wanted None past w = w
   wakes_for_wanted (Some job) past w = wake_each_notes (λ l. WantedSo None_ l) (λ d older p. p) job.function (slots_from 0 k.slots) past w
 
-  given_back_wanted : (t u : Bool) (n : ℕ) (past : Past) → is_wanted n past.notes ≡ u → WantedSo None_ past.notes
-      → WantedSo None_ (cond t (cond u (wake_for k (job n past.notes) (with_note (notes.Returned n) past)) (with_note (notes.Discarded n) past)) past).notes
-  given_back_wanted true true n past is w =
+  returned_or_lost_wanted : (t : Bool) (n : ℕ) (past : Past) → is_wanted n past.notes ≡ true → WantedSo None_ past.notes
+      → WantedSo None_ (cond t (with_note (notes.Lost n) past) (wake_for k (job n past.notes) (with_note (notes.Returned n) past))).notes
+  returned_or_lost_wanted true n past is w = λ m e. from (moved m n states.Lost (job_state m past.notes) states.Waiting (m == n) refl e) (λ h. absurd (let x = h.1 in cc)) (λ h. w m h.1)
+  returned_or_lost_wanted false n past is w =
       wakes_for_wanted (job n past.notes) (with_note (notes.Returned n) past)
       (λ m e. from (moved m n states.Waiting (job_state m past.notes) states.Waiting (m == n) refl e) (λ h. inl (subst (λ x. is_wanted x past.notes ≡ true) (sym h.0) is)) (λ h. w m h.1))
+
+  given_back_wanted : (t u : Bool) (n : ℕ) (past : Past) → is_wanted n past.notes ≡ u → WantedSo None_ past.notes
+      → WantedSo None_ (cond t (cond u (return_or_lose k n past) (with_note (notes.Discarded n) past)) past).notes
+  given_back_wanted true true n past is w = returned_or_lost_wanted (is_last_try k n past.notes) n past is w
   given_back_wanted true false n past is w = λ m e. from (moved m n states.Discarded (job_state m past.notes) states.Waiting (m == n) refl e) (λ h. absurd (let x = h.1 in cc)) (λ h. w m h.1)
   given_back_wanted false u n past is w = w
 

@@ -7,12 +7,12 @@ use Rattle.gm_notes.specs.declared.note.Note.{Note}
 use Rattle.gm_notes.specs.declared.note.Note.TheVariants as notes
 use Rattle.gm_notes.specs.Settings.{Settings}
 use Rattle.gm_notes.specs.Notes.{is_open, phase, is_asleep, slots_from}
-use Rattle.gm_notes.specs.Jobs.{Job, job_state, job, is_wanted}
+use Rattle.gm_notes.specs.Jobs.{Job, job_state, job, is_wanted, is_last_try}
 use Rattle.gm_notes.specs.JobStates.{JobState, is_waiting, is_running_at}
 use Rattle.gm_notes.specs.JobStates as states
 use Rattle.gm_notes.specs.Past.{Past, with_note}
 use Rattle.gm_notes.specs.Workers.{wake_itself}
-use Rattle.gm_notes.specs.Closings.{discard_one, discard_each, wake_for, give_back_one, give_back_each, disconnect, rising, close}
+use Rattle.gm_notes.specs.Closings.{discard_one, discard_each, wake_for, return_or_lose, give_back_one, give_back_each, disconnect, rising, close}
 use Rattle.gm_notes.specs.Steps.{Step, Close, refusal, step, run}
 use Rattle.gm_laws.specs.History.{Allowed, History}
 use Rattle.gm_laws.specs.Causes.{Caused, is_closing}
@@ -37,6 +37,7 @@ runs_more but k (notes.Closed d) older other allowed r n c e = absurd (other d r
 runs_more but k (notes.Made m f p u body) older other allowed r n c e = from (moved n m states.Waiting (job_state n older) (states.Running c) (n == m) refl e) (λ h. absurd (let x = h.1 in cc)) (λ h. r n c h.1)
 runs_more but k (notes.Returned m) older other allowed r n c e = from (moved n m states.Waiting (job_state n older) (states.Running c) (n == m) refl e) (λ h. absurd (let x = h.1 in cc)) (λ h. r n c h.1)
 runs_more but k (notes.Ended m) older other allowed r n c e = from (moved n m states.Ended (job_state n older) (states.Running c) (n == m) refl e) (λ h. absurd (let x = h.1 in cc)) (λ h. r n c h.1)
+runs_more but k (notes.Lost m) older other allowed r n c e = from (moved n m states.Lost (job_state n older) (states.Running c) (n == m) refl e) (λ h. absurd (let x = h.1 in cc)) (λ h. r n c h.1)
 runs_more but k (notes.Discarded m) older other allowed r n c e = from (moved n m states.Discarded (job_state n older) (states.Running c) (n == m) refl e) (λ h. absurd (let x = h.1 in cc)) (λ h. r n c h.1)
 runs_more but k (notes.Assigned m d late) older other allowed r n c e =
     from (moved n m (states.Running d) (job_state n older) (states.Running c) (n == m) refl e)
@@ -71,10 +72,15 @@ module _ (k : Settings) (c : ℕ) where
   wakes_for_runs but None past r = r
   wakes_for_runs but (Some job) past r = wake_each_notes (λ l. RunsSo but l) (λ d older p. p) job.function (slots_from 0 k.slots) past r
 
-  given_back_runs : (t w : Bool) (n : ℕ) (jobs : List ℕ) (past : Past) → is_running_at c (job_state n past.notes) ≡ t → RunsSo (OfSlot c (n ∷ jobs)) past.notes
-      → RunsSo (OfSlot c jobs) (cond t (cond w (wake_for k (job n past.notes) (with_note (notes.Returned n) past)) (with_note (notes.Discarded n) past)) past).notes
-  given_back_runs true true n jobs past is r m d e =
+  returned_or_lost_runs : (t : Bool) (n : ℕ) (jobs : List ℕ) (past : Past) → RunsSo (OfSlot c (n ∷ jobs)) past.notes
+      → RunsSo (OfSlot c jobs) (cond t (with_note (notes.Lost n) past) (wake_for k (job n past.notes) (with_note (notes.Returned n) past))).notes
+  returned_or_lost_runs true n jobs past r m d e = left_slot c n jobs past.notes states.Lost (λ x y. absurd cc) r m d e
+  returned_or_lost_runs false n jobs past r m d e =
       wakes_for_runs (OfSlot c jobs) (job n past.notes) (with_note (notes.Returned n) past) (left_slot c n jobs past.notes states.Waiting (λ x y. absurd cc) r) m d e
+
+  given_back_runs : (t w : Bool) (n : ℕ) (jobs : List ℕ) (past : Past) → is_running_at c (job_state n past.notes) ≡ t → RunsSo (OfSlot c (n ∷ jobs)) past.notes
+      → RunsSo (OfSlot c jobs) (cond t (cond w (return_or_lose k n past) (with_note (notes.Discarded n) past)) past).notes
+  given_back_runs true true n jobs past is r m d e = returned_or_lost_runs (is_last_try k n past.notes) n jobs past r m d e
   given_back_runs true false n jobs past is r m d e = left_slot c n jobs past.notes states.Discarded (λ x y. absurd cc) r m d e
   given_back_runs false w n jobs past is r m d e =
       from (r m d e) inl (λ x. from x.1 (λ same. absurd (not_there c d n past.notes is (subst (λ y. job_state y past.notes ≡ states.Running d) same e) x.0)) (λ there. inr (x.0, there)))

@@ -41,7 +41,7 @@ use Rattle.gm_notes.specs.Steps.{Step, Open, Packet, Line, Fault, Close, Tick, T
 use Rattle.gm_notes.specs.Steps.{refusal, unless_not_open, if_owed, unless, step, done, given_slot}
 use Rattle.gm_laws.specs.Causes.{is_one_of, is_sleeping}
 use Rattle.gm_laws.specs.Laws.{GoesAlike}
-use Rattle.gm_laws.proofs.Alike.{Alike, alike_on, units_alike, wanted_alike, mentioned_alike, many_alike, unwanted_alike}
+use Rattle.gm_laws.proofs.Alike.{Alike, alike_on, units_alike, wanted_alike, last_try_alike, mentioned_alike, many_alike, unwanted_alike}
 use Rattle.gm_laws.proofs.Alike.{waked_alike, hearers_alike, expired_alike, full_alike, joined_alike, next_alike}
 use Rattle.gm_laws.proofs.Alike.{handled_alike, enabled_alike, pick_alike, statuses_alike, workers_alike, free_alike}
 use Rattle.gm_laws.proofs.StepsKeep.{kind_read}
@@ -295,7 +295,8 @@ module _ (a b : Past) (base : Alike a.notes b.notes) where
       let v = seen s in
       if_both (ap (is_running_at c) (v.place n))
       (if_both (wanted_alike v n)
-      (at_both (wake_for k) (with_note (notes.Returned n) p) (with_note (notes.Returned n) q) (v.what n) (wake_for_both k (job n p.notes) (note_both (notes.Returned n) s)))
+      (if_both (last_try_alike v k n) (note_both (notes.Lost n) s)
+      (at_both (wake_for k) (with_note (notes.Returned n) p) (with_note (notes.Returned n) q) (v.what n) (wake_for_both k (job n p.notes) (note_both (notes.Returned n) s))))
       (note_both (notes.Discarded n) s))
       s
 

@@ -18,7 +18,7 @@ use Rattle.gm_notes.specs.declared.note.Note.{Note}
 use Rattle.gm_notes.specs.declared.note.Note.TheVariants as notes
 use Rattle.gm_notes.specs.Settings.{Settings}
 use Rattle.gm_notes.specs.Notes.{is_open, phase, is_asleep, is_awake, slots_from}
-use Rattle.gm_notes.specs.Jobs.{Job, Ability, job_state, job, is_wanted, is_mentioned, is_able, is_of, is_empty, put}
+use Rattle.gm_notes.specs.Jobs.{Job, Ability, job_state, job, is_wanted, is_last_try, is_mentioned, is_able, is_of, is_empty, put}
 use Rattle.gm_notes.specs.Jobs.{abilities, pick, waiting_for, joined, next_number}
 use Rattle.gm_notes.specs.declared.states.Pick.{Pick}
 use Rattle.gm_notes.specs.JobStates.{JobState, is_waiting, is_running_at}
@@ -27,7 +27,7 @@ use Rattle.gm_notes.specs.Past.{Past, with_note, refuse, with_mention, wake_one,
 use Rattle.gm_notes.specs.Submissions.{Submission, is_bad_name, is_one_too_many, is_full, keep_or_listen, make, join_or_make, submit}
 use Rattle.gm_notes.specs.Workers.{wake_itself, wake_if, add_ability, can_do, sleep_beside, pre_sleep}
 use Rattle.gm_notes.specs.Requests.{packet_of, first, submission, request}
-use Rattle.gm_notes.specs.Closings.{discard_one, discard_each, wake_for, give_back_one, give_back_each, disconnect, rising, close}
+use Rattle.gm_notes.specs.Closings.{discard_one, discard_each, wake_for, return_or_lose, give_back_one, give_back_each, disconnect, rising, close}
 use Rattle.gm_notes.specs.Steps.{Step, Packet, Close, refusal, step, run}
 use Rattle.gm_laws.specs.History.{History}
 use Rattle.gm_laws.specs.Causes.{Caused, is_closing, is_submission, is_enabling, is_sleeping, is_request, is_one_of, asks}
@@ -118,6 +118,7 @@ calm_more but (notes.Took d) older quiet w c n what a s j = w c n what (awake_at
 calm_more but (notes.Withdrew d) older quiet w c n what a s j = w c n what (awake_at c d Awake (phase c older) (c == d) refl refl a).1 s j
 calm_more but (notes.Assigned m d late) older quiet w c n what a s j = from (moved n m (states.Running d) (job_state n older) states.Waiting (n == m) refl s) (λ h. absurd (let x = h.1 in cc)) (λ h. w c n what a h.1 j)
 calm_more but (notes.Ended m) older quiet w c n what a s j = from (moved n m states.Ended (job_state n older) states.Waiting (n == m) refl s) (λ h. absurd (let x = h.1 in cc)) (λ h. w c n what a h.1 j)
+calm_more but (notes.Lost m) older quiet w c n what a s j = from (moved n m states.Lost (job_state n older) states.Waiting (n == m) refl s) (λ h. absurd (let x = h.1 in cc)) (λ h. w c n what a h.1 j)
 calm_more but (notes.Discarded m) older quiet w c n what a s j = from (moved n m states.Discarded (job_state n older) states.Waiting (n == m) refl s) (λ h. absurd (let x = h.1 in cc)) (λ h. w c n what a h.1 j)
 calm_more but note older quiet w c n what a s j = w c n what a s j
 
@@ -285,10 +286,16 @@ module _ (k : Settings) (c : ℕ) where
   wakes_for_calm n None past is fit w = (unknown_calm n past.notes is w, fit)
   wakes_for_calm n (Some back) past is fit w = wake_calm k back.function (with_note (notes.Returned n) past) fit (returned_calm n back past.notes is w)
 
+  returned_or_lost_calm : (t : Bool) (n : ℕ) (past : Past) → Fit k past.notes → CalmBut Never past.notes
+      → CalmBut Never (cond t (with_note (notes.Lost n) past) (wake_for k (job n past.notes) (with_note (notes.Returned n) past))).notes
+      × Fit k (cond t (with_note (notes.Lost n) past) (wake_for k (job n past.notes) (with_note (notes.Returned n) past))).notes
+  returned_or_lost_calm true n past fit w = (calm_more Never (notes.Lost n) past.notes refl w, fit)
+  returned_or_lost_calm false n past fit w = wakes_for_calm n (job n past.notes) past refl fit w
+
   given_back_calm : (t u : Bool) (n : ℕ) (past : Past) → Fit k past.notes → CalmBut Never past.notes
-      → CalmBut Never (cond t (cond u (wake_for k (job n past.notes) (with_note (notes.Returned n) past)) (with_note (notes.Discarded n) past)) past).notes
-      × Fit k (cond t (cond u (wake_for k (job n past.notes) (with_note (notes.Returned n) past)) (with_note (notes.Discarded n) past)) past).notes
-  given_back_calm true true n past fit w = wakes_for_calm n (job n past.notes) past refl fit w
+      → CalmBut Never (cond t (cond u (return_or_lose k n past) (with_note (notes.Discarded n) past)) past).notes
+      × Fit k (cond t (cond u (return_or_lose k n past) (with_note (notes.Discarded n) past)) past).notes
+  given_back_calm true true n past fit w = returned_or_lost_calm (is_last_try k n past.notes) n past fit w
   given_back_calm true false n past fit w = (calm_more Never (notes.Discarded n) past.notes refl w, fit)
   given_back_calm false u n past fit w = (w, fit)
 

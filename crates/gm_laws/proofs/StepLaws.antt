@@ -78,6 +78,7 @@ module _ (k : Settings) (s : Step) (start : Past) (history : History k start.not
   ended_more (notes.Made m f p u body) older cause before n e = from (moved n m states.Waiting (job_state n older) states.Ended (n == m) refl e) (λ h. absurd (let x = h.1 in cc)) (λ h. before n h.1)
   ended_more (notes.Returned m) older cause before n e = from (moved n m states.Waiting (job_state n older) states.Ended (n == m) refl e) (λ h. absurd (let x = h.1 in cc)) (λ h. before n h.1)
   ended_more (notes.Assigned m c late) older cause before n e = from (moved n m (states.Running c) (job_state n older) states.Ended (n == m) refl e) (λ h. absurd (let x = h.1 in cc)) (λ h. before n h.1)
+  ended_more (notes.Lost m) older cause before n e = from (moved n m states.Lost (job_state n older) states.Ended (n == m) refl e) (λ h. absurd (let x = h.1 in cc)) (λ h. before n h.1)
   ended_more (notes.Discarded m) older cause before n e = from (moved n m states.Discarded (job_state n older) states.Ended (n == m) refl e) (λ h. absurd (let x = h.1 in cc)) (λ h. before n h.1)
   ended_more (notes.Ended m) older cause before n e = from (moved n m states.Ended (job_state n older) states.Ended (n == m) refl e) (λ h. inr (subst (λ x. Ends k start.notes s x) (sym h.0) cause)) (λ h. before n h.1)
   ended_more note older cause before n e = before n e
@@ -99,6 +100,7 @@ module _ (k : Settings) (s : Step) (start : Past) (history : History k start.not
   given_more (notes.Made m f p u body) older cause before n c e = from (moved n m states.Waiting (job_state n older) (states.Running c) (n == m) refl e) (λ h. absurd (let x = h.1 in cc)) (λ h. before n c h.1)
   given_more (notes.Returned m) older cause before n c e = from (moved n m states.Waiting (job_state n older) (states.Running c) (n == m) refl e) (λ h. absurd (let x = h.1 in cc)) (λ h. before n c h.1)
   given_more (notes.Assigned m d late) older cause before n c e = from (moved n m (states.Running d) (job_state n older) (states.Running c) (n == m) refl e) (λ h. given_here n m c d h.0 h.1 cause) (λ h. before n c h.1)
+  given_more (notes.Lost m) older cause before n c e = from (moved n m states.Lost (job_state n older) (states.Running c) (n == m) refl e) (λ h. absurd (let x = h.1 in cc)) (λ h. before n c h.1)
   given_more (notes.Discarded m) older cause before n c e = from (moved n m states.Discarded (job_state n older) (states.Running c) (n == m) refl e) (λ h. absurd (let x = h.1 in cc)) (λ h. before n c h.1)
   given_more (notes.Ended m) older cause before n c e = from (moved n m states.Ended (job_state n older) (states.Running c) (n == m) refl e) (λ h. absurd (let x = h.1 in cc)) (λ h. before n c h.1)
   given_more note older cause before n c e = before n c e
@@ -127,6 +129,7 @@ module _ (k : Settings) (s : Step) (start : Past) (history : History k start.not
   thrown_more (notes.Listens m d) older allowed cause before n e = elsewhere n older (notes.Listens m d ∷ older) (λ c. closing_asks_at _ d s c cause) (before n e)
   thrown_more (notes.Closed c) older allowed cause before n e = thrown_closed n c older (before n e)
   thrown_more (notes.Returned m) older allowed cause before n e = from (moved n m states.Waiting (job_state n older) states.Discarded (n == m) refl e) (λ h. absurd (let x = h.1 in cc)) (λ h. before n h.1)
+  thrown_more (notes.Lost m) older allowed cause before n e = from (moved n m states.Lost (job_state n older) states.Discarded (n == m) refl e) (λ h. absurd (let x = h.1 in cc)) (λ h. before n h.1)
   thrown_more (notes.Assigned m c late) older allowed cause before n e = from (moved n m (states.Running c) (job_state n older) states.Discarded (n == m) refl e) (λ h. absurd (let x = h.1 in cc)) (λ h. before n h.1)
   thrown_more (notes.Ended m) older allowed cause before n e = from (moved n m states.Ended (job_state n older) states.Discarded (n == m) refl e) (λ h. absurd (let x = h.1 in cc)) (λ h. before n h.1)
   thrown_more (notes.Discarded m) older allowed cause before n e =

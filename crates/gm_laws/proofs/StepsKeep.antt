@@ -31,7 +31,7 @@ use Rattle.gm_notes.specs.declared.note.Note.{Note}
 use Rattle.gm_notes.specs.declared.note.Note.TheVariants as notes
 use Rattle.gm_notes.specs.Settings.{Settings}
 use Rattle.gm_notes.specs.Notes.{is_open, is_shut, takes_units, phase, is_asleep, is_owed, moment, mode, slots_from}
-use Rattle.gm_notes.specs.Jobs.{Job, job_state, job, is_wanted, is_mentioned, report, listeners, deadline, handle, job_of_handle}
+use Rattle.gm_notes.specs.Jobs.{Job, job_state, job, is_wanted, is_last_try, is_mentioned, report, listeners, deadline, handle, job_of_handle}
 use Rattle.gm_notes.specs.JobStates.{is_waiting, is_running, is_running_at, is_live}
 use Rattle.gm_notes.specs.Past.{Past, with_note, with_flow, with_output, give, refuse, with_mention, tell_all}
 use Rattle.gm_notes.specs.Submissions.{is_one_too_many}
@@ -43,12 +43,12 @@ use Rattle.gm_notes.specs.Requests.{packet_of, first, second, third, submission,
 use Rattle.gm_notes.specs.Requests.{request, request_if_read}
 use Rattle.gm_notes.specs.Lines.{refuse_line, fault_error, status_rows, worker_rows, is_bad_word, maxqueue, shut_one}
 use Rattle.gm_notes.specs.Lines.{shut_each, go_graceful, shutdown, command}
-use Rattle.gm_notes.specs.Closings.{discard_one, discard_each, wake_for, give_back_one, give_back_each, disconnect, rising}
+use Rattle.gm_notes.specs.Closings.{discard_one, discard_each, wake_for, return_or_lose, give_back_one, give_back_each, disconnect, rising}
 use Rattle.gm_notes.specs.Closings.{close, is_reached, expire_one, expire_each, tick}
 use Rattle.gm_notes.specs.Steps.{Step, Open, Packet, Line, Fault, Close, Tick, Took, Withdrew, Drain, free_slot, opening}
 use Rattle.gm_notes.specs.Steps.{refusal, unless_not_open, unless, add, step, run}
 use Rattle.gm_notes.proofs.FreeSlots.{free_is}
-use Rattle.gm_laws.specs.History.{Allowed, History}
+use Rattle.gm_laws.specs.History.{runs_at_a_slot, Allowed, History}
 use Rattle.gm_laws.specs.Causes.{NamesJob, is_one_of, asks, is_request, is_submission, is_foreground, is_background}
 use Rattle.gm_laws.specs.Causes.{is_enabling, is_disabling, is_resetting, is_sleeping, is_grab, is_reporting, is_ending}
 use Rattle.gm_laws.specs.Causes.{is_naming, is_choosing, is_line, is_closing, closes, faults as has_fault}
@@ -219,7 +219,7 @@ module _ {k : Settings} {before : List Note} {c : ℕ} {I : Past → Type 0} (K 
   discard_one_keeps n past h =
       held_if K (is_waiting (job_state n past.notes) && not (is_wanted n past.notes)) (with_note (notes.Discarded n) past) past
       (λ e. let p = and_parts (is_waiting (job_state n past.notes)) (not (is_wanted n past.notes)) e in
-      note_keeps K (notes.Discarded n) past refl (or_left (is_waiting (job_state n past.notes)) (is_running (job_state n past.notes)) p.0, unwanted (is_wanted n past.notes) p.1) refl h)
+      note_keeps K (notes.Discarded n) past refl (or_left (is_waiting (job_state n past.notes)) (runs_at_a_slot (job_state n past.notes)) p.0, unwanted (is_wanted n past.notes) p.1) refl h)
       (λ e. h)
 
   discard_each_keeps : (jobs : List ℕ) (past : Past) → Held k I past → Held k I (discard_each jobs past)
@@ -230,13 +230,19 @@ module _ {k : Settings} {before : List Note} {c : ℕ} {I : Past → Type 0} (K 
   wakes_for_keeps None past h = h
   wakes_for_keeps (Some job) past h = wake_keeps K job.function past (λ d older. or_right (is_request is_submission (Close c) || asks is_enabling d (Close c) || asks is_sleeping d (Close c)) (is_closing (Close c)) refl) h
 
+  return_or_lose_keeps : (n : ℕ) (past : Past) → is_running_at c (job_state n past.notes) ≡ true → is_wanted n past.notes ≡ true → Held k I past → Held k I (return_or_lose k n past)
+  return_or_lose_keeps n past e w h =
+      let runs = runs_somewhere c (job_state n past.notes) e in
+      held_if K (is_last_try k n past.notes) (with_note (notes.Lost n) past) (wake_for k (job n past.notes) (with_note (notes.Returned n) past))
+      (λ l. note_keeps K (notes.Lost n) past refl (runs, w, l) (c, refl, e) h)
+      (λ l. wakes_for_keeps (job n past.notes) (with_note (notes.Returned n) past) (note_keeps K (notes.Returned n) past refl (runs, w, l) (c, refl, e) h))
+
   give_back_one_keeps : (n : ℕ) (past : Past) → Held k I past → Held k I (give_back_one k c n past)
   give_back_one_keeps n past h =
       held_if K (is_running_at c (job_state n past.notes)) _ past
-      (λ e. let running = runs_somewhere c (job_state n past.notes) e in
-      held_if K (is_wanted n past.notes) (wake_for k (job n past.notes) (with_note (notes.Returned n) past)) (with_note (notes.Discarded n) past)
-      (λ w. wakes_for_keeps (job n past.notes) (with_note (notes.Returned n) past) (note_keeps K (notes.Returned n) past refl (running, w) (c, refl, e) h))
-      (λ w. note_keeps K (notes.Discarded n) past refl (or_right (is_waiting (job_state n past.notes)) (is_running (job_state n past.notes)) running, w) refl h))
+      (λ e. held_if K (is_wanted n past.notes) (return_or_lose k n past) (with_note (notes.Discarded n) past)
+      (λ w. return_or_lose_keeps n past e w h)
+      (λ w. note_keeps K (notes.Discarded n) past refl (or_right (is_waiting (job_state n past.notes)) (runs_at_a_slot (job_state n past.notes)) (runs_somewhere c (job_state n past.notes) e), w) refl h))
       (λ e. h)
 
   give_back_each_keeps : (jobs : List ℕ) (past : Past) → Held k I past → Held k I (give_back_each k c jobs past)

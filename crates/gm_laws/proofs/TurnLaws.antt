@@ -92,6 +92,7 @@ waiting_is : (state : JobState) → is_waiting state ≡ true → state ≡ stat
 waiting_is states.Waiting e = refl
 waiting_is states.Unmade e = absurd cc
 waiting_is (states.Running d) e = absurd cc
+waiting_is states.Lost e = absurd cc
 waiting_is states.Ended e = absurd cc
 waiting_is states.Discarded e = absurd cc
 

@@ -53,6 +53,7 @@ waits_came n (notes.Returned m ∷ older) e =
     (λ h. in_front n m (filter (λ y. not (y == m)) (as_they_came older)) (in_others n m (as_they_came older) h.0 (waits_came n older h.1)))
 waits_came n (notes.Assigned m c late ∷ older) e = from (moved n m (states.Running c) (job_state n older) states.Waiting (n == m) refl e) (λ h. absurd (let x = h.1 in cc)) (λ h. waits_came n older h.1)
 waits_came n (notes.Ended m ∷ older) e = from (moved n m states.Ended (job_state n older) states.Waiting (n == m) refl e) (λ h. absurd (let x = h.1 in cc)) (λ h. waits_came n older h.1)
+waits_came n (notes.Lost m ∷ older) e = from (moved n m states.Lost (job_state n older) states.Waiting (n == m) refl e) (λ h. absurd (let x = h.1 in cc)) (λ h. waits_came n older h.1)
 waits_came n (notes.Discarded m ∷ older) e = from (moved n m states.Discarded (job_state n older) states.Waiting (n == m) refl e) (λ h. absurd (let x = h.1 in cc)) (λ h. waits_came n older h.1)
 waits_came n (note ∷ older) e = waits_came n older e
 

@@ -120,7 +120,7 @@ abbrev pub NamesJob : Settings → ℕ → List ℕ → ℕ → Type 0
 NamesJob k number bytes n = (asked : Asked) × (request_of number bytes ≡ Ok asked) × (first asked.arguments ≡ handle k n)
 
 -- a step ends job n: WORK_COMPLETE or WORK_FAIL with its handle, of the slot where it runs, or a tick that reaches its
--- deadline
+-- deadline; any tick reaches that of a lost job
 abbrev pub Ends : Settings → List Note → Step → ℕ → Type 0
 Ends k before (Packet c number bytes) n = (is_one_of is_ending (kind_of number) ≡ true) × (job_state n before ≡ states.Running c) × NamesJob k number bytes n
 Ends k before (Tick now) n = is_reached (deadline n before) (max now (moment before)) ≡ true
@@ -147,6 +147,7 @@ Caused k before s (notes.Listens n c) older = asks is_foreground c s ≡ true
 -- a grab gets the pick that there was before it
 Caused k before s (notes.Assigned n c late) older = (asks is_grab c s ≡ true) × Gets k c n before
 Caused k before s (notes.Returned n) older = (c : ℕ) × (s ≡ Close c) × (is_running_at c (job_state n older) ≡ true)
+Caused k before s (notes.Lost n) older = (c : ℕ) × (s ≡ Close c) × (is_running_at c (job_state n older) ≡ true)
 Caused k before s (notes.Ended n) older = Ends k before s n
 Caused k before s (notes.Discarded n) older = is_closing s ≡ true
 Caused k before s (notes.Report n a b) older = is_request is_reporting s ≡ true

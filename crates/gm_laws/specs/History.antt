@@ -1,18 +1,24 @@
 -- When each note may be added, and that every note of a past was.
-use Rattle.std.specs.Prelude.{◌≡◌, ℕ, ◌<◌, ◌≤◌, true, false, List, [], ◌∷◌, Some, None}
+use Rattle.std.specs.Prelude.{◌≡◌, ℕ, ◌<◌, ◌≤◌, Bool, true, false, ◌||◌, List, [], ◌∷◌, Some, None}
 use Rattle.gm_notes.specs.declared.note.Note.{Note}
 use Rattle.gm_notes.specs.declared.note.Note.TheVariants.{Opened, Shut, Closed, Named, OptionSet, Can, Cant, Reset, Slept}
 use Rattle.gm_notes.specs.declared.note.Note.TheVariants.{Woken, Stirred, Took, Withdrew, Made, Kept, Listens, Assigned}
-use Rattle.gm_notes.specs.declared.note.Note.TheVariants.{Returned, Ended, Discarded, Report, Mention, Limit, Now, Went}
+use Rattle.gm_notes.specs.declared.note.Note.TheVariants.{Returned, Lost, Ended, Discarded, Report, Mention, Limit, Now, Went}
 use Rattle.gm_notes.specs.Settings.{Settings}
 use Rattle.gm_notes.specs.Notes.{is_open, phase, is_asleep, is_awake, is_owed, moment}
-use Rattle.gm_notes.specs.Jobs.{job_state, is_wanted, is_mentioned, joined, next_number, pick}
+use Rattle.gm_notes.specs.Jobs.{job_state, is_wanted, is_last_try, is_mentioned, joined, next_number, pick}
 use Rattle.gm_notes.specs.declared.states.Pick.{Pick}
-use Rattle.gm_notes.specs.JobStates.{is_waiting, is_running, is_live}
+use Rattle.gm_notes.specs.JobStates.{JobState, is_waiting, is_running, is_live}
+use Rattle.gm_notes.specs.JobStates as states
 
 -- slot c's grab gets job n
 abbrev pub Gets : Settings → ℕ → ℕ → List Note → Type 0
 Gets k c n older = (found : Pick) × (pick k c older ≡ Some found) × (found.job ≡ n)
+
+-- a job with a worker: it runs, and isn't lost
+abbrev pub runs_at_a_slot : JobState → Bool
+runs_at_a_slot (states.Running c) = true
+runs_at_a_slot other = false
 
 -- when a note may be added to the older ones
 abbrev pub Allowed : Settings → Note → List Note → Type 0
@@ -35,12 +41,14 @@ Allowed k (Kept n) older = is_live (job_state n older) ≡ true
 Allowed k (Listens n c) older = (is_live (job_state n older) ≡ true) × (is_open c older ≡ true)
 -- only a waiting job is given out, and only to whose grab gets it
 Allowed k (Assigned n c deadline) older = (is_waiting (job_state n older) ≡ true) × (is_open c older ≡ true) × Gets k c n older
--- only a running job waits again, and only while somebody wants it
-Allowed k (Returned n) older = (is_running (job_state n older) ≡ true) × (is_wanted n older ≡ true)
+-- only a job with a worker waits again or is lost, and only while somebody wants it: it is lost just where the worker was its
+-- last one
+Allowed k (Returned n) older = (runs_at_a_slot (job_state n older) ≡ true) × (is_wanted n older ≡ true) × (is_last_try k n older ≡ false)
+Allowed k (Lost n) older = (runs_at_a_slot (job_state n older) ≡ true) × (is_wanted n older ≡ true) × (is_last_try k n older ≡ true)
 Allowed k (Ended n) older = is_running (job_state n older) ≡ true
--- a job is discarded only where nobody wants it
-Allowed k (Discarded n) older = (is_live (job_state n older) ≡ true) × (is_wanted n older ≡ false)
-Allowed k (Report n a b) older = is_running (job_state n older) ≡ true
+-- a job is discarded only where nobody wants it, and never once it is lost
+Allowed k (Discarded n) older = ((is_waiting (job_state n older) || runs_at_a_slot (job_state n older)) ≡ true) × (is_wanted n older ≡ false)
+Allowed k (Report n a b) older = runs_at_a_slot (job_state n older) ≡ true
 Allowed k (Mention f) older = is_mentioned f older ≡ false
 Allowed k (Limit f size) older = Unit {0}
 Allowed k (Now t) older = moment older ≤ t

@@ -21,7 +21,7 @@ use Rattle.gm_notes.specs.Steps.{Step, Open, Packet, Line, refusal, run, done}
 
 abbrev pub settings : ℕ → ℕ → ℕ → Settings
 settings first slots functions =
-    record { name = codes "gmd"; first_job = first; slots = slots; max_functions = functions; round_robin = false }
+    record { name = codes "gmd"; first_job = first; slots = slots; max_functions = functions; round_robin = false; retries = 0 }
 
 abbrev pub defaults : Settings
 defaults = settings 1 64 65536

@@ -10,8 +10,9 @@ ghost use Rattle.gm_laws.specs.Turns.{TurnsAreFair};
 ghost use Rattle.gm_laws.specs.Between.{ListenersAreOpen, RunnersAreOpen, NoWaitingJobIsOrphaned, NoOneSleepsBesideWork, SleepersAreOpen};
 
 /// Every note of the past was allowed when it was added: only a waiting job was given out, and only to whose
-/// grab gets it; only a running one waited again, and only one that somebody wants; none was discarded that
-/// somebody wants; a job got the next number, and joined nothing.
+/// grab gets it; only a job with a worker waited again or was lost, and only one that somebody wants, lost just
+/// where the worker was its last one; none was discarded that somebody wants, and none that was lost; a job got the
+/// next number, and joined nothing.
 pub fn each_note_was_allowed()
     ensures { AfterAnySteps History }
 {}
@@ -26,7 +27,7 @@ pub fn open_slots_are_in_range()
     ensures { AfterAnySteps AreSlots }
 {}
 
-/// A job is in one of the places waiting, running, ended and discarded exactly where it was made.
+/// A job waits, runs at a slot, is lost, has ended or was discarded exactly where it was made.
 pub fn placed_exactly_where_made()
     ensures { AfterAnySteps HavePlaces }
 {}
@@ -73,7 +74,7 @@ pub fn discards_the_unwanted()
 {}
 
 /// A job ends only with WORK_COMPLETE or WORK_FAIL with its handle, of the slot where it runs, or in a tick that
-/// reaches its deadline.
+/// reaches its deadline. Any tick reaches that of a lost job.
 pub fn ends_with_its_worker()
     ensures { InEachStep EndsWithItsWorker }
 {}
