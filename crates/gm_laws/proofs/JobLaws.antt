@@ -184,14 +184,6 @@ below_next : (k : Settings) (ns : List ℕ) (n : ℕ) → AreNumbers k ns → li
 below_next k [] n h e = absurd cc
 below_next k (m ∷ ns) n h e = below_head k ns m n (m == n) refl h.0 (below_next k ns n h.2) e
 
-gone_place : (s : JobState) → is_gone s ≡ true → has_place s ≡ true
-gone_place states.Ended e = refl
-gone_place states.Discarded e = refl
-gone_place states.Unmade e = absurd cc
-gone_place states.Waiting e = absurd cc
-gone_place (states.Running c) e = absurd cc
-gone_place states.Lost e = absurd cc
-
 gone_dead : (s : JobState) → is_gone s ≡ true → is_live s ≡ true → ⊥
 gone_dead states.Ended e h = let bad : ⊥ = cc in bad
 gone_dead states.Discarded e h = let bad : ⊥ = cc in bad
@@ -207,12 +199,26 @@ gone_moved n m older new true is gone live =
     absurd (gone_dead (job_state n older) gone (subst (λ x. is_live (job_state x older) ≡ true) same live))
 gone_moved n m older new false is gone live = refl
 
+no_place : (s : JobState) → has_place s ≡ false → s ≡ states.Unmade
+no_place states.Unmade e = refl
+no_place other e = absurd cc
+
+unmade_if : (k : Settings) (n : ℕ) (older : List Note) (t : Bool) → has_place (job_state n older) ≡ t → History k older → next_number k older ≡ Some n → job_state n older ≡ states.Unmade
+unmade_if k n older true is h next =
+    let number = (numbers k (Made n [] Normal [] [] ∷ older) ((next, refl), h)).0 in
+    let lt = below_next k (made older) n (numbers k older h) (sym (places k older h n) ∙ is) in
+    absurd (omega arith)
+unmade_if k n older false is h next = no_place (job_state n older) is
+
+-- the job of the next number isn't made yet
+pub unmade : (k : Settings) (n : ℕ) (older : List Note) → History k older → next_number k older ≡ Some n → job_state n older ≡ states.Unmade
+unmade k n older h next = unmade_if k n older (has_place (job_state n older)) refl h next
+
 gone_made : (k : Settings) (n m : ℕ) (older : List Note) (t : Bool) → (n == m) ≡ t → History k older → next_number k older ≡ Some m → is_gone (job_state n older) ≡ true → unwrap_or (cond t (Some states.Waiting) None) (job_state n older) ≡ job_state n older
 gone_made k n m older true is h next gone =
-    let same = is_same n m is in
-    let number = (numbers k (Made m [] Normal [] [] ∷ older) ((next, refl), h)).0 in
-    let lt = below_next k (made older) n (numbers k older h) (sym (places k older h n) ∙ gone_place (job_state n older) gone) in
-    absurd (omega arith)
+    let new : job_state n older ≡ states.Unmade = subst (λ x. job_state x older ≡ states.Unmade) (sym (is_same n m is)) (unmade k m older h next) in
+    let bad : is_gone states.Unmade ≡ true = subst (λ s. is_gone s ≡ true) new gone in
+    absurd cc
 gone_made k n m older false is h next gone = refl
 
 gone_stays : (k : Settings) (note : Note) (older : List Note) (n : ℕ) → Allowed k note older → History k older → is_gone (job_state n older) ≡ true → job_state n (note ∷ older) ≡ job_state n older

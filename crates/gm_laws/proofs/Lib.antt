@@ -9,6 +9,7 @@ mod NumberLaws
 mod Orphans
 pub mod Phases
 mod PutOff
+mod Retries
 mod Runners
 mod Sayings
 mod SideBySide

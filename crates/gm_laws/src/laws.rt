@@ -7,6 +7,8 @@ ghost use Rattle.gm_laws.specs.Laws.{AfterAnySteps, AreNumbers, AreSlots, HavePl
 ghost use Rattle.gm_laws.specs.Laws.{InEachStep, NotesAreCaused, DiscardsTheUnwanted, EndsWithItsWorker, GivesThePick};
 ghost use Rattle.gm_laws.specs.Laws.{GrabsGetThePick, SaysNoJobWhereNoneIs, OnlyDrainsTake, MayBeTakenLater};
 ghost use Rattle.gm_laws.specs.Turns.{TurnsAreFair};
+ghost use Rattle.gm_laws.specs.Retries.{NoJobIsHandedOutMoreOften, NoJobIsLostTwice, NoneIsLostWithoutALimit};
+ghost use Rattle.gm_laws.specs.Retries.{OnlyTheLastTryLoses, LostJobsEndWithTheNextTick};
 ghost use Rattle.gm_laws.specs.Between.{ListenersAreOpen, RunnersAreOpen, NoWaitingJobIsOrphaned, NoOneSleepsBesideWork, SleepersAreOpen};
 
 /// Every note of the past was allowed when it was added: only a waiting job was given out, and only to whose
@@ -95,6 +97,32 @@ pub fn grabs_get_the_pick()
 /// two would have one of the first between them, by the same law.
 pub fn turns_are_fair()
     ensures { TurnsAreFair }
+{}
+
+/// With a limit on retries, no job is handed out more often than it says.
+pub fn no_job_is_handed_out_more_often()
+    ensures { AfterAnySteps NoJobIsHandedOutMoreOften }
+{}
+
+/// A job is lost only where there is a limit and its worker went: it had been handed out as often as the limit says,
+/// it had come back each time before, and somebody wanted it.
+pub fn only_the_last_try_loses()
+    ensures { AfterAnySteps OnlyTheLastTryLoses }
+{}
+
+/// A job is lost once at most.
+pub fn no_job_is_lost_twice()
+    ensures { AfterAnySteps NoJobIsLostTwice }
+{}
+
+/// Without a limit on retries no job is lost.
+pub fn none_is_lost_without_a_limit()
+    ensures { AfterAnySteps NoneIsLostWithoutALimit }
+{}
+
+/// A lost job ends with the next tick, and stays lost until then, whatever comes.
+pub fn lost_jobs_end_with_the_next_tick()
+    ensures { InEachStep LostJobsEndWithTheNextTick }
 {}
 
 /// NO_JOB is queued only for a grab, and only where there is no pick.
