@@ -1,13 +1,14 @@
 -- Worked rows of connections: openings, closings, and what of a connection the next one in its slot hasn't.
 use Rattle.std.specs.Prelude.{true, false, [], ◌∷◌, ◌++◌}
 use Rattle.gm_notes.specs.Steps.{Fault, Close, Tick, Took, Drain}
+use Rattle.gm_notes.specs.declared.states.Place.TheVariants as places
 use Rattle.gm_notes.specs.declared.event.ApplyError.TheVariants.{NotOpen, NoSlot, NotOwed}
 use Rattle.gm_notes.specs.declared.event.UnitFault.TheVariants.{BadMagic}
-use Rattle.gm_laws.specs.RowWords.{defaults, two_slots, four_slots, connect_from, connect, says, can_do, pre_sleep, submit_job}
+use Rattle.gm_laws.specs.RowWords.{defaults, given_to, two_slots, four_slots, connect_from, connect, says, can_do, pre_sleep, submit_job}
 use Rattle.gm_laws.specs.RowWords.{grab_job, work_complete, work_fail, get_status, echo_req, submit_job_bg, submit_job_high}
-use Rattle.gm_laws.specs.RowWords.{set_client_id, work_exception, option_req, submit_job_high_bg, line, page, created, no_job}
-use Rattle.gm_laws.specs.RowWords.{assigned, completed, failed, status, echoed, option_set, error, Plays, Owes, Waits, IsSent}
-use Rattle.gm_laws.specs.RowWords.{Answers, opened, made, nothing_made, Refuses, Takes}
+use Rattle.gm_laws.specs.RowWords.{set_client_id, work_exception, option_req, work_data, submit_job_high_bg, line, page, counts, created, no_job}
+use Rattle.gm_laws.specs.RowWords.{assigned, completed, failed, data_was, status, echoed, option_set, error, Plays, Owes, Waits, IsSent}
+use Rattle.gm_laws.specs.RowWords.{Answers, opened, made, nothing_made, Stands, Refuses, Takes}
 
 -- an opening gets the least slot that isn't open
 abbrev pub LeastSlot : Type 0
@@ -146,6 +147,39 @@ ReturnedJob =
     ∷ submit_job 0 "f" "c" "3" ∷ Close 1 ∷ connect ∷ can_do 1 "f" ∷ grab_job 1 ∷ grab_job 1 ∷ grab_job 1 ∷ []) (
     created 0 "H:gmd:1" ∷ created 0 "H:gmd:2" ∷ assigned 1 "H:gmd:1" "f" "1" ∷ assigned 1 "H:gmd:2" "f" "2"
     ∷ created 0 "H:gmd:3" ∷ assigned 1 "H:gmd:3" "f" "3" ∷ assigned 1 "H:gmd:1" "f" "1" ∷ assigned 1 "H:gmd:2" "f" "2" ∷ [])
+
+-- with a limit on retries, a job waits again until its last worker goes: then it is lost, counts as running, and fails with the
+-- next tick
+abbrev pub JobRetries : Type 0
+JobRetries =
+    let lost =
+    connect ∷ connect ∷ submit_job 0 "f" "a" "1" ∷ can_do 1 "f" ∷ grab_job 1 ∷ Close 1 ∷ connect ∷ can_do 1 "f" ∷ grab_job 1
+    ∷ work_data 1 "H:gmd:1" "z" ∷ Close 1 ∷ [] in
+    let failed_job =
+    lost ++ get_status 0 "H:gmd:1" ∷ says 0 "status" ∷ connect ∷ can_do 1 "f" ∷ grab_job 1 ∷ work_complete 1 "H:gmd:1" "x" ∷ Tick 0
+    ∷ get_status 0 "H:gmd:1" ∷ [] in
+    Plays (given_to 2) failed_job (
+    created 0 "H:gmd:1" ∷ assigned 1 "H:gmd:1" "f" "1" ∷ assigned 1 "H:gmd:1" "f" "1" ∷ data_was 0 "H:gmd:1" "z"
+    ∷ status 0 "H:gmd:1" true true "0" "0" ∷ counts 0 (("f", "1", "1", "0") ∷ []) ∷ no_job 1
+    ∷ error 1 "job_not_found" "job not found" ∷ failed 0 "H:gmd:1" ∷ status 0 "H:gmd:1" false false "0" "0" ∷ [])
+    × Stands (given_to 2) lost 1 places.Lost
+    × Stands (given_to 2) failed_job 1 places.Gone
+    × Stands (given_to 3) lost 1 places.Waiting
+    × Stands defaults lost 1 places.Waiting
+
+-- a lost job can be joined, and stays when its listeners go: it fails with the next tick, for those who listen then
+abbrev pub LostJob : Type 0
+LostJob =
+    let lost =
+    connect ∷ connect ∷ connect ∷ submit_job 0 "f" "x" "1" ∷ can_do 1 "f" ∷ grab_job 1 ∷ Close 1 ∷ submit_job 2 "f" "x" "2"
+    ∷ Close 0 ∷ [] in
+    let told =
+    created 0 "H:gmd:1" ∷ assigned 1 "H:gmd:1" "f" "1" ∷ created 2 "H:gmd:1" ∷ [] in
+    Plays (given_to 1) (lost ++ Tick 5 ∷ []) (told ++ failed 2 "H:gmd:1" ∷ [])
+    × Plays (given_to 1) (lost ++ Close 2 ∷ connect ∷ get_status 0 "H:gmd:1" ∷ Tick 5 ∷ submit_job 0 "f" "x" "3" ∷ []) (
+    told ++ status 0 "H:gmd:1" true true "0" "0" ∷ created 0 "H:gmd:2" ∷ [])
+    × Stands (given_to 1) (lost ++ Close 2 ∷ []) 1 places.Lost
+    × Stands (given_to 1) (lost ++ Close 2 ∷ Tick 5 ∷ []) 1 places.Gone
 
 -- the jobs of a worker that goes wait again, and who sleeps and can do them is woken, and no other
 abbrev pub WokenByReturn : Type 0

@@ -30,6 +30,10 @@ defaults = settings 1 64 65536
 abbrev pub in_turn : Settings
 in_turn = record defaults { round_robin = true }
 
+-- a job may be given to so many workers
+abbrev pub given_to : ℕ → Settings
+given_to workers = record defaults { retries = workers }
+
 abbrev pub from_the_last : Settings
 from_the_last = settings 18446744073709551615 64 65536
 

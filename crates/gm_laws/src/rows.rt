@@ -12,7 +12,8 @@ ghost use Rattle.gm_laws.specs.WorkerRows.{GrabStirs, StaleNoop, StillOwed, With
 ghost use Rattle.gm_laws.specs.WorkerRows.{TimeLimits, TimeStands, EdgesOfTime, ExpiredTogether, DeadlineForgotten};
 ghost use Rattle.gm_laws.specs.ConnectionRows.{LeastSlot, MadeJobs, SlotsSpent, ClosedSlots, NothingInherited};
 ghost use Rattle.gm_laws.specs.ConnectionRows.{OptionNotInherited, SleepNotInherited, ShutNotInherited, ListenerNotInherited};
-ghost use Rattle.gm_laws.specs.ConnectionRows.{WorkNotInherited, BytesWait, BytesSent, TwoSlots, ReturnedJob, WokenByReturn};
+ghost use Rattle.gm_laws.specs.ConnectionRows.{WorkNotInherited, BytesWait, BytesSent, TwoSlots, ReturnedJob};
+ghost use Rattle.gm_laws.specs.ConnectionRows.{JobRetries, LostJob, WokenByReturn};
 ghost use Rattle.gm_laws.specs.ConnectionRows.{NotItself, OrphanedJob, KeptJob, OnlyUnwanted, RunsOn, OnlyItsJobs};
 ghost use Rattle.gm_laws.specs.LineRows.{PlainAnswers, TrailingNul, Faults, WorkersText, OpenConnections, StatusText, AdminLines};
 ghost use Rattle.gm_laws.specs.LineRows.{LimitLines, ShutdownLines, Shutdowns, ShutDown, SettingsInRange, Modes, ShutSlots};
@@ -332,6 +333,18 @@ pub fn two_slots()
 /// A job whose worker goes waits again, behind the others.
 pub fn returned_job()
     ensures { ReturnedJob }
+{}
+
+/// With a limit on retries, a job waits again until its last worker goes: then it is lost, counts as running, and
+/// fails with the next tick.
+pub fn job_retries()
+    ensures { JobRetries }
+{}
+
+/// A lost job can be joined, and stays when its listeners go: it fails with the next tick, for those who listen
+/// then.
+pub fn lost_job()
+    ensures { LostJob }
 {}
 
 /// The jobs of a worker that goes wait again, and who sleeps and can do them is woken, and no other.
