@@ -9,18 +9,18 @@ use Rattle.gm_admin.specs.declared.fault.AdminFault.{AdminFault}
 use Rattle.gm_admin.specs.declared.fault.AdminError.TheVariants as errors
 use Rattle.gm_admin.specs.Commands.{Asked, Status, Workers, MaxQueue, Version, Shutdown}
 use Rattle.gm_admin.specs.Answers.{ok_text}
-use Rattle.gm_notes.specs.declared.note.Note.TheVariants.{Woken, Stirred, Returned, Discarded, Ended, Now, Shut, Limit, Went, Mention}
+use Rattle.gm_notes.specs.declared.note.Note.TheVariants.{Woken, Stirred, Returned, Lost, Discarded, Ended, Now, Shut, Limit, Went, Mention}
 use Rattle.gm_notes.specs.declared.states.Mode.{Mode}
 use Rattle.gm_notes.specs.declared.states.Mode.TheVariants.{Running, Graceful, Stopped}
 use Rattle.gm_notes.specs.Settings.{Settings}
 use Rattle.gm_notes.specs.Notes.{is_open, is_shut, phase, is_asleep, mode, moment, slots_from}
-use Rattle.gm_notes.specs.Jobs.{Job, job, job_state, made, is_able, is_wanted, is_mentioned, deadline, listeners, handle}
+use Rattle.gm_notes.specs.Jobs.{Job, job, job_state, made, is_able, is_wanted, is_last_try, is_mentioned, deadline, listeners, handle}
 use Rattle.gm_notes.specs.JobStates.{is_waiting, is_running, is_running_at}
 use Rattle.gm_notes.specs.Past.{Past, with_note, with_output, give, with_mention, tell_all, wake_one, wake_each}
 use Rattle.gm_notes.specs.Steps.{Step, refusal, add, unless, run, made_since}
 use Rattle.gm_notes.specs.Submissions.{is_one_too_many}
 use Rattle.gm_notes.specs.Workers.{wake_itself}
-use Rattle.gm_notes.specs.Closings.{discard_one, discard_each, wake_for, give_back_one, give_back_each, disconnect, rising}
+use Rattle.gm_notes.specs.Closings.{discard_one, discard_each, wake_for, return_or_lose, give_back_one, give_back_each, disconnect, rising}
 use Rattle.gm_notes.specs.Closings.{close, is_reached, expire_one, expire_each, tick}
 use Rattle.gm_notes.specs.Lines.{refuse_line, is_bad_word, maxqueue, shut_one, shut_each, go_graceful, command}
 
@@ -65,11 +65,15 @@ wake_for_made : (k : Settings) (o : Option Job) (past : Past) → made (wake_for
 wake_for_made k None past = refl
 wake_for_made k (Some job) past = wake_made job.function (slots_from 0 k.slots) past
 
+return_or_lose_made : (k : Settings) (n : ℕ) (past : Past) → made (return_or_lose k n past).notes ≡ made past.notes
+return_or_lose_made k n past =
+    either (is_last_try k n past.notes) (made past.notes) (with_note (Lost n) past) (wake_for k (job n past.notes) (with_note (Returned n) past)) refl
+    (wake_for_made k (job n past.notes) (with_note (Returned n) past))
+
 pub give_back_made : (k : Settings) (c n : ℕ) (past : Past) → made (give_back_one k c n past).notes ≡ made past.notes
 give_back_made k c n past =
-    either (is_running_at c (job_state n past.notes)) (made past.notes) (if is_wanted n past.notes then wake_for k (job n past.notes) (with_note (Returned n) past) else with_note (Discarded n) past) past
-    (either (is_wanted n past.notes) (made past.notes) (wake_for k (job n past.notes) (with_note (Returned n) past)) (with_note (Discarded n) past)
-    (wake_for_made k (job n past.notes) (with_note (Returned n) past)) refl)
+    either (is_running_at c (job_state n past.notes)) (made past.notes) (if is_wanted n past.notes then return_or_lose k n past else with_note (Discarded n) past) past
+    (either (is_wanted n past.notes) (made past.notes) (return_or_lose k n past) (with_note (Discarded n) past) (return_or_lose_made k n past) refl)
     refl
 
 give_backs_made : (k : Settings) (c : ℕ) (jobs : List ℕ) (past : Past) → made (give_back_each k c jobs past).notes ≡ made past.notes

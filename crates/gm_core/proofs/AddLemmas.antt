@@ -7,7 +7,7 @@ use Rattle.gm_notes.specs.declared.states.Priority.{Priority}
 use Rattle.gm_notes.specs.Settings.{Settings}
 use Rattle.gm_notes.specs.Flow.{waiting}
 use Rattle.gm_notes.specs.Notes.{moment, mode}
-use Rattle.gm_notes.specs.Jobs.{Job, made, as_they_came, job_state, job, is_kept, listeners, report, deadline}
+use Rattle.gm_notes.specs.Jobs.{Job, made, as_they_came, job_state, job, is_kept, listeners, report, deadline, returns}
 use Rattle.gm_notes.specs.JobStates as states
 use Rattle.gm_notes.specs.Past.{Past}
 use Rattle.gm_notes.specs.Submissions.{Submission}
@@ -55,6 +55,7 @@ module _ (n : ℕ) (f : List ℕ) (p : Priority) (u body : List ℕ) (notes : Li
     listeners = λ m. if m == n then [] else listeners m notes;
     report = λ m. said_or (m == n) (codes "0", codes "0") (report m notes) i;
     deadline = λ m. said_or (m == n) None (deadline m notes) i;
+    returns = λ m. if m == n then 0 else returns m notes;
   })
 
   pub facts_listened : (c : ℕ) → with_made n its_job false (c ∷ []) (job_facts notes) ≡ job_facts (Listens n c ∷ Made n f p u body ∷ notes)
@@ -67,6 +68,7 @@ module _ (n : ℕ) (f : List ℕ) (p : Priority) (u body : List ℕ) (notes : Li
     listeners = λ m. heard_first (m == n) c (listeners m notes) i;
     report = λ m. said_or (m == n) (codes "0", codes "0") (report m notes) i;
     deadline = λ m. said_or (m == n) None (deadline m notes) i;
+    returns = λ m. if m == n then 0 else returns m notes;
   })
 
 heard_from : (is_open : ℕ → Bool) (t : Bool) (c : ℕ) → is_open c ≡ true → AreOpen is_open (listed (first_listener t c))
@@ -175,6 +177,7 @@ jobs_roomed f u b holds = record {
   numbered = holds.numbered;
   places = holds.places;
   live = holds.live;
+  counts = holds.counts;
   queues = holds.queues;
   room = holds.room;
 }
@@ -210,6 +213,7 @@ goes_undone old new config conns same roomed now goes =
       numbered = holds.numbered;
       places = holds.places;
       live = holds.live;
+      counts = holds.counts;
       queues = holds.queues;
       room = holds.room;
     }

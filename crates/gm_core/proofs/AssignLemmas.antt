@@ -18,6 +18,7 @@ use Rattle.gm_notes.specs.JobStates as states
 use Rattle.gm_queues.specs.Queues.{Queue, without_first}
 use Rattle.gm_queues.specs.FunctionTables.{number_of, queue, is_queue, ChangesQueue}
 use Rattle.gm_queues.specs.FunctionTables as queues
+use Rattle.gm_jobs.specs.declared.job.Stage.TheVariants.{Waiting}
 use Rattle.gm_jobs.specs.Live.{Live, assigned}
 use Rattle.gm_jobs.specs.Tables.{Table, job, place_or, is_made, Changes}
 use Rattle.gm_core.specs.Facts.{ConnFacts, FunctionFacts, JobFacts, job_facts, waits_with, runs_with, queued, running_with}
@@ -39,7 +40,7 @@ same_one Low High e = absurd (false≢true e)
 same_one Low Normal e = absurd (false≢true e)
 
 module _ (k : Settings) (functions popped : queues.Table) (old new : Table) (is_open : ℕ → Bool) (notes : List Note) (names : FunctionFacts) (known : HoldsFunctions k functions names)
-    (holds : HoldsJobs k functions old is_open (job_facts notes)) (n c : ℕ) (late : Option ℕ) (found : Live) (at : job old n ≡ Some found) (waits : found.slot ≡ None)
+    (holds : HoldsJobs k functions old is_open (job_facts notes)) (n c : ℕ) (late : Option ℕ) (found : Live) (at : job old n ≡ Some found) (waits : found.stage ≡ Waiting)
     (rest : List ℕ) (first : (queue functions found.function found.priority).jobs ≡ n ∷ rest) (pops : ChangesQueue found.function found.priority without_first functions popped)
     (changes : Changes n (assigned c late) old new) where
   abbrev facts : JobFacts
@@ -209,6 +210,10 @@ module _ (k : Settings) (functions popped : queues.Table) (old new : Table) (is_
       let off = turned n m false e in
       record { function = was.function; job = was.job; job_state = state_off m off ∙ was.job_state; kept = was.kept; listeners = was.listeners; report = was.report; deadline = rw off was.deadline; heard = was.heard }
 
+  still : (t : Bool) (l : Live) → (if t then assigned c late l else l).returns ≡ l.returns
+  still true l = refl
+  still false l = refl
+
   pub jobs_assigned : HoldsJobs k popped new is_open now
   jobs_assigned = record {
     first = changes.first ∙ holds.first;
@@ -225,6 +230,9 @@ module _ (k : Settings) (functions popped : queues.Table) (old new : Table) (is_
         let was = was_live (assigned c late) (n == m) (job old m) l (sym (changes.jobs m) ∙ e) in
         subst (λ (names : List (List ℕ)). IsJob names l now is_open m) (sym pops.names)
         (subst (λ (x : Live). IsJob functions.names x now is_open m) was.became (each m was.before (n == m) refl was.is));
+    counts = λ m l e.
+        let was = was_live (assigned c late) (n == m) (job old m) l (sym (changes.jobs m) ∙ e) in
+        ap (λ (x : Live). x.returns) (sym was.became) ∙ (still (n == m) was.before ∙ holds.counts m was.before was.is);
     queues = λ name q. ap (λ o. jobs_named o q popped) (number_same name) ∙ named_queue name q (number_of name functions) refl;
     room = λ g q inside.
         let here = subst (λ (l : List (List ℕ)). g < length l) pops.names inside in

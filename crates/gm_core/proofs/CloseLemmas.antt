@@ -15,7 +15,7 @@ use Rattle.gm_queues.specs.FunctionTables as queues
 use Rattle.gm_jobs.specs.Live.{Live}
 use Rattle.gm_jobs.specs.Tables.{Table, job, place_or, is_made}
 use Rattle.gm_core.specs.Facts.{FunctionFacts, JobFacts, runs_with, queued, running_with}
-use Rattle.gm_core.specs.Holds.{name_at, jobs_named, HoldsFunctions, HoldsJobs, IsJob}
+use Rattle.gm_core.specs.Holds.{name_at, counted, jobs_named, HoldsFunctions, HoldsJobs, IsJob}
 use Rattle.gm_core.proofs.FunctionLemmas.{apart, unknown, number_is, named}
 use Rattle.gm_queues.proofs.PositionLemmas.{position-within}
 use Rattle.gm_core.proofs.JobLemmas.{made_same}
@@ -25,8 +25,8 @@ use Rattle.gm_core.proofs.AssignLemmas.{same_one}
 -- ---- one job moves
 
 -- these facts, but for where jobs are
-abbrev pub moved_facts : JobFacts → List ℕ → (ℕ → JobState) → (ℕ → Option ℕ) → JobFacts
-moved_facts facts came job_state deadline = record {
+abbrev pub moved_facts : JobFacts → List ℕ → (ℕ → JobState) → (ℕ → Option ℕ) → (ℕ → ℕ) → JobFacts
+moved_facts facts came job_state deadline returns = record {
   made = facts.made;
   came = came;
   job_state = job_state;
@@ -35,6 +35,7 @@ moved_facts facts came job_state deadline = record {
   listeners = facts.listeners;
   report = facts.report;
   deadline = deadline;
+  returns = returns;
 }
 
 pub by_case : (n : ℕ) (P Q : ℕ → Bool) → ((m : ℕ) → (m == n) ≡ false → P m ≡ Q m) → P n ≡ Q n → (m : ℕ) → P m ≡ Q m
@@ -98,20 +99,22 @@ module _ (k : Settings) (functions : queues.Table) (old : Table) (is_open : ℕ 
   pub own_queue : (queue functions f p).jobs ≡ queued name p facts
   own_queue = sym (ap (λ o. jobs_named o p functions) (named known f is.function)) ∙ holds.queues name p
 
-  module _ (came : List ℕ) (job_state : ℕ → JobState) (deadline : ℕ → Option ℕ) (after : queues.Table) (new : Table) (first : new.first ≡ old.first) (next : new.next ≡ old.next)
+  module _ (came : List ℕ) (job_state : ℕ → JobState) (deadline : ℕ → Option ℕ) (returns : ℕ → ℕ) (after : queues.Table) (new : Table) (first : new.first ≡ old.first) (next : new.next ≡ old.next)
       (came_same : (P : ℕ → Bool) → length (filter P came) ≡ length (filter P facts.came))
       (state_off : (m : ℕ) → (m == n) ≡ false → job_state m ≡ facts.job_state m)
       (deadline_off : (m : ℕ) → (m == n) ≡ false → deadline m ≡ facts.deadline m)
+      (returns_off : (m : ℕ) → (m == n) ≡ false → returns m ≡ facts.returns m)
       (became : Option Live) (there : job new n ≡ became) (jobs_off : (m : ℕ) → (m == n) ≡ false → job new m ≡ job old m)
       (placed : place_or became true ≡ place_of (job_state n))
-      (lives : (l : Live) → became ≡ Some l → IsJob functions.names l (moved_facts facts came job_state deadline) is_open n)
+      (lives : (l : Live) → became ≡ Some l → IsJob functions.names l (moved_facts facts came job_state deadline returns) is_open n)
+      (counts_here : (l : Live) → became ≡ Some l → l.returns ≡ counted k.retries (returns n))
       (names_same : after.names ≡ functions.names)
       (others : (g : ℕ) (q : Priority) → is_queue f p g q ≡ false → queue after g q ≡ queue functions g q)
-      (others_came : (other : List ℕ) (q : Priority) → is_job_with other q (facts.job n) ≡ false → queued other q (moved_facts facts came job_state deadline) ≡ queued other q facts)
-      (own : (queue after f p).jobs ≡ queued name p (moved_facts facts came job_state deadline))
-      (own_room : (queue after f p).reserved ≡ length (queue after f p).jobs + running_with name p (moved_facts facts came job_state deadline)) where
+      (others_came : (other : List ℕ) (q : Priority) → is_job_with other q (facts.job n) ≡ false → queued other q (moved_facts facts came job_state deadline returns) ≡ queued other q facts)
+      (own : (queue after f p).jobs ≡ queued name p (moved_facts facts came job_state deadline returns))
+      (own_room : (queue after f p).reserved ≡ length (queue after f p).jobs + running_with name p (moved_facts facts came job_state deadline returns)) where
     abbrev now : JobFacts
-    now = moved_facts facts came job_state deadline
+    now = moved_facts facts came job_state deadline returns
 
     runs_off : (other : List ℕ) (q : Priority) (m : ℕ) → (m == n) ≡ false → runs_with other q facts m ≡ runs_with other q now m
     runs_off other q m e = ap (λ s. is_running s && is_job_with other q (facts.job m)) (sym (state_off m e))
@@ -179,6 +182,10 @@ module _ (k : Settings) (functions : queues.Table) (old : Table) (is_open : ℕ 
         let was = holds.live m l (sym (jobs_off m e) ∙ g) in
         record { function = was.function; job = was.job; job_state = state_off m e ∙ was.job_state; kept = was.kept; listeners = was.listeners; report = was.report; deadline = deadline_off m e ∙ was.deadline; heard = was.heard }
 
+    counts_now : (m : ℕ) (t : Bool) → (m == n) ≡ t → (l : Live) → job new m ≡ Some l → l.returns ≡ counted k.retries (returns m)
+    counts_now m true e l g = subst (λ x. l.returns ≡ counted k.retries (returns x)) (same_is m e) (counts_here l (sym there ∙ subst (λ x. job new x ≡ Some l) (sym (same_is m e)) g))
+    counts_now m false e l g = holds.counts m l (sym (jobs_off m e) ∙ g) ∙ ap (counted k.retries) (sym (returns_off m e))
+
     pub jobs_moved : HoldsJobs k after new is_open now
     jobs_moved = record {
       first = first ∙ holds.first;
@@ -190,6 +197,7 @@ module _ (k : Settings) (functions : queues.Table) (old : Table) (is_open : ℕ 
       numbered = λ m l e. numbered_now m (m == n) refl l e;
       places = λ m. places_now m (m == n) refl;
       live = λ m l e. subst (λ (names : List (List ℕ)). IsJob names l now is_open m) (sym names_same) (live_now m (m == n) refl l e);
+      counts = λ m l e. counts_now m (m == n) refl l e;
       queues = λ other q. ap (λ o. jobs_named o q after) (number_same other) ∙ named_queue other q (number_of other functions) refl;
       room = λ g q inside.
           let here = subst (λ (l : List (List ℕ)). g < length l) names_same inside in

@@ -123,6 +123,7 @@ jobs_limited {k} {table} {live} {is_open} {facts} limits holds = record {
   numbered = holds.numbered;
   places = holds.places;
   live = holds.live;
+  counts = holds.counts;
   queues = λ name p. jobs_stay table limits (number_of name table) p ∙ holds.queues name p;
   room = holds.room;
 }

@@ -44,6 +44,7 @@ live_one : (f : List ℕ) (at : JobState) (o : Option Job) → one (is_live at &
 live_one f states.Unmade o = refl
 live_one f states.Waiting o = let e = of_job f o in omega (arith, e)
 live_one f (states.Running c) o = let e = of_job f o in omega (arith, e)
+live_one f states.Lost o = let e = of_job f o in omega (arith, e)
 live_one f states.Ended o = refl
 live_one f states.Discarded o = refl
 

@@ -3,34 +3,37 @@ use Rattle.std.proofs.Common.{◌≡◌, ℕ, suc, ◌+◌, ◌≤◌, Bool, tru
 use Rattle.std.proofs.Common.{◌++◌, length, filter, count_by, Contains, Option, Some, None, refl, sym, ap, subst, ◌∙◌, arith}
 use Rattle.std.proofs.Common.{length-append}
 use Rattle.std.specs.Option.{option_map, option_map_or}
-use Rattle.std.specs.Prelude.{slice_index, slice_get, is_some}
+use Rattle.std.specs.Prelude.{slice_index, slice_get, nat_le}
 use Rattle.std.proofs.lemmas.Bool.{false≢true}
 use Rattle.std.proofs.lemmas.Bool.Decides.{nat_tests}
 use Rattle.std.proofs.lemmas.List.{append-nil}
 use Rattle.std.proofs.lemmas.List.Elements.{filter-append}
 use Rattle.std.proofs.lemmas.List.Sums.{length-filter}
 use Rattle.gm_notes.specs.declared.note.Note.{Note}
-use Rattle.gm_notes.specs.declared.note.Note.TheVariants.{Discarded, Returned}
+use Rattle.gm_notes.specs.declared.note.Note.TheVariants.{Discarded, Returned, Lost}
 use Rattle.gm_notes.specs.declared.states.Priority.{Priority}
 use Rattle.gm_notes.specs.Settings.{Settings}
 use Rattle.gm_notes.specs.Notes.{moment, mode}
 use Rattle.gm_notes.specs.Flow.{Flow, waiting}
 use Rattle.gm_notes.specs.Past.{Past, with_note}
-use Rattle.gm_notes.specs.Jobs.{job_state, job as note_job, is_wanted, is_job_with}
+use Rattle.gm_notes.specs.Jobs.{job_state, job as note_job, is_wanted, is_job_with, is_last_try as is_last_try_of}
 use Rattle.gm_notes.specs.JobStates.{is_waiting, is_running, is_running_at}
 use Rattle.gm_notes.specs.JobStates as states
-use Rattle.gm_notes.specs.Closings.{give_back_one, wake_for}
+use Rattle.gm_notes.specs.Closings.{give_back_one, return_or_lose, wake_for}
 use Rattle.gm_queues.specs.Queues.{Queue, Leaves, without_reserved_one, with_job}
 use Rattle.gm_queues.specs.FunctionTables.{number_of, queue, is_queue, HasIdleRoom, ChangesQueue, ForgetsJob}
 use Rattle.gm_queues.specs.FunctionTables as queues
-use Rattle.gm_jobs.specs.Live.{Live, returned, is_at, is_run_by, is_orphan}
+use Rattle.gm_jobs.specs.declared.job.Stage.{Stage}
+use Rattle.gm_jobs.specs.declared.job.Stage.TheVariants.{Waiting, Running}
+use Rattle.gm_jobs.specs.declared.job.Stage.TheVariants as stages
+use Rattle.gm_jobs.specs.Live.{Live, lost, returned, given_back as handed_back, is_last_try, waits, runs_at, is_run_by, is_orphan}
 use Rattle.gm_jobs.specs.Tables.{Table, job, passes, Ends, Changes}
 use Rattle.gm_core.specs.declared.server.Core.{Core}
 use Rattle.gm_core.specs.Facts.{ConnFacts, FunctionFacts, JobFacts, conn_facts, function_facts, job_facts, waits_with}
 use Rattle.gm_core.specs.Facts.{runs_with, queued, running_with}
-use Rattle.gm_core.specs.Holds.{name_at, job_state_at, limit_named, HoldsConns, HoldsFunctions, HoldsJobs, IsJob, Holds, Keeps, Goes}
+use Rattle.gm_core.specs.Holds.{name_at, job_state_at, counted, limit_named, HoldsConns, HoldsFunctions, HoldsJobs, IsJob, Holds, Keeps, Goes}
 use Rattle.gm_core.proofs.ConnLemmas.{touched_same}
-use Rattle.gm_core.proofs.JobLemmas.{turned}
+use Rattle.gm_core.proofs.JobLemmas.{turned, state_waits, state_runs}
 use Rattle.gm_core.proofs.FunctionLemmas.{some_same}
 use Rattle.gm_core.proofs.OnceLemmas.{times, filter_alike, one_more, same_number}
 use Rattle.gm_core.proofs.CloseLemmas.{by_case, its_own, once_made, once_come, own_queue, jobs_moved, same_itself}
@@ -205,9 +208,9 @@ module _ (k : Settings) (functions : queues.Table) (old : Table) (is_open : ℕ 
   ended_off : (new : Table) → Ends n old new → (m : ℕ) → (m == n) ≡ false → job new m ≡ job old m
   ended_off new ends m e = ends.jobs m ∙ ap (λ t. if t then None else job old m) (turned m n false e)
 
-  module _ (waits : found.slot ≡ None) where
+  module _ (waiting : found.stage ≡ Waiting) where
     waited : job_state n notes ≡ states.Waiting
-    waited = is.job_state ∙ ap job_state_at waits
+    waited = is.job_state ∙ ap job_state_at waiting
 
     waits_passes : waits_with name p facts n ≡ true
     waits_passes = (λ i. is_waiting (waited i) && own_with i)
@@ -247,18 +250,21 @@ module _ (k : Settings) (functions : queues.Table) (old : Table) (is_open : ℕ 
         → (count_by (λ m. m == n) (queue functions f p).jobs ≡ 1 → (queue after f p).jobs ≡ filter (λ m. not (m == n)) (queue functions f p).jobs)
         → Ends n old new → HoldsJobs k after new is_open thrown
     jobs_discarded after new forgets left ends =
-        jobs_moved k functions old is_open facts names known holds n found at facts.came thrown.job_state thrown.deadline after new ends.first ends.next (λ P. refl) thrown_off (λ m e. refl)
-        None (ended_there new ends) (ended_off new ends) (rw thrown_now refl) (λ l e. absurd cc) forgets.names forgets.others others_thrown (left_queue after left) (left_room after forgets.left)
+        jobs_moved k functions old is_open facts names known holds n found at facts.came thrown.job_state thrown.deadline thrown.returns after new ends.first ends.next (λ P. refl) thrown_off (λ m e. refl) (λ m e. refl)
+        None (ended_there new ends) (ended_off new ends) (rw thrown_now refl) (λ l e. absurd cc) (λ l e. absurd cc) forgets.names forgets.others others_thrown (left_queue after left) (left_room after forgets.left)
 
-  module _ (c : ℕ) (runs : found.slot ≡ Some c) where
-    ran : job_state n notes ≡ states.Running c
-    ran = is.job_state ∙ ap job_state_at runs
+  module _ (runs : waits found.stage ≡ false) where
+    ran : is_running (job_state n notes) ≡ true
+    ran = ap is_running is.job_state ∙ (state_runs found.stage ∙ ap not runs)
+
+    waits_not_here : is_waiting (job_state n notes) ≡ false
+    waits_not_here = ap is_waiting is.job_state ∙ (state_waits found.stage ∙ runs)
 
     waits_was : (other : List ℕ) (q : Priority) → waits_with other q facts n ≡ false
-    waits_was other q = ap (λ s. is_waiting s && is_job_with other q (facts.job n)) ran
+    waits_was other q = ap (λ b. b && is_job_with other q (facts.job n)) waits_not_here
 
     runs_passes : runs_with name p facts n ≡ true
-    runs_passes = (λ i. is_running (ran i) && own_with i)
+    runs_passes = (λ i. ran i && own_with i)
 
     fewer : (now : JobFacts) → ((m : ℕ) → (m == n) ≡ false → runs_with name p facts m ≡ runs_with name p now m) → runs_with name p now n ≡ false
         → length (filter (runs_with name p facts) facts.made) ≡ length (filter (runs_with name p now) facts.made) + 1
@@ -294,8 +300,8 @@ module _ (k : Settings) (functions : queues.Table) (old : Table) (is_open : ℕ 
     pub jobs_released : (after : queues.Table) (new : Table) → ChangesQueue f p without_reserved_one functions after → Ends n old new → HoldsJobs k after new is_open thrown
     jobs_released after new changes ends =
         let changed = changed_own without_reserved_one after changes in
-        jobs_moved k functions old is_open facts names known holds n found at facts.came thrown.job_state thrown.deadline after new ends.first ends.next (λ P. refl) thrown_off (λ m e. refl)
-        None (ended_there new ends) (ended_off new ends) (rw thrown_now refl) (λ l e. absurd cc) changes.names (changed_others without_reserved_one after changes) others_thrown
+        jobs_moved k functions old is_open facts names known holds n found at facts.came thrown.job_state thrown.deadline thrown.returns after new ends.first ends.next (λ P. refl) thrown_off (λ m e. refl) (λ m e. refl)
+        None (ended_there new ends) (ended_off new ends) (rw thrown_now refl) (λ l e. absurd cc) (λ l e. absurd cc) changes.names (changed_others without_reserved_one after changes) others_thrown
         (ap (λ (x : Queue). x.jobs) changed ∙ (queue_is ∙ kept_queue)) (released_room after changed)
 
     -- ---- a running job waits again
@@ -334,13 +340,13 @@ module _ (k : Settings) (functions : queues.Table) (old : Table) (is_open : ℕ 
         let long = length-append (queue functions f p).jobs (n ∷ []) in
         rw changed (omega (arith, was, more, long))
 
-    returned_there : (new : Table) → Changes n returned old new → job new n ≡ Some (returned found)
-    returned_there new changes = changes.jobs n ∙ ((λ i. if itself i then option_map returned (at i) else at i))
+    handed_there : (new : Table) → Changes n (handed_back k.retries) old new → job new n ≡ Some (handed_back k.retries found)
+    handed_there new changes = changes.jobs n ∙ ((λ i. if itself i then option_map (handed_back k.retries) (at i) else at i))
 
-    returned_off : (new : Table) → Changes n returned old new → (m : ℕ) → (m == n) ≡ false → job new m ≡ job old m
-    returned_off new changes m e = changes.jobs m ∙ ap (λ t. if t then option_map returned (job old m) else job old m) (turned m n false e)
+    handed_off : (new : Table) → Changes n (handed_back k.retries) old new → (m : ℕ) → (m == n) ≡ false → job new m ≡ job old m
+    handed_off new changes m e = changes.jobs m ∙ ap (λ t. if t then option_map (handed_back k.retries) (job old m) else job old m) (turned m n false e)
 
-    returned_is : IsJob functions.names (returned found) back is_open n
+    returned_is : IsJob functions.names (returned k.retries found) back is_open n
     returned_is = record {
       function = is.function;
       job = is.job;
@@ -352,30 +358,100 @@ module _ (k : Settings) (functions : queues.Table) (old : Table) (is_open : ℕ 
       heard = is.heard;
     }
 
-    pub jobs_returned : (after : queues.Table) (new : Table) → ChangesQueue f p (with_job n) functions after → Changes n returned old new → HoldsJobs k after new is_open back
-    jobs_returned after new changes became =
+    counted_more : (limit was r : ℕ) → was ≡ counted limit r → (if limit == 0 then was else was + 1) ≡ counted limit (suc r)
+    counted_more limit was r e = by (limit == 0) e
+      where
+        by : (t : Bool) → was ≡ (if t then 0 else r) → (if t then was else was + 1) ≡ (if t then 0 else suc r)
+        by true e = e
+        by false e = omega (arith, e)
+
+    returned_counts : (returned k.retries found).returns ≡ counted k.retries (back.returns n)
+    returned_counts = rw itself (counted_more k.retries found.returns (facts.returns n) (holds.counts n found at))
+
+    pub jobs_returned : (after : queues.Table) (new : Table) → ChangesQueue f p (with_job n) functions after → is_last_try k.retries found ≡ false → Changes n (handed_back k.retries) old new
+        → HoldsJobs k after new is_open back
+    jobs_returned after new changes more became =
         let changed = changed_own (with_job n) after changes in
-        jobs_moved k functions old is_open facts names known holds n found at back.came back.job_state back.deadline after new became.first became.next (λ P. came_back n P facts.came once_too) back_off
-        (λ m e. rw e refl) (Some (returned found)) (returned_there new became) (returned_off new became) (rw back_now refl)
-        (λ l e. subst (λ (x : Live). IsJob functions.names x back is_open n) (some_same (returned found) l e) returned_is)
+        let there : job new n ≡ Some (returned k.retries found) = handed_there new became ∙ (λ i. Some (if more i then lost found else returned k.retries found)) in
+        jobs_moved k functions old is_open facts names known holds n found at back.came back.job_state back.deadline back.returns after new became.first became.next (λ P. came_back n P facts.came once_too) back_off
+        (λ m e. rw e refl) (λ m e. rw e refl) (Some (returned k.retries found)) there (handed_off new became) (rw back_now refl)
+        (λ l e. subst (λ (x : Live). IsJob functions.names x back is_open n) (some_same (returned k.retries found) l e) returned_is)
+        (λ l e. subst (λ (x : Live). x.returns ≡ counted k.retries (back.returns n)) (some_same (returned k.retries found) l e) returned_counts)
         changes.names (changed_others (with_job n) after changes) others_back
         (ap (λ (x : Queue). x.jobs) changed ∙ (ap (λ (l : List ℕ). l ++ n ∷ []) queue_is ∙ sym back_queue)) (back_room after changed)
 
+    -- ---- a running job is lost
+
+    abbrev gone : JobFacts
+    gone = job_facts (Lost n ∷ notes)
+
+    gone_off : (m : ℕ) → (m == n) ≡ false → gone.job_state m ≡ facts.job_state m
+    gone_off m e = rw e refl
+
+    gone_now : gone.job_state n ≡ states.Lost
+    gone_now = rw itself refl
+
+    gone_waits : (other : List ℕ) (q : Priority) → queued other q gone ≡ queued other q facts
+    gone_waits other q =
+        sym (filter_alike (waits_with other q facts) (waits_with other q gone) facts.came (by_case n (waits_with other q facts) (waits_with other q gone)
+        (λ m e. ap (λ s. is_waiting s && is_job_with other q (facts.job m)) (sym (gone_off m e)))
+        (waits_was other q ∙ sym (ap (λ s. is_waiting s && is_job_with other q (facts.job n)) gone_now))))
+
+    gone_runs : (other : List ℕ) (q : Priority) → running_with other q facts ≡ running_with other q gone
+    gone_runs other q =
+        ap (λ (l : List ℕ). length l) (filter_alike (runs_with other q facts) (runs_with other q gone) facts.made (by_case n (runs_with other q facts) (runs_with other q gone)
+        (λ m e. ap (λ s. is_running s && is_job_with other q (facts.job m)) (sym (gone_off m e)))
+        (ap (λ b. b && is_job_with other q (facts.job n)) ran ∙ sym (ap (λ s. is_running s && is_job_with other q (facts.job n)) gone_now))))
+
+    lost_is : IsJob functions.names (lost found) gone is_open n
+    lost_is = record {
+      function = is.function;
+      job = is.job;
+      job_state = gone_now;
+      kept = is.kept;
+      listeners = is.listeners;
+      report = is.report;
+      deadline = rw itself refl;
+      heard = is.heard;
+    }
+
+    -- it keeps its place at its queue
+    pub jobs_lost : (new : Table) → is_last_try k.retries found ≡ true → Changes n (handed_back k.retries) old new → HoldsJobs k functions new is_open gone
+    jobs_lost new last became =
+        let there : job new n ≡ Some (lost found) = handed_there new became ∙ (λ i. Some (if last i then lost found else returned k.retries found)) in
+        jobs_moved k functions old is_open facts names known holds n found at facts.came gone.job_state gone.deadline gone.returns functions new became.first became.next (λ P. refl) gone_off
+        (λ m e. rw e refl) (λ m e. refl) (Some (lost found)) there (handed_off new became) (rw gone_now refl)
+        (λ l e. subst (λ (x : Live). IsJob functions.names x gone is_open n) (some_same (lost found) l e) lost_is)
+        (λ l e. subst (λ (x : Live). x.returns ≡ counted k.retries (facts.returns n)) (some_same (lost found) l e) (holds.counts n found at))
+        refl (λ g q e. refl) (λ other q e. gone_waits other q) (queue_is ∙ sym (gone_waits name p))
+        (holds.room f p is.function ∙ ap (λ x. length (queue functions f p).jobs + x) (gone_runs name p))
+
+  -- ---- its last try
+
+  pub last_try_is : is_last_try_of k n notes ≡ is_last_try k.retries found
+  last_try_is = by (k.retries == 0) (holds.counts n found at)
+    where
+      by : (t : Bool) → found.returns ≡ (if t then 0 else facts.returns n) → (not t && nat_le k.retries (facts.returns n + 1)) ≡ (not t && nat_le k.retries (found.returns + 1))
+      by true e = refl
+      by false e = ap (λ (x : ℕ). nat_le k.retries (x + 1)) (sym e)
+
 -- ---- what a job is
 
-pub orphan_waits : (live : Live) → is_orphan live ≡ true → live.slot ≡ None
-orphan_waits live e = by live.slot e
+pub orphan_waits : (live : Live) → is_orphan live ≡ true → live.stage ≡ Waiting
+orphan_waits live e = by live.stage e
   where
-    by : (o : Option ℕ) → (not (is_some o) && not live.kept && length live.listeners == 0) ≡ true → o ≡ None
-    by None e = refl
-    by (Some c) e = absurd (false≢true e)
+    by : (s : Stage) → (waits s && not live.kept && length live.listeners == 0) ≡ true → s ≡ Waiting
+    by Waiting e = refl
+    by (Running c) e = absurd (false≢true e)
+    by stages.Lost e = absurd (false≢true e)
 
-pub run_there : (slot : ℕ) (live : Live) → is_run_by slot live ≡ true → live.slot ≡ Some slot
-run_there slot live e = by live.slot e
+pub run_there : (slot : ℕ) (live : Live) → is_run_by slot live ≡ true → live.stage ≡ Running slot
+run_there slot live e = by live.stage e
   where
-    by : (o : Option ℕ) → is_at slot o ≡ true → o ≡ Some slot
-    by None e = absurd (false≢true e)
-    by (Some c) e = ap (λ (x : ℕ). Some x) (same_number c slot e)
+    by : (s : Stage) → runs_at slot s ≡ true → s ≡ Running slot
+    by Waiting e = absurd (false≢true e)
+    by (Running c) e = ap (λ (x : ℕ). Running x) (same_number c slot e)
+    by stages.Lost e = absurd (false≢true e)
 
 -- ---- jobs and queues of a core that changed
 
@@ -454,8 +530,7 @@ module _ (k : Settings) (functions : queues.Table) (table : Table) (is_open : �
   wanted_so slot (Some live) at runs = wanted_is live at
 
 module _ (core : Core) (past : Past) (keeps : Keeps core past) (slot n : ℕ) (runs : passes (is_run_by slot) (job core.jobs n) ≡ true) where
-  pub given_back : option_map_or is_wanted_live (job core.jobs n) false ≡ true
-      → wake_for core.config (note_job n past.notes) (with_note (Returned n) past) ≡ give_back_one core.config slot n past
+  pub given_back : option_map_or is_wanted_live (job core.jobs n) false ≡ true → return_or_lose core.config n past ≡ give_back_one core.config slot n past
   given_back wants =
       let running = runs_is core.config core.functions core.jobs (conn_facts past.notes).is_open past.notes keeps.jobs n slot (job core.jobs n) refl runs in
       let wanted : is_wanted n past.notes ≡ true = wanted_so core.config core.functions core.jobs (conn_facts past.notes).is_open past.notes keeps.jobs n slot (job core.jobs n) refl runs ∙ wants in

@@ -1,5 +1,5 @@
 -- How the table of jobs holds the facts of jobs, after one of them changes.
-use Rattle.std.proofs.Common.{◌≡◌, ◌≢◌, ℕ, zero, suc, ◌+◌, ◌<◌, ◌≤◌, ◌^◌, Bool, true, false, ◌==◌, nat_le, nat_lt}
+use Rattle.std.proofs.Common.{◌≡◌, ◌≢◌, ℕ, zero, suc, ◌+◌, ◌<◌, ◌≤◌, ◌^◌, Bool, true, false, not, ◌==◌, nat_le, nat_lt}
 use Rattle.std.proofs.Common.{if◌then◌else◌, List, [], ◌∷◌, ◌++◌, length, find, filter, Option, Some, None, refl, sym, ap}
 use Rattle.std.proofs.Common.{subst, ◌∙◌, arith}
 use Rattle.std.specs.Option.{option_map}
@@ -13,14 +13,16 @@ use Rattle.gm_notes.specs.declared.note.Note.TheVariants.{Kept, Listens}
 use Rattle.gm_notes.specs.declared.states.Priority.{Priority}
 use Rattle.gm_notes.specs.Settings.{Settings}
 use Rattle.gm_notes.specs.Jobs.{is_live_named, joins, joined, made, job_state, is_kept, listeners}
-use Rattle.gm_notes.specs.JobStates.{JobState, is_live, place_of}
+use Rattle.gm_notes.specs.JobStates.{JobState, is_waiting, is_running, is_live, place_of}
 use Rattle.gm_notes.specs.JobStates as states
 use Rattle.gm_queues.specs.FunctionTables.{number_of}
 use Rattle.gm_queues.specs.FunctionTables as queues
-use Rattle.gm_jobs.specs.Live.{Live, kept, with_listener, is_named, place_at}
+use Rattle.gm_jobs.specs.declared.job.Stage.{Stage}
+use Rattle.gm_jobs.specs.declared.job.Stage.TheVariants.{Waiting, Running, Lost}
+use Rattle.gm_jobs.specs.Live.{Live, kept, with_listener, is_named, place_at, waits}
 use Rattle.gm_jobs.specs.Tables.{Table, job, place_or, is_made, passes, IsNamed, Changes}
 use Rattle.gm_core.specs.Facts.{JobFacts, function_facts, job_facts, queued, running_with}
-use Rattle.gm_core.specs.Holds.{name_at, job_state_at, numbers_down, AreOpen, HoldsFunctions, HoldsJobs, IsJob}
+use Rattle.gm_core.specs.Holds.{name_at, job_state_at, counted, numbers_down, AreOpen, HoldsFunctions, HoldsJobs, IsJob}
 use Rattle.gm_core.proofs.FunctionLemmas.{apart, number_is, some_same, unknown}
 use Rattle.gm_queues.proofs.PositionLemmas.{position-within}
 
@@ -29,9 +31,24 @@ turned n m t e = grind (arith, nat_tests)
 
 -- ---- a job changes in what its place and its queue don't depend on
 
-stays_at : (change : Live → Live) → ((l : Live) → (change l).slot ≡ l.slot) → (t made : Bool) (o : Option Live) → place_or (if t then option_map change o else o) made ≡ place_or o made
+-- where a job is, as the table tells it
+pub state_waits : (s : Stage) → is_waiting (job_state_at s) ≡ waits s
+state_waits Waiting = refl
+state_waits (Running c) = refl
+state_waits Lost = refl
+
+pub state_runs : (s : Stage) → is_running (job_state_at s) ≡ not (waits s)
+state_runs Waiting = refl
+state_runs (Running c) = refl
+state_runs Lost = refl
+
+-- what a change that is quiet leaves of a job
+abbrev pub left_alone : Live → Stage × ℕ
+left_alone l = (l.stage, l.returns)
+
+stays_at : (change : Live → Live) → ((l : Live) → left_alone (change l) ≡ left_alone l) → (t made : Bool) (o : Option Live) → place_or (if t then option_map change o else o) made ≡ place_or o made
 stays_at change same true made None = refl
-stays_at change same true made (Some l) = ap place_at (same l)
+stays_at change same true made (Some l) = ap (λ (x : Stage × ℕ). place_at x.0) (same l)
 stays_at change same false made o = refl
 
 -- a job that was live, and what became of it
@@ -50,7 +67,7 @@ pub made_same : (old new : Table) (n : ℕ) → new.first ≡ old.first → new.
 made_same old new n first next = rw (first, next) refl
 
 module _ {k : Settings} {functions : queues.Table} {old new : Table} {is_open : ℕ → Bool} {facts now : JobFacts} (n : ℕ) (change : Live → Live) (changes : Changes n change old new)
-    (slot : (l : Live) → (change l).slot ≡ l.slot) (made : now.made ≡ facts.made) (came : now.came ≡ facts.came) (job_state : now.job_state ≡ facts.job_state) (job_is : now.job ≡ facts.job)
+    (same : (l : Live) → left_alone (change l) ≡ left_alone l) (made : now.made ≡ facts.made) (came : now.came ≡ facts.came) (job_state : now.job_state ≡ facts.job_state) (job_is : now.job ≡ facts.job) (returns : now.returns ≡ facts.returns)
     (each : (m : ℕ) (l : Live) → IsJob functions.names l facts is_open m → IsJob functions.names (if n == m then change l else l) now is_open m) where
   pub quietly : HoldsJobs k functions old is_open facts → HoldsJobs k functions new is_open now
   quietly holds = record {
@@ -65,16 +82,23 @@ module _ {k : Settings} {functions : queues.Table} {old new : Table} {is_open : 
         made_same old new m changes.first changes.next ∙ holds.numbered m was.before was.is;
     places = λ m.
         ap (λ o. place_or o (is_made new m)) (changes.jobs m)
-        ∙ (stays_at change slot (n == m) (is_made new m) (job old m)
+        ∙ (stays_at change same (n == m) (is_made new m) (job old m)
         ∙ (ap (place_or (job old m)) (made_same old new m changes.first changes.next)
         ∙ (holds.places m ∙ ap (λ (f : ℕ → JobState). place_of (f m)) (sym job_state))));
     live = λ m found e.
         let was = was_live change (n == m) (job old m) found (sym (changes.jobs m) ∙ e) in
         subst (λ (l : Live). IsJob functions.names l now is_open m) was.became (each m was.before (holds.live m was.before was.is));
+    counts = λ m found e.
+        let was = was_live change (n == m) (job old m) found (sym (changes.jobs m) ∙ e) in
+        ap (λ (l : Live). l.returns) (sym was.became) ∙ (still (n == m) was.before ∙ (holds.counts m was.before was.is ∙ ap (λ (r : ℕ → ℕ). counted k.retries (r m)) (sym returns)));
     queues = λ name p. holds.queues name p ∙ same_queue name p;
     room = λ f p within. holds.room f p within ∙ ap (λ x. length (queues.queue functions f p).jobs + x) (same_running (name_at functions.names f) p);
   }
     where
+      still : (t : Bool) (l : Live) → (if t then change l else l).returns ≡ l.returns
+      still true l = ap (λ (x : Stage × ℕ). x.1) (same l)
+      still false l = refl
+
       same_queue : (name : List ℕ) (p : Priority) → queued name p facts ≡ queued name p now
       same_queue name p = λ j. queued name p (record facts { came = sym came j; job_state = sym job_state j; job = sym job_is j })
 
@@ -111,12 +135,15 @@ module _ (k : Settings) (functions : queues.Table) (table : Table) (notes : List
   not_live false states.Waiting e = absurd cc
   not_live true (states.Running c) e = absurd cc
   not_live false (states.Running c) e = absurd cc
+  not_live true states.Lost e = absurd cc
+  not_live false states.Lost e = absurd cc
   not_live t states.Ended e = refl
   not_live t states.Discarded e = refl
 
-  live_at : (o : Option ℕ) → is_live (job_state_at o) ≡ true
-  live_at None = refl
-  live_at (Some c) = refl
+  live_at : (s : Stage) → is_live (job_state_at s) ≡ true
+  live_at Waiting = refl
+  live_at (Running c) = refl
+  live_at Lost = refl
 
   -- the table names a live job where the past does
   named_so : (f : ℕ) (name unique : List ℕ) (m : ℕ) (o : Option Live) → number_of name functions ≡ Some f → job table m ≡ o
@@ -126,7 +153,7 @@ module _ (k : Settings) (functions : queues.Table) (table : Table) (notes : List
       rw dead refl
   named_so f name unique m (Some found) number e =
       let is = holds.live m found e in
-      let lives : is_live (job_state m notes) ≡ true = ap is_live is.job_state ∙ live_at found.slot in
+      let lives : is_live (job_state m notes) ≡ true = ap is_live is.job_state ∙ live_at found.stage in
       let within = position-within (bytes_eq name) functions.names f number in
       let same : bytes_eq (name_at functions.names found.function) name ≡ (found.function == f) =
       ap (bytes_eq (name_at functions.names found.function)) (sym (number_is name functions f number)) ∙ apart known found.function f is.function within in
@@ -139,7 +166,7 @@ module _ (k : Settings) (functions : queues.Table) (table : Table) (notes : List
       rw dead refl
   named_none name unique m (Some found) number e =
       let is = holds.live m found e in
-      let lives : is_live (job_state m notes) ≡ true = ap is_live is.job_state ∙ live_at found.slot in
+      let lives : is_live (job_state m notes) ≡ true = ap is_live is.job_state ∙ live_at found.stage in
       let other = unknown known name found.function number is.function in
       rw (lives, is.job, other) refl
 
@@ -212,7 +239,7 @@ kept_each names notes is_open n m false l e is =
 pub jobs_kept : {k : Settings} {functions : queues.Table} {old new : Table} {is_open : ℕ → Bool} (notes : List Note) (n : ℕ) → Changes n kept old new
     → HoldsJobs k functions old is_open (job_facts notes) → HoldsJobs k functions new is_open (job_facts (Kept n ∷ notes))
 jobs_kept {k} {functions} {old} {new} {is_open} notes n changes holds =
-    quietly {facts = job_facts notes} {now = job_facts (Kept n ∷ notes)} n kept changes (λ l. refl) refl refl refl refl (λ m l is. kept_each functions.names notes is_open n m (n == m) l refl is) holds
+    quietly {facts = job_facts notes} {now = job_facts (Kept n ∷ notes)} n kept changes (λ l. refl) refl refl refl refl refl (λ m l is. kept_each functions.names notes is_open n m (n == m) l refl is) holds
 
 open_more : (is_open : ℕ → Bool) (c : ℕ) (slots : List ℕ) → is_open c ≡ true → AreOpen is_open slots → AreOpen is_open (slots ++ c ∷ [])
 open_more is_open c [] opened all = (opened, tt)
@@ -236,5 +263,5 @@ listens_each names notes is_open c n m false l e opened is =
 pub jobs_listen : {k : Settings} {functions : queues.Table} {old new : Table} {is_open : ℕ → Bool} (notes : List Note) (n c : ℕ) → Changes n (with_listener c) old new → is_open c ≡ true
     → HoldsJobs k functions old is_open (job_facts notes) → HoldsJobs k functions new is_open (job_facts (Listens n c ∷ notes))
 jobs_listen {k} {functions} {old} {new} {is_open} notes n c changes opened holds =
-    quietly {facts = job_facts notes} {now = job_facts (Listens n c ∷ notes)} n (with_listener c) changes (λ l. refl) refl refl refl refl
+    quietly {facts = job_facts notes} {now = job_facts (Listens n c ∷ notes)} n (with_listener c) changes (λ l. refl) refl refl refl refl refl
     (λ m l is. listens_each functions.names notes is_open c n m (n == m) l refl opened is) holds

@@ -84,6 +84,9 @@ jobs_closed k functions old new notes c leaves holds = record {
   live = λ m l e.
       let was = was_live (without_listener c) true (jobs.job old m) l (sym (leaves.jobs m) ∙ e) in
       subst (λ (x : Live). IsJob functions.names x (job_facts (Closed c ∷ notes)) (λ d. is_open d (Closed c ∷ notes)) m) was.became (each m was.before (holds.live m was.before was.is));
+  counts = λ m l e.
+      let was = was_live (without_listener c) true (jobs.job old m) l (sym (leaves.jobs m) ∙ e) in
+      ap (λ (x : Live). x.returns) (sym was.became) ∙ holds.counts m was.before was.is;
   queues = holds.queues;
   room = holds.room;
 }

@@ -80,6 +80,7 @@ running_one : (f : List ℕ) (at : JobState) (o : Option Job)
 running_one f states.Unmade o = refl
 running_one f states.Waiting o = refl
 running_one f (states.Running c) o = of_job f o
+running_one f states.Lost o = of_job f o
 running_one f states.Ended o = refl
 running_one f states.Discarded o = refl
 

@@ -17,7 +17,7 @@ use Rattle.gm_queues.specs.FunctionTables as queues
 use Rattle.gm_jobs.specs.Live.{Live, fresh, listed}
 use Rattle.gm_jobs.specs.Tables.{Table, job, place_or, is_made, Makes}
 use Rattle.gm_core.specs.Facts.{FunctionFacts, JobFacts, waits_with, runs_with, queued, running_with}
-use Rattle.gm_core.specs.Holds.{name_at, numbers_down, jobs_named, AreOpen, HoldsFunctions, HoldsJobs, IsJob}
+use Rattle.gm_core.specs.Holds.{name_at, counted, numbers_down, jobs_named, AreOpen, HoldsFunctions, HoldsJobs, IsJob}
 use Rattle.gm_core.proofs.FunctionLemmas.{apart, unknown, number_is, some_same}
 use Rattle.gm_queues.proofs.PositionLemmas.{position-within}
 
@@ -61,6 +61,7 @@ with_made n made_job is_kept slots facts = record {
   listeners = λ m. if m == n then slots else facts.listeners m;
   report = λ m. if m == n then (codes "0", codes "0") else facts.report m;
   deadline = λ m. if m == n then None else facts.deadline m;
+  returns = λ m. if m == n then 0 else facts.returns m;
 }
 
 module _ (k : Settings) (functions grown : queues.Table) (old new : Table) (is_open : ℕ → Bool) (facts : JobFacts) (names : FunctionFacts) (known : HoldsFunctions k functions names)
@@ -100,6 +101,16 @@ module _ (k : Settings) (functions grown : queues.Table) (old new : Table) (is_o
   each m false found e is =
       let was = holds.live m found is in
       record { function = was.function; job = rw e was.job; job_state = rw e was.job_state; kept = rw e was.kept; listeners = rw e was.listeners; report = rw e was.report; deadline = rw e was.deadline; heard = was.heard }
+
+  none_counted : (t : Bool) → ◌≡◌ {A = ℕ} 0 (if t then 0 else 0)
+  none_counted true = refl
+  none_counted false = refl
+
+  counts : (m : ℕ) (t : Bool) (found : Live) → (m == n) ≡ t → (if t then Some (fresh f p unique body is_kept listener) else job old m) ≡ Some found
+      → found.returns ≡ counted k.retries (now.returns m)
+  counts m true found e is =
+      subst (λ (l : Live). l.returns ≡ counted k.retries (now.returns m)) (some_same (fresh f p unique body is_kept listener) found is) (rw e (none_counted (k.retries == 0)))
+  counts m false found e is = rw e (holds.counts m found is)
 
   turned : (m : ℕ) → (n == m) ≡ (m == n)
   turned m = grind (arith, nat_tests)
@@ -197,6 +208,7 @@ module _ (k : Settings) (functions grown : queues.Table) (old new : Table) (is_o
     numbered = λ m found e. numbered m (m == n) found refl (sym (jobs_at m) ∙ e);
     places = λ m. ap (λ o. place_or o (is_made new m)) (jobs_at m) ∙ (placed m (m == n) refl);
     live = λ m found e. subst (λ (l : List (List ℕ)). IsJob l found now is_open m) (sym names_same) (each m (m == n) found refl (sym (jobs_at m) ∙ e));
+    counts = λ m found e. counts m (m == n) found refl (sym (jobs_at m) ∙ e);
     queues = λ name q. ap (λ o. jobs_named o q grown) (number_now name) ∙ named_queue name q (number_of name functions) refl;
     room = λ g q inside.
         let here = subst (λ (l : List (List ℕ)). g < length l) names_same inside in

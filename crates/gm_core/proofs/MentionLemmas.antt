@@ -146,6 +146,8 @@ module _ (k : Settings) (old new : Table) (name : List ℕ) (none : number_of na
     nobody : (t : Bool) (at : JobState) → place_or None t ≡ place_of at → is_running at ≡ true → ⊥
     nobody true (states.Running c) placed runs = cc
     nobody false (states.Running c) placed runs = cc
+    nobody true states.Lost placed runs = cc
+    nobody false states.Lost placed runs = cc
     nobody t states.Unmade placed runs = cc
     nobody t states.Waiting placed runs = cc
     nobody t states.Ended placed runs = cc
@@ -190,6 +192,7 @@ module _ (k : Settings) (old new : Table) (name : List ℕ) (none : number_of na
             deadline = is.deadline;
             heard = is.heard;
           };
+      counts = holds.counts;
       queues = λ g p. asked (λ o t. jobs_named o p t) [] refl refl (ap (λ (q : Queue). q.jobs) (free.queues p)) (λ f. ap (λ (q : Queue). q.jobs) (changes.queues f p)) g ∙ holds.queues g p;
       room = λ f p within. room f p within (cases_lt f (length old.names));
     }
@@ -266,6 +269,7 @@ module _ (k : Settings) (old new : Table) (same : Same old new) where
     numbered = holds.numbered;
     places = holds.places;
     live = λ n found e. subst (λ (l : List (List ℕ)). IsJob l found facts is_open n) (sym same.names) (holds.live n found e);
+    counts = holds.counts;
     queues = λ n p. ap (λ o. jobs_named o p new) (number_same n) ∙ (jobs_same (number_of n old) p ∙ holds.queues n p);
     room = λ f p within.
         let here : f < length old.names = subst (λ (l : List (List ℕ)). f < length l) same.names within in

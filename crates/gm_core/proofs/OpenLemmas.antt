@@ -149,6 +149,7 @@ jobs_opened k functions table before after facts more holds = record {
         deadline = is.deadline;
         heard = are_still_open before after more found.listeners is.heard;
       };
+  counts = holds.counts;
   queues = holds.queues;
   room = holds.room;
 }

@@ -1,5 +1,5 @@
 -- A running job that ends.
-use Rattle.std.proofs.Common.{◌≡◌, ℕ, ◌+◌, ◌<◌, ◌≤◌, ◌^◌, Bool, true, false, ◌&&◌, ◌==◌, nat_le, nat_lt, if◌then◌else◌, List}
+use Rattle.std.proofs.Common.{◌≡◌, ℕ, ◌+◌, ◌<◌, ◌≤◌, ◌^◌, Bool, true, false, not, ◌&&◌, ◌==◌, nat_le, nat_lt, if◌then◌else◌, List}
 use Rattle.std.proofs.Common.{◌∷◌, length, Option, Some, None, refl, sym, ap, subst, ◌∙◌, arith}
 use Rattle.std.specs.Str.{bytes_eq}
 use Rattle.std.proofs.lemmas.Bool.{and_parts}
@@ -16,17 +16,17 @@ use Rattle.gm_notes.specs.JobStates as states
 use Rattle.gm_queues.specs.Queues.{Queue, without_reserved_one}
 use Rattle.gm_queues.specs.FunctionTables.{number_of, queue, is_queue, ChangesQueue}
 use Rattle.gm_queues.specs.FunctionTables as queues
-use Rattle.gm_jobs.specs.Live.{Live}
+use Rattle.gm_jobs.specs.Live.{Live, waits}
 use Rattle.gm_jobs.specs.Tables.{Table, job, place_or, is_made, Ends}
 use Rattle.gm_core.specs.Facts.{FunctionFacts, JobFacts, job_facts, waits_with, runs_with, queued, running_with}
 use Rattle.gm_core.specs.Ticks.{OthersStay}
 use Rattle.gm_core.specs.Holds.{name_at, job_state_at, jobs_named, HoldsFunctions, HoldsJobs, IsJob}
 use Rattle.gm_core.proofs.FunctionLemmas.{apart}
-use Rattle.gm_core.proofs.JobLemmas.{made_same, turned}
+use Rattle.gm_core.proofs.JobLemmas.{made_same, turned, state_waits, state_runs}
 use Rattle.gm_core.proofs.OnceLemmas.{times, filter_alike, once_down, one_more}
 
 module _ (k : Settings) (functions freed : queues.Table) (old new : Table) (is_open : ℕ → Bool) (notes : List Note) (names : FunctionFacts) (known : HoldsFunctions k functions names)
-    (holds : HoldsJobs k functions old is_open (job_facts notes)) (n c : ℕ) (found : Live) (at : job old n ≡ Some found) (runs : found.slot ≡ Some c) where
+    (holds : HoldsJobs k functions old is_open (job_facts notes)) (n : ℕ) (found : Live) (at : job old n ≡ Some found) (runs : waits found.stage ≡ false) where
   abbrev facts : JobFacts
   facts = job_facts notes
 
@@ -45,8 +45,11 @@ module _ (k : Settings) (functions freed : queues.Table) (old new : Table) (is_o
   itself : (n == n) ≡ true
   itself = grind (arith, nat_tests)
 
-  ran : job_state n notes ≡ states.Running c
-  ran = is.job_state ∙ ap job_state_at runs
+  ran : is_running (job_state n notes) ≡ true
+  ran = ap is_running is.job_state ∙ (state_runs found.stage ∙ ap not runs)
+
+  waits_not : is_waiting (job_state n notes) ≡ false
+  waits_not = ap is_waiting is.job_state ∙ (state_waits found.stage ∙ runs)
 
   once_made : times n facts.made ≡ 1
   once_made =
@@ -74,10 +77,10 @@ module _ (k : Settings) (functions freed : queues.Table) (old new : Table) (is_o
 
   waits_was : (name : List ℕ) (q : Priority) → waits_with name q facts n ≡ waits_with name q now n
   waits_was name q =
-      ap (λ s. is_waiting s && is_job_with name q (facts.job n)) ran ∙ sym (ap (λ s. is_waiting s && is_job_with name q (facts.job n)) state_now)
+      ap (λ b. b && is_job_with name q (facts.job n)) waits_not ∙ sym (ap (λ s. is_waiting s && is_job_with name q (facts.job n)) state_now)
 
   runs_was : (name : List ℕ) (q : Priority) → runs_with name q facts n ≡ matches name q
-  runs_was name q = ap (λ s. is_running s && is_job_with name q (facts.job n)) ran ∙ ap (is_job_with name q) is.job
+  runs_was name q = ap (λ b. b && is_job_with name q (facts.job n)) ran ∙ ap (is_job_with name q) is.job
 
   runs_is : (name : List ℕ) (q : Priority) → runs_with name q now n ≡ false
   runs_is name q = ap (λ s. is_running s && is_job_with name q (facts.job n)) state_now
@@ -173,6 +176,9 @@ module _ (k : Settings) (functions freed : queues.Table) (old new : Table) (is_o
           let it = holds.live m l was.0 in
           subst (λ (all : List (List ℕ)). IsJob all l now is_open m) (sym frees.names)
           (record { function = it.function; job = it.job; job_state = state_off m was.1 ∙ it.job_state; kept = it.kept; listeners = it.listeners; report = it.report; deadline = it.deadline; heard = it.heard });
+      counts = λ m l e.
+          let was = still_live m l (n == m) refl (sym (ends.jobs m) ∙ e) in
+          holds.counts m l was.0;
       queues = λ name q. ap (λ o. jobs_named o q freed) (number_same name) ∙ (named_same (number_of name functions) q ∙ (holds.queues name q ∙ sym (same_queue name q)));
       room = λ g q inside.
           let here = subst (λ (l : List (List ℕ)). g < length l) frees.names inside in

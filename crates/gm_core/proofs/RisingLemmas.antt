@@ -1,7 +1,6 @@
 -- Loops over jobs in the order of their numbers, which pass over the jobs that they don't change.
 use Rattle.std.proofs.Common.{◌≡◌, ℕ, zero, suc, ◌+◌, ◌-◌, ◌<◌, ◌≤◌, Bool, true, false, not, ◌&&◌, ◌||◌, ◌==◌, nat_le, nat_lt}
 use Rattle.std.proofs.Common.{List, [], ◌∷◌, ◌++◌, length, reverse, Option, Some, None, refl, sym, ap, subst, ◌∙◌, arith}
-use Rattle.std.specs.Prelude.{is_some}
 use Rattle.std.proofs.lemmas.Bool.{false≢true, and_parts}
 use Rattle.std.proofs.lemmas.Bool.Decides.{nat_tests}
 use Rattle.std.proofs.lemmas.Grind.{reverse_onto}
@@ -13,7 +12,9 @@ use Rattle.gm_notes.specs.JobStates.{JobState, is_waiting, is_running_at, place_
 use Rattle.gm_notes.specs.JobStates as states
 use Rattle.gm_notes.specs.Past.{Past, with_note}
 use Rattle.gm_notes.specs.Closings.{discard_one, give_back_one, rising}
-use Rattle.gm_jobs.specs.Live.{Live, is_at, is_run_by, is_orphan}
+use Rattle.gm_jobs.specs.declared.job.Stage.{Stage}
+use Rattle.gm_jobs.specs.declared.job.Stage.TheVariants.{Waiting, Running, Lost}
+use Rattle.gm_jobs.specs.Live.{Live, waits, runs_at, is_run_by, is_orphan}
 use Rattle.gm_jobs.specs.Tables.{job, passes, place_or, is_made, IsNext, IsLast}
 use Rattle.gm_core.specs.declared.server.Core.{Core}
 use Rattle.gm_core.specs.Holds.{numbers_down, job_state_at, Keeps}
@@ -127,37 +128,42 @@ dead c true states.Waiting e = absurd cc
 dead c false states.Waiting e = absurd cc
 dead c true (states.Running d) e = absurd cc
 dead c false (states.Running d) e = absurd cc
+dead c true states.Lost e = absurd cc
+dead c false states.Lost e = absurd cc
 dead c t states.Ended e = (refl, refl)
 dead c t states.Discarded e = (refl, refl)
 
-not_orphan : (live : Live) → is_orphan live ≡ false → (is_waiting (job_state_at live.slot) && not (live.kept || not (length live.listeners == 0))) ≡ false
-not_orphan live e = by live.slot live.kept (length live.listeners == 0) e
+not_orphan : (live : Live) → is_orphan live ≡ false → (is_waiting (job_state_at live.stage) && not (live.kept || not (length live.listeners == 0))) ≡ false
+not_orphan live e = by live.stage live.kept (length live.listeners == 0) e
   where
-    by : (o : Option ℕ) (b t : Bool) → (not (is_some o) && not b && t) ≡ false → (is_waiting (job_state_at o) && not (b || not t)) ≡ false
-    by (Some c) b t e = refl
-    by None true t e = refl
-    by None false false e = refl
-    by None false true e = absurd (false≢true (sym e))
+    by : (s : Stage) (b t : Bool) → (waits s && not b && t) ≡ false → (is_waiting (job_state_at s) && not (b || not t)) ≡ false
+    by (Running c) b t e = refl
+    by Lost b t e = refl
+    by Waiting true t e = refl
+    by Waiting false false e = refl
+    by Waiting false true e = absurd (false≢true (sym e))
 
-an_orphan : (live : Live) → is_orphan live ≡ true → (is_waiting (job_state_at live.slot) && not (live.kept || not (length live.listeners == 0))) ≡ true
-an_orphan live e = by live.slot live.kept (length live.listeners == 0) e
+an_orphan : (live : Live) → is_orphan live ≡ true → (is_waiting (job_state_at live.stage) && not (live.kept || not (length live.listeners == 0))) ≡ true
+an_orphan live e = by live.stage live.kept (length live.listeners == 0) e
   where
-    by : (o : Option ℕ) (b t : Bool) → (not (is_some o) && not b && t) ≡ true → (is_waiting (job_state_at o) && not (b || not t)) ≡ true
-    by (Some c) b t e = absurd (false≢true e)
-    by None true t e = absurd (false≢true e)
-    by None false false e = absurd (false≢true e)
-    by None false true e = refl
+    by : (s : Stage) (b t : Bool) → (waits s && not b && t) ≡ true → (is_waiting (job_state_at s) && not (b || not t)) ≡ true
+    by (Running c) b t e = absurd (false≢true e)
+    by Lost b t e = absurd (false≢true e)
+    by Waiting true t e = absurd (false≢true e)
+    by Waiting false false e = absurd (false≢true e)
+    by Waiting false true e = refl
 
-not_run : (c : ℕ) (live : Live) → is_run_by c live ≡ false → is_running_at c (job_state_at live.slot) ≡ false
-not_run c live e = by live.slot e
+not_run : (c : ℕ) (live : Live) → is_run_by c live ≡ false → is_running_at c (job_state_at live.stage) ≡ false
+not_run c live e = by live.stage e
   where
-    by : (o : Option ℕ) → is_at c o ≡ false → is_running_at c (job_state_at o) ≡ false
-    by None e = refl
-    by (Some d) e = turned d c false e
+    by : (s : Stage) → runs_at c s ≡ false → is_running_at c (job_state_at s) ≡ false
+    by Waiting e = refl
+    by Lost e = refl
+    by (Running d) e = turned d c false e
 
 module _ (core : Core) (past : Past) (keeps : Keeps core past) (n : ℕ) where
   wanted_at : (live : Live) → job core.jobs n ≡ Some live
-      → (is_waiting (job_state n past.notes) && not (is_wanted n past.notes)) ≡ (is_waiting (job_state_at live.slot) && not (live.kept || not (length live.listeners == 0)))
+      → (is_waiting (job_state n past.notes) && not (is_wanted n past.notes)) ≡ (is_waiting (job_state_at live.stage) && not (live.kept || not (length live.listeners == 0)))
   wanted_at live at =
       let is = keeps.jobs.live n live at in
       (λ i. is_waiting (is.job_state i) && not (is.kept i || not (length (is.listeners i) == 0)))

@@ -36,6 +36,7 @@ holds_nothing k table slots ends fits positive = record {
     numbered = λ n found at. absurd cc;
     places = λ n. ap (place_or None) (none_made k.first_job n);
     live = λ n found at. absurd cc;
+    counts = λ n found at. absurd cc;
     queues = λ name p. refl;
     room = λ f p h. absurd (omega (arith, h));
   };

@@ -1,7 +1,7 @@
 -- Ticks, and jobs whose deadlines are reached.
 use Rattle.std.proofs.Common.{◌≡◌, ◌≢◌, ℕ, suc, ◌+◌, ◌<◌, ◌≤◌, Bool, true, false, ◌&&◌, List, [], ◌∷◌, ◌++◌, filter, length}
 use Rattle.std.proofs.Common.{drop, get_or, append_assoc, Option, Some, None, refl, sym, ap, subst, ◌∙◌, arith}
-use Rattle.std.specs.Prelude.{is_some, IsSome, max}
+use Rattle.std.specs.Prelude.{not, max}
 use Rattle.std.proofs.lemmas.Bool.{false≢true, and_parts}
 use Rattle.std.proofs.Math.Seq.{drop-cons}
 use Rattle.std.proofs.Math.Numerals.{add-one}
@@ -16,7 +16,7 @@ use Rattle.gm_notes.specs.Past.{Past, with_note, tell_all}
 use Rattle.gm_notes.specs.Closings.{is_reached, expire_one, expire_each, rising}
 use Rattle.gm_conns.specs.ConnTables.{conn}
 use Rattle.gm_conns.specs.ConnTables as conns
-use Rattle.gm_jobs.specs.Live.{Live, is_due, is_reached as is_past}
+use Rattle.gm_jobs.specs.Live.{Live, waits, is_due, is_reached as is_past}
 use Rattle.gm_jobs.specs.Tables.{Table, job, passes, place_or, is_made, listeners_of, IsNext}
 use Rattle.gm_core.specs.declared.server.Core.{Core}
 use Rattle.gm_core.specs.declared.server.ticking.Late.{Late}
@@ -25,6 +25,7 @@ use Rattle.gm_core.specs.Telling.{hears, needed, IsRunning, Roomed, Poured}
 use Rattle.gm_core.specs.Ticks.{AreLate, late_bytes, OthersStay}
 use Rattle.gm_actions.proofs.JobsMade.{expired_made}
 use Rattle.gm_core.proofs.ConnLemmas.{touched_same, touched_then}
+use Rattle.gm_core.proofs.JobLemmas.{state_runs}
 use Rattle.gm_core.proofs.TellLemmas.{hears_roomed}
 use Rattle.gm_core.proofs.RisingLemmas.{Rising, rising_begins, rising_on, rising_done}
 
@@ -34,31 +35,29 @@ reached_same : (now : ℕ) (o : Option ℕ) → is_reached o now ≡ is_past now
 reached_same now None = refl
 reached_same now (Some late) = refl
 
-runs_same : (o : Option ℕ) → is_running (job_state_at o) ≡ is_some o
-runs_same None = refl
-runs_same (Some c) = refl
-
 dead : (t : Bool) (at : JobState) → place_or None t ≡ place_of at → is_running at ≡ false
 dead t states.Unmade e = refl
 dead t states.Waiting e = refl
 dead true (states.Running d) e = absurd cc
 dead false (states.Running d) e = absurd cc
+dead true states.Lost e = absurd cc
+dead false states.Lost e = absurd cc
 dead t states.Ended e = refl
 dead t states.Discarded e = refl
 
 pub due_runs : (now : ℕ) (o : Option Live) → passes (is_due now) o ≡ true → IsRunning o
 due_runs now None e = absurd (false≢true e)
-due_runs now (Some live) e = by live.slot (and_parts (is_some live.slot) (is_past now live.deadline) e).0
+due_runs now (Some live) e = by (waits live.stage) (and_parts (not (waits live.stage)) (is_past now live.deadline) e).0
   where
-    by : (s : Option ℕ) → is_some s ≡ true → IsSome s
-    by None e = absurd (false≢true e)
-    by (Some d) e = refl
+    by : (t : Bool) → not t ≡ true → t ≡ false
+    by true e = absurd (false≢true e)
+    by false e = refl
 
 module _ (core : Core) (past : Past) (keeps : Keeps core past) (n : ℕ) where
   late_at : (live : Live) → job core.jobs n ≡ Some live → (is_running (job_state n past.notes) && is_reached (deadline n past.notes) (moment past.notes)) ≡ is_due core.moment live
   late_at live at =
       let is = keeps.jobs.live n live at in
-      (λ i. is_running (is.job_state i) && is_reached (is.deadline i) (sym keeps.moment i)) ∙ (λ i. runs_same live.slot i && reached_same core.moment live.deadline i)
+      (λ i. is_running (is.job_state i) && is_reached (is.deadline i) (sym keeps.moment i)) ∙ (λ i. state_runs live.stage i && reached_same core.moment live.deadline i)
 
   late_is : (is_running (job_state n past.notes) && is_reached (deadline n past.notes) (moment past.notes)) ≡ passes (is_due core.moment) (job core.jobs n)
   late_is = by (job core.jobs n) refl

@@ -20,12 +20,15 @@ use Rattle.gm_notes.specs.Workers.{Work, hearers, keep_report, end_if, tell_work
 use Rattle.gm_queues.specs.FunctionTables as queues
 use Rattle.gm_conns.specs.ConnTables.{conn}
 use Rattle.gm_conns.specs.ConnTables as conns
-use Rattle.gm_jobs.specs.Live.{Live, reported, place_at}
+use Rattle.gm_notes.specs.Places as places
+use Rattle.gm_jobs.specs.declared.job.Stage.{Stage}
+use Rattle.gm_jobs.specs.declared.job.Stage.TheVariants.{Waiting, Running, Lost}
+use Rattle.gm_jobs.specs.Live.{Live, reported, place_at, waits}
 use Rattle.gm_jobs.specs.Tables.{Table, job, place_or, listeners_of, Changes}
 use Rattle.gm_core.specs.declared.server.Core.{Core}
 use Rattle.gm_core.specs.Facts.{Seen, ConnFacts, conn_facts, function_facts, job_facts}
 use Rattle.gm_core.specs.Holds.{AllTouched, Goes, Does, AreOpen, HoldsConns, HoldsFunctions, HoldsJobs, IsJob}
-use Rattle.gm_core.specs.Telling.{Roomed, hears, poured, is_place_at, running_there, IsRunning}
+use Rattle.gm_core.specs.Telling.{Roomed, hears, poured, running_there, IsRunning}
 use Rattle.gm_core.proofs.TellLemmas.{touched_roomed, holds_roomed, poured_is, told_notes}
 use Rattle.gm_core.proofs.JobLemmas.{quietly, turned}
 use Rattle.gm_core.proofs.FunctionLemmas.{some_same}
@@ -35,10 +38,11 @@ use Rattle.gm_core.proofs.Running.{running}
 
 -- ---- where it runs
 
-pub place_there : (c : ℕ) (at : JobState) → is_place_at c (place_of at) ≡ is_running_at c at
+pub place_there : (c : ℕ) (at : JobState) → places.is_running_at c (place_of at) ≡ is_running_at c at
 place_there c states.Unmade = refl
 place_there c states.Waiting = refl
 place_there c (states.Running d) = refl
+place_there c states.Lost = refl
 place_there c states.Ended = refl
 place_there c states.Discarded = refl
 
@@ -62,7 +66,7 @@ reported_each names notes is_open n m a b false l e is =
 jobs_reported : {k : Settings} {functions : queues.Table} {old new : Table} {is_open : ℕ → Bool} (notes : List Note) (n : ℕ) (a b : List ℕ) → Changes n (reported a b) old new
     → HoldsJobs k functions old is_open (job_facts notes) → HoldsJobs k functions new is_open (job_facts (Report n a b ∷ notes))
 jobs_reported {k} {functions} {old} {new} {is_open} notes n a b changes holds =
-    quietly {facts = job_facts notes} {now = job_facts (Report n a b ∷ notes)} n (reported a b) changes (λ l. refl) refl refl refl refl
+    quietly {facts = job_facts notes} {now = job_facts (Report n a b ∷ notes)} n (reported a b) changes (λ l. refl) refl refl refl refl refl
     (λ m l is. reported_each functions.names notes is_open n m a b (n == m) l refl is) holds
 
 pub does_report : (old new : Core) (n : ℕ) (a b : List ℕ) (result : Result (Unit {0}) AllocError) → OnlyJobs old new
@@ -109,14 +113,15 @@ module _ (k : Settings) (table : conns.Table) (names : List (List ℕ)) (notes :
 
 -- ---- jobs that run
 
-pub runs_from : (c : ℕ) (o : Option Live) (made : Bool) → is_place_at c (place_or o made) ≡ true → IsRunning o
+pub runs_from : (c : ℕ) (o : Option Live) (made : Bool) → places.is_running_at c (place_or o made) ≡ true → IsRunning o
 runs_from c None true e = absurd (false≢true e)
 runs_from c None false e = absurd (false≢true e)
-runs_from c (Some l) made e = by l.slot e
+runs_from c (Some l) made e = by l.stage e
   where
-    by : (s : Option ℕ) → is_place_at c (place_at s) ≡ true → IsSome s
-    by None e = absurd (false≢true e)
-    by (Some d) e = refl
+    by : (s : Stage) → places.is_running_at c (place_at s) ≡ true → waits s ≡ false
+    by Waiting e = absurd (false≢true e)
+    by (Running d) e = refl
+    by Lost e = absurd (false≢true e)
 
 pub reported_runs : (old new : Table) (n : ℕ) (a b : List ℕ) (result : Result (Unit {0}) AllocError) → OnOk result (Changes n (reported a b) old new) → OnErr result (new ≡ old)
     → IsRunning (job old n) → IsRunning (job new n)

@@ -6,7 +6,7 @@ use Rattle.gm_notes.specs.declared.states.Priority.{Priority}
 use Rattle.gm_notes.specs.declared.note.Note.{Note}
 use Rattle.gm_notes.specs.Notes.{is_open, is_shut, has_option, phase, addr, id}
 use Rattle.gm_notes.specs.Jobs.{Ability, Job, abilities, functions, limit, made, as_they_came, job_state, is_job_with, job}
-use Rattle.gm_notes.specs.Jobs.{is_kept, listeners, report, deadline, last_function}
+use Rattle.gm_notes.specs.Jobs.{is_kept, listeners, report, deadline, returns, last_function}
 use Rattle.gm_notes.specs.JobStates.{JobState, is_waiting, is_running}
 
 -- what is known of the connection in a slot while it is open
@@ -57,6 +57,7 @@ pub record JobFacts : Type 0 where
   pub listeners : ℕ → List ℕ
   pub report : ℕ → List ℕ × List ℕ
   pub deadline : ℕ → Option ℕ
+  pub returns : ℕ → ℕ
 
 abbrev pub job_facts : List Note → JobFacts
 job_facts notes =
@@ -69,6 +70,7 @@ job_facts notes =
       listeners = λ n. listeners n notes;
       report = λ n. report n notes;
       deadline = λ n. deadline n notes;
+      returns = λ n. returns n notes;
     }
 
 -- the job waits, or runs, and is of this function and priority

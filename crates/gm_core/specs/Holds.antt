@@ -1,5 +1,5 @@
 -- What a core's tables hold, against the definitions.
-use Rattle.std.specs.Prelude.{◌≡◌, ℕ, zero, suc, ◌+◌, ◌<◌, ◌≤◌, ◌^◌, true, false, not, ◌&&◌, codes, List, [], ◌∷◌, length, map}
+use Rattle.std.specs.Prelude.{◌≡◌, ℕ, zero, suc, ◌+◌, ◌<◌, ◌≤◌, ◌^◌, true, false, not, ◌&&◌, ◌==◌, if◌then◌else◌, codes, List, [], ◌∷◌, length, map}
 use Rattle.std.specs.Prelude.{filter, slice_get, slice_index_or, Option, Some, None, Bool, Result}
 use Rattle.std.specs.Option.{unwrap_or, option_map}
 use Rattle.gm_notes.specs.declared.states.Priority.{Priority}
@@ -20,6 +20,8 @@ use Rattle.gm_conns.specs.ConnTables.{conn, is_touched}
 use Rattle.gm_conns.specs.ConnTables as conns
 use Rattle.gm_queues.specs.FunctionTables.{number_of, limit, queue}
 use Rattle.gm_queues.specs.FunctionTables as queues
+use Rattle.gm_jobs.specs.declared.job.Stage.{Stage}
+use Rattle.gm_jobs.specs.declared.job.Stage.TheVariants.{Waiting, Running, Lost}
 use Rattle.gm_jobs.specs.Live.{Live}
 use Rattle.gm_jobs.specs.Tables.{job, place, is_made, IsNamed}
 use Rattle.gm_jobs.specs.Tables as jobs
@@ -95,9 +97,14 @@ abbrev pub numbers_down : ℕ → ℕ → List ℕ
 numbers_down first zero = []
 numbers_down first (suc n) = (first + n) ∷ numbers_down first n
 
-abbrev pub job_state_at : Option ℕ → JobState
-job_state_at None = states.Waiting
-job_state_at (Some c) = states.Running c
+abbrev pub job_state_at : Stage → JobState
+job_state_at Waiting = states.Waiting
+job_state_at (Running c) = states.Running c
+job_state_at Lost = states.Lost
+
+-- how often a job came back, where that is counted: without a limit it isn't
+abbrev pub counted : ℕ → ℕ → ℕ
+counted limit returns = if limit == 0 then 0 else returns
 
 abbrev pub described : List (List ℕ) → Live → Job
 described names live = record { function = name_at names live.function; priority = live.priority; unique = live.unique; body = live.body }
@@ -111,7 +118,7 @@ AreOpen is_open (c ∷ slots) = (is_open c ≡ true) × AreOpen is_open slots
 pub record IsJob (names : List (List ℕ)) (live : Live) (facts : JobFacts) (is_open : ℕ → Bool) (n : ℕ) : Type 0 where
   pub function : live.function < length names
   pub job : facts.job n ≡ Some (described names live)
-  pub job_state : facts.job_state n ≡ job_state_at live.slot
+  pub job_state : facts.job_state n ≡ job_state_at live.stage
   pub kept : facts.kept n ≡ live.kept
   pub listeners : facts.listeners n ≡ live.listeners
   pub report : facts.report n ≡ unwrap_or live.report (codes "0", codes "0")
@@ -128,6 +135,7 @@ pub record HoldsJobs (k : Settings) (functions : queues.Table) (table : jobs.Tab
   pub numbered : (n : ℕ) (found : Live) → job table n ≡ Some found → is_made table n ≡ true
   pub places : (n : ℕ) → place table n ≡ place_of (facts.job_state n)
   pub live : (n : ℕ) (found : Live) → job table n ≡ Some found → IsJob functions.names found facts is_open n
+  pub counts : (n : ℕ) (found : Live) → job table n ≡ Some found → found.returns ≡ counted k.retries (facts.returns n)
   pub queues : (name : List ℕ) (p : Priority) → jobs_named (number_of name functions) p functions ≡ queued name p facts
   pub room : (f : ℕ) (p : Priority) → f < length functions.names
       → (queue functions f p).reserved ≡ length (queue functions f p).jobs + running_with (name_at functions.names f) p facts

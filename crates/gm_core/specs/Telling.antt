@@ -1,13 +1,10 @@
 -- What is told to several connections at once.
 use Rattle.std.specs.Prelude.{◌≡◌, ℕ, ◌+◌, ◌≤◌, Bool, not, ◌&&◌, ◌||◌, ◌==◌, if◌then◌else◌, List, [], ◌∷◌, ◌++◌, length, false}
 use Rattle.std.specs.Prelude.{Option, Some, None}
-use Rattle.gm_notes.specs.declared.states.Place.{Place}
-use Rattle.gm_notes.specs.declared.states.Place.TheVariants.{Unmade, Waiting, Running, Gone}
 use Rattle.gm_notes.specs.declared.note.Note.{Note}
 use Rattle.gm_notes.specs.Jobs.{job_state}
 use Rattle.gm_notes.specs.JobStates.{is_running_at}
-use Rattle.std.specs.Prelude.{IsSome}
-use Rattle.gm_jobs.specs.Live.{Live}
+use Rattle.gm_jobs.specs.Live.{Live, waits}
 use Rattle.gm_conns.specs.ConnTables.{Table, conn, is_touched}
 use Rattle.gm_core.specs.Holds.{AllTouched}
 
@@ -38,13 +35,6 @@ pub record Poured (count : ℕ) (slots : List ℕ) (old new : Table) : Type 0 wh
   pub room : (c : ℕ) → (conn old c).room ≤ (conn new c).room + needed count c slots
   pub touched : AllTouched old new
 
--- a job of this place runs at slot c
-abbrev pub is_place_at : ℕ → Place → Bool
-is_place_at c Unmade = false
-is_place_at c Waiting = false
-is_place_at c (Running d) = c == d
-is_place_at c Gone = false
-
 -- the job, if it runs at slot c
 abbrev pub running_there : ℕ → Option ℕ → List Note → Option ℕ
 running_there c None notes = None
@@ -53,4 +43,4 @@ running_there c (Some n) notes = if is_running_at c (job_state n notes) then Som
 -- a live job that runs
 abbrev pub IsRunning : Option Live → Type 0
 IsRunning None = ⊥
-IsRunning (Some live) = IsSome live.slot
+IsRunning (Some live) = waits live.stage ≡ false

@@ -6,16 +6,16 @@ ghost use Rattle.gm_notes.specs.declared.event.ApplyError.TheVariants.{Memory};
 ghost use Rattle.gm_notes.specs.Settings.{Settings};
 ghost use Rattle.gm_notes.specs.Steps.{Step, Close};
 ghost use Rattle.gm_notes.specs.Servers.{Answers, steps_after};
-ghost use Rattle.gm_notes.specs.declared.note.Note.TheVariants.{Discarded, Returned};
-ghost use Rattle.gm_notes.specs.Jobs.{job as note_job};
+ghost use Rattle.gm_notes.specs.declared.note.Note.TheVariants.{Discarded};
 ghost use Rattle.gm_notes.specs.Past.{with_note};
-ghost use Rattle.gm_notes.specs.Closings.{give_back_one, wake_for, disconnect, discard_each, give_back_each, rising};
+ghost use Rattle.gm_notes.specs.Closings.{give_back_one, return_or_lose, disconnect, discard_each, give_back_each, rising};
 ghost use Rattle.gm_conns.specs.ConnTables.{IsOpen};
 ghost use Rattle.gm_jobs.specs.Live.{is_orphan, is_run_by};
 ghost use Rattle.gm_jobs.specs.Tables.{passes};
 ghost use Rattle.gm_jobs.specs.Tables as jobs;
 
 use super::Core;
+use gm_jobs::Back;
 use gm_notes::{ApplyError, Done};
 
 impl Core {
@@ -51,16 +51,22 @@ impl Core {
         }
     }
 
-    /// A job that runs at a slot waits again, as the last, and the sleeping workers that can do it are owed a NOOP.
-    /// It needs no memory.
+    /// A job that runs at a slot waits again, as the last, and the sleeping workers that can do it are owed a NOOP;
+    /// or it is lost if that was its last try, and keeps the place that is reserved for it at its queue. It needs no
+    /// memory.
     fn give_back(&mut self, slot: u32, job: u64)
         requires { passes (is_run_by slot) (jobs.job self.old.jobs job) ≡ true }
-        ensures { Goes self.old self.new (λ past. wake_for self.old.config (note_job job past.notes) (with_note (Returned job) past)) }
+        ensures { Goes self.old self.new (return_or_lose self.old.config job) }
     {
-        if let Some((f, p)) = self.queue_of_running(job) {
-            self.functions.push(f, p, job);
-            self.jobs.give_back(job);
-            self.wake(f);
+        let Some((f, p)) = self.queue_of_running(job) else {
+            return;
+        };
+        match self.jobs.give_back(job, self.config.retries()) {
+            Back::Returned => {
+                self.functions.push(f, p, job);
+                self.wake(f);
+            }
+            Back::Lost => {}
         }
     }
 
@@ -74,7 +80,7 @@ impl Core {
         }
     }
 
-    /// A job that runs at a slot waits again if somebody wants it, and is discarded if not.
+    /// A job that runs at a slot is given back if somebody wants it, and is discarded if not.
     fn give_back_one(&mut self, slot: u32, job: u64)
         requires { passes (is_run_by slot) (jobs.job self.old.jobs job) ≡ true }
         ensures { Goes self.old self.new (give_back_one self.old.config slot job) }
@@ -105,7 +111,8 @@ impl Core {
             after = job;
         }
     }
-    /// The jobs that ran at a slot wait again or are discarded, in the order of their numbers. It needs no memory.
+    /// The jobs that ran at a slot wait again, are lost, or are discarded, in the order of their numbers. It needs no
+    /// memory.
     fn give_back_each(&mut self, slot: u32)
         ensures { Goes self.old self.new (λ past. give_back_each self.old.config slot (rising past) past) }
     {
@@ -115,7 +122,8 @@ impl Core {
             after = job;
         }
     }
-    /// The connection in a slot goes, with what waited for it; its jobs wait again, or go too. It needs no memory.
+    /// The connection in a slot goes, with what waited for it; its jobs wait again, are lost, or go too. It needs no
+    /// memory.
     pub(super) fn close(&mut self, slot: u32) -> Result<Done, ApplyError>
         ensures answers { (k : Settings) (steps : List Step) → CoreAgrees self.old k steps
             → Answers k steps (Close slot) result × CoreAgrees self.new k (steps_after result (Close slot) steps) }

@@ -23,7 +23,7 @@ returns-in-Some c =
     goes_moved (with_note (Discarded n)) (record { config = refl; conns = refl; moment = refl; mode = refl; most = changes.most; names = changes.names; limits = changes.limits })
     (record { conns = λ p. refl; flow = λ p. refl; functions = λ p. refl; moment = λ p. refl; mode = λ p. refl })
     (λ p keeps.
-    jobs_released core.config core.functions core.jobs (conn_facts p.notes).is_open p.notes (function_facts p.notes) keeps.functions keeps.jobs n it.live it.at it.slot it.runs after c.end.new.self
+    jobs_released core.config core.functions core.jobs (conn_facts p.notes).is_open p.notes (function_facts p.notes) keeps.functions keeps.jobs n it.live it.at it.runs after c.end.new.self
     changes c.end.ensures)
 
 pub returns-in_default : goal.returns-in_default

@@ -27,7 +27,7 @@ returns-in-Some-clause-goes c = record {
       record {
         conns = conns_popped old.config c.release.ensures keeps.conns;
         functions = functions_popped old.config c.release.ensures keeps.functions;
-        jobs = jobs_ended old.config old.functions c.release.new.self old.jobs c.end.new.self (conn_facts past.notes).is_open past.notes (function_facts past.notes) keeps.functions keeps.jobs c.args.job it.slot it.live it.at it.runs frees c.end.ensures;
+        jobs = jobs_ended old.config old.functions c.release.new.self old.jobs c.end.new.self (conn_facts past.notes).is_open past.notes (function_facts past.notes) keeps.functions keeps.jobs c.args.job it.live it.at it.runs frees c.end.ensures;
         moment = keeps.moment;
         mode = keeps.mode;
       };

@@ -27,7 +27,7 @@ returns-else-has_idle_room-clause-none c past keeps runs =
     let it = running old.jobs c.args.job runs in
     let same : it.live ≡ c.in-Some.found.now = some_same it.live c.in-Some.found.now (sym it.at ∙ sym c.in-Some.ensures) in
     let place : HasIdleRoom old.functions it.live.function it.live.priority =
-    has_idle_room old.config old.functions old.functions old.jobs old.jobs (conn_facts past.notes).is_open past.notes (function_facts past.notes) keeps.functions keeps.jobs c.args.job it.slot it.live it.at it.runs in
+    has_idle_room old.config old.functions old.functions old.jobs old.jobs (conn_facts past.notes).is_open past.notes (function_facts past.notes) keeps.functions keeps.jobs c.args.job it.live it.at it.runs in
     let here : HasIdleRoom old.functions c.f-f.result c.p-priority.result =
     subst (λ (x : ℕ). HasIdleRoom old.functions x c.p-priority.result) (sym c.f-f.ensures)
     (subst (λ (q : Priority). HasIdleRoom old.functions c.in-Some.found.now.function q) (sym c.p-priority.ensures)
