@@ -6,11 +6,11 @@ use Rattle.std.proofs.lemmas.Bool.Decides.{nat_tests}
 use Rattle.gm_notes.specs.declared.states.Phase.{Phase}
 use Rattle.gm_notes.specs.declared.states.Phase.TheVariants.{Awake, Asleep, Owed}
 use Rattle.gm_notes.specs.declared.note.Note.{Note}
-use Rattle.gm_notes.specs.declared.note.Note.TheVariants.{Opened, Closed, Slept, Woken, Stirred, Took, Withdrew, Made, Assigned, Returned}
+use Rattle.gm_notes.specs.declared.note.Note.TheVariants.{Opened, Closed, Slept, Woken, Stirred, Took, Withdrew, Made, Assigned, Returned, Lost}
 use Rattle.gm_notes.specs.declared.note.Note.TheVariants.{Ended, Discarded}
 use Rattle.gm_notes.specs.Notes.{is_open, phase, is_asleep, is_owed}
 use Rattle.gm_notes.specs.Jobs.{job_state, made}
-use Rattle.gm_notes.specs.JobStates.{JobState, is_waiting, is_running, is_live}
+use Rattle.gm_notes.specs.JobStates.{JobState, is_waiting, is_running, is_running_at, is_live}
 use Rattle.gm_notes.specs.JobStates as states
 use Rattle.gm_plain.specs.Logs.{NoteFits, AllFit, MayCome, AreNumbered, IsPaid, total_of, due_of_open, due_of_phase, due_of_job_state}
 use Rattle.gm_plain.specs.Logs.{slot_due, slots_due, jobs_due, due, weight, paid}
@@ -83,11 +83,21 @@ waits_due : (p : JobState) → is_waiting p ≡ true → due_of_job_state p ≡ 
 waits_due states.Waiting e = refl
 waits_due states.Unmade e = absurd cc
 waits_due (states.Running c) e = absurd cc
+waits_due states.Lost e = absurd cc
 waits_due states.Ended e = absurd cc
 waits_due states.Discarded e = absurd cc
 
-runs_due : (p : JobState) → is_running p ≡ true → due_of_job_state p ≡ 2
-runs_due (states.Running c) e = refl
+runs_at_due : (p : JobState) (c : ℕ) → is_running_at c p ≡ true → due_of_job_state p ≡ 2
+runs_at_due (states.Running d) c e = refl
+runs_at_due states.Lost c e = absurd cc
+runs_at_due states.Waiting c e = absurd cc
+runs_at_due states.Unmade c e = absurd cc
+runs_at_due states.Ended c e = absurd cc
+runs_at_due states.Discarded c e = absurd cc
+
+runs_due : (p : JobState) → is_running p ≡ true → 1 ≤ due_of_job_state p
+runs_due (states.Running c) e = omega arith
+runs_due states.Lost e = omega arith
 runs_due states.Waiting e = absurd cc
 runs_due states.Unmade e = absurd cc
 runs_due states.Ended e = absurd cc
@@ -96,12 +106,14 @@ runs_due states.Discarded e = absurd cc
 live_due : (p : JobState) → is_live p ≡ true → 1 ≤ due_of_job_state p
 live_due states.Waiting e = omega arith
 live_due (states.Running c) e = omega arith
+live_due states.Lost e = omega arith
 live_due states.Unmade e = absurd cc
 live_due states.Ended e = absurd cc
 live_due states.Discarded e = absurd cc
 
 running_lives : (p : JobState) → is_running p ≡ true → is_live p ≡ true
 running_lives (states.Running c) e = refl
+running_lives states.Lost e = refl
 running_lives states.Waiting e = refl
 running_lives states.Unmade e = absurd cc
 running_lives states.Ended e = absurd cc
@@ -110,9 +122,18 @@ running_lives states.Discarded e = absurd cc
 waiting_lives : (p : JobState) → is_waiting p ≡ true → is_live p ≡ true
 waiting_lives states.Waiting e = refl
 waiting_lives (states.Running c) e = refl
+waiting_lives states.Lost e = refl
 waiting_lives states.Unmade e = absurd cc
 waiting_lives states.Ended e = absurd cc
 waiting_lives states.Discarded e = absurd cc
+
+running_there_lives : (p : JobState) (c : ℕ) → is_running_at c p ≡ true → is_live p ≡ true
+running_there_lives (states.Running d) c e = refl
+running_there_lives states.Lost c e = refl
+running_there_lives states.Waiting c e = refl
+running_there_lives states.Unmade c e = absurd cc
+running_there_lives states.Ended c e = absurd cc
+running_there_lives states.Discarded c e = absurd cc
 
 -- ---- what is due after a note
 
@@ -179,8 +200,13 @@ due_next slots first (Assigned m c deadline) notes stands fit numbered =
     omega (arith, slot, at)
 due_next slots first (Returned m) notes stands fit numbered =
     let slot : slots_due slots (Returned m ∷ notes) ≡ slots_due slots notes = refl in
-    let runs = runs_due (job_state m notes) stands in
-    let less = job_less (Returned m) m first notes (λ n h. rw h refl) (numbered m (running_lives (job_state m notes) stands)) (rw (self m) (omega (arith, runs))) refl in
+    let runs = runs_at_due (job_state m notes) stands.0 stands.1 in
+    let less = job_less (Returned m) m first notes (λ n h. rw h refl) (numbered m (running_there_lives (job_state m notes) stands.0 stands.1)) (rw (self m) (omega (arith, runs))) refl in
+    omega (arith, slot, less)
+due_next slots first (Lost m) notes stands fit numbered =
+    let slot : slots_due slots (Lost m ∷ notes) ≡ slots_due slots notes = refl in
+    let runs = runs_at_due (job_state m notes) stands.0 stands.1 in
+    let less = job_less (Lost m) m first notes (λ n h. rw h refl) (numbered m (running_there_lives (job_state m notes) stands.0 stands.1)) (rw (self m) (omega (arith, runs))) refl in
     omega (arith, slot, less)
 due_next slots first (Ended m) notes stands fit numbered =
     let slot : slots_due slots (Ended m ∷ notes) ≡ slots_due slots notes = refl in
@@ -208,7 +234,9 @@ numbered_next slots first (Made m f p u body) notes stands numbered n =
     live_if (n == m) n m first (suc (length (made notes))) states.Waiting (job_state n notes) refl (λ live. (omega (arith, stands), omega (arith, stands)))
     (λ live. let r = numbered n live in (r.0, omega (arith, r.1)))
 numbered_next slots first (Returned m) notes stands numbered n =
-    live_if (n == m) n m first (length (made notes)) states.Waiting (job_state n notes) refl (λ live. numbered m (running_lives (job_state m notes) stands)) (numbered n)
+    live_if (n == m) n m first (length (made notes)) states.Waiting (job_state n notes) refl (λ live. numbered m (running_there_lives (job_state m notes) stands.0 stands.1)) (numbered n)
+numbered_next slots first (Lost m) notes stands numbered n =
+    live_if (n == m) n m first (length (made notes)) states.Lost (job_state n notes) refl (λ live. numbered m (running_there_lives (job_state m notes) stands.0 stands.1)) (numbered n)
 numbered_next slots first (Assigned m c deadline) notes stands numbered n =
     live_if (n == m) n m first (length (made notes)) (states.Running c) (job_state n notes) refl (λ live. numbered m (waiting_lives (job_state m notes) stands)) (numbered n)
 numbered_next slots first (Ended m) notes stands numbered n = live_if (n == m) n m first (length (made notes)) states.Ended (job_state n notes) refl (λ live. absurd cc) (numbered n)

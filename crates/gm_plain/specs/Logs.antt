@@ -4,10 +4,10 @@ use Rattle.gm_notes.specs.declared.states.Phase.{Phase}
 use Rattle.gm_notes.specs.declared.states.Phase.TheVariants.{Awake, Asleep, Owed}
 use Rattle.gm_notes.specs.declared.note.Note.{Note}
 use Rattle.gm_notes.specs.declared.note.Note.TheVariants.{Opened, Closed, Slept, Woken, Stirred, Took, Withdrew, Made, Listens, Assigned}
-use Rattle.gm_notes.specs.declared.note.Note.TheVariants.{Returned, Ended, Discarded, Report}
+use Rattle.gm_notes.specs.declared.note.Note.TheVariants.{Returned, Lost, Ended, Discarded, Report}
 use Rattle.gm_notes.specs.Notes.{is_open, phase, is_asleep, is_owed}
 use Rattle.gm_notes.specs.Jobs.{job_state, made}
-use Rattle.gm_notes.specs.JobStates.{JobState, is_waiting, is_running, is_live}
+use Rattle.gm_notes.specs.JobStates.{JobState, is_waiting, is_running, is_running_at, is_live}
 use Rattle.gm_notes.specs.JobStates as states
 use Rattle.gm_actions.specs.Carried.{IsCarried, AreNumbers}
 
@@ -49,11 +49,12 @@ due_of_phase Awake = 0
 due_of_phase Owed = 1
 due_of_phase Asleep = 2
 
--- a running job returns, and a waiting one is discarded
+-- a job that runs at a slot returns or is lost, and a waiting one is discarded
 abbrev pub due_of_job_state : JobState → ℕ
 due_of_job_state states.Unmade = 0
 due_of_job_state states.Waiting = 1
 due_of_job_state (states.Running c) = 2
+due_of_job_state states.Lost = 1
 due_of_job_state states.Ended = 0
 due_of_job_state states.Discarded = 0
 
@@ -83,6 +84,7 @@ weight (Stirred c) = 0
 weight (Took c) = 0
 weight (Withdrew c) = 0
 weight (Returned n) = 0
+weight (Lost n) = 0
 weight (Ended n) = 0
 weight (Discarded n) = 0
 weight note = 1
@@ -104,7 +106,8 @@ MayCome slots first (Took c) older = (c < slots) × (is_owed (phase c older) ≡
 MayCome slots first (Withdrew c) older = (c < slots) × (is_owed (phase c older) ≡ true)
 MayCome slots first (Made n f p u body) older = n ≡ first + length (made older)
 MayCome slots first (Assigned n c deadline) older = is_waiting (job_state n older) ≡ true
-MayCome slots first (Returned n) older = is_running (job_state n older) ≡ true
+MayCome slots first (Returned n) older = (c : ℕ) × (is_running_at c (job_state n older) ≡ true)
+MayCome slots first (Lost n) older = (c : ℕ) × (is_running_at c (job_state n older) ≡ true)
 MayCome slots first (Ended n) older = is_running (job_state n older) ≡ true
 MayCome slots first (Discarded n) older = is_live (job_state n older) ≡ true
 MayCome slots first note older = Unit {0}

@@ -1,5 +1,5 @@
 -- What single notes say, for the searches over them.
-use Rattle.std.specs.Prelude.{◌≡◌, ℕ, Bool, true, false, not, ◌&&◌, ◌==◌, if◌then◌else◌, List, [], ◌∷◌, ◌++◌, filter, Option, Some, None}
+use Rattle.std.specs.Prelude.{◌≡◌, ℕ, suc, Bool, true, false, not, ◌&&◌, ◌==◌, if◌then◌else◌, List, [], ◌∷◌, ◌++◌, filter, Option, Some, None}
 use Rattle.std.specs.Prelude.{unwrap_or}
 use Rattle.std.specs.Option.{option_map}
 use Rattle.std.specs.Str.{bytes_eq}
@@ -79,6 +79,12 @@ listeners_after n (Made m f p u body) slots = if n == m then [] else slots
 listeners_after n (Listens m c) slots = if n == m then slots ++ c ∷ [] else slots
 listeners_after n (Closed c) slots = filter (λ d. not (d == c)) slots
 listeners_after n note slots = slots
+
+-- what the note changes of how often job n came back
+abbrev pub returns_after : ℕ → Note → ℕ → ℕ
+returns_after n (Made m f p u body) count = if n == m then 0 else count
+returns_after n (Returned m) count = if n == m then suc count else count
+returns_after n note count = count
 
 -- whether the connection in slot c hears of job n, where the note says so
 abbrev pub says_listening : ℕ → ℕ → Note → Option Bool

@@ -1,11 +1,11 @@
 //! What notes say of jobs and functions, found by searching them.
 
-ghost use Rattle.std.specs.Prelude.{◌≡◌, ◌<◌, ◌==◌, length, not, reverse, slice_get, map, IfSome, IfOk, OnOk};
+ghost use Rattle.std.specs.Prelude.{◌≡◌, ◌<◌, ◌≤◌, ◌+◌, ◌^◌, ◌==◌, length, not, reverse, slice_get, map, IfSome, IfOk, OnOk};
 ghost use Rattle.std.specs.Option.{option_map};
 ghost use Rattle.std.specs.List.{All};
 ghost use Rattle.gm_notes.specs.Jobs.{says_job_state, job_state, says_job, job, says_kept, is_kept, listeners, is_wanted, says_report};
 ghost use Rattle.gm_notes.specs.Jobs.{report, is_job_of, is_job_with, is_job_named, made, functions, is_mentioned, says_limit, limit};
-ghost use Rattle.gm_notes.specs.Jobs.{joins, is_live_named, joined, next_number, is_live_of, total, running, says_deadline, deadline};
+ghost use Rattle.gm_notes.specs.Jobs.{joins, is_live_named, joined, next_number, is_live_of, total, running, says_deadline, deadline, returns, is_last_try};
 ghost use Rattle.gm_notes.specs.JobStates.{is_live, is_waiting, is_running, is_running_at, place_of};
 ghost use Rattle.gm_notes.specs.Closings.{is_reached};
 ghost use Rattle.gm_notes.specs.Notes.{moment};
@@ -13,7 +13,7 @@ ghost use Rattle.gm_actions.specs.Actions.{job_of, report_of};
 ghost use Rattle.gm_actions.specs.Carried.{IsCarried, AreNumbers};
 ghost use Rattle.gm_notes.specs.Steps.{newest};
 ghost use Rattle.gm_notes.specs.Submissions.{is_one_too_many, is_full};
-ghost use Rattle.gm_plain.specs.Searches.{said_place, says_mentioned, listeners_after, says_listening, is_listening, is_running_of};
+ghost use Rattle.gm_plain.specs.Searches.{said_place, says_mentioned, listeners_after, returns_after, says_listening, is_listening, is_running_of};
 
 use crate::connections::moment;
 use crate::log::{Log, last_said};
@@ -28,6 +28,7 @@ fn says_place(note: &Note, job: u64) -> Option<Place>
         Note::Made { job: n, .. } if *n == job => Some(Place::Waiting),
         Note::Returned { job: n } if *n == job => Some(Place::Waiting),
         Note::Assigned { job: n, slot, .. } if *n == job => Some(Place::Running(*slot)),
+        Note::Lost { job: n } if *n == job => Some(Place::Lost),
         Note::Ended { job: n } if *n == job => Some(Place::Gone),
         Note::Discarded { job: n } if *n == job => Some(Place::Gone),
         _ => None,
@@ -216,12 +217,46 @@ pub fn last_report(log: &Log, job: u64) -> Report<'_>
     log.last_said(none, |note| says_report(note, job))
 }
 
+// How often a job came back, with this note.
+fn count_return(note: &Note, job: u64, count: usize) -> usize
+    requires { count < 2 ^ 63 }
+    ensures value { result ≡ returns_after job note.now count }
+    ensures small { result ≤ count + 1 }
+{
+    match note {
+        Note::Made { job: n, .. } if *n == job => 0,
+        Note::Returned { job: n } if *n == job => count + 1,
+        _ => count,
+    }
+}
+
+/// How often a job came back from a worker that went.
+fn returns(log: &Log, job: u64) -> usize
+    ensures value { result ≡ returns job log.now.notes }
+    ensures small { result < 2 ^ 63 }
+{
+    let notes = log.notes();
+    let mut count = 0;
+    for note in notes {
+        count = count_return(note, job, count);
+    }
+    count
+}
+
+/// Whether the worker of a job is the last one, where a job is given to so many workers at most.
+pub fn is_last_try(config: &Config, log: &Log, job: u64) -> bool
+    ensures { result ≡ is_last_try config.now job log.now.notes }
+{
+    config.retries() != 0 && config.retries() as usize <= returns(log, job) + 1
+}
+
 fn says_deadline(note: &Note, job: u64) -> Option<Option<u64>>
     ensures { result ≡ says_deadline job note.now }
 {
     match note {
         Note::Made { job: n, .. } if *n == job => Some(None),
         Note::Returned { job: n } if *n == job => Some(None),
+        Note::Lost { job: n } if *n == job => Some(Some(0)),
         Note::Assigned {
             job: n,
             deadline,

@@ -20,7 +20,7 @@ fn weight(note: &Note) -> usize
         Note::Opened { .. } | Note::Made { .. } | Note::Assigned { .. } => 2,
         Note::Slept { .. } => 3,
         Note::Closed { .. } | Note::Woken { .. } | Note::Stirred { .. } | Note::Took { .. } => 0,
-        Note::Withdrew { .. } | Note::Returned { .. } => 0,
+        Note::Withdrew { .. } | Note::Returned { .. } | Note::Lost { .. } => 0,
         Note::Ended { .. } | Note::Discarded { .. } => 0,
         _ => 1,
     }
@@ -56,7 +56,8 @@ pub fn last_said<'a, T: Drop, F: Fn(&'a Note) -> Option<T>>(
 /// The list of all that has happened, the newest last.
 ///
 /// There is always room for each note that may yet come without memory: one for each open connection, two
-/// for each sleeper, one for each NOOP that is owed, one for each waiting job, and two for each running one.
+/// for each sleeper, one for each NOOP that is owed, one for each waiting or lost job, and two for each that runs at
+/// a slot.
 #[derive(Drop)]
 pub struct Log {
     notes: Vec<Note>,

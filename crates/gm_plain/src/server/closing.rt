@@ -3,8 +3,9 @@
 ghost use Rattle.std.specs.Prelude.{◌≡◌, ◌<◌, List, true, IsErrOf};
 ghost use Rattle.gm_notes.specs.Settings.{Settings};
 ghost use Rattle.gm_notes.specs.Notes.{is_open};
-ghost use Rattle.gm_notes.specs.Jobs.{job, made};
-ghost use Rattle.gm_notes.specs.Closings.{discard_one, discard_each, give_back_one, give_back_each, wake_for, disconnect, rising};
+ghost use Rattle.gm_notes.specs.Jobs.{job, job_state, made};
+ghost use Rattle.gm_notes.specs.JobStates.{is_running_at};
+ghost use Rattle.gm_notes.specs.Closings.{discard_one, discard_each, give_back_one, give_back_each, return_or_lose, wake_for, disconnect, rising};
 ghost use Rattle.gm_notes.specs.Steps.{Step, Close};
 ghost use Rattle.gm_notes.specs.Servers.{Answers, steps_after};
 ghost use Rattle.gm_plain.specs.Holds.{Goes, PlainAgrees, wake_one_for};
@@ -13,12 +14,12 @@ ghost use Rattle.gm_notes.specs.declared.event.ApplyError.TheVariants.{Memory};
 use super::PlainServer;
 use crate::abilities::is_to_wake;
 use crate::connections::is_open;
-use crate::jobs::{count_made, is_running_at, is_waiting, is_wanted, job_at};
+use crate::jobs::{count_made, is_last_try, is_running_at, is_waiting, is_wanted, job_at};
 use gm_notes::{ApplyError, Done, Note};
 
 impl PlainServer {
-    /// The connection in a slot goes, with what waited for it; its jobs wait again, or go too. It needs no
-    /// memory.
+    /// The connection in a slot goes, with what waited for it; its jobs wait again, are lost, or go too. It needs
+    /// no memory.
     pub(super) fn close(&mut self, slot: u32) -> Result<Done, ApplyError>
         ensures answers { (k : Settings) (steps : List Step) → PlainAgrees self.old k steps
             → Answers k steps (Close slot) result × PlainAgrees self.new k (steps_after result (Close slot) steps) }
@@ -86,7 +87,21 @@ impl PlainServer {
         }
     }
 
-    /// A job that ran at a slot waits again if somebody wants it, and is discarded if not.
+    /// A job that runs at a slot waits again, or is lost if that was its last try.
+    fn return_or_lose(&mut self, slot: u32, job: u64)
+        requires runs { is_running_at slot (job_state job self.old.log.notes) ≡ true }
+        ensures goes { Goes self.old self.new (return_or_lose self.old.config job) }
+        ensures made { made self.new.log.notes ≡ made self.old.log.notes }
+    {
+        if is_last_try(&self.config, &self.log, job) {
+            self.note(Note::Lost { job });
+        } else {
+            self.note(Note::Returned { job });
+            self.wake(job);
+        }
+    }
+
+    /// A job that ran at a slot is given back if somebody wants it, and is discarded if not.
     fn give_back_one(&mut self, slot: u32, job: u64)
         ensures goes { Goes self.old self.new (give_back_one self.old.config slot job) }
         ensures made { made self.new.log.notes ≡ made self.old.log.notes }
@@ -95,14 +110,13 @@ impl PlainServer {
             return;
         }
         if is_wanted(&self.log, job) {
-            self.note(Note::Returned { job });
-            self.wake(job);
+            self.return_or_lose(slot, job);
         } else {
             self.note(Note::Discarded { job });
         }
     }
 
-    /// The jobs that ran at a slot wait again or are discarded, in the order of their numbers.
+    /// The jobs that ran at a slot wait again, are lost, or are discarded, in the order of their numbers.
     fn give_back_each(&mut self, slot: u32)
         ensures { Goes self.old self.new (λ past. give_back_each self.old.config slot (rising past) past) }
     {
