@@ -58,8 +58,8 @@ pub fn flag<'a>(alloc: Global, name: &'a str, help: &'a str) -> Arg<'a>
         .help(help)
 }
 
-/// The command with the options of every job server: how many connections there may be, how large a packet may be, and
-/// whether a worker's functions take turns.
+/// The command with the options of every job server: how many connections there may be, how large a packet may be,
+/// whether a worker's functions take turns, and to how many workers a job may be given.
 pub fn with_server_options<'a>(
     alloc: Global,
     command: Command<'a>,
@@ -85,6 +85,14 @@ pub fn with_server_options<'a>(
             alloc,
             "round-robin",
             "A worker's functions take turns: a grab tries first the functions that the worker added after the one of its last job",
+        ))?
+        .arg(number(
+            alloc,
+            "job-retries",
+            0,
+            4_294_967_295,
+            "0",
+            "To how many workers a job is given at most: it fails when the last of them goes; 0 is no limit",
         ))
 }
 
@@ -97,6 +105,8 @@ pub struct ServerOptions {
     pub limits: Limits,
     /// Whether a worker's functions take turns.
     pub round_robin: bool,
+    /// To how many workers a job may be given; 0 is no limit.
+    pub job_retries: u32,
 }
 
 /// What the options of every job server ask for, where the command had them.
@@ -110,5 +120,6 @@ pub fn server_options(matches: &ArgMatches<'_>) -> ServerOptions {
             max_line: MAX_LINE,
         },
         round_robin: matches.get_flag("round-robin"),
+        job_retries: matches.get_one::<u32>("job-retries").unwrap_or(0),
     }
 }

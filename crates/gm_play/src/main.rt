@@ -52,7 +52,9 @@ fn settings_of(alloc: Global, args: Args) -> Result<PlaySettings, RunError> {
         return Err(RunError::Arguments);
     };
     Ok(PlaySettings {
-        config: config.with_round_robin(args.server.round_robin),
+        config: config
+            .with_round_robin(args.server.round_robin)
+            .with_retries(args.server.job_retries),
         limits: args.server.limits,
         plain: args.plain,
     })

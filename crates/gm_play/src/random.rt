@@ -191,13 +191,15 @@ fn script(alloc: Global, seed: u64) -> Result<Vec<u8>, AllocError> {
     Ok(script)
 }
 
-// What a script is played under. The functions of every second one take turns.
+// What a script is played under. The functions of every second one take turns, and of four scripts one gives each job to
+// any number of workers, and the others to one, two or three.
 fn terms_of(seed: u64) -> Terms {
     Terms {
         first_job: 1,
         slots: 6,
         functions: 3,
         round_robin: seed % 2 == 1,
+        retries: (seed % 4) as u32,
     }
 }
 

@@ -30,7 +30,9 @@ pub fn settings_of(alloc: Global, terms: Terms, plain: bool) -> Result<PlaySetti
     let name = Vec::from_slice(alloc, b"gmd")?;
     let config = Config::new(name, terms.first_job, terms.slots, terms.functions)?;
     Ok(PlaySettings {
-        config: config.with_round_robin(terms.round_robin),
+        config: config
+            .with_round_robin(terms.round_robin)
+            .with_retries(terms.retries),
         limits: Limits {
             max_bytes: 67_108_864,
             max_line: 1024,
@@ -264,6 +266,7 @@ fn defaults(rt: HostRuntime) -> Result<(), Fail> {
                 max_line: 1024,
             },
             round_robin: false,
+            job_retries: 0,
         },
     };
     assert!(rt; args == wanted);
@@ -271,7 +274,7 @@ fn defaults(rt: HostRuntime) -> Result<(), Fail> {
 }
 
 // Each option.
-static OPTIONS: [&str; 10] = [
+static OPTIONS: [&str; 12] = [
     "gm_play",
     "--plain",
     "--first-job",
@@ -282,6 +285,8 @@ static OPTIONS: [&str; 10] = [
     "--max-data",
     "0",
     "--round-robin",
+    "--job-retries",
+    "4294967295",
 ];
 
 #[test]
@@ -298,6 +303,7 @@ fn options(rt: HostRuntime) -> Result<(), Fail> {
                 max_line: 1024,
             },
             round_robin: true,
+            job_retries: 4_294_967_295,
         },
     };
     assert!(rt; args == wanted);
@@ -305,7 +311,7 @@ fn options(rt: HostRuntime) -> Result<(), Fail> {
 }
 
 // Arguments that are invalid, or out of range.
-static REFUSED: [[&str; 2]; 9] = [
+static REFUSED: [[&str; 2]; 10] = [
     ["x", "x"],
     ["--jump", "1"],
     ["--first-job", "0"],
@@ -314,6 +320,7 @@ static REFUSED: [[&str; 2]; 9] = [
     ["--functions", "0"],
     ["--functions", "65537"],
     ["--max-data", "1073741825"],
+    ["--job-retries", "4294967296"],
     ["--plain", "--slots"],
 ];
 

@@ -91,7 +91,9 @@ fn settings_of(alloc: Global, args: Args<'_>) -> Result<Settings, RunError> {
         return Err(RunError::Name);
     };
     Ok(Settings {
-        config: config.with_round_robin(args.server.round_robin),
+        config: config
+            .with_round_robin(args.server.round_robin)
+            .with_retries(args.server.job_retries),
         limits: args.server.limits,
         tape: args.tape,
     })
@@ -110,9 +112,10 @@ fn print_settings<W: Write>(args: Args<'_>, w: &mut W) -> io::Result<()> {
     let max_data = args.server.limits.max_bytes;
     let tape = u8::from(tape);
     let round_robin = u8::from(args.server.round_robin);
+    let job_retries = args.server.job_retries;
     writeln!(
         w,
-        "port={port} listen={listen} slots={slots} name={name} max-data={max_data} tape={tape} round-robin={round_robin}"
+        "port={port} listen={listen} slots={slots} name={name} max-data={max_data} tape={tape} round-robin={round_robin} job-retries={job_retries}"
     )?;
     w.flush()
 }

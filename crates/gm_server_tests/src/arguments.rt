@@ -38,7 +38,7 @@ fn outcome<
 }
 
 /// Arguments, and the status.
-static STATUSES: [(&[&str], u8); 14] = [
+static STATUSES: [(&[&str], u8); 16] = [
     (&["--check"], 0),
     (&["--help"], 0),
     (&["--version"], 0),
@@ -48,6 +48,8 @@ static STATUSES: [(&[&str], u8); 14] = [
     (&["--check", "--port", "0"], 2),
     (&["--check", "--name", "a:b"], 2),
     (&["--check", "--max-data", "1073741825"], 2),
+    (&["--check", "--job-retries", "4294967295"], 0),
+    (&["--check", "--job-retries", "4294967296"], 2),
     (&["--check", "--tape"], 0),
     (&["--check", "--tape", "on"], 2),
     (&["--jump"], 2),
@@ -72,6 +74,8 @@ fn check_line(rt: HostRuntime) -> Result<(), Fail> {
             "--check",
             "--tape",
             "--round-robin",
+            "--job-retries",
+            "3",
             "--port",
             "1",
             "--name",
@@ -79,7 +83,7 @@ fn check_line(rt: HostRuntime) -> Result<(), Fail> {
         ],
     )?;
     let line =
-        b"port=1 listen=0.0.0.0 slots=64 name=a.b-c max-data=67108864 tape=1 round-robin=1\n";
-    same(&rt, "the settings", &printed.as_slice(), &line.as_slice());
+        "port=1 listen=0.0.0.0 slots=64 name=a.b-c max-data=67108864 tape=1 round-robin=1 job-retries=3\n";
+    same(&rt, "the settings", &printed.as_slice(), &line.as_bytes());
     Ok(())
 }

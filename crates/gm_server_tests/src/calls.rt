@@ -173,6 +173,32 @@ static REFUSALS: [Call; 24] = [
     call!(event 1, Event::Close { slot: 1 } => Stopped, [1]),
 ];
 
+/// A job whose second worker goes waits no more, and the next tick fails it.
+static JOB_RETRIES: [Call; 22] = [
+    call!(open 0),
+    call!(open 1),
+    call!(packet 0, 7, b"f\0a\x001" => Some(1), [0]),
+    call!(packet 1, 1, b"f" => None, []),
+    call!(packet 1, 9, b"" => None, [1]),
+    call!(event 1, Event::Close { slot: 1 } => Running, [1]),
+    call!(open 1),
+    call!(packet 1, 1, b"f" => None, []),
+    call!(packet 1, 9, b"" => None, [1]),
+    call!(packet 1, 28, b"H:gmd:1\0z" => None, [0]),
+    call!(event 1, Event::Close { slot: 1 } => Running, [1]),
+    call!(packet 0, 15, b"H:gmd:1" => None, [0]),
+    call!(event 0, Event::Line { slot: 0, bytes: b"status" } => Running, [0]),
+    call!(open 1),
+    call!(packet 1, 1, b"f" => None, []),
+    call!(packet 1, 9, b"" => None, [1]),
+    call!(packet 1, 13, b"H:gmd:1\0x" => None, [1]),
+    call!(drain 0 => b"\0RES\0\0\0\x08\0\0\0\x07H:gmd:1\0RES\0\0\0\x1c\0\0\0\x09H:gmd:1\0z\0RES\0\0\0\x14\0\0\0\x0fH:gmd:1\x001\x001\x000\x000f\t1\t1\t0\n.\n", false),
+    call!(event 2, Event::Tick { now: 0 } => Running, [0]),
+    call!(packet 0, 15, b"H:gmd:1" => None, [0]),
+    call!(drain 0 => b"\0RES\0\0\0\x0e\0\0\0\x07H:gmd:1\0RES\0\0\0\x14\0\0\0\x0fH:gmd:1\x000\x000\x000\x000", false),
+    call!(drain 1 => b"\0RES\0\0\0\x0a\0\0\0\0\0RES\0\0\0\x13\0\0\0\x1bjob_not_found\0job not found", false),
+];
+
 /// The slots of the set are these, in their order.
 fn assert_slots(rt: &impl Abort, event: Event<'static>, set: &SlotSet, slots: &[u32]) {
     let mut left = set.iter();
@@ -346,6 +372,11 @@ fn assert_found<R: RandomSource + Threads + Wait + Abort + AllocGlobal + Sync>(
 #[test]
 fn stale_noop(rt: HostRuntime) -> Result<(), Fail> {
     play_both(&rt, 3, &[&STALE_NOOP], 13)
+}
+
+#[test]
+fn job_retries(rt: HostRuntime) -> Result<(), Fail> {
+    play_both(&rt, 2, &[&JOB_RETRIES], 22)
 }
 
 /// The pen takes the NOOP before the worker asks for a job or goes, or it is withdrawn: all else is the same.

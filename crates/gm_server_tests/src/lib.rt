@@ -24,6 +24,8 @@ mod loopback;
 #[cfg(test)]
 mod packets;
 #[cfg(test)]
+mod retries;
+#[cfg(test)]
 mod room;
 #[cfg(test)]
 mod sessions;

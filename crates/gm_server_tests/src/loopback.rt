@@ -3,6 +3,7 @@
 use crate::checks::{must, same};
 use crate::client::Client;
 use crate::jobs::{Crowd, results};
+use crate::retries::retries;
 use gm_feeder::Limits;
 use gm_notes::Config;
 use gm_server::{Gate, OpenGate, Served, Settings, serve};
@@ -18,7 +19,7 @@ use std::thread::{Threads, join};
 use std::time::Clock;
 use std::{io, thread};
 
-/// Serves with so many slots until a shutdown, with a tape or without; `None` where it can't, or where the tape differs from
+/// Serves with so many slots until a shutdown, where a job is given to two workers at most, with a tape or without; `None` where it can't, or where the tape differs from
 /// what was told.
 fn served<R: Threads + Wait + Clock + RandomSource + Sync, G: Gate>(
     rt: &R,
@@ -31,7 +32,7 @@ fn served<R: Threads + Wait + Clock + RandomSource + Sync, G: Gate>(
     let seed = RandomState::new(rt).ok()?;
     let name = Vec::from_slice(alloc, b"gmd").ok()?;
     let settings = Settings {
-        config: Config::new(name, 1, slots, 100).ok()?,
+        config: Config::new(name, 1, slots, 100).ok()?.with_retries(2),
         limits: Limits {
             max_bytes: 67_108_864,
             max_line: 1024,
@@ -70,6 +71,7 @@ pub enum Script<'a> {
     Leave(&'a [u8]),
     Silent(&'a [u8]),
     OneMore,
+    Retries,
     Held(&'a Hold),
     Jobs(Crowd),
     /// The same where the server keeps a tape.
@@ -199,6 +201,7 @@ fn play<R: Threads + Net<Stream = TcpStream> + Sync>(
         Script::Leave(bytes) => is_alone_after(rt, alloc, addr, bytes),
         Script::Silent(large) => beside_a_silent_one(rt, alloc, addr, large),
         Script::OneMore => one_more(rt, alloc, addr),
+        Script::Retries => retries(rt, alloc, addr),
         Script::Held(hold) => two(rt, alloc, addr, hold),
         Script::Jobs(crowd) | Script::Taped(crowd) => {
             Ok(results(rt, alloc, addr, crowd)? == crowd.all())
@@ -310,4 +313,9 @@ fn silent_client(rt: HostRuntime) -> Result<(), Fail> {
 #[test]
 fn one_connection_too_many(rt: HostRuntime) -> Result<(), Fail> {
     goes_right(&rt, rt.alloc(), 2, &OpenGate, Script::OneMore, 2)
+}
+
+#[test]
+fn worker_resets(rt: HostRuntime) -> Result<(), Fail> {
+    goes_right(&rt, rt.alloc(), 64, &OpenGate, Script::Retries, 4)
 }

@@ -18,10 +18,11 @@ use std::sync::Wait;
 use std::test::Fail;
 use std::thread::Threads;
 
-/// The settings of a server with so many slots, whose workers' functions take turns or don't.
+/// The settings of a server with so many slots, whose workers' functions take turns or don't, and which gives a job to two
+/// workers at most.
 pub fn config(alloc: Global, slots: u32, round_robin: bool) -> Result<Config, Fail> {
     let config = Config::new(Vec::from_slice(alloc, b"gmd")?, 1, slots, 65536)?;
-    Ok(config.with_round_robin(round_robin))
+    Ok(config.with_round_robin(round_robin).with_retries(2))
 }
 
 /// A shared book, with all its desks and pens.

@@ -123,6 +123,7 @@ static ROWS: [Row; 8] = [
             slots: 2,
             functions: 65536,
             round_robin: false,
+            retries: 0,
         },
         script: "open 127.0.0.1\n\
         open 127.0.0.1\n\

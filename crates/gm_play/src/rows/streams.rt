@@ -15,6 +15,7 @@ static ROWS: [Row; 8] = [
             slots: 1,
             functions: 65536,
             round_robin: false,
+            retries: 0,
         },
         script: "open a\n\
         open b\n\

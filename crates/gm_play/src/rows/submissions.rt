@@ -48,6 +48,7 @@ static ROWS: [Row; 8] = [
             slots: 64,
             functions: 65536,
             round_robin: false,
+            retries: 0,
         },
         script: "open 127.0.0.1\n\
         bytes 0 0052455100000007000000056600610031\n\
@@ -65,6 +66,7 @@ static ROWS: [Row; 8] = [
             slots: 64,
             functions: 1,
             round_robin: false,
+            retries: 0,
         },
         script: "open 127.0.0.1\n\
         bytes 0 00524551000000010000000166\n\

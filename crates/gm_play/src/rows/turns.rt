@@ -12,6 +12,7 @@ const IN_TURN: Terms = Terms {
     slots: 64,
     functions: 65536,
     round_robin: true,
+    retries: 0,
 };
 
 static ROWS: [Row; 3] = [
