@@ -113,7 +113,7 @@ fn find(jobs: &Jobs, number: u64) -> u64 {
 fn assign_return(jobs: &mut Jobs, number: u64) -> u64 {
     jobs.assign(number, RUNNER, Some(FAR));
     let first = jobs.next_run_by(RUNNER, 0).unwrap_or(0);
-    jobs.give_back(number);
+    let _back = jobs.give_back(number, 0);
     u64::from(first == number)
 }
 
@@ -140,7 +140,7 @@ fn due_nothing(jobs: &mut Jobs) -> u64 {
 fn due_some(jobs: &mut Jobs, number: u64, now: u64) -> u64 {
     jobs.assign(number, RUNNER, Some(now));
     let found = jobs.due(now, 0).unwrap_or(0);
-    jobs.give_back(found);
+    let _back = jobs.give_back(found, 0);
     let more = jobs.due(now, found);
     jobs.assign(found, RUNNER, Some(FAR));
     u64::from(found == number && more.is_none())

@@ -1,7 +1,7 @@
 //! The table of live jobs.
 
 use crate::checks::{must, next_random, same};
-use gm_jobs::{JobError, Jobs, NewJob};
+use gm_jobs::{Back, JobError, Jobs, NewJob};
 use gm_notes::{Place, Priority};
 use std::alloc::{AllocError, Global};
 use std::hash::RandomState;
@@ -90,7 +90,7 @@ fn run_and_return(rt: &impl Abort, jobs: &mut Jobs) {
     }
     same(rt, "a job", &jobs.next_run_by(5, 0), &Some(2));
     same(rt, "a place", &jobs.place(2), &Place::Running(5));
-    jobs.give_back(2);
+    same(rt, "a return", &jobs.give_back(2, 0), &Back::Returned);
     same(rt, "a job", &jobs.next_run_by(5, 0), &None);
 }
 
@@ -143,30 +143,41 @@ struct PlainJob {
     number: u64,
     unique: u8,
     kept: bool,
-    slot: Option<u32>,
+    place: Place,
+    returns: u32,
     deadline: u64,
     listeners: Vec<u32>,
 }
 
 impl PlainJob {
     fn is_orphan(&self) -> bool {
-        self.slot.is_none() && !self.kept && self.listeners.is_empty()
+        self.place == Place::Waiting && !self.kept && self.listeners.is_empty()
     }
 
     fn is_due(&self, now: u64) -> bool {
-        self.slot.is_some() && self.deadline <= now
+        self.place != Place::Waiting && self.deadline <= now
     }
 }
 
 fn assign_both(jobs: &mut Jobs, plain: &mut PlainJob, slot: u32, deadline: u64) {
     jobs.assign(plain.number, slot, Some(deadline));
-    plain.slot = Some(slot);
+    plain.place = Place::Running(slot);
     plain.deadline = deadline;
 }
 
-fn give_back_both(jobs: &mut Jobs, plain: &mut PlainJob) {
-    jobs.give_back(plain.number);
-    plain.slot = None;
+// A job that came back twice is lost the third time.
+fn give_back_both(rt: &impl Abort, jobs: &mut Jobs, plain: &mut PlainJob) {
+    let back = if plain.returns < 2 {
+        plain.place = Place::Waiting;
+        plain.returns += 1;
+        Back::Returned
+    } else {
+        plain.place = Place::Lost;
+        plain.deadline = 0;
+        Back::Lost
+    };
+    same(rt, "a return", &jobs.give_back(plain.number, 3), &back);
+    same(rt, "a place", &jobs.place(plain.number), &plain.place);
 }
 
 fn keep_both(jobs: &mut Jobs, plain: &mut PlainJob) {
@@ -182,6 +193,7 @@ fn listen_both(jobs: &mut Jobs, plain: &mut PlainJob, slot: u32) -> Result<(), A
 
 // One call at a job, of the table and of what it means.
 fn call_both(
+    rt: &impl Abort,
     jobs: &mut Jobs,
     plain: &mut PlainJob,
     slot: u32,
@@ -189,7 +201,7 @@ fn call_both(
 ) -> Result<(), AllocError> {
     match choice % 8 {
         0 | 1 | 2 => assign_both(jobs, plain, slot, choice / 8 % 64),
-        3 | 4 => give_back_both(jobs, plain),
+        3 | 4 => give_back_both(rt, jobs, plain),
         5 => keep_both(jobs, plain),
         _ => listen_both(jobs, plain, slot)?,
     }
@@ -230,7 +242,8 @@ impl Plain {
             number,
             unique,
             kept: false,
-            slot: None,
+            place: Place::Waiting,
+            returns: 0,
             deadline: 0,
             listeners: Vec::new(alloc),
         })?;
@@ -286,7 +299,7 @@ fn turn(rt: &impl Abort, jobs: &mut Jobs, plain: &mut Plain, choice: u64) -> Res
     } else if choice % 8 == 1 {
         leave_both(jobs, plain, slot);
     } else {
-        call_both(jobs, &mut plain.jobs[at], slot, choice / 8)?;
+        call_both(rt, jobs, &mut plain.jobs[at], slot, choice / 8)?;
     }
     Ok(())
 }
@@ -307,7 +320,7 @@ fn compare_orphans(rt: &impl Abort, jobs: &Jobs, plain: &Plain) {
 fn compare_run_by(rt: &impl Abort, jobs: &Jobs, plain: &Plain, slot: u32) {
     let mut after = 0;
     for job in &plain.jobs {
-        if job.slot == Some(slot) {
+        if job.place == Place::Running(slot) {
             same(rt, slot, &jobs.next_run_by(slot, after), &Some(job.number));
             after = job.number;
         }
