@@ -13,7 +13,13 @@ use crate::units::{FeedFault, Limits, Unit};
 use std::alloc::Global;
 use std::marker::Model;
 
+/// The most room that is kept where no byte is pending.
+const MOST_KEPT: usize = 65_536;
+
 /// Takes the bytes of a connection in pieces of any length, and gives them out as units.
+///
+/// Where no byte is pending it keeps room for at most 65,536: the memory of a large unit goes back when the next is asked
+/// for, and there is none.
 ///
 /// A fault that `next_unit` returns stays: from then on `feed` and `next_unit` return it again, and change
 /// nothing.
@@ -111,7 +117,10 @@ impl Feeder {
             return Err(fault);
         }
         match self.look() {
-            Head::Incomplete { .. } => Ok(None),
+            Head::Incomplete { .. } => {
+                self.let_go();
+                Ok(None)
+            }
             Head::Fault(fault) => {
                 self.fault = Some(fault);
                 Err(fault)
@@ -126,6 +135,16 @@ impl Feeder {
                 let bytes = text_of(whole);
                 Ok(Some(Unit::Line { bytes }))
             }
+        }
+    }
+
+    // Gives large memory back where nothing is in it that is still to be given out.
+    fn let_go(&mut self)
+        ensures { self.new ≡ self.old }
+    {
+        if self.start == self.buffer.len() && self.buffer.capacity() > MOST_KEPT {
+            self.buffer = Vec::new(*self.buffer.allocator());
+            self.start = 0;
         }
     }
 
