@@ -245,9 +245,10 @@ impl Conns {
         conn.last()
     }
 
-    /// How many connections can do the function.
+    /// How many connections can do the function. Of a slot without a connection nothing is known, so it isn't counted.
     pub fn able_count(&self, f: u32) -> u32
-        ensures { result ≡ able_count self.now f }
+        ensures value { result ≡ able_count self.now f }
+        ensures closed { (c : ℕ) → (conn self.now c).is_open ≡ false → conn self.now c ≡ closed }
     {
         match self.able.get(f as usize) {
             Some(able) => able.count(),
