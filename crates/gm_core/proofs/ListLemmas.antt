@@ -1,10 +1,11 @@
 -- The lists for administrators: what the tables tell is what the past says.
 use Rattle.std.proofs.Common.{◌≡◌, ℕ, zero, suc, ◌+◌, ◌<◌, ◌≤◌, Bool, true, false, ◌&&◌, if◌then◌else◌, List, [], ◌∷◌, ◌++◌}
-use Rattle.std.proofs.Common.{length, filter, map, drop, Option, Some, None, refl, sym, ap, ◌∙◌, arith}
+use Rattle.std.proofs.Common.{length, filter, count_by, cond, map, drop, Option, Some, None, refl, sym, ap, ◌∙◌, arith}
 use Rattle.std.specs.Prelude.{slice_get}
 use Rattle.std.specs.List.{list_any}
 use Rattle.std.proofs.Math.Numerals.{add-one}
 use Rattle.std.proofs.lemmas.List.{map-append, append_assoc}
+use Rattle.std.proofs.lemmas.List.Sums.{sum_by-cons}
 use Rattle.gm_admin.specs.Answers.{StatusLine, WorkerLine}
 use Rattle.gm_notes.specs.declared.note.Note.{Note}
 use Rattle.gm_notes.specs.declared.states.Mode.{Mode}
@@ -17,6 +18,7 @@ use Rattle.gm_notes.specs.JobStates as states
 use Rattle.gm_notes.specs.Past.{Past}
 use Rattle.gm_notes.specs.Lines.{status_rows, worker_rows}
 use Rattle.gm_conns.specs.ConnTables.{conn}
+use Rattle.gm_conns.specs.Connections.{Connection}
 use Rattle.gm_conns.specs.Connections as connections
 use Rattle.gm_conns.specs.ConnTables as conns
 use Rattle.gm_queues.specs.FunctionTables.{running_of}
@@ -31,15 +33,6 @@ use Rattle.gm_core.proofs.WakeLemmas.{able_is}
 
 -- ---- counts and rows, one slot after another
 
-pub counted_here : (P : ℕ → Bool) (slot count rest found : ℕ) → count ≡ suc rest → P slot ≡ true
-    → found + 1 + length (filter P (slots_from (slot + 1) rest)) ≡ found + length (filter P (slots_from slot count))
-counted_here P slot count rest found e holds =
-    rw (e, holds, add-one slot) (let n = length (filter P (slots_from (suc slot) rest)) in let same : found + 1 + n ≡ found + suc n = omega arith in same)
-
-pub counted_not : (P : ℕ → Bool) (slot count rest found : ℕ) → count ≡ suc rest → P slot ≡ false
-    → found + length (filter P (slots_from (slot + 1) rest)) ≡ found + length (filter P (slots_from slot count))
-counted_not P slot count rest found e holds = rw (e, holds, add-one slot) refl
-
 module _ {A B : Type 0} (row_of : A → B) (line : ℕ → B) (rows : List A) (i count : ℕ) where
   pub row_next : (rest : ℕ) (row : A) → count ≡ suc rest → row_of row ≡ line i
       → map row_of (rows ++ row ∷ []) ++ map line (slots_from (i + 1) rest) ≡ map row_of rows ++ map line (slots_from i count)
@@ -52,6 +45,29 @@ module _ {A B : Type 0} (row_of : A → B) (line : ℕ → B) (rows : List A) (i
   pub row_not : (P : ℕ → Bool) (rest : ℕ) → count ≡ suc rest → P i ≡ false
       → map row_of rows ++ map line (filter P (slots_from (i + 1) rest)) ≡ map row_of rows ++ map line (filter P (slots_from i count))
   row_not P rest e fails = rw (e, fails, add-one i) refl
+
+-- ---- connections that can do a function
+
+-- what a table has of a kind, counted by slot
+counted_by_slot : (P : ℕ → Bool) (Q : Connection → Bool) (xs : List Connection) (i : ℕ) → ((c : ℕ) → c < length xs → P (i + c) ≡ Q (conns.in_slot xs c))
+    → count_by Q xs ≡ length (filter P (slots_from i (length xs)))
+counted_by_slot P Q [] i same = refl
+counted_by_slot P Q (x ∷ xs) i same =
+    let rest = counted_by_slot P Q xs (suc i) (λ c within. ap P (let e : suc i + c ≡ i + suc c = omega arith in e) ∙ same (suc c) (omega (arith, within))) in
+    let here : P i ≡ Q x = ap P (let e : i ≡ i + 0 = omega arith in e) ∙ same 0 (omega arith) in
+    sum_by-cons (λ y. cond (Q y) 1 0) x xs ∙ (one_more (Q x) rest ∙ sym (counted P i (slots_from (suc i) (length xs)) ∙ ap (λ t. one t + length (filter P (slots_from (suc i) (length xs)))) here))
+  where
+    one_more : (t : Bool) {m n : ℕ} → m ≡ n → cond t 1 0 + m ≡ one t + n
+    one_more true e = omega (arith, e)
+    one_more false e = omega (arith, e)
+
+-- where no connection is in a slot, it can't do anything
+pub able_are_workers : (table : conns.Table) (f : ℕ) → ((c : ℕ) → (conn table c).is_open ≡ false → conn table c ≡ connections.closed) → conns.able_count table f ≡ workers table f
+able_are_workers table f ends = counted_by_slot (λ c. is_worker f (conn table c)) (connections.is_able f) table.conns 0 (λ c within. ap (λ d. is_worker f (conn table d)) (let e : 0 + c ≡ c = omega arith in e) ∙ by c (conn table c).is_open refl)
+  where
+    by : (c : ℕ) (t : Bool) → (conn table c).is_open ≡ t → is_worker f (conn table c) ≡ connections.is_able f (conn table c)
+    by c true e = ap (λ b. b && connections.is_able f (conn table c)) e
+    by c false e = rw (ends c e) refl
 
 -- ---- the names of abilities
 

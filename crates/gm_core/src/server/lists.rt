@@ -7,7 +7,7 @@ ghost use Rattle.gm_conns.specs.ConnTables.{IsOpen, conn};
 ghost use Rattle.gm_notes.specs.Lines.{status_rows, worker_rows};
 ghost use Rattle.gm_notes.specs.Past.{Past, with_output};
 ghost use Rattle.gm_core.specs.Holds.{name_at};
-ghost use Rattle.gm_core.specs.Listings.{is_worker, workers, status_line_of, status_lines, names_of, worker_line_of, worker_lines};
+ghost use Rattle.gm_core.specs.Listings.{workers, status_line_of, status_lines, names_of, worker_line_of, worker_lines};
 
 use super::Core;
 use gm_admin::{StatusRow, WorkerRow, write_status, write_workers};
@@ -15,24 +15,11 @@ use gm_conns::Conns;
 use gm_queues::Functions;
 use std::alloc::{AllocError, Global};
 
-/// Whether a connection is in a slot that can do a function.
-fn is_worker(conns: &Conns, slot: u32, f: u32) -> bool
-    ensures { result ≡ is_worker f (conn conns.now slot) }
-{
-    conns.is_open(slot) && conns.timeout_of(slot, f).is_some()
-}
-
 /// How many connections can do a function.
 fn workers(conns: &Conns, f: u32) -> u32
     ensures { result ≡ workers conns.now f }
 {
-    let mut count = 0;
-    for slot in 0..conns.slots() {
-        if is_worker(conns, slot, f) {
-            count += 1;
-        }
-    }
-    count
+    conns.able_count(f)
 }
 
 /// What the list of functions says of one. Where its jobs are more than a number holds, memory is wanting.
