@@ -87,8 +87,8 @@ module _ (taped : Bool) (c : ℕ) (old : Stream) (share mid_share after : List T
   }
 
   -- the unit or the fault that stands there was refused
-  pub unloads_some : (s : Step) (end : SessionEnd) → Applies taped s (Err end) mid_share after → Unloads taped c old (Err end) share after new
-  unloads_some s end applies = record {
+  pub unloads_some : (end : SessionEnd) → Adds taped [] mid_share after × (IsWhole end → ⊥) → Unloads taped c old (Err end) share after new
+  unloads_some end applies = record {
     rest = mid.pending;
     fault = None;
     hands = hands taped c old.limits old.pending mid.pending None share mid_share after u.handed tt applies.0;

@@ -3,9 +3,11 @@
 use crate::connection::start;
 use crate::error::ServeError;
 use crate::gate::Gate;
+use crate::keepalive::set_keepalive;
 use crate::state::ServerState;
 use gm_notes::Event;
 use gm_shared::{BookName, Desk};
+use libc::EMFILE;
 use std::alloc::AllocError;
 use std::io::ErrorKind;
 use std::net::{SocketAddr, TcpListener, TcpStream};
@@ -29,15 +31,14 @@ pub(crate) fn set_accept_timeout(listener: &TcpListener) -> io::Result<()> {
 /// Sets up an accepted socket, which has its listener's timeout at first.
 fn prepare(stream: &TcpStream) -> io::Result<()> {
     stream.set_read_timeout(None)?;
+    set_keepalive(stream);
     stream.set_nodelay(true)
 }
 
-/// Whether a listener that failed so goes on.
-fn goes_on(error: &io::Error) -> bool {
-    !matches!(
-        error.kind(),
-        ErrorKind::InvalidInput | ErrorKind::Unsupported
-    )
+/// Whether a listener that failed so is one no more. All else that `accept` says comes of one connection or of others
+/// that are open, and passes.
+fn is_over(error: &io::Error) -> bool {
+    error.kind() == ErrorKind::InvalidInput
 }
 
 /// Whether no connection came, or the one that did is gone.
@@ -61,6 +62,8 @@ pub(crate) struct Control<'s, K: BookName> {
     begun: Option<Instant>,
     /// The last second that was told.
     second: u64,
+    /// Whether it was said that connections are refused for want of descriptors.
+    has_warned: bool,
 }
 
 impl<'s, K: BookName + Send + Sync> Control<'s, K> {
@@ -71,6 +74,7 @@ impl<'s, K: BookName + Send + Sync> Control<'s, K> {
             opened: 0,
             begun: Instant::now(rt).ok(),
             second: 0,
+            has_warned: false,
         }
     }
 
@@ -91,7 +95,7 @@ impl<'s, K: BookName + Send + Sync> Control<'s, K> {
     }
 
     /// Opens a connection. One that is refused is closed without a byte.
-    fn admit<E, R: Threads + Wait + Sync, G: Gate>(
+    fn admit<E, R: Threads + Wait + Clock + Sync, G: Gate>(
         &mut self,
         scope: &Scope<'s, E>,
         rt: &'s R,
@@ -119,8 +123,20 @@ impl<'s, K: BookName + Send + Sync> Control<'s, K> {
         Ok(())
     }
 
+    /// Waits where no connection can be taken at present, and says so once where descriptors are wanting: others have to
+    /// close theirs first.
+    fn hold_on(&mut self, rt: &(impl Clock + Eprint), error: &io::Error) {
+        if error.raw_os_error() == Some(EMFILE) && !self.has_warned {
+            self.has_warned = true;
+            let _ = eprintln!(rt;
+                "gmd: connections wait, for there are too few descriptors: {error}"
+            );
+        }
+        thread::sleep(rt, Duration::from_millis(ACCEPT_TIMEOUT));
+    }
+
     /// Takes connections and tells the time until the server is over.
-    fn take_all<E, R: Threads + Wait + Clock + Sync, G: Gate>(
+    fn take_all<E, R: Threads + Wait + Clock + Eprint + Sync, G: Gate>(
         &mut self,
         scope: &Scope<'s, E>,
         rt: &'s R,
@@ -135,11 +151,8 @@ impl<'s, K: BookName + Send + Sync> Control<'s, K> {
                     let _ = self.admit(scope, rt, gate, stream, peer);
                 }
                 Err(error) if is_usual(&error) => {}
-                Err(error) if goes_on(&error) => {
-                    // There may be too many open files, which others have to close first.
-                    thread::sleep(rt, Duration::from_millis(ACCEPT_TIMEOUT));
-                }
-                Err(_) => return Err(ServeError::Listen),
+                Err(error) if is_over(&error) => return Err(ServeError::Listen),
+                Err(error) => self.hold_on(rt, &error),
             }
             if self.state.is_over() {
                 break;
@@ -153,7 +166,7 @@ impl<'s, K: BookName + Send + Sync> Control<'s, K> {
 
     /// Takes connections and tells the time until the server is over, has each connection end that is left, and hands
     /// back the desk. It answers how many connections were opened.
-    pub(crate) fn run<E, R: Threads + Wait + Clock + Sync, G: Gate>(
+    pub(crate) fn run<E, R: Threads + Wait + Clock + Eprint + Sync, G: Gate>(
         mut self,
         scope: &Scope<'s, E>,
         rt: &'s R,

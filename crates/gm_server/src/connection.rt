@@ -7,9 +7,10 @@ use std::alloc::Global;
 use std::net::TcpStream;
 use std::sync::{Arc, Wait};
 use std::thread::{Scope, Threads};
+use std::time::Clock;
 
 /// Starts the reader and the writer of a connection, and says whether it could.
-pub(crate) fn start<'s, E, K: BookName + Send + Sync, G: Gate, R: Threads + Wait + Sync>(
+pub(crate) fn start<'s, E, K: BookName + Send + Sync, G: Gate, R: Threads + Wait + Clock + Sync>(
     scope: &Scope<'s, E>,
     rt: &'s R,
     state: &'s ServerState<K>,

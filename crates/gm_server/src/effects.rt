@@ -2,7 +2,8 @@
 
 use gm_conns::SlotSet;
 use gm_notes::Mode;
-use std::sync::{Mutex, Wait};
+use std::sync::Mutex;
+use std::time::Instant;
 
 /// What came of some events.
 #[derive(Drop)]
@@ -29,13 +30,16 @@ impl Effects {
     }
 }
 
-/// What a session needs of its server.
-pub(crate) trait Notify {
+/// What a session needs of its server, with the runtime that it has.
+pub(crate) trait Notify<R> {
     /// Long pieces pass it one after another.
     fn long_piece_lock(&self) -> &Mutex<()>;
 
-    /// Tells what came of a piece, with the book's lock let go.
-    fn notify<R: Wait>(&self, rt: &R, effects: &Effects);
+    /// Whether a session has had its time, and others are to be told what came of it. It keeps when it was first asked.
+    fn is_time(&self, rt: &R, begun: &mut Option<Instant>) -> bool;
+
+    /// Tells what came of some units, with the book's lock let go.
+    fn notify(&self, rt: &R, effects: &Effects);
 }
 
 /// A session that is served alone: nobody is told, and nobody waits.
@@ -52,10 +56,14 @@ impl Alone {
     }
 }
 
-impl Notify for Alone {
+impl<R> Notify<R> for Alone {
     fn long_piece_lock(&self) -> &Mutex<()> {
         &self.long_piece_lock
     }
 
-    fn notify<R: Wait>(&self, _rt: &R, _effects: &Effects) {}
+    fn is_time(&self, _rt: &R, _begun: &mut Option<Instant>) -> bool {
+        false
+    }
+
+    fn notify(&self, _rt: &R, _effects: &Effects) {}
 }

@@ -1,6 +1,6 @@
 //! What a slot has of its own: where its connection's events are handed in, and the way of its bytes to the socket.
 
-use crate::message::{Halt, noop_if, write_both};
+use crate::message::{Halt, noop_if, write_once};
 use crossbeam_utils::sync::{Parker, Unparker};
 use gm_shared::{BookName, Desk, Pen, Shared};
 use std::alloc::{AllocError, Global};
@@ -8,16 +8,31 @@ use std::io::Write;
 use std::net::{Shutdown, TcpStream};
 use std::sync::atomic::{AtomicBool, Ordering};
 use std::sync::{Arc, Condvar, Mutex, Wait};
-use std::time::Duration;
+use std::time::{Clock, Duration, Instant};
 
 /// How long a write waits that isn't the writer's, in milliseconds: about the least that a system can wait.
 const WRITE_TIMEOUT: u64 = 1;
 
-/// How long a write of the writer waits at a time for a peer that takes nothing, in milliseconds.
+/// How long a write of the writer waits at a time, in milliseconds.
 const WRITER_TIMEOUT: u64 = 250;
 
-/// After this many such waits in a row a connection that is to end is ended, where the peer takes nothing at all.
-const MAX_STALLS: u32 = 8;
+/// How long a connection that is to end has for what it is still to be sent, in milliseconds.
+const ENDING_TIME: u64 = 2_000;
+
+/// Whether so many milliseconds have passed since this was first asked, which it keeps. Where the clock can't be read, they
+/// have.
+pub(crate) fn is_over(rt: &impl Clock, begun: &mut Option<Instant>, time: u64) -> bool {
+    match begun {
+        Some(begun) => match begun.elapsed(rt) {
+            Ok(elapsed) => elapsed >= Duration::from_millis(time),
+            Err(_) => true,
+        },
+        None => {
+            *begun = Instant::now(rt).ok();
+            begun.is_none()
+        }
+    }
+}
 
 /// What is being sent: drained bytes, and then a NOOP where one was taken.
 #[derive(Drop)]
@@ -28,18 +43,20 @@ struct Message {
 }
 
 impl Message {
-    /// Sends what isn't written yet.
+    /// Sends what isn't written yet, as far as the peer takes it at once.
     fn send<W: Write>(&mut self, w: &mut W) -> Result<(), Halt> {
         let noop = noop_if(self.took);
         let first = self.written.min(self.bytes.len());
-        let second = (self.written - first).min(noop.len());
-        match write_both(&self.bytes[first..], &noop[second..], w) {
-            Ok(()) => Ok(()),
-            Err(halt) => {
-                self.written = self.written.saturating_add(halt.written);
-                Err(halt)
-            }
+        if let Err(halt) = write_once(&self.bytes[first..], w) {
+            self.written = first + halt.written;
+            return Err(halt);
         }
+        let second = (self.written - first).min(noop.len());
+        if let Err(halt) = write_once(&noop[second..], w) {
+            self.written = self.bytes.len().saturating_add(second + halt.written);
+            return Err(halt);
+        }
+        Ok(())
     }
 }
 
@@ -48,7 +65,7 @@ impl Message {
 pub(crate) enum Delivery {
     /// All was sent.
     Done,
-    /// The peer takes nothing at present; what is left waits in the lane.
+    /// The peer takes no more at present; what is left waits in the lane.
     Late,
     /// There is no connection to send to.
     Over,
@@ -71,14 +88,6 @@ impl<K: BookName> Outgoing<K> {
             let _ = stream.shutdown(Shutdown::Both);
         }
         self.left = None;
-    }
-
-    /// How much of the present message is written.
-    fn written(&self) -> Option<usize> {
-        match &self.left {
-            Some(message) => Some(message.written),
-            None => None,
-        }
     }
 
     /// Sets how long a write waits, in milliseconds.
@@ -200,10 +209,15 @@ impl<K: BookName> Lane<K> {
         self.released.notify_all();
     }
 
+    /// Has the writer send what there is.
+    pub(crate) fn wake_writer(&self) {
+        self.unparker.unpark();
+    }
+
     /// Has the writer send what there is, and end the connection.
     pub(crate) fn request_close(&self) {
         self.is_ending.store(true, Ordering::SeqCst);
-        self.unparker.unpark();
+        self.wake_writer();
     }
 
     /// Has the writer send what there is, and waits until it has let go of the connection.
@@ -215,43 +229,41 @@ impl<K: BookName> Lane<K> {
         drop(outgoing);
     }
 
-    /// Delivers, if nobody else does and the peer isn't slow; else it has the writer do so.
-    pub(crate) fn try_deliver(&self, rt: &impl Wait, shared: &Shared<K>) {
+    /// Delivers, if nobody else does and the peer isn't slow; else it has the writer do so. It says whether it found the
+    /// peer slow.
+    pub(crate) fn try_deliver(&self, rt: &impl Wait, shared: &Shared<K>) -> bool {
         let Some(mut outgoing) = self.outgoing.try_lock() else {
             // Who has the lock may have looked before there was anything to send.
-            self.unparker.unpark();
-            return;
+            self.wake_writer();
+            return false;
         };
         // What is left is the writer's to send, which was told when it was left.
         if outgoing.left.is_some() {
-            return;
+            return false;
         }
         let delivery = outgoing.deliver(rt, shared);
         drop(outgoing);
-        if delivery == Delivery::Late {
-            self.unparker.unpark();
+        let is_late = delivery == Delivery::Late;
+        if is_late {
+            self.wake_writer();
         }
+        is_late
     }
 
-    /// Delivers, and waits for a slow peer; where the connection is to end, not for long.
-    fn deliver_patiently(&self, rt: &impl Wait, shared: &Shared<K>) {
+    /// Delivers, and waits for a slow peer; where the connection is to end, not for long, however the peer takes it.
+    fn deliver_patiently<R: Wait + Clock>(&self, rt: &R, shared: &Shared<K>) {
         let mut outgoing = self.outgoing.lock(rt);
         if outgoing.deliver(rt, shared) != Delivery::Late {
             return;
         }
         outgoing.set_write_timeout(WRITER_TIMEOUT);
-        let mut stalls = 0u32;
+        let mut end_seen = None;
         for _ in rt.forever() {
-            let before = outgoing.written();
             if outgoing.deliver(rt, shared) != Delivery::Late {
                 break;
             }
-            if outgoing.written() != before {
-                stalls = 0;
-            } else if self.is_ending.load(Ordering::SeqCst) {
-                stalls = stalls.saturating_add(1);
-            }
-            if stalls >= MAX_STALLS {
+            let is_ending = self.is_ending.load(Ordering::SeqCst);
+            if is_ending && is_over(rt, &mut end_seen, ENDING_TIME) {
                 outgoing.hang_up();
                 break;
             }
@@ -260,7 +272,7 @@ impl<K: BookName> Lane<K> {
     }
 
     /// Runs the writer of a connection.
-    pub(crate) fn run_writer(&self, rt: &impl Wait, shared: &Shared<K>) {
+    pub(crate) fn run_writer<R: Wait + Clock>(&self, rt: &R, shared: &Shared<K>) {
         let parker = self.parker.lock(rt);
         for _ in rt.forever() {
             let is_last = self.is_ending.load(Ordering::SeqCst);

@@ -21,7 +21,7 @@ pub struct WriteFault {
 pub(crate) struct Halt {
     /// How many bytes were written.
     pub(crate) written: usize,
-    /// Whether the peer takes nothing at present. Else the writer failed, or took no byte.
+    /// Whether the peer takes no more at present. Else the writer failed, or took no byte.
     pub(crate) late: bool,
 }
 
@@ -38,6 +38,28 @@ pub(crate) fn noop_if(took: bool) -> &'static [u8]
     ensures { result.now ≡ noop_if took }
 {
     if took { NOOP } else { &[] }
+}
+
+/// Writes the bytes, if the writer takes them in one write. Where it takes some, it takes no more at present.
+pub(crate) fn write_once<W: Write>(bytes: &[u8], w: &mut W) -> Result<(), Halt>
+    ensures ok { OnOk result (Appends (W.contents w.old) (W.contents w.new) bytes.now) }
+    ensures within { IfErr result (λ halt. halt.written ≤ length bytes.now) }
+    ensures halt { IfErr result (λ halt. Appends (W.contents w.old) (W.contents w.new) (take halt.written bytes.now)) }
+{
+    if bytes.is_empty() {
+        return Ok(());
+    }
+    match w.write(bytes) {
+        Ok(count) if count == bytes.len() => Ok(()),
+        Ok(written) => Err(Halt {
+            written,
+            late: written > 0,
+        }),
+        Err(error) => Err(Halt {
+            written: 0,
+            late: is_late(&error),
+        }),
+    }
 }
 
 /// Writes the bytes.
@@ -66,7 +88,7 @@ fn write_bytes<W: Write>(bytes: &[u8], w: &mut W) -> Result<(), Halt>
 }
 
 /// Writes two pieces, one after the other.
-pub(crate) fn write_both<W: Write>(first: &[u8], second: &[u8], w: &mut W) -> Result<(), Halt>
+fn write_both<W: Write>(first: &[u8], second: &[u8], w: &mut W) -> Result<(), Halt>
     requires { length first.now + length second.now < 2 ^ 64 }
     ensures ok { OnOk result (Appends (W.contents w.old) (W.contents w.new) (first.now ++ second.now)) }
     ensures within { IfErr result (λ halt. halt.written ≤ length (first.now ++ second.now)) }

@@ -6,6 +6,7 @@ ghost use Rattle.gm_server.specs.Statuses.{run_status, ended_status};
 use crate::args::{Args, parse_args};
 use crate::error::ServeError;
 use crate::gate::OpenGate;
+use crate::ready::Ready;
 use crate::server::serve;
 use crate::settings::{Served, Settings};
 use clap::error::ErrorKind;
@@ -126,6 +127,20 @@ fn print_listening<W: Write>(w: &mut W) -> io::Result<()> {
     w.flush()
 }
 
+/// Where it is said that the server listens, and whether that could be said.
+#[derive(Drop)]
+struct Listening<'w, W> {
+    output: &'w mut W,
+    told: io::Result<()>,
+}
+
+impl<'w, W: Write> Ready for Listening<'w, W> {
+    fn tell(&mut self) -> bool {
+        self.told = print_listening(self.output);
+        self.told.is_ok()
+    }
+}
+
 /// That it can't listen, and why.
 fn cannot_listen(alloc: Global, args: Args<'_>, error: io::Error) -> Result<RunError, AllocError> {
     let Args { port, listen, .. } = args;
@@ -139,6 +154,7 @@ fn serve_on<
         + Clock
         + RandomSource
         + Net<Listener = TcpListener, Stream = TcpStream>
+        + Eprint
         + AllocGlobal
         + Sync,
     W: Write,
@@ -150,8 +166,22 @@ fn serve_on<
         Ok(listener) => listener,
         Err(error) => return Err(cannot_listen(rt.alloc(), args, error)?),
     };
-    written(print_listening(w))?;
-    match serve(rt, rt.alloc(), seed, listener, settings, &OpenGate) {
+    let mut listening = Listening {
+        output: w,
+        told: Ok(()),
+    };
+    let alloc = rt.alloc();
+    let outcome = serve(
+        rt,
+        alloc,
+        seed,
+        listener,
+        settings,
+        &OpenGate,
+        &mut listening,
+    );
+    written(listening.told)?;
+    match outcome {
         Ok(served) => Ok(served),
         Err(error) => Err(RunError::Serve(error)),
     }

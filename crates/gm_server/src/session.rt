@@ -13,13 +13,17 @@ use gm_notes::{ApplyError, Event};
 use gm_shared::{BookName, Desk, Shared};
 use std::alloc::Global;
 use std::io::{ErrorKind, Read};
-use std::sync::Wait;
+use std::sync::{MutexGuard, Wait};
+use std::time::Instant;
 
 /// The most bytes that are read at a time.
 const PIECE: usize = 16_384;
 
 /// The most bytes of a piece that doesn't wait for others: a few requests without data.
 const SHORT_PIECE: usize = 256;
+
+/// After how many units a session looks whether its turn is over.
+const UNITS_A_LOOK: u32 = 8;
 
 /// The most pieces that a session reads.
 const MOST_PIECES: u64 = 1_099_511_627_776;
@@ -92,37 +96,74 @@ struct Session<'s, K: BookName, R, G, N> {
     server: &'s N,
 }
 
-impl<'s, K: BookName, R: Wait, G: Gate, N: Notify> Session<'s, K, R, G, N> {
-    /// Takes each unit that stands in the feeder, and the fault after them. Where the session is over, it says why.
-    fn unload(&mut self) -> Result<(), SessionEnd>
+/// A session's turn: what it does before others are told what came of that.
+#[derive(Drop)]
+struct Turn<'s> {
+    /// Held over a long piece, so that no other session has such a turn. Many units in a row, of several connections at
+    /// once, would wake and sleep at the book's lock at each unit.
+    _alone: Option<MutexGuard<'s, ()>>,
+    units: u32,
+    begun: Option<Instant>,
+}
+
+impl<'s> Turn<'s> {
+    /// Whether it is over, after a unit more. A text line may be the work of many units, so it ends a turn.
+    fn is_over<R, N: Notify<R>>(&mut self, server: &N, rt: &R, is_line: bool) -> bool {
+        self.units = self.units.wrapping_add(1);
+        is_line || self.units % UNITS_A_LOOK == 0 && server.is_time(rt, &mut self.begun)
+    }
+}
+
+/// Has the server tell what came of events, after which there is nothing more to tell.
+fn tell<R, N: Notify<R>>(server: &N, rt: &R, effects: &mut Effects) {
+    server.notify(rt, effects);
+    *effects = Effects::new();
+}
+
+impl<'s, K: BookName, R: Wait, G: Gate, N: Notify<R>> Session<'s, K, R, G, N> {
+    /// The next turn, of a long piece or a short one.
+    fn turn(&self, is_long: bool) -> Turn<'s> {
+        let server = self.server;
+        let alone = if is_long {
+            Some(server.long_piece_lock().lock(self.applier.rt))
+        } else {
+            None
+        };
+        Turn {
+            _alone: alone,
+            units: 0,
+            begun: None,
+        }
+    }
+
+    /// Takes each unit that stands in the feeder, and the fault after them. Where the session is over, it says why. Where
+    /// its turn is over, it tells what came of it, and others have theirs.
+    fn unload(&mut self, is_long: bool) -> Result<(), SessionEnd>
         ensures unloads { Unloads K.taped self.old.applier.slot self.old.feeder result self.old.applier.desk.now.share.items self.new.applier.desk.now.share.items self.new.feeder }
         ensures same_desk { self.new.applier.desk.ghost_name ≡ self.old.applier.desk.ghost_name }
         ensures slot { self.new.applier.slot ≡ self.old.applier.slot }
     {
         let slot = self.applier.slot;
+        let mut turn = self.turn(is_long);
         loop {
-            match next_event(&mut self.feeder, slot) {
-                Next::Unit(event) => self.applier.apply_unit(event)?,
+            let is_line = match next_event(&mut self.feeder, slot) {
+                Next::Unit(event) => {
+                    let is_line = matches!(event, Event::Line { .. });
+                    self.applier.apply_unit(event)?;
+                    is_line
+                }
                 Next::Wait => return Ok(()),
                 Next::Fault(fault) => {
                     self.applier.apply(Event::Fault { slot, fault })?;
                     return Err(SessionEnd::Shut);
                 }
+            };
+            if turn.is_over(self.server, self.applier.rt, is_line) {
+                drop(turn);
+                tell(self.server, self.applier.rt, &mut self.applier.effects);
+                turn = self.turn(is_long);
             }
         }
-    }
-
-    /// The same, while no other session does it. Many units in a row, of several connections at once, would wake and sleep
-    /// at the book's lock at each unit.
-    fn unload_alone(&mut self) -> Result<(), SessionEnd>
-        ensures unloads { Unloads K.taped self.old.applier.slot self.old.feeder result self.old.applier.desk.now.share.items self.new.applier.desk.now.share.items self.new.feeder }
-        ensures same_desk { self.new.applier.desk.ghost_name ≡ self.old.applier.desk.ghost_name }
-        ensures slot { self.new.applier.slot ≡ self.old.applier.slot }
-    {
-        let held = self.server.long_piece_lock().lock(self.applier.rt);
-        let outcome = self.unload();
-        drop(held);
-        outcome
     }
 
     /// Takes a piece, and tells what came of it. Where the session is over, it says why.
@@ -134,13 +175,8 @@ impl<'s, K: BookName, R: Wait, G: Gate, N: Notify> Session<'s, K, R, G, N> {
         let Ok(()) = self.feeder.feed(piece) else {
             return Err(SessionEnd::Memory);
         };
-        let outcome = if piece.len() > SHORT_PIECE {
-            self.unload_alone()
-        } else {
-            self.unload()
-        };
-        self.server.notify(self.applier.rt, &self.applier.effects);
-        self.applier.effects = Effects::new();
+        let outcome = self.unload(piece.len() > SHORT_PIECE);
+        tell(self.server, self.applier.rt, &mut self.applier.effects);
         outcome
     }
 
@@ -185,8 +221,8 @@ fn read_piece<I: Read>(reader: &mut I, buffer: &mut [u8]) -> Result<usize, Sessi
     }
 }
 
-/// Runs a session, and tells the server of each piece what came of it.
-pub(crate) fn run_session<'s, K: BookName, R: Wait, I: Read, G: Gate, N: Notify>(
+/// Runs a session, and tells the server what came of each piece, or of some of its units.
+pub(crate) fn run_session<'s, K: BookName, R: Wait, I: Read, G: Gate, N: Notify<R>>(
     rt: &'s R,
     alloc: Global,
     reader: &mut I,

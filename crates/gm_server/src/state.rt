@@ -5,7 +5,7 @@ ghost use Rattle.gm_notes.specs.Servers.{IsSized};
 
 use crate::effects::{Effects, Notify};
 use crate::gate::Gate;
-use crate::lane::Lane;
+use crate::lane::{Lane, is_over};
 use crate::session::run_session;
 use gm_feeder::Limits;
 use gm_notes::{ApplyError, Event, Mode};
@@ -14,6 +14,13 @@ use std::alloc::{AllocError, Global};
 use std::net::TcpStream;
 use std::sync::atomic::{AtomicBool, AtomicU64, Ordering};
 use std::sync::{Mutex, Wait};
+use std::time::{Clock, Instant};
+
+/// How long one who isn't the writer goes on writing to others, in milliseconds. The writers do the rest.
+const DELIVERING_TIME: u64 = 10;
+
+/// How long a session goes on before others are told what came of it, in milliseconds.
+const TURN_TIME: u64 = 1;
 
 /// What all threads of a server share.
 #[derive(Drop)]
@@ -113,17 +120,25 @@ impl<K: BookName> ServerState<K> {
         }
     }
 
-    /// Delivers to each of the slots.
-    fn deliver(&self, rt: &impl Wait, effects: &Effects) {
+    /// Delivers to each of the slots, until a peer is found slow or the time is over; then it has the writers do so.
+    fn deliver<R: Wait + Clock>(&self, rt: &R, effects: &Effects) {
+        let mut begun = None;
+        let mut is_late = false;
         for slot in &effects.touched {
-            if let Some(lane) = self.lane(slot) {
-                lane.try_deliver(rt, &self.shared);
+            let Some(lane) = self.lane(slot) else {
+                continue;
+            };
+            if is_late {
+                lane.wake_writer();
+                continue;
             }
+            is_late = lane.try_deliver(rt, &self.shared)
+                || is_over(rt, &mut begun, DELIVERING_TIME);
         }
     }
 
     /// Applies an event at a desk, and tells what came of it. It answers the slot that was opened.
-    pub(crate) fn apply<R: Wait>(
+    pub(crate) fn apply<R: Wait + Clock>(
         &self,
         rt: &R,
         desk: &mut Desk<K>,
@@ -140,14 +155,14 @@ impl<K: BookName> ServerState<K> {
 
     /// Closes a slot. With a tape memory may be wanting for that: then the slot stays open in the book, and the server
     /// is over.
-    pub(crate) fn close<R: Wait>(&self, rt: &R, desk: &mut Desk<K>, slot: u32) {
+    pub(crate) fn close<R: Wait + Clock>(&self, rt: &R, desk: &mut Desk<K>, slot: u32) {
         if let Err(ApplyError::Memory) = self.apply(rt, desk, Event::Close { slot }) {
             self.out_of_memory.store(true, Ordering::SeqCst);
         }
     }
 
     /// Runs the reader of a connection, and ends the connection with it.
-    pub(crate) fn run_reader<R: Wait, G: Gate>(
+    pub(crate) fn run_reader<R: Wait + Clock, G: Gate>(
         &self,
         rt: &R,
         gate: &G,
@@ -209,12 +224,16 @@ impl<K: BookName> ServerState<K> {
     }
 }
 
-impl<K: BookName> Notify for ServerState<K> {
+impl<K: BookName, R: Wait + Clock> Notify<R> for ServerState<K> {
     fn long_piece_lock(&self) -> &Mutex<()> {
         &self.long_piece_lock
     }
 
-    fn notify<R: Wait>(&self, rt: &R, effects: &Effects) {
+    fn is_time(&self, rt: &R, begun: &mut Option<Instant>) -> bool {
+        is_over(rt, begun, TURN_TIME)
+    }
+
+    fn notify(&self, rt: &R, effects: &Effects) {
         match effects.mode {
             Mode::Running => {}
             Mode::Graceful => self.is_ending.store(true, Ordering::SeqCst),
