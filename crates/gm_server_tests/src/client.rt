@@ -1,9 +1,12 @@
 //! A client over loopback.
 
+use libc::net::{AF_INET, SO_RCVBUF, SOCK_STREAM, SOL_SOCKET, connect, setsockopt, socket};
+use os::FromRawFd;
 use std::alloc::{AllocError, Global};
 use std::io;
-use std::io::{Read, Write};
+use std::io::{ErrorKind, Read, Write};
 use std::net::{Net, SocketAddr, TcpStream};
+use std::os::fd::OwnedFd;
 
 /// These, one after another.
 pub fn joined(alloc: Global, parts: &[&[u8]]) -> Result<Vec<u8>, AllocError> {
@@ -12,6 +15,36 @@ pub fn joined(alloc: Global, parts: &[&[u8]]) -> Result<Vec<u8>, AllocError> {
         bytes.extend_from_slice(part)?;
     }
     Ok(bytes)
+}
+
+/// An address as the system reads it (ip(7)).
+fn encoded(addr: SocketAddr) -> io::Result<[u8; 128]> {
+    let SocketAddr::V4(addr) = addr else {
+        return Err(io::Error::from(ErrorKind::Unsupported));
+    };
+    let mut bytes = [0; 128];
+    bytes[..2].copy_from_slice(&2u16.to_ne_bytes());
+    bytes[2..4].copy_from_slice(&addr.port().to_be_bytes());
+    bytes[4..8].copy_from_slice(&addr.ip().octets());
+    Ok(bytes)
+}
+
+/// A connection for which the system keeps at most so many bytes that weren't read yet, or a little more.
+fn connect_narrow(addr: SocketAddr, most: i32) -> io::Result<TcpStream> {
+    let addr = encoded(addr)?;
+    let fd = unsafe { socket(AF_INET, SOCK_STREAM, 0) };
+    if fd < 0 {
+        return Err(io::Error::from(ErrorKind::Other));
+    }
+    let owned = unsafe { OwnedFd::from_raw_fd(fd) };
+    let mut value = [0; 16];
+    value[..4].copy_from_slice(&most.to_ne_bytes());
+    let set = unsafe { setsockopt(fd, SOL_SOCKET, SO_RCVBUF, &value, 4) };
+    let connected = unsafe { connect(fd, &addr, 16) };
+    if set < 0 || connected < 0 {
+        return Err(io::Error::from(ErrorKind::Other));
+    }
+    Ok(TcpStream::from(owned))
 }
 
 /// A packet that came: its type, and its data.
@@ -38,6 +71,12 @@ impl Client {
         Ok(Client { alloc, stream })
     }
 
+    /// A client that takes its answers in small pieces, since its system keeps few of their bytes.
+    pub fn connect_narrow(alloc: Global, addr: SocketAddr) -> io::Result<Client> {
+        let stream = connect_narrow(addr, 4096)?;
+        Ok(Client { alloc, stream })
+    }
+
     pub fn alloc(&self) -> Global {
         self.alloc
     }
@@ -59,6 +98,12 @@ impl Client {
         let mut bytes = vec![in self.alloc; 0; count]?;
         self.stream.read_exact(&mut bytes)?;
         Ok(bytes)
+    }
+
+    /// Reads so many bytes at most, and says how many came; none come at the end.
+    pub fn read_some(&mut self, count: usize) -> io::Result<usize> {
+        let mut bytes = vec![in self.alloc; 0; count]?;
+        self.stream.read(&mut bytes)
     }
 
     /// Reads four bytes as a number.

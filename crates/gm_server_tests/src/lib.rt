@@ -30,4 +30,6 @@ mod room;
 #[cfg(test)]
 mod sessions;
 #[cfg(test)]
+mod slow_peers;
+#[cfg(test)]
 mod tapes;

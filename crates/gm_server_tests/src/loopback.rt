@@ -4,9 +4,10 @@ use crate::checks::{must, same};
 use crate::client::Client;
 use crate::jobs::{Crowd, results};
 use crate::retries::retries;
+use crate::slow_peers::{Sleeper, end_beside, steady, wakes};
 use gm_feeder::Limits;
 use gm_notes::Config;
-use gm_server::{Gate, OpenGate, Served, Settings, serve};
+use gm_server::{Gate, OpenGate, Served, Settings, Unannounced, serve};
 use std::alloc::{AllocError, Global};
 use std::hash::RandomState;
 use std::net::{Net, SocketAddr, TcpListener, TcpStream};
@@ -21,7 +22,7 @@ use std::{io, thread};
 
 /// Serves with so many slots until a shutdown, where a job is given to two workers at most, with a tape or without; `None` where it can't, or where the tape differs from
 /// what was told.
-fn served<R: Threads + Wait + Clock + RandomSource + Sync, G: Gate>(
+fn served<R: Threads + Wait + Clock + RandomSource + Eprint + Sync, G: Gate>(
     rt: &R,
     alloc: Global,
     listener: TcpListener,
@@ -39,19 +40,43 @@ fn served<R: Threads + Wait + Clock + RandomSource + Sync, G: Gate>(
         },
         tape,
     };
-    serve(rt, alloc, seed, listener, settings, gate).ok()
+    serve(rt, alloc, seed, listener, settings, gate, &mut Unannounced).ok()
 }
 
-/// Holds what slot 0 sends until the client of slot 1 has read its answer, but not for ever.
+/// Holds what slot 0 sends, from one of its units on, until the client of slot 1 has read its answer, but not for ever.
+/// It pauses for some milliseconds halfway.
 #[derive(Drop)]
 pub struct Hold {
+    from: u64,
     may_pass: AtomicBool,
     gave_up: AtomicBool,
 }
 
+impl Hold {
+    pub fn new(from: u64) -> Hold {
+        Hold {
+            from,
+            may_pass: AtomicBool::new(false),
+            gave_up: AtomicBool::new(false),
+        }
+    }
+
+    pub fn let_pass(&self) {
+        self.may_pass.store(true, Ordering::SeqCst);
+    }
+}
+
 impl Gate for Hold {
-    fn pass<R: Wait>(&self, _rt: &R, slot: u32, _turn: u64) {
+    fn pass<R: Wait>(&self, _rt: &R, slot: u32, turn: u64) {
         if slot != 0 {
+            return;
+        }
+        if turn == self.from / 2 {
+            for _ in 0..20_000u32 {
+                thread::yield_now();
+            }
+        }
+        if turn < self.from {
             return;
         }
         for _ in 0..1_000_000u32 {
@@ -72,7 +97,10 @@ pub enum Script<'a> {
     Silent(&'a [u8]),
     OneMore,
     Retries,
+    Steady,
+    EndBeside(&'a AtomicBool),
     Held(&'a Hold),
+    Wakes(&'a Hold, Sleeper<'a>),
     Jobs(Crowd),
     /// The same where the server keeps a tape.
     Taped(Crowd),
@@ -172,7 +200,7 @@ fn one_more<R: Net<Stream = TcpStream>>(
 fn hold_one(held: &mut Client, free: &mut Client, hold: &Hold) -> io::Result<bool> {
     held.request(16, b"held")?;
     let second = free.echoes(b"free")?;
-    hold.may_pass.store(true, Ordering::SeqCst);
+    hold.let_pass();
     let first = held.is_echoed(b"held")?;
     Ok(free.stops()? && first && second)
 }
@@ -190,7 +218,7 @@ fn two<R: Net<Stream = TcpStream>>(
 }
 
 /// Whether the script goes right.
-fn play<R: Threads + Net<Stream = TcpStream> + Sync>(
+fn play<R: Threads + Clock + Net<Stream = TcpStream> + Sync>(
     rt: &R,
     alloc: Global,
     addr: SocketAddr,
@@ -202,7 +230,10 @@ fn play<R: Threads + Net<Stream = TcpStream> + Sync>(
         Script::Silent(large) => beside_a_silent_one(rt, alloc, addr, large),
         Script::OneMore => one_more(rt, alloc, addr),
         Script::Retries => retries(rt, alloc, addr),
+        Script::Steady => steady(rt, alloc, addr),
+        Script::EndBeside(over) => end_beside(rt, alloc, addr, over),
         Script::Held(hold) => two(rt, alloc, addr, hold),
+        Script::Wakes(hold, sleeper) => wakes(rt, alloc, addr, hold, sleeper),
         Script::Jobs(crowd) | Script::Taped(crowd) => {
             Ok(results(rt, alloc, addr, crowd)? == crowd.all())
         }
@@ -215,6 +246,7 @@ fn beside<
         + Wait
         + Clock
         + RandomSource
+        + Eprint
         + Net<Listener = TcpListener, Stream = TcpStream>
         + Sync,
     G: Gate,
@@ -228,11 +260,14 @@ fn beside<
     let listener = TcpListener::bind(rt, "127.0.0.1:0")?;
     let addr = listener.local_addr()?;
     let tape = matches!(script, Script::Taped(_));
-    let both = join(
-        rt,
-        move || served(rt, alloc, listener, slots, tape, gate),
-        move || play(rt, alloc, addr, script),
-    );
+    let server = move || {
+        let served = served(rt, alloc, listener, slots, tape, gate);
+        if let Script::EndBeside(over) = script {
+            over.store(true, Ordering::SeqCst);
+        }
+        served
+    };
+    let both = join(rt, server, move || play(rt, alloc, addr, script));
     Ok(both)
 }
 
@@ -242,6 +277,7 @@ pub fn goes_right<
         + Wait
         + Clock
         + RandomSource
+        + Eprint
         + Net<Listener = TcpListener, Stream = TcpStream>
         + Abort
         + Sync,
@@ -295,10 +331,7 @@ fn half_packet(rt: HostRuntime) -> Result<(), Fail> {
 
 #[test]
 fn gate_two(rt: HostRuntime) -> Result<(), Fail> {
-    let hold = Hold {
-        may_pass: AtomicBool::new(false),
-        gave_up: AtomicBool::new(false),
-    };
+    let hold = Hold::new(0);
     goes_right(&rt, rt.alloc(), 2, &hold, Script::Held(&hold), 2)?;
     same(&rt, "gave up", &hold.gave_up.load(Ordering::SeqCst), &false);
     Ok(())
@@ -313,6 +346,62 @@ fn silent_client(rt: HostRuntime) -> Result<(), Fail> {
 #[test]
 fn one_connection_too_many(rt: HostRuntime) -> Result<(), Fail> {
     goes_right(&rt, rt.alloc(), 2, &OpenGate, Script::OneMore, 2)
+}
+
+#[test]
+fn steady_client(rt: HostRuntime) -> Result<(), Fail> {
+    goes_right(&rt, rt.alloc(), 64, &OpenGate, Script::Steady, 2)
+}
+
+#[test]
+fn end_beside_a_steady_client(rt: HostRuntime) -> Result<(), Fail> {
+    let over = AtomicBool::new(false);
+    goes_right(&rt, rt.alloc(), 64, &OpenGate, Script::EndBeside(&over), 2)
+}
+
+/// A worker sleeps, and is woken for a job although the piece that brings the job is held at this unit.
+fn wakes_before<
+    R: Threads
+        + Wait
+        + Clock
+        + RandomSource
+        + Eprint
+        + Net<Listener = TcpListener, Stream = TcpStream>
+        + Abort
+        + Sync,
+>(rt: &R, alloc: Global, from: u64, sleeper: Sleeper<'_>) -> Result<(), Fail> {
+    let hold = Hold::new(from);
+    goes_right(rt, alloc, 2, &hold, Script::Wakes(&hold, sleeper), 2)?;
+    same(rt, "gave up", &hold.gave_up.load(Ordering::SeqCst), &false);
+    Ok(())
+}
+
+#[test]
+fn told_after_a_millisecond(rt: HostRuntime) -> Result<(), Fail> {
+    wakes_before(
+        &rt,
+        rt.alloc(),
+        64,
+        Sleeper {
+            unit: b"\0REQ\0\0\0\x10\0\0\0\0",
+            count: 100,
+            answer: 12,
+        },
+    )
+}
+
+#[test]
+fn told_after_a_line(rt: HostRuntime) -> Result<(), Fail> {
+    wakes_before(
+        &rt,
+        rt.alloc(),
+        2,
+        Sleeper {
+            unit: b"maxqueue f\n",
+            count: 2,
+            answer: 3,
+        },
+    )
 }
 
 #[test]
