@@ -18,9 +18,12 @@ const PAUSE: u64 = 4;
 /// How many bytes wait for it: more than the system keeps of them, and enough for many seconds.
 const LARGE: usize = 33_554_432;
 
-/// Takes what comes in drips until it is told to stop. It says whether it was told so before all had come, or the
-/// connection had ended.
-fn drip(rt: &impl Clock, slow: &mut Client, stop: &AtomicBool) -> io::Result<bool> {
+/// How many of them it takes in some two seconds.
+const PART: usize = 8_388_608;
+
+/// Takes what comes in drips until it is told to stop. It says whether it was told so before so many bytes had come, or
+/// the connection had ended.
+fn drip(rt: &impl Clock, slow: &mut Client, most: usize, stop: &AtomicBool) -> io::Result<bool> {
     let mut taken = 0usize;
     for _ in 0..100_000u32 {
         if stop.load(Ordering::SeqCst) {
@@ -31,7 +34,7 @@ fn drip(rt: &impl Clock, slow: &mut Client, stop: &AtomicBool) -> io::Result<boo
             return Ok(true);
         }
         taken = taken.saturating_add(count);
-        if taken >= LARGE {
+        if taken >= most {
             return Ok(false);
         }
         thread::sleep(rt, Duration::from_millis(PAUSE));
@@ -65,7 +68,7 @@ fn finish(worker: &mut Client, heard: &AtomicBool) -> io::Result<bool> {
     Ok(right)
 }
 
-/// A client takes a large result steadily, but slowly. Its worker has an echo long before the client has taken all.
+/// A client takes a large result steadily, but slowly. Its worker has an echo before the client has taken a part of it.
 pub fn steady<R: Threads + Clock + Net<Stream = TcpStream> + Sync>(
     rt: &R,
     alloc: Global,
@@ -75,7 +78,7 @@ pub fn steady<R: Threads + Clock + Net<Stream = TcpStream> + Sync>(
     let heard = AtomicBool::new(false);
     let (before, right) = join(
         rt,
-        || drip(rt, &mut client, &heard),
+        || drip(rt, &mut client, PART, &heard),
         || finish(&mut worker, &heard),
     );
     drop(client);
@@ -96,7 +99,7 @@ pub fn end_beside<R: Threads + Clock + Net<Stream = TcpStream> + Sync>(
     slow.request(16, &zeros)?;
     let _begun = slow.read(12)?;
     let right = other.stops()?;
-    Ok(drip(rt, &mut slow, over)? && right)
+    Ok(drip(rt, &mut slow, LARGE, over)? && right)
 }
 
 /// What stands behind a job in its piece: so many of these units, each with an answer of so many bytes.
