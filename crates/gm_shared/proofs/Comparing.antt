@@ -1,47 +1,13 @@
 -- Comparing shares with a tape.
-use Rattle.std.proofs.Common.{◌≡◌, ℕ, zero, suc, ◌+◌, ◌≤◌, Bool, true, false, if◌then◌else◌, List, [], ◌∷◌, ◌++◌, length, map}
-use Rattle.std.proofs.Common.{drop, refl, sym, ap, subst, ◌∙◌, arith}
+use Rattle.std.proofs.Common.{◌≡◌, ℕ, zero, suc, ◌+◌, ◌≤◌, false, List, [], ◌∷◌, ◌++◌, length, map}
+use Rattle.std.proofs.Common.{drop, refl, sym, ap, subst, arith}
 use Rattle.std.specs.Prelude.{◌==◌, MatchBool}
 use Rattle.std.proofs.lemmas.List.{append-nil}
 use Rattle.std.proofs.lemmas.Bool.Decides.{nat_tests}
 use Rattle.gm_shared.specs.declared.tape.Actor.{Actor}
 use Rattle.gm_shared.specs.declared.tape.Entry.{Entry}
 use Rattle.gm_shared.specs.declared.tape.Told.{Told}
-use Rattle.gm_shared.specs.Tapes.{actor_is, share_from, TellAll, LeavesThem}
-
--- what is told of an entry at this place
-abbrev pub told_as : ℕ → Entry → Told
-told_as at e = record { at = at; step = e.step; answer = e.answer }
-
--- a claim holds exactly where the rest of a share is what the tape has from here on
-pub record Alike (P : Type 0) (rest : List Told) (actor : Actor) (at : ℕ) (entries : List Entry) : Type 0 where
-  pub goes : P → rest ≡ share_from actor at entries
-  pub comes : rest ≡ share_from actor at entries → P
-
-module _ (P : Type 0) (rest : List Told) (actor : Actor) (at : ℕ) (all : List Entry) (alike : Alike P rest actor at all) (e : Entry) (es : List Entry) (is : all ≡ e ∷ es) where
-  from_here : share_from actor at all ≡ (if actor_is actor e.actor then told_as at e ∷ share_from actor (at + 1) es else share_from actor (at + 1) es)
-  from_here = ap (share_from actor at) is
-
-  pub alike_other : actor_is actor e.actor ≡ false → Alike P rest actor (at + 1) es
-  alike_other other =
-      let same = from_here ∙ ap (λ (t : Bool). if t then told_as at e ∷ share_from actor (at + 1) es else share_from actor (at + 1) es) other in
-      record { goes = λ p. alike.goes p ∙ same; comes = λ q. alike.comes (q ∙ sym same) }
-
-  here : actor_is actor e.actor ≡ true → share_from actor at all ≡ told_as at e ∷ share_from actor (at + 1) es
-  here mine = from_here ∙ ap (λ (t : Bool). if t then told_as at e ∷ share_from actor (at + 1) es else share_from actor (at + 1) es) mine
-
-  pub alike_short : actor_is actor e.actor ≡ true → rest ≡ [] → P → ⊥
-  alike_short mine none p = let bad : [] ≡ told_as at e ∷ share_from actor (at + 1) es = sym none ∙ (alike.goes p ∙ here mine) in let worse : ⊥ = cc in worse
-
-  module _ (mine : actor_is actor e.actor ≡ true) (told : Told) (more : List Told) (split : rest ≡ told ∷ more) where
-    pub alike_apart : (told ≡ told_as at e → ⊥) → P → ⊥
-    alike_apart differs p = let both : told ∷ more ≡ told_as at e ∷ share_from actor (at + 1) es = sym split ∙ (alike.goes p ∙ here mine) in differs cc
-
-    pub alike_more : told ≡ told_as at e → Alike P more actor (at + 1) es
-    alike_more tells = record {
-      goes = λ p. let both : told ∷ more ≡ told_as at e ∷ share_from actor (at + 1) es = sym split ∙ (alike.goes p ∙ here mine) in cc;
-      comes = λ q. alike.comes (split ∙ (ap (λ t. t ∷ more) tells ∙ (ap (λ ts. told_as at e ∷ ts) q ∙ sym (here mine))));
-    }
+use Rattle.gm_shared.specs.Tapes.{share_from, TellAll, LeavesThem}
 
 -- ---- one share after another
 

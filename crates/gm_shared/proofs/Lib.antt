@@ -5,5 +5,6 @@ mod Applying
 mod Taping
 mod Sharing
 mod Comparing
+mod Places
 mod Ending
 mod Keeping

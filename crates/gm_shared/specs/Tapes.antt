@@ -1,5 +1,5 @@
 -- The tape: what is entered of an accepted call, when a tape is one history, and what a desk or a pen is told of it.
-use Rattle.std.specs.Prelude.{◌≡◌, ℕ, ◌+◌, ◌≤◌, Bool, true, false, ◌==◌, if◌then◌else◌, List, [], ◌∷◌, ◌++◌, length, reverse}
+use Rattle.std.specs.Prelude.{◌≡◌, ℕ, ◌+◌, ◌*◌, ◌<◌, ◌≤◌, Bool, true, false, ◌==◌, if◌then◌else◌, List, [], ◌∷◌, ◌++◌, length, reverse, get_or}
 use Rattle.std.specs.Prelude.{Option, Some, None, Result, Ok, Err, vec_len, vec_capacity}
 use Rattle.gm_notes.specs.declared.event.Done.{Done}
 use Rattle.gm_notes.specs.declared.event.ApplyError.{ApplyError}
@@ -35,6 +35,11 @@ abbrev pub actor_is : Actor → Actor → Bool
 actor_is (Desk n) (Desk m) = n == m
 actor_is (Pen n) (Pen m) = n == m
 actor_is a b = false
+
+-- its number among all
+abbrev pub actor_code : Actor → ℕ
+actor_code (Desk n) = 2 * n
+actor_code (Pen n) = 2 * n + 1
 
 -- ---- what is kept of a step
 
@@ -159,6 +164,10 @@ abbrev pub share_from : Actor → ℕ → List Entry → List Told
 share_from actor at [] = []
 share_from actor at (e ∷ es) =
     if actor_is actor e.actor then record { at = at; step = e.step; answer = e.answer } ∷ share_from actor (at + 1) es else share_from actor (at + 1) es
+
+-- by its code, how many entries the tape has of an actor
+abbrev pub AreCounts : List Entry → List ℕ → Type 0
+AreCounts entries counts = (actor : Actor) → actor_code actor < length counts → get_or counts (actor_code actor) 0 ≡ length (share_from actor 0 entries)
 
 -- how much was told in all
 abbrev pub told_in_all : List (Actor × List Told) → ℕ

@@ -1,12 +1,13 @@
 //! The end of a shared book: whether what its desks and pens were told is what stands on its tape.
 
-ghost use Rattle.std.specs.Prelude.{◌≡◌, ◌≤◌, ◌+◌, ◌++◌, ℕ, [], List, All, MatchBool, IfOk, IfSome, IfNone, IsErrOf, map, length};
+ghost use Rattle.std.specs.Prelude.{◌≡◌, ◌<◌, ◌≤◌, ◌+◌, ◌^◌, ◌++◌, ℕ, [], List, All, MatchBool, IfOk, IfSome, IfNone, IsErrOf, map, length};
 ghost use Rattle.atomic_table.specs.Seated.{TableId};
 ghost use Rattle.gm_word.specs.Seats.{PenState};
 ghost use Rattle.gm_shared.specs.declared.tape.Actor.{Actor};
 ghost use Rattle.gm_shared.specs.declared.tape.Actor.TheVariants as actors;
 ghost use Rattle.gm_shared.specs.declared.tape.Told.{Told};
-ghost use Rattle.gm_shared.specs.Tapes.{parts_of, share_from, TellAll, AddUp, LeavesThem};
+ghost use Rattle.std.specs.Prelude.{slice_get, Some, None};
+ghost use Rattle.gm_shared.specs.Tapes.{parts_of, share_from, AreCounts, TellAll, AddUp, LeavesThem};
 ghost use Rattle.gm_notes.specs.Settings.{Settings};
 ghost use Rattle.gm_notes.specs.Steps.{Step};
 ghost use Rattle.gm_shared.specs.Books.{WordsAgree};
@@ -138,39 +139,98 @@ impl Told {
     }
 }
 
-// Whether a share is what the tape has of its actor.
-fn share_is(entries: &[Entry], actor: Actor, share: &[Told]) -> bool
-    ensures { MatchBool result (share.now ≡ share_from actor 0 entries.now) (share.now ≡ share_from actor 0 entries.now → ⊥) }
+// How many entries the tape has of each actor whose code is less than a number, by its code.
+fn count_by_code(alloc: Global, entries: &[Entry], codes: usize) -> Result<Vec<usize>, AllocError>
+    ensures { IfOk result (λ counts. AreCounts entries.now counts.items) }
 {
-    let mut rest = share;
+    let mut counts = vec![in alloc; 0usize; codes]?;
     for at in 0..entries.len() {
-        let entry = &entries[at];
-        if actor.is(entry.actor) {
-            let Some((told, more)) = rest.split_first() else {
-                return false;
-            };
-            if !told.tells(at as u64, entry) {
-                return false;
-            }
-            rest = more;
+        let code = entries[at].actor.code();
+        if code < counts.len() {
+            counts[code] += 1;
         }
     }
-    rest.is_empty()
+    Ok(counts)
+}
+
+// How many entries the tape has of an actor, by one walk.
+fn count_of(entries: &[Entry], actor: Actor) -> usize
+    ensures { result ≡ length (share_from actor 0 entries.now) }
+{
+    let mut count = 0;
+    for at in 0..entries.len() {
+        if actor.is(entries[at].actor) {
+            count += 1;
+        }
+    }
+    count
+}
+
+// The entry at a place that isn't before another.
+fn entry_from(entries: &[Entry], next: u64, at: u64) -> Option<&Entry>
+    ensures some { IfSome result (λ entry. (next ≤ at) × (slice_get entries.now at ≡ Some entry.now)) }
+    ensures within { IfSome result (λ _. at + 1 < 2 ^ 64) }
+    ensures none { IfNone result (next ≤ at → slice_get entries.now at ≡ None) }
+{
+    if at < next || at >= entries.len() as u64 {
+        return None;
+    }
+    entries.get(at as usize)
+}
+
+// Whether a share is what the tape has of its actor, of whom it has so many entries.
+fn share_is(entries: &[Entry], actor: Actor, share: &[Told], count: usize) -> bool
+    requires { count ≡ length (share_from actor 0 entries.now) }
+    ensures { MatchBool result (share.now ≡ share_from actor 0 entries.now) (share.now ≡ share_from actor 0 entries.now → ⊥) }
+{
+    if share.len() != count {
+        return false;
+    }
+    let mut rest = share;
+    let mut next = 0u64;
+    while let Some((told, more)) = rest.split_first() {
+        let Some(entry) = entry_from(entries, next, told.at) else {
+            return false;
+        };
+        if !actor.is(entry.actor) || !told.tells(told.at, entry) {
+            return false;
+        }
+        next = told.at + 1;
+        rest = more;
+    }
+    true
 }
 
 // How many of these entries are left once a share has told of its own, if it is what the tape has of its actor.
-fn left_by(entries: &[Entry], actor: Actor, share: &[Told], left: usize) -> Option<usize>
+fn left_by(
+    entries: &[Entry],
+    counts: &[usize],
+    actor: Actor,
+    share: &[Told],
+    left: usize,
+) -> Option<usize>
+    requires { AreCounts entries.now counts.now }
     ensures some { IfSome result (λ more. (share.now ≡ share_from actor 0 entries.now) × (length share.now + more ≡ left)) }
     ensures none { IfNone result (share.now ≡ share_from actor 0 entries.now → length share.now ≤ left → ⊥) }
 {
-    if !share_is(entries, actor, share) || left < share.len() {
+    let count = match counts.get(actor.code()) {
+        Some(count) => *count,
+        None => count_of(entries, actor),
+    };
+    if !share_is(entries, actor, share, count) || left < share.len() {
         return None;
     }
     Some(left - share.len())
 }
 
 // How many are left once all desks have told of theirs.
-fn left_by_desks<K: BookName>(entries: &[Entry], desks: &[Desk<K>], left: usize) -> Option<usize>
+fn left_by_desks<K: BookName>(
+    entries: &[Entry],
+    counts: &[usize],
+    desks: &[Desk<K>],
+    left: usize,
+) -> Option<usize>
+    requires { AreCounts entries.now counts.now }
     ensures some { IfSome result (λ more. (others : List (Actor × List Told))
         → LeavesThem entries.now (map (λ desk. (actors.Desk desk.number, desk.share.items)) desks.now ++ others) left others more) }
     ensures none { IfNone result ((others : List (Actor × List Told))
@@ -180,6 +240,7 @@ fn left_by_desks<K: BookName>(entries: &[Entry], desks: &[Desk<K>], left: usize)
     for desk in desks {
         let Some(more) = left_by(
             entries,
+            counts,
             Actor::Desk(desk.number),
             desk.share.as_slice(),
             rest,
@@ -192,7 +253,13 @@ fn left_by_desks<K: BookName>(entries: &[Entry], desks: &[Desk<K>], left: usize)
 }
 
 // How many are left once all pens have told of theirs.
-fn left_by_pens<K: BookName>(entries: &[Entry], pens: &[Pen<K>], left: usize) -> Option<usize>
+fn left_by_pens<K: BookName>(
+    entries: &[Entry],
+    counts: &[usize],
+    pens: &[Pen<K>],
+    left: usize,
+) -> Option<usize>
+    requires { AreCounts entries.now counts.now }
     ensures some { IfSome result (λ more. (others : List (Actor × List Told))
         → LeavesThem entries.now (map (λ pen. (actors.Pen pen.slot, pen.share.items)) pens.now ++ others) left others more) }
     ensures none { IfNone result ((others : List (Actor × List Told))
@@ -200,7 +267,13 @@ fn left_by_pens<K: BookName>(entries: &[Entry], pens: &[Pen<K>], left: usize) ->
 {
     let mut rest = left;
     for pen in pens {
-        let Some(more) = left_by(entries, Actor::Pen(pen.slot), pen.share.as_slice(), rest) else {
+        let Some(more) = left_by(
+            entries,
+            counts,
+            Actor::Pen(pen.slot),
+            pen.share.as_slice(),
+            rest,
+        ) else {
             return None;
         };
         rest = more;
@@ -209,15 +282,21 @@ fn left_by_pens<K: BookName>(entries: &[Entry], pens: &[Pen<K>], left: usize) ->
 }
 
 // Whether the shares of these desks and pens add up.
-fn add_up<K: BookName>(entries: &[Entry], desks: &[Desk<K>], pens: &[Pen<K>]) -> bool
+fn add_up<K: BookName>(
+    entries: &[Entry],
+    counts: &[usize],
+    desks: &[Desk<K>],
+    pens: &[Pen<K>],
+) -> bool
+    requires { AreCounts entries.now counts.now }
     ensures { MatchBool result
         (AddUp entries.now (map (λ desk. (actors.Desk desk.number, desk.share.items)) desks.now ++ map (λ pen. (actors.Pen pen.slot, pen.share.items)) pens.now))
         (AddUp entries.now (map (λ desk. (actors.Desk desk.number, desk.share.items)) desks.now ++ map (λ pen. (actors.Pen pen.slot, pen.share.items)) pens.now) → ⊥) }
 {
-    let Some(left) = left_by_desks(entries, desks, entries.len()) else {
+    let Some(left) = left_by_desks(entries, counts, desks, entries.len()) else {
         return false;
     };
-    match left_by_pens(entries, pens, left) {
+    match left_by_pens(entries, counts, pens, left) {
         Some(left) => left == 0,
         None => false,
     }
@@ -233,6 +312,11 @@ fn seats_of<K: BookName>(alloc: Global, pens: Vec<Pen<K>>) -> Result<Vec<PenSeat
         seats.push_reserved(pen.seat);
     }
     Ok(seats)
+}
+
+// How many codes so many desks and pens have, where they are numbered from 0.
+fn most_codes(desks: usize, pens: usize) -> usize {
+    desks.max(pens).saturating_mul(2)
 }
 
 // Whether the shares add up; if they do, the sleep words end.
@@ -252,7 +336,8 @@ fn verdict<K: BookName>(
     ensures differs { IsErrOf result SettleError.Differs → AddUp entries.now
         (map (λ desk. (actors.Desk desk.number, desk.share.items)) desks.now ++ map (λ pen. (actors.Pen pen.slot, pen.share.items)) pens.items) → ⊥ }
 {
-    if !add_up(entries, desks, pens.as_slice()) {
+    let counts = count_by_code(alloc, entries, most_codes(desks.len(), pens.len()))?;
+    if !add_up(entries, &counts, desks, pens.as_slice()) {
         return Err(SettleError::Differs);
     }
     let seats = seats_of(alloc, pens)?;
@@ -266,7 +351,7 @@ fn verdict<K: BookName>(
 /// The tape is one history that the abstract server could have had, and the core is what it leads to. `Differs` comes
 /// where the shares of the desks and pens don't add up: where one isn't what the tape has of its desk or pen, entry
 /// for entry with the place and the answer, or where the tape has entries that none of them was told of. It takes one
-/// walk over the tape for each desk and pen.
+/// walk over the tape, and one over each share.
 pub fn settle<K: BookName>(
     alloc: Global,
     shared: Shared<K>,

@@ -40,7 +40,17 @@ pub enum Actor {
 }
 
 impl Actor {
-    ghost use Rattle.gm_shared.specs.Tapes.{actor_is};
+    ghost use Rattle.gm_shared.specs.Tapes.{actor_is, actor_code};
+
+    /// Its number among all: those of desks are even, those of pens odd.
+    pub(crate) fn code(self) -> usize
+        ensures { result ≡ actor_code self }
+    {
+        match self {
+            Actor::Desk(number) => 2 * number as usize,
+            Actor::Pen(number) => 2 * number as usize + 1,
+        }
+    }
 
     /// Whether both are the same.
     pub(crate) fn is(self, other: Actor) -> bool
