@@ -60,7 +60,9 @@ step_agrees look word line takes a at found =
     let one = a.woken in
     let two = a.told in
     ⊎_elim
-    (λ (is : word ≡ 2). subst (λ (x : ℕ). Agrees x (line_after look x line) takes) (sym is) (subst (λ (x : ℕ). Agrees x line takes) is a))
+    (λ (is : word ≡ 2).
+    let w = ap owing is in
+    subst (λ (x : ℕ). Agrees x (line_after look x line) takes) (sym is) record { small = lit< tt; phase = inl (ap number (sym at)); woken = omega arith; told = omega arith })
     (λ (is : word ≡ 0).
     let w = ap owing is in
     subst (λ (x : ℕ). Agrees x (line_after look x line) takes) (sym is) record { small = lit< tt; phase = inl refl; woken = omega arith; told = omega arith })

@@ -14,9 +14,9 @@ use Rattle.gm_word.specs.declared.view.Line.{Line}
 use Rattle.gm_word.specs.declared.view.Page.{Page}
 use Rattle.gm_word.specs.declared.view.View.{View}
 use Rattle.gm_word.specs.declared.view.View.TheVariants.{Book}
-use Rattle.gm_word.specs.Lines.{Kind, withdraw, look, line_after, kind_to, line_to, fresh_line}
+use Rattle.gm_word.specs.Lines.{Kind, withdraw, look, line_after, kind_to, line_to, fresh_line, with_look}
 use Rattle.gm_word.specs.Steps.{line_at, book_after}
-use Rattle.gm_word.specs.Seats.{BookState, with_line, lines_of, SitsAtBook}
+use Rattle.gm_word.specs.Seats.{BookState, with_line, lines_of, looked, looked_at, SitsAtBook}
 
 abbrev pub WordSeat : Type 0
 WordSeat = Seat (Unit {0}) View
@@ -87,15 +87,46 @@ awake_after_withdrawal found line =
 pub awake_after_look : (found : ℕ) (line : Line) → found ≢ 2 → (line_after look found line).phase ≡ Awake
 awake_after_look found line other = rw (ne_eqb found 2 other) refl
 
--- a look that finds the NOOP still owed changes nothing
-pub sits_still : (slot found : ℕ) (old new : WordSeat) (phases : List Phase) → (sits : SitsAtBook old phases) → new.table_id ≡ old.table_id → new.id ≡ old.id
-    → ((page : Page) → old.me.0 ≡ Book page → new.me ≡ (book_after look slot found page, old.me.1)) → found ≡ 2 → new.me ≡ old.me
-sits_still slot found old new phases sits table id told owed =
+-- a look that finds the NOOP still owed leaves each phase
+pub sits_looked : (slot found : ℕ) (old new : WordSeat) (phases : List Phase) → (sits : SitsAtBook old phases) → slot < length sits.page.lines → new.table_id ≡ old.table_id → new.id ≡ old.id
+    → ((page : Page) → old.me.0 ≡ Book page → new.me ≡ (book_after look slot found page, old.me.1)) → found ≡ 2 → SitsAtBook new phases
+sits_looked slot found old new phases sits low table id told owed =
+    let page = sits.page in
+    let phase_in = λ (x : Line). x.phase in
+    let line : Line = with_look (line_at slot page.lines) in
+    record {
+      page = record page { lines = slice_set page.lines slot line };
+      first = id ∙ sits.first;
+      knows = told page (ap (λ (m : Me (Unit {0}) View). m.0) sits.knows) ∙ ap (λ (n : ℕ). (book_after look slot n page, old.me.1)) owed
+          ∙ ap (λ (m : Me (Unit {0}) View). (book_after look slot 2 page, m.1)) sits.knows;
+      wide = length-set page.lines slot line ∙ sits.wide ∙ ap (λ t. t.words) (sym table);
+      phases_are = sits.phases_are
+          ∙ sym (set-get_or (map phase_in page.lines) slot Awake)
+          ∙ ap (λ (p : Phase). slice_set (map phase_in page.lines) slot p) (get_or-map phase_in page.lines slot fresh_line Awake low)
+          ∙ sym (map-set phase_in page.lines slot line);
+    }
+
+-- what callers see of the book then
+pub sees_look : (slot found : ℕ) (old new : WordSeat) (phases : List Phase) (book : BookState) → (sits : SitsAtBook old phases)
+    → record { table = old.table_id; lines = lines_of old.me.0 } ≡ book → (line_at slot sits.page.lines).phase ≡ Owed → new.table_id ≡ old.table_id
+    → ((page : Page) → old.me.0 ≡ Book page → new.me ≡ (book_after look slot found page, old.me.1)) → found ≡ 2
+    → record { table = new.table_id; lines = lines_of new.me.0 } ≡ looked slot book
+sees_look slot found old new phases book sits saw is table told owed =
     let page = sits.page in
     let at : old.me.0 ≡ Book page = ap (λ (m : Me (Unit {0}) View). m.0) sits.knows in
-    let same : book_after look slot 2 page ≡ Book page = ap (λ (l : List Line). Book record page { lines = l }) (set-get_or page.lines slot fresh_line) in
-    told page at ∙ ap (λ (n : ℕ). (book_after look slot n page, old.me.1)) owed ∙ ap (λ (v : View). (v, old.me.1)) (same ∙ sym at)
+    let lines : lines_of new.me.0 ≡ slice_set page.lines slot (with_look (line_at slot page.lines)) =
+    ap (λ (m : Me (Unit {0}) View). lines_of m.0) (told page at) ∙ ap (λ (n : ℕ). lines_of (book_after look slot n page)) owed in
+    let was : book.lines ≡ page.lines = sym (ap (λ (b : BookState). b.lines) saw) ∙ ap lines_of at in
+    let same : new.table_id ≡ book.table = table ∙ ap (λ (b : BookState). b.table) saw in
+    let with : record { table = new.table_id; lines = lines_of new.me.0 } ≡ with_line slot with_look book =
+    (λ i. record { table = same i; lines = (lines ∙ sym (ap (λ (l : List Line). slice_set l slot (with_look (line_at slot l))) was)) i }) in
+    with ∙ ap (λ (p : Phase). looked_at p slot book) (sym is ∙ ap (λ (l : List Line). (line_at slot l).phase) (sym was))
 
-pub sits_again : (old new : WordSeat) (phases : List Phase) → SitsAtBook old phases → new.table_id ≡ old.table_id → new.id ≡ old.id → new.me ≡ old.me → SitsAtBook new phases
-sits_again old new phases sits table id me =
-    record { page = sits.page; first = id ∙ sits.first; knows = me ∙ sits.knows; wide = sits.wide ∙ ap (λ t. t.words) (sym table); phases_are = sits.phases_are }
+-- a look at a slot that is owed none asks no word
+pub looked_none : (slot : ℕ) (book : BookState) → ((line_at slot book.lines).phase ≡ Owed → ⊥) → looked slot book ≡ book
+looked_none slot book none = by (line_at slot book.lines).phase refl
+  where
+    by : (p : Phase) → (line_at slot book.lines).phase ≡ p → looked_at p slot book ≡ book
+    by Awake e = refl
+    by Asleep e = refl
+    by Owed e = absurd (none e)

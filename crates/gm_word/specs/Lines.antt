@@ -16,7 +16,7 @@ owing word = if word == 2 then 1 else 0
 
 -- the line of a slot at which no step was made
 abbrev pub fresh_line : Line
-fresh_line = record { phase = Awake; wakes = 0; entered = 0; withdrawals = 0 }
+fresh_line = record { phase = Awake; wakes = 0; entered = 0; withdrawals = 0; looks = 0 }
 
 -- What a slot's word, the book's line and the takes of its pen agree on. Each wake became one take, or one withdrawal, or is
 -- still owed, and the book has entered each of these except a take that it hasn't looked for yet.
@@ -72,12 +72,17 @@ with_wake line = record line { phase = Owed; wakes = line.wakes + 1 }
 abbrev pub with_stir : Line → Line
 with_stir line = record line { phase = Awake }
 
-abbrev pub with_withdrawal : Line → Line
-with_withdrawal line = record line { phase = Awake; withdrawals = line.withdrawals + 1 }
+-- the word was asked, and said that the NOOP is still owed
+abbrev pub with_look : Line → Line
+with_look line = record line { looks = line.looks + 1 }
 
--- the NOOP was found taken
+-- it was asked, and the NOOP withdrawn
+abbrev pub with_withdrawal : Line → Line
+with_withdrawal line = record line { phase = Awake; withdrawals = line.withdrawals + 1; looks = line.looks + 1 }
+
+-- it was asked, and the NOOP found taken
 abbrev pub with_take_found : Line → Line
-with_take_found line = record line { phase = Awake; entered = line.entered + 1 }
+with_take_found line = record line { phase = Awake; entered = line.entered + 1; looks = line.looks + 1 }
 
 -- what the book knows of the slot then
 abbrev pub line_after : Kind → ℕ → Line → Line
@@ -85,7 +90,7 @@ line_after sleep found line = with_sleep line
 line_after wake found line = with_wake line
 line_after stir found line = with_stir line
 line_after withdraw found line = if found == 2 then with_withdrawal line else with_take_found line
-line_after look found line = if found == 2 then line else with_take_found line
+line_after look found line = if found == 2 then with_look line else with_take_found line
 
 -- ---- the three kinds that write the word of a phase, by that phase
 

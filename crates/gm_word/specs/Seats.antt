@@ -3,12 +3,13 @@ use Rattle.std.specs.Prelude.{◌≡◌, ℕ, zero, suc, ◌<◌, List, [], ◌�
 use Rattle.atomic_table.specs.Seated.{TableId}
 use Rattle.atomic_table.specs.declared.shared.Seat.{Seat}
 use Rattle.gm_word.specs.declared.phase.Phase.{Phase}
+use Rattle.gm_word.specs.declared.phase.Phase.TheVariants.{Owed}
 use Rattle.gm_word.specs.declared.view.Line.{Line}
 use Rattle.gm_word.specs.declared.view.Count.{Count}
 use Rattle.gm_word.specs.declared.view.Page.{Page}
 use Rattle.gm_word.specs.declared.view.View.{View}
 use Rattle.gm_word.specs.declared.view.View.TheVariants.{Book, Pen}
-use Rattle.gm_word.specs.Lines.{Agrees}
+use Rattle.gm_word.specs.Lines.{Agrees, with_look}
 use Rattle.gm_word.specs.Steps.{line_at, at_slot, Reached, takes_of}
 
 -- the book of a table: a line for each slot
@@ -34,6 +35,14 @@ fresh_pens table (suc slot) = fresh_pens table slot ++ fresh_pen table slot ∷ 
 -- the book, the line of a slot changed
 abbrev pub with_line : ℕ → (Line → Line) → BookState → BookState
 with_line slot change book = record book { lines = at_slot slot change book.lines }
+
+-- the book after a look that found no NOOP taken: the word was asked only where one is owed
+abbrev pub looked_at : Phase → ℕ → BookState → BookState
+looked_at Owed slot book = with_line slot with_look book
+looked_at other slot book = book
+
+abbrev pub looked : ℕ → BookState → BookState
+looked slot book = looked_at (line_at slot book.lines).phase slot book
 
 -- How a table ends: steps of the eight kinds alone have led to its last words; these, the book's lines and the takes of each slot
 -- agree; and the takes are what the pens that were given back have counted.

@@ -5,7 +5,7 @@ ghost use Rattle.gm_word.specs.declared.phase.Phase.TheVariants.{Awake, Asleep, 
 ghost use Rattle.gm_word.specs.Lines.{number, phase_for, kind_to, line_to, with_sleep, with_wake, with_stir, with_withdrawal};
 ghost use Rattle.gm_word.specs.Lines.{with_take_found};
 ghost use Rattle.gm_word.specs.Steps.{line_at};
-ghost use Rattle.gm_word.specs.Seats.{with_line};
+ghost use Rattle.gm_word.specs.Seats.{with_line, looked};
 
 use crate::phase::Phase;
 use crate::rule::{Look, Swap, Withdraw};
@@ -31,8 +31,8 @@ fn word_of(phase: Phase) -> u64
 
 /// Changes the words as the book says. There is one for each table; it may cross threads.
 ///
-/// Contracts see a line for each slot: the phase, and how many NOOPs the slot was owed, how many of these
-/// the book has found taken (`entered`), and how many it has withdrawn.
+/// Contracts see a line for each slot: the phase, how many NOOPs the slot was owed, how many of these
+/// the book has found taken (`entered`), how many it has withdrawn, and how often it has asked the word (`looks`).
 #[derive(Drop)]
 pub struct BookSeat {
     pub(crate) seat: Seat<(), View>,
@@ -120,12 +120,12 @@ impl BookSeat {
         found == OWED
     }
 
-    /// Whether the NOOP that the slot is owed was taken; the slot is awake then. False where it is owed none, or
-    /// is still owed it, and then nothing changes.
+    /// Whether the NOOP that the slot is owed was taken; the slot is awake then. False where it is owed none, or the word
+    /// says that it is still owed.
     pub fn look(&mut self, table: &SleepTable, slot: u32) -> bool
         requires table { self.old.table ≡ table.now }
         requires slot { slot < length self.old.lines }
-        ensures { MatchBool result (((line_at slot self.old.lines).phase ≡ Owed) × (self.new ≡ with_line slot with_take_found self.old)) (self.new ≡ self.old) }
+        ensures { MatchBool result (((line_at slot self.old.lines).phase ≡ Owed) × (self.new ≡ with_line slot with_take_found self.old)) (self.new ≡ looked slot self.old) }
     {
         let Phase::Owed = self.phases[slot as usize] else {
             return false;

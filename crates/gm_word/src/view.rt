@@ -12,6 +12,8 @@ pub struct Line {
     pub entered: u64,
     /// How many of them the book has withdrawn.
     pub withdrawals: u64,
+    /// How often the book has asked the word what became of one, by a look or by a try to withdraw it.
+    pub looks: u64,
 }
 
 /// How many NOOPs of a slot its pen has taken.

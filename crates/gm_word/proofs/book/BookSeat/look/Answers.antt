@@ -1,8 +1,7 @@
-use Rattle.std.proofs.Common.{rules, ap, ◌∙◌}
+use Rattle.std.proofs.Common.{rules, ◌∙◌}
 use Rattle.gm_word.specs.Lines.{look}
-use Rattle.gm_word.specs.Seats.{lines_of}
 use Rattle.gm_word.proofs.Moves.{book_moves}
-use Rattle.gm_word.proofs.Sitting.{sits_after, sits_still, sits_again, awake_after_look, phase_beside}
+use Rattle.gm_word.proofs.Sitting.{sits_after, sits_looked, sees_look, awake_after_look, phase_beside}
 use Rattle.gm_word.proofs.book.BookSeat.look.Goals as goal
 
 pub load-found-requires : goal.load-found-requires
@@ -13,14 +12,14 @@ load-found-requires c =
 pub invariant_of-self : goal.invariant_of-self
 invariant_of-self c =
     let step = c.load-found.ensures in
-    let same = sits_still c.args.slot c.load-found.result _ _ _ c.self.invariant step.0 step.1 step.2 c.if-found-eq-OWED.true in
-    sits_again _ _ _ c.self.invariant step.0 step.1 same
+    sits_looked c.args.slot c.load-found.result _ _ _ c.self.invariant (search rules) step.0 step.1 step.2 c.if-found-eq-OWED.true
 
 pub returns-then-found-eq-OWED : goal.returns-then-found-eq-OWED
 returns-then-found-eq-OWED c =
     let step = c.load-found.ensures in
-    let same = sits_still c.args.slot c.load-found.result _ _ _ c.self.invariant step.0 step.1 step.2 c.if-found-eq-OWED.true in
-    ap (λ m. record { table = c.load-found.new.seat.table_id; lines = lines_of m.0 }) same ∙ ap (λ t. record { table = t; lines = lines_of c.self.inside.seat.me.0 }) step.0 ∙ c.self.view_is
+    let sits = c.self.invariant in
+    sees_look c.args.slot c.load-found.result c.self.inside.seat c.load-found.new.seat _ c.args.self.now sits c.self.view_is (phase_beside _ _ c.args.slot _ sits.phases_are (search rules) c.index.ensures ∙ c.in-Owed.is) step.0 step.2
+    c.if-found-eq-OWED.true
 
 pub invariant_of-self-2 : goal.invariant_of-self-2
 invariant_of-self-2 c =
