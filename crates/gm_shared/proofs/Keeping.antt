@@ -20,20 +20,20 @@ pub held_so : {k : Settings} {steps : List Step} {s : Step} {desk : ℕ} {result
 held_so {k} {steps} {s} {desk} {result} {same} {old} {new} {told} e h = subst (λ r. Held k steps s desk r old new told) (sym e) h
 
 pub applied_keeps : (table : TableId) (taped : Bool) (k : Settings) (steps : List Step) (s : Step) (desk : ℕ) (result : Result Receipt ApplyError) (old new : Booked) (told : List Told)
-    → Held k steps s desk result old new told → new.seat.table ≡ table → old.tape.on ≡ taped → IsGuarded table taped new
+    → Held k steps s desk result old new told → new.seat.table ≡ table → old.tape.on ≡ taped → IsGuarded table k taped new
 applied_keeps table taped k steps s desk (Ok receipt) old new told (asked noop h) same on =
-    record { settings = k; steps = s ∷ entered noop steps; agrees = h.event.agrees; table_is = same; on = h.tape.on ∙ on }
+    record { steps = s ∷ entered noop steps; agrees = h.event.agrees; table_is = same; on = h.tape.on ∙ on }
 applied_keeps table taped k steps s desk (Err refused) old new told (asked noop h) same on =
-    record { settings = k; steps = entered noop steps; agrees = h.event.1; table_is = same; on = h.tape.on ∙ on }
+    record { steps = entered noop steps; agrees = h.event.1; table_is = same; on = h.tape.on ∙ on }
 applied_keeps table taped k steps s desk result old new told (unasked h) same on =
-    record { settings = k; steps = steps; agrees = h.agrees; table_is = same; on = h.tape.on ∙ on }
+    record { steps = steps; agrees = h.agrees; table_is = same; on = h.tape.on ∙ on }
 
 pub drained_keeps : (table : TableId) (taped : Bool) (k : Settings) (steps : List Step) (pen slot : ℕ) (result : Result Drained ApplyError) (old new : Booked) (told : List Told)
-    → Drains k steps pen slot result old new told → new.seat.table ≡ table → old.tape.on ≡ taped → IsGuarded table taped new
+    → Drains k steps pen slot result old new told → new.seat.table ≡ table → old.tape.on ≡ taped → IsGuarded table k taped new
 drained_keeps table taped k steps pen slot (Ok drained) old new told h same on =
-    record { settings = k; steps = Drain slot ∷ steps; agrees = h.agrees; table_is = same; on = h.tape.on ∙ on }
+    record { steps = Drain slot ∷ steps; agrees = h.agrees; table_is = same; on = h.tape.on ∙ on }
 drained_keeps table taped k steps pen slot (Err refused) old new told h same on =
-    record { settings = k; steps = steps; agrees = h.1; table_is = same; on = h.2.on ∙ on }
+    record { steps = steps; agrees = h.1; table_is = same; on = h.2.on ∙ on }
 
 -- ---- the pens that a book is opened with
 

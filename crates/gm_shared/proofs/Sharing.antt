@@ -80,7 +80,7 @@ held_adds taped k steps e desk (Ok receipt) old new told share after on is (unas
 held_adds taped k steps e desk (Err refused) old new told share after on is (unasked h) =
     in_all share after told _ is (ap events_told h.tape.told_is ∙ told_none old.tape.on (length old.tape.entries.items)) ∙ append-nil (events_told share)
 
-pub applied_adds : (taped : Bool) (e : Event) (desk : ℕ) (result : Result Receipt ApplyError) (share after : List Told)
-    → Applied taped (step_of e) desk result share after → AddsEvent taped (step_of e) result share after
-applied_adds taped e desk result share after a =
-    held_adds taped a.settings a.steps e desk result a.old a.new a.told share after a.on a.share_is a.held
+pub applied_adds : (k : Settings) (taped : Bool) (e : Event) (desk : ℕ) (result : Result Receipt ApplyError) (share after : List Told)
+    → Applied k taped (step_of e) desk result share after → AddsEvent taped (step_of e) result share after
+applied_adds k taped e desk result share after a =
+    held_adds taped k a.steps e desk result a.old a.new a.told share after a.on a.share_is a.held

@@ -1,5 +1,5 @@
 -- What a book agrees with, and what one holding of it does.
-use Rattle.std.specs.Prelude.{◌≡◌, ℕ, ◌+◌, ◌<◌, Bool, true, false, ◌==◌, if◌then◌else◌, List, [], ◌∷◌, None, Result, Ok, Err}
+use Rattle.std.specs.Prelude.{◌≡◌, ℕ, ◌+◌, ◌<◌, Bool, true, false, ◌==◌, if◌then◌else◌, List, [], ◌∷◌, Option, Some, None, Result, Ok, Err}
 use Rattle.gm_notes.specs.declared.event.ApplyError.{ApplyError}
 use Rattle.gm_notes.specs.declared.event.ApplyError.TheVariants.{Memory, NotOpen}
 use Rattle.gm_notes.specs.Settings.{Settings}
@@ -7,7 +7,7 @@ use Rattle.gm_notes.specs.Notes.{is_open, phase, mode}
 use Rattle.gm_notes.specs.Flow.{waiting}
 use Rattle.gm_notes.specs.Steps.{Step, Close, Took, Withdrew, Drain, refusal, done}
 use Rattle.gm_notes.specs.Steps.{run}
-use Rattle.gm_notes.specs.Servers.{IsRefusal, is_closing}
+use Rattle.gm_notes.specs.Servers.{IsRefusal, is_closing, owes}
 use Rattle.gm_conns.specs.Slots.{has}
 use Rattle.gm_conns.specs.ConnTables.{conn, is_touched}
 use Rattle.gm_core.specs.Holds.{CoreAgrees, outbox}
@@ -18,7 +18,7 @@ use Rattle.gm_shared.specs.declared.events.Noop.{Noop}
 use Rattle.gm_shared.specs.declared.receipt.Receipt.{Receipt}
 use Rattle.gm_shared.specs.declared.receipt.Drained.{Drained}
 use Rattle.gm_shared.specs.Words.{worded, Follows}
-use Rattle.gm_shared.specs.Events.{MayFind, entered}
+use Rattle.gm_shared.specs.Events.{slot_of, MayFind, entered}
 use Rattle.gm_shared.specs.declared.tape.Tape.{Tape}
 use Rattle.gm_shared.specs.declared.tape.Told.{Told}
 use Rattle.gm_shared.specs.Tapes.{TapeIs, Grows, noop_entries, holding_entries, drain_entry, place_behind}
@@ -75,9 +75,15 @@ abbrev pub TellsPlace : ℕ → Noop → Result Receipt ApplyError → Tape → 
 TellsPlace desk noop (Ok receipt) tape = receipt.at ≡ place_behind (noop_entries desk noop) tape
 TellsPlace desk noop (Err refused) tape = Unit {0}
 
--- What a holding did: it found this of the NOOP, and entered it; after that the event was taken, or was refused and changed
+-- the word of this slot, if there is one, was asked what became of the NOOP that the slot is owed
+abbrev pub AsksWord : Option ℕ → Past → List WordLine → List WordLine → Type 0
+AsksWord None past old new = Unit {0}
+AsksWord (Some c) past old new = owes c past ≡ true → (line_at c old).looks < (line_at c new).looks
+
+-- What a holding did: it asked the word of the event's slot, found this of the NOOP, and entered it; after that the event was taken, or was refused and changed
 -- nothing. Both stand on the tape, if one is kept, and the desk is told so.
 pub record Holding (k : Settings) (steps : List Step) (s : Step) (desk : ℕ) (noop : Noop) (result : Result Receipt ApplyError) (old new : Booked) (told : List Told) : Type 0 where
+  pub asks : AsksWord (slot_of s) (run k steps) old.seat.lines new.seat.lines
   pub found : MayFind noop s (run k steps)
   pub event : IsDone k (entered noop steps) s result old new
   pub tape : Grows (holding_entries desk noop s result) old.tape new.tape told

@@ -1,67 +1,65 @@
 -- What the lock keeps, and what callers of a shared book see.
-use Rattle.std.specs.Prelude.{◌≡◌, ◌⊎◌, ℕ, zero, suc, ◌+◌, Bool, true, if◌then◌else◌, List, [], ◌∷◌, ◌++◌, All, Result, Ok, Err}
+use Rattle.std.specs.Prelude.{◌≡◌, ◌⊎◌, ℕ, zero, suc, ◌+◌, Bool, true, if◌then◌else◌, List, [], ◌∷◌, ◌++◌, map, All, Result, Ok, Err}
 use Rattle.atomic_table.specs.Seated.{TableId}
 use Rattle.gm_notes.specs.declared.event.ApplyError.{ApplyError}
 use Rattle.gm_notes.specs.Settings.{Settings}
 use Rattle.gm_notes.specs.Steps.{Step, run}
 use Rattle.gm_notes.specs.Servers.{owes}
-use Rattle.gm_core.specs.declared.server.Core.{Core}
 use Rattle.gm_core.specs.Holds.{CoreAgrees}
 use Rattle.gm_word.specs.Seats.{PenState, fresh_pens}
 use Rattle.gm_shared.specs.declared.book.Booked.{Booked}
 use Rattle.gm_shared.specs.declared.tape.Actor.{Actor}
-use Rattle.gm_shared.specs.declared.tape.Entry.{Entry}
+use Rattle.gm_shared.specs.declared.tape.Share.{Share}
+use Rattle.gm_shared.specs.declared.settling.Settled.{Settled}
+use Rattle.gm_shared.specs.declared.settling.SettleError.{SettleError}
+use Rattle.gm_shared.specs.declared.settling.SettleError.TheVariants.{Memory, Differs}
 use Rattle.gm_shared.specs.declared.tape.Told.{Told}
 use Rattle.gm_shared.specs.declared.receipt.Receipt.{Receipt}
 use Rattle.gm_shared.specs.declared.receipt.Drained.{Drained}
 use Rattle.gm_shared.specs.Tapes.{TapeIs, AddUp, events_told}
 use Rattle.gm_shared.specs.Books.{takings, BookedAgrees, Held, Drains}
 
--- a book that nobody shares yet, and whether it keeps a tape
+-- a book that nobody shares yet, the settings under which it serves, and whether it keeps a tape
 pub record BlankState : Type 0 where
   pub table : TableId
-  pub slots : ℕ
+  pub settings : Settings
   pub taped : Bool
 
 -- nothing has happened to it, its words are in its table, and there is a pen for each slot, which has taken nothing
-pub record IsBlank (table : TableId) (slots : ℕ) (booked : Booked) (seats : List PenState) : Type 0 where
-  pub settings : Settings
-  pub agrees : BookedAgrees booked settings []
-  pub slots_are : settings.slots ≡ slots
+pub record IsBlank (table : TableId) (k : Settings) (slots : ℕ) (booked : Booked) (seats : List PenState) : Type 0 where
+  pub agrees : BookedAgrees booked k []
+  pub slots_are : k.slots ≡ slots
   pub table_is : booked.seat.table ≡ table
   pub seats_are : seats ≡ fresh_pens table slots
 
--- What the lock keeps: the book agrees with some settings and some list of steps, its words are in this table, and it keeps a
+-- What the lock keeps: the book agrees with these settings and some list of steps, its words are in this table, and it keeps a
 -- tape or not.
-pub record IsGuarded (table : TableId) (taped : Bool) (booked : Booked) : Type 0 where
-  pub settings : Settings
+pub record IsGuarded (table : TableId) (k : Settings) (taped : Bool) (booked : Booked) : Type 0 where
   pub steps : List Step
-  pub agrees : BookedAgrees booked settings steps
+  pub agrees : BookedAgrees booked k steps
   pub table_is : booked.seat.table ≡ table
   pub on : booked.tape.on ≡ taped
 
--- The answer is that of one holding of a book that agreed with some settings and some list of steps, and what the desk was told
+-- The answer is that of one holding of a book that agreed with these settings and some list of steps, and what the desk was told
 -- of its tape was added to the desk's share.
-pub record Applied (taped : Bool) (s : Step) (desk : ℕ) (result : Result Receipt ApplyError) (share after : List Told) : Type 0 where
-  pub settings : Settings
+pub record Applied (k : Settings) (taped : Bool) (s : Step) (desk : ℕ) (result : Result Receipt ApplyError) (share after : List Told) : Type 0 where
   pub steps : List Step
   pub old : Booked
   pub new : Booked
   pub on : old.tape.on ≡ taped
-  pub agrees : BookedAgrees old settings steps
+  pub agrees : BookedAgrees old k steps
   pub told : List Told
-  pub held : Held settings steps s desk result old new told
+  pub held : Held k steps s desk result old new told
   pub share_is : after ≡ share ++ told
 
-pub record Emptied (taped : Bool) (pen slot : ℕ) (result : Result Drained ApplyError) (share after : List Told) : Type 0 where
-  pub settings : Settings
+pub record Emptied (k : Settings) (taped : Bool) (pen slot : ℕ) (result : Result Drained ApplyError) (share after : List Told) : Type 0 where
   pub steps : List Step
   pub old : Booked
   pub new : Booked
   pub on : old.tape.on ≡ taped
-  pub agrees : BookedAgrees old settings steps
+  pub agrees : BookedAgrees old k steps
   pub told : List Told
-  pub drains : Drains settings steps pen slot result old new told
+  pub drains : Drains k steps pen slot result old new told
   pub share_is : after ≡ share ++ told
 
 -- With a tape a desk is told of each event that is taken, in order. Takings and withdrawals of NOOPs stand between them.
@@ -76,23 +74,38 @@ abbrev pub TookThose : Settings → List Step → PenState → Type 0
 TookThose k steps pen =
     (pen.takes ≡ takings pen.slot steps) ⊎ ((pen.takes ≡ takings pen.slot steps + 1) × (owes pen.slot (run k steps) ≡ true))
 
--- What a book was when it ended: the core agrees with some list of steps, of which the tape is the history; the shares add up; and
--- the pens took what was entered.
-pub record IsSettled (taped : Bool) (core : Core) (entries : List Entry) (shares : List (Actor × List Told)) (pens : List PenState) : Type 0 where
-  pub settings : Settings
-  pub steps : List Step
-  pub agrees : CoreAgrees core settings steps
-  pub tape : TapeIs taped entries settings steps
-  pub up : AddUp entries shares
-  pub takes : All (TookThose settings steps) pens
+-- What a share is of, and what it tells.
+abbrev pub told_by : Share → Actor × List Told
+told_by share = (share.actor, share.told.items)
 
--- The tape is one history, of which the shares aren't.
-pub record Differing (taped : Bool) (shares : List (Actor × List Told)) : Type 0 where
-  pub settings : Settings
+-- What a book was when it ended: the core agrees with these steps, of which the tape is the history, and these are the shares of its
+-- desks and pens.
+pub record IsEnded (k : Settings) (taped : Bool) (steps : List Step) (settled : Settled) (shares : List (Actor × List Told)) : Type 0 where
+  pub agrees : CoreAgrees settled.core k steps
+  pub tape : TapeIs taped settled.tape.items k steps
+  pub shares_are : map told_by settled.shares.items ≡ shares
+
+-- The shares add up, and the pens took what was entered.
+pub record IsSettled (k : Settings) (taped : Bool) (settled : Settled) (shares : List (Actor × List Told)) (pens : List PenState) : Type 0 where
   pub steps : List Step
-  pub entries : List Entry
-  pub tape : TapeIs taped entries settings steps
-  pub apart : AddUp entries shares → ⊥
+  pub ended : IsEnded k taped steps settled shares
+  pub up : AddUp settled.tape.items shares
+  pub takes : All (TookThose k steps) pens
+
+-- The shares that were handed back add up with the tape that was handed back.
+pub record AddsUp (k : Settings) (taped : Bool) (settled : Settled) : Type 0 where
+  pub pens : List PenState
+  pub is : IsSettled k taped settled (map told_by settled.shares.items) pens
+
+-- The shares don't add up.
+pub record IsUnsettled (k : Settings) (taped : Bool) (settled : Settled) (shares : List (Actor × List Told)) : Type 0 where
+  pub steps : List Step
+  pub ended : IsEnded k taped steps settled shares
+  pub apart : AddUp settled.tape.items shares → ⊥
+
+abbrev pub WhySo : Settings → Bool → SettleError → List (Actor × List Told) → Type 0
+WhySo k taped Memory shares = Unit {0}
+WhySo k taped (Differs settled) shares = IsUnsettled k taped settled shares
 
 -- the numbers below a number, in their order
 abbrev pub numbers_below : ℕ → List ℕ

@@ -211,10 +211,6 @@ parts_of (tape.Took c) = (6, c, 0, [])
 parts_of (tape.Withdrew c) = (7, c, 0, [])
 parts_of (tape.Drain c) = (8, c, 0, [])
 
--- these shares tell of so many entries exactly where the others tell of those that are left
-abbrev pub LeavesThem : List Entry → List (Actor × List Told) → ℕ → List (Actor × List Told) → ℕ → Type 0
-LeavesThem entries shares n others left = (TellAll entries n shares → TellAll entries left others) × (TellAll entries left others → TellAll entries n shares)
-
 abbrev pub settle_error_number : SettleError → ℕ
 settle_error_number Memory = 6
-settle_error_number Differs = 16
+settle_error_number (Differs settled) = 16

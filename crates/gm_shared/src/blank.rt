@@ -11,7 +11,7 @@ use std::hash::RandomState;
 use std::marker::Model;
 
 /// The book of a server to which nothing has happened, with its sleep words. `Shared::open` makes of it what threads
-/// share. Contracts see which table it has, and its slots.
+/// share. Contracts see which table it has, its settings, and whether it keeps a tape.
 #[derive(Drop)]
 pub struct Blank {
     pub(crate) table: SleepTable,
@@ -21,13 +21,14 @@ pub struct Blank {
 }
 
 impl Model for Blank {
+    ghost use Rattle.gm_core.specs.Holds.{config_of};
     ghost use Rattle.gm_shared.specs.Shared.{BlankState, IsBlank};
 
     ghost Value = { BlankState };
 
-    ghost view = { λ b. record { table = b.table; slots = b.slots; taped = b.booked.tape.on } };
+    ghost view = { λ b. record { table = b.table; settings = config_of b.booked.core; taped = b.booked.tape.on } };
 
-    ghost invariant = { λ b. IsBlank b.table b.slots b.booked b.seats.items };
+    ghost invariant = { λ b. IsBlank b.table (config_of b.booked.core) b.slots b.booked b.seats.items };
 }
 
 impl Blank {
@@ -41,7 +42,7 @@ impl Blank {
         config: Config,
         tape: TapeMode,
     ) -> Result<Blank, AllocError>
-        ensures slots { IfOk result (λ blank. blank.slots ≡ config.slots) }
+        ensures settings { IfOk result (λ blank. blank.settings ≡ config) }
         ensures taped { IfOk result (λ blank. blank.taped ≡ is_on tape) }
     {
         let slots = config.slots();

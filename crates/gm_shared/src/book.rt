@@ -39,8 +39,8 @@ pub struct Booked {
 
 impl Booked {
     ghost use Rattle.gm_laws.specs.Laws.{MayBeTakenLater};
-    ghost use Rattle.gm_shared.specs.Books.{Holds, BookedAgrees, Held, NeedsNoMemory, Drains, FollowsAt, FollowsCore};
-    ghost use Rattle.gm_shared.specs.Events.{takes_back, MayFind, entered};
+    ghost use Rattle.gm_shared.specs.Books.{Holds, BookedAgrees, Held, NeedsNoMemory, Drains, AsksWord, FollowsAt, FollowsCore};
+    ghost use Rattle.gm_shared.specs.Events.{takes_back, slot_of, MayFind, entered};
     ghost use Rattle.gm_shared.specs.Tapes.{is_on};
 
     /// The book of a server to which nothing has happened, the table of its sleep words, and a pen for each slot, in
@@ -74,8 +74,8 @@ impl Booked {
         Ok((booked, table, pens))
     }
 
-    /// Lets an event take effect, in one holding. A NOOP that the event's slot is owed and that was taken is entered
-    /// first; so is one that is still owed and that the event takes back, as taken or as withdrawn. What is refused
+    /// Lets an event take effect, in one holding. It asks the word of the event's slot what became of the NOOP that the
+    /// slot is owed. One that was taken is entered first; so is one that is still owed and that the event takes back, as taken or as withdrawn. What is refused
     /// changes nothing but that; a refusal is one of `JobServer::apply`.
     ///
     /// With a tape room for what it enters is found first, and copies of the bytes: where that fails `Memory` comes
@@ -195,6 +195,8 @@ impl Booked {
         requires { self.old.seat.table ≡ table.now }
         ensures found { (k : Settings) (steps : List Step) → Holds self.old k steps
             → MayFind result (step_of event.now) (run k steps) × Holds self.new k (entered result steps) }
+        ensures asks { (k : Settings) (steps : List Step) → Holds self.old k steps
+            → AsksWord (slot_of (step_of event.now)) (run k steps) self.old.seat.lines self.new.seat.lines }
         ensures touched { AllTouched self.old.core.conns self.new.core.conns }
         ensures table { self.new.seat.table ≡ self.old.seat.table }
         ensures tape { self.new.tape ≡ self.old.tape }

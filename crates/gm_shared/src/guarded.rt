@@ -14,8 +14,8 @@ use gm_notes::{ApplyError, Event};
 use gm_word::SleepTable;
 use std::marker::{Model, PhantomData};
 
-/// A book under its lock: it agrees with some settings and some list of steps, and its words are in the table that
-/// `K` names.
+/// A book under its lock: it agrees with the settings that `K` names and some list of steps, and its words are in the
+/// table that `K` names.
 #[derive(Drop)]
 pub(crate) struct Guarded<K: BookName> {
     booked: Booked,
@@ -30,12 +30,12 @@ impl<K: BookName> Model for Guarded<K> {
 
     ghost view = { λ g. g.booked };
 
-    ghost invariant = { λ g. IsGuarded K.table K.taped g.booked };
+    ghost invariant = { λ g. IsGuarded K.table K.settings K.taped g.booked };
 }
 
 impl<K: BookName> Guarded<K> {
     pub(crate) fn new(booked: Booked) -> Guarded<K>
-        requires { IsGuarded K.table K.taped booked }
+        requires { IsGuarded K.table K.settings K.taped booked }
     {
         Guarded {
             booked,
@@ -53,7 +53,7 @@ impl<K: BookName> Guarded<K> {
     ) -> Result<Receipt, ApplyError>
         requires size { IsSized event.now }
         requires table { table.now ≡ K.table }
-        ensures applied { Applied K.taped (step_of event.now) desk result share.old.items share.new.items }
+        ensures applied { Applied K.settings K.taped (step_of event.now) desk result share.old.items share.new.items }
         ensures memory { NeedsNoMemory K.taped (step_of event.now) → IsErrOf result ApplyError.Memory → ⊥ }
     {
         self.booked.hold(table, desk, event, share)
@@ -66,14 +66,14 @@ impl<K: BookName> Guarded<K> {
         slot: u32,
         share: &mut Vec<Told>,
     ) -> Result<Drained, ApplyError>
-        ensures { Emptied K.taped pen slot result share.old.items share.new.items }
+        ensures { Emptied K.settings K.taped pen slot result share.old.items share.new.items }
     {
         self.booked.drain_into(pen, slot, share)
     }
 
     /// The book, which is under no lock any more.
     pub(crate) fn into_book(self) -> Booked
-        ensures { IsGuarded K.table K.taped result }
+        ensures { IsGuarded K.table K.settings K.taped result }
     {
         self.booked
     }

@@ -29,4 +29,4 @@ pub use name::BookName;
 pub use receipt::{Drained, Receipt};
 pub use settling::{SettleError, Settled, settle};
 pub use shared::{Desk, Pen, Shared};
-pub use tape::{Actor, Answer, Entry, TapeMode, TapeStep};
+pub use tape::{Actor, Answer, Entry, Share, TapeMode, TapeStep, Told};

@@ -1,42 +1,50 @@
 //! The end of a shared book: whether what its desks and pens were told is what stands on its tape.
 
-ghost use Rattle.std.specs.Prelude.{◌≡◌, ◌<◌, ◌≤◌, ◌+◌, ◌^◌, ◌++◌, ℕ, [], List, All, MatchBool, IfOk, IfSome, IfNone, IsErrOf, map, length};
-ghost use Rattle.atomic_table.specs.Seated.{TableId};
-ghost use Rattle.gm_word.specs.Seats.{PenState};
-ghost use Rattle.gm_shared.specs.declared.tape.Actor.{Actor};
+ghost use Rattle.std.specs.Prelude.{◌≡◌, ◌<◌, ◌≤◌, ◌+◌, ◌^◌, ◌++◌, [], List, All, MatchBool, IfOk, IfErr, OnOk, IfSome, IfNone, map, length, vec_len, vec_capacity};
 ghost use Rattle.gm_shared.specs.declared.tape.Actor.TheVariants as actors;
-ghost use Rattle.gm_shared.specs.declared.tape.Told.{Told};
 ghost use Rattle.std.specs.Prelude.{slice_get, Some, None};
-ghost use Rattle.gm_shared.specs.Tapes.{parts_of, share_from, AreCounts, TellAll, AddUp, LeavesThem};
-ghost use Rattle.gm_notes.specs.Settings.{Settings};
-ghost use Rattle.gm_notes.specs.Steps.{Step};
-ghost use Rattle.gm_shared.specs.Books.{WordsAgree};
-ghost use Rattle.gm_shared.specs.Shared.{IsSettled, TookThose, Differing};
+ghost use Rattle.gm_shared.specs.Tapes.{parts_of, share_from, AreCounts, AddUp};
+ghost use Rattle.gm_shared.specs.Shared.{told_by, IsSettled, WhySo};
 
 use crate::name::BookName;
 use crate::shared::{Desk, Pen, Shared};
-use crate::tape::{Actor, Answer, Entry, TapeStep, Told};
+use crate::tape::{Actor, Answer, Entry, Share, TapeStep, Told};
 use gm_core::Core;
-use gm_word::{BookSeat, PenSeat, SleepTable, close_words};
+use gm_word::{PenSeat, close_words};
 use std::alloc::{AllocError, Global};
 
+/// What a book was when it ended.
+#[derive(Drop)]
+pub struct Settled {
+    /// The server.
+    pub core: Core,
+    /// Every accepted call, the oldest first; empty where no tape was kept.
+    pub tape: Vec<Entry>,
+    /// What each desk was told of the tape, and then each pen, in the order in which they were given back.
+    pub shares: Vec<Share>,
+}
+
 /// Why a book couldn't be settled.
-#[derive(Clone, Copy, Debug, PartialEq, Eq)]
+#[derive(Drop)]
 pub enum SettleError {
     /// There was no memory for it.
-    Memory = 6,
-    /// What the desks and pens were told isn't what stands on the tape, or some of them weren't given back.
-    Differs = 16,
+    Memory,
+    /// What the desks and pens were told isn't what stands on the tape, or some of them weren't given back. It has what the
+    /// book was.
+    Differs(Settled),
 }
 
 impl SettleError {
     ghost use Rattle.gm_shared.specs.Tapes.{settle_error_number};
 
     /// The number of this refusal.
-    pub fn number(self) -> u8
-        ensures { result ≡ settle_error_number self }
+    pub fn number(&self) -> u8
+        ensures { result ≡ settle_error_number self.now }
     {
-        self as u8
+        match self {
+            SettleError::Memory => 6,
+            SettleError::Differs(_) => 16,
+        }
     }
 }
 
@@ -48,15 +56,6 @@ impl From<AllocError> for SettleError {
     fn from(_e: AllocError) -> SettleError {
         SettleError::Memory
     }
-}
-
-/// What a book was when it ended.
-#[derive(Drop)]
-pub struct Settled {
-    /// The server.
-    pub core: Core,
-    /// Every accepted call, the oldest first; empty where no tape was kept.
-    pub tape: Vec<Entry>,
 }
 
 /// A step in parts.
@@ -223,133 +222,70 @@ fn left_by(
     Some(left - share.len())
 }
 
-// How many are left once all desks have told of theirs.
-fn left_by_desks<K: BookName>(
-    entries: &[Entry],
-    counts: &[usize],
-    desks: &[Desk<K>],
-    left: usize,
-) -> Option<usize>
+// Whether these shares add up.
+fn add_up(entries: &[Entry], counts: &[usize], shares: &[Share]) -> bool
     requires { AreCounts entries.now counts.now }
-    ensures some { IfSome result (λ more. (others : List (Actor × List Told))
-        → LeavesThem entries.now (map (λ desk. (actors.Desk desk.number, desk.share.items)) desks.now ++ others) left others more) }
-    ensures none { IfNone result ((others : List (Actor × List Told))
-        → TellAll entries.now left (map (λ desk. (actors.Desk desk.number, desk.share.items)) desks.now ++ others) → ⊥) }
+    ensures { MatchBool result (AddUp entries.now (map told_by shares.now)) (AddUp entries.now (map told_by shares.now) → ⊥) }
 {
-    let mut rest = left;
-    for desk in desks {
-        let Some(more) = left_by(
-            entries,
-            counts,
-            Actor::Desk(desk.number),
-            desk.share.as_slice(),
-            rest,
-        ) else {
-            return None;
+    let mut left = entries.len();
+    for share in shares {
+        let Some(more) = left_by(entries, counts, share.actor, share.told.as_slice(), left) else {
+            return false;
         };
-        rest = more;
+        left = more;
     }
-    Some(rest)
+    left == 0
 }
 
-// How many are left once all pens have told of theirs.
-fn left_by_pens<K: BookName>(
-    entries: &[Entry],
-    counts: &[usize],
-    pens: &[Pen<K>],
-    left: usize,
-) -> Option<usize>
-    requires { AreCounts entries.now counts.now }
-    ensures some { IfSome result (λ more. (others : List (Actor × List Told))
-        → LeavesThem entries.now (map (λ pen. (actors.Pen pen.slot, pen.share.items)) pens.now ++ others) left others more) }
-    ensures none { IfNone result ((others : List (Actor × List Told))
-        → TellAll entries.now left (map (λ pen. (actors.Pen pen.slot, pen.share.items)) pens.now ++ others) → ⊥) }
+// The shares of desks, in their order; there is room for so many more.
+fn desk_shares<K: BookName>(
+    alloc: Global,
+    desks: Vec<Desk<K>>,
+    pens: usize,
+) -> Result<Vec<Share>, AllocError>
+    ensures shares { IfOk result (λ shares. map told_by shares.items ≡ map (λ desk. (actors.Desk desk.number, desk.share.items)) desks.items) }
+    ensures room { IfOk result (λ shares. vec_len shares + pens ≤ vec_capacity shares) }
 {
-    let mut rest = left;
-    for pen in pens {
-        let Some(more) = left_by(
-            entries,
-            counts,
-            Actor::Pen(pen.slot),
-            pen.share.as_slice(),
-            rest,
-        ) else {
-            return None;
-        };
-        rest = more;
-    }
-    Some(rest)
-}
-
-// Whether the shares of these desks and pens add up.
-fn add_up<K: BookName>(
-    entries: &[Entry],
-    counts: &[usize],
-    desks: &[Desk<K>],
-    pens: &[Pen<K>],
-) -> bool
-    requires { AreCounts entries.now counts.now }
-    ensures { MatchBool result
-        (AddUp entries.now (map (λ desk. (actors.Desk desk.number, desk.share.items)) desks.now ++ map (λ pen. (actors.Pen pen.slot, pen.share.items)) pens.now))
-        (AddUp entries.now (map (λ desk. (actors.Desk desk.number, desk.share.items)) desks.now ++ map (λ pen. (actors.Pen pen.slot, pen.share.items)) pens.now) → ⊥) }
-{
-    let Some(left) = left_by_desks(entries, counts, desks, entries.len()) else {
-        return false;
+    let Some(count) = desks.len().checked_add(pens) else {
+        return Err(AllocError);
     };
-    match left_by_pens(entries, counts, pens, left) {
-        Some(left) => left == 0,
-        None => false,
+    let mut shares = Vec::with_capacity(alloc, count)?;
+    for desk in desks {
+        shares.push_reserved(Share {
+            actor: Actor::Desk(desk.number),
+            told: desk.share,
+        });
     }
+    Ok(shares)
 }
 
-// The seats of pens, in their order.
-fn seats_of<K: BookName>(alloc: Global, pens: Vec<Pen<K>>) -> Result<Vec<PenSeat>, AllocError>
+// The seats of pens, in their order, whose shares are put behind those that are there.
+fn take_pens<K: BookName>(
+    alloc: Global,
+    pens: Vec<Pen<K>>,
+    shares: &mut Vec<Share>,
+) -> Result<Vec<PenSeat>, AllocError>
+    requires { vec_len shares.old + length pens.items ≤ vec_capacity shares.old }
     ensures seats { IfOk result (λ seats. seats.items ≡ map (λ pen. pen.seat) pens.items) }
     ensures named { IfOk result (λ seats. All (λ seat. seat.table ≡ K.table) seats.items) }
+    ensures shares { OnOk result (map told_by shares.new.items ≡ map told_by shares.old.items ++ map (λ pen. (actors.Pen pen.slot, pen.share.items)) pens.items) }
 {
     let mut seats = Vec::with_capacity(alloc, pens.len())?;
     for pen in pens {
+        shares.push_reserved(Share {
+            actor: Actor::Pen(pen.slot),
+            told: pen.share,
+        });
         seats.push_reserved(pen.seat);
     }
     Ok(seats)
 }
 
-// How many codes so many desks and pens have, where they are numbered from 0.
-fn most_codes(desks: usize, pens: usize) -> usize {
-    desks.max(pens).saturating_mul(2)
-}
-
-// Whether the shares add up; if they do, the sleep words end.
-fn verdict<K: BookName>(
-    alloc: Global,
-    entries: &[Entry],
-    table: SleepTable,
-    seat: BookSeat,
-    desks: &[Desk<K>],
-    pens: Vec<Pen<K>>,
-) -> Result<(), SettleError>
-    requires seat { seat.table ≡ table }
-    requires table { table ≡ K.table }
-    ensures up { IfOk result (λ _. AddUp entries.now
-        (map (λ desk. (actors.Desk desk.number, desk.share.items)) desks.now ++ map (λ pen. (actors.Pen pen.slot, pen.share.items)) pens.items)) }
-    ensures takes { IfOk result (λ _. (k : Settings) (steps : List Step) → WordsAgree seat.lines k steps → All (TookThose k steps) (map (λ pen. pen.seat) pens.items)) }
-    ensures differs { IsErrOf result SettleError.Differs → AddUp entries.now
-        (map (λ desk. (actors.Desk desk.number, desk.share.items)) desks.now ++ map (λ pen. (actors.Pen pen.slot, pen.share.items)) pens.items) → ⊥ }
-{
-    let counts = count_by_code(alloc, entries, most_codes(desks.len(), pens.len()))?;
-    if !add_up(entries, &counts, desks, pens.as_slice()) {
-        return Err(SettleError::Differs);
-    }
-    let seats = seats_of(alloc, pens)?;
-    let _words = close_words(alloc, table, seat, seats)?;
-    Ok(())
-}
-
-/// Ends a book, once all its desks and pens were given back, the control desk among the desks, and gives its core and
-/// its tape.
+/// Ends a book, once all its desks and pens were given back, the control desk among the desks, and gives its core, its tape
+/// and what each of them was told.
 ///
 /// The tape is one history that the abstract server could have had, and the core is what it leads to. `Differs` comes
-/// where the shares of the desks and pens don't add up: where one isn't what the tape has of its desk or pen, entry
+/// exactly where the shares of the desks and pens don't add up: where one isn't what the tape has of its desk or pen, entry
 /// for entry with the place and the answer, or where the tape has entries that none of them was told of. It takes one
 /// walk over the tape, and one over each share.
 pub fn settle<K: BookName>(
@@ -358,14 +294,22 @@ pub fn settle<K: BookName>(
     desks: Vec<Desk<K>>,
     pens: Vec<Pen<K>>,
 ) -> Result<Settled, SettleError>
-    ensures settled { IfOk result (λ settled. IsSettled K.taped settled.core settled.tape.items
+    ensures settled { IfOk result (λ settled. IsSettled K.settings K.taped settled
         (map (λ desk. (actors.Desk desk.number, desk.share.items)) desks.items ++ map (λ pen. (actors.Pen pen.slot, pen.share.items)) pens.items)
         (map (λ pen. pen.seat) pens.items)) }
-    ensures differs { IsErrOf result SettleError.Differs → Differing K.taped
-        (map (λ desk. (actors.Desk desk.number, desk.share.items)) desks.items ++ map (λ pen. (actors.Pen pen.slot, pen.share.items)) pens.items) }
+    ensures unsettled { IfErr result (λ error. WhySo K.settings K.taped error
+        (map (λ desk. (actors.Desk desk.number, desk.share.items)) desks.items ++ map (λ pen. (actors.Pen pen.slot, pen.share.items)) pens.items)) }
 {
+    let mut shares = desk_shares(alloc, desks, pens.len())?;
+    let seats = take_pens(alloc, pens, &mut shares)?;
     let Shared { table, book, .. } = shared;
     let (core, seat, tape) = book.into_inner().into_book().into_parts();
-    verdict(alloc, tape.as_slice(), table, seat, desks.as_slice(), pens)?;
-    Ok(Settled { core, tape })
+    // Desks and pens that are numbered from 0 have no greater codes.
+    let codes = shares.len().saturating_mul(2);
+    let counts = count_by_code(alloc, tape.as_slice(), codes)?;
+    if !add_up(tape.as_slice(), &counts, shares.as_slice()) {
+        return Err(SettleError::Differs(Settled { core, tape, shares }));
+    }
+    let _words = close_words(alloc, table, seat, seats)?;
+    Ok(Settled { core, tape, shares })
 }

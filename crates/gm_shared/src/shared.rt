@@ -55,10 +55,11 @@ impl<K: BookName> Shared<K> {
         blank: Blank,
     ) -> Result<(Shared<K>, Vec<Desk<K>>, Vec<Pen<K>>, Desk<K>), AllocError>
         requires table { blank.table ≡ K.table }
+        requires settings { blank.settings ≡ K.settings }
         requires taped { blank.taped ≡ K.taped }
-        ensures desks { IfOk result (λ made. map (λ desk. desk.number) made.1.items ≡ numbers_below blank.slots) }
-        ensures pens { IfOk result (λ made. map (λ pen. pen.slot) made.2.items ≡ numbers_below blank.slots) }
-        ensures control { IfOk result (λ made. made.3.number ≡ blank.slots) }
+        ensures desks { IfOk result (λ made. map (λ desk. desk.number) made.1.items ≡ numbers_below blank.settings.slots) }
+        ensures pens { IfOk result (λ made. map (λ pen. pen.slot) made.2.items ≡ numbers_below blank.settings.slots) }
+        ensures control { IfOk result (λ made. made.3.number ≡ blank.settings.slots) }
     {
         let slots = blank.slots;
         let desks = new_desks(alloc, slots)?;
@@ -92,7 +93,7 @@ impl<K: BookName> Desk<K> {
         event: Event<'_>,
     ) -> Result<Receipt, ApplyError>
         requires { IsSized event }
-        ensures applied { Applied K.taped (step_of event.entry) self.old.number result self.old.share.items self.new.share.items }
+        ensures applied { Applied K.settings K.taped (step_of event.entry) self.old.number result self.old.share.items self.new.share.items }
         ensures adds { AddsEvent K.taped (step_of event.entry) result self.old.share.items self.new.share.items }
         ensures memory { NeedsNoMemory K.taped (step_of event.entry) → IsErrOf result ApplyError.Memory → ⊥ }
         ensures number { self.new.number ≡ self.old.number }
@@ -119,7 +120,7 @@ impl<K: BookName> Pen<K> {
     /// the slot isn't open; it changes nothing. It may wait for the lock. Without a tape it needs no memory; with one
     /// the pen is told of the drain, and `Memory` comes where there is none for that, and changes nothing.
     pub fn drain(&mut self, rt: &impl Wait, shared: &Shared<K>) -> Result<Drained, ApplyError>
-        ensures emptied { Emptied K.taped self.old.slot self.old.slot result self.old.share.items self.new.share.items }
+        ensures emptied { Emptied K.settings K.taped self.old.slot self.old.slot result self.old.share.items self.new.share.items }
         ensures slot { self.new.slot ≡ self.old.slot }
         ensures seat { self.new.seat ≡ self.old.seat }
     {

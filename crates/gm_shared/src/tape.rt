@@ -118,6 +118,15 @@ pub struct Told {
     pub answer: Answer,
 }
 
+/// What one desk or pen was told of the tape, in the order of its calls.
+#[derive(Debug, Drop)]
+pub struct Share {
+    /// Whose it is.
+    pub actor: Actor,
+    /// What it was told.
+    pub told: Vec<Told>,
+}
+
 impl TapeStep {
     ghost use Rattle.gm_shared.specs.Tapes.{tape_step};
 

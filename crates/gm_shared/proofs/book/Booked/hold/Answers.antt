@@ -5,12 +5,13 @@ use Rattle.gm_notes.specs.Notes.{phase}
 use Rattle.gm_notes.specs.declared.states.Phase.TheVariants.{Owed}
 use Rattle.gm_notes.specs.Steps.{Step, Close, run}
 use Rattle.gm_notes.specs.Servers.{step_of}
-use Rattle.gm_shared.specs.Events.{MayFind, entered}
+use Rattle.gm_shared.specs.Events.{slot_of, MayFind, entered}
 use Rattle.gm_shared.specs.Books.{asked}
 use Rattle.gm_shared.specs.Tapes.{AreCopies, tape_step, noop_entries, event_entry, told_of}
 use Rattle.gm_shared.proofs.Taping.{grows_none, grows_same, grows_twice, place_after, tape_same, tape_after, noop_tape, event_tape}
 use Rattle.gm_shared.proofs.Keeping.{held_so}
-use Rattle.gm_shared.proofs.Applying.{closes_calm, agrees_after, lanes_after}
+use Rattle.gm_shared.proofs.Noops.{asks_still}
+use Rattle.gm_shared.proofs.Applying.{closes_calm, asked_before, agrees_after, lanes_after}
 use Rattle.gm_shared.proofs.book.Booked.hold.Goals as goal
 
 pub returns-in_err-done-clause-holding : goal.returns-in_err-done-clause-holding
@@ -31,6 +32,7 @@ returns-in_err-done-clause-holding c = λ k steps h.
       first.1 ∙ ap (λ ts. ts ++ told_of mid (noop_entries desk noop)) c.room_for.ensures.share,
       held_so (refused.1 ∙ ap (λ e. Err e) refused.2)
           (asked noop (record {
+            asks = c.resolve_noop-noop.ensures.asks k steps (record { core = h.holds.core; slots = h.holds.slots; words = h.holds.words });
             found = found.0;
             event = (
               answer.0,
@@ -72,6 +74,9 @@ returns-clause-holding c = λ k steps h.
       told,
       second.1 ∙ (ap (λ ts. ts ++ told_of then_ (event_entry desk (tape_step (step_of event)) done ∷ [])) (first.1 ∙ ap (λ ts. ts ++ told_of mid (noop_entries desk noop)) c.room_for.ensures.share) ∙ append_assoc c.args.share.now.items _ _),
       asked noop (record {
+        asks = asks_still (slot_of (step_of event)) k steps c.args.self.now.seat.lines c.resolve_noop-noop.new.self.seat.lines c.follow-touched.new.self.seat.lines
+            (c.resolve_noop-noop.ensures.asks k steps (record { core = h.holds.core; slots = h.holds.slots; words = h.holds.words }))
+            (asked_before k event before c.resolve_noop-noop.new.self _ c.follow-touched.new.self c.follow-touched.result found.1 refl refl answer.1 c.in_ok-done.ensures.touched c.follow-touched.ensures.follows calm);
         found = found.0;
         event = record {
           taken = answer.0.0;

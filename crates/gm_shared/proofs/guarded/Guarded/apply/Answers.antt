@@ -5,11 +5,11 @@ use Rattle.gm_shared.proofs.guarded.Guarded.apply.Goals as goal
 pub invariant_of-self : goal.invariant_of-self
 invariant_of-self g c =
     let i = c.self.invariant in
-    let h = c.hold.ensures.holding i.settings i.steps i.agrees in
-    applied_keeps _ _ i.settings i.steps _ _ _ _ _ h.0 h.2 (c.hold.ensures.table ∙ i.table_is) i.on
+    let h = c.hold.ensures.holding _ i.steps i.agrees in
+    applied_keeps _ _ _ i.steps _ _ _ _ _ h.0 h.2 (c.hold.ensures.table ∙ i.table_is) i.on
 
 pub returns-clause-applied : goal.returns-clause-applied
 returns-clause-applied g c =
     let i = c.self.invariant in
-    let h = c.hold.ensures.holding i.settings i.steps i.agrees in
-    record { settings = i.settings; steps = i.steps; old = _; new = _; on = i.on; agrees = i.agrees; told = h.0; held = h.2; share_is = h.1 }
+    let h = c.hold.ensures.holding _ i.steps i.agrees in
+    record { steps = i.steps; old = _; new = _; on = i.on; agrees = i.agrees; told = h.0; held = h.2; share_is = h.1 }
