@@ -1,12 +1,12 @@
 -- What a session hands in, unit after unit and piece after piece.
-use Rattle.std.proofs.Common.{◌≡◌, ℕ, Bool, true, false, List, [], ◌∷◌, ◌++◌, map, Option, Some, None, Result, Ok, Err, length}
+use Rattle.std.proofs.Common.{◌≡◌, ℕ, Bool, true, false, List, [], ◌∷◌, ◌++◌, map, Option, Some, None, Ok, Err, length}
 use Rattle.std.proofs.Common.{refl, sym, ap, subst, ◌∙◌, arith, length-append}
 use Rattle.std.specs.Prelude.{IfSome}
 use Rattle.std.proofs.lemmas.List.{append-nil, append_assoc, map-append}
 use Rattle.std.specs.Io.KnownBytes.{Consumes}
 use Rattle.gm_feeder.specs.declared.units.Limits.{Limits}
 use Rattle.gm_feeder.specs.Units.{Item, IsFaultOf, Waits}
-use Rattle.gm_feeder.specs.Streams.{Stream, GivesNone, with_bytes}
+use Rattle.gm_feeder.specs.Streams.{Stream, GivesNone}
 use Rattle.gm_feeder.proofs.HeadLemmas.{empty_goes_on}
 use Rattle.gm_feeder.proofs.StreamLemmas.{unit_not_empty}
 use Rattle.gm_notes.specs.declared.event.UnitFault.{UnitFault}
@@ -17,7 +17,7 @@ use Rattle.gm_shared.specs.declared.tape.Told.{Told}
 use Rattle.gm_shared.specs.Tapes.{events_told}
 use Rattle.gm_server.specs.declared.session.SessionEnd.{SessionEnd}
 use Rattle.gm_server.specs.declared.session.SessionEnd.TheVariants as ends
-use Rattle.gm_server.specs.Sessions.{Adds, HandsIn, IsWhole, Reads, Applies, GoesOn, Breaks, Unloads, TakesPiece}
+use Rattle.gm_server.specs.Sessions.{Adds, HandsIn, IsWhole, Reads, Applies, Unloads, TakesPiece}
 
 -- ---- events told, one after another
 

@@ -1,1 +1,4 @@
+mod Delivering
 mod Handing
+mod Serving
+mod Writing

@@ -1,3 +1,5 @@
+pub mod Deliveries
+pub mod Served
 pub mod Sessions
 pub mod Statuses
 pub mod Turns

@@ -1,10 +1,17 @@
 -- The numbers of errors, and the statuses that the program ends with.
-use Rattle.std.specs.Prelude.{ℕ, Option, Result, Ok, Err}
+use Rattle.std.specs.Prelude.{◌≡◌, ℕ, Option, Result, Ok, Err}
 use Rattle.gm_server.specs.declared.error.ServeError.{ServeError}
 use Rattle.gm_server.specs.declared.error.ServeError.TheVariants as errors
+use Rattle.gm_server.specs.declared.error.ControlError.{ControlError}
+use Rattle.gm_server.specs.declared.error.ControlError.TheVariants as of_control
 use Rattle.gm_server.specs.declared.run.RunError.{RunError}
 use Rattle.gm_server.specs.declared.run.RunError.TheVariants as errors_of_run
 use Rattle.gm_server.specs.declared.settings.Served.{Served}
+
+-- why it couldn't serve
+abbrev pub error_of_control : ControlError → ServeError
+error_of_control of_control.Memory = errors.Memory
+error_of_control of_control.Listen = errors.Listen
 
 abbrev pub serve_error_number : ServeError → ℕ
 serve_error_number errors.Memory = 6
@@ -28,3 +35,7 @@ run_status (errors_of_run.Serve error) = serve_error_status error
 abbrev pub ended_status : Result (Option Served) RunError → ℕ
 ended_status (Ok served) = 0
 ended_status (Err error) = run_status error
+
+-- a status that the program may end with
+abbrev pub IsStatus : ℕ → Type 0
+IsStatus status = (ended : Result (Option Served) RunError) × (status ≡ ended_status ended)

@@ -1,6 +1,8 @@
--- What a writer sends at a time.
-use Rattle.std.specs.Prelude.{ℕ, List, [], ◌++◌, Bool, true, false}
+-- What is sent to a connection: the bytes that were drained, and then a NOOP where one was taken.
+use Rattle.std.specs.Prelude.{◌≡◌, ◌≤◌, ℕ, List, [], ◌++◌, length, take, drop, Bool, true, false, Option}
+use Rattle.std.specs.Io.KnownBytes.{Appends}
 use Rattle.gm_packet.specs.Answers.{noop, answer_packet}
+use Rattle.gm_server.specs.declared.message.Halt.{Halt}
 
 -- the NOOP, where one was taken
 abbrev pub noop_if : Bool → List ℕ
@@ -10,3 +12,10 @@ noop_if false = []
 -- what a turn sends: the bytes that were drained, and then a NOOP where one was taken
 abbrev pub turn_of : Bool → List ℕ → List ℕ
 turn_of took drained = drained ++ noop_if took
+
+-- So much of the bytes was written, and so much of the NOOP behind them; the rest of both is what is left to write.
+pub record Parts (old new : Option (List ℕ)) (bytes noop : List ℕ) (halt : Halt) : Type 0 where
+  pub bytes_within : halt.bytes ≤ length bytes
+  pub noop_within : halt.noop ≤ length noop
+  pub written : Appends old new (take halt.bytes bytes ++ take halt.noop noop)
+  pub whole : bytes ++ noop ≡ (take halt.bytes bytes ++ take halt.noop noop) ++ (drop halt.bytes bytes ++ drop halt.noop noop)

@@ -1,7 +1,7 @@
 //! The control thread: it takes connections, and tells the time.
 
 use crate::connection::start;
-use crate::error::ServeError;
+use crate::error::ControlError;
 use crate::gate::Gate;
 use crate::keepalive::set_keepalive;
 use crate::state::ServerState;
@@ -142,7 +142,7 @@ impl<'s, K: BookName + Send + Sync> Control<'s, K> {
         rt: &'s R,
         gate: &'s G,
         listener: &TcpListener,
-    ) -> Result<(), ServeError> {
+    ) -> Result<(), ControlError> {
         for _ in rt.forever() {
             self.tick(rt);
             match listener.accept() {
@@ -151,7 +151,7 @@ impl<'s, K: BookName + Send + Sync> Control<'s, K> {
                     let _ = self.admit(scope, rt, gate, stream, peer);
                 }
                 Err(error) if is_usual(&error) => {}
-                Err(error) if is_over(&error) => return Err(ServeError::Listen),
+                Err(error) if is_over(&error) => return Err(ControlError::Listen),
                 Err(error) => self.hold_on(rt, &error),
             }
             if self.state.is_over() {
@@ -159,7 +159,7 @@ impl<'s, K: BookName + Send + Sync> Control<'s, K> {
             }
         }
         if self.state.out_of_memory() {
-            return Err(ServeError::Memory);
+            return Err(ControlError::Memory);
         }
         Ok(())
     }
@@ -172,7 +172,7 @@ impl<'s, K: BookName + Send + Sync> Control<'s, K> {
         rt: &'s R,
         gate: &'s G,
         listener: &TcpListener,
-    ) -> (Desk<K>, Result<u64, ServeError>) {
+    ) -> (Desk<K>, Result<u64, ControlError>) {
         let outcome = self.take_all(scope, rt, gate, listener);
         let Control {
             state,

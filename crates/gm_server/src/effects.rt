@@ -7,16 +7,16 @@ use std::time::Instant;
 
 /// What came of some events.
 #[derive(Drop)]
-pub(crate) struct Effects {
+pub struct Effects {
     /// The slots for which there may be something to send.
-    pub(crate) touched: SlotSet,
+    pub touched: SlotSet,
     /// Whether the server goes on.
-    pub(crate) mode: Mode,
+    pub mode: Mode,
 }
 
 impl Effects {
     /// Nothing came.
-    pub(crate) fn new() -> Effects {
+    pub fn new() -> Effects {
         Effects {
             touched: SlotSet::new(),
             mode: Mode::Running,
@@ -24,14 +24,14 @@ impl Effects {
     }
 
     /// Takes a receipt's slots and mode.
-    pub(crate) fn add(&mut self, touched: &SlotSet, mode: Mode) {
+    pub fn add(&mut self, touched: &SlotSet, mode: Mode) {
         self.mode = mode;
         self.touched.union(touched);
     }
 }
 
-/// What a session needs of its server, with the runtime that it has.
-pub(crate) trait Notify<R> {
+/// What a session needs of its server: to whom it tells what came of its units, and whether others are to have their turn.
+pub trait Notify<R> {
     /// Long pieces pass it one after another.
     fn long_piece_lock(&self) -> &Mutex<()>;
 
@@ -44,12 +44,12 @@ pub(crate) trait Notify<R> {
 
 /// A session that is served alone: nobody is told, and nobody waits.
 #[derive(Drop)]
-pub(crate) struct Alone {
+pub struct Alone {
     long_piece_lock: Mutex<()>,
 }
 
 impl Alone {
-    pub(crate) fn new() -> Alone {
+    pub fn new() -> Alone {
         Alone {
             long_piece_lock: Mutex::new(()),
         }

@@ -3,7 +3,6 @@
 ghost use Rattle.std.specs.Prelude.{◌≡◌};
 ghost use Rattle.gm_server.specs.Statuses.{serve_error_number};
 
-use gm_shared::SettleError;
 use std::alloc::AllocError;
 use thiserror::Error;
 
@@ -32,16 +31,39 @@ impl ServeError {
 }
 
 impl From<AllocError> for ServeError {
+    ghost use Rattle.gm_server.specs.declared.error.ServeError.TheVariants.{Memory};
+
+    ghost from_gives = { λ _ e. e ≡ Memory };
+
     fn from(_e: AllocError) -> ServeError {
         ServeError::Memory
     }
 }
 
-impl From<SettleError> for ServeError {
-    fn from(e: SettleError) -> ServeError {
+/// Why a server ended before its book could be settled.
+#[derive(Clone, Copy, Debug, PartialEq, Eq)]
+pub enum ControlError {
+    /// There was no memory for the book or for what its threads share; or a connection's end couldn't be entered on the tape.
+    Memory,
+    /// The listener failed.
+    Listen,
+}
+
+impl From<AllocError> for ControlError {
+    fn from(_e: AllocError) -> ControlError {
+        ControlError::Memory
+    }
+}
+
+impl From<ControlError> for ServeError {
+    ghost use Rattle.gm_server.specs.Statuses.{error_of_control};
+
+    ghost from_gives = { λ from e. e ≡ error_of_control from };
+
+    fn from(e: ControlError) -> ServeError {
         match e {
-            SettleError::Memory => ServeError::Memory,
-            SettleError::Differs => ServeError::Differs,
+            ControlError::Memory => ServeError::Memory,
+            ControlError::Listen => ServeError::Listen,
         }
     }
 }

@@ -1,10 +1,9 @@
 //! What a slot has of its own: where its connection's events are handed in, and the way of its bytes to the socket.
 
-use crate::message::{Halt, noop_if, write_once};
+use crate::outbox::{Delivery, Outbox};
 use crossbeam_utils::sync::{Parker, Unparker};
 use gm_shared::{BookName, Desk, Pen, Shared};
 use std::alloc::{AllocError, Global};
-use std::io::Write;
 use std::net::{Shutdown, TcpStream};
 use std::sync::atomic::{AtomicBool, Ordering};
 use std::sync::{Arc, Condvar, Mutex, Wait};
@@ -34,49 +33,11 @@ pub(crate) fn is_over(rt: &impl Clock, begun: &mut Option<Instant>, time: u64) -
     }
 }
 
-/// What is being sent: drained bytes, and then a NOOP where one was taken.
-#[derive(Drop)]
-struct Message {
-    bytes: Vec<u8>,
-    took: bool,
-    written: usize,
-}
-
-impl Message {
-    /// Sends what isn't written yet, as far as the peer takes it at once.
-    fn send<W: Write>(&mut self, w: &mut W) -> Result<(), Halt> {
-        let noop = noop_if(self.took);
-        let first = self.written.min(self.bytes.len());
-        if let Err(halt) = write_once(&self.bytes[first..], w) {
-            self.written = first + halt.written;
-            return Err(halt);
-        }
-        let second = (self.written - first).min(noop.len());
-        if let Err(halt) = write_once(&noop[second..], w) {
-            self.written = self.bytes.len().saturating_add(second + halt.written);
-            return Err(halt);
-        }
-        Ok(())
-    }
-}
-
-/// What came of a delivery.
-#[derive(Clone, Copy, PartialEq, Eq)]
-pub(crate) enum Delivery {
-    /// All was sent.
-    Done,
-    /// The peer takes no more at present; what is left waits in the lane.
-    Late,
-    /// There is no connection to send to.
-    Over,
-}
-
 /// What is to be sent to a connection, and where.
 #[derive(Drop)]
 pub(crate) struct Outgoing<K: BookName> {
-    pen: Pen<K>,
+    outbox: Outbox<K>,
     stream: Option<Arc<TcpStream, Global>>,
-    left: Option<Message>,
     has_writer: bool,
 }
 
@@ -87,7 +48,7 @@ impl<K: BookName> Outgoing<K> {
             // Where it fails, the peer is gone already.
             let _ = stream.shutdown(Shutdown::Both);
         }
-        self.left = None;
+        self.outbox.forget();
     }
 
     /// Sets how long a write waits, in milliseconds.
@@ -98,54 +59,17 @@ impl<K: BookName> Outgoing<K> {
         }
     }
 
-    /// Sends what is left of the present message.
-    fn send_left(&mut self) -> Delivery {
+    /// Sends what there is to send, and ends the connection where it is over.
+    fn deliver(&mut self, rt: &impl Wait, shared: &Shared<K>) -> Delivery {
         let Some(stream) = &self.stream else {
             return Delivery::Over;
         };
-        let Some(message) = &mut self.left else {
-            return Delivery::Done;
-        };
         let mut socket: &TcpStream = stream;
-        match message.send(&mut socket) {
-            Ok(()) => {
-                self.left = None;
-                Delivery::Done
-            }
-            Err(halt) if halt.late => Delivery::Late,
-            Err(_) => {
-                self.hang_up();
-                Delivery::Over
-            }
-        }
-    }
-
-    /// Sends what was left, and then what waits in the book: the bytes, and a NOOP where one is owed. Where the slot
-    /// is shut and all is sent, the connection ends.
-    fn deliver(&mut self, rt: &impl Wait, shared: &Shared<K>) -> Delivery {
-        let before = self.send_left();
-        if before != Delivery::Done {
-            return before;
-        }
-        let took = self.pen.take(shared);
-        let Ok(drained) = self.pen.drain(rt, shared) else {
+        let delivery = self.outbox.deliver(rt, shared, &mut socket);
+        if delivery == Delivery::Over {
             self.hang_up();
-            return Delivery::Over;
-        };
-        let shut = drained.shut;
-        if took || !drained.bytes.is_empty() {
-            self.left = Some(Message {
-                bytes: drained.bytes,
-                took,
-                written: 0,
-            });
         }
-        let sent = self.send_left();
-        if shut && sent == Delivery::Done {
-            self.hang_up();
-            return Delivery::Over;
-        }
-        sent
+        delivery
     }
 }
 
@@ -170,9 +94,8 @@ impl<K: BookName> Lane<K> {
         Ok(Lane {
             desk: Mutex::new(desk),
             outgoing: Mutex::new(Outgoing {
-                pen,
+                outbox: Outbox::new(pen),
                 stream: None,
-                left: None,
                 has_writer: false,
             }),
             parker: Mutex::new(parker),
@@ -185,8 +108,8 @@ impl<K: BookName> Lane<K> {
     /// What was given to the slot.
     pub(crate) fn into_parts(self) -> (Desk<K>, Pen<K>) {
         let Lane { desk, outgoing, .. } = self;
-        let Outgoing { pen, .. } = outgoing.into_inner();
-        (desk.into_inner(), pen)
+        let Outgoing { outbox, .. } = outgoing.into_inner();
+        (desk.into_inner(), outbox.into_pen())
     }
 
     /// Takes a connection, for which a writer is about to start.
@@ -194,7 +117,7 @@ impl<K: BookName> Lane<K> {
         self.is_ending.store(false, Ordering::SeqCst);
         let mut outgoing = self.outgoing.lock(rt);
         outgoing.stream = Some(stream);
-        outgoing.left = None;
+        outgoing.outbox.forget();
         outgoing.has_writer = true;
         outgoing.set_write_timeout(WRITE_TIMEOUT);
     }
@@ -238,7 +161,7 @@ impl<K: BookName> Lane<K> {
             return false;
         };
         // What is left is the writer's to send, which was told when it was left.
-        if outgoing.left.is_some() {
+        if outgoing.outbox.has_left() {
             return false;
         }
         let delivery = outgoing.deliver(rt, shared);

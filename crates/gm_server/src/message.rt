@@ -1,8 +1,8 @@
 //! What is written to a socket at a time.
 
-ghost use Rattle.std.specs.Prelude.{◌≡◌, ◌<◌, ◌≤◌, ◌+◌, ◌^◌, ◌++◌, length, take, OnOk, IfErr};
+ghost use Rattle.std.specs.Prelude.{◌≡◌, ◌≤◌, ◌++◌, length, take, OnOk, IfErr};
 ghost use Rattle.std.specs.Io.KnownBytes.{Appends};
-ghost use Rattle.gm_server.specs.Turns.{noop_if, turn_of};
+ghost use Rattle.gm_server.specs.Turns.{noop_if, turn_of, Parts};
 
 use std::io::{Error, ErrorKind, Write};
 
@@ -16,13 +16,24 @@ pub struct WriteFault {
     pub written: usize,
 }
 
-/// Where a write stopped, and whether that is only for now.
+/// Where one write stopped, and whether that is only for now.
+#[derive(Clone, Copy)]
+struct Stop {
+    /// How many bytes were written.
+    written: usize,
+    /// Whether the peer takes no more at present. Else the writer failed, or took no byte.
+    is_late: bool,
+}
+
+/// Where the writing of drained bytes and a NOOP stopped, and whether that is only for now.
 #[derive(Clone, Copy)]
 pub(crate) struct Halt {
-    /// How many bytes were written.
-    pub(crate) written: usize,
+    /// How many of the drained bytes were written.
+    pub(crate) bytes: usize,
+    /// How many of the NOOP's.
+    pub(crate) noop: usize,
     /// Whether the peer takes no more at present. Else the writer failed, or took no byte.
-    pub(crate) late: bool,
+    pub(crate) is_late: bool,
 }
 
 /// Whether a write only came too early.
@@ -41,65 +52,45 @@ pub(crate) fn noop_if(took: bool) -> &'static [u8]
 }
 
 /// Writes the bytes, if the writer takes them in one write. Where it takes some, it takes no more at present.
-pub(crate) fn write_once<W: Write>(bytes: &[u8], w: &mut W) -> Result<(), Halt>
+fn write_once<W: Write>(bytes: &[u8], w: &mut W) -> Result<(), Stop>
     ensures ok { OnOk result (Appends (W.contents w.old) (W.contents w.new) bytes.now) }
-    ensures within { IfErr result (λ halt. halt.written ≤ length bytes.now) }
-    ensures halt { IfErr result (λ halt. Appends (W.contents w.old) (W.contents w.new) (take halt.written bytes.now)) }
+    ensures within { IfErr result (λ stop. stop.written ≤ length bytes.now) }
+    ensures stop { IfErr result (λ stop. Appends (W.contents w.old) (W.contents w.new) (take stop.written bytes.now)) }
 {
     if bytes.is_empty() {
         return Ok(());
     }
     match w.write(bytes) {
         Ok(count) if count == bytes.len() => Ok(()),
-        Ok(written) => Err(Halt {
+        Ok(written) => Err(Stop {
             written,
-            late: written > 0,
+            is_late: written > 0,
         }),
-        Err(error) => Err(Halt {
+        Err(error) => Err(Stop {
             written: 0,
-            late: is_late(&error),
+            is_late: is_late(&error),
         }),
     }
 }
 
-/// Writes the bytes.
-fn write_bytes<W: Write>(bytes: &[u8], w: &mut W) -> Result<(), Halt>
-    ensures ok { OnOk result (Appends (W.contents w.old) (W.contents w.new) bytes.now) }
-    ensures within { IfErr result (λ halt. halt.written ≤ length bytes.now) }
-    ensures halt { IfErr result (λ halt. Appends (W.contents w.old) (W.contents w.new) (take halt.written bytes.now)) }
+/// Writes drained bytes and then the NOOP, each in one write.
+pub(crate) fn write_parts<W: Write>(bytes: &[u8], noop: &[u8], w: &mut W) -> Result<(), Halt>
+    ensures ok { OnOk result (Appends (W.contents w.old) (W.contents w.new) (bytes.now ++ noop.now)) }
+    ensures halt { IfErr result (λ halt. Parts (W.contents w.old) (W.contents w.new) bytes.now noop.now halt) }
 {
-    let mut written = 0;
-    while written < bytes.len() {
-        match w.write(&bytes[written..]) {
-            Ok(0) => {
-                return Err(Halt {
-                    written,
-                    late: false,
-                });
-            }
-            Ok(count) => written += count,
-            Err(error) => {
-                let late = is_late(&error);
-                return Err(Halt { written, late });
-            }
-        }
+    if let Err(stop) = write_once(bytes, w) {
+        return Err(Halt {
+            bytes: stop.written,
+            noop: 0,
+            is_late: stop.is_late,
+        });
     }
-    Ok(())
-}
-
-/// Writes two pieces, one after the other.
-fn write_both<W: Write>(first: &[u8], second: &[u8], w: &mut W) -> Result<(), Halt>
-    requires { length first.now + length second.now < 2 ^ 64 }
-    ensures ok { OnOk result (Appends (W.contents w.old) (W.contents w.new) (first.now ++ second.now)) }
-    ensures within { IfErr result (λ halt. halt.written ≤ length (first.now ++ second.now)) }
-    ensures halt { IfErr result (λ halt. Appends (W.contents w.old) (W.contents w.new) (take halt.written (first.now ++ second.now))) }
-{
-    write_bytes(first, w)?;
-    match write_bytes(second, w) {
+    match write_once(noop, w) {
         Ok(()) => Ok(()),
-        Err(halt) => Err(Halt {
-            written: first.len() + halt.written,
-            late: halt.late,
+        Err(stop) => Err(Halt {
+            bytes: bytes.len(),
+            noop: stop.written,
+            is_late: stop.is_late,
         }),
     }
 }
@@ -111,10 +102,19 @@ pub fn write_turn<W: Write>(took: bool, drained: &[u8], w: &mut W) -> Result<(),
     ensures within { IfErr result (λ fault. fault.written ≤ length (turn_of took drained.now)) }
     ensures fault { IfErr result (λ fault. Appends (W.contents w.old) (W.contents w.new) (take fault.written (turn_of took drained.now))) }
 {
-    match write_both(drained, noop_if(took), w) {
-        Ok(()) => Ok(()),
-        Err(halt) => Err(WriteFault {
-            written: halt.written,
-        }),
+    let mut bytes = drained;
+    let mut noop = noop_if(took);
+    let mut written = 0;
+    loop {
+        let Err(halt) = write_parts(bytes, noop, w) else {
+            return Ok(());
+        };
+        let count = halt.bytes + halt.noop;
+        written += count;
+        if count == 0 || !halt.is_late {
+            return Err(WriteFault { written });
+        }
+        bytes = &bytes[halt.bytes..];
+        noop = &noop[halt.noop..];
     }
 }

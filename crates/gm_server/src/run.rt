@@ -1,7 +1,7 @@
 //! Runs the program on its arguments.
 
 ghost use Rattle.std.specs.Prelude.{◌≡◌};
-ghost use Rattle.gm_server.specs.Statuses.{run_status, ended_status};
+ghost use Rattle.gm_server.specs.Statuses.{run_status, ended_status, IsStatus};
 
 use crate::args::{Args, parse_args};
 use crate::error::ServeError;
@@ -264,7 +264,9 @@ pub fn run_words<
         + AllocGlobal
         + Sync,
     W: Write,
->(rt: &R, words: &[String], w: &mut W) -> u8 {
+>(rt: &R, words: &[String], w: &mut W) -> u8
+    ensures { IsStatus result }
+{
     let ended = run(rt, words, w);
     report(rt, &ended);
     status_of(&ended)

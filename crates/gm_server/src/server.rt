@@ -1,16 +1,18 @@
 //! Serves.
 
-ghost use Rattle.std.specs.Prelude.{◌≡◌, false, IfOk};
+ghost use Rattle.std.specs.Prelude.{◌≡◌, Bool, IfOk};
+ghost use Rattle.gm_notes.specs.Settings.{Settings as BookSettings};
 ghost use Rattle.gm_shared.specs.Tapes.{is_on};
+ghost use Rattle.gm_server.specs.Served.{SettledSo, EndsSo};
 
 use crate::accepting::{Control, set_accept_timeout};
-use crate::error::ServeError;
+use crate::error::{ControlError, ServeError};
 use crate::gate::Gate;
 use crate::ready::Ready;
 use crate::settings::{Served, Settings};
 use crate::state::ServerState;
 use gm_feeder::Limits;
-use gm_shared::{Blank, BookName, Desk, Shared, TapeMode};
+use gm_shared::{Blank, BookName, Desk, SettleError, Settled, Shared, TapeMode};
 use std::alloc::Global;
 use std::hash::RandomState;
 use std::marker::Brand;
@@ -28,7 +30,7 @@ fn run_control<'x, K: BookName + Send + Sync, R: Threads + Wait + Clock + Eprint
     desk: Desk<K>,
     listener: &'x TcpListener,
     gate: &'x G,
-) -> (Desk<K>, Result<u64, ServeError>) {
+) -> (Desk<K>, Result<u64, ControlError>) {
     let control = Control::new(rt, state, desk);
     thread::scope(
         thread::scope_env(),
@@ -44,8 +46,18 @@ fn mode(tape: bool) -> TapeMode
     if tape { TapeMode::On } else { TapeMode::Off }
 }
 
-/// Serves a book that has a name now, and settles it in the end.
-fn serve_blank<
+/// How a server ended.
+#[derive(Drop)]
+pub struct Ended {
+    /// How many connections were opened; at the greatest `u64` it stays there.
+    pub connections: u64,
+    /// What its book was, and whether the shares of its connections add up.
+    pub book: Result<Settled, SettleError>,
+}
+
+/// Serves the connections that a listener takes, with a book that has a name, and settles the book in the end: `serve`,
+/// which hands back the tape, and what each desk and pen was told of it.
+pub fn serve_book<
     K: BookName + Send + Sync,
     R: Threads + Wait + Clock + Eprint + Sync,
     G: Gate,
@@ -58,10 +70,11 @@ fn serve_blank<
     limits: Limits,
     gate: &G,
     ready: &mut T,
-) -> Result<Served, ServeError>
+) -> Result<Ended, ControlError>
     requires table { blank.table ≡ K.table }
+    requires settings { blank.settings ≡ K.settings }
     requires taped { blank.taped ≡ K.taped }
-    ensures { K.taped ≡ false → IfOk result (λ served. served.entries ≡ 0) }
+    ensures { IfOk result (λ ended. SettledSo K.settings K.taped ended.book) }
 {
     let (shared, desks, pens, desk) = Shared::<K>::open(alloc, blank)?;
     let state = ServerState::new(alloc, shared, desks, pens, limits)?;
@@ -71,11 +84,26 @@ fn serve_blank<
         (desk, Ok(0))
     };
     let connections = outcome?;
-    let entries = state.settle(desk)?;
-    Ok(Served {
+    Ok(Ended {
         connections,
-        entries,
+        book: state.settle(desk),
     })
+}
+
+/// What is told of a server that ended so.
+fn served(connections: u64, book: &Result<Settled, SettleError>) -> Result<Served, ServeError>
+    ensures { (k : BookSettings) (taped : Bool) → SettledSo k taped book.now → EndsSo k taped result }
+{
+    match book {
+        Ok(settled) => Ok(Served {
+            connections,
+            entries: settled.tape.len() as u64,
+        }),
+        Err(error) => match error {
+            SettleError::Memory => Err(ServeError::Memory),
+            SettleError::Differs(_) => Err(ServeError::Differs),
+        },
+    }
 }
 
 /// Serves the connections that a listener takes, until one of them asks for a shutdown (the Gearman PROTOCOL document,
@@ -86,7 +114,7 @@ fn serve_blank<
 ///
 /// `Memory` comes where there is no memory for the book or for its end, and with a tape where there is none to enter the
 /// end of a connection, which stops the server; `Differs` where what was told isn't what stands on the tape; `Listen`
-/// where the listener fails.
+/// where the listener fails. With a tape it answers `Ok` exactly where what was told is what stands on it.
 pub fn serve<R: Threads + Wait + Clock + Eprint + Sync, G: Gate, T: Ready>(
     rt: &R,
     alloc: Global,
@@ -96,7 +124,7 @@ pub fn serve<R: Threads + Wait + Clock + Eprint + Sync, G: Gate, T: Ready>(
     gate: &G,
     ready: &mut T,
 ) -> Result<Served, ServeError>
-    ensures { settings.tape ≡ false → IfOk result (λ served. served.entries ≡ 0) }
+    ensures { EndsSo settings.config settings.tape result }
 {
     let Settings {
         config,
@@ -107,5 +135,8 @@ pub fn serve<R: Threads + Wait + Clock + Eprint + Sync, G: Gate, T: Ready>(
         return Err(ServeError::Listen);
     };
     let blank = Blank::new(alloc, seed, config, mode(tape))?;
-    serve_blank::<Brand, R, G, T>(rt, alloc, blank, &listener, limits, gate, ready)
+    let Ended { connections, book } = serve_book::<Brand, R, G, T>(
+        rt, alloc, blank, &listener, limits, gate, ready,
+    )?;
+    served(connections, &book)
 }

@@ -5,7 +5,7 @@ ghost use Rattle.std.specs.Io.KnownBytes.{IsAtEnd};
 ghost use Rattle.gm_notes.specs.Servers.{step_of, IsSized};
 ghost use Rattle.gm_server.specs.Sessions.{IsPiece, Applies, Unloads, TakesPiece, Reads};
 
-use crate::effects::{Alone, Effects, Notify};
+use crate::effects::{Effects, Notify};
 use crate::gate::Gate;
 use gm_feeder::{Feeder, Limits};
 use gm_front::{Next, next_event};
@@ -221,8 +221,11 @@ fn read_piece<I: Read>(reader: &mut I, buffer: &mut [u8]) -> Result<usize, Sessi
     }
 }
 
-/// Runs a session, and tells the server what came of each piece, or of some of its units.
-pub(crate) fn run_session<'s, K: BookName, R: Wait, I: Read, G: Gate, N: Notify<R>>(
+/// Reads a connection's stream to its end, cuts it into units and applies each at the slot, in order; where no
+/// continuation of what came can be read, it applies that fault and ends. It reads pieces of at most 16,384 bytes. Each
+/// unit passes the gate first. The server is told what came of each piece, or of some of its units. The desk is the
+/// slot's. With a tape the desk is told of these events and of no others.
+pub fn read_session<'s, K: BookName, R: Wait, I: Read, G: Gate, N: Notify<R>>(
     rt: &'s R,
     alloc: Global,
     reader: &mut I,
@@ -253,24 +256,4 @@ pub(crate) fn run_session<'s, K: BookName, R: Wait, I: Read, G: Gate, N: Notify<
     // The desk is the caller's again.
     let _desk = session.applier.desk;
     end
-}
-
-/// Reads a connection's stream to its end, cuts it into units and applies each at the slot, in order; where no
-/// continuation of what came can be read, it applies that fault and ends. It reads pieces of at most 16,384 bytes. Each
-/// unit passes the gate first. The desk is the slot's. With a tape the desk is told of these events and of no others.
-pub fn read_session<K: BookName, R: Wait, I: Read, G: Gate>(
-    rt: &R,
-    alloc: Global,
-    reader: &mut I,
-    shared: &Shared<K>,
-    desk: &mut Desk<K>,
-    slot: u32,
-    limits: Limits,
-    gate: &G,
-) -> SessionEnd
-    ensures ended { result ≡ SessionEnd.Ended → IsAtEnd (I.remaining reader.new) }
-    ensures reads { Reads K.taped slot limits (I.remaining reader.old) (I.remaining reader.new) result desk.old.share.items desk.new.share.items }
-{
-    let alone = Alone::new();
-    run_session(rt, alloc, reader, shared, desk, slot, limits, gate, &alone)
 }

@@ -1,15 +1,15 @@
 //! What all threads of a server share.
 
-ghost use Rattle.std.specs.Prelude.{◌≡◌, false, IfOk};
 ghost use Rattle.gm_notes.specs.Servers.{IsSized};
+ghost use Rattle.gm_server.specs.Served.{SettledSo};
 
 use crate::effects::{Effects, Notify};
 use crate::gate::Gate;
 use crate::lane::{Lane, is_over};
-use crate::session::run_session;
+use crate::session::read_session;
 use gm_feeder::Limits;
 use gm_notes::{ApplyError, Event, Mode};
-use gm_shared::{BookName, Desk, Pen, SettleError, Shared, settle};
+use gm_shared::{BookName, Desk, Pen, SettleError, Settled, Shared, settle};
 use std::alloc::{AllocError, Global};
 use std::net::TcpStream;
 use std::sync::atomic::{AtomicBool, AtomicU64, Ordering};
@@ -174,16 +174,16 @@ impl<K: BookName> ServerState<K> {
         };
         let mut desk = lane.desk.lock(rt);
         let mut reader = stream;
-        run_session(
-            rt,
+        read_session(
+            &*rt,
             self.alloc,
             &mut reader,
             &self.shared,
             &mut desk,
             slot,
             self.limits,
-            gate,
-            self,
+            &*gate,
+            &*self,
         );
         lane.end(rt);
         self.close(rt, &mut desk, slot);
@@ -208,9 +208,9 @@ fn all_parts<K: BookName>(
 }
 
 impl<K: BookName> ServerState<K> {
-    /// Settles the book, once no thread has any part of it, and answers how many entries its tape has.
-    pub(crate) fn settle(self, control: Desk<K>) -> Result<u64, SettleError>
-        ensures { IfOk result (λ entries. K.taped ≡ false → entries ≡ 0) }
+    /// Settles the book, once no thread has any part of it.
+    pub(crate) fn settle(self, control: Desk<K>) -> Result<Settled, SettleError>
+        ensures { SettledSo K.settings K.taped result }
     {
         let ServerState {
             alloc,
@@ -219,8 +219,7 @@ impl<K: BookName> ServerState<K> {
             ..
         } = self;
         let (desks, pens) = all_parts(alloc, lanes, control)?;
-        let settled = settle(alloc, shared, desks, pens)?;
-        Ok(settled.tape.len() as u64)
+        settle(alloc, shared, desks, pens)
     }
 }
 

@@ -1,4 +1,4 @@
 use Rattle.gm_server.proofs.server.serve.Given as goal
 
-abbrev pub ghosts-serve_blank : goal.ghosts-serve_blank
-ghosts-serve_blank g a = record { table = a.blank.table; taped = a.blank.taped }
+abbrev pub ghosts-serve_book : goal.ghosts-serve_book
+ghosts-serve_book g a = record { table = a.blank.table; settings = a.blank.settings; taped = a.blank.taped }

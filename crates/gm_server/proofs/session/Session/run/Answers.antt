@@ -1,7 +1,5 @@
-use Rattle.std.proofs.Common.{◌∙◌, refl, subst, Ok, Err}
-use Rattle.gm_server.specs.declared.session.SessionEnd.TheVariants as ends
-use Rattle.gm_server.specs.Sessions.{TakesPiece}
-use Rattle.gm_server.proofs.Handing.{reading_none, reading_more, reading_ends, reading_breaks, consumes_none}
+use Rattle.std.proofs.Common.{◌∙◌, refl}
+use Rattle.gm_server.proofs.Handing.{reading_none, reading_more, reading_breaks}
 use Rattle.gm_server.proofs.session.Session.run.Goals as goal
 
 pub loop-init : goal.loop-init

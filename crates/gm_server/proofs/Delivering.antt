@@ -1,0 +1,81 @@
+-- A delivery: what was left, and then what the pen gives.
+use Rattle.std.proofs.Common.{◌≡◌, ℕ, ◌+◌, Bool, true, false, List, [], ◌++◌, Option, Result, Ok, Err, refl, sym, ap, subst, ◌∙◌}
+use Rattle.std.specs.Prelude.{MatchBool}
+use Rattle.std.proofs.lemmas.List.{append-nil, append_assoc}
+use Rattle.std.proofs.KnownBytes.{Appends-trans}
+use Rattle.gm_notes.specs.Settings.{Settings}
+use Rattle.gm_notes.specs.declared.event.ApplyError.{ApplyError}
+use Rattle.gm_shared.specs.declared.receipt.Drained.{Drained}
+use Rattle.gm_shared.specs.declared.tape.Told.{Told}
+use Rattle.gm_shared.specs.Shared.{Emptied}
+use Rattle.gm_server.specs.declared.outbox.Delivery.{Delivery}
+use Rattle.gm_server.specs.declared.outbox.Delivery.TheVariants.{Done, Over}
+use Rattle.gm_server.specs.Turns.{turn_of}
+use Rattle.gm_server.specs.Deliveries.{Sends, unasked, given, refused, Delivers}
+
+-- whether a NOOP was taken, said of the same counts
+pub takes_as : (took : Bool) (a b c d : ℕ) → a ≡ c → b ≡ d → MatchBool took (b ≡ a + 1) (b ≡ a) → MatchBool took (d ≡ c + 1) (d ≡ c)
+takes_as true a b c d p q h = sym q ∙ (h ∙ ap (λ n. n + 1) p)
+takes_as false a b c d p q h = sym q ∙ (h ∙ p)
+
+-- a drain, said of the same slot and shares
+pub emptied_as : (k : Settings) (taped : Bool) (slot same : ℕ) (result : Result Drained ApplyError) (share after from to : List Told) → same ≡ slot → from ≡ share → to ≡ after
+    → Emptied k taped same same result from to → Emptied k taped slot slot result share after
+emptied_as k taped slot same result share after from to e f g h =
+    subst (λ (c : ℕ). Emptied k taped c c result share after) e (subst (λ (s : List Told). Emptied k taped same same result s after) f (subst (λ (s : List Told). Emptied k taped same same result from s) g h))
+
+module _ (k : Settings) (taped : Bool) (slot takes takes_after : ℕ) (share after : List Told) (old mid : Option (List ℕ)) (left between : List ℕ) where
+  -- what was left couldn't all be sent
+  pub delivers_left : (delivery : Delivery) → (delivery ≡ Done → ⊥) → takes_after ≡ takes → after ≡ share → Sends delivery old mid left between
+      → Delivers k taped delivery slot takes takes_after share after old mid left between
+  delivers_left delivery undone t s sends = record {
+    asked = false;
+    took = false;
+    gave = [];
+    gives = unasked t s;
+    done = λ is. absurd (undone is);
+    sends = subst (λ due. Sends delivery old mid due between) (sym (append-nil left)) sends;
+  }
+
+  module _ (sends : Sends Done old mid left between) (took : Bool) (takes_so : MatchBool took (takes_after ≡ takes + 1) (takes_after ≡ takes)) where
+    all_sent : left ≡ sends.sent
+    all_sent = sends.whole ∙ (ap (λ rest. sends.sent ++ rest) sends.leaves.0 ∙ append-nil sends.sent)
+
+    -- the pen was refused: the connection is over
+    pub delivers_none : (error : ApplyError) → Emptied k taped slot slot (Err error) share after → Delivers k taped Over slot takes takes_after share after old mid left between
+    delivers_none error emptied = record {
+      asked = false;
+      took = took;
+      gave = [];
+      gives = refused took error takes_so emptied;
+      done = λ is. absurd cc;
+      sends = record {
+        sent = sends.sent;
+        rest = turn_of took [];
+        written = sends.written;
+        whole = ap (λ front. front ++ turn_of took []) all_sent;
+        leaves = sends.leaves.1;
+      };
+    }
+
+    module _ (drained : Drained) (emptied : Emptied k taped slot slot (Ok drained) share after) (new : Option (List ℕ)) (due left_after : List ℕ) (is_due : due ≡ turn_of took drained.bytes.items) where
+      -- it gave, and that was sent as far as the peer took it
+      pub delivers_more : (delivery : Delivery) → Sends delivery mid new due left_after → Delivers k taped delivery slot takes takes_after share after old new left left_after
+      delivers_more delivery more = record {
+        asked = true;
+        took = took;
+        gave = drained.bytes.items;
+        gives = given took drained takes_so emptied;
+        done = λ is. refl;
+        sends = record {
+          sent = sends.sent ++ more.sent;
+          rest = more.rest;
+          written = Appends-trans old mid new sends.sent more.sent sends.written more.written;
+          whole = ap (λ front. front ++ turn_of took drained.bytes.items) all_sent ∙ (ap (λ bytes. sends.sent ++ bytes) (sym is_due ∙ more.whole) ∙ sym (append_assoc sends.sent more.sent more.rest));
+          leaves = more.leaves;
+        };
+      }
+
+      -- all of that, and the slot is shut
+      pub delivers_last : Sends Done mid new due left_after → Delivers k taped Over slot takes takes_after share after old new left left_after
+      delivers_last more = delivers_more Over (record { sent = more.sent; rest = more.rest; written = more.written; whole = more.whole; leaves = more.leaves.1 })

@@ -1,9 +1,0 @@
-use Rattle.std.proofs.Common.{◌≤◌, ◌-◌, length, take}
-use Rattle.std.specs.Io.KnownBytes.{Appends}
-use Rattle.gm_server.proofs.message.write_bytes.Given as goal
-
-abbrev pub invariant-loop-written : goal.invariant-loop-written
-invariant-loop-written g l = (l.written ≤ length l.bytes) × Appends (g.W.Write.contents l.fn.w) (g.W.Write.contents l.w) (take l.written l.bytes)
-
-abbrev pub decreases-loop-written : goal.decreases-loop-written
-decreases-loop-written g l = length l.bytes - l.written

@@ -1,0 +1,58 @@
+-- What a delivery sends to a connection.
+use Rattle.std.specs.Prelude.{◌≡◌, ◌+◌, ℕ, List, [], ◌++◌, drop, Bool, true, false, Option, Some, None, Ok, Err, MatchBool}
+use Rattle.std.specs.Io.KnownBytes.{Appends}
+use Rattle.gm_notes.specs.Settings.{Settings}
+use Rattle.gm_notes.specs.declared.event.ApplyError.{ApplyError}
+use Rattle.gm_shared.specs.declared.receipt.Drained.{Drained}
+use Rattle.gm_shared.specs.declared.tape.Told.{Told}
+use Rattle.gm_shared.specs.Shared.{Emptied}
+use Rattle.gm_server.specs.declared.outbox.Delivery.{Delivery}
+use Rattle.gm_server.specs.declared.outbox.Delivery.TheVariants.{Done, Late, Over}
+use Rattle.gm_server.specs.declared.outbox.Message.{Message}
+use Rattle.gm_server.specs.Turns.{turn_of}
+
+-- what isn't sent yet of a message
+abbrev pub unsent : Message → List ℕ
+unsent message = drop message.written message.bytes.items ++ message.noop.now
+
+abbrev pub left_in : Option Message → List ℕ
+left_in None = []
+left_in (Some message) = unsent message
+
+-- A front of what was due was sent, and this is left; nothing where all is done.
+pub record SendsFront (delivery : Delivery) (old new : Option (List ℕ)) (due left : List ℕ) : Type 0 where
+  pub sent : List ℕ
+  pub written : Appends old new sent
+  pub whole : due ≡ sent ++ left
+  pub done : delivery ≡ Done → left ≡ []
+
+-- What becomes of what wasn't sent: at Done there is none; at Late it is what is left; a connection that is over forgets it.
+abbrev pub Leaves : Delivery → List ℕ → List ℕ → Type 0
+Leaves Done rest left = (rest ≡ []) × (left ≡ [])
+Leaves Late rest left = left ≡ rest
+Leaves Over rest left = left ≡ []
+
+pub record Sends (delivery : Delivery) (old new : Option (List ℕ)) (due left : List ℕ) : Type 0 where
+  pub sent : List ℕ
+  pub rest : List ℕ
+  pub written : Appends old new sent
+  pub whole : due ≡ sent ++ rest
+  pub leaves : Leaves delivery rest left
+
+-- What a pen gave for a delivery, whether it was asked and gave at all, with a NOOP or without, and the bytes.
+pub data Gives (k : Settings) (taped : Bool) (slot takes takes_after : ℕ) (share after : List Told) : Bool → Bool → List ℕ → Type 0 where
+  unasked : takes_after ≡ takes → after ≡ share → Gives k taped slot takes takes_after share after false false []
+  given : (took : Bool) (drained : Drained) → MatchBool took (takes_after ≡ takes + 1) (takes_after ≡ takes)
+      → Emptied k taped slot slot (Ok drained) share after → Gives k taped slot takes takes_after share after true took drained.bytes.items
+  refused : (took : Bool) (error : ApplyError) → MatchBool took (takes_after ≡ takes + 1) (takes_after ≡ takes)
+      → Emptied k taped slot slot (Err error) share after → Gives k taped slot takes takes_after share after false took []
+
+-- A delivery sends what was left, and then what the pen gives, the NOOP behind the bytes that were drained with it: in this order,
+-- each byte once. All is done only where the pen gave.
+pub record Delivers (k : Settings) (taped : Bool) (delivery : Delivery) (slot takes takes_after : ℕ) (share after : List Told) (old new : Option (List ℕ)) (left left_after : List ℕ) : Type 0 where
+  pub asked : Bool
+  pub took : Bool
+  pub gave : List ℕ
+  pub gives : Gives k taped slot takes takes_after share after asked took gave
+  pub done : delivery ≡ Done → asked ≡ true
+  pub sends : Sends delivery old new (left ++ turn_of took gave) left_after

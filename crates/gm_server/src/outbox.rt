@@ -1,0 +1,150 @@
+//! What is to be sent to a connection, and how it is sent.
+
+ghost use Rattle.std.specs.Prelude.{◌≡◌, ◌≤◌, [], length};
+
+use crate::message::{noop_if, write_parts};
+use gm_shared::{BookName, Drained, Pen, Shared};
+use std::io::Write;
+use std::sync::Wait;
+
+/// What is being sent: drained bytes, and then a NOOP where one was taken.
+#[derive(Drop)]
+struct Message {
+    bytes: Vec<u8>,
+    /// How many of the bytes are sent.
+    written: usize,
+    /// What isn't sent yet of the NOOP.
+    noop: &'static [u8],
+    ghost within: { written ≤ length bytes.items },
+}
+
+impl Message {
+    ghost use Rattle.gm_server.specs.Turns.{turn_of};
+    ghost use Rattle.gm_server.specs.Deliveries.{unsent, SendsFront};
+
+    fn new(bytes: Vec<u8>, took: bool) -> Message
+        ensures { unsent result ≡ turn_of took bytes.items }
+    {
+        Message {
+            bytes,
+            written: 0,
+            noop: noop_if(took),
+        }
+    }
+
+    /// Sends what isn't sent yet, as far as the peer takes it at once.
+    fn send<W: Write>(&mut self, w: &mut W) -> Delivery
+        ensures { SendsFront result (W.contents w.old) (W.contents w.new) (unsent self.old) (unsent self.new) }
+    {
+        match write_parts(&self.bytes[self.written..], self.noop, w) {
+            Ok(()) => {
+                self.written = self.bytes.len();
+                self.noop = &[];
+                Delivery::Done
+            }
+            Err(halt) => {
+                self.written += halt.bytes;
+                self.noop = &self.noop[halt.noop..];
+                if halt.is_late {
+                    Delivery::Late
+                } else {
+                    Delivery::Over
+                }
+            }
+        }
+    }
+}
+
+/// What came of a delivery.
+#[derive(Clone, Copy, PartialEq, Eq)]
+pub(crate) enum Delivery {
+    /// All was sent.
+    Done,
+    /// The peer takes no more at present; what is left waits in the lane.
+    Late,
+    /// There is no connection to send to.
+    Over,
+}
+
+/// What is to be sent to a connection: what is left of the present message, and what its pen gives.
+#[derive(Drop)]
+pub(crate) struct Outbox<K: BookName> {
+    pen: Pen<K>,
+    left: Option<Message>,
+}
+
+impl<K: BookName> Outbox<K> {
+    ghost use Rattle.gm_server.specs.Deliveries.{left_in, Sends, Delivers};
+
+    pub(crate) fn new(pen: Pen<K>) -> Outbox<K>
+        ensures pen { result.pen ≡ pen }
+        ensures empty { left_in result.left ≡ [] }
+    {
+        Outbox { pen, left: None }
+    }
+
+    pub(crate) fn into_pen(self) -> Pen<K>
+        ensures { result ≡ self.pen }
+    {
+        self.pen
+    }
+
+    /// Whether something is left of a message.
+    pub(crate) fn has_left(&self) -> bool {
+        self.left.is_some()
+    }
+
+    /// Forgets what is left, since there is no connection to send it to.
+    pub(crate) fn forget(&mut self)
+        ensures pen { self.new.pen ≡ self.old.pen }
+        ensures empty { left_in self.new.left ≡ [] }
+    {
+        self.left = None;
+    }
+
+    /// Sends what is left of the present message.
+    fn send_left<W: Write>(&mut self, w: &mut W) -> Delivery
+        ensures sends { Sends result (W.contents w.old) (W.contents w.new) (left_in self.old.left) (left_in self.new.left) }
+        ensures pen { self.new.pen ≡ self.old.pen }
+    {
+        let Some(message) = &mut self.left else {
+            return Delivery::Done;
+        };
+        let delivery = message.send(w);
+        if delivery != Delivery::Late {
+            self.left = None;
+        }
+        delivery
+    }
+
+    /// Sends what was left, and then what waits in the book: the bytes, and a NOOP where one is owed. Where the slot
+    /// is shut and all is sent, the connection is over.
+    pub(crate) fn deliver<W: Write>(
+        &mut self,
+        rt: &impl Wait,
+        shared: &Shared<K>,
+        w: &mut W,
+    ) -> Delivery
+        ensures delivers { Delivers K.settings K.taped result self.old.pen.slot self.old.pen.seat.takes self.new.pen.seat.takes
+            self.old.pen.share.items self.new.pen.share.items (W.contents w.old) (W.contents w.new) (left_in self.old.left) (left_in self.new.left) }
+        ensures slot { self.new.pen.slot ≡ self.old.pen.slot }
+    {
+        match self.send_left(w) {
+            Delivery::Done => {}
+            Delivery::Late => return Delivery::Late,
+            Delivery::Over => return Delivery::Over,
+        }
+        let took = self.pen.take(shared);
+        let drained = match self.pen.drain(rt, shared) {
+            Ok(drained) => drained,
+            Err(_) => return Delivery::Over,
+        };
+        let Drained { bytes, shut } = drained;
+        self.left = Some(Message::new(bytes, took));
+        match self.send_left(w) {
+            Delivery::Done => { if shut { Delivery::Over } else { Delivery::Done } }
+            Delivery::Late => Delivery::Late,
+            Delivery::Over => Delivery::Over,
+        }
+    }
+}
