@@ -333,6 +333,7 @@ fn crowd<K: BookName + Send + Sync, R: Threads + Wait + Abort + Sync>(
     slots: u32,
 ) -> Result<usize, Fail>
     requires table { blank.table ≡ K.table }
+    requires settings { blank.settings ≡ K.settings }
     requires taped { blank.taped ≡ K.taped }
 {
     let mut room: Room<K> = Room::new(alloc, blank)?;

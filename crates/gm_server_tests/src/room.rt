@@ -59,6 +59,7 @@ pub fn apply<K: BookName, R: Wait + Abort>(
 impl<K: BookName> Room<K> {
     pub fn new(alloc: Global, blank: Blank) -> Result<Room<K>, AllocError>
         requires table { blank.table ≡ K.table }
+        requires settings { blank.settings ≡ K.settings }
         requires taped { blank.taped ≡ K.taped }
     {
         let (shared, desks, pens, control) = Shared::open(alloc, blank)?;
@@ -80,8 +81,8 @@ impl<K: BookName> Room<K> {
         }
     }
 
-    /// Gives all desks and pens back, and gets the tape.
-    pub fn settle(self, alloc: Global) -> Result<Vec<Entry>, SettleError> {
+    /// Gives all desks and pens back, and gets the tape, or the number of the refusal.
+    pub fn settle(self, alloc: Global) -> Result<Vec<Entry>, u8> {
         let Room {
             shared,
             mut desks,
@@ -89,9 +90,12 @@ impl<K: BookName> Room<K> {
             control,
         } = self;
         let Ok(()) = desks.push(control) else {
-            return Err(SettleError::Memory);
+            return Err(SettleError::Memory.number());
         };
-        Ok(settle(alloc, shared, desks, pens)?.tape)
+        match settle(alloc, shared, desks, pens) {
+            Ok(settled) => Ok(settled.tape),
+            Err(error) => Err(error.number()),
+        }
     }
 
     /// Hands in an event at the desk of this number, or at the control desk where no slot has it.
@@ -128,8 +132,9 @@ fn play_at<K: BookName + Send + Sync, S: Scene, R: Threads + Wait + Abort + Sync
     alloc: Global,
     blank: Blank,
     scene: &mut S,
-) -> Result<Result<Vec<Entry>, SettleError>, Fail>
+) -> Result<Result<Vec<Entry>, u8>, Fail>
     requires table { blank.table ≡ K.table }
+    requires settings { blank.settings ≡ K.settings }
     requires taped { blank.taped ≡ K.taped }
 {
     let mut room: Room<K> = Room::new(alloc, blank)?;
@@ -155,7 +160,7 @@ pub fn play_to_the_end<S: Scene, R: RandomSource + Threads + Wait + Abort + Sync
     slots: u32,
     tape: TapeMode,
     scene: &mut S,
-) -> Result<Result<Vec<Entry>, SettleError>, Fail> {
+) -> Result<Result<Vec<Entry>, u8>, Fail> {
     let blank = blank(rt, alloc, slots, tape)?;
     play_at::<Brand, S, R>(rt, alloc, blank, scene)
 }

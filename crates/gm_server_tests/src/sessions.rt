@@ -5,7 +5,7 @@ use crate::devices::FailingReader;
 use crate::room::{Room, Scene, play_settled};
 use gm_feeder::Limits;
 use gm_notes::Event;
-use gm_server::{OpenGate, SessionEnd, read_session};
+use gm_server::{Alone, OpenGate, SessionEnd, read_session};
 use gm_shared::{BookName, TapeMode};
 use std::alloc::Global;
 use std::process::Abort;
@@ -48,6 +48,7 @@ impl<'a> Scene for OneSession<'a> {
             0,
             LIMITS,
             &OpenGate,
+            &Alone::new(),
         );
         if let Ok(drained) = room.drain(rt, 0) {
             self.waiting = drained.bytes;

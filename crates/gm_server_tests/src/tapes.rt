@@ -4,7 +4,7 @@ use crate::calls::{OWED, assert_calls};
 use crate::checks::same;
 use crate::room::{Room, Scene, play_settled, play_to_the_end};
 use gm_notes::{ApplyError, Event};
-use gm_shared::{BookName, SettleError, TapeMode};
+use gm_shared::{BookName, TapeMode};
 use std::process::Abort;
 use std::random::RandomSource;
 use std::sync::Wait;
@@ -62,7 +62,7 @@ fn assert_ends<R: RandomSource + Threads + Wait + Abort + AllocGlobal + Sync>(
     tape: TapeMode,
     lost: Lost,
     places: [Option<u64>; 2],
-    entries: Result<usize, SettleError>,
+    entries: Result<usize, u8>,
 ) -> Result<(), Fail> {
     let mut scene = Echo {
         lost,
@@ -81,12 +81,12 @@ fn assert_ends<R: RandomSource + Threads + Wait + Abort + AllocGlobal + Sync>(
 #[test]
 fn tape_and_shares(rt: HostRuntime) -> Result<(), Fail> {
     let places = [Some(0), Some(1)];
-    let differs = Err(SettleError::Differs);
+    // Differs.
+    let differs = Err(16);
     assert_ends(&rt, TapeMode::On, Lost::Nothing, places, Ok(3))?;
     assert_ends(&rt, TapeMode::On, Lost::Desk, places, differs)?;
     assert_ends(&rt, TapeMode::On, Lost::Pen, places, differs)?;
     assert_ends(&rt, TapeMode::Off, Lost::Nothing, [None, None], Ok(0))?;
-    same(&rt, "the number", &SettleError::Differs.number(), &16);
     Ok(())
 }
 
