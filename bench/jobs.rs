@@ -1,5 +1,5 @@
 //! The rounds of `gm_bench jobs` on std's collections, to compare with:
-//! `rustc -O bench/jobs.rs -o jobs && ./jobs NAME SIZE ROUNDS`, or `./jobs --check`.
+//! `rustc -O bench/jobs.rs -o jobs && ./jobs NAME SIZE ROUNDS`, `./jobs longest SIZE` or `./jobs --check`.
 
 use std::cmp::Reverse;
 use std::collections::{BTreeSet, BinaryHeap, HashMap};
@@ -189,6 +189,18 @@ fn run(name: &str, size: u64, rounds: u64) -> (u64, u128) {
     (sum, start.elapsed().as_nanos())
 }
 
+/// How many nanoseconds the longest of so many calls took, each of which makes a job.
+fn longest(size: u64) -> u128 {
+    let mut jobs = Jobs::new(0, "longest");
+    let mut longest = 0;
+    for index in 0..size {
+        let start = Instant::now();
+        black_box(jobs.make(index + 1, None));
+        longest = longest.max(start.elapsed().as_nanos());
+    }
+    longest
+}
+
 const NAMES: [&str; 7] = [
     "make_end",
     "find",
@@ -208,12 +220,16 @@ fn main() {
                 println!("jobs {name}: sum {}", run(name, 64, 1000).0);
             }
         }
+        ["longest", size] => {
+            let nanos = longest(size.parse().expect("a number"));
+            println!("jobs longest {size}: {nanos} ns");
+        }
         [name, size, rounds] => {
             let (size, rounds) = (size.parse().expect("a number"), rounds.parse::<u64>().expect("a number"));
             let (sum, nanos) = run(name, size, rounds);
             let each = nanos / u128::from(rounds.max(1));
             println!("jobs {name} {size} {rounds}: sum {sum}, {nanos} ns, {each} ns a round");
         }
-        _ => eprintln!("jobs NAME SIZE ROUNDS, or jobs --check"),
+        _ => eprintln!("jobs NAME SIZE ROUNDS, jobs longest SIZE, or jobs --check"),
     }
 }

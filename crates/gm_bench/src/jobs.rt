@@ -204,3 +204,25 @@ pub(crate) fn measure<R: Clock>(
     let mut jobs = Jobs::new(alloc, seed, 1)?;
     fill_and_time(rt, &mut jobs, round, amount)
 }
+
+/// How long a call took that makes a job.
+fn time_of_make<R: Clock>(rt: &R, jobs: &mut Jobs, number: u64) -> Result<u64, BenchError> {
+    let start = now(rt)?;
+    let made = make(jobs, number, None)?;
+    Ok(outcome_since(rt, start, made)?.nanos)
+}
+
+/// How many nanoseconds the longest of so many calls took, each of which makes a job.
+pub(crate) fn longest<R: Clock>(
+    rt: &R,
+    alloc: Global,
+    seed: RandomState,
+    size: u64,
+) -> Result<u64, BenchError> {
+    let mut jobs = Jobs::new(alloc, seed, 1)?;
+    let mut longest = 0;
+    for index in 0..size {
+        longest = time_of_make(rt, &mut jobs, index.wrapping_add(1))?.max(longest);
+    }
+    Ok(longest)
+}

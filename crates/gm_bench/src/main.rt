@@ -2,6 +2,7 @@
 #![tactic(auto)]
 
 mod clock;
+mod crowd;
 mod error;
 mod jobs;
 mod measurements;
@@ -14,6 +15,7 @@ use error::BenchError;
 use gm_options::arguments;
 use measurements::{What, measure, measurements, named};
 use outcome::{Amount, Outcome};
+use server::Task;
 use std::alloc::Global;
 use std::hash::RandomState;
 use std::io;
@@ -22,6 +24,7 @@ use std::process::ExitCode;
 const HELP: &str = "\
 gm_bench PART NAME SIZE ROUNDS     prints what came of the rounds, their time, and that of one
 gm_bench server memory SIZE        prints how much resident memory a waiting job takes
+gm_bench jobs longest SIZE         prints how long the longest of so many calls took, each of which makes a job
 gm_bench --check                   measures all at a small size, and prints what came of it
 gm_bench --help                    prints this
 
@@ -31,6 +34,9 @@ server   a core behind its front, the best of 20 repetitions
          beside SIZE waiting jobs: echo, submit, work, status_oldest, status_newest, status_unknown, close
          beside SIZE running jobs: tick
          beside SIZE sleeping workers of another function: foreground
+crowd    a connection with ROUNDS jobs at such a core, once
+         a worker, beside another that holds SIZE jobs: grab, complete, return
+         a client that goes, beside SIZE waiting jobs: leave_one, leave_each; below SIZE running jobs: discard
 ";
 
 /// An amount that is done soon.
@@ -63,8 +69,13 @@ fn memory(rt: &HostRuntime, seed: RandomState, size: u64) -> Result<(), BenchErr
         rounds: 0,
         times: 0,
     };
-    let each = server::measure(rt, seed, None, amount)?.sum / size.max(1);
+    let each = server::measure(rt, seed, Task::Growth, amount)?.sum / size.max(1);
     written(println!(rt; "server memory {size}: {each} bytes a job"))
+}
+
+fn longest(rt: &HostRuntime, seed: RandomState, size: u64) -> Result<(), BenchError> {
+    let nanos = jobs::longest(rt, rt.alloc(), seed, size)?;
+    written(println!(rt; "jobs longest {size}: {nanos} ns"))
 }
 
 fn check_one(
@@ -119,6 +130,7 @@ fn act(rt: &HostRuntime, seed: RandomState, arguments: &[&str]) -> Result<(), Be
         [_, "--help"] => written(rt.print(HELP)),
         [_, "--check"] => check(rt, seed),
         [_, "server", "memory", size] => memory(rt, seed, number(size)?),
+        [_, "jobs", "longest", size] => longest(rt, seed, number(size)?),
         [_, part, name, size, rounds] => time(rt, seed, part, name, number(size)?, number(rounds)?),
         _ => Err(BenchError::Usage),
     }

@@ -1,8 +1,10 @@
 //! What can be measured.
 
+use crate::crowd::Event;
 use crate::error::BenchError;
 use crate::outcome::{Amount, Outcome};
 use crate::script::{Round, Which};
+use crate::server::Task;
 use crate::{jobs, server};
 use std::hash::RandomState;
 
@@ -13,10 +15,12 @@ pub(crate) enum What {
     Jobs(jobs::Round),
     /// A core behind its front.
     Server(Round),
+    /// A connection with many jobs there.
+    Crowd(Event),
 }
 
 /// What can be measured, by its part and its name, in the order in which it is listed.
-static MEASUREMENTS: [(&str, &str, What); 16] = [
+static MEASUREMENTS: [(&str, &str, What); 22] = [
     ("jobs", "make_end", What::Jobs(jobs::Round::MakeEnd)),
     ("jobs", "find", What::Jobs(jobs::Round::Find)),
     (
@@ -49,6 +53,12 @@ static MEASUREMENTS: [(&str, &str, What); 16] = [
     ("server", "foreground", What::Server(Round::Foreground)),
     ("server", "close", What::Server(Round::Close)),
     ("server", "tick", What::Server(Round::Tick)),
+    ("crowd", "grab", What::Crowd(Event::Grab)),
+    ("crowd", "complete", What::Crowd(Event::Complete)),
+    ("crowd", "return", What::Crowd(Event::Return)),
+    ("crowd", "leave_one", What::Crowd(Event::LeaveOne)),
+    ("crowd", "leave_each", What::Crowd(Event::LeaveEach)),
+    ("crowd", "discard", What::Crowd(Event::Discard)),
 ];
 
 /// What can be measured.
@@ -75,6 +85,7 @@ pub(crate) fn measure(
 ) -> Result<Outcome, BenchError> {
     match what {
         What::Jobs(round) => jobs::measure(rt, rt.alloc(), seed, round, amount),
-        What::Server(timed) => server::measure(rt, seed, Some(timed), amount),
+        What::Server(round) => server::measure(rt, seed, Task::Rounds(round), amount),
+        What::Crowd(event) => server::measure(rt, seed, Task::Event(event), amount),
     }
 }

@@ -50,6 +50,25 @@ pub(crate) enum Round {
     Grab,
     /// Another worker comes, and sleeps.
     Sleeper,
+    /// The client submits a background job: of high, normal and low priority in turn.
+    SubmitInTurn,
+    /// The client submits a background job of high priority.
+    SubmitUrgent,
+    /// The client submits a job to which it listens.
+    SubmitHeard,
+    /// The client submits a job to which it listens, always with the same unique id.
+    Join,
+    /// Another worker of the same function comes.
+    Rival,
+    /// That worker grabs a job, and keeps it.
+    RivalGrab,
+    /// The worker has done one of the jobs that were submitted last, as many as there are rounds, in an order unlike that of
+    /// their numbers.
+    Complete,
+    /// The worker goes.
+    CloseWorker,
+    /// The client goes.
+    CloseClient,
 }
 
 /// Something that is done to a server.
@@ -92,6 +111,8 @@ pub(crate) struct Script {
     done: u64,
     opened: u32,
     second: u64,
+    // How many rounds the orders are.
+    rounds: u64,
 }
 
 impl Script {
@@ -104,6 +125,7 @@ impl Script {
             done: 0,
             opened: 0,
             second: 0,
+            rounds: 0,
         }
     }
 
@@ -155,6 +177,63 @@ impl Script {
         )
     }
 
+    fn submit_high(&mut self) -> Result<(), BenchError> {
+        self.made = self.made.wrapping_add(1);
+        self.ask(
+            CLIENT,
+            &Request::SubmitJobHighBg {
+                function: &FUNCTION,
+                unique: &unique_of(self.made),
+                body: &BODY,
+            },
+        )
+    }
+
+    fn submit_low(&mut self) -> Result<(), BenchError> {
+        self.made = self.made.wrapping_add(1);
+        self.ask(
+            CLIENT,
+            &Request::SubmitJobLowBg {
+                function: &FUNCTION,
+                unique: &unique_of(self.made),
+                body: &BODY,
+            },
+        )
+    }
+
+    fn submit_in_turn(&mut self) -> Result<(), BenchError> {
+        match self.made % 3 {
+            0 => self.submit_high(),
+            1 => self.submit_background(),
+            _ => self.submit_low(),
+        }
+    }
+
+    /// The client submits a job with the unique id of this number.
+    fn submit_heard(&mut self, number: u64) -> Result<(), BenchError> {
+        self.ask(
+            CLIENT,
+            &Request::SubmitJob {
+                function: &FUNCTION,
+                unique: &unique_of(number),
+                body: &BODY,
+            },
+        )
+    }
+
+    fn complete(&mut self) -> Result<(), BenchError> {
+        let behind = self.done.wrapping_mul(7919) % self.rounds.max(1);
+        self.done = self.done.wrapping_add(1);
+        let handle = handle_of(self.alloc, self.made.wrapping_sub(behind))?;
+        self.send(
+            WORKER,
+            &Request::WorkComplete {
+                handle: &handle,
+                body: &BODY,
+            },
+        )
+    }
+
     fn work(&mut self) -> Result<(), BenchError> {
         self.done = self.done.wrapping_add(1);
         let handle = handle_of(self.alloc, self.done)?;
@@ -181,14 +260,7 @@ impl Script {
     fn foreground(&mut self) -> Result<(), BenchError> {
         self.made = self.made.wrapping_add(1);
         self.send(WORKER, &Request::PreSleep)?;
-        self.ask(
-            CLIENT,
-            &Request::SubmitJob {
-                function: &FUNCTION,
-                unique: &unique_of(self.made),
-                body: &BODY,
-            },
-        )?;
+        self.submit_heard(self.made)?;
         self.push(Order::Take(WORKER))?;
         self.work()?;
         self.push(Order::Drain(CLIENT))
@@ -221,6 +293,17 @@ impl Script {
         self.send(slot, &Request::PreSleep)
     }
 
+    fn rival(&mut self) -> Result<(), BenchError> {
+        let slot = self.next_slot();
+        self.open()?;
+        self.send(
+            slot,
+            &Request::CanDo {
+                function: &FUNCTION,
+            },
+        )
+    }
+
     /// Adds what is done in a round.
     fn put(&mut self, round: Round) -> Result<(), BenchError> {
         match round {
@@ -234,12 +317,25 @@ impl Script {
             Round::Tick => self.tick(),
             Round::Grab => self.ask(WORKER, &Request::GrabJob),
             Round::Sleeper => self.sleeper(),
+            Round::SubmitInTurn => self.submit_in_turn(),
+            Round::SubmitUrgent => self.submit_high(),
+            Round::SubmitHeard => {
+                self.made = self.made.wrapping_add(1);
+                self.submit_heard(self.made)
+            }
+            Round::Join => self.submit_heard(0),
+            Round::Rival => self.rival(),
+            Round::RivalGrab => self.ask(OTHERS, &Request::GrabJob),
+            Round::Complete => self.complete(),
+            Round::CloseWorker => self.push(Order::Close(WORKER)),
+            Round::CloseClient => self.push(Order::Close(CLIENT)),
         }
     }
 
     /// The orders are now these rounds.
     pub(crate) fn fill(&mut self, round: Round, rounds: u32) -> Result<(), BenchError> {
         self.orders.clear();
+        self.rounds = u64::from(rounds);
         for _ in 0..rounds {
             self.put(round)?;
         }

@@ -1,6 +1,7 @@
 //! Rounds at a core behind its front: bytes come in, and bytes go out.
 
 use crate::clock::{now, outcome_since, resident};
+use crate::crowd::Event;
 use crate::error::BenchError;
 use crate::outcome::{Amount, Outcome};
 use crate::requests::NAME;
@@ -183,18 +184,50 @@ fn growth(
     Ok(Outcome { sum, nanos: 0 })
 }
 
-/// Times rounds at a new server; where none are asked for, the sum is by how much its memory grows. One function has the
-/// server as its own, since the proof of each such function says how all of it is dropped.
+/// Times an event, once.
+fn once(
+    rt: &impl Clock,
+    front: &mut Front<Core>,
+    script: &mut Script,
+    event: Event,
+    amount: Amount,
+) -> Result<Outcome, BenchError> {
+    script.begin()?;
+    obey(front, script.orders())?;
+    for (round, count) in &event.before(amount.size, amount.rounds) {
+        repeat(front, script, *round, *count)?;
+    }
+    let (round, count) = event.timed(u32::try_from(amount.rounds).unwrap_or(u32::MAX));
+    script.fill(round, count)?;
+    let start = now(rt)?;
+    let sum = obey(front, script.orders())?;
+    outcome_since(rt, start, sum)
+}
+
+/// What is asked of a new server.
+#[derive(Clone, Copy)]
+pub(crate) enum Task {
+    /// The best time of the rounds.
+    Rounds(Round),
+    /// The time of an event.
+    Event(Event),
+    /// By how much its memory grows, as the sum.
+    Growth,
+}
+
+/// Measures at a new server. One function has the server as its own, since the proof of each such function says how all of
+/// it is dropped.
 pub(crate) fn measure(
     rt: &HostRuntime,
     seed: RandomState,
-    timed: Option<Round>,
+    task: Task,
     amount: Amount,
 ) -> Result<Outcome, BenchError> {
     let mut front = new_front(rt.alloc(), seed)?;
     let mut script = Script::new(rt.alloc());
-    match timed {
-        Some(round) => best(rt, &mut front, &mut script, round, amount),
-        None => growth(rt, &mut front, &mut script, amount.size),
+    match task {
+        Task::Rounds(round) => best(rt, &mut front, &mut script, round, amount),
+        Task::Event(event) => once(rt, &mut front, &mut script, event, amount),
+        Task::Growth => growth(rt, &mut front, &mut script, amount.size),
     }
 }

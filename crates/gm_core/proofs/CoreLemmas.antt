@@ -315,11 +315,6 @@ pub woken_not : (c : ℕ) (asleep : Bool) (l : List ℕ) (p : Past) → l ≡ []
 woken_not c true l p e = rw e refl
 woken_not c false l p e = refl
 
--- ---- where nothing changed first
-
-pub goes_from : {a b c : Core} {f : Past → Past} → b ≡ a → Goes b c f → Goes a c f
-goes_from {a} {b} {c} {f} same goes = subst (λ (x : Core). Goes x c f) same goes
-
 -- ---- sleep
 
 pub beside_some : (o : Option Choice) (c : ℕ) (p : Past) → is_some o ≡ true → with_note (Woken c) p ≡ sleep_beside (option_map (λ (found : Choice). found.pick) o) c p

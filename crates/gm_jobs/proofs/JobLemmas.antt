@@ -1,6 +1,6 @@
 -- What is true of jobs, and of what is kept beside them.
 use Rattle.std.proofs.Common.{◌≡◌, ◌≢◌, ℕ, zero, suc, ◌+◌, ◌^◌, ◌<◌, ◌≤◌, ◌⊎◌, inl, inr, Bool, true, false, cond, not, ◌==◌}
-use Rattle.std.proofs.Common.{◌&&◌, if◌then◌else◌, List, [], ◌∷◌, length, filter, Contains, Option, Some, None, IsSome, IfSome}
+use Rattle.std.proofs.Common.{◌&&◌, if◌then◌else◌, List, [], ◌∷◌, filter, Contains, Option, Some, None, IsSome, IfSome}
 use Rattle.std.proofs.Common.{is_some, refl, sym, ap, subst, ◌∙◌, arith}
 use Rattle.std.specs.Option.{option_map, unwrap_or, SomeIff}
 use Rattle.gm_jobs.specs.declared.jobs.Jobs.TheInside.{Inside}
@@ -13,12 +13,13 @@ use Rattle.gm_jobs.specs.declared.job.Stage.TheVariants.{Waiting}
 use Rattle.gm_jobs.specs.Live.{Live, is_named, listed, waits, lost, returned, is_last_try, given_back, without_listener}
 use Rattle.gm_jobs.specs.Tables.{Room, find_job, passes}
 use Rattle.gm_jobs.specs.Changes.{ChangesJob, LeavesOne, LeavesSome}
-use Rattle.gm_jobs.specs.Dues.{DueTable, IsListed, AllListed}
+use Rattle.gm_jobs.specs.Deadlines.{DeadlineTable, IsListed, AllListed}
 use Rattle.gm_jobs.specs.Listening.{Lists, Heard}
 use Rattle.std.specs.Str.{bytes_eq}
 use Rattle.std.proofs.lemmas.Slice.Eq.{bytes_eq-Decides}
-use Rattle.gm_jobs.specs.Uniques.{Cells, Reaches, Reached, digest_of}
-use Rattle.gm_jobs.proofs.CellLemmas.{Reaches-same}
+use Rattle.gm_jobs.specs.Uniques.{IdTable, LeadsTo, digest_of}
+use Rattle.gm_jobs.proofs.UniqueLemmas.{leads_same}
+use Rattle.gm_jobs.proofs.NumberLemmas.{not_some, number_same}
 use Rattle.gm_jobs.specs.Kept.{Beside, IsKnown, IsReady, IsKept}
 
 -- one job is named as another where their functions and unique ids are the same
@@ -75,8 +76,8 @@ module _ (n : ℕ) (f : Live → Live) (old new : List (ℕ × Live)) (change : 
           subst (λ i. Q i live) (sym e) (subst (λ l. Q n l) was.2 (here was.0 (all n was.0 was.1)))
 
   -- what is listed of the others is still
-  pub listed_others : (dues : DueTable) → AllListed old dues → (m : ℕ) (live : Live) → m ≢ n → find_job new m ≡ Some live → IsListed dues m live
-  listed_others dues listed m live ne found = listed m live (sym (other_job m ne) ∙ found)
+  pub listed_others : (deadlines : DeadlineTable) → AllListed old deadlines → (m : ℕ) (live : Live) → m ≢ n → find_job new m ≡ Some live → IsListed deadlines m live
+  listed_others deadlines listed m live ne found = listed m live (sym (other_job m ne) ∙ found)
 
 -- the job was live before, with this function and unique id
 pub record Was (jobs : List (ℕ × Live)) (n : ℕ) (live : Live) : Type 0 where
@@ -97,20 +98,21 @@ names_changed n f old new change function unique =
 
 module _ (b : Beside) (old : List (ℕ × Live)) where
   -- what is kept beside jobs with the same names
-  pub kept_names : (new : List (ℕ × Live)) (listening : Lists) (dues : DueTable) (room : Option Room) (spare spare' : ℕ)
+  pub kept_names : (new : List (ℕ × Live)) (uniques : IdTable) (listening : Lists) (deadlines : DeadlineTable) (room : Option Room) (spare spare' : ℕ)
       → IsKept b room spare old → SameNames old new → spare ≤ spare'
+      → ((n : ℕ) → IsSome (find_job new n) → (d : ℕ) → LeadsTo b.uniques d n → LeadsTo uniques d n) → b.uniques.room ≤ uniques.room
       → ((m : ℕ) (live : Live) → find_job new m ≡ Some live → (c : ℕ) → Contains live.listeners c → Heard listening c m)
-      → AllListed new dues
-      → (b.listening.fresh ≡ None → listening.fresh ≡ None)
-      → IsKept (record b { listening = listening; dues = dues }) room spare' new
-  kept_names new listening dues room spare spare' k names more heard listed fresh = record {
+      → AllListed new deadlines
+      → (b.listening.pending ≡ None → listening.pending ≡ None)
+      → IsKept (record b { uniques = uniques; listening = listening; deadlines = deadlines }) room spare' new
+  kept_names new uniques listening deadlines room spare spare' k names more led ids heard listed fresh = record {
     known = λ n live e.
         let w = names n live e in
         let known = k.known n w.old w.found in
         record {
           made = known.made;
           spent = known.spent;
-          reached = λ good. Reaches-same b.uniques.cells b.seed w.old.function live.function n n w.old.unique live.unique w.function w.unique refl (known.reached (ap joins w.unique ∙ good));
+          led = λ good. led n (ap is_some e) _ (leads_same b.uniques b.seed w.old.function live.function n n w.old.unique live.unique w.function w.unique refl (known.led (ap joins w.unique ∙ good)));
           heard = heard n live e;
           listed = listed n live e;
         };
@@ -122,37 +124,23 @@ module _ (b : Beside) (old : List (ℕ × Live)) where
     order = k.order;
     ready = λ r e. let y = k.ready r e in record {
       job = omega (arith, y.job);
-      cell = y.cell;
+      id = omega (arith, y.id);
       number = y.number;
-      fresh = fresh y.fresh;
+      pending = fresh y.pending;
     };
   }
 
   -- and where there is more room
-  pub kept_room : (uniques : Cells) (listening : Lists) (dues : DueTable) (room : Option Room) (spare spare' : ℕ)
-      → IsKept b room spare old → spare ≤ spare' → Reached b.seed old uniques.cells → (b.uniques.used < length b.uniques.cells → uniques.used < length uniques.cells)
-      → ((c n : ℕ) → IsSome (find_job old n) → Heard b.listening c n → Heard listening c n) → (b.listening.fresh ≡ None → listening.fresh ≡ None)
-      → AllListed old dues
-      → IsKept (record b { uniques = uniques; listening = listening; dues = dues }) room spare' old
-  kept_room uniques listening dues room spare spare' k more reached used heard fresh listed = record {
-    known = λ n live e.
-        let known = k.known n live e in
-        record {
-          made = known.made;
-          spent = known.spent;
-          reached = reached n live e;
-          heard = λ c there. heard c n (ap is_some e) (known.heard c there);
-          listed = listed n live e;
-        };
-    single = k.single;
-    order = k.order;
-    ready = λ r e. let y = k.ready r e in record {
-      job = omega (arith, y.job);
-      cell = used y.cell;
-      number = y.number;
-      fresh = fresh y.fresh;
-    };
-  }
+  pub kept_room : (uniques : IdTable) (listening : Lists) (deadlines : DeadlineTable) (room : Option Room) (spare spare' : ℕ)
+      → IsKept b room spare old → spare ≤ spare' → ((d n : ℕ) → LeadsTo b.uniques d n → LeadsTo uniques d n) → b.uniques.room ≤ uniques.room
+      → ((c n : ℕ) → IsSome (find_job old n) → Heard b.listening c n → Heard listening c n) → (b.listening.pending ≡ None → listening.pending ≡ None)
+      → AllListed old deadlines
+      → IsKept (record b { uniques = uniques; listening = listening; deadlines = deadlines }) room spare' old
+  kept_room uniques listening deadlines room spare spare' k more led ids heard fresh listed =
+      kept_names old uniques listening deadlines room spare spare' k
+      (λ n live e. record { old = live; found = e; function = refl; unique = refl }) more
+      (λ n some d l. led d n l) ids
+      (λ n live e c there. heard c n (ap is_some e) ((k.known n live e).heard c there)) listed fresh
 
   pub kept_ready : (room room' : Option Room) (spare : ℕ) → IsKept b room spare old → IsReady b spare → IsKept b room' spare old
   kept_ready room room' spare k y = record { known = k.known; single = k.single; order = k.order; ready = λ r e. y }
@@ -184,15 +172,15 @@ module _ (b : Beside) (old : List (ℕ × Live)) where
     some_same : (x y : Live) → Some x ≡ Some y → x ≡ y
     some_same x y e = cc
 
-    pub kept_made : (left : Bool) (room : Option Room) (r : Room) (spare spare' : ℕ) (uniques : Cells) (listening : Lists)
+    pub kept_made : (left : Bool) (room : Option Room) (r : Room) (spare spare' : ℕ) (uniques : IdTable) (listening : Lists)
         → IsKept b room spare old → IsReady b spare
-        → (joins made.unique ≡ true → Reaches uniques.cells (digest_of b.seed made.function made.unique) b.next)
-        → ((d n : ℕ) → Reaches b.uniques.cells d n → Reaches uniques.cells d n)
+        → (joins made.unique ≡ true → LeadsTo uniques (digest_of b.seed made.function made.unique) b.next)
+        → ((d n : ℕ) → LeadsTo b.uniques d n → LeadsTo uniques d n)
         → ((c n : ℕ) → Heard b.listening c n → Heard listening c n) → ((c : ℕ) → Contains made.listeners c → Heard listening c b.next)
         → made.stage ≡ Waiting
         → ((m : ℕ) (live : Live) → joins made.unique ≡ true → find_job old m ≡ Some live → is_named made.function made.unique live ≡ true → ⊥)
         → IsKept (record b { next = b.next + 1; left = left; uniques = uniques; listening = listening }) None spare' new
-    kept_made left room r spare spare' uniques listening k y reached kept heard first waiting fresh = record {
+    kept_made left room r spare spare' uniques listening k y led kept heard first waiting fresh = record {
       known = λ n live e. known n live e (cases_eq n b.next);
       single = λ n m live other e e' good same. single n m live other e e' good same (cases_eq n b.next) (cases_eq m b.next);
       order = omega (arith, k.order);
@@ -205,7 +193,7 @@ module _ (b : Beside) (old : List (ℕ × Live)) where
             record {
               made = was.made;
               spent = omega (arith, was.spent);
-              reached = λ good. kept _ n (was.reached good);
+              led = λ good. kept _ n (was.led good);
               heard = λ c there. heard c n (was.heard c there);
               listed = was.listed;
             }
@@ -214,7 +202,7 @@ module _ (b : Beside) (old : List (ℕ × Live)) where
             record {
               made = omega (arith, k.order);
               spent = omega arith;
-              reached = λ good. subst (λ i. Reaches uniques.cells (digest_of b.seed live.function live.unique) i) (sym is) (subst (λ (l : Live). Reaches uniques.cells (digest_of b.seed l.function l.unique) b.next) same (reached (ap (λ (l : Live). joins l.unique) same ∙ good)));
+              led = λ good. subst (λ i. LeadsTo uniques (digest_of b.seed live.function live.unique) i) (sym is) (subst (λ (l : Live). LeadsTo uniques (digest_of b.seed l.function l.unique) b.next) same (led (ap (λ (l : Live). joins l.unique) same ∙ good)));
               heard = λ c there. subst (λ i. Heard listening c i) (sym is) (first c (subst (λ (l : Live). Contains l.listeners c) (sym same) there));
               listed = λ whole d runs until. absurd (true≢false (sym (ap waits waiting) ∙ ap (λ (l : Live). waits l.stage) same ∙ runs));
             }
@@ -233,24 +221,24 @@ module _ (b : Beside) (old : List (ℕ × Live)) where
 
 -- what stands beside the jobs of a table
 abbrev pub beside : Inside → Beside
-beside t = record { seed = t.seed; first = t.first; next = unwrap_or t.next (2 ^ 64); left = is_some t.next; uniques = t.uniques; listening = t.listening; dues = t.dues }
+beside t = record { seed = t.seed; first = t.first; next = unwrap_or t.next (2 ^ 64); left = is_some t.next; uniques = t.uniques; listening = t.listening; deadlines = t.deadlines }
 
 -- a change that gives no job a deadline leaves all listed
-pub listed_changed : (n : ℕ) (f : Live → Live) (old new : List (ℕ × Live)) (dues : DueTable) → ChangesJob n f old new → AllListed old dues → ((l : Live) → IsListed dues n l → IsListed dues n (f l)) → AllListed new dues
-listed_changed n f old new dues change all here =
-    each_changed n f old new change (λ m live. IsListed dues m live) (λ m live. IsListed dues m live) all (λ m live h. h) here
+pub listed_changed : (n : ℕ) (f : Live → Live) (old new : List (ℕ × Live)) (deadlines : DeadlineTable) → ChangesJob n f old new → AllListed old deadlines → ((l : Live) → IsListed deadlines n l → IsListed deadlines n (f l)) → AllListed new deadlines
+listed_changed n f old new deadlines change all here =
+    each_changed n f old new change (λ m live. IsListed deadlines m live) (λ m live. IsListed deadlines m live) all (λ m live h. h) here
 
-pub listed_of : (b : Beside) (jobs : List (ℕ × Live)) (room : Option Room) (spare : ℕ) → IsKept b room spare jobs → AllListed jobs b.dues
+pub listed_of : (b : Beside) (jobs : List (ℕ × Live)) (room : Option Room) (spare : ℕ) → IsKept b room spare jobs → AllListed jobs b.deadlines
 listed_of b jobs room spare k n live e = (k.known n live e).listed
 
 -- what is kept beside the jobs, where one changed
-pub kept_changed : (b : Beside) (n : ℕ) (f : Live → Live) (old new : List (ℕ × Live)) (listening : Lists) (dues : DueTable) (room : Option Room) (spare spare' : ℕ)
+pub kept_changed : (b : Beside) (n : ℕ) (f : Live → Live) (old new : List (ℕ × Live)) (listening : Lists) (deadlines : DeadlineTable) (room : Option Room) (spare spare' : ℕ)
     → IsKept b room spare old → ChangesJob n f old new → ((l : Live) → (f l).function ≡ l.function) → ((l : Live) → (f l).unique ≡ l.unique) → spare' ≡ spare
-    → ((c m : ℕ) → IsSome (find_job old m) → Heard b.listening c m → Heard listening c m) → ((l : Live) (c : ℕ) → Contains (f l).listeners c → Contains l.listeners c ⊎ Heard listening c n) → (b.listening.fresh ≡ None → listening.fresh ≡ None)
-    → AllListed new dues
-    → IsKept (record b { listening = listening; dues = dues }) room spare' new
-kept_changed b n f old new listening dues room spare spare' k change function unique same heard first fresh all =
-    kept_names b old new listening dues room spare spare' k (names_changed n f old new change function unique) (omega arith)
+    → ((c m : ℕ) → IsSome (find_job old m) → Heard b.listening c m → Heard listening c m) → ((l : Live) (c : ℕ) → Contains (f l).listeners c → Contains l.listeners c ⊎ Heard listening c n) → (b.listening.pending ≡ None → listening.pending ≡ None)
+    → AllListed new deadlines
+    → IsKept (record b { listening = listening; deadlines = deadlines }) room spare' new
+kept_changed b n f old new listening deadlines room spare spare' k change function unique same heard first fresh all =
+    kept_names b old new b.uniques listening deadlines room spare spare' k (names_changed n f old new change function unique) (omega arith) (λ m some d l. l) (omega arith)
     (each_changed n f old new change (λ m live. (c : ℕ) → Contains live.listeners c → Heard listening c m) (λ m live. (c : ℕ) → Contains live.listeners c → Heard listening c m)
     (λ m live e c there. heard c m (ap is_some e) ((k.known m live e).heard c there)) (λ m live h. h) (λ live h c there. at live c h (first live c there)))
     all fresh
@@ -275,12 +263,12 @@ module _ (limit : ℕ) (l : Live) where
   given_back_waits e = ap (λ b. waits (if b then lost l else returned limit l).stage) e
 
 -- the deadlines of the others are listed, and it has none that counts
-pub listed_given_back : (n limit : ℕ) (old new : List (ℕ × Live)) (dues : DueTable) → ChangesJob n (given_back limit) old new → AllListed old dues
-    → passes (is_last_try limit) (find_job old n) ≡ false → AllListed new dues
-listed_given_back n limit old new dues change all more m live found = by (cases_eq m n)
+pub listed_given_back : (n limit : ℕ) (old new : List (ℕ × Live)) (deadlines : DeadlineTable) → ChangesJob n (given_back limit) old new → AllListed old deadlines
+    → passes (is_last_try limit) (find_job old n) ≡ false → AllListed new deadlines
+listed_given_back n limit old new deadlines change all more m live found = by (cases_eq m n)
   where
-    by : (m ≡ n) ⊎ (m ≡ n → ⊥) → IsListed dues m live
-    by (inr ne) = listed_others n (given_back limit) old new change dues all m live ne found
+    by : (m ≡ n) ⊎ (m ≡ n → ⊥) → IsListed deadlines m live
+    by (inr ne) = listed_others n (given_back limit) old new change deadlines all m live ne found
     by (inl e) = λ whole d runs until.
         let was = mapped n (given_back limit) old new change (find_job old n) live (sym (this_job n (given_back limit) old new change) ∙ ap (find_job new) (sym e) ∙ found) in
         absurd (true≢false (sym (given_back_waits limit was.0 (sym (ap (passes (is_last_try limit)) was.1) ∙ more)) ∙ ap (λ (x : Live). waits x.stage) was.2 ∙ runs))
@@ -381,21 +369,18 @@ module _ (slot : ℕ) where
     was_left n live e = mapped_left (find_job old n) live (sym (left_all n) ∙ e)
 
     pub kept_left : (b : Beside) (listening : Lists) (room : Option Room) (spare spare' : ℕ) → IsKept b room spare old → spare' ≡ spare
-        → ((c n : ℕ) → c ≢ slot → Heard b.listening c n → Heard listening c n) → (b.listening.fresh ≡ None → listening.fresh ≡ None)
+        → ((c n : ℕ) → c ≢ slot → Heard b.listening c n → Heard listening c n) → (b.listening.pending ≡ None → listening.pending ≡ None)
         → IsKept (record b { listening = listening }) room spare' new
     kept_left b listening room spare spare' k same heard fresh =
-        kept_names b old new listening b.dues room spare spare' k
+        kept_names b old new b.uniques listening b.deadlines room spare spare' k
         (λ n live e. let w = was_left n live e in record { old = w.0; found = w.1; function = ap (λ (l : Live). l.function) w.2; unique = ap (λ (l : Live). l.unique) w.2 })
-        (omega arith)
+        (omega arith) (λ n some d l. l) (omega arith)
         (λ n live e c there.
         let w = was_left n live e in
         let s = stays w.0.listeners c (subst (λ (l : Live). Contains l.listeners c) (sym w.2) there) in
         heard c n s.0 ((k.known n w.0 w.1).heard c s.1))
-        (λ n live e. let w = was_left n live e in subst (λ (l : Live). IsListed b.dues n l) w.2 (k.known n w.0 w.1).listed)
+        (λ n live e. let w = was_left n live e in subst (λ (l : Live). IsListed b.deadlines n l) w.2 (k.known n w.0 w.1).listed)
         fresh
-
-pub reached_of : (b : Beside) (jobs : List (ℕ × Live)) (room : Option Room) (spare : ℕ) → IsKept b room spare jobs → Reached b.seed jobs b.uniques.cells
-reached_of b jobs room spare k n live e good = (k.known n live e).reached good
 
 -- ---- a job ends
 
@@ -406,16 +391,16 @@ removed n old new gone m live e = at (n == m) (sym (gone m) ∙ e)
     at true h = cc
     at false h = h
 
-pub kept_dues : (b : Beside) (jobs : List (ℕ × Live)) (dues : DueTable) (room : Option Room) (spare : ℕ) → IsKept b room spare jobs → AllListed jobs dues → IsKept (record b { dues = dues }) room spare jobs
-kept_dues b jobs dues room spare k all =
-    kept_names b jobs jobs b.listening dues room spare spare k
-    (λ n live e. record { old = live; found = e; function = refl; unique = refl }) (omega arith)
-    (λ n live e. (k.known n live e).heard) all (λ e. e)
+pub kept_deadlines : (b : Beside) (jobs : List (ℕ × Live)) (deadlines : DeadlineTable) (room : Option Room) (spare : ℕ) → IsKept b room spare jobs → AllListed jobs deadlines → IsKept (record b { deadlines = deadlines }) room spare jobs
+kept_deadlines b jobs deadlines room spare k all =
+    kept_room b jobs b.uniques b.listening deadlines room spare spare k (omega arith) (λ d n l. l) (omega arith) (λ c n some h. h) (λ e. e) all
 
-pub kept_ended : (b : Beside) (n : ℕ) (old new : List (ℕ × Live)) (room : Option Room) (spare spare' : ℕ) → IsKept b room spare old → ((m : ℕ) → find_job new m ≡ (if n == m then None else find_job old m)) → spare ≤ spare' → IsKept b room spare' new
-kept_ended b n old new room spare spare' k gone more =
-    kept_names b old new b.listening b.dues room spare spare' k
+pub kept_ended : (b : Beside) (n : ℕ) (old new : List (ℕ × Live)) (uniques : IdTable) (room : Option Room) (spare spare' : ℕ) → IsKept b room spare old → ((m : ℕ) → find_job new m ≡ (if n == m then None else find_job old m))
+    → spare ≤ spare' → ((d m : ℕ) → m ≢ n → LeadsTo b.uniques d m → LeadsTo uniques d m) → b.uniques.room ≤ uniques.room → IsKept (record b { uniques = uniques }) room spare' new
+kept_ended b n old new uniques room spare spare' k gone more led ids =
+    kept_names b old new uniques b.listening b.deadlines room spare spare' k
     (λ m live e. record { old = live; found = was m live e; function = refl; unique = refl }) more
+    (λ m some d l. led d m (λ same. not_some (find_job new m) (gone m ∙ ap (λ i. if n == i then None else find_job old i) same ∙ number_same n None (find_job old n)) some) l) ids
     (λ m live e. (k.known m live (was m live e)).heard) (λ m live e. (k.known m live (was m live e)).listed) (λ e. e)
   where
     was : (m : ℕ) (live : Live) → find_job new m ≡ Some live → find_job old m ≡ Some live

@@ -1,8 +1,8 @@
-pub mod CellLemmas
-pub mod DueLemmas
+pub mod DeadlineLemmas
 pub mod EntryLemmas
 pub mod JobLemmas
 pub mod LinkLemmas
 pub mod ListLemmas
+pub mod MinHeapLemmas
 pub mod NumberLemmas
-pub mod RollLemmas
+pub mod UniqueLemmas

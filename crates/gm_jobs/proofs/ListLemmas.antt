@@ -1,15 +1,17 @@
--- What is true of the lists of who listens to what, and of a filter.
-use Rattle.std.proofs.Common.{◌≡◌, ℕ, zero, suc, ◌<◌, ◌⊎◌, inl, inr, Bool, true, false, cond, filter, List, [], ◌∷◌, length, get_or, set, Contains, slice_index_or, Option, sym}
+-- What is true of the lists of who listens to what, of a filter, and of what keys find.
+use Rattle.std.proofs.Common.{◌≡◌, ℕ, zero, suc, ◌<◌, ◌⊎◌, inl, inr, Bool, true, false, cond, filter, List, [], ◌∷◌, length, get_or, set, Contains, slice_get, slice_index_or, nat_eq, Option, Some, refl, sym}
 use Rattle.std.proofs.Common.{ap, subst, ◌∙◌, arith}
 use Rattle.std.proofs.lemmas.List.{get_or-set_other, get_or-set_same, get_or_default}
 use Rattle.std.proofs.lemmas.Bool.{cases_eq, false≢true}
 use Rattle.std.proofs.lemmas.List.Elements.{Contains-append_right}
+use Rattle.std.specs.Map.{lookup}
+use Rattle.std.proofs.lemmas.Bool.Decides.{nat_tests}
 use Rattle.gm_jobs.specs.Listening.{Heard}
 
 module _ (lists longer : List (List ℕ)) (fresh : Option (ℕ × ℕ)) (same : (c : ℕ) → slice_index_or longer c [] ≡ slice_index_or lists c []) (slot : ℕ) (within : slot < length longer)
     (old new : List ℕ) (was : old ≡ get_or longer slot old) where
   -- a list that keeps a number leaves it heard
-  pub Heard-set : (c n : ℕ) → (Contains old n → Contains new n) → Heard (record { lists = lists; fresh = fresh }) c n → Heard (record { lists = set longer slot new; fresh = fresh }) c n
+  pub Heard-set : (c n : ℕ) → (Contains old n → Contains new n) → Heard (record { lists = lists; pending = fresh }) c n → Heard (record { lists = set longer slot new; pending = fresh }) c n
   Heard-set c n keeps (inr e) = inr e
   Heard-set c n keeps (inl here) = inl (by (cases_eq c slot))
     where
@@ -45,3 +47,15 @@ Contains-from_filter {X} p (x ∷ xs) y there = by (p x) there (λ h. Contains-f
     by true (zero, w, e) rest = (0, omega arith, e)
     by true (suc k, w, e) rest = Contains-append_right (x ∷ []) xs y (rest (k, omega arith, e))
     by false h rest = Contains-append_right (x ∷ []) xs y (rest h)
+
+-- ---- keys
+
+-- where a key is found, it stands
+pub found_at : {X : Type 0} (es : List (ℕ × X)) (n : ℕ) (x : X) → lookup (nat_eq n) es ≡ Some x → (k : ℕ) × (k < length es) × (slice_get es k ≡ Some (n, x))
+found_at [] n x h = cc
+found_at {X} (e ∷ es) n x h = by (nat_eq n e.0) refl h (λ f. found_at es n x f)
+  where
+    by : (b : Bool) → nat_eq n e.0 ≡ b → cond b (Some e.1) (lookup (nat_eq n) es) ≡ Some x
+        → (lookup (nat_eq n) es ≡ Some x → (k : ℕ) × (k < length es) × (slice_get es k ≡ Some (n, x))) → (k : ℕ) × (k < length (e ∷ es)) × (slice_get (e ∷ es) k ≡ Some (n, x))
+    by true t f rest = let same : n ≡ e.0 = grind (arith, nat_tests) in let value : e.1 ≡ x = cc in (0, omega arith, λ j. Some (sym same j, value j))
+    by false t f rest = let r = rest f in (suc r.0, omega (arith, r.1), r.2)

@@ -1,12 +1,12 @@
 pub mod ByNumber
 pub mod Changes
-pub mod Dues
+pub mod Deadlines
 pub mod Kept
 pub mod Links
 pub mod Listening
 pub mod Live
+pub mod MinHeap
 pub mod Numbers
 pub mod Queries
-pub mod Roll
 pub mod Tables
 pub mod Uniques

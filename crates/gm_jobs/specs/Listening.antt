@@ -5,11 +5,11 @@ use Rattle.std.specs.Prelude.{◌≡◌, ℕ, List, [], Contains, slice_index_or
 -- the lists yet
 pub record Lists : Type 0 where
   pub lists : List (List ℕ)
-  pub fresh : Option (ℕ × ℕ)
+  pub pending : Option (ℕ × ℕ)
 
 abbrev pub list_of : Lists → ℕ → List ℕ
 list_of table slot = slice_index_or table.lists slot []
 
 -- the slot is known to listen to the job
 abbrev pub Heard : Lists → ℕ → ℕ → Type 0
-Heard table slot n = Contains (list_of table slot) n ⊎ (table.fresh ≡ Some (slot, n))
+Heard table slot n = Contains (list_of table slot) n ⊎ (table.pending ≡ Some (slot, n))

@@ -335,14 +335,14 @@ impl Job {
 
 /// The memory for one job's texts, and for its first listener.
 #[derive(Drop)]
-pub(crate) struct Space {
+pub(crate) struct Reservation {
     f: u32,
     unique: Vec<u8>,
     body: Vec<u8>,
     listeners: Vec<u32>,
 }
 
-impl Model for Space {
+impl Model for Reservation {
     ghost use Rattle.std.specs.Prelude.{◌≡◌, ◌<◌, []};
     ghost use Rattle.std.specs.Vec.{vec_capacity};
     ghost use Rattle.gm_jobs.specs.Tables.{Room};
@@ -354,16 +354,16 @@ impl Model for Space {
     ghost invariant = { λ s. (s.unique.items ≡ []) × (s.body.items ≡ []) × (s.listeners.items ≡ []) × (0 < vec_capacity s.listeners) };
 }
 
-impl Space {
+impl Reservation {
     pub(crate) fn new(
         alloc: Global,
         f: u32,
         unique_len: usize,
         body_len: usize,
-    ) -> Result<Space, AllocError>
+    ) -> Result<Reservation, AllocError>
         ensures { IfOk result (λ room. room ≡ record { function = f; unique_len = unique_len; body_len = body_len }) }
     {
-        Ok(Space {
+        Ok(Reservation {
             f,
             unique: Vec::with_capacity(alloc, unique_len)?,
             body: Vec::with_capacity(alloc, body_len)?,
@@ -377,7 +377,7 @@ impl Space {
         requires body { length new.body.now ≤ self.body_len }
         ensures { result ≡ fresh new.entry.f new.entry.p new.entry.unique.now new.entry.body.now new.entry.kept new.entry.listener }
     {
-        let Space {
+        let Reservation {
             f: _,
             mut unique,
             mut body,

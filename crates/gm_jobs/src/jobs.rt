@@ -4,14 +4,14 @@ ghost use Rattle.std.specs.Prelude.{◌≡◌, ℕ, ◌+◌, ◌<◌, ◌≤◌,
 ghost use Rattle.std.specs.Option.{option_copied, option_map};
 ghost use Rattle.gm_jobs.specs.Live.{Live, fresh, assigned, given_back, kept, reported, with_listener, without_listener, is_run_by, is_orphan, is_due, is_last_try};
 ghost use Rattle.gm_jobs.specs.Tables.{no_jobs, job, find_job, is_made, place, back, listeners_of, passes, IsNamed, HasRoom, with_room, Makes, Changes, Ends, Leaves, IsNext, IsLast};
-ghost use Rattle.gm_jobs.specs.Dues.{AllListed};
+ghost use Rattle.gm_jobs.specs.Deadlines.{AllListed};
 ghost use Rattle.gm_jobs.specs.Listening.{Heard};
 ghost use Rattle.gm_jobs.specs.Changes.{LeavesOne, LeavesSome};
-ghost use Rattle.gm_jobs.specs.Uniques.{Reaches};
+ghost use Rattle.gm_jobs.specs.Uniques.{LeadsTo};
 
 use crate::by_number::JobMap;
-use crate::dues::Dues;
-use crate::job::{Change, Job, NewJob, ORPHANS, Query, Space, joins};
+use crate::deadlines::Deadlines;
+use crate::job::{Change, Job, NewJob, ORPHANS, Query, Reservation, joins};
 use crate::listening::Listening;
 use crate::uniques::{Uniques, digest};
 use gm_notes::Place;
@@ -72,8 +72,8 @@ pub struct Jobs {
     jobs: JobMap,
     uniques: Uniques,
     listening: Listening,
-    dues: Dues,
-    space: Option<Space>,
+    deadlines: Deadlines,
+    reservation: Option<Reservation>,
 }
 
 impl Model for Jobs {
@@ -84,9 +84,9 @@ impl Model for Jobs {
 
     ghost Value = { Table };
 
-    ghost view = { λ t. record { first = t.first; next = unwrap_or t.next (2 ^ 64); room = t.space; live = t.jobs.entries } };
+    ghost view = { λ t. record { first = t.first; next = unwrap_or t.next (2 ^ 64); room = t.reservation; live = t.jobs.entries } };
 
-    ghost invariant = { λ t. IsKept (record { seed = t.seed; first = t.first; next = unwrap_or t.next (2 ^ 64); left = is_some t.next; uniques = t.uniques; listening = t.listening; dues = t.dues }) t.space t.jobs.room t.jobs.entries };
+    ghost invariant = { λ t. IsKept (record { seed = t.seed; first = t.first; next = unwrap_or t.next (2 ^ 64); left = is_some t.next; uniques = t.uniques; listening = t.listening; deadlines = t.deadlines }) t.reservation t.jobs.room t.jobs.entries };
 }
 
 // The slot listens no more to these jobs.
@@ -113,27 +113,24 @@ fn leave_maybe(jobs: &mut JobMap, number: Option<u64>, slot: u32)
 
 // Makes room for one job more in each table.
 fn make_room(
-    alloc: Global,
     jobs: &mut JobMap,
     uniques: &mut Uniques,
-    dues: &mut Dues,
+    deadlines: &mut Deadlines,
     listening: &mut Listening,
 ) -> Result<(), AllocError>
     ensures jobs { jobs.new.entries ≡ jobs.old.entries }
     ensures slots { jobs.old.room ≤ jobs.new.room }
-    ensures reached { (d n : ℕ) → IsSome (find_job jobs.old.entries n) → Reaches uniques.old.cells d n → Reaches uniques.new.cells d n }
-    ensures used { uniques.old.used < length uniques.old.cells → uniques.new.used < length uniques.new.cells }
-    ensures listed { AllListed jobs.old.entries dues.old → AllListed jobs.old.entries dues.new }
+    ensures led { (d n : ℕ) → LeadsTo uniques.old d n → LeadsTo uniques.new d n }
+    ensures ids { uniques.old.room ≤ uniques.new.room }
+    ensures listed { AllListed jobs.old.entries deadlines.old → AllListed jobs.old.entries deadlines.new }
     ensures heard { (c n : ℕ) → IsSome (find_job jobs.old.entries n) → Heard listening.old c n → Heard listening.new c n }
-    ensures fresh { listening.old.fresh ≡ None → listening.new.fresh ≡ None }
-    ensures ok { OnOk result ((0 < jobs.new.room) × (uniques.new.used < length uniques.new.cells) × (listening.new.fresh ≡ None)) }
+    ensures pending { listening.old.pending ≡ None → listening.new.pending ≡ None }
+    ensures ok { OnOk result ((0 < jobs.new.room) × (0 < uniques.new.room) × (listening.new.pending ≡ None)) }
 {
     jobs.reserve_one()?;
-    dues.reserve(jobs, jobs.len() + 1)?;
-    if uniques.is_full() {
-        *uniques = uniques.renewed(alloc, jobs)?;
-    }
-    listening.file(jobs)
+    deadlines.reserve(jobs, jobs.len() + 1)?;
+    uniques.reserve_one()?;
+    listening.flush(jobs)
 }
 
 impl Jobs {
@@ -148,10 +145,10 @@ impl Jobs {
             first: first_job,
             next: Some(first_job),
             jobs: JobMap::new(alloc, &seed)?,
-            uniques: Uniques::new(alloc),
+            uniques: Uniques::new(alloc, &seed),
             listening: Listening::new(alloc),
-            dues: Dues::new(alloc),
-            space: None,
+            deadlines: Deadlines::new(alloc),
+            reservation: None,
         })
     }
 
@@ -165,15 +162,14 @@ impl Jobs {
         let Some(_number) = self.next else {
             return Err(JobError::NumbersSpent);
         };
-        let space = Space::new(self.alloc, f, unique_len, body_len)?;
+        let reservation = Reservation::new(self.alloc, f, unique_len, body_len)?;
         make_room(
-            self.alloc,
             &mut self.jobs,
             &mut self.uniques,
-            &mut self.dues,
+            &mut self.deadlines,
             &mut self.listening,
         )?;
-        self.space = Some(space);
+        self.reservation = Some(reservation);
         Ok(())
     }
 
@@ -185,12 +181,12 @@ impl Jobs {
         ensures number { result ≡ self.old.next }
         ensures makes { Makes (fresh new.entry.f new.entry.p new.entry.unique.now new.entry.body.now new.entry.kept new.entry.listener) self.old self.new }
     {
-        let space = self.space.take().unwrap();
+        let reservation = self.reservation.take().unwrap();
         let number = self.next.unwrap();
         self.next = number.checked_add(1);
-        let job = space.fill(self.alloc, new);
+        let job = reservation.fill(self.alloc, new);
         self.jobs.insert(number, job);
-        self.uniques.enter(&self.seed, new.f, new.unique, number);
+        self.uniques.insert(&self.seed, new.f, new.unique, number);
         self.listening.begin(new.listener, number);
         number
     }
@@ -254,7 +250,7 @@ impl Jobs {
         ensures { Changes n (assigned slot deadline) self.old self.new }
     {
         let _changed = self.jobs.change(n, Change::Assign(slot, deadline));
-        self.dues.note(&self.jobs, n, deadline);
+        self.deadlines.note(&self.jobs, n, deadline);
     }
 
     // Whether the worker of a live job is the last one, where a job is given to so many workers at most.
@@ -276,7 +272,7 @@ impl Jobs {
         let is_lost = self.is_last_try(n, limit);
         let _changed = self.jobs.change(n, Change::GiveBack(limit));
         if is_lost {
-            self.dues.note(&self.jobs, n, Some(0));
+            self.deadlines.note(&self.jobs, n, Some(0));
             Back::Lost
         } else {
             Back::Returned
@@ -287,6 +283,7 @@ impl Jobs {
     pub fn end(&mut self, n: u64)
         ensures { Ends n self.old self.new }
     {
+        self.uniques.remove(&self.seed, &self.jobs, n);
         self.jobs.remove(n);
     }
 
@@ -328,9 +325,9 @@ impl Jobs {
     pub fn leave(&mut self, slot: u32)
         ensures { Leaves slot self.old self.new }
     {
-        let (list, fresh) = self.listening.take(slot);
+        let (list, pending) = self.listening.take(slot);
         leave_all(&mut self.jobs, list.numbers(), slot);
-        leave_maybe(&mut self.jobs, fresh, slot);
+        leave_maybe(&mut self.jobs, pending, slot);
     }
 
     /// The least number above `after` of a job that runs at the slot.
@@ -357,6 +354,6 @@ impl Jobs {
         ensures last { IfNone result (IsLast (is_due now) after self.old.live) }
         ensures kept { self.new ≡ self.old }
     {
-        self.dues.next(&self.jobs, now, after)
+        self.deadlines.next(&self.jobs, now, after)
     }
 }

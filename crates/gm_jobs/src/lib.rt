@@ -8,12 +8,12 @@
 #![tactic(auto)]
 
 mod by_number;
-mod dues;
+mod deadlines;
 mod job;
 mod jobs;
 mod listening;
 mod lists;
-mod roll;
+mod min_heap;
 mod uniques;
 
 pub use job::{Job, NewJob};

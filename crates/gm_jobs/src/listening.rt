@@ -85,7 +85,7 @@ pub(crate) struct Listening {
     alloc: Global,
     lists: Vec<SlotJobs>,
     // The slot that listens to the job that was made last, until there is room for it in its list.
-    fresh: Option<(u32, u64)>,
+    pending: Option<(u32, u64)>,
 }
 
 impl Model for Listening {
@@ -93,7 +93,7 @@ impl Model for Listening {
 
     ghost Value = { Lists };
 
-    ghost view = { λ l. record { lists = l.lists.items; fresh = l.fresh } };
+    ghost view = { λ l. record { lists = l.lists.items; pending = l.pending } };
 }
 
 // Makes the lists long enough for this slot.
@@ -110,19 +110,19 @@ fn cover(alloc: Global, lists: &mut Vec<SlotJobs>, slot: u32) -> Result<(), Allo
 impl Listening {
     /// Nobody listens.
     pub(crate) fn new(alloc: Global) -> Listening
-        ensures { result.fresh ≡ None }
+        ensures { result.pending ≡ None }
     {
         Listening {
             alloc,
             lists: Vec::new(alloc),
-            fresh: None,
+            pending: None,
         }
     }
 
     /// The slot listens to the job.
     pub(crate) fn add(&mut self, jobs: &JobMap, slot: u32, number: u64) -> Result<(), AllocError>
         ensures kept { (c n : ℕ) → IsSome (find_job jobs.now.entries n) → Heard self.old c n → Heard self.new c n }
-        ensures fresh { self.new.fresh ≡ self.old.fresh }
+        ensures pending { self.new.pending ≡ self.old.pending }
         ensures ok { OnOk result (Contains (list_of self.new slot) number) }
     {
         cover(self.alloc, &mut self.lists, slot)?;
@@ -131,26 +131,26 @@ impl Listening {
     }
 
     /// The slot that listens to the job that was made last comes into its list.
-    pub(crate) fn file(&mut self, jobs: &JobMap) -> Result<(), AllocError>
+    pub(crate) fn flush(&mut self, jobs: &JobMap) -> Result<(), AllocError>
         ensures kept { (c n : ℕ) → IsSome (find_job jobs.now.entries n) → Heard self.old c n → Heard self.new c n }
-        ensures ok { OnOk result (self.new.fresh ≡ None) }
-        ensures err { self.old.fresh ≡ None → self.new.fresh ≡ None }
+        ensures ok { OnOk result (self.new.pending ≡ None) }
+        ensures err { self.old.pending ≡ None → self.new.pending ≡ None }
     {
-        if let Some((slot, number)) = self.fresh {
+        if let Some((slot, number)) = self.pending {
             self.add(jobs, slot, number)?;
-            self.fresh = None;
+            self.pending = None;
         }
         Ok(())
     }
 
     /// The slot, if there is one, listens to the job that is made now. It takes no memory.
     pub(crate) fn begin(&mut self, listener: Option<u32>, number: u64)
-        requires { self.old.fresh ≡ None }
+        requires { self.old.pending ≡ None }
         ensures kept { (c n : ℕ) → Heard self.old c n → Heard self.new c n }
         ensures stands { IfSome listener (λ slot. Heard self.new slot number) }
     {
         if let Some(slot) = listener {
-            self.fresh = Some((slot, number));
+            self.pending = Some((slot, number));
         }
     }
 
@@ -158,7 +158,7 @@ impl Listening {
     fn take_list(&mut self, slot: u32) -> SlotJobs
         ensures taken { result ≡ list_of self.old slot }
         ensures others { (c : ℕ) → c ≢ slot → list_of self.new c ≡ list_of self.old c }
-        ensures fresh { self.new.fresh ≡ self.old.fresh }
+        ensures pending { self.new.pending ≡ self.old.pending }
     {
         if slot as usize >= self.lists.len() {
             return SlotJobs::new(self.alloc);
@@ -167,17 +167,17 @@ impl Listening {
     }
 
     // Takes out the job that isn't in its list yet, if this slot listens to it.
-    fn take_fresh(&mut self, slot: u32) -> Option<u64>
-        ensures taken { (n : ℕ) → self.old.fresh ≡ Some (slot, n) → result ≡ Some n }
-        ensures others { (c n : ℕ) → c ≢ slot → self.old.fresh ≡ Some (c, n) → self.new.fresh ≡ Some (c, n) }
+    fn take_pending(&mut self, slot: u32) -> Option<u64>
+        ensures taken { (n : ℕ) → self.old.pending ≡ Some (slot, n) → result ≡ Some n }
+        ensures others { (c n : ℕ) → c ≢ slot → self.old.pending ≡ Some (c, n) → self.new.pending ≡ Some (c, n) }
         ensures lists { self.new.lists ≡ self.old.lists }
-        ensures none { self.old.fresh ≡ None → self.new.fresh ≡ None }
+        ensures none { self.old.pending ≡ None → self.new.pending ≡ None }
     {
-        let (c, number) = self.fresh?;
+        let (c, number) = self.pending?;
         if c != slot {
             return None;
         }
-        self.fresh = None;
+        self.pending = None;
         Some(number)
     }
 
@@ -186,11 +186,11 @@ impl Listening {
     pub(crate) fn take(&mut self, slot: u32) -> (SlotJobs, Option<u64>)
         ensures taken { (n : ℕ) → Heard self.old slot n → Contains result.0 n ⊎ (result.1 ≡ Some n) }
         ensures others { (c n : ℕ) → c ≢ slot → Heard self.old c n → Heard self.new c n }
-        ensures fresh { self.old.fresh ≡ None → self.new.fresh ≡ None }
+        ensures pending { self.old.pending ≡ None → self.new.pending ≡ None }
     {
         let mut list = self.take_list(slot);
         list.sort();
-        let fresh = self.take_fresh(slot);
-        (list, fresh)
+        let pending = self.take_pending(slot);
+        (list, pending)
     }
 }

@@ -1,70 +1,47 @@
 //! Where a job with a unique id is found.
 
-ghost use Rattle.std.specs.Prelude.{◌≡◌, ℕ, ◌+◌, ◌-◌, ◌*◌, ◌<◌, ◌≤◌, ◌^◌, nat_lt, if◌then◌else◌, true, false, length, IsTrue, IfSome, IfNone, IfOk, IsSome, count_by};
+ghost use Rattle.std.specs.Prelude.{◌≡◌, ◌≢◌, ℕ, ◌<◌, ◌≤◌, nat_eq, true, false, Some, IfSome, IfNone, OnOk, Contains};
+ghost use Rattle.std.specs.Map.{lookup};
 ghost use Rattle.gm_notes.specs.Jobs.{joins};
-ghost use Rattle.gm_jobs.specs.Live.{Live, is_named};
+ghost use Rattle.gm_jobs.specs.Live.{is_named};
 ghost use Rattle.gm_jobs.specs.Tables.{find_job, passes};
-ghost use Rattle.gm_jobs.specs.Uniques.{digest_of, cell_behind, is_good, IsFreeFor, Reaches};
+ghost use Rattle.gm_jobs.specs.Uniques.{digest_of, LeadsTo};
 
-use crate::by_number::JobMap;
+use crate::by_number::{JobMap, NumberHash};
 use crate::job::joins;
+use indexmap::IndexMap;
 use std::alloc::{AllocError, Global};
 use std::hash::{BuildHasher, Hasher, RandomState};
 use std::marker::Model;
 
-// The hash of a function and a unique id, and the number of a job that has them, or had them. A digest of 0
-// is no digest: the cell is free.
-#[derive(Clone, Copy)]
-pub(crate) struct Cell {
-    digest: u64,
-    number: u64,
-}
-
-/// The cells by their digests. A job is looked for from the cell of its digest on, up to one that is free.
-///
-/// The cell of a job that ended stays taken, so that it breaks no chain, until all are made anew. What is found
-/// is compared with the job.
+/// The numbers of the jobs whose unique ids name them, by the digests of their functions and ids. What is found is
+/// compared with the job.
 #[derive(Drop)]
 pub(crate) struct Uniques {
-    cells: Vec<Cell>,
-    used: usize,
+    numbers: IndexMap<u64, u64, NumberHash>,
+    // The numbers of jobs whose digest another live job had when they were made: mostly none.
+    clashes: Vec<u64>,
 }
 
 impl Model for Uniques {
-    ghost use Rattle.std.specs.Prelude.{◌≤◌, count_by};
-    ghost use Rattle.gm_jobs.specs.Uniques.{Cells, is_taken};
+    ghost use Rattle.std.specs.Prelude.{min, ◌-◌};
+    ghost use Rattle.std.specs.Vec.{vec_len, vec_capacity};
+    ghost use Rattle.indexmap.specs.IndexMap.{spare};
+    ghost use Rattle.gm_jobs.specs.Uniques.{IdTable};
 
-    ghost Value = { Cells };
+    ghost Value = { IdTable };
 
-    ghost view = { λ u. record { cells = u.cells.items; used = u.used } };
-
-    ghost invariant = { λ u. count_by is_taken u.cells.items ≤ u.used };
+    ghost view = { λ u. record { numbers = u.numbers.entries; clashes = u.clashes.items; room = min (spare u.numbers) (vec_capacity u.clashes - vec_len u.clashes) } };
 }
 
-/// The hash of a function and a unique id, which is never 0.
+/// The digest of a function and a unique id: their hash.
 pub(crate) fn digest(seed: &RandomState, f: u32, unique: &[u8]) -> u64
-    ensures value { result ≡ digest_of seed.now f unique.now }
-    ensures some { 0 < result }
+    ensures { result ≡ digest_of seed.now f unique.now }
 {
     let mut hasher = seed.build_hasher();
     hasher.write_u64(u64::from(f));
     hasher.write(unique);
-    hasher.finish().max(1)
-}
-
-// The cell that is k behind `home`, where the first follows the last.
-fn cell_behind(home: usize, k: usize, len: usize) -> usize
-    requires home { home < len }
-    requires k { k < len }
-    requires len { len < 2 ^ 63 }
-    ensures value { result ≡ cell_behind home k len }
-    ensures within { result < len }
-{
-    if home + k < len {
-        home + k
-    } else {
-        home + k - len
-    }
+    hasher.finish()
 }
 
 // Whether the job of a number is live and has this name.
@@ -77,147 +54,107 @@ fn is_named(jobs: &JobMap, number: u64, f: u32, unique: &[u8]) -> bool
     }
 }
 
-// Whether a cell has a number, and its job is live, unless all numbers do.
-fn is_good(jobs: &JobMap, cell: Cell, all: bool) -> bool
-    ensures { result ≡ is_good all jobs.now.entries cell }
+// The first of these numbers whose job is live and has this name.
+fn first_named(numbers: &[u64], jobs: &JobMap, f: u32, unique: &[u8]) -> Option<u64>
+    ensures found { IfSome result (λ n. passes (is_named f unique.now) (find_job jobs.now.entries n) ≡ true) }
+    ensures none { IfNone result ((n : ℕ) → Contains numbers.now n → passes (is_named f unique.now) (find_job jobs.now.entries n) ≡ false) }
 {
-    cell.digest != 0 && (all || jobs.contains(cell.number))
-}
-
-// How many cells have such a number.
-fn count_good(cells: &[Cell], jobs: &JobMap, all: bool) -> usize
-    ensures { result ≡ count_by (is_good all jobs.now.entries) cells.now }
-{
-    let mut count = 0;
-    for cell in cells {
-        if is_good(jobs, *cell, all) {
-            count += 1;
+    for number in numbers {
+        if is_named(jobs, *number, f, unique) {
+            return Some(*number);
         }
     }
-    count
+    None
 }
 
 impl Uniques {
-    /// No cells.
-    pub(crate) fn new(alloc: Global) -> Uniques {
+    /// No numbers.
+    pub(crate) fn new(alloc: Global, seed: &RandomState) -> Uniques {
         Uniques {
-            cells: Vec::new(alloc),
-            used: 0,
+            numbers: IndexMap::with_hasher(alloc, NumberHash::new(seed)),
+            clashes: Vec::new(alloc),
         }
     }
 
-    // So many free cells.
-    fn with_cells(alloc: Global, len: usize) -> Result<Uniques, AllocError>
-        ensures len { IfOk result (λ u. length u.cells ≡ len) }
-        ensures used { IfOk result (λ u. u.used ≡ 0) }
+    /// Makes room for one number more. The map grows a sixteenth before it is full, and so not in the call in which that of
+    /// the jobs grows.
+    pub(crate) fn reserve_one(&mut self) -> Result<(), AllocError>
+        ensures kept { (d n : ℕ) → LeadsTo self.old d n → LeadsTo self.new d n }
+        ensures room { self.old.room ≤ self.new.room }
+        ensures ok { OnOk result (0 < self.new.room) }
     {
-        let free = Cell {
-            digest: 0,
-            number: 0,
-        };
-        Ok(Uniques {
-            cells: Vec::from_elem(alloc, free, len)?,
-            used: 0,
-        })
+        self.numbers.reserve(self.numbers.len() / 16 + 1)?;
+        self.clashes.reserve(1)
     }
 
-    /// Whether so many cells are taken that they should be made anew.
-    pub(crate) fn is_full(&self) -> bool
-        ensures { result ≡ false → self.now.used < length self.now.cells }
+    // Whether the digest leads to this number, and it is no clash.
+    fn is_first(&self, digest: u64, number: u64) -> bool
+        ensures { result ≡ true → lookup (nat_eq digest) self.now.numbers ≡ Some number }
     {
-        self.used >= self.cells.len() - self.cells.len() / 4
+        match self.numbers.get(&digest) {
+            Some(first) => *first == number,
+            None => false,
+        }
     }
 
     /// The live job of this function and unique id, which have this digest.
     pub(crate) fn find(&self, jobs: &JobMap, digest: u64, f: u32, unique: &[u8]) -> Option<u64>
         ensures found { IfSome result (λ n. passes (is_named f unique.now) (find_job jobs.now.entries n) ≡ true) }
-        ensures none { IfNone result ((n : ℕ) → passes (is_named f unique.now) (find_job jobs.now.entries n) ≡ true → Reaches self.now.cells digest n → ⊥) }
+        ensures none { IfNone result ((n : ℕ) → passes (is_named f unique.now) (find_job jobs.now.entries n) ≡ true → LeadsTo self.now digest n → ⊥) }
     {
-        let len = self.cells.len();
-        if len == 0 {
-            return None;
-        }
-        let home = (digest % len as u64) as usize;
-        for k in 0..len {
-            let cell = self.cells[cell_behind(home, k, len)];
-            if cell.digest == 0 {
-                return None;
-            }
-            if cell.digest == digest && is_named(jobs, cell.number, f, unique) {
-                return Some(cell.number);
+        if let Some(first) = self.numbers.get(&digest) {
+            if is_named(jobs, *first, f, unique) {
+                return Some(*first);
             }
         }
-        None
+        first_named(self.clashes.as_slice(), jobs, f, unique)
     }
 
-    // The first free cell in which a digest is looked for.
-    fn free_cell(&self, digest: u64) -> usize
-        requires { self.now.used < length self.now.cells }
-        ensures { IsFreeFor self.now.cells digest result }
+    // The digest leads to this number.
+    fn put(&mut self, digest: u64, number: u64)
+        requires { 0 < self.old.room }
+        ensures stands { LeadsTo self.new digest number }
+        ensures kept { (d n : ℕ) → LeadsTo self.old d n → LeadsTo self.new d n }
     {
-        let len = self.cells.len();
-        let home = (digest % len as u64) as usize;
-        for k in 0..len {
-            let at = cell_behind(home, k, len);
-            if self.cells[at].digest == 0 {
-                return at;
-            }
+        if self.numbers.contains_key(&digest) {
+            self.clashes.push_reserved(number);
+        } else {
+            let _fits = self.numbers.insert(digest, number);
         }
-        home
     }
 
-    /// The number goes into a free cell, where its digest is looked for.
-    pub(crate) fn put(&mut self, digest: u64, number: u64)
-        requires digest { 0 < digest }
-        requires free { self.old.used < length self.old.cells }
-        ensures stands { Reaches self.new.cells digest number }
-        ensures kept { (d n : ℕ) → Reaches self.old.cells d n → Reaches self.new.cells d n }
-        ensures used { self.new.used ≡ self.old.used + 1 }
-        ensures len { length self.new.cells ≡ length self.old.cells }
-    {
-        let at = self.free_cell(digest);
-        self.cells[at] = Cell { digest, number };
-        self.used += 1;
-    }
-
-    /// The number goes into a free cell, if the unique id names a job.
-    pub(crate) fn enter(&mut self, seed: &RandomState, f: u32, unique: &[u8], number: u64)
-        requires { self.old.used < length self.old.cells }
-        ensures stands { joins unique.now ≡ true → Reaches self.new.cells (digest_of seed.now f unique.now) number }
-        ensures kept { (d n : ℕ) → Reaches self.old.cells d n → Reaches self.new.cells d n }
-        ensures used { self.new.used ≤ self.old.used + 1 }
-        ensures len { length self.new.cells ≡ length self.old.cells }
+    /// The number of a job that is made now, which is found from now on if its unique id names it.
+    pub(crate) fn insert(&mut self, seed: &RandomState, f: u32, unique: &[u8], number: u64)
+        requires { 0 < self.old.room }
+        ensures stands { joins unique.now ≡ true → LeadsTo self.new (digest_of seed.now f unique.now) number }
+        ensures kept { (d n : ℕ) → LeadsTo self.old d n → LeadsTo self.new d n }
     {
         if joins(unique) {
             self.put(digest(seed, f, unique), number);
         }
     }
 
-    // The number of this cell goes into a free cell, if it has one whose job is live, unless all numbers do.
-    fn copy(&mut self, jobs: &JobMap, cell: Cell, all: bool)
-        requires { is_good all jobs.now.entries cell ≡ true → self.old.used < length self.old.cells }
-        ensures stands { is_good all jobs.now.entries cell ≡ true → Reaches self.new.cells cell.digest cell.number }
-        ensures kept { (d n : ℕ) → Reaches self.old.cells d n → Reaches self.new.cells d n }
-        ensures used { self.new.used ≤ self.old.used + (if is_good all jobs.now.entries cell then 1 else 0) }
-        ensures len { length self.new.cells ≡ length self.old.cells }
+    // The digest leads to this number no more.
+    fn take(&mut self, digest: u64, number: u64)
+        ensures kept { (d n : ℕ) → n ≢ number → LeadsTo self.old d n → LeadsTo self.new d n }
+        ensures room { self.old.room ≤ self.new.room }
     {
-        if is_good(jobs, cell, all) {
-            self.put(cell.digest, cell.number);
+        if self.is_first(digest, number) {
+            let _number = self.numbers.swap_remove(&digest);
+        } else {
+            self.clashes.retain(|clash| *clash != number);
         }
     }
 
-    /// Cells for the live jobs of these, with room for as many more. Nothing is hashed anew, and where most of the jobs
-    /// are live, none is looked up.
-    pub(crate) fn renewed(&self, alloc: Global, jobs: &JobMap) -> Result<Uniques, AllocError>
-        ensures reached { IfOk result (λ u. (d n : ℕ) → IsSome (find_job jobs.now.entries n) → Reaches self.now.cells d n → Reaches u.cells d n) }
-        ensures free { IfOk result (λ u. u.used < length u.cells) }
+    /// The job of a number ends: what is kept of it goes.
+    pub(crate) fn remove(&mut self, seed: &RandomState, jobs: &JobMap, number: u64)
+        ensures kept { (d n : ℕ) → n ≢ number → LeadsTo self.old d n → LeadsTo self.new d n }
+        ensures room { self.old.room ≤ self.new.room }
     {
-        let all = self.used / 2 <= jobs.len();
-        let count = count_good(self.cells.as_slice(), jobs, all);
-        let mut made = Uniques::with_cells(alloc, count.saturating_mul(2).saturating_add(8))?;
-        for i in 0..self.cells.len() {
-            made.copy(jobs, self.cells[i], all);
+        if let Some(job) = jobs.get(number) {
+            if joins(job.unique()) {
+                self.take(digest(seed, job.f(), job.unique()), number);
+            }
         }
-        Ok(made)
     }
 }

@@ -1,11 +1,10 @@
-use Rattle.std.proofs.Common.{map, take, Option, Some, None, refl, sym, ap, subst, ◌∙◌}
+use Rattle.std.proofs.Common.{map, take, Option, Some, None, refl}
 use Rattle.std.specs.Option.{option_map}
 use Rattle.gm_notes.specs.declared.states.Pick.{Pick}
 use Rattle.gm_notes.specs.Jobs.{pick_from}
 use Rattle.gm_conns.specs.ConnTables.{conn}
-use Rattle.gm_core.specs.declared.server.Core.{Core}
 use Rattle.gm_core.specs.declared.server.abilities.Choice.{Choice}
-use Rattle.gm_core.specs.Holds.{Keeps, ability_named}
+use Rattle.gm_core.specs.Holds.{ability_named}
 use Rattle.gm_core.proofs.TurnLemmas.{pick_parts}
 use Rattle.gm_core.proofs.server.Core.pick.Goals as goal
 
@@ -24,5 +23,4 @@ returns-in-None-clause-value c past keeps =
     pick_parts core past c.args.slot c.abilities_len-len.result c.tried_last-last.result none
     (option_map (λ (found : Choice). found.pick) c.pick_among-in-None.result)
     c.abilities_len-len.ensures (c.tried_last-last.ensures.scan past keeps) (c.in-None.ensures.value past keeps)
-    (c.pick_among-in-None.ensures.value past (subst (λ (x : Core). Keeps x past) (sym c.pick_among.ensures.kept) keeps)
-    ∙ ap (λ (x : Core). pick_from (map (ability_named x.functions.names) (take c.tried_last-last.result (conn x.conns c.args.slot).abilities)) past.notes) c.pick_among.ensures.kept)
+    (c.pick_among-in-None.ensures.value past keeps)

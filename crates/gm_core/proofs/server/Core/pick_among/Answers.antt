@@ -1,9 +1,9 @@
-use Rattle.std.proofs.Common.{◌≡◌, ◌<◌, ◌≤◌, ℕ, suc, length, map, drop, take, Option, Some, sym, ap, subst, ◌∙◌}
+use Rattle.std.proofs.Common.{◌≡◌, ◌<◌, ◌≤◌, ℕ, suc, length, map, drop, take, Option, Some, sym, ap, ◌∙◌}
 use Rattle.std.specs.Prelude.{slice_get}
 use Rattle.std.proofs.Math.Numerals.{add-one}
 use Rattle.gm_notes.specs.Jobs.{pick_from}
 use Rattle.gm_notes.specs.Past.{Past}
-use Rattle.gm_conns.specs.ConnTables.{conn, IsOpen}
+use Rattle.gm_conns.specs.ConnTables.{conn}
 use Rattle.gm_queues.specs.FunctionTables as queues
 use Rattle.gm_core.specs.declared.server.Core.{Core}
 use Rattle.gm_core.specs.Holds.{Keeps, ability_named}
@@ -11,35 +11,30 @@ use Rattle.gm_core.proofs.FunctionLemmas.{pick_at, pick_or}
 use Rattle.gm_core.proofs.TurnLemmas.{get_taken, able_taken}
 use Rattle.gm_core.proofs.server.Core.pick_among.Goals as goal
 
-pub able-requires : goal.able-requires
-able-requires c = subst (λ (x : Core). IsOpen x.conns c.args.slot) (sym c.loop-i.invariant.kept) c.requires.open
-
 -- what the loop goes on with after this ability
-step : (core self : Core) (past : Past) (c to i f t : ℕ) (o : Option ℕ) → i < to → self ≡ core → Keeps core past
-    → Some (f, t) ≡ slice_get (conn self.conns c).abilities i → (f < length self.functions.names → o ≡ slice_get (queues.waiting_for self.functions f) 0)
+step : (core : Core) (past : Past) (c to i f t : ℕ) (o : Option ℕ) → i < to → Keeps core past
+    → Some (f, t) ≡ slice_get (conn core.conns c).abilities i → (f < length core.functions.names → o ≡ slice_get (queues.waiting_for core.functions f) 0)
     → pick_from (map (ability_named core.functions.names) (drop i (take to (conn core.conns c).abilities))) past.notes
     ≡ pick_or o t (pick_from (map (ability_named core.functions.names) (drop (suc i) (take to (conn core.conns c).abilities))) past.notes)
-step core self past c to i f t o less kept keeps at first =
+step core past c to i f t o less keeps at first =
     pick_at past.notes keeps.functions keeps.jobs (take to (conn core.conns c).abilities) (able_taken core.functions.names to (conn core.conns c).abilities (keeps.conns.able c).0) i f t
-    (get_taken (conn core.conns c).abilities to i less ∙ sym (subst (λ (x : Core). Some (f, t) ≡ slice_get (conn x.conns c).abilities i) kept at)) o
-    (subst (λ (x : Core). f < length x.functions.names → o ≡ slice_get (queues.waiting_for x.functions f) 0) kept first)
+    (get_taken (conn core.conns c).abilities to i less ∙ sym at) o first
 
 pub returns-in-Some-clause-value : goal.returns-in-Some-clause-value
 returns-in-Some-clause-value c past keeps =
+    let core = c.args.self.now in
     let t = c.in_ok-function.timeout in
-    let rest = pick_from (map (ability_named c.args.self.now.functions.names) (drop (suc c.loop-i.i) (take c.args.to (conn c.args.self.now.conns c.args.slot).abilities))) past.notes in
-    sym (c.loop-i.invariant.leads past keeps
-    ∙ (step c.args.self.now c.loop-i.self past c.args.slot c.args.to c.loop-i.i c.in_ok-function.function t c.first_for.result c.loop-i-test.true c.loop-i.invariant.kept keeps c.in_ok-function.ensures c.first_for.ensures.value
+    let rest = pick_from (map (ability_named core.functions.names) (drop (suc c.loop-i.i) (take c.args.to (conn core.conns c.args.slot).abilities))) past.notes in
+    sym (c.loop-i.invariant past keeps
+    ∙ (step core past c.args.slot c.args.to c.loop-i.i c.in_ok-function.function t c.first_for.result c.loop-i-test.true keeps c.in_ok-function.ensures c.first_for.ensures.value
     ∙ ap (λ (o : Option ℕ). pick_or o t rest) c.in-Some.is))
 
 pub loop-i-preserved : goal.loop-i-preserved
-loop-i-preserved c = record {
-  kept = c.first_for.ensures.kept ∙ c.loop-i.invariant.kept;
-  leads = λ past keeps.
-      let t = c.in_ok-function.timeout in
-      let rest = pick_from (map (ability_named c.args.self.now.functions.names) (drop (suc c.loop-i.i) (take c.args.to (conn c.args.self.now.conns c.args.slot).abilities))) past.notes in
-      c.loop-i.invariant.leads past keeps
-      ∙ (step c.args.self.now c.loop-i.self past c.args.slot c.args.to c.loop-i.i c.in_ok-function.function t c.first_for.result c.loop-i-test.true c.loop-i.invariant.kept keeps c.in_ok-function.ensures c.first_for.ensures.value
-      ∙ (ap (λ (o : Option ℕ). pick_or o t rest) c.in_default.is
-      ∙ ap (λ (i : ℕ). pick_from (map (ability_named c.args.self.now.functions.names) (drop i (take c.args.to (conn c.args.self.now.conns c.args.slot).abilities))) past.notes) (sym (add-one c.loop-i.i))));
-}
+loop-i-preserved c = λ past keeps.
+    let core = c.args.self.now in
+    let t = c.in_ok-function.timeout in
+    let rest = pick_from (map (ability_named core.functions.names) (drop (suc c.loop-i.i) (take c.args.to (conn core.conns c.args.slot).abilities))) past.notes in
+    c.loop-i.invariant past keeps
+    ∙ (step core past c.args.slot c.args.to c.loop-i.i c.in_ok-function.function t c.first_for.result c.loop-i-test.true keeps c.in_ok-function.ensures c.first_for.ensures.value
+    ∙ (ap (λ (o : Option ℕ). pick_or o t rest) c.in_default.is
+    ∙ ap (λ (i : ℕ). pick_from (map (ability_named core.functions.names) (drop i (take c.args.to (conn core.conns c.args.slot).abilities))) past.notes) (sym (add-one c.loop-i.i))))

@@ -5,10 +5,8 @@ use Rattle.gm_conns.specs.ConnTables.{conn}
 use Rattle.gm_core.specs.Holds.{Keeps, ability_named}
 use Rattle.gm_core.proofs.server.Core.pick_among.Given as goal
 
+-- no ability so far leads to a job
 abbrev pub invariant-loop-i : goal.invariant-loop-i
-invariant-loop-i l = record {
-  kept : l.self ≡ l.fn.self;
-  leads : (past : Past) → Keeps l.fn.self past
-      → pick_from (map (ability_named l.fn.self.functions.names) (drop l.from (take l.to (conn l.fn.self.conns l.slot).abilities))) past.notes
-      ≡ pick_from (map (ability_named l.fn.self.functions.names) (drop l.i (take l.to (conn l.fn.self.conns l.slot).abilities))) past.notes;
-}
+invariant-loop-i l = (past : Past) → Keeps l.self past
+    → pick_from (map (ability_named l.self.functions.names) (drop l.from (take l.to (conn l.self.conns l.slot).abilities))) past.notes
+    ≡ pick_from (map (ability_named l.self.functions.names) (drop l.i (take l.to (conn l.self.conns l.slot).abilities))) past.notes

@@ -1,10 +1,6 @@
-use Rattle.std.proofs.Common.{◌≡◌, true, false, not, refl, sym, ap, subst, ◌∙◌}
+use Rattle.std.proofs.Common.{◌≡◌, true, false, not, refl, sym, ap, ◌∙◌}
 use Rattle.gm_notes.specs.Notes.{phase, is_asleep}
 use Rattle.gm_notes.specs.Jobs.{is_empty, waiting_for}
-use Rattle.gm_notes.specs.declared.states.Phase.TheVariants.{Owed}
-use Rattle.gm_conns.specs.Connections.{with_phase}
-use Rattle.gm_conns.specs.ConnTables.{Changes}
-use Rattle.gm_core.specs.declared.server.Core.{Core}
 use Rattle.gm_core.specs.Holds.{name_at, wake_if_waiting}
 use Rattle.gm_core.proofs.FunctionLemmas.{waits_is}
 use Rattle.gm_core.proofs.CoreLemmas.{goes_as, goes_nothing, goes_woken, phase_is}
@@ -19,10 +15,8 @@ returns-then-not-is_asleep c =
 
 pub returns-then-is_some : goal.returns-then-is_some
 returns-then-is_some c =
-    let kept = c.first_for.ensures.kept in
     goes_as (wake_if_waiting c.args.slot (name_at c.args.self.now.functions.names c.args.f))
-    (goes_woken {old = c.args.self.now} c.args.slot (record { config = ap (λ (x : Core). x.config) kept; functions = ap (λ (x : Core). x.functions) kept; jobs = ap (λ (x : Core). x.jobs) kept; moment = ap (λ (x : Core). x.moment) kept; mode = ap (λ (x : Core). x.mode) kept })
-    (subst (λ (x : Core). Changes c.args.slot (with_phase Owed) true x.conns c.set_phase.new.self) kept c.set_phase.ensures))
+    (goes_woken {old = c.args.self.now} c.args.slot (record { config = refl; functions = refl; jobs = refl; moment = refl; mode = refl }) c.set_phase.ensures)
     (λ p keeps.
     let asleep : is_asleep (phase c.args.slot p.notes) ≡ true = ap is_asleep (sym (phase_is keeps c.args.slot c.requires.«open») ∙ sym c.phase.ensures) ∙ (sym c.is_asleep.ensures ∙ c.if-not-is_asleep.false) in
     let waits : is_empty (waiting_for (name_at c.args.self.now.functions.names c.args.f) p.notes) ≡ false =
@@ -31,9 +25,8 @@ returns-then-is_some c =
 
 pub returns-else-is_some : goal.returns-else-is_some
 returns-else-is_some c =
-    let kept = c.first_for.ensures.kept in
     goes_as (wake_if_waiting c.args.slot (name_at c.args.self.now.functions.names c.args.f))
-    (goes_nothing (ap (λ (x : Core). x.config) kept) (ap (λ (x : Core). x.conns) kept) (ap (λ (x : Core). x.functions) kept) (ap (λ (x : Core). x.jobs) kept) (ap (λ (x : Core). x.moment) kept) (ap (λ (x : Core). x.mode) kept))
+    (goes_nothing refl refl refl refl refl refl)
     (λ p keeps.
     let waits : is_empty (waiting_for (name_at c.args.self.now.functions.names c.args.f) p.notes) ≡ true =
     waits_is p.notes keeps.functions keeps.jobs c.args.f c.requires.within c.first_for.result (c.first_for.ensures.value c.requires.within) ∙ ap not (sym c.is_some.ensures ∙ c.if-is_some.false) in

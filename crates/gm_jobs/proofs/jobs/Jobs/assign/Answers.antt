@@ -6,7 +6,7 @@ use Rattle.gm_jobs.proofs.jobs.Jobs.assign.Goals as goal
 pub note-requires-clause-others : goal.note-requires-clause-others
 note-requires-clause-others c =
     let t = c.self.inside in
-    listed_others c.args.n (assigned c.args.slot c.args.deadline) t.jobs.entries c.change-changed.new.self.entries (c.change-changed.ensures.free refl) t.dues (listed_of (beside t) t.jobs.entries t.space _ c.self.invariant)
+    listed_others c.args.n (assigned c.args.slot c.args.deadline) t.jobs.entries c.change-changed.new.self.entries (c.change-changed.ensures.free refl) t.deadlines (listed_of (beside t) t.jobs.entries t.reservation _ c.self.invariant)
 
 pub note-requires-clause-this : goal.note-requires-clause-this
 note-requires-clause-this c = λ live found.
@@ -18,5 +18,5 @@ note-requires-clause-this c = λ live found.
 pub invariant_of-self : goal.invariant_of-self
 invariant_of-self c =
     let t = c.self.inside in
-    kept_changed (beside t) c.args.n (assigned c.args.slot c.args.deadline) t.jobs.entries c.change-changed.new.self.entries t.listening c.note.new.self t.space _ _ c.self.invariant
+    kept_changed (beside t) c.args.n (assigned c.args.slot c.args.deadline) t.jobs.entries c.change-changed.new.self.entries t.listening c.note.new.self t.reservation _ _ c.self.invariant
     (c.change-changed.ensures.free refl) (λ l. refl) (λ l. refl) c.change-changed.ensures.room (λ d m s h. h) (λ l d there. inl there) (λ e. e) c.note.ensures

@@ -9,5 +9,5 @@ pub returns-clause-only : goal.returns-clause-only
 returns-clause-only c =
     let t = c.self.inside in
     if_some_map c.find.result _ _ (λ n named m other.
-    one_named (beside t) t.jobs.entries t.space _ c.self.invariant c.args.f c.args.unique.now m n other.joins
+    one_named (beside t) t.jobs.entries t.reservation _ c.self.invariant c.args.f c.args.unique.now m n other.joins
     (subst (λ (s : Table). passes (is_named c.args.f c.args.unique.now) (find_job s.live m) ≡ true) (sym c.self.view_is) other.named) named) c.find.ensures.found

@@ -5,8 +5,8 @@ use Rattle.gm_jobs.specs.Live.{Live, is_named}
 use Rattle.gm_jobs.specs.Tables.{Room, Table, find_job, passes}
 use Rattle.gm_jobs.specs.Kept.{IsReady, IsKept}
 use Rattle.gm_jobs.specs.Listening.{Heard}
-use Rattle.gm_jobs.specs.Uniques.{Reaches, digest_of}
-use Rattle.gm_jobs.proofs.CellLemmas.{Reaches-same}
+use Rattle.gm_jobs.specs.Uniques.{LeadsTo, digest_of}
+use Rattle.gm_jobs.proofs.UniqueLemmas.{leads_same}
 use Rattle.gm_jobs.proofs.JobLemmas.{beside, kept_made, next_absent, next_is, listed_heard}
 use Rattle.gm_jobs.proofs.jobs.Jobs.insert_reserved.Goals as goal
 use Rattle.gm_jobs.proofs.jobs.Jobs.insert_reserved.Goals.{After-begin}
@@ -15,25 +15,25 @@ number : (c : After-begin) → (beside c.self.inside).next ≡ c.unwrap-number.r
 number c = ap (λ o. unwrap_or o (2 ^ 64)) c.unwrap-number.ensures
 
 ready : (c : After-begin) → IsReady (beside c.self.inside) c.self.inside.jobs.room
-ready c = c.self.invariant.ready c.unwrap-space.result (sym c.take.ensures.value ∙ c.unwrap-space.ensures)
+ready c = c.self.invariant.ready c.unwrap-reservation.result (sym c.take.ensures.value ∙ c.unwrap-reservation.ensures)
 
 pub insert-requires-clause-absent : goal.insert-requires-clause-absent
 insert-requires-clause-absent c =
     let t = c.self.inside in
-    subst (λ i. find_job t.jobs.entries i ≡ None) (ap (λ o. unwrap_or o (2 ^ 64)) c.unwrap-number.ensures) (next_absent (beside t) t.jobs.entries t.space t.jobs.room c.self.invariant)
+    subst (λ i. find_job t.jobs.entries i ≡ None) (ap (λ o. unwrap_or o (2 ^ 64)) c.unwrap-number.ensures) (next_absent (beside t) t.jobs.entries t.reservation t.jobs.room c.self.invariant)
 
 pub insert-requires-clause-room : goal.insert-requires-clause-room
-insert-requires-clause-room c = (c.self.invariant.ready c.unwrap-space.result (sym c.take.ensures.value ∙ c.unwrap-space.ensures)).job
+insert-requires-clause-room c = (c.self.invariant.ready c.unwrap-reservation.result (sym c.take.ensures.value ∙ c.unwrap-reservation.ensures)).job
 
 adds : (c : After-begin) → (m : ℕ) → find_job c.insert.new.self.entries m ≡ (if (beside c.self.inside).next == m then Some c.fill-job.result else find_job c.self.inside.jobs.entries m)
 adds c =
     subst (λ i. (m : ℕ) → find_job c.insert.new.self.entries m ≡ (if i == m then Some c.fill-job.result else find_job c.self.inside.jobs.entries m)) (sym (number c)) c.insert.ensures.jobs
 
-made_reached : (c : After-begin) → joins c.fill-job.result.unique ≡ true → Reaches c.enter.new.self.cells (digest_of c.self.inside.seed c.fill-job.result.function c.fill-job.result.unique) (beside c.self.inside).next
-made_reached c good =
+made_led : (c : After-begin) → joins c.fill-job.result.unique ≡ true → LeadsTo c.insert-2.new.self (digest_of c.self.inside.seed c.fill-job.result.function c.fill-job.result.unique) (beside c.self.inside).next
+made_led c good =
     let unique = ap (λ (l : Live). l.unique) c.fill-job.ensures in
-    Reaches-same c.enter.new.self.cells c.self.inside.seed c.args.new.f c.fill-job.result.function c.unwrap-number.result (beside c.self.inside).next c.args.new.unique.now c.fill-job.result.unique
-    (sym (ap (λ (l : Live). l.function) c.fill-job.ensures)) (sym unique) (sym (number c)) (c.enter.ensures.stands (ap joins (sym unique) ∙ good))
+    leads_same c.insert-2.new.self c.self.inside.seed c.args.new.f c.fill-job.result.function c.unwrap-number.result (beside c.self.inside).next c.args.new.unique.now c.fill-job.result.unique
+    (sym (ap (λ (l : Live). l.function) c.fill-job.ensures)) (sym unique) (sym (number c)) (c.insert-2.ensures.stands (ap joins (sym unique) ∙ good))
 
 made_heard : (c : After-begin) (s : ℕ) → Contains c.fill-job.result.listeners s → Heard c.begin.new.self s (beside c.self.inside).next
 made_heard c s there =
@@ -53,7 +53,7 @@ invariant_of-self c =
     let d = (goal.at.invariant_of-self c).After-begin in
     let t = c.self.inside in
     let next : unwrap_or c.checked_add-self-inside.result (2 ^ 64) ≡ (beside t).next + 1 = next_is c.checked_add-self-inside.result c.unwrap-number.result c.checked_add-self-inside.ensures (omega arith) ∙ ap (λ i. i + 1) (sym (number d)) in
-    subst (λ i. IsKept (record (beside t) { next = i; left = is_some c.checked_add-self-inside.result; uniques = c.enter.new.self; listening = c.begin.new.self }) c.take.new.self c.insert.new.self.room c.insert.new.self.entries) (sym next)
-    (subst (λ (r : Option Room). IsKept (record (beside t) { next = (beside t).next + 1; left = is_some c.checked_add-self-inside.result; uniques = c.enter.new.self; listening = c.begin.new.self }) r c.insert.new.self.room c.insert.new.self.entries) (sym c.take.ensures.after)
-    (kept_made (beside t) t.jobs.entries c.fill-job.result c.insert.new.self.entries (adds d) (is_some c.checked_add-self-inside.result) t.space c.unwrap-space.result t.jobs.room c.insert.new.self.room c.enter.new.self c.begin.new.self
-    c.self.invariant (ready d) (made_reached d) c.enter.ensures.kept c.begin.ensures.kept (made_heard d) (ap (λ (l : Live). l.stage) c.fill-job.ensures) (made_single d)))
+    subst (λ i. IsKept (record (beside t) { next = i; left = is_some c.checked_add-self-inside.result; uniques = c.insert-2.new.self; listening = c.begin.new.self }) c.take.new.self c.insert.new.self.room c.insert.new.self.entries) (sym next)
+    (subst (λ (r : Option Room). IsKept (record (beside t) { next = (beside t).next + 1; left = is_some c.checked_add-self-inside.result; uniques = c.insert-2.new.self; listening = c.begin.new.self }) r c.insert.new.self.room c.insert.new.self.entries) (sym c.take.ensures.after)
+    (kept_made (beside t) t.jobs.entries c.fill-job.result c.insert.new.self.entries (adds d) (is_some c.checked_add-self-inside.result) t.reservation c.unwrap-reservation.result t.jobs.room c.insert.new.self.room c.insert-2.new.self c.begin.new.self
+    c.self.invariant (ready d) (made_led d) c.insert-2.ensures.kept c.begin.ensures.kept (made_heard d) (ap (λ (l : Live). l.stage) c.fill-job.ensures) (made_single d)))

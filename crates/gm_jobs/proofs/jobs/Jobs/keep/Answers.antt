@@ -6,6 +6,6 @@ use Rattle.gm_jobs.proofs.jobs.Jobs.keep.Goals as goal
 pub invariant_of-self : goal.invariant_of-self
 invariant_of-self c =
     let t = c.self.inside in
-    kept_changed (beside t) c.args.n kept t.jobs.entries c.change-changed.new.self.entries t.listening t.dues t.space _ _ c.self.invariant (c.change-changed.ensures.free refl) (λ l. refl) (λ l. refl) c.change-changed.ensures.room
+    kept_changed (beside t) c.args.n kept t.jobs.entries c.change-changed.new.self.entries t.listening t.deadlines t.reservation _ _ c.self.invariant (c.change-changed.ensures.free refl) (λ l. refl) (λ l. refl) c.change-changed.ensures.room
     (λ d m s h. h) (λ l d there. inl there) (λ e. e)
-    (listed_changed c.args.n kept t.jobs.entries c.change-changed.new.self.entries t.dues (c.change-changed.ensures.free refl) (listed_of (beside t) t.jobs.entries t.space _ c.self.invariant) (λ l h. h))
+    (listed_changed c.args.n kept t.jobs.entries c.change-changed.new.self.entries t.deadlines (c.change-changed.ensures.free refl) (listed_of (beside t) t.jobs.entries t.reservation _ c.self.invariant) (λ l h. h))

@@ -25,13 +25,13 @@ pub invariant_of-self : goal.invariant_of-self
 invariant_of-self c =
     let d = (goal.at.invariant_of-self c).After-leave_maybe in
     let t = c.self.inside in
-    kept_left c.args.slot t.jobs.entries c.leave_maybe.new.jobs.entries (some d) (all d) (beside t) c.take-list.new.self t.space _ _ c.self.invariant
+    kept_left c.args.slot t.jobs.entries c.leave_maybe.new.jobs.entries (some d) (all d) (beside t) c.take-list.new.self t.reservation _ _ c.self.invariant
     (c.leave_maybe.ensures.slots ∙ c.leave_all.ensures.slots)
-    c.take-list.ensures.others c.take-list.ensures.fresh
+    c.take-list.ensures.others c.take-list.ensures.pending
 
 pub returns : goal.returns
 returns c =
     let d = (goal.at.returns c).After-leave_maybe in
-    let now : Table = record { first = c.self.inside.first; next = unwrap_or c.self.inside.next (2 ^ 64); room = c.self.inside.space; live = c.leave_maybe.new.jobs.entries } in
+    let now : Table = record { first = c.self.inside.first; next = unwrap_or c.self.inside.next (2 ^ 64); room = c.self.inside.reservation; live = c.leave_maybe.new.jobs.entries } in
     subst (λ (t : Table). Leaves c.args.slot t now) c.self.view_is
     (record { first = refl; next = refl; room = refl; jobs = left_all c.args.slot c.self.inside.jobs.entries c.leave_maybe.new.jobs.entries (some d) (all d) })

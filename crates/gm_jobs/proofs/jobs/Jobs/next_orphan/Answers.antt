@@ -1,4 +1,4 @@
-use Rattle.std.proofs.Common.{◌≡◌, ℕ, Bool, true, ◌&&◌, not, Option, Some, None, ap}
+use Rattle.std.proofs.Common.{◌≡◌, Bool, true, ◌&&◌, not, Some, ap}
 use Rattle.std.proofs.lemmas.Bool.{false≢true}
 use Rattle.gm_jobs.specs.declared.job.Stage.{Stage}
 use Rattle.gm_jobs.specs.declared.job.Stage.TheVariants.{Waiting, Running, Lost}

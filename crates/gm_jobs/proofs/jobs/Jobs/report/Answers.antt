@@ -10,9 +10,9 @@ invariant_of-self c =
     let t = c.self.inside in
     elim (either c.change.result c.change.ensures.ok c.change.ensures.err) [
       | inl change ↦
-          kept_changed (beside t) c.args.n (reported c.args.numerator.now c.args.denominator.now) t.jobs.entries c.change.new.self.entries t.listening t.dues t.space _ _ c.self.invariant change
+          kept_changed (beside t) c.args.n (reported c.args.numerator.now c.args.denominator.now) t.jobs.entries c.change.new.self.entries t.listening t.deadlines t.reservation _ _ c.self.invariant change
           (λ l. refl) (λ l. refl) c.change.ensures.room (λ d m s h. h) (λ l d there. inl there) (λ e. e)
-          (listed_changed c.args.n (reported c.args.numerator.now c.args.denominator.now) t.jobs.entries c.change.new.self.entries t.dues change (listed_of (beside t) t.jobs.entries t.space _ c.self.invariant) (λ l h. h))
+          (listed_changed c.args.n (reported c.args.numerator.now c.args.denominator.now) t.jobs.entries c.change.new.self.entries t.deadlines change (listed_of (beside t) t.jobs.entries t.reservation _ c.self.invariant) (λ l h. h))
       | inr same ↦
-          subst (λ es. IsKept (beside t) t.space c.change.new.self.room es) (sym same) (subst (λ s. IsKept (beside t) t.space s t.jobs.entries) (sym c.change.ensures.room) c.self.invariant)
+          subst (λ es. IsKept (beside t) t.reservation c.change.new.self.room es) (sym same) (subst (λ s. IsKept (beside t) t.reservation s t.jobs.entries) (sym c.change.ensures.room) c.self.invariant)
     ]

@@ -1,5 +1,0 @@
-use Rattle.std.proofs.Common.{inl}
-use Rattle.gm_jobs.proofs.dues.Dues.renew.Goals as goal
-
-pub returns : goal.returns
-returns c = λ n live found whole d runs is. inl (c.list_deadlines-self-inside.ensures whole n d live found is)

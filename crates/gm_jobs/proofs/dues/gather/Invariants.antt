@@ -1,9 +1,0 @@
-use Rattle.std.proofs.Common.{length}
-use Rattle.gm_jobs.specs.Dues.{AllListed, listing}
-use Rattle.gm_jobs.proofs.dues.gather.Given as goal
-
-abbrev pub invariant-loop-deadline : goal.invariant-loop-deadline
-invariant-loop-deadline l = AllListed l.jobs.entries (listing l.waiting l.reached.items)
-
-abbrev pub decreases-loop-deadline : goal.decreases-loop-deadline
-decreases-loop-deadline l = length l.waiting
