@@ -9,6 +9,8 @@ mod conns;
 #[cfg(test)]
 mod jobs;
 #[cfg(test)]
+mod lane_word;
+#[cfg(test)]
 mod lines;
 #[cfg(test)]
 mod lists;

@@ -1,0 +1,29 @@
+//! Laws that hold for the word of every lane. Each function is a law: its body does nothing, and its contract is the
+//! law.
+
+ghost use Rattle.std.specs.Prelude.{◌≡◌, ◌≤◌, ◌+◌, ◌⊎◌, ℕ, List};
+ghost use Rattle.gm_lane_word.specs.declared.view.View.{View};
+ghost use Rattle.gm_lane_word.specs.Lane.{touches_of, answers_of, looks_of, owners_of};
+ghost use Rattle.gm_lane_word.specs.Steps.{Keeps, IsOwed, Reached, Step};
+
+/// The word rule holds between any two atomic steps, whatever the threads do: a lane is as steps of the six kinds
+/// have left it (that is the rule under which `LaneWord` is made, so no call can make another step), and wherever such
+/// steps lead, the word and the counts agree.
+pub fn word_rule()
+    ensures step { (word next : ℕ) (views after : List View)
+        → Keeps word views → Step word views next after → Keeps next after }
+    ensures reached { (word : ℕ) (views : List View) → Reached word views → Keeps word views }
+{}
+
+/// No delivery is forgotten: at any moment each touch so far was followed by a look that began after it, or somebody
+/// owes one, the one who has the lane or the writer, as the word says. Where the lane is idle nobody has it, and no touch
+/// is without a look. At most one has the lane. Nothing but a look follows touches, and it follows all that came before it.
+pub fn no_touch_is_forgotten()
+    ensures followed { (word : ℕ) (views : List View) → Reached word views
+        → (touches_of views ≡ answers_of views) ⊎ IsOwed word views }
+    ensures idle { (views : List View) → Reached 0 views
+        → (touches_of views ≡ answers_of views) × (owners_of views ≡ 0) }
+    ensures by_looks { (word next : ℕ) (views after : List View) → Reached word views → Step word views next after
+        → (answers_of after ≡ answers_of views) ⊎ ((looks_of after ≡ looks_of views + 1) × (answers_of after ≡ touches_of views)) }
+    ensures one_owner { (word : ℕ) (views : List View) → Reached word views → owners_of views ≤ 1 }
+{}

@@ -1,0 +1,58 @@
+//! The rule of a lane's word, and what each kind of step tells the seat that makes it.
+
+ghost use Rattle.gm_lane_word.specs.Steps.{IsLane, TellsEnter, TellsTouch, TellsTakeOver, TellsLook, TellsFinish, TellsHandOver};
+ghost use Rattle.gm_lane_word.specs.Lane.{fresh_view};
+
+use crate::view::View;
+use atomic_table::{Play, TableRule};
+
+/// The word is as steps of the six kinds, and no others, have left it.
+pub(crate) struct LaneRule;
+
+impl TableRule<(), View, ()> for LaneRule {
+    ghost holds = { λ _ s. IsLane s.words s.views };
+
+    ghost first = { λ _. fresh_view };
+}
+
+/// A new seat comes, and has touched the lane where a look was owed anyway.
+pub(crate) struct Enter;
+
+impl Play<(), View> for Enter {
+    ghost then = { TellsEnter };
+}
+
+/// A seat touches the lane, and has it where nobody had it.
+pub(crate) struct Touch;
+
+impl Play<(), View> for Touch {
+    ghost then = { TellsTouch };
+}
+
+/// A new seat touches the lane, and has it where nobody had it or it was late.
+pub(crate) struct TakeOver;
+
+impl Play<(), View> for TakeOver {
+    ghost then = { TellsTakeOver };
+}
+
+/// Who has the lane begins a look.
+pub(crate) struct Look;
+
+impl Play<(), View> for Look {
+    ghost then = { TellsLook };
+}
+
+/// Who has the lane gives it up, unless it was touched since the look began.
+pub(crate) struct Finish;
+
+impl Play<(), View> for Finish {
+    ghost then = { TellsFinish };
+}
+
+/// Who has the lane leaves it to the writer.
+pub(crate) struct HandOver;
+
+impl Play<(), View> for HandOver {
+    ghost then = { TellsHandOver };
+}

@@ -1,0 +1,26 @@
+//! What the seats at a lane's word know. No value of these types is made: only proofs speak of them.
+
+/// What a seat has of the lane.
+pub enum Hold {
+    /// Nothing.
+    Free,
+    /// It has the lane, and is yet to begin a look.
+    Owes,
+    /// It has the lane, and has begun a look.
+    Looks,
+}
+
+/// What a seat knows: what it has done at the lane so far, and what it has of it.
+pub struct View {
+    /// How often it touched the lane.
+    pub touches: u64,
+    /// How many of these were take-overs.
+    pub take_overs: u64,
+    /// How many looks it began.
+    pub looks: u64,
+    /// How often it left the lane to the writer.
+    pub hand_overs: u64,
+    /// How many touches, of whichever seat, its looks were the first to follow.
+    pub answers: u64,
+    pub hold: Hold,
+}

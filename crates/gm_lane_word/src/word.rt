@@ -1,0 +1,83 @@
+//! The word of a lane.
+
+ghost use Rattle.std.specs.Prelude.{◌≡◌};
+ghost use Rattle.std.specs.Result.{MatchResult};
+ghost use Rattle.gm_lane_word.specs.Seats.{one_touch, one_take_over};
+
+use crate::owed::Owed;
+use crate::rule::{Enter, LaneRule, TakeOver, Touch};
+use crate::tally::Tally;
+use crate::view::View;
+use atomic_table::Table;
+use std::alloc::{AllocError, Global};
+use std::marker::Model;
+
+// Nobody has the lane, and no touch is without a look.
+pub(crate) const IDLE: u64 = 0;
+
+// Somebody has the lane, and began a look after the last touch.
+pub(crate) const BUSY: u64 = 1;
+
+// Somebody has the lane, and is yet to begin a look.
+pub(crate) const OWED: u64 = 2;
+
+// The writer is to take the lane over.
+pub(crate) const LATE: u64 = 3;
+
+/// The word of one lane, which all threads share. Contracts see which one it is.
+#[derive(Drop)]
+pub struct LaneWord {
+    pub(crate) table: Table<(), View, (), LaneRule, Global>,
+}
+
+impl Model for LaneWord {
+    ghost use Rattle.std.specs.Prelude.{◌≡◌};
+    ghost use Rattle.atomic_table.specs.Seated.{TableId, table_id_coded};
+
+    ghost Value = { TableId };
+
+    ghost coded = { table_id_coded };
+
+    ghost view = { λ w. w.table.shared.table_id };
+
+    ghost invariant = { λ w. (w.table.shared.table_id.words ≡ 1) × (w.table.shared.table_id.slots ≡ 0) };
+}
+
+impl LaneWord {
+    /// The word of an idle lane. An error means that there was no memory for it.
+    pub fn new(alloc: Global) -> Result<LaneWord, AllocError> {
+        let (table, _seat) = Table::of_words(alloc, &[IDLE], &())?;
+        Ok(LaneWord { table })
+    }
+
+    /// Touches the lane, after something was queued for its connection. Where nobody had the lane, the caller has it now,
+    /// and owes it a look. An error means that somebody else looks, after this touch.
+    pub fn touch<'a>(&'a self) -> Result<Owed<'a>, Tally>
+        ensures { MatchResult result (λ owed. owed ≡ one_touch self.now) (λ tally. tally ≡ one_touch self.now) }
+    {
+        let (found, mut seat) = self.table.shared.load_new_seat::<Enter>(0);
+        if found >= OWED {
+            return Err(Tally { seat });
+        }
+        let found = self.table.shared.fetch_max::<Touch>(&mut seat, 0, OWED);
+        if found == IDLE {
+            Ok(Owed { word: self, seat })
+        } else {
+            Err(Tally { seat })
+        }
+    }
+
+    /// Touches the lane as the connection's writer, which has it now where nobody had it or it was late: when the writer
+    /// starts, since the last connection may have left the lane late, and whenever it is woken. An error means that
+    /// somebody else looks, after this touch.
+    pub fn take_over<'a>(&'a self) -> Result<Owed<'a>, Tally>
+        ensures { MatchResult result (λ owed. owed ≡ one_take_over self.now) (λ tally. tally ≡ one_take_over self.now) }
+    {
+        let (found, seat) = self.table.shared.swap_new_seat::<TakeOver>(0, OWED);
+        if found == IDLE || found == LATE {
+            Ok(Owed { word: self, seat })
+        } else {
+            Err(Tally { seat })
+        }
+    }
+}
