@@ -1,19 +1,19 @@
 mod Alike
 pub mod ByteLaws
 mod Finding
-mod JobLaws
+pub mod JobLaws
 mod Keeping
 mod Listeners
 mod Moving
 mod NumberLaws
-mod Orphans
+pub mod Orphans
 pub mod Phases
 mod PutOff
 mod Retries
 mod Runners
 mod Sayings
 mod SideBySide
-mod Sleepers
+pub mod Sleepers
 pub mod StepLaws
 pub mod StepsKeep
 pub mod TurnLaws

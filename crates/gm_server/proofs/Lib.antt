@@ -1,4 +1,5 @@
 mod Delivering
 mod Handing
+mod Promised
 mod Serving
 mod Writing

@@ -14,6 +14,7 @@ mod error;
 mod gate;
 mod keepalive;
 mod lane;
+pub mod laws;
 mod message;
 mod outbox;
 mod ready;

@@ -3,7 +3,7 @@ mod Noops
 mod Following
 mod Applying
 mod Taping
-mod Sharing
+pub mod Sharing
 mod Comparing
 mod Places
 mod Ending

@@ -32,7 +32,7 @@ if_more (tape.Took c) xs ys = refl
 if_more (tape.Withdrew c) xs ys = refl
 if_more (tape.Drain c) xs ys = refl
 
-events_more : (xs ys : List Told) → events_told (xs ++ ys) ≡ events_told xs ++ events_told ys
+pub events_more : (xs ys : List Told) → events_told (xs ++ ys) ≡ events_told xs ++ events_told ys
 events_more [] ys = refl
 events_more (told ∷ xs) ys = ap (if_event told.step) (events_more xs ys) ∙ if_more told.step (events_told xs) (events_told ys)
 

@@ -1,0 +1,95 @@
+-- The promise, out to the threads: what the tape of a server that has ended says of its connections.
+use Rattle.std.specs.Prelude.{◌≡◌, ℕ, ◌==◌, if◌then◌else◌, true, List, [], ◌∷◌, ◌++◌, All, reverse, Option, Some, None}
+use Rattle.gm_feeder.specs.declared.units.Limits.{Limits}
+use Rattle.gm_feeder.specs.Units.{Item}
+use Rattle.gm_front.specs.Units.{steps_of as steps_of_units, BeginsWith}
+use Rattle.gm_core.specs.Holds.{CoreAgrees}
+use Rattle.gm_notes.specs.declared.event.UnitFault.{UnitFault}
+use Rattle.gm_notes.specs.Settings.{Settings}
+use Rattle.gm_notes.specs.Notes.{is_open}
+use Rattle.gm_notes.specs.Flow.{sent, waiting}
+use Rattle.gm_notes.specs.Jobs.{job_state}
+use Rattle.gm_notes.specs.Past.{Past}
+use Rattle.gm_notes.specs.Steps.{Step, run}
+use Rattle.gm_laws.specs.Laws.{is_gone}
+use Rattle.gm_laws.specs.Between.{NoWaitingJobIsOrphaned, NoOneSleepsBesideWork}
+use Rattle.gm_shared.specs.declared.tape.Actor.{Actor}
+use Rattle.gm_shared.specs.declared.tape.TapeStep.{TapeStep}
+use Rattle.gm_shared.specs.declared.tape.TapeStep.TheVariants as tape
+use Rattle.gm_shared.specs.declared.tape.Answer.{Answer}
+use Rattle.gm_shared.specs.declared.tape.Answer.TheVariants as answers
+use Rattle.gm_shared.specs.declared.tape.Entry.{Entry}
+use Rattle.gm_shared.specs.declared.tape.Told.{Told}
+use Rattle.gm_shared.specs.declared.settling.Settled.{Settled}
+use Rattle.gm_shared.specs.Tapes.{actor_is, if_event, steps_of, share_from, events_told}
+use Rattle.gm_shared.specs.Shared.{AddsUp}
+use Rattle.gm_server.specs.Sessions.{HandsIn}
+
+-- ---- what was handed in
+
+-- the events on the tape that one desk handed in, in the tape's order
+abbrev pub events_of : Actor → List Entry → List Step
+events_of actor [] = []
+events_of actor (e ∷ more) = if actor_is actor e.actor then if_event e.step (events_of actor more) else events_of actor more
+
+-- What each desk and pen was told is what the tape has of it, entry for entry; so the events of a desk stand on the tape in the order
+-- in which it handed them in.
+abbrev pub ToldInOrder : Type 0
+ToldInOrder = (k : Settings) (settled : Settled) → AddsUp k true settled
+    → All (λ share. (share.told.items ≡ share_from share.actor 0 settled.tape.items) × (events_told share.told.items ≡ events_of share.actor settled.tape.items)) settled.shares.items
+
+-- A session that handed in the units of what it read, while its desk's share grew from this to that: they stand on the tape, in their
+-- order, and nothing of the desk's between them.
+abbrev pub SessionsAreOnTheTape : Type 0
+SessionsAreOnTheTape = (k : Settings) (settled : Settled) → AddsUp k true settled
+    → (actor : Actor) (c : ℕ) (limits : Limits) (bytes rest : List ℕ) (fault : Option UnitFault) (before after more : List Told)
+    → share_from actor 0 settled.tape.items ≡ after ++ more → HandsIn true c limits bytes rest fault before after
+    → (items : List Item) × BeginsWith limits bytes items rest
+    × (events_of actor settled.tape.items ≡ events_told before ++ (steps_of_units c items fault ++ events_told more))
+
+-- ---- what was sent
+
+-- a slot's connection was opened there
+abbrev pub if_opened : ℕ → Option ℕ → List ℕ → List ℕ
+if_opened c None bytes = bytes
+if_opened c (Some d) bytes = if c == d then [] else bytes
+
+-- all bytes that drains of slot c gave since it was opened, by the tape, the newest first
+abbrev pub given_by : ℕ → TapeStep → Answer → List ℕ → List ℕ
+given_by c (tape.Open addr) (answers.Done done) bytes = if_opened c done.opened bytes
+given_by c (tape.Drain d) (answers.Drained more) bytes = if c == d then bytes ++ more else bytes
+given_by c step answer bytes = bytes
+
+abbrev pub given : ℕ → List Entry → List ℕ
+given c [] = []
+given c (e ∷ older) = given_by c e.step e.answer (given c older)
+
+-- the past that the tape tells
+abbrev pub past_of : Settings → Settled → Past
+past_of k settled = run k (steps_of (reverse settled.tape.items))
+
+-- Of each open slot, the bytes that its pen was given since the opening, followed by those that wait still, are what the abstract
+-- server sends after the tape's steps; and the server that is handed back holds what these give.
+abbrev pub BytesAreOnTheTape : Type 0
+BytesAreOnTheTape = (k : Settings) (settled : Settled) → AddsUp k true settled
+    → CoreAgrees settled.core k (steps_of (reverse settled.tape.items))
+    × ((c : ℕ) → is_open c (past_of k settled).notes ≡ true
+    → sent c (past_of k settled).flow ≡ given c (reverse settled.tape.items) ++ waiting c (past_of k settled).flow)
+
+-- ---- what follows, at each moment of the tape
+
+-- Once a job has ended it is in no other state at any later moment.
+abbrev pub JobsEndOnce : Type 0
+JobsEndOnce = (k : Settings) (settled : Settled) → AddsUp k true settled → (rest later older : List Entry) → reverse settled.tape.items ≡ rest ++ (later ++ older)
+    → (n : ℕ) → is_gone (job_state n (run k (steps_of older)).notes) ≡ true
+    → job_state n (run k (steps_of (later ++ older))).notes ≡ job_state n (run k (steps_of older)).notes
+
+-- No worker sleeps that can do a job that waits.
+abbrev pub NoWorkerSleepsBesideItsWork : Type 0
+NoWorkerSleepsBesideItsWork = (k : Settings) (settled : Settled) → AddsUp k true settled → (rest older : List Entry) → reverse settled.tape.items ≡ rest ++ older
+    → NoOneSleepsBesideWork k (run k (steps_of older)).notes
+
+-- Each job that waits is wanted.
+abbrev pub WaitingJobsAreWanted : Type 0
+WaitingJobsAreWanted = (k : Settings) (settled : Settled) → AddsUp k true settled → (rest older : List Entry) → reverse settled.tape.items ≡ rest ++ older
+    → NoWaitingJobIsOrphaned k (run k (steps_of older)).notes
