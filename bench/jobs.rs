@@ -189,7 +189,7 @@ fn run(name: &str, size: u64, rounds: u64) -> (u64, u128) {
     (sum, start.elapsed().as_nanos())
 }
 
-/// How many nanoseconds the longest of so many calls took, each of which makes a job.
+/// Makes this number of jobs, and tells how many nanoseconds the longest of these calls took.
 fn longest(size: u64) -> u128 {
     let mut jobs = Jobs::new(0, "longest");
     let mut longest = 0;

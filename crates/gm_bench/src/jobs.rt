@@ -212,7 +212,7 @@ fn time_of_make<R: Clock>(rt: &R, jobs: &mut Jobs, number: u64) -> Result<u64, B
     Ok(outcome_since(rt, start, made)?.nanos)
 }
 
-/// How many nanoseconds the longest of so many calls took, each of which makes a job.
+/// Makes this number of jobs, and tells how many nanoseconds the longest of these calls took.
 pub(crate) fn longest<R: Clock>(
     rt: &R,
     alloc: Global,

@@ -24,7 +24,7 @@ use std::process::ExitCode;
 const HELP: &str = "\
 gm_bench PART NAME SIZE ROUNDS     prints what came of the rounds, their time, and that of one
 gm_bench server memory SIZE        prints how much resident memory a waiting job takes
-gm_bench jobs longest SIZE         prints how long the longest of so many calls took, each of which makes a job
+gm_bench jobs longest SIZE         makes SIZE jobs, and prints how long the longest of these calls took
 gm_bench --check                   measures all at a small size, and prints what came of it
 gm_bench --help                    prints this
 

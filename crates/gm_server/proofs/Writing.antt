@@ -6,7 +6,7 @@ use Rattle.std.specs.Io.KnownBytes.{Appends}
 use Rattle.gm_server.specs.declared.message.Halt.{Halt}
 use Rattle.gm_server.specs.Turns.{Parts}
 
--- so many bytes of the turn are written, and these parts are left
+-- this number of bytes of the turn is written, and these parts are left
 pub record Writing (old now : Option (List ℕ)) (turn : List ℕ) (written : ℕ) (bytes noop : List ℕ) : Type 0 where
   pub sent : List ℕ
   pub so_far : Appends old now sent

@@ -15,7 +15,7 @@ SettledSo k taped (Ok settled) = AddsUp k taped settled
 SettledSo k taped (Err of_book.Memory) = Unit {0}
 SettledSo k taped (Err (of_book.Differs settled)) = IsUnsettled k taped settled (map told_by settled.shares.items)
 
--- the same of a server, of which so many entries are told
+-- the same of what a server tells in the end: how many entries its tape has
 pub record ServedSo (k : BookSettings) (taped : Bool) (served : Served) : Type 0 where
   pub settled : Settled
   pub is : AddsUp k taped settled

@@ -237,7 +237,7 @@ fn add_up(entries: &[Entry], counts: &[usize], shares: &[Share]) -> bool
     left == 0
 }
 
-// The shares of desks, in their order; there is room for so many more.
+// The shares of desks, in their order, with room for those of this number of pens.
 fn desk_shares<K: BookName>(
     alloc: Global,
     desks: Vec<Desk<K>>,

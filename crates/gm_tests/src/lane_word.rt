@@ -94,7 +94,7 @@ impl Line {
         unreachable!()
     }
 
-    // Queues so many ones, and touches the lane after each.
+    // Queues this number of ones, and touches the lane after each.
     fn send_ones(&self, rt: &impl Wait, times: u32) {
         for _ in 0..times {
             self.queued.fetch_add(1, Ordering::SeqCst);
@@ -104,7 +104,7 @@ impl Line {
         }
     }
 
-    // Leaves the lane to the writer, so many times.
+    // Leaves the lane to the writer, this number of times.
     fn be_slow(&self, times: u32) {
         for _ in 0..times {
             if let Ok(owed) = self.word.touch() {
@@ -113,7 +113,7 @@ impl Line {
         }
     }
 
-    // Delivers what the writer is to deliver, so many times.
+    // Delivers what the writer is to deliver, this number of times.
     fn write(&self, rt: &impl Wait, times: u32) {
         for _ in 0..times {
             if let Ok(owed) = self.word.take_over() {
