@@ -29,7 +29,7 @@ same_test n m = grind (arith, nat_tests)
 pub is_same : (n m : ℕ) → (n == m) ≡ true → n ≡ m
 is_same n m e = grind (arith, nat_tests)
 
-running_place : (s : JobState) → is_running s ≡ true → has_place s ≡ true
+pub running_place : (s : JobState) → is_running s ≡ true → has_place s ≡ true
 running_place (states.Running c) e = refl
 running_place states.Waiting e = refl
 running_place states.Lost e = refl

@@ -1,12 +1,16 @@
 mod Alike
 pub mod ByteLaws
+pub mod Endings
 mod Finding
+mod Handles
 pub mod JobLaws
 mod Keeping
 mod Listeners
 mod Moving
 mod NumberLaws
 pub mod Orphans
+mod Outputs
+pub mod Passing
 pub mod Phases
 mod PutOff
 mod Retries
@@ -17,5 +21,6 @@ pub mod Sleepers
 pub mod StepLaws
 pub mod StepsKeep
 pub mod TurnLaws
+pub mod Submitting
 mod Turned
 mod Waiting

@@ -60,7 +60,7 @@ left_none c false [] e = refl
 left_none c false (d ∷ slots) e = absurd (some (length slots) e)
 
 module _ (k : Settings) (s : Step) (start : Past) (history : History k start.notes) where
-  note_law : (P : List Note → Type 0) → ((note : Note) (older : List Note) → Allowed k note older → Caused k start.notes s note older → History k older → P older → P (note ∷ older)) → P start.notes → P (step k s start).notes
+  pub note_law : (P : List Note → Type 0) → ((note : Note) (older : List Note) → Allowed k note older → Caused k start.notes s note older → History k older → P older → P (note ∷ older)) → P start.notes → P (step k s start).notes
   note_law P more p = (step_keeps start s (keeps_notes P more) (λ c e h u. u) (history, p)).1
 
   pub caused : NotesAreCaused k start s (step k s start)
@@ -174,7 +174,7 @@ grabbed k c (Some GrabJob) found start e is = pick_runs k c false (pick k c star
 grabbed k c (Some GrabJobUniq) found start e is = pick_runs k c true (pick k c start.notes) found (wake_itself c start) is
 grabbed k c (Some kind) found start e is = absurd cc
 
-taken_is : (t : Bool) (after before : Past) → t ≡ true → unless (unless_not_open t) after before ≡ after
+pub taken_is : (t : Bool) (after before : Past) → t ≡ true → unless (unless_not_open t) after before ≡ after
 taken_is true after before e = refl
 taken_is false after before e = absurd cc
 

@@ -5,6 +5,7 @@ pub mod History
 pub mod JobRows
 pub mod Laws
 pub mod LineRows
+pub mod Listeners
 pub mod Retries
 pub mod RowWords
 pub mod Turns

@@ -6,6 +6,7 @@ ghost use Rattle.gm_laws.specs.History.{History};
 ghost use Rattle.gm_laws.specs.Laws.{AfterAnySteps, AreNumbers, AreSlots, HavePlaces, AreOne, StayGone, AllIsSent, BytesArrive};
 ghost use Rattle.gm_laws.specs.Laws.{InEachStep, NotesAreCaused, DiscardsTheUnwanted, EndsWithItsWorker, GivesThePick};
 ghost use Rattle.gm_laws.specs.Laws.{GrabsGetThePick, SaysNoJobWhereNoneIs, OnlyDrainsTake, MayBeTakenLater};
+ghost use Rattle.gm_laws.specs.Listeners.{OutputsAreSent, WhatWorkersSayIsPassedOn, EachListenerIsTold, WhoStaysIsTold};
 ghost use Rattle.gm_laws.specs.Turns.{TurnsAreFair};
 ghost use Rattle.gm_laws.specs.Retries.{NoJobIsHandedOutMoreOften, NoJobIsLostTwice, NoneIsLostWithoutALimit};
 ghost use Rattle.gm_laws.specs.Retries.{OnlyTheLastTryLoses, LostJobsEndWithTheNextTick};
@@ -54,6 +55,11 @@ pub fn all_is_sent()
     ensures { AllIsSent }
 {}
 
+/// What was queued to a slot since it was opened, joined, is what was sent.
+pub fn outputs_are_sent()
+    ensures { OutputsAreSent }
+{}
+
 /// Of a slot that is open after any steps, what was drained since it was opened, followed by what waits, is what
 /// was sent; for one that isn't open nothing waits, and what was drained is a front of what was sent.
 pub fn bytes_arrive()
@@ -79,6 +85,25 @@ pub fn discards_the_unwanted()
 /// reaches its deadline. Any tick reaches that of a lost job.
 pub fn ends_with_its_worker()
     ensures { InEachStep EndsWithItsWorker }
+{}
+
+/// In the step that ends a job, each slot is told of it exactly as often as it listened to the job before that step: by the
+/// WORK_COMPLETE or WORK_FAIL that its worker said, with the job's handle, or by WORK_FAIL where a tick ends it, since its
+/// deadline is reached or its last worker went.
+pub fn each_listener_is_told()
+    ensures { InEachStep EachListenerIsTold }
+{}
+
+/// A client that submits a job in the foreground is told its handle; as long as it isn't closed, that job waits or runs, or
+/// one of the steps since told the client of its end.
+pub fn who_stays_is_told()
+    ensures { WhoStaysIsTold }
+{}
+
+/// What a worker says of the job that it runs is passed on, with the job's handle, exactly as often to each slot as that
+/// listens to the job, and nothing else is queued. WORK_EXCEPTION goes to those alone that have the exceptions option.
+pub fn what_workers_say_is_passed_on()
+    ensures { WhatWorkersSayIsPassedOn }
 {}
 
 /// A job comes to run at a slot only where the slot grabs, and the job is its pick.

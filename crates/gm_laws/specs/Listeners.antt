@@ -1,0 +1,103 @@
+-- What those who listen to a job are told of it.
+use Rattle.std.specs.Prelude.{◌≡◌, ℕ, ◌<◌, true, not, ◌==◌, ◌⊎◌, if◌then◌else◌, List, [], ◌∷◌, ◌++◌, length, filter, replicate}
+use Rattle.std.specs.Prelude.{Option, Some, None, Ok}
+use Rattle.std.specs.List.{concat, list_all}
+use Rattle.std.specs.Str.{bytes_eq}
+use Rattle.gm_packet.specs.declared.kind.Kind.{Kind}
+use Rattle.gm_packet.specs.declared.kind.Kind.TheVariants.{WorkStatus, WorkComplete, WorkFail, WorkException, WorkData, WorkWarning}
+use Rattle.gm_packet.specs.Requests.{Asked, request_of}
+use Rattle.gm_packet.specs.Answers.{Answer, answer_packet, work_status, work_complete, work_fail, work_data, work_warning}
+use Rattle.gm_packet.specs.Answers.{work_exception, job_created}
+use Rattle.gm_notes.specs.declared.note.Note.{Note}
+use Rattle.gm_notes.specs.Settings.{Settings}
+use Rattle.gm_notes.specs.Notes.{takes_units, has_option}
+use Rattle.gm_notes.specs.Flow.{Flow, Began, Queued, Drained, Emptied, sent}
+use Rattle.gm_notes.specs.Jobs.{job_state, listeners, handle}
+use Rattle.gm_notes.specs.JobStates.{is_live}
+use Rattle.gm_notes.specs.JobStates as states
+use Rattle.gm_notes.specs.Past.{Past}
+use Rattle.gm_notes.specs.Requests.{first, second, third}
+use Rattle.gm_notes.specs.Steps.{Step, Packet, Tick, run}
+use Rattle.gm_laws.specs.Causes.{asks, is_foreground, is_ending, closes}
+use Rattle.gm_laws.specs.Turns.{One}
+
+-- ---- what is queued to a slot
+
+-- what was queued to slot c since it was opened, one by one, the first first
+abbrev pub outputs : ℕ → List Flow → List (List ℕ)
+outputs c [] = []
+outputs c (Began d ∷ older) = if c == d then [] else outputs c older
+outputs c (Queued d bytes ∷ older) = if c == d then outputs c older ++ bytes ∷ [] else outputs c older
+outputs c (Drained d ∷ older) = outputs c older
+outputs c (Emptied d ∷ older) = outputs c older
+
+-- all of it, joined, is what was sent
+abbrev pub OutputsAreSent : Type 0
+OutputsAreSent = (flow : List Flow) (c : ℕ) → sent c flow ≡ concat (outputs c flow)
+
+-- from one past to the other just these are queued to slot c
+abbrev pub Queues : ℕ → List (List ℕ) → Past → Past → Type 0
+Queues c newer before after = outputs c after.flow ≡ outputs c before.flow ++ newer
+
+-- how many of them are these bytes
+abbrev pub copies : List ℕ → List (List ℕ) → ℕ
+copies bytes queued = length (filter (bytes_eq bytes) queued)
+
+-- ---- what is told
+
+-- how often slot c listens to job n: once for each time that it came to listen
+abbrev pub listens : ℕ → ℕ → List Note → ℕ
+listens c n notes = length (filter (λ d. c == d) (listeners n notes))
+
+-- what the worker of job n asks to be passed on to those who listen
+abbrev pub passed_on : Settings → ℕ → Kind → List (List ℕ) → Option Answer
+passed_on k n WorkStatus a = Some (work_status (handle k n) (second a) (third a))
+passed_on k n WorkData a = Some (work_data (handle k n) (second a))
+passed_on k n WorkWarning a = Some (work_warning (handle k n) (second a))
+passed_on k n WorkException a = Some (work_exception (handle k n) (second a))
+passed_on k n WorkComplete a = Some (work_complete (handle k n) (second a))
+passed_on k n WorkFail a = Some (work_fail (handle k n))
+passed_on k n kind a = None
+
+-- how often slot c is told of it: as often as it listens, but of a WORK_EXCEPTION only with the exceptions option
+abbrev pub hears : ℕ → ℕ → Kind → List Note → ℕ
+hears c n WorkException notes = if has_option c notes then listens c n notes else 0
+hears c n kind notes = listens c n notes
+
+-- What the slot where a job runs says of it is passed on to each slot as often as that hears it, and nothing else is queued.
+abbrev pub WhatWorkersSayIsPassedOn : Type 0
+WhatWorkersSayIsPassedOn = (k : Settings) (steps : List Step) (worker n number : ℕ) (bytes : List ℕ) (asked : Asked) (answer : Answer) →
+    let before = run k steps in
+    takes_units worker before.notes ≡ true → job_state n before.notes ≡ states.Running worker →
+    request_of number bytes ≡ Ok asked → first asked.arguments ≡ handle k n → passed_on k n asked.kind asked.arguments ≡ Some answer →
+    (c : ℕ) → Queues c (replicate (hears c n asked.kind before.notes) (answer_packet answer)) before (run k (Packet worker number bytes ∷ steps))
+
+-- what a step says of the end of job n: what its worker says, or WORK_FAIL in a tick
+abbrev pub TellsEnd : Settings → ℕ → Step → Answer → Type 0
+TellsEnd k n (Packet worker number bytes) answer =
+    (asked : Asked) × (request_of number bytes ≡ Ok asked) × (is_ending asked.kind ≡ true) × (passed_on k n asked.kind asked.arguments ≡ Some answer)
+TellsEnd k n (Tick now) answer = answer ≡ work_fail (handle k n)
+TellsEnd k n other answer = ⊥
+
+-- In the step that ends a job each slot is told as often as it listened to the job before that step.
+abbrev pub EachListenerIsTold : Settings → Past → Step → Past → Type 0
+EachListenerIsTold k before s after = (n : ℕ) → job_state n after.notes ≡ states.Ended →
+    (job_state n before.notes ≡ states.Ended)
+    ⊎ ((answer : Answer) × TellsEnd k n s answer
+    × ((c : ℕ) → (newer : List (List ℕ)) × Queues c newer before after × (copies (answer_packet answer) newer ≡ listens c n before.notes)))
+
+-- ---- from the submission to the end
+
+-- the step after these earlier ones tells slot c of the end of job n
+abbrev pub Tells : Settings → ℕ → ℕ → List Step → Step → Type 0
+Tells k c n earlier s =
+    (answer : Answer) × TellsEnd k n s answer
+    × ((newer : List (List ℕ)) × Queues c newer (run k earlier) (run k (s ∷ earlier)) × (0 < copies (answer_packet answer) newer))
+
+-- A slot that submits a job in the foreground is told its handle. As long as the slot isn't closed, the job waits or runs, or one of
+-- the steps since told the slot of its end.
+abbrev pub WhoStaysIsTold : Type 0
+WhoStaysIsTold = (k : Settings) (c : ℕ) (text : List ℕ) (earlier later : List Step) (s : Step) →
+    asks is_foreground c s ≡ true → Queues c (answer_packet (job_created text) ∷ []) (run k earlier) (run k (s ∷ earlier)) →
+    list_all (λ t. not (closes c t)) later ≡ true →
+    (n : ℕ) × (text ≡ handle k n) × ((is_live (job_state n (run k (later ++ s ∷ earlier)).notes) ≡ true) ⊎ One (Tells k c n) later (s ∷ earlier))
