@@ -23,12 +23,12 @@ use Rattle.gm_notes.specs.Workers.{wake_if, can_do, cant_do, sleep_beside, pre_s
 use Rattle.gm_notes.specs.Workers.{tell_assigned, give_out, grab, Work, keep_report, end_if, hearers, tell_work, work_on, work}
 use Rattle.gm_notes.specs.Steps.{Step}
 use Rattle.gm_laws.specs.History.{runs_at_a_slot, Allowed, History}
-use Rattle.gm_laws.specs.Causes.{Caused, Ends, MaySay, is_request, is_submission, is_foreground, is_background, is_enabling}
+use Rattle.gm_laws.specs.Causes.{Caused, Ends, IsOfEnd, MaySay, is_ending, is_tick, is_request, is_submission, is_foreground, is_background, is_enabling}
 use Rattle.gm_laws.specs.Causes.{is_disabling, is_sleeping, is_grab, is_reporting, is_line, is_closing, asks, closes}
 use Rattle.gm_laws.specs.Between.{AllOpen}
 use Rattle.gm_laws.proofs.Finding.{found_passes, joined_lives, pick_waits, stirred_picks, same_number}
 use Rattle.gm_laws.proofs.Listeners.{listeners_open, filtered_open, open_after}
-use Rattle.gm_laws.proofs.Sayings.{Other, created_other, assigned_other, error_other}
+use Rattle.gm_laws.proofs.Sayings.{Other, created_other, assigned_other, error_other, no_job_other}
 
 -- a note that changes no flow: all but openings and closings
 abbrev pub is_inner : Note → Bool
@@ -36,12 +36,17 @@ is_inner (notes.Opened c addr) = false
 is_inner (notes.Closed c) = false
 is_inner note = true
 
+-- the step after these notes may queue the bytes to slot c: what tells of an end only for a request that ends a job, or in a tick
+abbrev pub MayQueue : Settings → List Note → Step → ℕ → List ℕ → Type 0
+MayQueue k before s c bytes =
+    MaySay k before s c bytes × ((answer : Answer) → IsOfEnd answer → bytes ≡ answer_packet answer → (is_request is_ending s || is_tick s) ≡ true)
+
 -- what is true of pasts is kept by each small change of a step after these notes
 pub record Keeps (k : Settings) (before : List Note) (s : Step) (I : Past → Type 0) : Type 0 where
   pub by_note : (note : Note) (past : Past) → is_inner note ≡ true → Allowed k note past.notes → Caused k before s note past.notes → History k past.notes → I past → I (with_note note past)
   pub by_opening : (c : ℕ) (addr : List ℕ) (past : Past) → Allowed k (notes.Opened c addr) past.notes → Caused k before s (notes.Opened c addr) past.notes → History k past.notes → I past → I (with_flow (Began c) (with_note (notes.Opened c addr) past))
   pub by_closing : (c : ℕ) (past : Past) → is_open c past.notes ≡ true → Caused k before s (notes.Closed c) past.notes → History k past.notes → I past → I (with_flow (Emptied c) (with_note (notes.Closed c) past))
-  pub by_saying : (c : ℕ) (bytes : List ℕ) (past : Past) → is_open c past.notes ≡ true → MaySay k before s c bytes → History k past.notes → I past → I (with_output c bytes past)
+  pub by_saying : (c : ℕ) (bytes : List ℕ) (past : Past) → is_open c past.notes ≡ true → MayQueue k before s c bytes → History k past.notes → I past → I (with_output c bytes past)
 
 -- what is said of the notes alone
 pub keeps_notes : {k : Settings} {before : List Note} {s : Step} (P : List Note → Type 0) → ((note : Note) (older : List Note) → Allowed k note older → Caused k before s note older → History k older → P older → P (note ∷ older)) → Keeps k before s (λ past. P past.notes)
@@ -100,18 +105,21 @@ module _ {k : Settings} {before : List Note} {s : Step} {I : Past → Type 0} (K
   pub note_keeps : (note : Note) (past : Past) → is_inner note ≡ true → Allowed k note past.notes → Caused k before s note past.notes → Held k I past → Held k I (with_note note past)
   note_keeps note past inner allowed caused h = ((allowed, h.0), K.by_note note past inner allowed caused h.0 h.1)
 
-  pub says_keeps : (c : ℕ) (bytes : List ℕ) (past : Past) → is_open c past.notes ≡ true → MaySay k before s c bytes → Held k I past → Held k I (with_output c bytes past)
+  pub says_keeps : (c : ℕ) (bytes : List ℕ) (past : Past) → is_open c past.notes ≡ true → MayQueue k before s c bytes → Held k I past → Held k I (with_output c bytes past)
   says_keeps c bytes past opened may h = (h.0, K.by_saying c bytes past opened may h.0 h.1)
 
+  pub not_said : (c : ℕ) (bytes : List ℕ) → Other bytes → MayQueue k before s c bytes
+  not_said c bytes other = ((λ e. absurd (other.0 e)), λ answer ends e. absurd (other.1 answer ends e))
+
   pub gives_keeps : (c : ℕ) (answer : Answer) (past : Past) → is_open c past.notes ≡ true → Other (answer_packet answer) → Held k I past → Held k I (give c answer past)
-  gives_keeps c answer past opened other h = says_keeps c (answer_packet answer) past opened (λ e. absurd (other e)) h
+  gives_keeps c answer past opened other h = says_keeps c (answer_packet answer) past opened (not_said c (answer_packet answer) other) h
 
   pub refuses_keeps : (c : ℕ) (code : List ℕ) (past : Past) → is_open c past.notes ≡ true → Held k I past → Held k I (refuse c code past)
   refuses_keeps c code past opened h = gives_keeps c (error_of code) past opened (error_other code (spaced code)) h
 
-  pub tells_keeps : (answer : Answer) (slots : List ℕ) (past : Past) → Other (answer_packet answer) → AllOpen slots past.notes → Held k I past → Held k I (tell_all answer slots past)
-  tells_keeps answer [] past other all h = h
-  tells_keeps answer (c ∷ slots) past other all h = tells_keeps answer slots (give c answer past) other all.1 (gives_keeps c answer past all.0 other h)
+  pub tells_keeps : (answer : Answer) (slots : List ℕ) (past : Past) → ((d : ℕ) → MayQueue k before s d (answer_packet answer)) → AllOpen slots past.notes → Held k I past → Held k I (tell_all answer slots past)
+  tells_keeps answer [] past may all h = h
+  tells_keeps answer (c ∷ slots) past may all h = tells_keeps answer slots (give c answer past) may all.1 (says_keeps c (answer_packet answer) past all.0 (may c) h)
 
   -- ---- waking and mentioning
 
@@ -228,7 +236,7 @@ module _ {k : Settings} {before : List Note} {s : Step} {I : Past → Type 0} (K
     assigned_keeps uniq n (Some job) past opened h = gives_keeps c (assignment k uniq n job) past opened (assigned_other k uniq n job) h
 
     gives_out_keeps : (uniq : Bool) (o : Option Pick) (past : Past) → asks is_grab c s ≡ true → pick k c before ≡ o → is_open c past.notes ≡ true → pick k c past.notes ≡ o → Held k I past → Held k I (give_out k c uniq o past)
-    gives_out_keeps uniq None past may first opened is h = says_keeps c (answer_packet no_job) past opened (λ e. (may, first)) h
+    gives_out_keeps uniq None past may first opened is h = says_keeps c (answer_packet no_job) past opened ((λ e. (may, first)), λ answer ends e. absurd (no_job_other answer ends e)) h
     gives_out_keeps uniq (Some found) past may first opened is h =
         let one = with_note (notes.Assigned found.job c (deadline_after (moment past.notes) found.timeout)) past in
         assigned_keeps uniq found.job (job found.job past.notes) one opened
@@ -259,7 +267,7 @@ module _ {k : Settings} {before : List Note} {s : Step} {I : Past → Type 0} (K
     hearers_open true slots l all = filtered_open slots l
     hearers_open false slots l all = all
 
-    tells_work_keeps : (w : Work) (n : ℕ) (past : Past) → Other (answer_packet w.answer) → ((a b : List ℕ) → w.report ≡ Some (a, b) → is_request is_reporting s ≡ true) → (w.ends ≡ true → Ends k before s n) → runs_at_a_slot (job_state n past.notes) ≡ true → Held k I past → Held k I (tell_work w n past)
+    tells_work_keeps : (w : Work) (n : ℕ) (past : Past) → ((d : ℕ) → MayQueue k before s d (answer_packet w.answer)) → ((a b : List ℕ) → w.report ≡ Some (a, b) → is_request is_reporting s ≡ true) → (w.ends ≡ true → Ends k before s n) → runs_at_a_slot (job_state n past.notes) ≡ true → Held k I past → Held k I (tell_work w n past)
     tells_work_keeps w n past other reports ends running h =
         let slots = hearers w.exceptions_only (listeners n past.notes) past.notes in
         let one = keep_report n w.report past in
@@ -272,12 +280,12 @@ module _ {k : Settings} {before : List Note} {s : Step} {I : Past → Type 0} (K
         (tells_keeps w.answer slots one other all_one (report_keeps n w.report past reports running h))
 
     -- the job that the handle names, if it runs at the slot
-    works_on_keeps : (text : List ℕ) (w : Work) (o : Option ℕ) (past : Past) → job_of_handle k text past.notes ≡ o → Other (answer_packet w.answer) → ((a b : List ℕ) → w.report ≡ Some (a, b) → is_request is_reporting s ≡ true) → ((n : ℕ) → w.ends ≡ true → job_state n past.notes ≡ states.Running c → text ≡ handle k n → Ends k before s n) → is_open c past.notes ≡ true → Held k I past → Held k I (work_on c w o past)
+    works_on_keeps : (text : List ℕ) (w : Work) (o : Option ℕ) (past : Past) → job_of_handle k text past.notes ≡ o → ((d : ℕ) → MayQueue k before s d (answer_packet w.answer)) → ((a b : List ℕ) → w.report ≡ Some (a, b) → is_request is_reporting s ≡ true) → ((n : ℕ) → w.ends ≡ true → job_state n past.notes ≡ states.Running c → text ≡ handle k n → Ends k before s n) → is_open c past.notes ≡ true → Held k I past → Held k I (work_on c w o past)
     works_on_keeps text w None past is other reports ends opened h = refuses_keeps c (codes "job_not_found") past opened h
     works_on_keeps text w (Some n) past is other reports ends opened h =
         held_if (is_running_at c (job_state n past.notes)) (tell_work w n past) (refuse c (codes "job_not_found") past)
         (λ e. tells_work_keeps w n past other reports (λ g. ends n g (runs_there c (job_state n past.notes) e) (handled_is k text past.notes n is)) (runs_somewhere c (job_state n past.notes) e) h)
         (λ e. refuses_keeps c (codes "job_not_found") past opened h)
 
-    pub works_keeps : (text : List ℕ) (w : Work) (past : Past) → Other (answer_packet w.answer) → ((a b : List ℕ) → w.report ≡ Some (a, b) → is_request is_reporting s ≡ true) → ((n : ℕ) → w.ends ≡ true → job_state n past.notes ≡ states.Running c → text ≡ handle k n → Ends k before s n) → is_open c past.notes ≡ true → Held k I past → Held k I (work k c text w past)
+    pub works_keeps : (text : List ℕ) (w : Work) (past : Past) → ((d : ℕ) → MayQueue k before s d (answer_packet w.answer)) → ((a b : List ℕ) → w.report ≡ Some (a, b) → is_request is_reporting s ≡ true) → ((n : ℕ) → w.ends ≡ true → job_state n past.notes ≡ states.Running c → text ≡ handle k n → Ends k before s n) → is_open c past.notes ≡ true → Held k I past → Held k I (work k c text w past)
     works_keeps text w past other reports ends opened h = works_on_keeps text w (job_of_handle k text past.notes) past refl other reports ends opened h

@@ -8,6 +8,7 @@ mod Keeping
 mod Listeners
 mod Moving
 mod NumberLaws
+pub mod OnlyEnds
 pub mod Orphans
 mod Outputs
 pub mod Passing

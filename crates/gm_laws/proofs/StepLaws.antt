@@ -148,7 +148,7 @@ module _ (k : Settings) (s : Step) (start : Past) (history : History k start.not
         by_note = λ note past inner allowed cause h p. p;
         by_opening = λ c addr past allowed cause h p. (Began c ∷ p.0, ap (λ l. Began c ∷ l) p.1, (tt, p.2));
         by_closing = λ c past opened cause h p. (Emptied c ∷ p.0, ap (λ l. Emptied c ∷ l) p.1, (tt, p.2));
-        by_saying = λ c bytes past opened may h p. (Queued c bytes ∷ p.0, ap (λ l. Queued c bytes ∷ l) p.1, (may, p.2));
+        by_saying = λ c bytes past opened may h p. (Queued c bytes ∷ p.0, ap (λ l. Queued c bytes ∷ l) p.1, (may.0, p.2));
       })
       (λ c e h p. (Drained c ∷ p.0, ap (λ l. Drained c ∷ l) p.1, (tt, p.2)))
       (history, ([], refl, tt))).1

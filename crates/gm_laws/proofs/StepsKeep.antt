@@ -54,10 +54,10 @@ use Rattle.gm_laws.specs.Causes.{is_enabling, is_disabling, is_resetting, is_sle
 use Rattle.gm_laws.specs.Causes.{is_naming, is_choosing, is_line, is_closing, closes, faults as has_fault}
 use Rattle.gm_laws.proofs.Finding.{same_number}
 use Rattle.gm_laws.proofs.Listeners.{listeners_open}
-use Rattle.gm_laws.proofs.Sayings.{Other, fail_other, status_other, complete_other, data_other, warning_other, exception_other}
+use Rattle.gm_laws.proofs.Sayings.{Another, Other, fail_another, status_other, complete_another, data_other, warning_other, exception_other}
 use Rattle.gm_laws.proofs.Sayings.{echo_other, option_other, known_other, ok_other, version_other, refusal_other, fault_other}
 use Rattle.gm_laws.proofs.Sayings.{list_other, rows_other}
-use Rattle.gm_laws.proofs.Keeping.{Keeps, Held, kept_if, held_if, note_keeps, says_keeps, gives_keeps, refuses_keeps}
+use Rattle.gm_laws.proofs.Keeping.{Keeps, Held, not_said, kept_if, held_if, note_keeps, says_keeps, gives_keeps, refuses_keeps}
 use Rattle.gm_laws.proofs.Keeping.{tells_keeps, wake_keeps, mentions_keeps, submit_keeps, can_do_keeps, cant_do_keeps}
 use Rattle.gm_laws.proofs.Keeping.{pre_sleep_keeps, stir_keeps, grab_keeps, works_keeps, tell_all_notes, runs_somewhere}
 
@@ -95,11 +95,12 @@ module _ {k : Settings} {I : Past → Type 0} (start : Past) (c number : ℕ) (b
     -- what doesn't end the job
     passes : (text : List ℕ) (answer : Answer) (only : Bool) → Other (answer_packet answer) → Held k I (work k c text (record (passing answer) { exceptions_only = only }) start)
     passes text answer only other =
-        works_keeps K c text (record (passing answer) { exceptions_only = only }) start other (λ a b e. absurd cc) (λ n e r is. absurd cc) opened h
+        works_keeps K c text (record (passing answer) { exceptions_only = only }) start (λ d. not_said K d (answer_packet answer) other) (λ a b e. absurd cc) (λ n e r is. absurd cc) opened h
 
-    ends : (text : List ℕ) (answer : Answer) → ((n : ℕ) → text ≡ handle k n → NamesJob k number bytes n) → is_ending kind ≡ true → Other (answer_packet answer) → Held k I (work k c text (ending answer) start)
+    ends : (text : List ℕ) (answer : Answer) → ((n : ℕ) → text ≡ handle k n → NamesJob k number bytes n) → is_ending kind ≡ true → Another (answer_packet answer) → Held k I (work k c text (ending answer) start)
     ends text answer names may other =
-        works_keeps K c text (ending answer) start other (λ a b e. absurd cc) (λ n e r is. (by_kind is_ending may, r, names n is)) opened h
+        works_keeps K c text (ending answer) start
+        (λ d. ((λ e. absurd (other e)), λ x y e. or_left (is_one_of is_ending (kind_of number)) false (by_kind is_ending may))) (λ a b e. absurd cc) (λ n e r is. (by_kind is_ending may, r, names n is)) opened h
 
     chooses : (name : List ℕ) → is_choosing kind ≡ true → Held k I (set_option c name start)
     chooses name may =
@@ -123,12 +124,12 @@ module _ {k : Settings} {I : Past → Type 0} (start : Past) (c number : ℕ) (b
   request_keeps SubmitJobLowBg a timeout is names = submits SubmitJobLowBg is Low true a refl (λ e. refl) (λ e. absurd cc)
   request_keeps WorkStatus a timeout is names =
       works_keeps K c (first a) (record (passing (work_status (first a) (second a) (third a))) { report = Some (second a, third a) }) start
-      (status_other (first a) (second a) (third a)) (λ x y e. by_kind WorkStatus is is_reporting refl) (λ n e r is. absurd cc) opened h
+      (λ d. not_said K d (answer_packet (work_status (first a) (second a) (third a))) (status_other (first a) (second a) (third a))) (λ x y e. by_kind WorkStatus is is_reporting refl) (λ n e r is. absurd cc) opened h
   request_keeps WorkData a timeout is names = passes WorkData is (first a) (work_data (first a) (second a)) false (data_other (first a) (second a))
   request_keeps WorkWarning a timeout is names = passes WorkWarning is (first a) (work_warning (first a) (second a)) false (warning_other (first a) (second a))
   request_keeps WorkException a timeout is names = passes WorkException is (first a) (work_exception (first a) (second a)) true (exception_other (first a) (second a))
-  request_keeps WorkComplete a timeout is names = ends WorkComplete is (first a) (work_complete (first a) (second a)) names refl (complete_other (first a) (second a))
-  request_keeps WorkFail a timeout is names = ends WorkFail is (first a) (work_fail (first a)) names refl (fail_other (first a))
+  request_keeps WorkComplete a timeout is names = ends WorkComplete is (first a) (work_complete (first a) (second a)) names refl (complete_another (first a) (second a))
+  request_keeps WorkFail a timeout is names = ends WorkFail is (first a) (work_fail (first a)) names refl (fail_another (first a))
   request_keeps GetStatus a timeout is names = tells_status (first a) (job_of_handle k (first a) start.notes)
   request_keeps EchoReq a timeout is names = gives_keeps K c (echo_res (first a)) start opened (echo_other (first a)) h
   request_keeps SetClientId a timeout is names = note_keeps K (notes.Named c (first a)) start refl opened (asked SetClientId is is_naming refl) h
@@ -161,7 +162,7 @@ packet_of_kinds P k c kinds bytes start p more (Some kind) e =
 
 module _ {k : Settings} {before : List Note} {s : Step} {I : Past → Type 0} (K : Keeps k before s I) (c : ℕ) (may : is_line s ≡ true) where
   says : (text : List ℕ) (past : Past) → is_open c past.notes ≡ true → Other text → Held k I past → Held k I (with_output c text past)
-  says text past opened other h = says_keeps K c text past opened (λ e. absurd (other e)) h
+  says text past opened other h = says_keeps K c text past opened (not_said K c text other) h
 
   shut_one_keeps : (d : ℕ) (past : Past) → Held k I past → Held k I (shut_one d past)
   shut_one_keeps d past h =
@@ -274,7 +275,7 @@ module _ {k : Settings} {I : Past → Type 0} (start : Past) (now : ℕ) (K : Ke
       (λ e. let p = and_parts (is_running (job_state n past.notes)) (is_reached (deadline n past.notes) (moment past.notes)) e in
       note_keeps K (notes.Ended n) told refl (subst (λ l. is_running (job_state n l) ≡ true) (sym same) p.0)
       (subst (λ d. is_reached d (max now (moment start.notes)) ≡ true) (t.deadlines n) (subst (λ m. is_reached (deadline n past.notes) m ≡ true) t.moment_is p.1))
-      (tells_keeps K (work_fail (handle k n)) (listeners n past.notes) past (fail_other (handle k n)) (listeners_open k past.notes h.0 n) h))
+      (tells_keeps K (work_fail (handle k n)) (listeners n past.notes) past (λ d. ((λ x. absurd (fail_another (handle k n) x)), λ x y z. refl)) (listeners_open k past.notes h.0 n) h))
       (λ e. h)
 
   expired_ticked : (n : ℕ) (past : Past) → Ticked start past now → Ticked start (expire_one k n past) now
@@ -329,7 +330,7 @@ module _ {k : Settings} {I : Past → Type 0} (start : Past) where
   add_keeps (Line c bytes) K drains taken h = command_keeps K c refl (command_of bytes) start (units_open c start.notes taken) h
   add_keeps (Fault c fault) K drains taken h =
       let opened = units_open c start.notes taken in
-      note_keeps K (notes.Shut c) (with_output c (fault_text fault) start) refl opened (or_left (has_fault c (Fault c fault)) (is_line (Fault c fault)) (same_number c)) (says_keeps K c (fault_text fault) start opened (λ e. absurd (fault_other fault e)) h)
+      note_keeps K (notes.Shut c) (with_output c (fault_text fault) start) refl opened (or_left (has_fault c (Fault c fault)) (is_line (Fault c fault)) (same_number c)) (says_keeps K c (fault_text fault) start opened (not_said K c (fault_text fault) (fault_other fault)) h)
   add_keeps (Close c) K drains taken h = close_keeps K start (takes_open (is_open c start.notes) taken) h
   add_keeps (Tick now) K drains taken h = tick_keeps start now K h
   add_keeps (Took c) K drains taken h = note_keeps K (notes.Took c) start refl (owed_is (is_open c start.notes) (is_owed (phase c start.notes)) taken) refl h

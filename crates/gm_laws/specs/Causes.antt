@@ -1,13 +1,13 @@
 -- Which steps add which note, and what they may say.
-use Rattle.std.specs.Prelude.{◌≡◌, ℕ, Bool, true, false, ◌&&◌, ◌||◌, ◌==◌, max, List, [], ◌∷◌, ◌++◌, Option, Some, None, Ok}
+use Rattle.std.specs.Prelude.{◌≡◌, ◌⊎◌, ℕ, Bool, true, false, ◌&&◌, ◌||◌, ◌==◌, max, List, [], ◌∷◌, ◌++◌, Option, Some, None, Ok}
 use Rattle.gm_packet.specs.declared.kind.Kind.{Kind}
 use Rattle.gm_packet.specs.declared.kind.Kind.TheVariants.{CanDo, CantDo, ResetAbilities, PreSleep, SubmitJob, GrabJob}
 use Rattle.gm_packet.specs.declared.kind.Kind.TheVariants.{WorkStatus, WorkComplete, WorkFail, SubmitJobBg, SubmitJobHigh}
 use Rattle.gm_packet.specs.declared.kind.Kind.TheVariants.{SetClientId, CanDoTimeout, OptionReq, GrabJobUniq, SubmitJobHighBg}
 use Rattle.gm_packet.specs.declared.kind.Kind.TheVariants.{SubmitJobLow, SubmitJobLowBg}
-use Rattle.gm_packet.specs.Kinds.{kind_of}
+use Rattle.gm_packet.specs.Kinds.{number, kind_of}
 use Rattle.gm_packet.specs.Requests.{Asked, request_of}
-use Rattle.gm_packet.specs.Answers.{answer_packet, no_job}
+use Rattle.gm_packet.specs.Answers.{Answer, answer_packet, no_job}
 use Rattle.gm_notes.specs.declared.note.Note.{Note}
 use Rattle.gm_notes.specs.declared.note.Note.TheVariants as notes
 use Rattle.gm_notes.specs.Flow.{Flow, Began, Queued, Drained, Emptied}
@@ -155,6 +155,10 @@ Caused k before s (notes.Mention f) older = (is_request is_submission s || is_re
 Caused k before s (notes.Limit f size) older = is_line s ≡ true
 Caused k before s (notes.Now t) older = is_tick s ≡ true
 Caused k before s (notes.Went m) older = is_line s ≡ true
+
+-- the answer tells of a job's end
+abbrev pub IsOfEnd : Answer → Type 0
+IsOfEnd answer = (answer.kind ≡ number WorkComplete) ⊎ (answer.kind ≡ number WorkFail)
 
 -- the step after these notes may queue the bytes to slot c: NO_JOB only for a grab, and only where there is no pick
 abbrev pub MaySay : Settings → List Note → Step → ℕ → List ℕ → Type 0

@@ -13,12 +13,12 @@ use Rattle.gm_notes.specs.Settings.{Settings}
 use Rattle.gm_notes.specs.Notes.{takes_units, has_option}
 use Rattle.gm_notes.specs.Flow.{Flow, Began, Queued, Drained, Emptied, sent}
 use Rattle.gm_notes.specs.Jobs.{job_state, listeners, handle}
-use Rattle.gm_notes.specs.JobStates.{is_live}
+use Rattle.gm_notes.specs.JobStates.{is_running, is_live}
 use Rattle.gm_notes.specs.JobStates as states
 use Rattle.gm_notes.specs.Past.{Past}
 use Rattle.gm_notes.specs.Requests.{first, second, third}
 use Rattle.gm_notes.specs.Steps.{Step, Packet, Tick, run}
-use Rattle.gm_laws.specs.Causes.{asks, is_foreground, is_ending, closes}
+use Rattle.gm_laws.specs.Causes.{asks, is_foreground, is_ending, closes, IsOfEnd}
 use Rattle.gm_laws.specs.Turns.{One}
 
 -- ---- what is queued to a slot
@@ -85,6 +85,14 @@ EachListenerIsTold k before s after = (n : ℕ) → job_state n after.notes ≡ 
     (job_state n before.notes ≡ states.Ended)
     ⊎ ((answer : Answer) × TellsEnd k n s answer
     × ((c : ℕ) → (newer : List (List ℕ)) × Queues c newer before after × (copies (answer_packet answer) newer ≡ listens c n before.notes)))
+
+-- WORK_COMPLETE and WORK_FAIL are queued to a slot only as what tells of the end of a job, in the step that ends it, and only where the
+-- slot listens to it.
+abbrev pub OnlyEndsAreTold : Settings → Past → Step → Past → Type 0
+OnlyEndsAreTold k before s after = (c : ℕ) (newer : List (List ℕ)) (answer : Answer) →
+    Queues c newer before after → IsOfEnd answer → 0 < copies (answer_packet answer) newer →
+    (n : ℕ) × (told : Answer) × (answer_packet answer ≡ answer_packet told) × TellsEnd k n s told
+    × (is_running (job_state n before.notes) ≡ true) × (job_state n after.notes ≡ states.Ended) × (0 < listens c n before.notes)
 
 -- ---- from the submission to the end
 
