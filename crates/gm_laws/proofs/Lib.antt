@@ -21,6 +21,7 @@ mod SideBySide
 pub mod Sleepers
 pub mod StepLaws
 pub mod StepsKeep
+pub mod ToldOnce
 pub mod TurnLaws
 pub mod Submitting
 mod Turned

@@ -19,6 +19,7 @@ use Rattle.gm_notes.specs.Past.{Past}
 use Rattle.gm_notes.specs.Requests.{first, second, third}
 use Rattle.gm_notes.specs.Steps.{Step, Packet, Tick, run}
 use Rattle.gm_laws.specs.Causes.{asks, is_foreground, is_ending, closes, IsOfEnd}
+use Rattle.gm_laws.specs.Laws.{is_made}
 use Rattle.gm_laws.specs.Turns.{One}
 
 -- ---- what is queued to a slot
@@ -109,3 +110,8 @@ WhoStaysIsTold = (k : Settings) (c : ℕ) (text : List ℕ) (earlier later : Lis
     asks is_foreground c s ≡ true → Queues c (answer_packet (job_created text) ∷ []) (run k earlier) (run k (s ∷ earlier)) →
     list_all (λ t. not (closes c t)) later ≡ true →
     (n : ℕ) × (text ≡ handle k n) × ((is_live (job_state n (run k (later ++ s ∷ earlier)).notes) ≡ true) ⊎ One (Tells k c n) later (s ∷ earlier))
+
+-- Of the end of a job that was made by then no slot is told in two steps.
+abbrev pub NobodyIsToldTwice : Type 0
+NobodyIsToldTwice = (k : Settings) (c n : ℕ) (earlier between : List Step) (one other : Step) →
+    is_made n (run k (one ∷ earlier)).notes ≡ true → Tells k c n earlier one → Tells k c n (between ++ one ∷ earlier) other → ⊥

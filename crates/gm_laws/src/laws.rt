@@ -6,7 +6,8 @@ ghost use Rattle.gm_laws.specs.History.{History};
 ghost use Rattle.gm_laws.specs.Laws.{AfterAnySteps, AreNumbers, AreSlots, HavePlaces, AreOne, StayGone, AllIsSent, BytesArrive};
 ghost use Rattle.gm_laws.specs.Laws.{InEachStep, NotesAreCaused, DiscardsTheUnwanted, EndsWithItsWorker, GivesThePick};
 ghost use Rattle.gm_laws.specs.Laws.{GrabsGetThePick, SaysNoJobWhereNoneIs, OnlyDrainsTake, MayBeTakenLater};
-ghost use Rattle.gm_laws.specs.Listeners.{OutputsAreSent, WhatWorkersSayIsPassedOn, EachListenerIsTold, OnlyEndsAreTold, WhoStaysIsTold};
+ghost use Rattle.gm_laws.specs.Listeners.{OutputsAreSent, WhatWorkersSayIsPassedOn, EachListenerIsTold, OnlyEndsAreTold};
+ghost use Rattle.gm_laws.specs.Listeners.{NobodyIsToldTwice, WhoStaysIsTold};
 ghost use Rattle.gm_laws.specs.Turns.{TurnsAreFair};
 ghost use Rattle.gm_laws.specs.Retries.{NoJobIsHandedOutMoreOften, NoJobIsLostTwice, NoneIsLostWithoutALimit};
 ghost use Rattle.gm_laws.specs.Retries.{OnlyTheLastTryLoses, LostJobsEndWithTheNextTick};
@@ -95,9 +96,14 @@ pub fn each_listener_is_told()
 {}
 
 /// WORK_COMPLETE and WORK_FAIL are queued to a slot only as what tells of a job's end, in the step that ends the job, and only
-/// where the slot listens to it. So nobody is told of an end twice, or of one that isn't, or of a stranger's job.
+/// where the slot listens to it.
 pub fn only_ends_are_told()
     ensures { InEachStep OnlyEndsAreTold }
+{}
+
+/// No two steps tell a slot of the end of one job.
+pub fn nobody_is_told_twice()
+    ensures { NobodyIsToldTwice }
 {}
 
 /// A client that submits a job in the foreground is told its handle; as long as it isn't closed, that job waits or runs, or
