@@ -15,7 +15,7 @@ use Rattle.gm_word.specs.declared.view.View.{View}
 use Rattle.gm_word.specs.declared.view.View.TheVariants.{Book, Pen}
 use Rattle.gm_word.specs.Lines.{number, owing}
 use Rattle.gm_word.specs.Steps.{line_at, with_back, takes_among, pens_among, counts_of, takes_of, Keeps}
-use Rattle.gm_word.specs.Seats.{PenState, takes_in, SitsAtPen, count_of, AtBook, Settles}
+use Rattle.gm_word.specs.Seats.{PenState, takes_in, tries_in, SitsAtPen, count_of, AtBook, Settles}
 use Rattle.gm_word.proofs.Totals.{total-has, if_same, if_other, none_taken, none_taken_of}
 use Rattle.gm_word.proofs.Keeping.{page_is, reached_keeps}
 use Rattle.gm_word.proofs.Moves.{IsReached}
@@ -30,12 +30,13 @@ pub record HandedSoFar (seat : WordSeat) (lines : List Line) (left all : List Pe
   pub book : AtBook seat lines handed
 
 -- what a pen's seat knows is what callers see
-pub pen_knows : (seat : WordSeat) (slot : ℕ) (pen : PenState) → SitsAtPen seat slot → record { table = seat.table_id; slot = slot; takes = takes_in seat.me.0 } ≡ pen → seat.me.0 ≡ Pen (count_of pen)
+pub pen_knows : (seat : WordSeat) (slot : ℕ) (pen : PenState) → SitsAtPen seat slot → record { table = seat.table_id; slot = slot; takes = takes_in seat.me.0; tries = tries_in seat.me.0 } ≡ pen → seat.me.0 ≡ Pen (count_of pen)
 pen_knows seat slot pen sits is =
     let at : seat.me.0 ≡ Pen sits.count = ap (λ (m : Me (Unit {0}) View). m.0) sits.knows in
     let slots : sits.count.slot ≡ pen.slot = sits.slot_is ∙ ap (λ (p : PenState). p.slot) is in
     let takes : sits.count.takes ≡ pen.takes = sym (ap takes_in at) ∙ ap (λ (p : PenState). p.takes) is in
-    at ∙ (λ i. Pen record { slot = slots i; takes = takes i })
+    let tries : sits.count.tries ≡ pen.tries = sym (ap tries_in at) ∙ ap (λ (p : PenState). p.tries) is in
+    at ∙ (λ i. Pen record { slot = slots i; takes = takes i; tries = tries i })
 
 pub at_mid : {A : Type 0} (xs : List A) (y : A) (ys : List A) (d : A) → get_or (xs ++ y ∷ ys) (length xs) d ≡ y
 at_mid [] y ys d = refl

@@ -17,15 +17,16 @@ pub record BookState : Type 0 where
   pub table : TableId
   pub lines : List Line
 
--- the pen of a slot, and how many NOOPs it has taken
+-- the pen of a slot, how many NOOPs it has taken, and how often it has asked for one
 pub record PenState : Type 0 where
   pub table : TableId
   pub slot : ℕ
   pub takes : ℕ
+  pub tries : ℕ
 
--- a pen that has taken nothing
+-- a pen that has asked for nothing
 abbrev pub fresh_pen : TableId → ℕ → PenState
-fresh_pen table slot = record { table = table; slot = slot; takes = 0 }
+fresh_pen table slot = record { table = table; slot = slot; takes = 0; tries = 0 }
 
 -- those of the slots below a number, in their order
 abbrev pub fresh_pens : TableId → ℕ → List PenState
@@ -54,7 +55,7 @@ pub record Settles (words : List ℕ) (lines : List Line) (pens : List PenState)
   pub inside : All (λ (pen : PenState). pen.slot < length words) pens
   pub counted : All (λ (pen : PenState). takes_of pen.slot views ≡ pen.takes) pens
 
--- the lines of a book's view, and the takes of a pen's
+-- the lines of a book's view, and the takes and tries of a pen's
 abbrev pub lines_of : View → List Line
 lines_of (Book page) = page.lines
 lines_of view = []
@@ -62,6 +63,10 @@ lines_of view = []
 abbrev pub takes_in : View → ℕ
 takes_in (Pen count) = count.takes
 takes_in view = 0
+
+abbrev pub tries_in : View → ℕ
+tries_in (Pen count) = count.tries
+tries_in view = 0
 
 -- the seat is the first, which is the book's, and these are its phases
 pub record SitsAtBook (seat : Seat (Unit {0}) View) (phases : List Phase) : Type 0 where
@@ -80,7 +85,7 @@ pub record SitsAtPen (seat : Seat (Unit {0}) View) (slot : ℕ) : Type 0 where
 
 -- what a pen has counted
 abbrev pub count_of : PenState → Count
-count_of pen = record { slot = pen.slot; takes = pen.takes }
+count_of pen = record { slot = pen.slot; takes = pen.takes; tries = pen.tries }
 
 -- the seat is the book's, with these lines, and these pens are among those that were handed in
 pub record AtBook (seat : Seat (Unit {0}) View) (lines : List Line) (pens : List PenState) : Type 0 where

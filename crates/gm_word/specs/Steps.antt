@@ -28,9 +28,9 @@ opening_view slots = Book record { lines = replicate slots fresh_line; made = 0;
 abbrev pub book_after : Kind → ℕ → ℕ → Page → View
 book_after kind slot found page = Book record page { lines = at_slot slot (line_after kind found) page.lines }
 
--- one take more where the NOOP was there
+-- one try more, and one take more where the NOOP was there
 abbrev pub pen_after : ℕ → Count → View
-pen_after found count = Pen record count { takes = count.takes + owing found }
+pen_after found count = Pen record count { takes = count.takes + owing found; tries = count.tries + 1 }
 
 -- the book gives a pen to the first slot without one
 abbrev pub with_next_pen : View → View
@@ -38,7 +38,7 @@ with_next_pen (Book page) = Book record page { made = page.made + 1 }
 with_next_pen view = view
 
 abbrev pub next_pen : View → View
-next_pen (Book page) = Pen record { slot = page.made; takes = 0 }
+next_pen (Book page) = Pen record { slot = page.made; takes = 0; tries = 0 }
 next_pen view = Spent
 
 -- the book takes in what a pen has counted

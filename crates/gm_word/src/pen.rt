@@ -11,7 +11,7 @@ use std::marker::Model;
 
 /// Takes the NOOPs of one slot. There is one for each slot; it may cross threads.
 ///
-/// Contracts see its slot, and how many NOOPs it has taken.
+/// Contracts see its slot, how many NOOPs it has taken, and how often it has asked the word for one (`tries`).
 #[derive(Drop)]
 pub struct PenSeat {
     pub(crate) seat: Seat<(), View>,
@@ -19,11 +19,11 @@ pub struct PenSeat {
 }
 
 impl Model for PenSeat {
-    ghost use Rattle.gm_word.specs.Seats.{PenState, takes_in, SitsAtPen};
+    ghost use Rattle.gm_word.specs.Seats.{PenState, takes_in, tries_in, SitsAtPen};
 
     ghost Value = { PenState };
 
-    ghost view = { λ p. record { table = p.seat.table_id; slot = p.slot; takes = takes_in p.seat.me.0 } };
+    ghost view = { λ p. record { table = p.seat.table_id; slot = p.slot; takes = takes_in p.seat.me.0; tries = tries_in p.seat.me.0 } };
 
     ghost invariant = { λ p. SitsAtPen p.seat p.slot };
 }
@@ -33,7 +33,7 @@ impl PenSeat {
     /// it was withdrawn first. One try, and it waits for nobody: the lock of the book isn't needed.
     pub fn take(&mut self, table: &SleepTable) -> bool
         requires { self.old.table ≡ table.now }
-        ensures { MatchBool result (self.new ≡ record self.old { takes = self.old.takes + 1 }) (self.new ≡ self.old) }
+        ensures { MatchBool result (self.new ≡ record self.old { takes = self.old.takes + 1; tries = self.old.tries + 1 }) (self.new ≡ record self.old { tries = self.old.tries + 1 }) }
     {
         let found = table
             .words

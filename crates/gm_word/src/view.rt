@@ -20,6 +20,8 @@ pub struct Line {
 pub struct Count {
     pub slot: u32,
     pub takes: u64,
+    /// How often the pen has asked the word for one.
+    pub tries: u64,
 }
 
 /// What the book knows.

@@ -6,7 +6,7 @@ use Rattle.gm_word.specs.declared.view.View.{View}
 use Rattle.gm_word.specs.declared.view.Line.{Line}
 use Rattle.gm_word.specs.Lines.{fresh_line}
 use Rattle.gm_word.specs.Steps.{Reached, opens, opening_view, with_next_pen, next_pen}
-use Rattle.gm_word.specs.Seats.{fresh_pens, takes_in}
+use Rattle.gm_word.specs.Seats.{fresh_pens, takes_in, tries_in}
 use Rattle.gm_word.proofs.Moves.{split_moves}
 use Rattle.gm_word.proofs.table.SleepTable.new.Goals as goal
 
@@ -25,7 +25,7 @@ invariant_of-push_reserved c =
     let i = c.loop-slot.invariant in
     let s = c.split_seat-pen.ensures in
     record {
-      count = record { slot = c.loop-slot.slot; takes = 0 };
+      count = record { slot = c.loop-slot.slot; takes = 0; tries = 0 };
       knows = s.4 ∙ ap (λ (m : Me (Unit {0}) View). (next_pen m.0, [])) i.knows;
       slot_is = refl;
       inside = search rules;
@@ -44,7 +44,7 @@ loop-slot-preserved c =
       knows = s.2 ∙ ap (λ (m : Me (Unit {0}) View). (with_next_pen m.0, m.1)) i.knows;
       pens_are =
           p.items
-          ∙ (λ j. i.pens_are j ++ record { table = s.3 j; slot = k; takes = takes_in (pen j).0 } ∷ [])
+          ∙ (λ j. i.pens_are j ++ record { table = s.3 j; slot = k; takes = takes_in (pen j).0; tries = tries_in (pen j).0 } ∷ [])
           ∙ ap (λ t. fresh_pens t (suc k)) (sym s.0)
           ∙ ap (fresh_pens c.split_seat-pen.new.seat.table_id) (sym (add-one k));
       len = search rules;
