@@ -3,7 +3,7 @@ use Rattle.std.specs.Prelude.{◌≡◌, ◌⊎◌, ℕ, ◌≤◌, Bool, true, 
 use Rattle.std.specs.Str.{bytes_eq}
 use Rattle.gm_packet.specs.declared.kind.Kind.{Kind}
 use Rattle.gm_packet.specs.declared.kind.Kind.TheVariants as kinds
-use Rattle.gm_packet.specs.Answers.{answer_of}
+use Rattle.gm_packet.specs.Answers.{Answer, answer_of, job_assign, job_assign_uniq}
 use Rattle.gm_packet.specs.Requests.{Asked}
 use Rattle.gm_packet.specs.Packets.{has_nul}
 use Rattle.gm_packet.specs.Packets.{Fits}
@@ -37,6 +37,11 @@ submission_of s =
 -- what a job is
 abbrev pub job_of : JobView → Job
 job_of job = record { function = job.function.now; priority = job.priority; unique = job.unique.now; body = job.body.now }
+
+-- what a worker is told of a job, whatever text stands for its handle
+abbrev pub assigned : Bool → List ℕ → Job → Answer
+assigned true text job = job_assign_uniq text job.function job.unique job.body
+assigned false text job = job_assign text job.function job.body
 
 -- how far a job is
 abbrev pub report_of : Report → List ℕ × List ℕ

@@ -8,7 +8,7 @@ ghost use Rattle.gm_packet.specs.Answers.{status_res};
 ghost use Rattle.gm_notes.specs.Settings.{Settings};
 ghost use Rattle.gm_notes.specs.Jobs.{handle};
 ghost use Rattle.gm_notes.specs.Workers.{assignment};
-ghost use Rattle.gm_actions.specs.Actions.{job_of};
+ghost use Rattle.gm_actions.specs.Actions.{job_of, assigned};
 ghost use Rattle.gm_actions.specs.Carried.{IsCarried};
 
 use crate::actions::Report;
@@ -31,6 +31,7 @@ pub struct JobView<'a> {
 /// What a worker is told of the job that it gets, with its unique id if it asked for that (the Gearman PROTOCOL document,
 /// "JOB_ASSIGN" and "JOB_ASSIGN_UNIQ").
 pub fn assignment<'a>(text: &'a [u8], job: &JobView<'a>, with_unique: bool) -> Response<'a>
+    ensures exact { answer_of result ≡ assigned with_unique text.now (job_of job.now) }
     ensures value { (k : Settings) (n : ℕ) → text.now ≡ handle k n → answer_of result ≡ assignment k with_unique n (job_of job.now) }
     ensures fits { has_nul text.now ≡ false → length text.now ≤ 64 → IsCarried job.now.function.now job.now.unique.now job.now.body.now
         → Fits (answer_of result).arguments }
