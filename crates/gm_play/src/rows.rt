@@ -1,5 +1,5 @@
-//! Worked rows: scripts, and what they print. The digits are those of the protocol's packets: docs/ROWS.md
-//! says what each row does, and what it shows.
+//! Worked rows: scripts, and what they print. The digits are those of the protocol's packets. The comment above a row
+//! says what it shows; docs/rows writes docs/ROWS.md from both, with the packets read.
 
 mod lines;
 mod packets;

@@ -8,6 +8,7 @@ pub fn rows() -> &'static [Row] {
 }
 
 static ROWS: [Row; 6] = [
+    // A limit refuses new jobs and no joining, and discards nothing.
     Row {
         name: "queue_limit",
         terms: USUAL,
@@ -34,6 +35,7 @@ static ROWS: [Row; 6] = [
         0 005245530000000800000007483a676d643a32\n\
         0 660932093009300a2e0a\n",
     },
+    // An ability that is added again keeps its place.
     Row {
         name: "workers_text",
         terms: USUAL,
@@ -51,6 +53,7 @@ static ROWS: [Row; 6] = [
         0 30203132372e302e302e31202d203a0a312031302e302e302e3220773f31203a20610a2e0a\n\
         0 30203132372e302e302e31202d203a0a312031302e302e302e3220773f31203a0a2e0a\n",
     },
+    // The answer to each command, and each ERR line.
     Row {
         name: "admin_lines",
         terms: USUAL,
@@ -81,6 +84,7 @@ static ROWS: [Row; 6] = [
         0 4f4b0a\n\
         0 670930093009300a2e0a\n",
     },
+    // A mode never goes back, and a shut connection is there until it is closed.
     Row {
         name: "shutdowns",
         terms: USUAL,
@@ -104,6 +108,7 @@ static ROWS: [Row; 6] = [
         refused 10\n\
         refused 13\n",
     },
+    // What waits is drained, and units after a shutdown aren't taken.
     Row {
         name: "drained_after_shutdown",
         terms: USUAL,
@@ -125,6 +130,7 @@ static ROWS: [Row; 6] = [
         1 shut\n\
         refused 10\n",
     },
+    // Text lines may come among packets, cut anywhere.
     Row {
         name: "lines_amid_packets",
         terms: USUAL,

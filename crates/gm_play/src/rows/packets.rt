@@ -8,6 +8,7 @@ pub fn rows() -> &'static [Row] {
 }
 
 static ROWS: [Row; 8] = [
+    // An ECHO_REQ is answered with an ECHO_RES that has the same data.
     Row {
         name: "echo",
         terms: USUAL,
@@ -16,6 +17,7 @@ static ROWS: [Row; 8] = [
         printed: "0 open\n\
         0 0052455300000011000000026869\n",
     },
+    // A packet counts when its last byte has come, however its bytes are cut.
     Row {
         name: "echo_in_pieces",
         terms: USUAL,
@@ -39,6 +41,7 @@ static ROWS: [Row; 8] = [
         0 0052455300000011000000026869\n\
         0 00524553000000110000000268690052455300000011000000026869\n",
     },
+    // Data may be empty.
     Row {
         name: "empty_echo",
         terms: USUAL,
@@ -47,6 +50,7 @@ static ROWS: [Row; 8] = [
         printed: "0 open\n\
         0 005245530000001100000000\n",
     },
+    // Bytes that begin no packet shut the connection.
     Row {
         name: "bad_magic",
         terms: USUAL,
@@ -58,6 +62,7 @@ static ROWS: [Row; 8] = [
         0 shut\n\
         refused 10\n",
     },
+    // A size over the limit is refused when its last byte has come; 67,108,864 is accepted.
     Row {
         name: "packet_too_large",
         terms: USUAL,
@@ -67,6 +72,7 @@ static ROWS: [Row; 8] = [
         0 0052455300000013000000217061636b65745f746f6f5f6c61726765007061636b657420746f6f206c61726765\n\
         0 shut\n",
     },
+    // A type that isn't served is refused, and the connection goes on.
     Row {
         name: "unknown_command",
         terms: USUAL,
@@ -77,6 +83,7 @@ static ROWS: [Row; 8] = [
         0 00524553000000130000001f756e6b6e6f776e5f636f6d6d616e6400756e6b6e6f776e20636f6d6d616e64\n\
         0 005245530000001100000000\n",
     },
+    // Data that spell nothing are refused, and the connection goes on.
     Row {
         name: "bad_arguments",
         terms: USUAL,
@@ -87,6 +94,7 @@ static ROWS: [Row; 8] = [
         0 00524553000000130000001b6261645f617267756d656e74730062616420617267756d656e7473\n\
         0 005245530000001100000000\n",
     },
+    // One NUL at the end is dropped, and no second.
     Row {
         name: "trailing_nul",
         terms: USUAL,

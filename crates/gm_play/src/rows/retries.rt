@@ -24,6 +24,7 @@ const ONE_TRY: Terms = Terms {
 };
 
 static ROWS: [Row; 3] = [
+    // A job is given to two workers, and then waits for the tick that fails it.
     Row {
         name: "job_retries",
         terms: TWO_TRIES,
@@ -61,6 +62,7 @@ static ROWS: [Row; 3] = [
         0 005245530000000e00000007483a676d643a31\n\
         0 00524553000000140000000f483a676d643a310030003000300030\n",
     },
+    // A lost job can be joined, and stays when its listeners go.
     Row {
         name: "lost_job",
         terms: ONE_TRY,
@@ -82,6 +84,7 @@ static ROWS: [Row; 3] = [
         2 005245530000000800000007483a676d643a31\n\
         2 005245530000000e00000007483a676d643a31\n",
     },
+    // It fails with the next tick, though nobody is told of it.
     Row {
         name: "lost_job_unheard",
         terms: ONE_TRY,

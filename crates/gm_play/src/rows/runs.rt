@@ -8,6 +8,7 @@ pub fn rows() -> &'static [Row] {
 }
 
 static ROWS: [Row; 8] = [
+    // A job goes from its client to a worker and back, once.
     Row {
         name: "one_job",
         terms: USUAL,
@@ -27,6 +28,7 @@ static ROWS: [Row; 8] = [
         0 005245530000000d0000000a483a676d643a31006f6b\n\
         1 00524553000000130000001b6a6f625f6e6f745f666f756e64006a6f62206e6f7420666f756e64\n",
     },
+    // High before normal before low.
     Row {
         name: "priorities",
         terms: USUAL,
@@ -44,6 +46,7 @@ static ROWS: [Row; 8] = [
         0 005245530000000800000007483a676d643a33\n\
         1 005245530000000b0000000b483a676d643a3300660068005245530000000b0000000b483a676d643a320066006e005245530000000b0000000b483a676d643a310066006c005245530000000a00000000\n",
     },
+    // A job whose worker goes waits again, behind the others.
     Row {
         name: "returned_job",
         terms: USUAL,
@@ -67,6 +70,7 @@ static ROWS: [Row; 8] = [
         1 open\n\
         1 005245530000000b0000000b483a676d643a3300660033005245530000000b0000000b483a676d643a3100660031005245530000000b0000000b483a676d643a3200660032\n",
     },
+    // Exceptions go to the listeners that ask for them, and end nothing.
     Row {
         name: "exceptions_option",
         terms: USUAL,
@@ -93,6 +97,7 @@ static ROWS: [Row; 8] = [
         0 005245530000000e00000007483a676d643a31\n\
         2 005245530000000e00000007483a676d643a31\n",
     },
+    // What a worker says is passed on, and GET_STATUS has the last numbers.
     Row {
         name: "progress",
         terms: USUAL,
@@ -116,6 +121,7 @@ static ROWS: [Row; 8] = [
         0 005245530000001c00000009483a676d643a31007a\n\
         0 005245530000001d00000008483a676d643a3100\n",
     },
+    // A closed slot is given to the next connection, which inherits nothing.
     Row {
         name: "two_slots",
         terms: Terms {
@@ -152,6 +158,7 @@ static ROWS: [Row; 8] = [
         refused 10\n\
         bad line\n",
     },
+    // A deadline is reached in a tick, and the worker isn't told.
     Row {
         name: "deadline",
         terms: USUAL,
@@ -172,6 +179,7 @@ static ROWS: [Row; 8] = [
         1 00524553000000130000001b6a6f625f6e6f745f666f756e64006a6f62206e6f7420666f756e64\n\
         0 00524553000000140000000f483a676d643a310030003000300030\n",
     },
+    // The moment never goes back, a deadline is at most the greatest number, and jobs fail in the order of their numbers.
     Row {
         name: "moments",
         terms: USUAL,

@@ -8,6 +8,7 @@ pub fn rows() -> &'static [Row] {
 }
 
 static ROWS: [Row; 8] = [
+    // Refusals are printed by their numbers, and change nothing.
     Row {
         name: "refused_steps",
         terms: Terms {
@@ -31,6 +32,7 @@ static ROWS: [Row; 8] = [
         refused 10\n\
         bad line\n",
     },
+    // 1,025 bytes without newline are refused before their newline comes.
     Row {
         name: "line_too_long",
         terms: USUAL,
@@ -40,6 +42,7 @@ static ROWS: [Row; 8] = [
         0 455252206c696e655f746f6f5f6c6f6e670a\n\
         0 shut\n",
     },
+    // 1,024 bytes without newline wait for it.
     Row {
         name: "long_line",
         terms: USUAL,
@@ -49,6 +52,7 @@ static ROWS: [Row; 8] = [
         printed: "0 open\n\
         0 45525220756e6b6e6f776e5f636f6d6d616e640a\n",
     },
+    // Packets and lines alternate.
     Row {
         name: "echoes_around_a_line",
         terms: USUAL,
@@ -57,6 +61,7 @@ static ROWS: [Row; 8] = [
         printed: "0 open\n\
         0 00524553000000110000000268692e0a0052455300000011000000014a\n",
     },
+    // What is whole before a fault is answered, and other slots go on.
     Row {
         name: "units_before_a_fault",
         terms: USUAL,
@@ -70,6 +75,7 @@ static ROWS: [Row; 8] = [
         1 shut\n\
         0 0052455300000011000000014a\n",
     },
+    // The script's own grammar: lines that are no order, and slots that aren't open.
     Row {
         name: "bad_lines",
         terms: USUAL,
@@ -146,6 +152,7 @@ static ROWS: [Row; 8] = [
         refused 10\n\
         refused 10\n",
     },
+    // Handles with leading zeros, too great, or of another name are of no job.
     Row {
         name: "hostile_handles",
         terms: USUAL,
@@ -173,6 +180,7 @@ static ROWS: [Row; 8] = [
         0 00524553000000130000001b6a6f625f6e6f745f666f756e64006a6f62206e6f7420666f756e64\n\
         0 00524553000000140000000f483a676d643a310031003100300030\n",
     },
+    // A magic of zeros and a size of 2^32-1 are faults.
     Row {
         name: "hostile_bytes",
         terms: USUAL,

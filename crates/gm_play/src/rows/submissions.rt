@@ -8,6 +8,7 @@ pub fn rows() -> &'static [Row] {
 }
 
 static ROWS: [Row; 8] = [
+    // A client that submits a job twice is told of it twice.
     Row {
         name: "joined_listeners",
         terms: USUAL,
@@ -25,6 +26,7 @@ static ROWS: [Row; 8] = [
         1 005245530000000b0000000b483a676d643a3100660061\n\
         0 005245530000000d0000000a483a676d643a31006f6b005245530000000d0000000a483a676d643a31006f6b\n",
     },
+    // A dash, no id, and another function join nothing.
     Row {
         name: "joining_keys",
         terms: USUAL,
@@ -41,6 +43,7 @@ static ROWS: [Row; 8] = [
         0 005245530000000800000007483a676d643a34\n\
         0 005245530000000800000007483a676d643a35\n",
     },
+    // After the last number only joining is left.
     Row {
         name: "last_number",
         terms: Terms {
@@ -59,6 +62,7 @@ static ROWS: [Row; 8] = [
         0 0052455300000013000000156e6f5f6e756d62657273006e6f206e756d62657273\n\
         0 00524553000000080000001a483a676d643a3138343436373434303733373039353531363135\n",
     },
+    // Names are looked at before limits.
     Row {
         name: "function_limit",
         terms: Terms {
@@ -89,6 +93,7 @@ static ROWS: [Row; 8] = [
         0 005245530000000800000007483a676d643a31\n\
         0 00524553000000130000001b6261645f617267756d656e74730062616420617267756d656e7473\n",
     },
+    // A job that nobody wants is discarded.
     Row {
         name: "orphaned_job",
         terms: USUAL,
@@ -103,6 +108,7 @@ static ROWS: [Row; 8] = [
         0 005245530000000800000007483a676d643a31\n\
         1 005245530000000a00000000\n",
     },
+    // A background submission keeps the job that it joins.
     Row {
         name: "kept_job",
         terms: USUAL,
@@ -121,6 +127,7 @@ static ROWS: [Row; 8] = [
         1 005245530000000800000007483a676d643a31\n\
         2 005245530000000b0000000b483a676d643a3100660061\n",
     },
+    // A body may hold NUL.
     Row {
         name: "data_with_nul",
         terms: USUAL,
@@ -134,6 +141,7 @@ static ROWS: [Row; 8] = [
         0 005245530000000800000007483a676d643a31\n\
         1 005245530000001f0000000f483a676d643a310066007500610062\n",
     },
+    // Background jobs stay when their client closes.
     Row {
         name: "kept_by_background",
         terms: USUAL,

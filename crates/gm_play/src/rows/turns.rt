@@ -16,6 +16,7 @@ const IN_TURN: Terms = Terms {
 };
 
 static ROWS: [Row; 3] = [
+    // With --round-robin a worker's functions take turns.
     Row {
         name: "round_robin",
         terms: IN_TURN,
@@ -38,6 +39,7 @@ static ROWS: [Row; 3] = [
         1 005245530000000b0000000b483a676d643a3300620033\n\
         1 005245530000000b0000000b483a676d643a3200610032\n",
     },
+    // Without it they are tried in the order in which they were added.
     Row {
         name: "in_the_order_added",
         terms: USUAL,
@@ -60,6 +62,7 @@ static ROWS: [Row; 3] = [
         1 005245530000000b0000000b483a676d643a3200610032\n\
         1 005245530000000b0000000b483a676d643a3300620033\n",
     },
+    // A connection doesn't go on from the function of the one before it in its slot.
     Row {
         name: "round_robin_anew",
         terms: IN_TURN,

@@ -8,6 +8,7 @@ pub fn rows() -> &'static [Row] {
 }
 
 static ROWS: [Row; 7] = [
+    // A worker is woken once.
     Row {
         name: "one_wake",
         terms: USUAL,
@@ -23,6 +24,7 @@ static ROWS: [Row; 7] = [
         1 005245530000000600000000\n\
         0 005245530000000800000007483a676d643a32\n",
     },
+    // Every sleeper that can do the function is woken.
     Row {
         name: "all_wake",
         terms: USUAL,
@@ -42,6 +44,7 @@ static ROWS: [Row; 7] = [
         1 005245530000000600000000\n\
         3 005245530000000600000000\n",
     },
+    // A worker that wants to sleep beside work is woken at once.
     Row {
         name: "work_before_sleep",
         terms: USUAL,
@@ -55,6 +58,7 @@ static ROWS: [Row; 7] = [
         0 005245530000000800000007483a676d643a31\n\
         1 005245530000000600000000\n",
     },
+    // A sleeper that learns to do what waits is woken.
     Row {
         name: "work_before_ability",
         terms: USUAL,
@@ -68,6 +72,7 @@ static ROWS: [Row; 7] = [
         0 005245530000000800000007483a676d643a31\n\
         1 005245530000000600000000\n",
     },
+    // A grab of a worker that is owed a NOOP leaves it owed.
     Row {
         name: "work_before_grab",
         terms: USUAL,
@@ -81,6 +86,7 @@ static ROWS: [Row; 7] = [
         0 005245530000000800000007483a676d643a31\n\
         1 005245530000000b0000000b483a676d643a3100660031005245530000000600000000\n",
     },
+    // A NOOP without work is followed by sleep, and the next job wakes again.
     Row {
         name: "stale_noop",
         terms: USUAL,
@@ -103,6 +109,7 @@ static ROWS: [Row; 7] = [
         0 005245530000000800000007483a676d643a32\n\
         1 005245530000000600000000\n",
     },
+    // What can't be done any more isn't given out.
     Row {
         name: "other_abilities",
         terms: USUAL,
