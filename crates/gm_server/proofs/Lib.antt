@@ -1,5 +1,6 @@
 mod Delivering
 mod Handing
+mod Owning
 mod Promised
 mod Serving
 mod Writing

@@ -1,4 +1,5 @@
 pub mod Deliveries
+pub mod Owners
 pub mod Promise
 pub mod Served
 pub mod Sessions

@@ -1,5 +1,7 @@
 -- The promise, out to the threads: what the tape of a server that has ended says of its connections.
-use Rattle.std.specs.Prelude.{◌≡◌, ℕ, ◌==◌, if◌then◌else◌, true, List, [], ◌∷◌, ◌++◌, All, reverse, Option, Some, None}
+use Rattle.std.specs.Prelude.{◌≡◌, ℕ, ◌==◌, if◌then◌else◌, Bool, true, false, not, ◌⊎◌, List, [], ◌∷◌, ◌++◌, All, reverse, Option, Some, None}
+use Rattle.std.specs.List.{list_all}
+use Rattle.gm_packet.specs.Answers.{answer_packet, job_created}
 use Rattle.gm_feeder.specs.declared.units.Limits.{Limits}
 use Rattle.gm_feeder.specs.Units.{Item}
 use Rattle.gm_front.specs.Units.{steps_of as steps_of_units, BeginsWith}
@@ -8,12 +10,17 @@ use Rattle.gm_notes.specs.declared.event.UnitFault.{UnitFault}
 use Rattle.gm_notes.specs.Settings.{Settings}
 use Rattle.gm_notes.specs.Notes.{is_open}
 use Rattle.gm_notes.specs.Flow.{sent, waiting}
-use Rattle.gm_notes.specs.Jobs.{job_state}
+use Rattle.gm_notes.specs.Jobs.{job_state, handle}
+use Rattle.gm_notes.specs.JobStates.{is_live}
 use Rattle.gm_notes.specs.Past.{Past}
 use Rattle.gm_notes.specs.Steps.{Step, run}
 use Rattle.gm_laws.specs.Laws.{is_gone}
+use Rattle.gm_laws.specs.Causes.{asks, is_foreground, closes}
+use Rattle.gm_laws.specs.Turns.{One}
+use Rattle.gm_laws.specs.Listeners.{Queues, Tells, EachListenerIsTold}
 use Rattle.gm_laws.specs.Between.{NoWaitingJobIsOrphaned, NoOneSleepsBesideWork}
 use Rattle.gm_shared.specs.declared.tape.Actor.{Actor}
+use Rattle.gm_shared.specs.declared.tape.Actor.TheVariants as actors
 use Rattle.gm_shared.specs.declared.tape.TapeStep.{TapeStep}
 use Rattle.gm_shared.specs.declared.tape.TapeStep.TheVariants as tape
 use Rattle.gm_shared.specs.declared.tape.Answer.{Answer}
@@ -21,9 +28,11 @@ use Rattle.gm_shared.specs.declared.tape.Answer.TheVariants as answers
 use Rattle.gm_shared.specs.declared.tape.Entry.{Entry}
 use Rattle.gm_shared.specs.declared.tape.Told.{Told}
 use Rattle.gm_shared.specs.declared.settling.Settled.{Settled}
-use Rattle.gm_shared.specs.Tapes.{actor_is, if_event, steps_of, share_from, events_told}
+use Rattle.gm_shared.specs.Events.{slot_of}
+use Rattle.gm_shared.specs.Tapes.{actor_is, if_event, step_in, steps_of, share_from, events_told}
 use Rattle.gm_shared.specs.Shared.{AddsUp}
 use Rattle.gm_server.specs.Sessions.{HandsIn}
+use Rattle.gm_server.specs.Served.{IsWhole}
 
 -- ---- what was handed in
 
@@ -46,6 +55,25 @@ SessionsAreOnTheTape = (k : Settings) (settled : Settled) → AddsUp k true sett
     → share_from actor 0 settled.tape.items ≡ after ++ more → HandsIn true c limits bytes rest fault before after
     → (items : List Item) × BeginsWith limits bytes items rest
     × (events_of actor settled.tape.items ≡ events_told before ++ (steps_of_units c items fault ++ events_told more))
+
+-- ---- whose it is
+
+-- it is said by this slot: a unit, a fault or the closing
+abbrev pub says : ℕ → Option ℕ → Bool
+says c None = false
+says c (Some d) = d == c
+
+-- what a slot says among these steps
+abbrev pub said_at : ℕ → List Step → List Step
+said_at c [] = []
+said_at c (s ∷ more) = if says c (slot_of s) then s ∷ said_at c more else said_at c more
+
+-- The units, faults and closings of each slot on the tape, in its order, are those that its desk handed in; and what waited for it, its
+-- pen drained. No other desk or pen has a part in it.
+abbrev pub NoSlotSpeaksForAnother : Type 0
+NoSlotSpeaksForAnother = (k : Settings) (settled : Settled) → IsWhole k true settled → (c : ℕ)
+    → (said_at c (steps_of settled.tape.items) ≡ said_at c (events_of (actors.Desk c) settled.tape.items))
+    × All (λ (e : Entry). e.step ≡ tape.Drain c → e.actor ≡ actors.Pen c) settled.tape.items
 
 -- ---- what was sent
 
@@ -93,3 +121,19 @@ NoWorkerSleepsBesideItsWork = (k : Settings) (settled : Settled) → AddsUp k tr
 abbrev pub WaitingJobsAreWanted : Type 0
 WaitingJobsAreWanted = (k : Settings) (settled : Settled) → AddsUp k true settled → (rest older : List Entry) → reverse settled.tape.items ≡ rest ++ older
     → NoWaitingJobIsOrphaned k (run k (steps_of older)).notes
+
+-- In the step that ends a job, each slot is told of it exactly as often as it listened to the job just before.
+abbrev pub ListenersAreTold : Type 0
+ListenersAreTold = (k : Settings) (settled : Settled) → AddsUp k true settled → (rest older : List Entry) (e : Entry) → reverse settled.tape.items ≡ rest ++ (e ∷ older)
+    → EachListenerIsTold k (run k (steps_of older)) (step_in e.step) (run k (steps_of (e ∷ older)))
+
+-- A slot that submits a job in the foreground is told its handle. As long as the slot isn't closed, the job waits or runs, or one of
+-- the steps since told the slot of its end.
+abbrev pub ClientsAreTold : Type 0
+ClientsAreTold = (k : Settings) (settled : Settled) → AddsUp k true settled → (rest later older : List Entry) (e : Entry)
+    → reverse settled.tape.items ≡ rest ++ (later ++ e ∷ older)
+    → (c : ℕ) (text : List ℕ) → asks is_foreground c (step_in e.step) ≡ true
+    → Queues c (answer_packet (job_created text) ∷ []) (run k (steps_of older)) (run k (steps_of (e ∷ older)))
+    → list_all (λ t. not (closes c t)) (steps_of later) ≡ true
+    → (n : ℕ) × (text ≡ handle k n)
+    × ((is_live (job_state n (run k (steps_of (later ++ e ∷ older))).notes) ≡ true) ⊎ One (Tells k c n) (steps_of later) (steps_of (e ∷ older)))

@@ -4,9 +4,9 @@ use crate::connection::start;
 use crate::error::ControlError;
 use crate::gate::Gate;
 use crate::keepalive::set_keepalive;
+use crate::own_desk::OwnDesk;
 use crate::state::ServerState;
-use gm_notes::Event;
-use gm_shared::{BookName, Desk};
+use gm_shared::BookName;
 use libc::EMFILE;
 use std::alloc::AllocError;
 use std::io::ErrorKind;
@@ -56,7 +56,7 @@ fn is_usual(error: &io::Error) -> bool {
 #[derive(Drop)]
 pub(crate) struct Control<'s, K: BookName> {
     state: &'s ServerState<K>,
-    desk: Desk<K>,
+    desk: OwnDesk<K>,
     /// How many connections were opened.
     opened: u64,
     begun: Option<Instant>,
@@ -67,7 +67,11 @@ pub(crate) struct Control<'s, K: BookName> {
 }
 
 impl<'s, K: BookName + Send + Sync> Control<'s, K> {
-    pub(crate) fn new(rt: &impl Clock, state: &'s ServerState<K>, desk: Desk<K>) -> Control<'s, K> {
+    pub(crate) fn new(
+        rt: &impl Clock,
+        state: &'s ServerState<K>,
+        desk: OwnDesk<K>,
+    ) -> Control<'s, K> {
         Control {
             state,
             desk,
@@ -89,8 +93,7 @@ impl<'s, K: BookName + Send + Sync> Control<'s, K> {
         let now = elapsed.as_secs();
         if now != self.second {
             self.second = now;
-            // Where memory is wanting, the next second is told.
-            let _ = self.state.apply(rt, &mut self.desk, Event::Tick { now });
+            self.state.tick(rt, &mut self.desk, now);
         }
     }
 
@@ -110,15 +113,12 @@ impl<'s, K: BookName + Send + Sync> Control<'s, K> {
         let ip = peer.ip();
         let addr = format!(in alloc; "{ip}")?;
         let stream = Arc::new(alloc, stream)?;
-        let opening = Event::Open {
-            addr: addr.as_bytes(),
-        };
-        let Ok(Some(slot)) = self.state.apply(rt, &mut self.desk, opening) else {
+        let Some(slot) = self.state.open(rt, &mut self.desk, addr.as_bytes()) else {
             return Ok(());
         };
         self.opened = self.opened.saturating_add(1);
         if !start(scope, rt, self.state, gate, slot, stream) {
-            self.state.close(rt, &mut self.desk, slot);
+            self.state.close_slot(rt, slot);
         }
         Ok(())
     }
@@ -172,7 +172,7 @@ impl<'s, K: BookName + Send + Sync> Control<'s, K> {
         rt: &'s R,
         gate: &'s G,
         listener: &TcpListener,
-    ) -> (Desk<K>, Result<u64, ControlError>) {
+    ) -> (OwnDesk<K>, Result<u64, ControlError>) {
         let outcome = self.take_all(scope, rt, gate, listener);
         let Control {
             state,

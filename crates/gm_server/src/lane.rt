@@ -1,8 +1,13 @@
 //! What a slot has of its own: where its connection's events are handed in, and the way of its bytes to the socket.
 
+ghost use Rattle.std.specs.Prelude.{◌≡◌, []};
+ghost use Rattle.gm_server.specs.Deliveries.{left_in};
+
 use crate::outbox::{Delivery, Outbox};
+use crate::own_desk::OwnDesk;
 use crossbeam_utils::sync::{Parker, Unparker};
-use gm_shared::{BookName, Desk, Pen, Shared};
+use gm_lane_word::{LaneWord, Looking, Owed};
+use gm_shared::{BookName, Pen, Shared};
 use std::alloc::{AllocError, Global};
 use std::net::{Shutdown, TcpStream};
 use std::sync::atomic::{AtomicBool, Ordering};
@@ -17,6 +22,9 @@ const WRITER_TIMEOUT: u64 = 250;
 
 /// How long a connection that is to end has for what it is still to be sent, in milliseconds.
 const ENDING_TIME: u64 = 2_000;
+
+/// How often one who isn't the writer looks in a row, where the lane is touched again and again.
+const MOST_LOOKS: u32 = 16;
 
 /// Whether so many milliseconds have passed since this was first asked, which it keeps. Where the clock can't be read, they
 /// have.
@@ -42,6 +50,16 @@ pub(crate) struct Outgoing<K: BookName> {
 }
 
 impl<K: BookName> Outgoing<K> {
+    /// Takes a connection. Nothing is left for it of the last one.
+    fn begin(&mut self, stream: Arc<TcpStream, Global>)
+        ensures { left_in self.new.outbox.left ≡ [] }
+    {
+        Outbox::forget(&mut self.outbox);
+        self.stream = Some(stream);
+        self.has_writer = true;
+        self.set_write_timeout(WRITE_TIMEOUT);
+    }
+
     /// Ends the connection, so that its reader ends.
     fn hang_up(&mut self) {
         if let Some(stream) = &self.stream {
@@ -59,8 +77,8 @@ impl<K: BookName> Outgoing<K> {
         }
     }
 
-    /// Sends what there is to send, and ends the connection where it is over.
-    fn deliver(&mut self, rt: &impl Wait, shared: &Shared<K>) -> Delivery {
+    /// Sends what there is to send, and ends the connection where it is over. It is done in a look at the lane alone.
+    fn deliver(&mut self, rt: &impl Wait, shared: &Shared<K>, _looking: &Looking<'_>) -> Delivery {
         let Some(stream) = &self.stream else {
             return Delivery::Over;
         };
@@ -73,11 +91,12 @@ impl<K: BookName> Outgoing<K> {
     }
 }
 
-/// What a slot has of its own. Each part is behind a lock: the desk is the reader's while a connection has the slot,
-/// the parker the writer's, and what is to be sent is with whoever sends.
+/// What a slot has of its own. The desk is the reader's while a connection has the slot, and the parker the writer's. What
+/// is to be sent is with whoever the word says has the lane, so its lock is waited for only where a connection comes or goes.
 #[derive(Drop)]
 pub(crate) struct Lane<K: BookName> {
-    pub(crate) desk: Mutex<Desk<K>>,
+    pub(crate) desk: Mutex<OwnDesk<K>>,
+    word: LaneWord,
     outgoing: Mutex<Outgoing<K>>,
     parker: Mutex<Parker>,
     unparker: Unparker,
@@ -88,11 +107,12 @@ pub(crate) struct Lane<K: BookName> {
 }
 
 impl<K: BookName> Lane<K> {
-    pub(crate) fn new(alloc: Global, desk: Desk<K>, pen: Pen<K>) -> Result<Lane<K>, AllocError> {
+    pub(crate) fn new(alloc: Global, desk: OwnDesk<K>, pen: Pen<K>) -> Result<Lane<K>, AllocError> {
         let parker = Parker::new(alloc)?;
         let unparker = parker.unparker().clone()?;
         Ok(Lane {
             desk: Mutex::new(desk),
+            word: LaneWord::new(alloc)?,
             outgoing: Mutex::new(Outgoing {
                 outbox: Outbox::new(pen),
                 stream: None,
@@ -106,7 +126,7 @@ impl<K: BookName> Lane<K> {
     }
 
     /// What was given to the slot.
-    pub(crate) fn into_parts(self) -> (Desk<K>, Pen<K>) {
+    pub(crate) fn into_parts(self) -> (OwnDesk<K>, Pen<K>) {
         let Lane { desk, outgoing, .. } = self;
         let Outgoing { outbox, .. } = outgoing.into_inner();
         (desk.into_inner(), outbox.into_pen())
@@ -115,11 +135,7 @@ impl<K: BookName> Lane<K> {
     /// Takes a connection, for which a writer is about to start.
     pub(crate) fn begin(&self, rt: &impl Wait, stream: Arc<TcpStream, Global>) {
         self.is_ending.store(false, Ordering::SeqCst);
-        let mut outgoing = self.outgoing.lock(rt);
-        outgoing.stream = Some(stream);
-        outgoing.outbox.forget();
-        outgoing.has_writer = true;
-        outgoing.set_write_timeout(WRITE_TIMEOUT);
+        self.outgoing.lock(rt).begin(stream);
     }
 
     /// Ends the connection, and lets go of it. The writer is at its end, or was never made.
@@ -132,8 +148,7 @@ impl<K: BookName> Lane<K> {
         self.released.notify_all();
     }
 
-    /// Has the writer send what there is.
-    pub(crate) fn wake_writer(&self) {
+    fn wake_writer(&self) {
         self.unparker.unpark();
     }
 
@@ -152,37 +167,62 @@ impl<K: BookName> Lane<K> {
         drop(outgoing);
     }
 
-    /// Delivers, if nobody else does and the peer isn't slow; else it has the writer do so. It says whether it found the
-    /// peer slow.
-    pub(crate) fn try_deliver(&self, rt: &impl Wait, shared: &Shared<K>) -> bool {
-        let Some(mut outgoing) = self.outgoing.try_lock() else {
-            // Who has the lock may have looked before there was anything to send.
-            self.wake_writer();
-            return false;
-        };
-        // What is left is the writer's to send, which was told when it was left.
-        if outgoing.outbox.has_left() {
-            return false;
+    /// Tells the lane that there may be something to send, which is left to the writer, or to who looks anyway.
+    pub(crate) fn touch_for_writer(&self) {
+        // An error means that somebody else looks after this touch.
+        if let Ok(owed) = self.word.touch() {
+            let _tally = owed.hand_over(|_| self.wake_writer());
         }
-        let delivery = outgoing.deliver(rt, shared);
-        drop(outgoing);
-        let is_late = delivery == Delivery::Late;
-        if is_late {
-            self.wake_writer();
+    }
+
+    /// Tells the lane that there may be something to send, and sends it, unless somebody else has the lane and so looks after
+    /// this. It says whether it found the peer slow.
+    pub(crate) fn touch(&self, rt: &impl Wait, shared: &Shared<K>) -> bool {
+        match self.word.touch() {
+            Ok(owed) => self.deliver_owed(rt, shared, owed),
+            Err(_) => false,
         }
-        is_late
+    }
+
+    /// Looks, and again where the lane was touched since. Where the peer is slow, or the connection is to end, or the lane
+    /// is touched again and again, the writer does the rest.
+    fn deliver_owed<'a>(&'a self, rt: &impl Wait, shared: &Shared<K>, owed: Owed<'a>) -> bool {
+        let mut owed = owed;
+        for _ in 0..MOST_LOOKS {
+            let (looking, (is_ending, delivery)) = owed.look(|looking| {
+                // Read first: who asks for the end wakes the writer, who touches the lane after that.
+                let is_ending = self.is_ending.load(Ordering::SeqCst);
+                let delivery = self.outgoing.lock(rt).deliver(rt, shared, looking);
+                (is_ending, delivery)
+            });
+            if is_ending || delivery == Delivery::Late {
+                let _tally = looking.hand_over(|_| self.wake_writer());
+                return delivery == Delivery::Late;
+            }
+            match looking.finish() {
+                Ok(_) => return false,
+                Err(again) => owed = again,
+            }
+        }
+        let _tally = owed.hand_over(|_| self.wake_writer());
+        false
     }
 
     /// Delivers, and waits for a slow peer; where the connection is to end, not for long, however the peer takes it.
-    fn deliver_patiently<R: Wait + Clock>(&self, rt: &R, shared: &Shared<K>) {
+    fn deliver_patiently<R: Wait + Clock>(
+        &self,
+        rt: &R,
+        shared: &Shared<K>,
+        looking: &Looking<'_>,
+    ) {
         let mut outgoing = self.outgoing.lock(rt);
-        if outgoing.deliver(rt, shared) != Delivery::Late {
+        if outgoing.deliver(rt, shared, looking) != Delivery::Late {
             return;
         }
         outgoing.set_write_timeout(WRITER_TIMEOUT);
         let mut end_seen = None;
         for _ in rt.forever() {
-            if outgoing.deliver(rt, shared) != Delivery::Late {
+            if outgoing.deliver(rt, shared, looking) != Delivery::Late {
                 break;
             }
             let is_ending = self.is_ending.load(Ordering::SeqCst);
@@ -194,14 +234,42 @@ impl<K: BookName> Lane<K> {
         outgoing.set_write_timeout(WRITE_TIMEOUT);
     }
 
+    /// Looks as the writer, and again where the lane was touched since. It says whether that was the connection's last
+    /// look, after which the lane is late until the slot's next writer takes it over.
+    fn write_owed<'a, R: Wait + Clock>(
+        &'a self,
+        rt: &R,
+        shared: &Shared<K>,
+        owed: Owed<'a>,
+    ) -> bool {
+        let mut owed = owed;
+        for _ in rt.forever() {
+            let (looking, is_last) = owed.look(|looking| {
+                let is_last = self.is_ending.load(Ordering::SeqCst);
+                self.deliver_patiently(rt, shared, looking);
+                is_last
+            });
+            if is_last {
+                let _tally = looking.hand_over(|_| {});
+                return true;
+            }
+            match looking.finish() {
+                Ok(_) => return false,
+                Err(again) => owed = again,
+            }
+        }
+        unreachable!()
+    }
+
     /// Runs the writer of a connection.
     pub(crate) fn run_writer<R: Wait + Clock>(&self, rt: &R, shared: &Shared<K>) {
         let parker = self.parker.lock(rt);
         for _ in rt.forever() {
-            let is_last = self.is_ending.load(Ordering::SeqCst);
-            self.deliver_patiently(rt, shared);
-            if is_last {
-                break;
+            // An error means that somebody else looks after this, and hands the lane over where the connection is to end.
+            if let Ok(owed) = self.word.take_over() {
+                if self.write_owed(rt, shared, owed) {
+                    break;
+                }
             }
             parker.park(rt);
         }

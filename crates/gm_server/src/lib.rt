@@ -2,14 +2,15 @@
 //! program `gmd` is given.
 //!
 //! A connection has two threads. Its reader cuts what it reads into units and hands them to the book; its writer
-//! waits until something is to be sent that nobody else sent. What is to be sent to a connection lies behind a lock of
-//! that connection: whoever finds it free sends, and whoever doesn't wakes the writer.
+//! waits until something is to be sent that nobody else sends. Whoever queued something for a connection touches its lane,
+//! and sends it, unless somebody else has the lane, who then looks again; a slow peer is left to the writer.
 #![tactic(auto)]
 
 mod accepting;
 mod args;
 mod connection;
 mod effects;
+mod ending;
 mod error;
 mod gate;
 mod keepalive;
@@ -17,6 +18,7 @@ mod lane;
 pub mod laws;
 mod message;
 mod outbox;
+mod own_desk;
 mod ready;
 mod run;
 mod server;

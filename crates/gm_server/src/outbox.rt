@@ -89,11 +89,6 @@ impl<K: BookName> Outbox<K> {
         self.pen
     }
 
-    /// Whether something is left of a message.
-    pub(crate) fn has_left(&self) -> bool {
-        self.left.is_some()
-    }
-
     /// Forgets what is left, since there is no connection to send it to.
     pub(crate) fn forget(&mut self)
         ensures pen { self.new.pen ≡ self.old.pen }

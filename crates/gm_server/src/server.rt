@@ -6,13 +6,15 @@ ghost use Rattle.gm_shared.specs.Tapes.{is_on};
 ghost use Rattle.gm_server.specs.Served.{SettledSo, EndsSo};
 
 use crate::accepting::{Control, set_accept_timeout};
+use crate::ending::settle_state;
 use crate::error::{ControlError, ServeError};
 use crate::gate::Gate;
+use crate::own_desk::OwnDesk;
 use crate::ready::Ready;
 use crate::settings::{Served, Settings};
 use crate::state::ServerState;
 use gm_feeder::Limits;
-use gm_shared::{Blank, BookName, Desk, SettleError, Settled, Shared, TapeMode};
+use gm_shared::{Blank, BookName, SettleError, Settled, Shared, TapeMode};
 use std::alloc::Global;
 use std::hash::RandomState;
 use std::marker::Brand;
@@ -27,10 +29,10 @@ use std::time::Clock;
 fn run_control<'x, K: BookName + Send + Sync, R: Threads + Wait + Clock + Eprint + Sync, G: Gate>(
     rt: &'x R,
     state: &'x ServerState<K>,
-    desk: Desk<K>,
+    desk: OwnDesk<K>,
     listener: &'x TcpListener,
     gate: &'x G,
-) -> (Desk<K>, Result<u64, ControlError>) {
+) -> (OwnDesk<K>, Result<u64, ControlError>) {
     let control = Control::new(rt, state, desk);
     thread::scope(
         thread::scope_env(),
@@ -76,8 +78,10 @@ pub fn serve_book<
     requires taped { blank.taped ≡ K.taped }
     ensures { IfOk result (λ ended. SettledSo K.settings K.taped ended.book) }
 {
-    let (shared, desks, pens, desk) = Shared::<K>::open(alloc, blank)?;
-    let state = ServerState::new(alloc, shared, desks, pens, limits)?;
+    let slots = blank.slots();
+    let (shared, desks, pens, control) = Shared::<K>::open(alloc, blank)?;
+    let state = ServerState::new(alloc, shared, desks, pens, slots, limits)?;
+    let desk = OwnDesk::new(control);
     let (desk, outcome) = if ready.tell() {
         run_control(rt, &state, desk, listener, gate)
     } else {
@@ -86,7 +90,7 @@ pub fn serve_book<
     let connections = outcome?;
     Ok(Ended {
         connections,
-        book: state.settle(desk),
+        book: settle_state(state, desk),
     })
 }
 

@@ -63,6 +63,7 @@ impl<'s, K: BookName, R: Wait, G: Gate> Applier<'s, K, R, G> {
         requires { IsSized event }
         ensures applies { Applies K.taped (step_of event.entry) result self.old.desk.now.share.items self.new.desk.now.share.items }
         ensures same_desk { self.new.desk.ghost_name ≡ self.old.desk.ghost_name }
+        ensures number { self.new.desk.now.number ≡ self.old.desk.now.number }
         ensures slot { self.new.slot ≡ self.old.slot }
     {
         match self.desk.apply(self.rt, self.shared, event) {
@@ -80,6 +81,7 @@ impl<'s, K: BookName, R: Wait, G: Gate> Applier<'s, K, R, G> {
         requires { IsSized event }
         ensures applies { Applies K.taped (step_of event.entry) result self.old.desk.now.share.items self.new.desk.now.share.items }
         ensures same_desk { self.new.desk.ghost_name ≡ self.old.desk.ghost_name }
+        ensures number { self.new.desk.now.number ≡ self.old.desk.now.number }
         ensures slot { self.new.slot ≡ self.old.slot }
     {
         self.gate.pass(self.rt, self.slot, self.index);
@@ -141,6 +143,7 @@ impl<'s, K: BookName, R: Wait, G: Gate, N: Notify<R>> Session<'s, K, R, G, N> {
     fn unload(&mut self, is_long: bool) -> Result<(), SessionEnd>
         ensures unloads { Unloads K.taped self.old.applier.slot self.old.feeder result self.old.applier.desk.now.share.items self.new.applier.desk.now.share.items self.new.feeder }
         ensures same_desk { self.new.applier.desk.ghost_name ≡ self.old.applier.desk.ghost_name }
+        ensures number { self.new.applier.desk.now.number ≡ self.old.applier.desk.now.number }
         ensures slot { self.new.applier.slot ≡ self.old.applier.slot }
     {
         let slot = self.applier.slot;
@@ -170,6 +173,7 @@ impl<'s, K: BookName, R: Wait, G: Gate, N: Notify<R>> Session<'s, K, R, G, N> {
     fn take_piece(&mut self, piece: &[u8]) -> Result<(), SessionEnd>
         ensures takes { TakesPiece K.taped self.old.applier.slot self.old.feeder piece.now result self.old.applier.desk.now.share.items self.new.applier.desk.now.share.items self.new.feeder }
         ensures same_desk { self.new.applier.desk.ghost_name ≡ self.old.applier.desk.ghost_name }
+        ensures number { self.new.applier.desk.now.number ≡ self.old.applier.desk.now.number }
         ensures slot { self.new.applier.slot ≡ self.old.applier.slot }
     {
         let Ok(()) = self.feeder.feed(piece) else {
@@ -187,6 +191,7 @@ impl<'s, K: BookName, R: Wait, G: Gate, N: Notify<R>> Session<'s, K, R, G, N> {
         ensures reads { Reads K.taped self.old.applier.slot self.old.feeder.limits (I.remaining reader.old) (I.remaining reader.new) result
             self.old.applier.desk.now.share.items self.new.applier.desk.now.share.items }
         ensures same_desk { self.new.applier.desk.ghost_name ≡ self.old.applier.desk.ghost_name }
+        ensures number { self.new.applier.desk.now.number ≡ self.old.applier.desk.now.number }
     {
         let mut buffer = [0; PIECE];
         for _ in 0..MOST_PIECES {
@@ -238,6 +243,7 @@ pub fn read_session<'s, K: BookName, R: Wait, I: Read, G: Gate, N: Notify<R>>(
 ) -> SessionEnd
     ensures ended { result ≡ SessionEnd.Ended → IsAtEnd (I.remaining reader.new) }
     ensures reads { Reads K.taped slot limits (I.remaining reader.old) (I.remaining reader.new) result desk.old.share.items desk.new.share.items }
+    ensures number { desk.new.number ≡ desk.old.number }
 {
     let mut session = Session {
         applier: Applier {

@@ -1,15 +1,14 @@
 //! What all threads of a server share.
 
-ghost use Rattle.gm_notes.specs.Servers.{IsSized};
-ghost use Rattle.gm_server.specs.Served.{SettledSo};
+ghost use Rattle.std.specs.Prelude.{◌≡◌, All, []};
 
 use crate::effects::{Effects, Notify};
 use crate::gate::Gate;
 use crate::lane::{Lane, is_over};
-use crate::session::read_session;
+use crate::own_desk::OwnDesk;
 use gm_feeder::Limits;
-use gm_notes::{ApplyError, Event, Mode};
-use gm_shared::{BookName, Desk, Pen, SettleError, Settled, Shared, settle};
+use gm_notes::{ApplyError, Mode};
+use gm_shared::{BookName, Desk, Pen, Receipt, Shared};
 use std::alloc::{AllocError, Global};
 use std::net::TcpStream;
 use std::sync::atomic::{AtomicBool, AtomicU64, Ordering};
@@ -25,9 +24,11 @@ const TURN_TIME: u64 = 1;
 /// What all threads of a server share.
 #[derive(Drop)]
 pub(crate) struct ServerState<K: BookName> {
-    alloc: Global,
-    shared: Shared<K>,
-    lanes: Vec<Lane<K>>,
+    pub(crate) alloc: Global,
+    pub(crate) shared: Shared<K>,
+    pub(crate) lanes: Vec<Lane<K>>,
+    // How many slots the book has.
+    pub(crate) slots: u32,
     limits: Limits,
     // Long pieces pass it one after another.
     long_piece_lock: Mutex<()>,
@@ -39,6 +40,7 @@ pub(crate) struct ServerState<K: BookName> {
     is_stopped: AtomicBool,
     // There was no memory to enter a connection's end on the tape, so the book still has its slot open.
     out_of_memory: AtomicBool,
+    ghost sized: { slots ≡ K.settings.slots },
 }
 
 /// A lane for each slot, in their order.
@@ -46,10 +48,12 @@ fn new_lanes<K: BookName>(
     alloc: Global,
     desks: Vec<Desk<K>>,
     pens: Vec<Pen<K>>,
-) -> Result<Vec<Lane<K>>, AllocError> {
+) -> Result<Vec<Lane<K>>, AllocError>
+    requires { All (λ desk. desk.share.items ≡ []) desks.items }
+{
     let mut lanes = Vec::with_capacity(alloc, desks.len())?;
     for (desk, pen) in desks.into_iter().zip(pens) {
-        lanes.push(Lane::new(alloc, desk, pen)?)?;
+        lanes.push(Lane::new(alloc, OwnDesk::new(desk), pen)?)?;
     }
     Ok(lanes)
 }
@@ -61,13 +65,18 @@ impl<K: BookName> ServerState<K> {
         shared: Shared<K>,
         desks: Vec<Desk<K>>,
         pens: Vec<Pen<K>>,
+        slots: u32,
         limits: Limits,
-    ) -> Result<ServerState<K>, AllocError> {
+    ) -> Result<ServerState<K>, AllocError>
+        requires sized { slots ≡ K.settings.slots }
+        requires nothing_told { All (λ desk. desk.share.items ≡ []) desks.items }
+    {
         let lanes = new_lanes(alloc, desks, pens)?;
         Ok(ServerState {
             alloc,
             shared,
             lanes,
+            slots,
             limits,
             long_piece_lock: Mutex::new(()),
             connections: AtomicU64::new(0),
@@ -120,7 +129,8 @@ impl<K: BookName> ServerState<K> {
         }
     }
 
-    /// Delivers to each of the slots, until a peer is found slow or the time is over; then it has the writers do so.
+    /// Touches the lane of each of the slots, and delivers where nobody else does, until a peer is found slow or the time
+    /// is over; then it has the writers do so.
     fn deliver<R: Wait + Clock>(&self, rt: &R, effects: &Effects) {
         let mut begun = None;
         let mut is_late = false;
@@ -129,35 +139,54 @@ impl<K: BookName> ServerState<K> {
                 continue;
             };
             if is_late {
-                lane.wake_writer();
+                lane.touch_for_writer();
                 continue;
             }
-            is_late = lane.try_deliver(rt, &self.shared)
-                || is_over(rt, &mut begun, DELIVERING_TIME);
+            is_late = lane.touch(rt, &self.shared) || is_over(rt, &mut begun, DELIVERING_TIME);
         }
     }
 
-    /// Applies an event at a desk, and tells what came of it. It answers the slot that was opened.
-    pub(crate) fn apply<R: Wait + Clock>(
-        &self,
-        rt: &R,
-        desk: &mut Desk<K>,
-        event: Event<'_>,
-    ) -> Result<Option<u32>, ApplyError>
-        requires { IsSized event }
-    {
-        let receipt = desk.apply(rt, &self.shared, event)?;
+    /// Tells what came of an event.
+    fn tell<R: Wait + Clock>(&self, rt: &R, receipt: &Receipt) {
         let mut effects = Effects::new();
         effects.add(&receipt.touched, receipt.mode);
         self.notify(rt, &effects);
-        Ok(receipt.done.opened)
     }
 
-    /// Closes a slot. With a tape memory may be wanting for that: then the slot stays open in the book, and the server
-    /// is over.
-    pub(crate) fn close<R: Wait + Clock>(&self, rt: &R, desk: &mut Desk<K>, slot: u32) {
-        if let Err(ApplyError::Memory) = self.apply(rt, desk, Event::Close { slot }) {
-            self.out_of_memory.store(true, Ordering::SeqCst);
+    /// Opens a connection from this address, and answers its slot; none where it is refused.
+    pub(crate) fn open<R: Wait + Clock>(
+        &self,
+        rt: &R,
+        desk: &mut OwnDesk<K>,
+        addr: &[u8],
+    ) -> Option<u32> {
+        let receipt = desk.open(rt, &self.shared, addr).ok()?;
+        self.tell(rt, &receipt);
+        receipt.done.opened
+    }
+
+    /// Tells the book the second. Where memory is wanting, the next one is told.
+    pub(crate) fn tick<R: Wait + Clock>(&self, rt: &R, desk: &mut OwnDesk<K>, now: u64) {
+        if let Ok(receipt) = desk.tick(rt, &self.shared, now) {
+            self.tell(rt, &receipt);
+        }
+    }
+
+    /// Closes a desk's slot. With a tape memory may be wanting for that: then the slot stays open in the book, and the
+    /// server is over.
+    fn close<R: Wait + Clock>(&self, rt: &R, desk: &mut OwnDesk<K>) {
+        match desk.close(rt, &self.shared) {
+            Ok(receipt) => self.tell(rt, &receipt),
+            Err(ApplyError::Memory) => self.out_of_memory.store(true, Ordering::SeqCst),
+            Err(_) => {}
+        }
+    }
+
+    /// Closes a slot whose connection couldn't start.
+    pub(crate) fn close_slot<R: Wait + Clock>(&self, rt: &R, slot: u32) {
+        if let Some(lane) = self.lane(slot) {
+            let mut desk = lane.desk.lock(rt);
+            self.close(rt, &mut desk);
         }
     }
 
@@ -174,52 +203,17 @@ impl<K: BookName> ServerState<K> {
         };
         let mut desk = lane.desk.lock(rt);
         let mut reader = stream;
-        read_session(
+        desk.read(
             &*rt,
             self.alloc,
             &mut reader,
             &self.shared,
-            &mut desk,
-            slot,
             self.limits,
             &*gate,
             &*self,
         );
         lane.end(rt);
-        self.close(rt, &mut desk, slot);
-    }
-}
-
-/// Takes out of lanes what each slot was given, and adds the control desk to the desks.
-fn all_parts<K: BookName>(
-    alloc: Global,
-    lanes: Vec<Lane<K>>,
-    control: Desk<K>,
-) -> Result<(Vec<Desk<K>>, Vec<Pen<K>>), AllocError> {
-    let mut desks = Vec::with_capacity(alloc, lanes.len())?;
-    let mut pens = Vec::with_capacity(alloc, lanes.len())?;
-    for lane in lanes {
-        let (desk, pen) = lane.into_parts();
-        desks.push(desk)?;
-        pens.push(pen)?;
-    }
-    desks.push(control)?;
-    Ok((desks, pens))
-}
-
-impl<K: BookName> ServerState<K> {
-    /// Settles the book, once no thread has any part of it.
-    pub(crate) fn settle(self, control: Desk<K>) -> Result<Settled, SettleError>
-        ensures { SettledSo K.settings K.taped result }
-    {
-        let ServerState {
-            alloc,
-            shared,
-            lanes,
-            ..
-        } = self;
-        let (desks, pens) = all_parts(alloc, lanes, control)?;
-        settle(alloc, shared, desks, pens)
+        self.close(rt, &mut desk);
     }
 }
 

@@ -1,6 +1,7 @@
 -- What the lock keeps after a holding, and the pens that it is opened with.
 use Rattle.std.proofs.Common.{◌≡◌, ℕ, Bool, zero, suc, ◌<◌, List, [], ◌∷◌, ◌++◌, ◌+◌, length, map, Result, Ok, Err, refl, sym}
-use Rattle.std.proofs.Common.{ap, subst, ◌∙◌, arith, add-one}
+use Rattle.std.proofs.Common.{ap, subst, ◌∙◌, arith, add-one, All}
+use Rattle.std.proofs.lemmas.List.Elements.{All-push}
 use Rattle.std.proofs.lemmas.List.{map-append}
 use Rattle.atomic_table.specs.Seated.{TableId}
 use Rattle.gm_notes.specs.declared.event.ApplyError.{ApplyError}
@@ -89,3 +90,6 @@ none_left table slots k (pen ∷ pens) left e = absurd cc
 pub numbers_grow : {A : Type 0} (f : A → ℕ) (xs all : List A) (x : A) (n : ℕ) → all ≡ xs ++ x ∷ [] → map f xs ≡ numbers_below n → f x ≡ n → map f all ≡ numbers_below (n + 1)
 numbers_grow f xs all x n e h is =
     ap (map f) e ∙ (map-append f xs (x ∷ []) ∙ (ap (λ ys. ys ++ f x ∷ []) h ∙ (ap (λ (i : ℕ). numbers_below n ++ i ∷ []) is ∙ ap numbers_below (sym (add-one n)))))
+
+pub none_told : {A : Type 0} (f : A → List Told) (xs all : List A) (x : A) → all ≡ xs ++ x ∷ [] → All (λ a. f a ≡ []) xs → f x ≡ [] → All (λ a. f a ≡ []) all
+none_told f xs all x e h is = subst (λ l. All (λ a. f a ≡ []) l) (sym e) (All-push (λ a. f a ≡ []) xs x h is)

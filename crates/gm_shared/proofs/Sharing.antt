@@ -1,5 +1,7 @@
 -- What a share says of events, and of the tape.
-use Rattle.std.proofs.Common.{◌≡◌, ℕ, Bool, true, false, if◌then◌else◌, List, [], ◌∷◌, ◌++◌, length, Result, Ok, Err, refl, ap, ◌∙◌}
+use Rattle.std.proofs.Common.{◌≡◌, ℕ, Bool, true, false, if◌then◌else◌, List, [], ◌∷◌, ◌++◌, length, Result, Ok, Err, refl, ap, ◌∙◌, arith}
+use Rattle.std.specs.Prelude.{◌==◌, ◌&&◌}
+use Rattle.std.proofs.lemmas.Bool.Decides.{nat_tests}
 use Rattle.std.proofs.lemmas.List.{append-nil}
 use Rattle.gm_notes.specs.declared.event.Event.{Event}
 use Rattle.gm_notes.specs.declared.event.Event.TheVariants as events
@@ -11,13 +13,14 @@ use Rattle.gm_notes.specs.Servers.{step_of}
 use Rattle.gm_shared.specs.declared.events.Noop.{Noop}
 use Rattle.gm_shared.specs.declared.events.Noop.TheVariants.{Left, Taken, Withdrawn}
 use Rattle.gm_shared.specs.declared.receipt.Receipt.{Receipt}
+use Rattle.gm_shared.specs.declared.receipt.Drained.{Drained}
 use Rattle.gm_shared.specs.declared.book.Booked.{Booked}
 use Rattle.gm_shared.specs.declared.tape.TapeStep.{TapeStep}
 use Rattle.gm_shared.specs.declared.tape.TapeStep.TheVariants as tape
 use Rattle.gm_shared.specs.declared.tape.Told.{Told}
 use Rattle.gm_shared.specs.Books.{Held, asked, unasked}
-use Rattle.gm_shared.specs.Tapes.{tape_step, noop_entries, event_entry, told_from, if_event, events_told}
-use Rattle.gm_shared.specs.Shared.{Applied, AddsEvent}
+use Rattle.gm_shared.specs.Tapes.{tape_step, noop_entries, event_entry, drain_entry, told_from, if_event, events_told, is_drain_of, drains_alone}
+use Rattle.gm_shared.specs.Shared.{Applied, AddsEvent, Emptied}
 
 -- ---- events told
 
@@ -84,3 +87,36 @@ pub applied_adds : (k : Settings) (taped : Bool) (e : Event) (desk : ℕ) (resul
     → Applied k taped (step_of e) desk result share after → AddsEvent taped (step_of e) result share after
 applied_adds k taped e desk result share after a =
     held_adds taped k a.steps e desk result a.old a.new a.told share after a.on a.share_is a.held
+
+-- ---- drains told
+
+pub and_more : (a b c : Bool) → (a && (b && c)) ≡ ((a && b) && c)
+and_more true b c = refl
+and_more false b c = refl
+
+pub itself : (n : ℕ) → (n == n) ≡ true
+itself n = grind (arith, nat_tests)
+
+drains_more : (c : ℕ) (xs ys : List Told) → drains_alone c (xs ++ ys) ≡ (drains_alone c xs && drains_alone c ys)
+drains_more c [] ys = refl
+drains_more c (told ∷ xs) ys = ap (λ b. is_drain_of c told.step && b) (drains_more c xs ys) ∙ and_more (is_drain_of c told.step) (drains_alone c xs) (drains_alone c ys)
+
+one_drain : (on : Bool) (at pen slot : ℕ) (bytes : List ℕ) → drains_alone slot (if on then told_from at (drain_entry pen slot bytes ∷ []) else []) ≡ true
+one_drain true at pen slot bytes = ap (λ b. b && true) (itself slot)
+one_drain false at pen slot bytes = refl
+
+no_drain : (on : Bool) (at slot : ℕ) → drains_alone slot (if on then told_from at [] else []) ≡ true
+no_drain true at slot = refl
+no_drain false at slot = refl
+
+-- the drain of a slot adds that to its pen's share
+pub emptied_own : (k : Settings) (taped : Bool) (slot : ℕ) (result : Result Drained ApplyError) (share after : List Told) → Emptied k taped slot slot result share after
+    → drains_alone slot share ≡ true → drains_alone slot after ≡ true
+emptied_own k taped slot (Ok drained) share after e own =
+    ap (drains_alone slot) e.share_is
+    ∙ (drains_more slot share e.told
+    ∙ (ap (λ b. b && drains_alone slot e.told) own ∙ (ap (drains_alone slot) e.drains.tape.told_is ∙ one_drain e.old.tape.on _ slot slot drained.bytes.items)))
+emptied_own k taped slot (Err refused) share after e own =
+    ap (drains_alone slot) e.share_is
+    ∙ (drains_more slot share e.told
+    ∙ (ap (λ b. b && drains_alone slot e.told) own ∙ (ap (drains_alone slot) e.drains.2.told_is ∙ no_drain e.old.tape.on 0 slot)))

@@ -1,5 +1,5 @@
 -- The tape: what is entered of an accepted call, when a tape is one history, and what a desk or a pen is told of it.
-use Rattle.std.specs.Prelude.{◌≡◌, ℕ, ◌+◌, ◌*◌, ◌<◌, ◌≤◌, Bool, true, false, ◌==◌, if◌then◌else◌, List, [], ◌∷◌, ◌++◌, length, reverse, get_or}
+use Rattle.std.specs.Prelude.{◌≡◌, ℕ, ◌+◌, ◌*◌, ◌<◌, ◌≤◌, Bool, true, false, ◌==◌, ◌&&◌, if◌then◌else◌, List, [], ◌∷◌, ◌++◌, length, reverse, get_or}
 use Rattle.std.specs.Prelude.{Option, Some, None, Result, Ok, Err, vec_len, vec_capacity}
 use Rattle.gm_notes.specs.declared.event.Done.{Done}
 use Rattle.gm_notes.specs.declared.event.ApplyError.{ApplyError}
@@ -164,6 +164,16 @@ abbrev pub share_from : Actor → ℕ → List Entry → List Told
 share_from actor at [] = []
 share_from actor at (e ∷ es) =
     if actor_is actor e.actor then record { at = at; step = e.step; answer = e.answer } ∷ share_from actor (at + 1) es else share_from actor (at + 1) es
+
+-- a drain of this slot
+abbrev pub is_drain_of : ℕ → TapeStep → Bool
+is_drain_of c (tape.Drain d) = c == d
+is_drain_of c step = false
+
+-- what was told is drains of this slot, and nothing else
+abbrev pub drains_alone : ℕ → List Told → Bool
+drains_alone c [] = true
+drains_alone c (told ∷ more) = is_drain_of c told.step && drains_alone c more
 
 -- by its code, how many entries the tape has of an actor
 abbrev pub AreCounts : List Entry → List ℕ → Type 0

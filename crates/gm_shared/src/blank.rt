@@ -54,4 +54,11 @@ impl Blank {
             slots,
         })
     }
+
+    /// How many slots the book has.
+    pub fn slots(&self) -> u32
+        ensures { result ≡ self.now.settings.slots }
+    {
+        self.slots
+    }
 }

@@ -1,10 +1,11 @@
 //! The book that threads share, and what each of them has of its own: desks, at which events are handed in, and pens,
 //! which take out what waits for a slot.
 
-ghost use Rattle.std.specs.Prelude.{◌≡◌, ◌+◌, IfOk, MatchBool, map};
+ghost use Rattle.std.specs.Prelude.{◌≡◌, ◌+◌, IfOk, MatchBool, map, All, [], true};
 ghost use Rattle.gm_notes.specs.Servers.{step_of, IsSized};
 ghost use Rattle.gm_word.specs.Seats.{fresh_pens};
 ghost use Rattle.gm_shared.specs.Books.{NeedsNoMemory};
+ghost use Rattle.gm_shared.specs.Tapes.{drains_alone};
 ghost use Rattle.gm_shared.specs.Shared.{Applied, AddsEvent, Emptied, numbers_below};
 ghost use Rattle.std.specs.Result.{IsErrOf};
 
@@ -37,7 +38,7 @@ pub struct Desk<K: BookName> {
 }
 
 /// What takes out of the book what waits for one slot: its NOOP, and its bytes. Its number on the tape is its slot's;
-/// it has a share as a desk has.
+/// it has a share as a desk has, which tells of drains of its slot alone.
 #[derive(Drop)]
 pub struct Pen<K: BookName> {
     pub(crate) slot: u32,
@@ -46,6 +47,7 @@ pub struct Pen<K: BookName> {
     of: PhantomData<K>,
     ghost named: { seat.table ≡ K.table },
     ghost sits: { seat.slot ≡ slot },
+    ghost own: { drains_alone slot share.items ≡ true },
 }
 
 impl<K: BookName> Shared<K> {
@@ -60,6 +62,8 @@ impl<K: BookName> Shared<K> {
         ensures desks { IfOk result (λ made. map (λ desk. desk.number) made.1.items ≡ numbers_below blank.settings.slots) }
         ensures pens { IfOk result (λ made. map (λ pen. pen.slot) made.2.items ≡ numbers_below blank.settings.slots) }
         ensures control { IfOk result (λ made. made.3.number ≡ blank.settings.slots) }
+        ensures nothing_told { IfOk result (λ made. All (λ desk. desk.share.items ≡ []) made.1.items × All (λ pen. pen.share.items ≡ []) made.2.items
+            × (made.3.share.items ≡ [])) }
     {
         let slots = blank.slots;
         let desks = new_desks(alloc, slots)?;
@@ -74,13 +78,21 @@ impl<K: BookName> Shared<K> {
 
 impl<K: BookName> Desk<K> {
     fn new(alloc: Global, number: u32) -> Desk<K>
-        ensures { result.number ≡ number }
+        ensures number { result.number ≡ number }
+        ensures nothing_told { result.share.items ≡ [] }
     {
         Desk {
             number,
             share: Vec::new(alloc),
             of: PhantomData,
         }
+    }
+
+    /// Its number: its slot, or the number of slots.
+    pub fn number(&self) -> u32
+        ensures { result ≡ self.now.number }
+    {
+        self.number
     }
 
     /// Hands in an event, which takes effect in one holding of the lock, as `Booked::apply` says. It may wait for the
@@ -111,6 +123,7 @@ impl<K: BookName> Pen<K> {
     pub fn take(&mut self, shared: &Shared<K>) -> bool
         ensures slot { self.new.slot ≡ self.old.slot }
         ensures share { self.new.share ≡ self.old.share }
+        ensures tries { self.new.seat.tries ≡ self.old.seat.tries + 1 }
         ensures takes { MatchBool result (self.new.seat.takes ≡ self.old.seat.takes + 1) (self.new.seat.takes ≡ self.old.seat.takes) }
     {
         self.seat.take(&shared.table)
@@ -133,7 +146,8 @@ impl<K: BookName> Pen<K> {
 
 // A desk for each slot, in their order.
 fn new_desks<K: BookName>(alloc: Global, slots: u32) -> Result<Vec<Desk<K>>, AllocError>
-    ensures { IfOk result (λ made. map (λ desk. desk.number) made.items ≡ numbers_below slots) }
+    ensures numbers { IfOk result (λ made. map (λ desk. desk.number) made.items ≡ numbers_below slots) }
+    ensures nothing_told { IfOk result (λ made. All (λ desk. desk.share.items ≡ []) made.items) }
 {
     let mut desks = Vec::with_capacity(alloc, slots as usize)?;
     for number in 0..slots {
@@ -149,7 +163,8 @@ fn new_pens<K: BookName>(
     slots: u32,
 ) -> Result<Vec<Pen<K>>, AllocError>
     requires { seats.items ≡ fresh_pens K.table slots }
-    ensures { IfOk result (λ made. map (λ pen. pen.slot) made.items ≡ numbers_below slots) }
+    ensures slots { IfOk result (λ made. map (λ pen. pen.slot) made.items ≡ numbers_below slots) }
+    ensures nothing_told { IfOk result (λ made. All (λ pen. pen.share.items ≡ []) made.items) }
 {
     let mut pens = Vec::with_capacity(alloc, slots as usize)?;
     let mut slot = 0;

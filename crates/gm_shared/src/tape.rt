@@ -53,7 +53,7 @@ impl Actor {
     }
 
     /// Whether both are the same.
-    pub(crate) fn is(self, other: Actor) -> bool
+    pub fn is(self, other: Actor) -> bool
         ensures { result ≡ actor_is self other }
     {
         match (self, other) {

@@ -6,6 +6,7 @@ pub loop-init : goal.loop-init
 loop-init g c = record {
   reading = reading_none g.K.BookName.taped c.args.self.now.applier.slot (g.I.Read.remaining c.args.reader.now) c.args.self.now.applier.desk.now.share.items c.args.self.now.feeder c.requires;
   same_desk = refl;
+  number = refl;
   slot = refl;
 }
 
@@ -14,6 +15,7 @@ loop-preserved g c = record {
   reading = reading_more _ _ _ _ (g.I.Read.remaining c.loop.reader) _ _ c.loop.self.applier.desk.now.share.items c.take_piece.new.self.applier.desk.now.share.items c.loop.self.feeder c.loop.invariant.reading
       c.loop.self.applier.slot c.loop.invariant.slot _ c.take_piece.new.self.feeder c.in-Ok.ensures.piece c.in-Ok-take_piece.ensures.takes;
   same_desk = c.in-Ok-take_piece.ensures.same_desk ∙ c.loop.invariant.same_desk;
+  number = c.in-Ok-take_piece.ensures.number ∙ c.loop.invariant.number;
   slot = c.in-Ok-take_piece.ensures.slot ∙ c.loop.invariant.slot;
 }
 

@@ -13,6 +13,7 @@ pub loop-event-preserved : goal.loop-event-preserved
 loop-event-preserved g c = record {
   unloading = unloading_more _ _ _ _ _ _ _ _ c.loop-event.invariant.unloading _ (rw c.in-Unit.is at c.next_event.follows.holds-at-none) c.in_ok-apply_unit-in-Unit.ensures.applies;
   same_desk = c.in_ok-apply_unit-in-Unit.ensures.same_desk ∙ c.loop-event.invariant.same_desk;
+  number = c.in_ok-apply_unit-in-Unit.ensures.number ∙ c.loop-event.invariant.number;
   slot = c.in_ok-apply_unit-in-Unit.ensures.slot ∙ c.loop-event.invariant.slot;
 }
 
@@ -36,6 +37,7 @@ pub loop-event-preserved-then-is_over : goal.loop-event-preserved-then-is_over
 loop-event-preserved-then-is_over g c = record {
   unloading = unloading_more _ _ _ _ _ _ _ _ c.loop-event.invariant.unloading _ (rw c.in-Unit.is at c.next_event.follows.holds-at-none) c.in_ok-apply_unit-in-Unit.ensures.applies;
   same_desk = c.in_ok-apply_unit-in-Unit.ensures.same_desk ∙ c.loop-event.invariant.same_desk;
+  number = c.in_ok-apply_unit-in-Unit.ensures.number ∙ c.loop-event.invariant.number;
   slot = c.in_ok-apply_unit-in-Unit.ensures.slot ∙ c.loop-event.invariant.slot;
 }
 

@@ -6,6 +6,7 @@ abbrev pub invariant-loop-event : goal.invariant-loop-event
 invariant-loop-event g l = record {
   unloading : Unloading g.K.BookName.taped l.slot l.fn.self.feeder l.fn.self.applier.desk.now.share.items l.self.applier.desk.now.share.items l.self.feeder;
   same_desk : l.self.applier.desk.ghost_name ≡ l.fn.self.applier.desk.ghost_name;
+  number : l.self.applier.desk.now.number ≡ l.fn.self.applier.desk.now.number;
   slot : l.self.applier.slot ≡ l.fn.self.applier.slot;
 }
 

@@ -1,0 +1,43 @@
+-- Whose the entries of a tape are: what a connection says is handed in at its slot's desk, and its slot's pen drains what waits for it.
+use Rattle.std.specs.Prelude.{◌≡◌, ℕ, ◌==◌, ◌&&◌, Bool, true, false, if◌then◌else◌, List, [], ◌∷◌, ◌++◌, map}
+use Rattle.gm_notes.specs.Steps.{Step, Open, Packet, Line, Fault, Close, Tick, Took, Withdrew, Drain}
+use Rattle.gm_shared.specs.declared.tape.Actor.{Actor}
+use Rattle.gm_shared.specs.declared.tape.Actor.TheVariants.{Desk, Pen}
+use Rattle.gm_shared.specs.declared.tape.TapeStep.{TapeStep}
+use Rattle.gm_shared.specs.declared.tape.Told.{Told}
+use Rattle.gm_shared.specs.Tapes.{if_event, events_told, is_drain_of, drains_alone}
+use Rattle.gm_shared.specs.Shared.{numbers_below}
+
+-- the desk of this number hands in what its own slot says, and openings and ticks, which no slot says
+abbrev pub is_said_by : ℕ → Step → Bool
+is_said_by n (Open addr) = true
+is_said_by n (Packet c kind bytes) = c == n
+is_said_by n (Line c bytes) = c == n
+is_said_by n (Fault c fault) = c == n
+is_said_by n (Close c) = c == n
+is_said_by n (Tick now) = true
+is_said_by n (Took c) = false
+is_said_by n (Withdrew c) = false
+is_said_by n (Drain c) = false
+
+abbrev pub are_said_by : ℕ → List Step → Bool
+are_said_by n [] = true
+are_said_by n (s ∷ steps) = is_said_by n s && are_said_by n steps
+
+-- an entry is its actor's own; takings and withdrawals of NOOPs stand at the desk in whose call they were found
+abbrev pub is_own : Actor → TapeStep → Bool
+is_own (Desk n) step = are_said_by n (if_event step [])
+is_own (Pen n) step = is_drain_of n step
+
+-- and so is all that an actor was told
+abbrev pub tells_own : Actor → List Told → Bool
+tells_own (Desk n) told = are_said_by n (events_told told)
+tells_own (Pen n) told = drains_alone n told
+
+-- where a tape is kept
+abbrev pub is_own_share : Bool → Actor → List Told → Bool
+is_own_share taped actor told = if taped then tells_own actor told else true
+
+-- all that have a share in the book of so many slots, in order: the desks, the control desk, the pens
+abbrev pub everybody : ℕ → List Actor
+everybody slots = map Desk (numbers_below slots) ++ (Desk slots ∷ map Pen (numbers_below slots))

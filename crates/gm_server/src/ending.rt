@@ -1,0 +1,97 @@
+//! The end of a server: its book is settled, and everybody's share is there.
+
+ghost use Rattle.std.specs.Prelude.{◌≡◌, Bool, IfOk, MatchBool, All, map, true};
+ghost use Rattle.gm_notes.specs.Settings.{Settings as BookSettings};
+ghost use Rattle.gm_shared.specs.Shared.{AddsUp};
+ghost use Rattle.gm_shared.specs.declared.tape.Actor.TheVariants as actors;
+ghost use Rattle.gm_server.specs.Owners.{is_own_share, everybody};
+ghost use Rattle.gm_server.specs.Served.{SettledSo};
+
+use crate::lane::Lane;
+use crate::own_desk::OwnDesk;
+use crate::state::ServerState;
+use gm_shared::{Actor, BookName, Desk, Pen, SettleError, Settled, Share, settle};
+use std::alloc::{AllocError, Global};
+
+/// All that have a share in a book of so many slots, in order: the desks, the control desk, the pens.
+fn everybody(alloc: Global, slots: u32) -> Result<Vec<Actor>, AllocError>
+    ensures { IfOk result (λ actors. actors.items ≡ everybody slots) }
+{
+    let mut actors = Vec::new(alloc);
+    for number in 0..slots {
+        actors.push(Actor::Desk(number))?;
+    }
+    actors.push(Actor::Desk(slots))?;
+    for slot in 0..slots {
+        actors.push(Actor::Pen(slot))?;
+    }
+    Ok(actors)
+}
+
+/// Whether these are the shares of these actors, in their order.
+fn are_of(shares: &[Share], actors: &[Actor]) -> bool
+    ensures { MatchBool result (map (λ share. share.actor) shares.now ≡ actors.now) (map (λ share. share.actor) shares.now ≡ actors.now → ⊥) }
+{
+    let mut rest = actors;
+    for share in shares {
+        let Some((actor, more)) = rest.split_first() else {
+            return false;
+        };
+        if !share.actor.is(*actor) {
+            return false;
+        }
+        rest = more;
+    }
+    rest.is_empty()
+}
+
+/// Takes out of lanes what each slot was given, and adds the control desk to the desks.
+fn all_parts<K: BookName>(
+    alloc: Global,
+    lanes: Vec<Lane<K>>,
+    control: OwnDesk<K>,
+) -> Result<(Vec<Desk<K>>, Vec<Pen<K>>), AllocError>
+    ensures { IfOk result (λ parts. All (λ desk. is_own_share K.taped (actors.Desk desk.number) desk.share.items ≡ true) parts.0.items) }
+{
+    let mut desks = Vec::with_capacity(alloc, lanes.len())?;
+    let mut pens = Vec::with_capacity(alloc, lanes.len())?;
+    for lane in lanes {
+        let (desk, pen) = lane.into_parts();
+        desks.push(desk.into_desk())?;
+        pens.push(pen)?;
+    }
+    desks.push(control.into_desk())?;
+    Ok((desks, pens))
+}
+
+/// A book that is settled, if everybody's share is there.
+fn with_everybody(settled: Settled, actors: &[Actor]) -> Result<Settled, SettleError>
+    ensures { (k : BookSettings) (taped : Bool) → actors.now ≡ everybody k.slots → AddsUp k taped settled
+        → All (λ share. is_own_share taped share.actor share.told.items ≡ true) settled.shares.items → SettledSo k taped result }
+{
+    if are_of(settled.shares.as_slice(), actors) {
+        Ok(settled)
+    } else {
+        Err(SettleError::Differs(settled))
+    }
+}
+
+/// Settles the book of a server, once no thread has any part of it.
+pub(crate) fn settle_state<K: BookName>(
+    state: ServerState<K>,
+    control: OwnDesk<K>,
+) -> Result<Settled, SettleError>
+    ensures { SettledSo K.settings K.taped result }
+{
+    let ServerState {
+        alloc,
+        shared,
+        lanes,
+        slots,
+        ..
+    } = state;
+    let actors = everybody(alloc, slots)?;
+    let (desks, pens) = all_parts(alloc, lanes, control)?;
+    let settled = settle(alloc, shared, desks, pens)?;
+    with_everybody(settled, actors.as_slice())
+}

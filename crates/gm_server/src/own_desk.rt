@@ -1,0 +1,106 @@
+//! A desk at which no other slot's connection speaks.
+
+ghost use Rattle.std.specs.Prelude.{◌≡◌, true, []};
+ghost use Rattle.gm_notes.specs.Servers.{step_of, IsSized};
+ghost use Rattle.gm_shared.specs.declared.tape.Actor.TheVariants as actors;
+ghost use Rattle.gm_server.specs.Owners.{is_said_by, is_own_share};
+
+use crate::effects::Notify;
+use crate::gate::Gate;
+use crate::session::{SessionEnd, read_session};
+use gm_feeder::Limits;
+use gm_notes::{ApplyError, Event};
+use gm_shared::{BookName, Desk, Receipt, Shared};
+use std::alloc::Global;
+use std::io::Read;
+use std::sync::Wait;
+
+/// A desk. What its own slot's connection says is handed in there, and what no slot says: openings and ticks.
+#[derive(Drop)]
+pub(crate) struct OwnDesk<K: BookName> {
+    desk: Desk<K>,
+    ghost own: { is_own_share K.taped (actors.Desk desk.number) desk.share.items ≡ true },
+}
+
+impl<K: BookName> OwnDesk<K> {
+    /// A desk that was told nothing yet.
+    pub(crate) fn new(desk: Desk<K>) -> OwnDesk<K>
+        requires { desk.share.items ≡ [] }
+    {
+        OwnDesk { desk }
+    }
+
+    pub(crate) fn into_desk(self) -> Desk<K>
+        ensures { is_own_share K.taped (actors.Desk result.number) result.share.items ≡ true }
+    {
+        self.desk
+    }
+
+    /// Hands in an event that is of this desk's slot, or of none.
+    fn apply(
+        &mut self,
+        rt: &impl Wait,
+        shared: &Shared<K>,
+        event: Event<'_>,
+    ) -> Result<Receipt, ApplyError>
+        requires size { IsSized event }
+        requires own { is_said_by self.old.desk.number (step_of event) ≡ true }
+    {
+        self.desk.apply(rt, shared, event)
+    }
+
+    /// Opens a connection from this address.
+    pub(crate) fn open(
+        &mut self,
+        rt: &impl Wait,
+        shared: &Shared<K>,
+        addr: &[u8],
+    ) -> Result<Receipt, ApplyError> {
+        self.apply(rt, shared, Event::Open { addr })
+    }
+
+    /// Tells the second.
+    pub(crate) fn tick(
+        &mut self,
+        rt: &impl Wait,
+        shared: &Shared<K>,
+        now: u64,
+    ) -> Result<Receipt, ApplyError> {
+        self.apply(rt, shared, Event::Tick { now })
+    }
+
+    /// Closes the desk's slot.
+    pub(crate) fn close(
+        &mut self,
+        rt: &impl Wait,
+        shared: &Shared<K>,
+    ) -> Result<Receipt, ApplyError> {
+        let slot = self.desk.number();
+        self.apply(rt, shared, Event::Close { slot })
+    }
+
+    /// Reads the stream of the slot's connection to its end (`read_session`).
+    pub(crate) fn read<R: Wait, I: Read, G: Gate, N: Notify<R>>(
+        &mut self,
+        rt: &R,
+        alloc: Global,
+        reader: &mut I,
+        shared: &Shared<K>,
+        limits: Limits,
+        gate: &G,
+        server: &N,
+    ) -> SessionEnd {
+        let slot = self.desk.number();
+        read_session(
+            rt,
+            alloc,
+            reader,
+            shared,
+            &mut self.desk,
+            slot,
+            limits,
+            gate,
+            server,
+        )
+    }
+}
