@@ -38,6 +38,6 @@ tells_own (Pen n) told = drains_alone n told
 abbrev pub is_own_share : Bool → Actor → List Told → Bool
 is_own_share taped actor told = if taped then tells_own actor told else true
 
--- all that have a share in the book of so many slots, in order: the desks, the control desk, the pens
+-- all that have a share in a book with this number of slots, in order: the desks, the control desk, the pens
 abbrev pub everybody : ℕ → List Actor
 everybody slots = map Desk (numbers_below slots) ++ (Desk slots ∷ map Pen (numbers_below slots))

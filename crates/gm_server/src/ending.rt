@@ -13,7 +13,7 @@ use crate::state::ServerState;
 use gm_shared::{Actor, BookName, Desk, Pen, SettleError, Settled, Share, settle};
 use std::alloc::{AllocError, Global};
 
-/// All that have a share in a book of so many slots, in order: the desks, the control desk, the pens.
+/// All that have a share in a book with this number of slots, in order: the desks, the control desk, the pens.
 fn everybody(alloc: Global, slots: u32) -> Result<Vec<Actor>, AllocError>
     ensures { IfOk result (λ actors. actors.items ≡ everybody slots) }
 {

@@ -1,4 +1,4 @@
-//! Rows of jobs that may be given to so many workers at most.
+//! Rows of jobs that are given to a limited number of workers.
 
 use crate::rows::{Row, Terms};
 
