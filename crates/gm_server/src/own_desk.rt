@@ -59,7 +59,7 @@ impl<K: BookName> OwnDesk<K> {
         self.apply(rt, shared, Event::Open { addr })
     }
 
-    /// Tells the second.
+    /// Tells the book which second it is.
     pub(crate) fn tick(
         &mut self,
         rt: &impl Wait,

@@ -98,13 +98,13 @@ impl<K: BookName> ServerState<K> {
         self.lanes.get(slot as usize)
     }
 
-    /// Whether the server takes no new connections, and has none; or memory was wanting for the end of one.
+    /// Whether the server takes no new connections, and has none; or it ran out of memory at the end of one.
     pub(crate) fn is_over(&self) -> bool {
         self.out_of_memory()
             || self.is_ending.load(Ordering::SeqCst) && self.connections.load(Ordering::SeqCst) == 0
     }
 
-    /// Whether memory was wanting for a connection's end.
+    /// Whether it ran out of memory at a connection's end.
     pub(crate) fn out_of_memory(&self) -> bool {
         self.out_of_memory.load(Ordering::SeqCst)
     }
@@ -165,15 +165,15 @@ impl<K: BookName> ServerState<K> {
         receipt.done.opened
     }
 
-    /// Tells the book the second. Where memory is wanting, the next one is told.
+    /// Tells the book which second it is. If there is no memory for that, the book hears of the next second.
     pub(crate) fn tick<R: Wait + Clock>(&self, rt: &R, desk: &mut OwnDesk<K>, now: u64) {
         if let Ok(receipt) = desk.tick(rt, &self.shared, now) {
             self.tell(rt, &receipt);
         }
     }
 
-    /// Closes a desk's slot. With a tape memory may be wanting for that: then the slot stays open in the book, and the
-    /// server is over.
+    /// Closes a desk's slot. With a tape there may be no memory for that. Then the slot stays open in the book, and the
+    /// server ends.
     fn close<R: Wait + Clock>(&self, rt: &R, desk: &mut OwnDesk<K>) {
         match desk.close(rt, &self.shared) {
             Ok(receipt) => self.tell(rt, &receipt),
