@@ -70,7 +70,7 @@ pub struct About<'a> {
 /// What a packet asks a server to do.
 #[derive(Clone, Copy)]
 pub enum Action<'a> {
-    /// The worker can do a function, with so many seconds for each job; 0 is no limit.
+    /// The worker can do a function, with this many seconds for each job; 0 is no limit.
     CanDo { function: &'a [u8], timeout: u32 },
     /// The worker can't do a function any longer.
     CantDo { function: &'a [u8] },

@@ -3,7 +3,7 @@
 ghost use Rattle.std.specs.Prelude.{◌≡◌};
 ghost use Rattle.gm_notes.specs.Workers.{deadline_after};
 
-/// The moment plus so many seconds, at most the greatest of 64 bits; none for 0.
+/// The moment plus a number of seconds, at most the greatest `u64`; none for 0 seconds.
 pub fn deadline_after(moment: u64, timeout: u32) -> Option<u64>
     ensures { result ≡ deadline_after moment timeout }
 {

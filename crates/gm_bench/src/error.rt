@@ -9,9 +9,9 @@ use std::alloc::{AllocError, AllocFailed};
 /// Why the program ends early.
 #[derive(Clone, Copy, Drop)]
 pub enum BenchError {
-    /// The arguments can't be had.
+    /// The arguments can't be read.
     Arguments(ArgumentsError),
-    /// The arguments ask for nothing that can be measured.
+    /// The arguments name nothing that can be measured.
     Usage,
     /// Out of memory.
     Memory,
@@ -50,11 +50,11 @@ impl BenchError {
             BenchError::Arguments(error) => error.text(),
             BenchError::Usage => "invalid arguments: see --help",
             BenchError::Memory => "out of memory",
-            BenchError::Clock => "the clock can't be read",
-            BenchError::Seed => "the system gives no random seed",
-            BenchError::Resident => "resident memory can't be read",
+            BenchError::Clock => "can't read the clock",
+            BenchError::Seed => "can't get a random seed",
+            BenchError::Resident => "can't read how much memory is resident",
             BenchError::Output => "can't write to standard output",
-            BenchError::Refused => "what is measured refused an input",
+            BenchError::Refused => "the code under measurement refused an input",
         }
     }
 

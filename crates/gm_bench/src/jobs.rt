@@ -75,7 +75,7 @@ fn make(jobs: &mut Jobs, number: u64, listener: Option<u32>) -> Result<u64, Benc
     }))
 }
 
-/// So many jobs come to wait, from number 1 on.
+/// This many jobs come to wait, from number 1 on.
 fn fill(jobs: &mut Jobs, size: u64) -> Result<(), BenchError> {
     for index in 0..size {
         let _number = make(jobs, index.wrapping_add(1), None)?;
@@ -167,7 +167,7 @@ fn live_at(round: Round, size: u64, index: u64) -> u64 {
     }
 }
 
-/// Runs so many rounds, and answers the sum of what came of them.
+/// Runs this many rounds, and answers the sum of their results.
 fn run(jobs: &mut Jobs, size: u64, rounds: u64, round: Round) -> Result<u64, BenchError> {
     let mut sum: u64 = 0;
     for index in 0..rounds {

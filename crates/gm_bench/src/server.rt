@@ -171,7 +171,7 @@ fn new_front(alloc: Global, seed: RandomState) -> Result<Front<Core>, BenchError
     Ok(Front::new(alloc, Core::new(alloc, seed, config)?, limits)?)
 }
 
-/// By how many bytes resident memory grows when so many background jobs come to wait.
+/// By how many bytes resident memory grows when this many background jobs come to wait.
 fn growth(
     rt: &HostRuntime,
     front: &mut Front<Core>,

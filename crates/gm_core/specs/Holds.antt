@@ -92,7 +92,7 @@ pub record HoldsFunctions (k : Settings) (table : queues.Table) (facts : Functio
 
 -- ---- jobs
 
--- so many numbers from the first on, the greatest first
+-- a count of numbers from the first on, the greatest first
 abbrev pub numbers_down : ℕ → ℕ → List ℕ
 numbers_down first zero = []
 numbers_down first (suc n) = (first + n) ∷ numbers_down first n

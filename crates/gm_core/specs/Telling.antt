@@ -17,7 +17,7 @@ abbrev pub poured : List ℕ → List ℕ → (ℕ → List ℕ) → ℕ → Lis
 poured text [] bytes = bytes
 poured text (c ∷ slots) bytes = poured text slots (λ d. if d == c then bytes d ++ text else bytes d)
 
--- so many bytes for each time that slot c stands there
+-- this count of bytes for each time that slot c is listed
 abbrev pub needed : ℕ → ℕ → List ℕ → ℕ
 needed count c [] = 0
 needed count c (d ∷ slots) = if d == c then count + needed count c slots else needed count c slots
@@ -29,7 +29,7 @@ pub record Roomed (old new : Table) : Type 0 where
   pub more : (c : ℕ) → (conn old c).room ≤ (conn new c).room
   pub touched : (c : ℕ) → is_touched new c ≡ is_touched old c
 
--- so many bytes came for each of these slots, once for each time that it stands there, into room that was reserved
+-- this count of bytes came for each of these slots, once for each time that it is listed, into room that was reserved
 pub record Poured (count : ℕ) (slots : List ℕ) (old new : Table) : Type 0 where
   pub hear : (exceptions_only : Bool) (c : ℕ) → hears new exceptions_only c ≡ hears old exceptions_only c
   pub room : (c : ℕ) → (conn old c).room ≤ (conn new c).room + needed count c slots

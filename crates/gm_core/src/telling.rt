@@ -18,7 +18,7 @@ fn hears(conns: &Conns, slot: u32, exceptions_only: bool) -> bool
     conns.is_open(slot) && (!exceptions_only || conns.has_option(slot))
 }
 
-/// Makes room for so many bytes more at a slot, if it hears.
+/// Makes room for `count` more bytes at a slot, if it hears.
 fn reserve_one(
     conns: &mut Conns,
     slot: u32,
@@ -35,7 +35,7 @@ fn reserve_one(
     conns.reserve_out(slot, room)
 }
 
-/// Makes room for so many bytes more at each of these slots that hears, once for each time that it stands there.
+/// Makes room for `count` more bytes at each of these slots that hears, once for each time that it is listed.
 pub fn reserve_each(
     conns: &mut Conns,
     slots: &[u32],

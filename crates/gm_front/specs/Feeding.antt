@@ -15,7 +15,7 @@ abbrev pub AgreesAfter : {S : Type 0} → (S → Settings → List Step → Type
 AgreesAfter agrees change created old new =
     (k : Settings) (steps : List Step) → agrees old k steps → agrees new k (change k steps) × (created ≡ created_since k steps (change k steps))
 
--- memory was wanting for a step that would have been taken, and it agrees with the same steps
+-- it was out of memory for a step that would have been taken, and it agrees with the same steps
 abbrev pub Lacks : {S : Type 0} → (S → Settings → List Step → Type 0) → Step → S → S → Type 0
 Lacks agrees s old new = (k : Settings) (steps : List Step) → agrees old k steps → agrees new k steps × (refusal k s (run k steps) ≡ None)
 

@@ -60,7 +60,7 @@ pub record IsTaken {S : Type 0} (agrees : S → Settings → List Step → Type 
   pub drained : stepped.drained.items ≡ drained_by k input old
   pub held : IsHeld agrees k limits new front
 
--- the refusal is the one that stands; memory may be wanting for an opening and a tick, which would else be taken
+-- the refusal is the one that stands; an opening and a tick that would otherwise be taken may answer Memory
 abbrev pub Refuses : Input → ApplyError → Option ApplyError → Type 0
 Refuses (Opens addr) refused stands = IsRefusal refused stands
 Refuses (Gives c piece) refused stands = stands ≡ Some refused
@@ -76,7 +76,7 @@ pub record IsRefused {S : Type 0} (agrees : S → Settings → List Step → Typ
   pub stands : Refuses input refused (refusal_of k input old)
   pub held : IsHeld agrees k limits old front
 
--- Memory was wanting after so many units of the piece.
+-- It was out of memory after a count of the piece's units.
 pub record IsCutAt {S : Type 0} (agrees : S → Settings → List Step → Type 0) (k : Settings) (limits : Limits) (c : ℕ) (piece : List ℕ) (units : ℕ) (old : Reading) (front : Front S) : Type 0 where
   pub new : Reading
   pub stands : refusal_of k (Gives c piece) old ≡ None

@@ -37,7 +37,7 @@ input_of (handed.Took slot) = Takes slot
 input_of (handed.Withdrew slot) = Withdraws slot
 input_of (handed.Drain slot) = Drains slot
 
--- an input whose piece was cut after so many units
+-- an input whose piece was cut after a count of units
 abbrev pub cut_after : ℕ → Input → Input
 cut_after units (Gives c piece) = Cuts c piece units
 cut_after units other = other
@@ -107,7 +107,7 @@ pub record GivesPiece (k : Settings) (limits : Limits) (c : ℕ) (piece : List �
 abbrev pub closed : ℕ → List Step → (ℕ → List ℕ) → Reading
 closed c steps rests = record { steps = Close c ∷ steps; rests = with_rest c [] rests }
 
--- A piece of slot c that was cut: so many units stand at the front of the rest and the piece; they were taken, all of
+-- A piece of slot c that was cut: a count of units begins the rest and the piece; they were taken, all of
 -- them, and then the slot was closed.
 pub record CutsPiece (k : Settings) (limits : Limits) (c : ℕ) (piece : List ℕ) (units : ℕ) (old new : Reading) : Type 0 where
   pub items : List Item

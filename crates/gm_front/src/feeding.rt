@@ -35,7 +35,7 @@ fn hand_in<S: JobServer>(server: &mut S, event: &Event<'_>) -> Result<Option<u64
     }
 }
 
-/// Hands in each unit that stands in the feeder. Where memory is wanting, it answers how many were taken.
+/// Hands in each whole unit of the feeder. If out of memory, it answers how many were taken.
 fn unload<S: JobServer>(server: &mut S, feeder: &mut Feeder, slot: u32) -> Result<Unloaded, u64>
     ensures ok { IfOk result (λ unloaded. Unloads S.agrees slot server.old feeder.old unloaded server.new feeder.new) }
     ensures err { IfErr result (λ units. CutsShort S.agrees slot server.old feeder.old units server.new) }
@@ -65,8 +65,8 @@ fn unload<S: JobServer>(server: &mut S, feeder: &mut Feeder, slot: u32) -> Resul
     }
 }
 
-/// Takes a piece, hands in what it completes, and answers the last job made. Where memory is wanting, it answers how
-/// many units were taken.
+/// Takes a piece, hands in what it completes, and answers the last job made. If out of memory, it answers how many
+/// units were taken.
 pub(crate) fn take_piece<S: JobServer>(
     server: &mut S,
     feeder: &mut Feeder,

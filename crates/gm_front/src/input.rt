@@ -38,8 +38,8 @@ pub struct Stepped {
 pub enum StepError {
     /// It was refused, and changed nothing.
     Refused(ApplyError),
-    /// There was no memory for all of a piece. The first so many of its units were taken, the rest wasn't, and
-    /// the slot was closed.
+    /// There was no memory for all of a piece. Its first `units` units were taken, the rest weren't, and the slot
+    /// was closed.
     Cut { units: u64 },
 }
 

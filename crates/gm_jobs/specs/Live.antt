@@ -43,7 +43,7 @@ returned limit live = record live { stage = Waiting; deadline = None; returns = 
 abbrev pub lost : Live → Live
 lost live = record live { stage = Lost; deadline = Some 0 }
 
--- its worker is the last one, where a job is given to so many workers at most; 0 is no limit
+-- its worker is the last that it is given to, where there is a limit; 0 is no limit
 abbrev pub is_last_try : ℕ → Live → Bool
 is_last_try limit live = not (limit == 0) && nat_le limit (live.returns + 1)
 

@@ -207,7 +207,7 @@ impl Deadlines {
         self.whole = list_deadlines(&mut self.waiting, jobs);
     }
 
-    /// Makes room for the deadlines of so many jobs.
+    /// Makes room for the deadlines of `count` jobs.
     pub(crate) fn reserve(&mut self, jobs: &JobMap, count: usize) -> Result<(), AllocError>
         ensures { AllListed jobs.now.entries self.old → AllListed jobs.now.entries self.new }
     {

@@ -72,7 +72,7 @@ impl Stage {
 pub(crate) enum Change<'a> {
     /// It runs at this slot, until the deadline if there is one.
     Assign(u32, Option<u64>),
-    /// It waits again, or is lost, where a job is given to so many workers at most; 0 is no limit.
+    /// It waits again, or is lost where this was the last worker that it is given to; a limit of 0 is none.
     GiveBack(u32),
     /// A background submission keeps it.
     Keep,
@@ -253,7 +253,7 @@ impl Job {
         }
     }
 
-    /// Whether its worker is the last one, where a job is given to so many workers at most; 0 is no limit.
+    /// Whether its worker is the last that it is given to; a limit of 0 is none.
     pub(crate) fn is_last_try(&self, limit: u32) -> bool
         ensures { result ≡ is_last_try limit self.now }
     {

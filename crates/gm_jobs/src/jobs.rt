@@ -153,7 +153,7 @@ impl Jobs {
     }
 
     /// Makes room for one job more, of this function and with texts of at most these lengths. `NumbersSpent` comes
-    /// where the last number was given out, and else `Memory` where there is no memory for it.
+    /// where the last number was given out, and otherwise `Memory` if out of memory.
     pub fn reserve(&mut self, f: u32, unique_len: usize, body_len: usize) -> Result<(), JobError>
         ensures spent { (result ≡ Err JobError.NumbersSpent) ↔ (self.old.next ≡ 2 ^ 64) }
         ensures ok { OnOk result (self.new ≡ with_room f unique_len body_len self.old) }
@@ -253,7 +253,7 @@ impl Jobs {
         self.deadlines.note(&self.jobs, n, deadline);
     }
 
-    // Whether the worker of a live job is the last one, where a job is given to so many workers at most.
+    // Whether the worker of a live job is the last that it is given to, where there is a limit.
     fn is_last_try(&self, n: u64, limit: u32) -> bool
         ensures { result ≡ passes (is_last_try limit) (job self.now n) }
     {

@@ -34,7 +34,7 @@ impl MinHeap {
         }
     }
 
-    /// Makes room for so many pairs.
+    /// Makes room for `count` pairs.
     pub(crate) fn reserve(&mut self, count: usize) -> Result<(), AllocError>
         ensures { self.new ≡ self.old }
     {

@@ -213,7 +213,7 @@ KeptJob =
     ∷ grab_job 2 ∷ []) (
     created 0 "H:gmd:1" ∷ created 1 "H:gmd:1" ∷ assigned 2 "H:gmd:1" "f" "a" ∷ [])
 
--- with a connection go the waiting jobs that nobody else wants, and no others
+-- a closing discards the waiting jobs that nobody else wants, and no others
 abbrev pub OnlyUnwanted : Type 0
 OnlyUnwanted =
     Plays four_slots (

@@ -30,7 +30,7 @@ defaults = settings 1 64 65536
 abbrev pub in_turn : Settings
 in_turn = record defaults { round_robin = true }
 
--- a job may be given to so many workers
+-- to how many workers a job may be given
 abbrev pub given_to : ℕ → Settings
 given_to workers = record defaults { retries = workers }
 

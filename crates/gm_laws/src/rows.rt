@@ -367,7 +367,7 @@ pub fn kept_job()
     ensures { KeptJob }
 {}
 
-/// With a connection go the waiting jobs that nobody else wants, and no others.
+/// A closing discards the waiting jobs that nobody else wants, and no others.
 pub fn only_unwanted()
     ensures { OnlyUnwanted }
 {}

@@ -99,7 +99,7 @@ returns n (Made m f p u body ∷ older) = if n == m then 0 else returns n older
 returns n (Returned m ∷ older) = if n == m then suc (returns n older) else returns n older
 returns n (note ∷ older) = returns n older
 
--- its worker is the last one, where a job is given to so many workers at most
+-- its worker is the last that it is given to, where there is a limit
 abbrev pub is_last_try : Settings → ℕ → List Note → Bool
 is_last_try k n notes = not (k.retries == 0) && nat_le k.retries (returns n notes + 1)
 
@@ -114,7 +114,7 @@ functions (note ∷ older) = functions older
 abbrev pub is_mentioned : List ℕ → List Note → Bool
 is_mentioned f notes = list_any (λ g. bytes_eq g f) (functions notes)
 
--- at most so many of its jobs may be there; 0 is no limit
+-- the most of its jobs that may wait or run; 0 is no limit
 abbrev pub says_limit : List ℕ → Note → Option ℕ
 says_limit f (Limit g size) = if bytes_eq g f then Some size else None
 says_limit f note = None

@@ -95,7 +95,7 @@ is_owed Owed = true
 is_owed Awake = false
 is_owed Asleep = false
 
--- the slots from c on, so many
+-- a count of slots, from c on
 abbrev pub slots_from : ℕ → ℕ → List ℕ
 slots_from c zero = []
 slots_from c (suc n) = c ∷ slots_from (suc c) n

@@ -29,7 +29,7 @@ IsSized (events.Fault slot fault) = Unit {0}
 IsSized (events.Close slot) = Unit {0}
 IsSized (events.Tick now) = Unit {0}
 
--- A refusal is the one that stands, but for memory, which is wanting only for a step that would be taken.
+-- A refusal is the one that stands, but that Memory comes only for a step that would otherwise be taken.
 abbrev pub IsRefusal : ApplyError → Option ApplyError → Type 0
 IsRefusal Memory stands = stands ≡ None
 IsRefusal NotOpen stands = stands ≡ Some NotOpen

@@ -73,7 +73,7 @@ fn is_name(name: &[u8]) -> bool
 }
 
 impl Config {
-    /// Settings with this name in job handles, this number for the first job, and at most so many
+    /// Settings with this name in job handles, this number for the first job, and at most this many
     /// connections and functions. A worker's functions don't take turns, and a job may be given to any number of
     /// workers. What is wrong is answered in the order of `ConfigError`. It takes no memory.
     pub fn new(
@@ -123,7 +123,7 @@ impl Config {
         }
     }
 
-    /// The same settings, but that a job may be given to so many workers; 0 is no limit. When the last of them
+    /// The same settings, but that a job may be given to `r` workers at most; 0 is no limit. When the last of them
     /// goes with the job in hand, the job isn't given out again and fails with the next tick. It takes no memory.
     pub fn with_retries(self, r: u32) -> Config
         ensures { result ≡ record self { retries = r } }

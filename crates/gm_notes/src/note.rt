@@ -28,7 +28,7 @@ pub enum Note {
     OptionSet {
         slot: u32,
     },
-    /// The worker can do this function, a job of it within so many seconds; 0 is no limit.
+    /// The worker can do this function, and each job has this many seconds; 0 is no limit.
     Can {
         slot: u32,
         function: Text,
@@ -112,7 +112,7 @@ pub enum Note {
     Mention {
         function: Text,
     },
-    /// At most so many jobs of the function may be there; 0 is no limit.
+    /// The most jobs of the function that may wait or run; 0 is no limit.
     Limit {
         function: Text,
         size: u32,

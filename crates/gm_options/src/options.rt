@@ -71,7 +71,7 @@ pub fn with_server_options<'a>(
             1,
             1024,
             "64",
-            "How many connections may be open at once",
+            "The most connections that are open at once",
         ))?
         .arg(number(
             alloc,
@@ -79,12 +79,12 @@ pub fn with_server_options<'a>(
             0,
             1_073_741_824,
             "67108864",
-            "How many bytes of data a packet may have",
+            "The most bytes of data in a packet",
         ))?
         .arg(flag(
             alloc,
             "round-robin",
-            "A worker's functions take turns: a grab tries first the functions that the worker added after the one of its last job",
+            "A worker's functions take turns: a grab begins with the function that the worker added after the one of its last job",
         ))?
         .arg(number(
             alloc,
@@ -92,7 +92,7 @@ pub fn with_server_options<'a>(
             0,
             4_294_967_295,
             "0",
-            "To how many workers a job is given at most: it fails when the last of them goes; 0 is no limit",
+            "Gives a job to at most N workers, and fails it when the last of them disconnects; 0 is no limit",
         ))
 }
 

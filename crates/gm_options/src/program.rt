@@ -32,7 +32,7 @@ impl ArgumentsError {
     /// What a program says of it.
     pub fn text(self) -> &'static str {
         match self {
-            ArgumentsError::NotText => "the arguments aren't text",
+            ArgumentsError::NotText => "invalid arguments: not text",
             ArgumentsError::Memory => "out of memory",
         }
     }

@@ -93,7 +93,7 @@ abbrev pub paid : List Note → ℕ
 paid [] = 0
 paid (note ∷ older) = weight note + paid older
 
--- so many of the notes, the oldest
+-- a count of the notes, the oldest
 abbrev pub oldest : ℕ → List Note → List Note
 oldest count notes = reverse (take count (reverse notes))
 
@@ -122,7 +122,7 @@ pub record IsPaid (slots first : ℕ) (notes : List Note) : Type 0 where
   pub numbered : AreNumbered first notes
   pub covered : length notes + due slots first notes ≤ paid notes
 
--- so many notes of the paying kinds were added at most
+-- the most notes of the paying kinds that were added
 pub record Spends (count : ℕ) (old new : Logged) : Type 0 where
   pub slots : new.slots ≡ old.slots
   pub first : new.first ≡ old.first

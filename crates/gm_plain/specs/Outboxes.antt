@@ -15,7 +15,7 @@ room_at c outboxes = slice_index_or (map (λ outbox. vec_capacity outbox - vec_l
 abbrev pub with_bytes : ℕ → List ℕ → List (List ℕ) → List (List ℕ)
 with_bytes c text outboxes = slice_set outboxes c (slice_index_or outboxes c [] ++ text)
 
--- only so many bytes of slot c stay
+-- only the first bytes of slot c stay, as many as the count
 abbrev pub cut_to : ℕ → ℕ → List (List ℕ) → List (List ℕ)
 cut_to c count outboxes = slice_set outboxes c (take count (slice_index_or outboxes c []))
 

@@ -243,7 +243,7 @@ fn returns(log: &Log, job: u64) -> usize
     count
 }
 
-/// Whether the worker of a job is the last one, where a job is given to so many workers at most.
+/// Whether the worker of a job is the last that it is given to, where there is a limit.
 pub fn is_last_try(config: &Config, log: &Log, job: u64) -> bool
     ensures { result ≡ is_last_try config.now job log.now.notes }
 {

@@ -82,7 +82,7 @@ impl Model for Log {
 }
 
 impl Log {
-    /// Nothing has happened, to so many slots; jobs are numbered from the first on. It takes no memory.
+    /// Nothing has happened yet to any slot; jobs are numbered from `first` on. It takes no memory.
     pub fn new(alloc: Global, slots: u32, first: u64) -> Log
         ensures notes { result.notes ≡ [] }
         ensures slots { result.slots ≡ slots }
@@ -178,7 +178,7 @@ impl Log {
         found
     }
 
-    /// Finds memory for so many notes more, by their weight.
+    /// Finds memory for more notes, counted by their weight.
     pub fn make_room(&mut self, count: u32) -> Result<(), AllocError>
         ensures room { OnOk result (count ≤ self.new.free) }
         ensures notes { self.new.notes ≡ self.old.notes }

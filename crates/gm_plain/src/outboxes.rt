@@ -33,7 +33,7 @@ fn count_each(alloc: Global, outboxes: &[Vec<u8>]) -> Result<Vec<usize>, AllocEr
     Ok(counts)
 }
 
-/// Takes back all bytes of a outbox but so many of the first.
+/// Shortens an outbox to its first `count` bytes.
 fn shorten_in(outboxes: &mut Vec<Vec<u8>>, i: usize, count: usize)
     requires { i < length outboxes.old.items }
     ensures bytes { bytes_of outboxes.new.items ≡ cut_to i count (bytes_of outboxes.old.items) }
@@ -42,7 +42,7 @@ fn shorten_in(outboxes: &mut Vec<Vec<u8>>, i: usize, count: usize)
     outboxes[i].truncate(count);
 }
 
-/// Takes back all bytes of each outbox but so many of the first.
+/// Shortens each outbox to its own count of first bytes.
 fn shorten_each(outboxes: &mut Vec<Vec<u8>>, counts: &[usize])
     requires { length counts.now ≡ length outboxes.old.items }
     ensures bytes { (c : ℕ) → slice_index_or (bytes_of outboxes.new.items) c []
@@ -54,7 +54,7 @@ fn shorten_each(outboxes: &mut Vec<Vec<u8>>, counts: &[usize])
     }
 }
 
-/// Finds room for so many bytes more in a outbox.
+/// Finds room for `count` more bytes in an outbox.
 fn reserve_in(outboxes: &mut Vec<Vec<u8>>, slot: u32, count: usize) -> Result<(), AllocError>
     requires { slot < length outboxes.old.items }
     ensures bytes { bytes_of outboxes.new.items ≡ bytes_of outboxes.old.items }
@@ -66,7 +66,7 @@ fn reserve_in(outboxes: &mut Vec<Vec<u8>>, slot: u32, count: usize) -> Result<()
     Ok(())
 }
 
-/// Finds room for so many bytes more in the outbox of each of these slots.
+/// Finds room for `count` more bytes in the outbox of each of these slots.
 fn reserve_each(outboxes: &mut Vec<Vec<u8>>, slots: &[u32], count: usize) -> Result<(), AllocError>
     requires { All (λ c. c < length outboxes.old.items) slots.now }
     ensures bytes { bytes_of outboxes.new.items ≡ bytes_of outboxes.old.items }
@@ -117,7 +117,7 @@ impl Model for Outboxes {
 }
 
 impl Outboxes {
-    /// Nothing waits for any of so many slots.
+    /// Nothing waits for any slot.
     pub fn new(alloc: Global, slots: u32) -> Result<Outboxes, AllocError>
         ensures { IfOk result (λ outboxes. outboxes ≡ replicate slots []) }
     {
@@ -135,7 +135,7 @@ impl Outboxes {
         count_each(alloc, self.outboxes.as_slice())
     }
 
-    /// Takes back all bytes but those that waited for each slot before, so many each.
+    /// Shortens each outbox to the bytes that waited before, of which these are the counts.
     pub fn truncate(&mut self, counts: &[usize])
         requires { length counts.now ≡ length self.old }
         ensures bytes { (c : ℕ) → slice_index_or self.new c [] ≡ take (slice_index_or counts.now c 0) (slice_index_or self.old c []) }

@@ -61,7 +61,7 @@ impl PlainServer {
         })
     }
 
-    /// Finds memory for so many notes more, by their weight.
+    /// Finds memory for more notes, counted by their weight.
     fn make_room(&mut self, count: u32) -> Result<(), AllocError>
         ensures room { OnOk result (count ≤ self.new.log.free) }
         ensures goes { Goes self.old self.new (λ past. past) }

@@ -27,8 +27,12 @@ fn first_job<'a>(alloc: Global) -> Arg<'a> {
 /// The program's command: its options, with the range and the default of each.
 fn command<'a>(alloc: Global) -> Result<Command<'a>, AllocError> {
     let command = Command::new(alloc, "gm_play")
-        .about("Plays the script on standard input on a job server, and prints what comes of it")
-        .arg(flag(alloc, "plain", "Plays on the plain server"))?
+        .about("Plays the script from standard input on a job server and prints the results")
+        .arg(flag(
+            alloc,
+            "plain",
+            "Plays it on the plain server, which searches a list of all that happened",
+        ))?
         .arg(first_job(alloc))?
         .arg(number(
             alloc,
@@ -36,7 +40,7 @@ fn command<'a>(alloc: Global) -> Result<Command<'a>, AllocError> {
             1,
             65_536,
             "65536",
-            "How many functions may be mentioned",
+            "The most functions that the server knows",
         ))?;
     with_server_options(alloc, command)
 }

@@ -10,16 +10,16 @@ use thiserror::Error;
 #[derive(Clone, Copy, Debug, PartialEq, Eq, Drop, Error)]
 pub enum PlayError {
     /// The reader failed.
-    #[error("the script can't be read")]
+    #[error("can't read the script")]
     Read,
     /// The writer failed.
-    #[error("the output can't be written")]
+    #[error("can't write the output")]
     Write,
     /// The script has more than 16,777,216 bytes.
     #[error("the script is too long")]
     TooLong,
     /// There was no memory for it.
-    #[error("there is no memory left")]
+    #[error("out of memory")]
     Memory,
 }
 

@@ -1,4 +1,4 @@
-//! A piece in which memory is wanting.
+//! A piece for which memory runs out.
 
 ghost use Rattle.std.specs.Prelude.{◌≤◌};
 
@@ -53,7 +53,7 @@ fn places(front: &Front<PlainServer>) -> [Place; 3] {
     [front.place(1), front.place(2), front.place(3)]
 }
 
-// Where they are to be when so many stand.
+// Where they are to be, by how many were made.
 static PLACES: [[Place; 3]; 4] = [
     [Place::Unmade, Place::Unmade, Place::Unmade],
     [Place::Waiting, Place::Unmade, Place::Unmade],
@@ -66,7 +66,7 @@ fn takes_pieces(front: &mut Front<PlainServer>) -> bool {
     give(front, b"\0") != Err(StepError::Refused(ApplyError::NotOpen))
 }
 
-/// A piece makes its three jobs. Where memory is wanting in it, the jobs before that stand, and the slot is closed.
+/// A piece makes its three jobs. If memory runs out in it, the jobs made before stay, and the slot is closed.
 #[test]
 fn cut_piece(rt: HostRuntime) -> Result<(), Fail> {
     let mut front = opened(rt.alloc())?;

@@ -95,7 +95,7 @@ fn play_lines<S: JobServer, W: Write>(
     play_and_write(alloc, front, told, rest, writer)
 }
 
-/// Plays the script that a reader gives on a server with so many slots, and writes what comes of it.
+/// Plays the script that a reader gives on a server with this many slots, and writes the results.
 ///
 /// The server is to have taken no step yet. What was written before an error isn't said.
 pub fn play_on<S: JobServer + Drop, R: Read, W: Write>(

@@ -15,7 +15,7 @@ pub(crate) enum RunError {
     #[error("invalid arguments")]
     Arguments,
     /// The system gives no random bytes.
-    #[error("the system gives no random seed")]
+    #[error("can't get a random seed")]
     Seed,
     /// The script wasn't played to its end.
     #[error("{0}")]

@@ -20,7 +20,7 @@ use std::test::Fail;
 use std::{io, str};
 
 // The test fails where these aren't the same, and says at what. A call of this costs a proof little; an assertion in its
-// place would be spelled out anew each time.
+// place would be proved again each time.
 pub fn same<T: PartialEq + Debug>(rt: &impl Abort, at: &str, got: &T, wanted: &T) {
     assert!(rt; got == wanted, "{at}: {got:?}, and not {wanted:?}");
 }
@@ -157,7 +157,7 @@ fn rows(rt: HostRuntime) -> Result<(), Fail> {
     Ok(())
 }
 
-// How much is printed of a script of so many bytes like this one.
+// How much is printed of a script of `len` bytes like this one.
 fn printed_bytes(rt: &HostRuntime, byte: u8, len: u64) -> Result<Result<usize, PlayError>, Fail> {
     let mut out = Vec::new(rt.alloc());
     let mut reader = io::repeat(byte).take(len);
@@ -236,7 +236,7 @@ impl Write for BrokenWriter {
     }
 }
 
-// What comes of two openings where there is room for so many bytes.
+// What comes of two openings where there is room for `room` bytes.
 fn outcome_in(rt: &HostRuntime, room: usize) -> Result<Result<(), PlayError>, Fail> {
     let mut script = b"open a\nopen b".as_slice();
     outcome(rt, USUAL, false, &mut script, &mut BrokenWriter { room })

@@ -39,7 +39,7 @@ impl Model for Ring {
         × BeginsWithJob r.entries.items };
 }
 
-// No machine has the memory for so many jobs, and the sum of three such counts fits a u64.
+// No machine has the memory for that many jobs, and the sum of three such counts fits a u64.
 const MOST_RESERVED: usize = 1 << 56;
 
 // Drops the cleared entries at the front.

@@ -35,8 +35,8 @@ fn prepare(stream: &TcpStream) -> io::Result<()> {
     stream.set_nodelay(true)
 }
 
-/// Whether a listener that failed so is one no more. All else that `accept` says comes of one connection or of others
-/// that are open, and passes.
+/// Whether this error says that the listener itself failed. Other errors of `accept` come from one connection, or from
+/// others that are open, and pass.
 fn is_over(error: &io::Error) -> bool {
     error.kind() == ErrorKind::InvalidInput
 }
@@ -123,14 +123,12 @@ impl<'s, K: BookName + Send + Sync> Control<'s, K> {
         Ok(())
     }
 
-    /// Waits where no connection can be taken at present, and says so once where descriptors are wanting: others have to
-    /// close theirs first.
+    /// Waits if no connection can be taken at present, and says so once if the process is out of file descriptors: other
+    /// connections have to be closed first.
     fn hold_on(&mut self, rt: &(impl Clock + Eprint), error: &io::Error) {
         if error.raw_os_error() == Some(EMFILE) && !self.has_warned {
             self.has_warned = true;
-            let _ = eprintln!(rt;
-                "gmd: connections wait, for there are too few descriptors: {error}"
-            );
+            let _ = eprintln!(rt; "gmd: out of file descriptors, connections wait: {error}");
         }
         thread::sleep(rt, Duration::from_millis(ACCEPT_TIMEOUT));
     }
@@ -147,7 +145,7 @@ impl<'s, K: BookName + Send + Sync> Control<'s, K> {
             self.tick(rt);
             match listener.accept() {
                 Ok((stream, peer)) => {
-                    // Where memory is wanting, the connection is closed, and the server goes on.
+                    // If out of memory, the connection is closed, and the server goes on.
                     let _ = self.admit(scope, rt, gate, stream, peer);
                 }
                 Err(error) if is_usual(&error) => {}

@@ -44,9 +44,9 @@ fn with_flags<'a>(alloc: Global, command: Command<'a>) -> Result<Command<'a>, Al
         .arg(flag(
             alloc,
             "tape",
-            "Keeps every accepted call with its bytes for as long as it serves, so its memory grows with each; in the end the record is compared with what each connection was told, and the status is 4 where they differ",
+            "Records every accepted call with its bytes, and when the server ends, compares the record with what each connection was told: status 4 if they differ. The record stays in memory and grows with each call",
         ))?
-        .arg(flag(alloc, "check", "Prints the settings, and ends"))
+        .arg(flag(alloc, "check", "Prints the settings and exits"))
 }
 
 /// The program's command: its options, with the range and the default of each.

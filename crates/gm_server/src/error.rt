@@ -11,10 +11,10 @@ use thiserror::Error;
 pub enum ServeError {
     /// There was no memory for the book, for what its threads share, or for what is compared in the end; or a
     /// connection's end couldn't be entered on the tape.
-    #[error("there is no memory left")]
+    #[error("out of memory")]
     Memory = 6,
-    /// What the connections were told isn't what stands on the tape.
-    #[error("what the connections were told isn't what stands on the tape")]
+    /// The tape differs from what the connections were told.
+    #[error("the tape differs from what the connections were told")]
     Differs = 16,
     /// The listener failed.
     #[error("the listener failed")]

@@ -26,8 +26,8 @@ const ENDING_TIME: u64 = 2_000;
 /// How often one who isn't the writer looks in a row, where the lane is touched again and again.
 const MOST_LOOKS: u32 = 16;
 
-/// Whether so many milliseconds have passed since this was first asked, which it keeps. Where the clock can't be read, they
-/// have.
+/// Whether `time` milliseconds have passed since this was first asked; `begun` keeps when that was. If the clock can't be
+/// read, they have.
 pub(crate) fn is_over(rt: &impl Clock, begun: &mut Option<Instant>, time: u64) -> bool {
     match begun {
         Some(begun) => match begun.elapsed(rt) {

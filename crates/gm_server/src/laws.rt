@@ -6,7 +6,7 @@ ghost use Rattle.gm_server.specs.Promise.{ToldInOrder, NoSlotSpeaksForAnother, S
 ghost use Rattle.gm_server.specs.Promise.{ListenersAreTold, ClientsAreTold};
 ghost use Rattle.gm_server.specs.Promise.{JobsEndOnce, NoWorkerSleepsBesideItsWork, WaitingJobsAreWanted};
 
-/// What each desk and pen was told is what the tape has of it, entry for entry; so the events of a desk stand on the tape in the
+/// What each desk and pen was told is what the tape has of it, entry for entry; so the events of a desk are on the tape in the
 /// order in which it handed them in.
 pub fn told_in_order()
     ensures { ToldInOrder }
@@ -18,7 +18,7 @@ pub fn no_slot_speaks_for_another()
     ensures { NoSlotSpeaksForAnother }
 {}
 
-/// What a session handed in, the units of what it read up to a cut and perhaps the fault behind them, stands on the tape, in their order.
+/// What a session handed in, the units of what it read up to a cut and perhaps the fault behind them, is on the tape, in order.
 pub fn sessions_are_on_the_tape()
     ensures { SessionsAreOnTheTape }
 {}

@@ -29,13 +29,13 @@ enum RunError {
     #[error("invalid arguments")]
     Arguments,
     /// The name can't stand in a job handle.
-    #[error("the name is 1 to 40 letters, digits, dots and hyphens")]
+    #[error("invalid --name: use 1 to 40 letters, digits, dots and hyphens")]
     Name,
     /// It can't listen.
     #[error("can't listen on {0}: {1}")]
     Listen(String, io::Error),
     /// The system gives no random bytes.
-    #[error("the system gives no random seed")]
+    #[error("can't get a random seed")]
     Seed,
     /// Standard output can't be written.
     #[error("can't write to standard output")]
@@ -236,7 +236,7 @@ fn report<R: Eprint>(rt: &R, ended: &Result<Option<Served>, RunError>) {
             let _ = eprintln!(rt; "gmd: ended, connections served: {connections}");
             if entries > 0 {
                 let _ = eprintln!(rt;
-                    "gmd: the connections were told what stands on the tape, entries: {entries}"
+                    "gmd: the tape agrees with what the connections were told, entries: {entries}"
                 );
             }
         }
@@ -250,8 +250,8 @@ fn report<R: Eprint>(rt: &R, ended: &Result<Option<Served>, RunError>) {
 /// Runs the program on its arguments, of which the first is its name, with this standard output. It answers the status
 /// that the program is to end with: 0 after a shutdown, a check, the help or the version; 2 for invalid arguments; 3
 /// where it can't listen, the system gives no random seed, standard output can't be written, or memory ran out at the
-/// start or, with a tape, at the end of a connection or of the server; 4 where what the connections were told isn't what
-/// stands on the tape.
+/// start or, with a tape, at the end of a connection or of the server; 4 where the tape differs from what the connections
+/// were told.
 ///
 /// The options are those of gearmand(8) of the same names, `--tape` and `--check`.
 pub fn run_words<

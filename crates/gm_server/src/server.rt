@@ -116,9 +116,9 @@ fn served(connections: u64, book: &Result<Settled, SettleError>) -> Result<Serve
 /// it is compared with what each connection's desk and pen were told. Once the book stands, and before a connection is
 /// taken, `ready` tells so; where it can't, the server ends at once.
 ///
-/// `Memory` comes where there is no memory for the book or for its end, and with a tape where there is none to enter the
-/// end of a connection, which stops the server; `Differs` where what was told isn't what stands on the tape; `Listen`
-/// where the listener fails. With a tape it answers `Ok` exactly where what was told is what stands on it.
+/// `Memory` comes if there is no memory for the book or for its end, and with a tape if there is none to enter the end
+/// of a connection, which stops the server; `Differs` where the tape differs from what was told; `Listen`
+/// where the listener fails. With a tape it answers `Ok` exactly where the two agree.
 pub fn serve<R: Threads + Wait + Clock + Eprint + Sync, G: Gate, T: Ready>(
     rt: &R,
     alloc: Global,

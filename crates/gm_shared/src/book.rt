@@ -170,7 +170,7 @@ impl Booked {
         Ok(Drained { bytes, shut })
     }
 
-    /// The core and the seat, and what stands on the tape.
+    /// The core, the seat and the entries of the tape.
     pub(crate) fn into_parts(self) -> (Core, BookSeat, Vec<Entry>)
         ensures core { result.0 ≡ self.core }
         ensures seat { result.1 ≡ self.seat }

@@ -1,4 +1,4 @@
-//! The end of a shared book: whether what its desks and pens were told is what stands on its tape.
+//! The end of a shared book: whether its tape agrees with what its desks and pens were told.
 
 ghost use Rattle.std.specs.Prelude.{◌≡◌, ◌<◌, ◌≤◌, ◌+◌, ◌^◌, ◌++◌, [], List, All, MatchBool, IfOk, IfErr, OnOk, IfSome, IfNone, map, length, vec_len, vec_capacity};
 ghost use Rattle.gm_shared.specs.declared.tape.Actor.TheVariants as actors;
@@ -29,7 +29,7 @@ pub struct Settled {
 pub enum SettleError {
     /// There was no memory for it.
     Memory,
-    /// What the desks and pens were told isn't what stands on the tape, or some of them weren't given back. It has what the
+    /// The tape differs from what the desks and pens were told, or some of them weren't given back. It has what the
     /// book was.
     Differs(Settled),
 }
@@ -177,7 +177,7 @@ fn entry_from(entries: &[Entry], next: u64, at: u64) -> Option<&Entry>
     entries.get(at as usize)
 }
 
-// Whether a share is what the tape has of its actor, of whom it has so many entries.
+// Whether a share is what the tape has of its actor, of whom it has `count` entries.
 fn share_is(entries: &[Entry], actor: Actor, share: &[Told], count: usize) -> bool
     requires { count ≡ length (share_from actor 0 entries.now) }
     ensures { MatchBool result (share.now ≡ share_from actor 0 entries.now) (share.now ≡ share_from actor 0 entries.now → ⊥) }

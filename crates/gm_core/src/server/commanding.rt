@@ -158,7 +158,7 @@ impl Core {
         Ok(())
     }
 
-    /// At most so many jobs of a function may be there; 0 is no limit.
+    /// Sets the most jobs of a function that may wait or run; 0 is no limit.
     fn maxqueue(&mut self, slot: u32, name: &[u8], size: u32) -> Result<(), AllocError>
         requires open { IsOpen self.old.conns slot }
         requires named { is_bad_word name.now ≡ false }

@@ -25,8 +25,8 @@ use gm_notes::Priority;
 use gm_packet::{Response, response_fits, write_response};
 use std::alloc::AllocError;
 
-/// Writes a packet and makes room for it at a slot. A packet that can't carry its texts is refused as if memory
-/// were wanting: what came in a packet fits one.
+/// Writes a packet and makes room for it at a slot. A packet that can't carry its texts is refused as if out of
+/// memory: what came in a packet fits one.
 pub(super) fn prepare_at(
     conns: &mut Conns,
     text: &mut Vec<u8>,

@@ -22,7 +22,7 @@ fn workers(conns: &Conns, f: u32) -> u32
     conns.able_count(f)
 }
 
-/// What the list of functions says of one. Where its jobs are more than a number holds, memory is wanting.
+/// What the list of functions says of one. It answers Memory if its jobs are more than a number holds.
 fn status_row<'a>(
     conns: &Conns,
     functions: &'a Functions,

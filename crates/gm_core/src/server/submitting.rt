@@ -28,7 +28,7 @@ fn first_listener(background: bool, slot: u32) -> Option<u32>
     if background { None } else { Some(slot) }
 }
 
-/// Whether so many jobs reach a limit; 0 is no limit.
+/// Whether this count of jobs reaches a limit; 0 is no limit.
 fn is_limit_reached(limit: u32, counts: Counts) -> bool
     ensures { result ≡ (not (limit == 0) && nat_le limit (counts.waiting + counts.running)) }
 {
@@ -159,7 +159,7 @@ impl Core {
         }
     }
 
-    /// Joins a job: in the background it is kept, and else listened to.
+    /// Joins a job: in the background it is kept, otherwise listened to.
     pub(super) fn join(
         &mut self,
         slot: u32,

@@ -110,7 +110,7 @@ impl PlainServer {
         self.say(slot, &text)
     }
 
-    /// At most so many jobs of a function may be there; 0 is no limit.
+    /// Sets the most jobs of a function that may wait or run; 0 is no limit.
     fn maxqueue(&mut self, slot: u32, name: &[u8], size: u32) -> Result<(), AllocError>
         requires slot { slot < self.old.config.slots }
         requires named { is_bad_word name.now ≡ false }
