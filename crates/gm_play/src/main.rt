@@ -8,17 +8,9 @@ mod args;
 mod error;
 pub mod laws;
 mod line;
-#[cfg(test)]
-mod memory;
 mod order;
 mod playing;
-#[cfg(test)]
-mod random;
-#[cfg(test)]
-mod rows;
 mod run_error;
-#[cfg(test)]
-mod tests;
 mod text;
 
 use args::{Args, parse_args};

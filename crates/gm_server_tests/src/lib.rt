@@ -1,10 +1,8 @@
 //! Tests of what threads do at once: a shared book, by worked cases over its desks and pens and by threads that work at
-//! it; and the server: sessions, what a writer writes, the program's arguments, and clients over loopback. It holds nothing
-//! else.
+//! it; and the server: sessions, what a writer writes, and connections of which one is held at a unit. It holds nothing
+//! else. What can be seen from outside is tested at the program, by tests/serve.
 #![tactic(auto)]
 
-#[cfg(test)]
-mod arguments;
 #[cfg(test)]
 mod books;
 #[cfg(test)]
@@ -18,18 +16,12 @@ mod crowds;
 #[cfg(test)]
 mod devices;
 #[cfg(test)]
-mod jobs;
-#[cfg(test)]
-mod loopback;
+mod held;
 #[cfg(test)]
 mod packets;
-#[cfg(test)]
-mod retries;
 #[cfg(test)]
 mod room;
 #[cfg(test)]
 mod sessions;
-#[cfg(test)]
-mod slow_peers;
 #[cfg(test)]
 mod tapes;
