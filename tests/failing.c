@@ -1,0 +1,122 @@
+/* A library to be preloaded in a program: it lets one call of the program fail, the Nth of its kind.
+ *
+ * The variable FAIL is KIND:N, or KIND:N.. for the Nth and all that follow. KIND is growth (malloc, calloc and realloc),
+ * read (read and recv), write (write and writev), or send (send and sendmsg). Where a call failed, a byte is written to the
+ * descriptor of the variable FAIL_TOLD.
+ *
+ * A test asks for it itself: a growth to 2^47 + N bytes, which succeeds nowhere else, has the Nth growth after it refused, and
+ * one to 2^47 bytes ends that, and succeeds where one was refused. */
+
+typedef unsigned long size_t;
+
+extern void *__libc_malloc(size_t);
+extern void *__libc_calloc(size_t, size_t);
+extern void *__libc_realloc(void *, size_t);
+extern long syscall(long, ...);
+extern char *getenv(const char *);
+extern int *__errno_location(void);
+
+enum { NONE, GROWTH, READ, WRITE, SEND };
+enum { SYS_READ = 0, SYS_WRITE = 1, SYS_WRITEV = 20, SYS_SENDTO = 44, SYS_RECVFROM = 45, SYS_SENDMSG = 46 };
+enum { EIO = 5, ENOMEM = 12 };
+
+static const size_t ASKED = 1ul << 47;
+
+static int kind;     /* which calls are counted */
+static int forever;  /* whether all fail from the Nth on */
+static long left;    /* how many succeed before the first that fails */
+static int has_failed;
+static int told = -1;
+
+static long number_at(const char *text) {
+    long number = 0;
+    for (; *text >= '0' && *text <= '9'; text++)
+        number = 10 * number + (*text - '0');
+    return number;
+}
+
+static const char *after(const char *text, const char *word) {
+    for (; *word; text++, word++)
+        if (*text != *word)
+            return 0;
+    return text;
+}
+
+__attribute__((constructor)) static void read_settings(void) {
+    static const char *const KINDS[] = {"", "growth:", "read:", "write:", "send:"};
+    const char *text = getenv("FAIL"), *number;
+    if (getenv("FAIL_TOLD"))
+        told = number_at(getenv("FAIL_TOLD"));
+    for (int at = GROWTH; text && at <= SEND; at++)
+        if ((number = after(text, KINDS[at]))) {
+            left = number_at(number);
+            for (; *number; number++)
+                forever |= *number == '.';
+            kind = at;
+        }
+}
+
+/* Whether this call is to fail. */
+static int fails(int of, int error) {
+    if (kind != of)
+        return 0;
+    long before = __atomic_fetch_sub(&left, 1, __ATOMIC_SEQ_CST);
+    if (before > 1 || (before < 1 && !forever))
+        return 0;
+    if (!__atomic_exchange_n(&has_failed, 1, __ATOMIC_SEQ_CST) && told >= 0)
+        syscall(SYS_WRITE, told, "x", 1);
+    *__errno_location() = error;
+    return 1;
+}
+
+/* A test asks. */
+static int is_granted(size_t number) {
+    kind = number ? GROWTH : NONE;
+    if (!number)
+        return has_failed;
+    left = number;
+    has_failed = 0;
+    return 1;
+}
+
+void *malloc(size_t size) {
+    if (size >= ASKED && size - ASKED < 1ul << 32)
+        return is_granted(size - ASKED) ? __libc_malloc(1) : 0;
+    return fails(GROWTH, ENOMEM) ? 0 : __libc_malloc(size);
+}
+
+void *calloc(size_t count, size_t size) {
+    return fails(GROWTH, ENOMEM) ? 0 : __libc_calloc(count, size);
+}
+
+void *realloc(void *block, size_t size) {
+    return fails(GROWTH, ENOMEM) ? 0 : __libc_realloc(block, size);
+}
+
+long read(int fd, void *bytes, size_t size) {
+    return fails(READ, EIO) ? -1 : syscall(SYS_READ, fd, bytes, size);
+}
+
+long recv(int fd, void *bytes, size_t size, int flags) {
+    return fails(READ, EIO) ? -1 : syscall(SYS_RECVFROM, fd, bytes, size, flags, 0, 0);
+}
+
+long write(int fd, const void *bytes, size_t size) {
+    return fails(WRITE, EIO) ? -1 : syscall(SYS_WRITE, fd, bytes, size);
+}
+
+long __write(int fd, const void *bytes, size_t size) {
+    return write(fd, bytes, size);
+}
+
+long writev(int fd, const void *parts, int count) {
+    return fails(WRITE, EIO) ? -1 : syscall(SYS_WRITEV, fd, parts, count);
+}
+
+long send(int fd, const void *bytes, size_t size, int flags) {
+    return fails(SEND, EIO) ? -1 : syscall(SYS_SENDTO, fd, bytes, size, flags, 0, 0);
+}
+
+long sendmsg(int fd, const void *message, int flags) {
+    return fails(SEND, EIO) ? -1 : syscall(SYS_SENDMSG, fd, message, flags);
+}
