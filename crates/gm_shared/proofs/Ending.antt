@@ -1,5 +1,5 @@
 -- What the pens of a book that ends have taken.
-use Rattle.std.proofs.Common.{◌≡◌, ◌++◌, inl, inr, ℕ, Bool, Result, Err, List, map, All, sym, ap, subst, ◌∙◌, arith}
+use Rattle.std.proofs.Common.{◌≡◌, ◌++◌, inl, inr, ℕ, Bool, Result, List, map, All, sym, ap, subst, ◌∙◌, arith}
 use Rattle.std.specs.Prelude.{slice_index, slice_index_or}
 use Rattle.gm_notes.specs.Settings.{Settings}
 use Rattle.gm_notes.specs.Notes.{phase}
@@ -9,16 +9,13 @@ use Rattle.gm_word.specs.Lines.{Agrees, owing, number}
 use Rattle.gm_word.specs.Steps.{line_at}
 use Rattle.gm_word.specs.Seats.{PenState, Settles}
 use Rattle.gm_shared.specs.Books.{WordsAgree}
-use Rattle.std.specs.Prelude.{IfErr}
+use Rattle.std.specs.Prelude.{Option, Some, None, IfSome, IfNone}
 use Rattle.gm_shared.specs.declared.tape.Actor.{Actor}
 use Rattle.gm_shared.specs.declared.tape.Entry.{Entry}
 use Rattle.gm_shared.specs.declared.tape.Share.{Share}
 use Rattle.gm_shared.specs.declared.tape.Told.{Told}
-use Rattle.gm_shared.specs.declared.settling.Settled.{Settled}
-use Rattle.gm_shared.specs.declared.settling.SettleError.{SettleError}
-use Rattle.gm_shared.specs.declared.settling.SettleError.TheVariants.{Memory}
 use Rattle.gm_shared.specs.Tapes.{TapeIs, AddUp}
-use Rattle.gm_shared.specs.Shared.{told_by, TookThose, WhySo}
+use Rattle.gm_shared.specs.Shared.{told_by, TookThose}
 use Rattle.gm_shared.proofs.Noops.{words_owed, owes_if}
 
 module _ (k : Settings) (steps : List Step) (lines : List Line) (w : WordsAgree lines k steps) where
@@ -41,15 +38,7 @@ module _ (k : Settings) (steps : List Step) (lines : List Line) (w : WordsAgree 
 pub tape_is : (on taped : Bool) (kept out : List Entry) (k : Settings) (steps : List Step) → on ≡ taped → out ≡ kept → TapeIs on kept k steps → TapeIs taped out k steps
 tape_is on taped kept out k steps same e h = subst (λ t. TapeIs t out k steps) same (subst (λ es. TapeIs on es k steps) (sym e) h)
 
--- want of memory needs no reason
-pub memory_so : (k : Settings) (taped : Bool) (shares : List (Actor × List Told)) (r : Result Settled SettleError) → r ≡ Err Memory → IfErr r (λ error. WhySo k taped error shares)
-memory_so k taped shares r is = subst (λ x. IfErr x (λ error. WhySo k taped error shares)) (sym is) tt
-
 -- ---- the shares
-
--- the desks' shares, and then the pens'
-pub shares_then : {A : Type 0} (all now more before : List A) → all ≡ now ++ more → now ≡ before → all ≡ before ++ more
-shares_then all now more before e same = e ∙ ap (λ xs. xs ++ more) same
 
 module _ (entries kept : List Entry) (told given : List Share) (same : entries ≡ kept) (handed : told ≡ given) (shares : List (Actor × List Told)) (are : map told_by given ≡ shares) where
   -- what was found of slices holds of what they are of
@@ -58,3 +47,10 @@ module _ (entries kept : List Entry) (told given : List Share) (same : entries �
 
   pub not_up : (AddUp entries (map told_by told) → ⊥) → AddUp kept shares → ⊥
   not_up apart up = apart (subst (λ es. AddUp es (map told_by told)) (sym same) (subst (λ ss. AddUp kept ss) (sym (ap (map told_by) handed ∙ are)) up))
+
+-- what is said of an option that is there, and of one that isn't
+pub some_of : {A : Type 0} (P : A → Type 0) (o : Option A) (a : A) → o ≡ Some a → IfSome o P → P a
+some_of P o a is h = subst (λ o. IfSome o P) is h
+
+pub none_of : {A : Type 0} (P : Type 0) (o : Option A) → o ≡ None → IfNone o P → P
+none_of P o is h = subst (λ o. IfNone o P) is h

@@ -66,13 +66,20 @@ impl<K: BookName> Shared<K> {
             × (made.3.share.items ≡ [])) }
     {
         let slots = blank.slots;
-        let desks = new_desks(alloc, slots)?;
-        let pens = new_pens(alloc, blank.seats, slots)?;
-        let shared = Shared {
-            table: blank.table,
-            book: Mutex::new(Guarded::new(blank.booked)),
-        };
-        Ok((shared, desks, pens, Desk::new(alloc, slots)))
+        match new_owners(alloc, blank.seats, slots) {
+            Ok((desks, pens)) => {
+                let shared = Shared {
+                    table: blank.table,
+                    book: Mutex::new(Guarded::new(blank.booked)),
+                };
+                Ok((shared, desks, pens, Desk::new(alloc, slots)))
+            }
+            Err(error) => {
+                drop(blank.table);
+                drop(blank.booked);
+                Err(error)
+            }
+        }
     }
 }
 
@@ -142,6 +149,22 @@ impl<K: BookName> Pen<K> {
             .lock(rt)
             .drain(self.slot, self.slot, &mut self.share)
     }
+}
+
+// A desk for each slot and a pen for each seat, in their order.
+fn new_owners<K: BookName>(
+    alloc: Global,
+    seats: Vec<PenSeat>,
+    slots: u32,
+) -> Result<(Vec<Desk<K>>, Vec<Pen<K>>), AllocError>
+    requires { seats.items ≡ fresh_pens K.table slots }
+    ensures numbers { IfOk result (λ made. map (λ desk. desk.number) made.0.items ≡ numbers_below slots) }
+    ensures slots { IfOk result (λ made. map (λ pen. pen.slot) made.1.items ≡ numbers_below slots) }
+    ensures nothing_told { IfOk result (λ made. All (λ desk. desk.share.items ≡ []) made.0.items × All (λ pen. pen.share.items ≡ []) made.1.items) }
+{
+    let desks = new_desks(alloc, slots)?;
+    let pens = new_pens(alloc, seats, slots)?;
+    Ok((desks, pens))
 }
 
 // A desk for each slot, in their order.
