@@ -202,7 +202,9 @@ pub(crate) fn measure<R: Clock>(
     amount: Amount,
 ) -> Result<Outcome, BenchError> {
     let mut jobs = Jobs::new(alloc, seed, 1)?;
-    fill_and_time(rt, &mut jobs, round, amount)
+    let outcome = fill_and_time(rt, &mut jobs, round, amount);
+    drop(jobs);
+    outcome
 }
 
 /// How long a call took that makes a job.
@@ -212,7 +214,16 @@ fn time_of_make<R: Clock>(rt: &R, jobs: &mut Jobs, number: u64) -> Result<u64, B
     Ok(outcome_since(rt, start, made)?.nanos)
 }
 
-/// Makes this number of jobs, and tells how many nanoseconds the longest of these calls took.
+/// Makes this number of jobs: the nanoseconds of the longest of these calls.
+fn longest_make<R: Clock>(rt: &R, jobs: &mut Jobs, size: u64) -> Result<u64, BenchError> {
+    let mut longest = 0;
+    for index in 0..size {
+        longest = time_of_make(rt, jobs, index.wrapping_add(1))?.max(longest);
+    }
+    Ok(longest)
+}
+
+/// Makes this number of jobs in a new table, and tells how many nanoseconds the longest of these calls took.
 pub(crate) fn longest<R: Clock>(
     rt: &R,
     alloc: Global,
@@ -220,9 +231,7 @@ pub(crate) fn longest<R: Clock>(
     size: u64,
 ) -> Result<u64, BenchError> {
     let mut jobs = Jobs::new(alloc, seed, 1)?;
-    let mut longest = 0;
-    for index in 0..size {
-        longest = time_of_make(rt, &mut jobs, index.wrapping_add(1))?.max(longest);
-    }
-    Ok(longest)
+    let longest = longest_make(rt, &mut jobs, size);
+    drop(jobs);
+    longest
 }

@@ -215,8 +215,23 @@ pub(crate) enum Task {
     Growth,
 }
 
-/// Measures at a new server. One function has the server as its own, since the proof of each such function says how all of
-/// it is dropped.
+/// Carries out a task.
+fn carry_out(
+    rt: &HostRuntime,
+    front: &mut Front<Core>,
+    script: &mut Script,
+    task: Task,
+    amount: Amount,
+) -> Result<Outcome, BenchError> {
+    match task {
+        Task::Rounds(round) => best(rt, front, script, round, amount),
+        Task::Event(event) => once(rt, front, script, event, amount),
+        Task::Growth => growth(rt, front, script, amount.size),
+    }
+}
+
+/// Measures at a new server. That is dropped by a call, and not where its scope ends: there the proof would spell out how
+/// each of its tables is dropped.
 pub(crate) fn measure(
     rt: &HostRuntime,
     seed: RandomState,
@@ -225,9 +240,7 @@ pub(crate) fn measure(
 ) -> Result<Outcome, BenchError> {
     let mut front = new_front(rt.alloc(), seed)?;
     let mut script = Script::new(rt.alloc());
-    match task {
-        Task::Rounds(round) => best(rt, &mut front, &mut script, round, amount),
-        Task::Event(event) => once(rt, &mut front, &mut script, event, amount),
-        Task::Growth => growth(rt, &mut front, &mut script, amount.size),
-    }
+    let outcome = carry_out(rt, &mut front, &mut script, task, amount);
+    drop(front);
+    outcome
 }

@@ -142,5 +142,7 @@ pub fn serve<R: Threads + Wait + Clock + Eprint + Sync, G: Gate, T: Ready>(
     let Ended { connections, book } = serve_book::<Brand, R, G, T>(
         rt, alloc, blank, &listener, limits, gate, ready,
     )?;
-    served(connections, &book)
+    let told = served(connections, &book);
+    drop(book);
+    told
 }
