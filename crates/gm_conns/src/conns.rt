@@ -368,6 +368,18 @@ impl Conns {
         self.touched.insert(slot);
     }
 
+    /// As `put_out`, and the bytes are taken out of `bytes`: many aren't copied where nothing else waits.
+    pub fn append_out(&mut self, slot: u32, bytes: &mut Vec<u8>)
+        requires open { IsOpen self.old slot }
+        requires room { length bytes.old.items ≤ (conn self.old slot).room }
+        ensures conns { Changes slot (with_bytes bytes.old.items) true self.old self.new }
+        ensures bytes { bytes.new.items ≡ [] }
+    {
+        let conn = &mut self.conns[slot as usize];
+        conn.append(bytes);
+        self.touched.insert(slot);
+    }
+
     /// The bytes that wait for the connection.
     pub fn waiting(&self, slot: u32) -> &[u8]
         requires { IsOpen self.now slot }

@@ -187,3 +187,17 @@ pub unheard_next : (P : ℕ → Bool) (slots : List ℕ) (i : ℕ) → i < lengt
 unheard_next P slots i lt deaf =
     ap (filter P) (drop-cons slots i 0 lt)
     ∙ rw deaf (ap (λ (j : ℕ). filter P (drop j slots)) (sym (add-one i)))
+
+-- ---- the last that hears
+
+pub heard_last : (P : ℕ → Bool) (slots others : List ℕ) (last : ℕ) → slots ≡ others ++ last ∷ [] → filter P slots ≡ filter P others ++ (if P last then last ∷ [] else [])
+heard_last P slots others last is = ap (filter P) is ∙ filter-append P others (last ∷ [])
+
+pub needed_others : (count c : ℕ) (P : ℕ → Bool) (slots others : List ℕ) (last : ℕ) → slots ≡ others ++ last ∷ []
+    → needed count c (filter P slots) ≡ needed count c (filter P others) + needed count c (if P last then last ∷ [] else [])
+needed_others count c P slots others last is = ap (needed count c) (heard_last P slots others last is) ∙ needed_last count c last (P last) (filter P others)
+
+pub poured_last : (text slots : List ℕ) (last : ℕ) (bytes : ℕ → List ℕ)
+    → poured text (slots ++ last ∷ []) bytes ≡ (λ d. if d == last then poured text slots bytes d ++ text else poured text slots bytes d)
+poured_last text [] last bytes = refl
+poured_last text (c ∷ slots) last bytes = poured_last text slots last (λ d. if d == c then bytes d ++ text else bytes d)

@@ -37,6 +37,9 @@ use gm_queues::Functions;
 use std::alloc::{AllocError, Global};
 use std::hash::RandomState;
 
+/// The most room that is kept for the next packet.
+const MOST_KEPT: usize = 65_536;
+
 /// The server on tables. It keeps no list of what has happened, and no job that is gone.
 #[derive(Drop)]
 pub struct Core {
@@ -131,7 +134,17 @@ impl Core {
         ensures jobs { self.new.jobs ≡ self.old.jobs }
         ensures moment { self.new.moment ≡ self.old.moment }
     {
-        self.conns.put_out(slot, self.text.as_slice());
+        self.conns.append_out(slot, &mut self.text);
+        self.let_go();
+    }
+
+    /// Gives large memory back, where the packet that was written last is queued.
+    fn let_go(&mut self)
+        ensures { self.new ≡ record self.old { text = self.new.text } }
+    {
+        if self.text.capacity() > MOST_KEPT {
+            self.text = Vec::new(self.alloc);
+        }
     }
 
     /// Queues an answer to a slot; want of memory changes nothing.

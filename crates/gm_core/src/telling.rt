@@ -4,7 +4,7 @@ ghost use Rattle.std.specs.Prelude.{◌≡◌, ℕ, ◌+◌, ◌≤◌, List, fi
 ghost use Rattle.gm_notes.specs.Settings.{Settings};
 ghost use Rattle.gm_conns.specs.ConnTables.{IsOpen, conn};
 ghost use Rattle.gm_core.specs.Facts.{ConnFacts};
-ghost use Rattle.gm_core.specs.Holds.{HoldsConns};
+ghost use Rattle.gm_core.specs.Holds.{HoldsConns, AllTouched};
 ghost use Rattle.gm_core.specs.Telling.{hears, poured, needed, Roomed, Poured};
 
 use gm_conns::Conns;
@@ -62,5 +62,22 @@ pub fn put_each(conns: &mut Conns, slots: &[u32], exceptions_only: bool, text: &
         if hears(conns, *slot, exceptions_only) {
             conns.put_out(*slot, text);
         }
+    }
+}
+
+/// As `put_each`, and the text is used up: where it is long, the last that hears may take it over, and then it is copied for
+/// the others alone.
+pub fn append_each(conns: &mut Conns, slots: &[u32], exceptions_only: bool, text: &mut Vec<u8>)
+    requires { (c : ℕ) → needed (length text.old.items) c (filter (hears conns.old exceptions_only) slots.now) ≤ (conn conns.old c).room }
+    ensures touched { AllTouched conns.old conns.new }
+    ensures holds { (k : Settings) (names : List (List ℕ)) (facts : ConnFacts) (bytes : ℕ → List ℕ) → HoldsConns k conns.old names facts bytes
+        → HoldsConns k conns.new names facts (poured text.old.items (filter (hears conns.old exceptions_only) slots.now) bytes) }
+{
+    let Some((last, others)) = slots.split_last() else {
+        return;
+    };
+    put_each(conns, others, exceptions_only, text.as_slice());
+    if hears(conns, *last, exceptions_only) {
+        conns.append_out(*last, text);
     }
 }

@@ -1,12 +1,13 @@
 -- What the calls of a feeder do.
-use Rattle.std.specs.Prelude.{◌≡◌, ℕ, List, [], ◌∷◌, ◌++◌, drop, Option, Some, None, Result, Ok, Err, IfSome}
+use Rattle.std.specs.Prelude.{◌≡◌, ℕ, List, [], ◌∷◌, ◌++◌, length, drop, Option, Some, None, Result, Ok, Err, IfSome}
+use Rattle.std.specs.Io.KnownBytes.{Consumes}
 use Rattle.gm_feeder.specs.declared.units.Limits.{Limits}
 use Rattle.gm_feeder.specs.declared.units.FeedFault.{FeedFault}
 use Rattle.gm_feeder.specs.declared.units.Unit.{Unit as Given}
 use Rattle.gm_feeder.specs.declared.units.Unit.TheVariants.{Packet, Line}
 use Rattle.gm_feeder.specs.Units.{Item, APacket, ALine, IsUnitThen, IsFaultOf, Waits}
 
--- what a feeder is to its callers: the bytes with_bytes and not yet given out, and the fault that it has returned
+-- what a feeder is to its callers: the bytes that came and were not yet given out, and the fault that it has returned
 pub record Stream : Type 0 where
   pub limits : Limits
   pub pending : List ℕ
@@ -20,6 +21,13 @@ item_of (Line bytes) = ALine bytes.now
 -- the stream with a piece more
 abbrev pub with_bytes : Stream → List ℕ → Stream
 with_bytes stream piece = record stream { pending = stream.pending ++ piece }
+
+-- these bytes of the input, so many, came behind the pending ones
+pub record TakesIn (input rest : Option (List ℕ)) (old new : Stream) (count : ℕ) : Type 0 where
+  pub piece : List ℕ
+  pub consumes : Consumes input rest piece
+  pub len : length piece ≡ count
+  pub kept : new ≡ with_bytes old piece
 
 -- the stream without its first `len` bytes
 abbrev pub without_first : ℕ → Stream → Stream
@@ -53,7 +61,7 @@ GivesNext old (Ok (Some unit)) new = GivesUnit old (item_of unit) new
 GivesNext old (Ok None) new = GivesNone old new
 GivesNext old (Err fault) new = GivesFault old fault new
 
--- what befalls a feeder: a piece is with_bytes, or a unit that says this is given
+-- what befalls a feeder: a piece is fed, or a unit that says this is given
 pub data Event : Type 0 where
   Fed : List ℕ → Event
   Gave : Item → Event
@@ -64,7 +72,7 @@ Runs old [] new = new ≡ old
 Runs old (Fed piece ∷ events) new = Runs (with_bytes old piece) events new
 Runs old (Gave item ∷ events) new = (mid : Stream) × GivesUnit old item mid × Runs mid events new
 
--- the pieces with_bytes, joined
+-- the pieces fed, joined
 abbrev pub all_fed : List Event → List ℕ
 all_fed [] = []
 all_fed (Fed piece ∷ events) = piece ++ all_fed events

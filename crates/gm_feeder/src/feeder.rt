@@ -3,14 +3,17 @@
 ghost use Rattle.std.specs.Prelude.{◌≡◌, ◌≤◌, List, ℕ, [], Some, None, IfSome, IfNone, IfOk, IfErr, OnOk, OnErr, length, take};
 ghost use Rattle.std.specs.Borrow.{sem};
 ghost use Rattle.std.specs.Io.BufRead.{Rests};
+ghost use Rattle.std.specs.Io.KnownBytes.{Keeps, IsAtEnd};
 ghost use Rattle.gm_feeder.specs.contracts.feeder.Feeder.{the_row};
 ghost use Rattle.gm_feeder.specs.Units.{IsUnitThen, IsFaultOf, Waits};
 ghost use Rattle.gm_feeder.specs.Heads.{IsHead};
-ghost use Rattle.gm_feeder.specs.Streams.{item_of, with_bytes, without_first, GivesNext};
+ghost use Rattle.gm_feeder.specs.Streams.{item_of, with_bytes, without_first, GivesNext, TakesIn};
 
-use crate::head::{HEADER_LEN, Head, data_of, find_head, text_of};
-use crate::units::{FeedFault, Limits, Unit};
+use crate::head::{HEADER_LEN, Head, data_of, find_head, missing_of, text_of};
+use crate::room::{make_room, read_at};
+use crate::units::{FeedFault, Limits, ReadError, Unit};
 use std::alloc::Global;
+use std::io::Read;
 use std::marker::Model;
 
 /// The most room that is kept where no byte is pending.
@@ -25,10 +28,12 @@ const MOST_KEPT: usize = 65_536;
 /// nothing.
 #[derive(Drop)]
 pub struct Feeder {
+    // The pending bytes, from `start` to `end`, and behind them room to read into, which is cleared once.
     buffer: Vec<u8>,
-    // The bytes before it were given out. `feed` drops them, and `next_unit` doesn't, so that no byte is moved
-    // once for each unit.
+    // The bytes before it were given out. `feed` and `read_from` drop them, and `next_unit` doesn't, so that no byte is
+    // moved once for each unit.
     start: usize,
+    end: usize,
     // How many of the bytes from `start` on were searched for a newline, so that none is searched twice.
     scanned: usize,
     fault: Option<FeedFault>,
@@ -36,18 +41,18 @@ pub struct Feeder {
 }
 
 impl Model for Feeder {
-    ghost use Rattle.std.specs.Prelude.{◌≤◌, IfSome, length, drop};
+    ghost use Rattle.std.specs.Prelude.{◌≤◌, IfSome, length, slice_range};
     ghost use Rattle.gm_feeder.specs.Units.{IsFaultOf};
     ghost use Rattle.gm_feeder.specs.Heads.{IsScanned};
     ghost use Rattle.gm_feeder.specs.Streams.{Stream};
 
     ghost Value = { Stream };
 
-    ghost view = { λ f. record { limits = f.limits; pending = drop f.start f.buffer.items; fault = f.fault } };
+    ghost view = { λ f. record { limits = f.limits; pending = slice_range f.buffer.items f.start f.end; fault = f.fault } };
 
-    ghost invariant = { λ f. (f.start ≤ length f.buffer.items)
-        × IsScanned f.limits (drop f.start f.buffer.items) f.scanned
-        × IfSome f.fault (λ fault. IsFaultOf f.limits (drop f.start f.buffer.items) fault) };
+    ghost invariant = { λ f. (f.start ≤ f.end) × (f.end ≤ length f.buffer.items)
+        × IsScanned f.limits (slice_range f.buffer.items f.start f.end) f.scanned
+        × IfSome f.fault (λ fault. IsFaultOf f.limits (slice_range f.buffer.items f.start f.end) fault) };
 }
 
 impl Feeder {
@@ -60,6 +65,7 @@ impl Feeder {
         Feeder {
             buffer: Vec::new(alloc),
             start: 0,
+            end: 0,
             scanned: 0,
             fault: None,
             limits,
@@ -80,9 +86,44 @@ impl Feeder {
             return Err(fault);
         }
         self.move_down();
+        self.buffer.truncate(self.end);
         match self.buffer.extend_from_slice(piece) {
-            Ok(()) => Ok(()),
+            Ok(()) => {
+                self.end = self.buffer.len();
+                Ok(())
+            }
             Err(_) => Err(FeedFault::Memory),
+        }
+    }
+
+    /// Takes the next bytes of the stream from a reader, by one call, and answers how many they are: none at its end.
+    /// They are read to where they are pending, without a copy. Where the header of a packet is pending, room is made for
+    /// the rest of that packet, once.
+    ///
+    /// A fault that `next_unit` has returned is returned again. Otherwise `Memory` is returned where there is no memory
+    /// for the room, and nothing was read. No error changes anything.
+    pub fn read_from<I: Read>(&mut self, reader: &mut I) -> Result<usize, ReadError>
+        ensures ok { IfOk result (λ count. TakesIn (I.remaining reader.old) (I.remaining reader.new) self.old self.new count) }
+        ensures end { IfOk result (λ count. count ≡ 0 → IsAtEnd (I.remaining reader.new)) }
+        ensures err { OnErr result (self.new ≡ self.old) }
+        ensures none_lost { OnErr result (Keeps (I.remaining reader.old) (I.remaining reader.new)) }
+        ensures standing { IfSome self.old.fault (λ fault. result ≡ Err (ReadError.Feed fault)) }
+    {
+        if let Some(fault) = self.fault {
+            return Err(ReadError::Feed(fault));
+        }
+        let was_filled = self.end == self.buffer.len();
+        let missing = missing_of(&self.buffer[self.start..self.end], self.limits);
+        self.move_down();
+        let Ok(()) = make_room(&mut self.buffer, self.end, missing, was_filled) else {
+            return Err(ReadError::Feed(FeedFault::Memory));
+        };
+        match read_at(reader, &mut self.buffer, self.end) {
+            Ok(count) => {
+                self.end += count;
+                Ok(count)
+            }
+            Err(error) => Err(ReadError::Read(error)),
         }
     }
 
@@ -91,11 +132,11 @@ impl Feeder {
     fn move_down(&mut self)
         ensures { self.new ≡ self.old }
     {
-        let rest = self.buffer.len() - self.start;
+        let rest = self.end - self.start;
         if self.start >= rest {
-            self.buffer.copy_within(self.start.., 0);
-            self.buffer.truncate(rest);
+            self.buffer.copy_within(self.start..self.end, 0);
             self.start = 0;
+            self.end = rest;
         }
     }
 
@@ -142,9 +183,10 @@ impl Feeder {
     fn let_go(&mut self)
         ensures { self.new ≡ self.old }
     {
-        if self.start == self.buffer.len() && self.buffer.capacity() > MOST_KEPT {
+        if self.start == self.end && self.buffer.capacity() > MOST_KEPT {
             self.buffer = Vec::new(*self.buffer.allocator());
             self.start = 0;
+            self.end = 0;
         }
     }
 
@@ -153,7 +195,8 @@ impl Feeder {
         ensures head { IsHead self.old.limits self.old.pending result }
         ensures kept { self.new ≡ self.old }
     {
-        let head = find_head(&self.buffer[self.start..], self.scanned, self.limits);
+        let pending = &self.buffer[self.start..self.end];
+        let head = find_head(pending, self.scanned, self.limits);
         if let Head::Incomplete { scanned } = head {
             self.scanned = scanned;
         }
@@ -177,6 +220,6 @@ impl Feeder {
     pub fn pending(&self) -> &[u8]
         ensures { result.now ≡ self.now.pending }
     {
-        &self.buffer[self.start..]
+        &self.buffer[self.start..self.end]
     }
 }

@@ -101,6 +101,20 @@ pub(crate) fn find_head(bytes: &[u8], scanned: usize, limits: Limits) -> Head
     }
 }
 
+/// How many bytes of a packet are still to come, where its header is there; 0 where it isn't, or where the packet is too
+/// large.
+pub(crate) fn missing_of(bytes: &[u8], limits: Limits) -> usize {
+    let Some(header) = bytes.first_chunk::<HEADER_LEN>() else {
+        return 0;
+    };
+    match read_header(header) {
+        Ok(header) if header.size <= limits.max_bytes => {
+            (HEADER_LEN + header.size as usize).saturating_sub(bytes.len())
+        }
+        _ => 0,
+    }
+}
+
 /// The data of a whole packet.
 pub(crate) fn data_of(packet: &[u8]) -> &[u8]
     requires { 12 ≤ length packet.now }

@@ -10,7 +10,8 @@
 mod feeder;
 mod head;
 pub mod laws;
+mod room;
 mod units;
 
 pub use feeder::Feeder;
-pub use units::{FeedFault, Limits, Unit};
+pub use units::{FeedFault, Limits, ReadError, Unit};

@@ -2,6 +2,8 @@
 
 ghost use Rattle.std.specs.Prelude.{◌≡◌, ◌≤◌};
 
+use std::io;
+
 /// How large a unit may be.
 ///
 /// The ghost field bounds `max_bytes` by a gigabyte: whoever makes the limits shows that, once.
@@ -36,6 +38,15 @@ impl FeedFault {
     {
         self as u8
     }
+}
+
+/// Why a feeder read nothing.
+#[derive(Debug, Drop)]
+pub enum ReadError {
+    /// The feeder refused.
+    Feed(FeedFault),
+    /// The reader failed.
+    Read(io::Error),
 }
 
 /// A unit, lent out of the feeder until its next call.

@@ -6,7 +6,7 @@ use Rattle.std.proofs.lemmas.List.{append-nil, append_assoc, map-append}
 use Rattle.std.specs.Io.KnownBytes.{Consumes}
 use Rattle.gm_feeder.specs.declared.units.Limits.{Limits}
 use Rattle.gm_feeder.specs.Units.{Item, IsFaultOf, Waits}
-use Rattle.gm_feeder.specs.Streams.{Stream, GivesNone}
+use Rattle.gm_feeder.specs.Streams.{Stream, GivesNone, TakesIn, with_bytes}
 use Rattle.gm_feeder.proofs.HeadLemmas.{empty_goes_on}
 use Rattle.gm_feeder.proofs.StreamLemmas.{unit_not_empty}
 use Rattle.gm_notes.specs.declared.event.UnitFault.{UnitFault}
@@ -17,7 +17,7 @@ use Rattle.gm_shared.specs.declared.tape.Told.{Told}
 use Rattle.gm_shared.specs.Tapes.{events_told}
 use Rattle.gm_server.specs.declared.session.SessionEnd.{SessionEnd}
 use Rattle.gm_server.specs.declared.session.SessionEnd.TheVariants as ends
-use Rattle.gm_server.specs.Sessions.{Adds, HandsIn, IsWhole, Reads, Applies, Unloads, TakesPiece}
+use Rattle.gm_server.specs.Sessions.{Adds, HandsIn, IsWhole, Reads, Applies, Unloads}
 
 -- ---- events told, one after another
 
@@ -104,16 +104,6 @@ module _ (taped : Bool) (c : ℕ) (old : Stream) (share mid_share after : List T
     broken = λ whole. whole;
   }
 
--- ---- a piece
-
-pub piece_unfed : (taped : Bool) (c : ℕ) (old : Stream) (piece : List ℕ) (share : List Told) (new : Stream) → TakesPiece taped c old piece (Err ends.Memory) share share new
-piece_unfed taped c old piece share new = record {
-  rest = old.pending ++ piece;
-  fault = None;
-  hands = hands taped c old.limits (old.pending ++ piece) (old.pending ++ piece) None share share share (handed_none taped c old.limits (old.pending ++ piece) share) tt (adds_none taped share);
-  broken = λ whole. whole;
-}
-
 -- ---- a session
 
 consumes_then : (a b c : Option (List ℕ)) (xs ys : List ℕ) → Consumes a b xs → Consumes b c ys → Consumes a c (xs ++ ys)
@@ -162,13 +152,13 @@ module _ (taped : Bool) (c : ℕ) (limits : Limits) (old now new : Option (List 
         adds = adds_same taped _ _ share after (steps_then c r.handed.items h.items fault) (adds_then taped _ _ share mid after r.handed.adds h.adds);
       }
 
-  pub reading_more : (d : ℕ) → d ≡ c → (piece : List ℕ) (next : Stream) → Consumes now new piece → TakesPiece taped d feeder piece (Ok tt) mid after next → Reading taped c limits old new share after next
-  reading_more d here piece next consumes taken =
-      let t = subst (λ (slot : ℕ). TakesPiece taped slot feeder piece (Ok tt) mid after next) here taken in
-      let more = hands_more piece next.pending None t.hands in
+  pub reading_more : (d : ℕ) → d ≡ c → (len : ℕ) (fed next : Stream) → TakesIn now new feeder fed len → Unloads taped d fed (Ok tt) mid after next → Reading taped c limits old new share after next
+  reading_more d here len fed next came taken =
+      let t = subst (λ (slot : ℕ). Unloads taped slot (with_bytes feeder came.piece) (Ok tt) mid after next) here (subst (λ (s : Stream). Unloads taped d s (Ok tt) mid after next) came.kept taken) in
+      let more = hands_more came.piece next.pending None t.hands in
       record {
-        read = r.read ++ piece;
-        consumes = consumes_then old now new r.read piece r.consumes consumes;
+        read = r.read ++ came.piece;
+        consumes = consumes_then old now new r.read came.piece r.consumes came.consumes;
         limited = t.limited ∙ r.limited;
         handed = record { items = more.items; begins = more.begins; adds = adds_same taped _ _ share after (append-nil (map (step_of_unit c) more.items)) more.adds };
         waits = subst (λ (l : Limits). Waits l next.pending) r.limited t.waits;
@@ -185,15 +175,15 @@ module _ (taped : Bool) (c : ℕ) (limits : Limits) (old now new : Option (List 
     whole = λ w. (refl, r.waits);
   }
 
-  pub reading_breaks : (d : ℕ) → d ≡ c → (piece : List ℕ) (next : Stream) (end : SessionEnd) → Consumes now new piece → TakesPiece taped d feeder piece (Err end) mid after next
+  pub reading_breaks : (d : ℕ) → d ≡ c → (len : ℕ) (fed next : Stream) (end : SessionEnd) → TakesIn now new feeder fed len → Unloads taped d fed (Err end) mid after next
       → Reads taped c limits old new end share after
-  reading_breaks d here piece next end consumes taken =
-      let t = subst (λ (slot : ℕ). TakesPiece taped slot feeder piece (Err end) mid after next) here taken in
+  reading_breaks d here len fed next end came taken =
+      let t = subst (λ (slot : ℕ). Unloads taped slot (with_bytes feeder came.piece) (Err end) mid after next) here (subst (λ (s : Stream). Unloads taped d s (Err end) mid after next) came.kept taken) in
       record {
-        read = r.read ++ piece;
-        consumes = consumes_then old now new r.read piece r.consumes consumes;
+        read = r.read ++ came.piece;
+        consumes = consumes_then old now new r.read came.piece r.consumes came.consumes;
         rest = t.rest;
         fault = t.fault;
-        hands = hands_more piece t.rest t.fault t.hands;
+        hands = hands_more came.piece t.rest t.fault t.hands;
         whole = λ w. absurd (t.broken w);
       }

@@ -1,9 +1,9 @@
 -- What a session reads, and what it hands in of that.
-use Rattle.std.specs.Prelude.{◌≡◌, ℕ, Bool, true, false, List, [], ◌∷◌, ◌++◌, take, Option, None, IfSome, Result, Ok, Err}
+use Rattle.std.specs.Prelude.{◌≡◌, ℕ, Bool, true, false, List, [], ◌∷◌, ◌++◌, Option, None, IfSome, Result, Ok, Err}
 use Rattle.std.specs.Io.KnownBytes.{Consumes}
 use Rattle.gm_feeder.specs.declared.units.Limits.{Limits}
 use Rattle.gm_feeder.specs.Units.{Item, Waits}
-use Rattle.gm_feeder.specs.Streams.{Stream}
+use Rattle.gm_feeder.specs.Streams.{Stream, TakesIn}
 use Rattle.gm_notes.specs.declared.event.UnitFault.{UnitFault}
 use Rattle.gm_notes.specs.Steps.{Step}
 use Rattle.gm_front.specs.Units.{steps_of, IsFaultAt, BeginsWith}
@@ -12,10 +12,10 @@ use Rattle.gm_shared.specs.Tapes.{events_told}
 use Rattle.gm_server.specs.declared.session.SessionEnd.{SessionEnd}
 use Rattle.gm_server.specs.declared.session.SessionEnd.TheVariants as ends
 
--- a read took these bytes of the input, or none
-abbrev pub IsPiece : Option (List ℕ) → Option (List ℕ) → List ℕ → Result ℕ SessionEnd → Type 0
-IsPiece old new buffer (Ok count) = Consumes old new (take count buffer)
-IsPiece old new buffer (Err end) = Consumes old new []
+-- a read took so many bytes of the input into the feeder, or none
+abbrev pub IsPiece : Option (List ℕ) → Option (List ℕ) → Stream → Stream → Result ℕ SessionEnd → Type 0
+IsPiece input rest old new (Ok len) = TakesIn input rest old new len
+IsPiece input rest old new (Err end) = Consumes input rest []
 
 -- with a tape the share has these events more
 abbrev pub Adds : Bool → List Step → List Told → List Told → Type 0
@@ -75,6 +75,3 @@ Takes taped c limits bytes (Err end) share after new = Breaks taped c limits byt
 
 abbrev pub Unloads : Bool → ℕ → Stream → Result (Unit {0}) SessionEnd → List Told → List Told → Stream → Type 0
 Unloads taped c old outcome share after new = Takes taped c old.limits old.pending outcome share after new
-
-abbrev pub TakesPiece : Bool → ℕ → Stream → List ℕ → Result (Unit {0}) SessionEnd → List Told → List Told → Stream → Type 0
-TakesPiece taped c old piece outcome share after new = Takes taped c old.limits (old.pending ++ piece) outcome share after new

@@ -1,13 +1,13 @@
 //! What one connection says, from its opening to its end.
 
-ghost use Rattle.std.specs.Prelude.{◌≡◌, ◌<◌, ◌≤◌, [], length, IfOk, IfErr};
+ghost use Rattle.std.specs.Prelude.{◌≡◌, [], IfErr};
 ghost use Rattle.std.specs.Io.KnownBytes.{IsAtEnd};
 ghost use Rattle.gm_notes.specs.Servers.{step_of, IsSized};
-ghost use Rattle.gm_server.specs.Sessions.{IsPiece, Applies, Unloads, TakesPiece, Reads};
+ghost use Rattle.gm_server.specs.Sessions.{IsPiece, Applies, Unloads, Reads};
 
 use crate::effects::{Effects, Notify};
 use crate::gate::Gate;
-use gm_feeder::{Feeder, Limits};
+use gm_feeder::{Feeder, Limits, ReadError};
 use gm_front::{Next, next_event};
 use gm_notes::{ApplyError, Event};
 use gm_shared::{BookName, Desk, Shared};
@@ -15,9 +15,6 @@ use std::alloc::Global;
 use std::io::{ErrorKind, Read};
 use std::sync::{MutexGuard, Wait};
 use std::time::Instant;
-
-/// The most bytes that are read at a time.
-const PIECE: usize = 16_384;
 
 /// The most bytes of a piece that doesn't wait for others: a few requests without data.
 const SHORT_PIECE: usize = 256;
@@ -169,17 +166,15 @@ impl<'s, K: BookName, R: Wait, G: Gate, N: Notify<R>> Session<'s, K, R, G, N> {
         }
     }
 
-    /// Takes a piece, and tells what came of it. Where the session is over, it says why.
-    fn take_piece(&mut self, piece: &[u8]) -> Result<(), SessionEnd>
-        ensures takes { TakesPiece K.taped self.old.applier.slot self.old.feeder piece.now result self.old.applier.desk.now.share.items self.new.applier.desk.now.share.items self.new.feeder }
+    /// Takes what stands in the feeder since a piece of this length came, and tells what came of it. Where the session is
+    /// over, it says why.
+    fn take_piece(&mut self, len: usize) -> Result<(), SessionEnd>
+        ensures unloads { Unloads K.taped self.old.applier.slot self.old.feeder result self.old.applier.desk.now.share.items self.new.applier.desk.now.share.items self.new.feeder }
         ensures same_desk { self.new.applier.desk.ghost_name ≡ self.old.applier.desk.ghost_name }
         ensures number { self.new.applier.desk.now.number ≡ self.old.applier.desk.now.number }
         ensures slot { self.new.applier.slot ≡ self.old.applier.slot }
     {
-        let Ok(()) = self.feeder.feed(piece) else {
-            return Err(SessionEnd::Memory);
-        };
-        let outcome = self.unload(piece.len() > SHORT_PIECE);
+        let outcome = self.unload(len > SHORT_PIECE);
         tell(self.server, self.applier.rt, &mut self.applier.effects);
         outcome
     }
@@ -193,13 +188,12 @@ impl<'s, K: BookName, R: Wait, G: Gate, N: Notify<R>> Session<'s, K, R, G, N> {
         ensures same_desk { self.new.applier.desk.ghost_name ≡ self.old.applier.desk.ghost_name }
         ensures number { self.new.applier.desk.now.number ≡ self.old.applier.desk.now.number }
     {
-        let mut buffer = [0; PIECE];
         for _ in 0..MOST_PIECES {
-            let count = match read_piece(reader, &mut buffer) {
-                Ok(count) => count,
+            let len = match read_piece(&mut self.feeder, reader) {
+                Ok(len) => len,
                 Err(end) => return end,
             };
-            match self.take_piece(&buffer[..count]) {
+            match self.take_piece(len) {
                 Ok(()) => {}
                 Err(end) => return end,
             }
@@ -208,17 +202,16 @@ impl<'s, K: BookName, R: Wait, G: Gate, N: Notify<R>> Session<'s, K, R, G, N> {
     }
 }
 
-/// Reads the next piece, and answers how many bytes it has; or it says why the session is over.
-fn read_piece<I: Read>(reader: &mut I, buffer: &mut [u8]) -> Result<usize, SessionEnd>
-    requires { 0 < length buffer.old }
-    ensures within { IfOk result (λ count. count ≤ length buffer.new) }
-    ensures piece { IsPiece (I.remaining reader.old) (I.remaining reader.new) buffer.new result }
+/// Reads the next piece into the feeder, and answers how many bytes it has; or it says why the session is over.
+fn read_piece<I: Read>(feeder: &mut Feeder, reader: &mut I) -> Result<usize, SessionEnd>
+    ensures piece { IsPiece (I.remaining reader.old) (I.remaining reader.new) feeder.old feeder.new result }
     ensures ended { IfErr result (λ end. end ≡ SessionEnd.Ended → IsAtEnd (I.remaining reader.new)) }
 {
-    match reader.read(buffer) {
+    match feeder.read_from(reader) {
         Ok(0) => Err(SessionEnd::Ended),
-        Ok(count) => Ok(count),
-        Err(error) => match error.kind() {
+        Ok(len) => Ok(len),
+        Err(ReadError::Feed(_)) => Err(SessionEnd::Memory),
+        Err(ReadError::Read(error)) => match error.kind() {
             // The read was broken off, and gave nothing.
             ErrorKind::Interrupted => Ok(0),
             _ => Err(SessionEnd::ReadFault),
@@ -227,8 +220,7 @@ fn read_piece<I: Read>(reader: &mut I, buffer: &mut [u8]) -> Result<usize, Sessi
 }
 
 /// Reads a connection's stream to its end, cuts it into units and applies each at the slot, in order; where no
-/// continuation of what came can be read, it applies that fault and ends. It reads pieces of at most 16,384 bytes. Each
-/// unit passes the gate first. The server is told what came of each piece, or of some of its units. The desk is the
+/// continuation of what came can be read, it applies that fault and ends. Each unit passes the gate first. The server is told what came of each piece, or of some of its units. The desk is the
 /// slot's. With a tape the desk is told of these events and of no others.
 pub fn read_session<'s, K: BookName, R: Wait, I: Read, G: Gate, N: Notify<R>>(
     rt: &'s R,

@@ -16,7 +16,7 @@ ghost use Rattle.gm_core.specs.Ticks.{OthersStay};
 ghost use Rattle.gm_core.specs.Telling.{hears, needed, IsRunning, running_there};
 
 use super::Core;
-use crate::telling::{put_each, reserve_each};
+use crate::telling::{append_each, reserve_each};
 use gm_actions::{Refusal, Report, Said};
 use gm_notes::Priority;
 use gm_packet::{response_fits, write_response};
@@ -98,12 +98,8 @@ impl Core {
         ensures jobs { self.new.jobs ≡ self.old.jobs }
     {
         let slots = self.jobs.listeners(job);
-        put_each(
-            &mut self.conns,
-            slots,
-            exceptions_only,
-            self.text.as_slice(),
-        );
+        append_each(&mut self.conns, slots, exceptions_only, &mut self.text);
+        self.let_go();
     }
 
     /// What a worker says of its job, which runs, is told to those that hear it, kept, and perhaps ends the job.
