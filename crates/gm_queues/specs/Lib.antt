@@ -1,3 +1,4 @@
 pub mod FunctionTables
+pub mod NameHashes
 pub mod Numbers
 pub mod Queues

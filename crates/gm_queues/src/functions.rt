@@ -10,6 +10,7 @@ ghost use Rattle.indexmap.specs.IndexSet.{spare};
 ghost use Rattle.gm_queues.specs.FunctionTables.{no_functions, rank, number_of, limit, queue, waiting_for, running_of, HasIdleRoom};
 ghost use Rattle.gm_queues.specs.FunctionTables.{ChangesQueue, ForgetsJob, SetsLimit, ChangesNames, IsFree};
 
+use crate::name_hash::NameHash;
 use crate::ring::Ring;
 use gm_notes::Priority;
 use indexmap::IndexSet;
@@ -62,7 +63,7 @@ pub struct Counts {
 pub struct Functions {
     alloc: Global,
     most: u32,
-    names: IndexSet<Vec<u8>, RandomState>,
+    names: IndexSet<Vec<u8>, NameHash>,
     limits: Vec<u32>,
     // Three for each function, by priority.
     rings: Vec<Ring>,
@@ -97,7 +98,7 @@ fn ring_of(f: u32, p: Priority) -> usize
 
 // Makes room for one function more.
 fn make_room(
-    names: &mut IndexSet<Vec<u8>, RandomState>,
+    names: &mut IndexSet<Vec<u8>, NameHash>,
     limits: &mut Vec<u32>,
     rings: &mut Vec<Ring>,
 ) -> Result<(), AllocError>
@@ -112,7 +113,7 @@ fn make_room(
 }
 
 // One name more.
-fn add_name(names: &mut IndexSet<Vec<u8>, RandomState>, name: Vec<u8>)
+fn add_name(names: &mut IndexSet<Vec<u8>, NameHash>, name: Vec<u8>)
     requires room { 0 < spare names.old }
     requires fresh { position (λ v. bytes_eq name.items v.items) names.old.keys ≡ None }
     ensures { map (λ v. v.items) names.new.keys ≡ map (λ v. v.items) names.old.keys ++ name.items ∷ [] }
@@ -138,7 +139,7 @@ impl Functions {
         Ok(Functions {
             alloc,
             most,
-            names: IndexSet::with_hasher(alloc, seed),
+            names: IndexSet::with_hasher(alloc, NameHash::new(seed)),
             limits: Vec::new(alloc),
             rings: Vec::new(alloc),
         })

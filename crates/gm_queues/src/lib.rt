@@ -8,6 +8,7 @@
 
 mod functions;
 mod hints;
+mod name_hash;
 mod ring;
 
 pub use functions::{Counts, Functions, MentionError};
