@@ -10,9 +10,6 @@ use std::alloc::{AllocError, Global};
 use std::marker::Model;
 use std::mem;
 
-/// The fewest bytes that are moved to where they wait; fewer are copied.
-const LEAST_MOVED: usize = 4_096;
-
 /// What is known of the connection in a slot. In a slot that isn't open all fields are as `new` makes them.
 #[derive(Drop)]
 pub(crate) struct Conn {
@@ -249,14 +246,14 @@ impl Conn {
         self.room -= bytes.len();
     }
 
-    /// The bytes wait behind the others, in reserved room, and are taken out of `bytes`. Where nothing else waits, many
+    /// The bytes wait behind the others, in reserved room, and are taken out of `bytes`. Where nothing else waits they
     /// aren't copied: what was reserved is given for them.
     pub(crate) fn append(&mut self, bytes: &mut Vec<u8>)
         requires { length bytes.old.items ≤ self.old.room }
         ensures conn { self.new ≡ with_bytes bytes.old.items self.old }
         ensures bytes { bytes.new.items ≡ [] }
     {
-        if self.waiting.is_empty() && self.room <= bytes.capacity() && bytes.len() >= LEAST_MOVED {
+        if self.waiting.is_empty() && self.room <= bytes.capacity() {
             self.room -= bytes.len();
             mem::swap(&mut self.waiting, bytes);
         } else {

@@ -368,7 +368,8 @@ impl Conns {
         self.touched.insert(slot);
     }
 
-    /// As `put_out`, and the bytes are taken out of `bytes`: many aren't copied where nothing else waits.
+    /// As `put_out`, and the bytes are taken out of `bytes`. Where nothing else waits they aren't copied: the two buffers
+    /// change places. It is for long texts, since a buffer may have much more room than bytes.
     pub fn append_out(&mut self, slot: u32, bytes: &mut Vec<u8>)
         requires open { IsOpen self.old slot }
         requires room { length bytes.old.items ≤ (conn self.old slot).room }

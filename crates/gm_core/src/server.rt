@@ -37,6 +37,9 @@ use gm_queues::Functions;
 use std::alloc::{AllocError, Global};
 use std::hash::RandomState;
 
+/// The fewest bytes of a packet that is moved to where it waits; a shorter one is copied.
+const LEAST_MOVED: usize = 4_096;
+
 /// The most room that is kept for the next packet.
 const MOST_KEPT: usize = 65_536;
 
@@ -134,11 +137,20 @@ impl Core {
         ensures jobs { self.new.jobs ≡ self.old.jobs }
         ensures moment { self.new.moment ≡ self.old.moment }
     {
-        self.conns.append_out(slot, &mut self.text);
-        self.let_go();
+        if self.has_short_text() {
+            self.conns.put_out(slot, self.text.as_slice());
+        } else {
+            self.conns.append_out(slot, &mut self.text);
+            self.let_go();
+        }
     }
 
-    /// Gives large memory back, where the packet that was written last is queued.
+    /// Whether the packet that was written is copied to where it waits, and not moved.
+    fn has_short_text(&self) -> bool {
+        self.text.len() < LEAST_MOVED
+    }
+
+    /// Gives large memory back, where the packet that was written is queued.
     fn let_go(&mut self)
         ensures { self.new ≡ record self.old { text = self.new.text } }
     {

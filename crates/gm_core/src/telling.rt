@@ -65,8 +65,8 @@ pub fn put_each(conns: &mut Conns, slots: &[u32], exceptions_only: bool, text: &
     }
 }
 
-/// As `put_each`, and the text is used up: where it is long, the last that hears may take it over, and then it is copied for
-/// the others alone.
+/// As `put_each`, for a long text, which is used up: the last of the slots may take it over, and then it is copied for the
+/// others alone.
 pub fn append_each(conns: &mut Conns, slots: &[u32], exceptions_only: bool, text: &mut Vec<u8>)
     requires { (c : ℕ) → needed (length text.old.items) c (filter (hears conns.old exceptions_only) slots.now) ≤ (conn conns.old c).room }
     ensures touched { AllTouched conns.old conns.new }

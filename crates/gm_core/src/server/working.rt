@@ -16,7 +16,7 @@ ghost use Rattle.gm_core.specs.Ticks.{OthersStay};
 ghost use Rattle.gm_core.specs.Telling.{hears, needed, IsRunning, running_there};
 
 use super::Core;
-use crate::telling::{append_each, reserve_each};
+use crate::telling::{append_each, put_each, reserve_each};
 use gm_actions::{Refusal, Report, Said};
 use gm_notes::Priority;
 use gm_packet::{response_fits, write_response};
@@ -97,9 +97,15 @@ impl Core {
             → Goes self.old self.new (λ past. tell_all answer (hearers exceptions_only (listeners job past.notes) past.notes) past) }
         ensures jobs { self.new.jobs ≡ self.old.jobs }
     {
+        let is_short = self.has_short_text();
         let slots = self.jobs.listeners(job);
-        append_each(&mut self.conns, slots, exceptions_only, &mut self.text);
-        self.let_go();
+        if is_short {
+            let text = self.text.as_slice();
+            put_each(&mut self.conns, slots, exceptions_only, text);
+        } else {
+            append_each(&mut self.conns, slots, exceptions_only, &mut self.text);
+            self.let_go();
+        }
     }
 
     /// What a worker says of its job, which runs, is told to those that hear it, kept, and perhaps ends the job.

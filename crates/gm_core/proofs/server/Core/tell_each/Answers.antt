@@ -1,11 +1,16 @@
-use Rattle.std.proofs.Common.{ap}
+use Rattle.std.proofs.Common.{ap, ◌∙◌}
 use Rattle.gm_core.specs.declared.server.Core.{Core}
 use Rattle.gm_core.proofs.CoreLemmas.{goes_then, goes_nothing}
 use Rattle.gm_core.proofs.WorkLemmas.{told_goes}
 use Rattle.gm_core.proofs.server.Core.tell_each.Goals as goal
 
-pub returns-clause-goes : goal.returns-clause-goes
-returns-clause-goes c answer text =
+pub returns-then-is_short-clause-goes : goal.returns-then-is_short-clause-goes
+returns-then-is_short-clause-goes c answer text =
+    told_goes c.args.self.now c.put_each.new.conns c.args.job c.args.exceptions_only c.as_slice-text.result.now c.listeners-slots.result.now c.requires.runs c.listeners-slots.ensures
+    c.put_each.ensures.poured.touched c.put_each.ensures.holds answer (c.as_slice-text.ensures.value ∙ text)
+
+pub returns-else-is_short-clause-goes : goal.returns-else-is_short-clause-goes
+returns-else-is_short-clause-goes c answer text =
     let old = c.args.self.now in
     let told = record old { conns = c.append_each.new.conns } in
     goes_then {a = old} {b = told}
