@@ -43,6 +43,35 @@ pub(crate) struct ServerState<K: BookName> {
     ghost sized: { slots ≡ K.settings.slots },
 }
 
+/// How far somebody is who delivers to others.
+#[derive(Drop)]
+struct Round {
+    has_begun: bool,
+    /// When the clock was first read: a round of one slot doesn't read it.
+    begun: Option<Instant>,
+    /// A peer was found slow, or the time is over.
+    is_late: bool,
+}
+
+impl Round {
+    fn new() -> Round {
+        Round {
+            has_begun: false,
+            begun: None,
+            is_late: false,
+        }
+    }
+
+    /// Whether the rest is for the writers. It is asked before each slot.
+    fn is_over(&mut self, rt: &impl Clock) -> bool {
+        if self.has_begun && !self.is_late {
+            self.is_late = is_over(rt, &mut self.begun, DELIVERING_TIME);
+        }
+        self.has_begun = true;
+        self.is_late
+    }
+}
+
 /// A lane for each slot, in their order.
 fn new_lanes<K: BookName>(
     alloc: Global,
@@ -129,26 +158,36 @@ impl<K: BookName> ServerState<K> {
         }
     }
 
+    /// Touches the lane of a slot, and delivers where nobody else does; or has its writer do so, where the round is over.
+    fn touch<R: Wait + Clock>(&self, rt: &R, slot: u32, round: &mut Round) {
+        let Some(lane) = self.lane(slot) else {
+            return;
+        };
+        if round.is_over(rt) {
+            lane.touch_for_writer();
+        } else {
+            round.is_late = lane.touch(rt, &self.shared);
+        }
+    }
+
     /// Touches the lane of each of the slots, and delivers where nobody else does, until a peer is found slow or the time
-    /// is over; then it has the writers do so.
+    /// is over; then it has the writers do so. Who made the events is answered first: there may be a thousand others.
     fn deliver<R: Wait + Clock>(&self, rt: &R, effects: &Effects) {
-        let mut begun = None;
-        let mut is_late = false;
+        let mut round = Round::new();
+        let own = effects.own_touched();
+        if let Some(slot) = own {
+            self.touch(rt, slot, &mut round);
+        }
         for slot in &effects.touched {
-            let Some(lane) = self.lane(slot) else {
-                continue;
-            };
-            if is_late {
-                lane.touch_for_writer();
-                continue;
+            if Some(slot) != own {
+                self.touch(rt, slot, &mut round);
             }
-            is_late = lane.touch(rt, &self.shared) || is_over(rt, &mut begun, DELIVERING_TIME);
         }
     }
 
     /// Tells what came of an event.
     fn tell<R: Wait + Clock>(&self, rt: &R, receipt: &Receipt) {
-        let mut effects = Effects::new();
+        let mut effects = Effects::new(None);
         effects.add(&receipt.touched, receipt.mode);
         self.notify(rt, &effects);
     }
