@@ -12,7 +12,7 @@ use gm_shared::{BookName, Desk, Pen, Receipt, Shared};
 use std::alloc::{AllocError, Global};
 use std::net::TcpStream;
 use std::sync::atomic::{AtomicBool, AtomicU64, Ordering};
-use std::sync::{Mutex, Wait};
+use std::sync::{Arc, Mutex, Wait};
 use std::time::{Clock, Instant};
 
 /// How long one who isn't the writer goes on writing to others, in milliseconds. The writers do the rest.
@@ -229,30 +229,52 @@ impl<K: BookName> ServerState<K> {
         }
     }
 
-    /// Runs the reader of a connection, and ends the connection with it.
-    pub(crate) fn run_reader<R: Wait + Clock, G: Gate>(
+    /// Reads a connection to its end, and ends it.
+    fn read<R: Wait + Clock, G: Gate>(
         &self,
         rt: &R,
         gate: &G,
-        slot: u32,
-        stream: &TcpStream,
+        lane: &Lane<K>,
+        stream: &Arc<TcpStream, Global>,
     ) {
+        let mut desk = lane.desk.lock(rt);
+        if let Ok(sending) = Arc::try_clone(stream) {
+            lane.begin(rt, &self.shared, sending);
+            let mut reader: &TcpStream = stream;
+            desk.read(
+                &*rt,
+                self.alloc,
+                &mut reader,
+                &self.shared,
+                self.limits,
+                &*gate,
+                &*self,
+            );
+            lane.end(rt);
+        }
+        self.close(rt, &mut desk);
+    }
+
+    /// Runs a slot's reader, connection after connection, until none comes any more.
+    pub(crate) fn run_reader<R: Wait + Clock, G: Gate>(&self, rt: &R, gate: &G, slot: u32) {
         let Some(lane) = self.lane(slot) else {
             return;
         };
-        let mut desk = lane.desk.lock(rt);
-        let mut reader = stream;
-        desk.read(
-            &*rt,
-            self.alloc,
-            &mut reader,
-            &self.shared,
-            self.limits,
-            &*gate,
-            &*self,
-        );
-        lane.end(rt);
-        self.close(rt, &mut desk);
+        for _ in rt.forever() {
+            let Some(stream) = lane.next_stream(rt) else {
+                break;
+            };
+            self.read(rt, gate, lane, &stream);
+            drop(stream);
+            self.end();
+        }
+    }
+
+    /// Has the threads of each slot end, once they have no connection.
+    pub(crate) fn dismiss(&self, rt: &impl Wait) {
+        for lane in &self.lanes {
+            lane.dismiss(rt);
+        }
     }
 }
 
