@@ -178,12 +178,13 @@ impl<'s, K: BookName + Send + Sync> Control<'s, K> {
             opened,
             ..
         } = self;
+        if outcome.is_err() {
+            state.stop();
+        }
+        state.dismiss(rt);
         match outcome {
             Ok(()) => (desk, Ok(opened)),
-            Err(error) => {
-                state.stop();
-                (desk, Err(error))
-            }
+            Err(error) => (desk, Err(error)),
         }
     }
 }

@@ -9,7 +9,7 @@ use std::sync::{Arc, Wait};
 use std::thread::{Scope, Threads};
 use std::time::Clock;
 
-/// Starts the reader and the writer of a connection, and says whether it could.
+/// Gives a connection to its slot's reader, and says whether it could. A slot's threads are made with its first connection.
 pub(crate) fn start<'s, E, K: BookName + Send + Sync, G: Gate, R: Threads + Wait + Clock + Sync>(
     scope: &Scope<'s, E>,
     rt: &'s R,
@@ -21,27 +21,25 @@ pub(crate) fn start<'s, E, K: BookName + Send + Sync, G: Gate, R: Threads + Wait
     let Some(lane) = state.lane(slot) else {
         return false;
     };
-    let Ok(sending) = Arc::try_clone(&stream) else {
-        return false;
-    };
-    lane.begin(rt, sending);
-    if scope
-        .spawn(move || lane.run_writer(rt, state.shared()))
-        .is_err()
-    {
-        lane.release(rt);
-        return false;
+    if !lane.has_writer(rt) {
+        if scope
+            .spawn(move || lane.run_writer(rt, state.shared()))
+            .is_err()
+        {
+            return false;
+        }
+        lane.note_writer(rt);
+    }
+    if !lane.has_reader(rt) {
+        if scope
+            .spawn(move || state.run_reader(rt, gate, slot))
+            .is_err()
+        {
+            return false;
+        }
+        lane.note_reader(rt);
     }
     state.begin();
-    let reader = move || {
-        state.run_reader(rt, gate, slot, &stream);
-        drop(stream);
-        state.end();
-    };
-    if scope.spawn(reader).is_err() {
-        lane.end(rt);
-        state.end();
-        return false;
-    }
+    lane.arrive(rt, stream);
     true
 }

@@ -8,6 +8,8 @@ use std::time::Instant;
 /// What came of some events.
 #[derive(Drop)]
 pub struct Effects {
+    /// The slot whose connection's events they were, if they were a connection's.
+    pub own: Option<u32>,
     /// The slots for which there may be something to send.
     pub touched: SlotSet,
     /// Whether the server goes on.
@@ -15,12 +17,19 @@ pub struct Effects {
 }
 
 impl Effects {
-    /// Nothing came.
-    pub fn new() -> Effects {
+    /// Nothing came of the events of this slot's connection, or of nobody's.
+    pub fn new(own: Option<u32>) -> Effects {
         Effects {
+            own,
             touched: SlotSet::new(),
             mode: Mode::Running,
         }
+    }
+
+    /// The slot whose connection's events they were, if there may be something to send to it.
+    pub(crate) fn own_touched(&self) -> Option<u32> {
+        let own = self.own?;
+        self.touched.next(own).filter(|slot| *slot == own)
     }
 
     /// Takes a receipt's slots and mode.

@@ -46,7 +46,8 @@ pub(crate) fn is_over(rt: &impl Clock, begun: &mut Option<Instant>, time: u64) -
 pub(crate) struct Outgoing<K: BookName> {
     outbox: Outbox<K>,
     stream: Option<Arc<TcpStream, Global>>,
-    has_writer: bool,
+    /// A connection has the slot, and its writer hasn't let go of it.
+    has_connection: bool,
 }
 
 impl<K: BookName> Outgoing<K> {
@@ -56,7 +57,7 @@ impl<K: BookName> Outgoing<K> {
     {
         Outbox::forget(&mut self.outbox);
         self.stream = Some(stream);
-        self.has_writer = true;
+        self.has_connection = true;
         self.set_write_timeout(WRITE_TIMEOUT);
     }
 
@@ -91,6 +92,18 @@ impl<K: BookName> Outgoing<K> {
     }
 }
 
+/// The threads that are kept for a slot, from its first connection on: making them anew costs a connection more than all
+/// that it then does.
+#[derive(Drop)]
+struct Crew {
+    has_reader: bool,
+    has_writer: bool,
+    /// The next connection's, until the reader takes it.
+    stream: Option<Arc<TcpStream, Global>>,
+    /// No connection comes any more.
+    is_over: bool,
+}
+
 /// What a slot has of its own. The desk is the reader's while a connection has the slot, and the parker the writer's. What
 /// is to be sent is with whoever the word says has the lane, so its lock is waited for only where a connection comes or goes.
 #[derive(Drop)]
@@ -102,6 +115,9 @@ pub(crate) struct Lane<K: BookName> {
     unparker: Unparker,
     // The writer let go of the connection.
     released: Condvar,
+    crew: Mutex<Crew>,
+    // The next connection came, or none comes any more.
+    arrived: Condvar,
     // The connection is to end.
     is_ending: AtomicBool,
 }
@@ -116,11 +132,18 @@ impl<K: BookName> Lane<K> {
             outgoing: Mutex::new(Outgoing {
                 outbox: Outbox::new(pen),
                 stream: None,
-                has_writer: false,
+                has_connection: false,
             }),
             parker: Mutex::new(parker),
             unparker,
             released: Condvar::new(),
+            crew: Mutex::new(Crew {
+                has_reader: false,
+                has_writer: false,
+                stream: None,
+                is_over: false,
+            }),
+            arrived: Condvar::new(),
             is_ending: AtomicBool::new(false),
         })
     }
@@ -132,18 +155,65 @@ impl<K: BookName> Lane<K> {
         (desk.into_inner(), outbox.into_pen())
     }
 
-    /// Takes a connection, for which a writer is about to start.
-    pub(crate) fn begin(&self, rt: &impl Wait, stream: Arc<TcpStream, Global>) {
-        self.is_ending.store(false, Ordering::SeqCst);
-        self.outgoing.lock(rt).begin(stream);
+    /// Whether the slot's writer was made.
+    pub(crate) fn has_writer(&self, rt: &impl Wait) -> bool {
+        self.crew.lock(rt).has_writer
     }
 
-    /// Ends the connection, and lets go of it. The writer is at its end, or was never made.
-    pub(crate) fn release(&self, rt: &impl Wait) {
+    /// Whether the slot's reader was made.
+    pub(crate) fn has_reader(&self, rt: &impl Wait) -> bool {
+        self.crew.lock(rt).has_reader
+    }
+
+    /// The slot's writer was made.
+    pub(crate) fn note_writer(&self, rt: &impl Wait) {
+        self.crew.lock(rt).has_writer = true;
+    }
+
+    /// The slot's reader was made.
+    pub(crate) fn note_reader(&self, rt: &impl Wait) {
+        self.crew.lock(rt).has_reader = true;
+    }
+
+    /// Gives the reader the slot's next connection.
+    pub(crate) fn arrive(&self, rt: &impl Wait, stream: Arc<TcpStream, Global>) {
+        // Before the reader has it: it may be told to end at once.
+        self.is_ending.store(false, Ordering::SeqCst);
+        self.crew.lock(rt).stream = Some(stream);
+        self.arrived.notify_one();
+    }
+
+    /// Waits for the slot's next connection. None means that none comes any more.
+    pub(crate) fn next_stream(&self, rt: &impl Wait) -> Option<Arc<TcpStream, Global>> {
+        let mut crew = self.arrived.wait_while(
+            rt,
+            self.crew.lock(rt),
+            |crew| crew.stream.is_none() && !crew.is_over,
+        );
+        crew.stream.take()
+    }
+
+    /// Has the slot's threads end, once they have no connection.
+    pub(crate) fn dismiss(&self, rt: &impl Wait) {
+        self.crew.lock(rt).is_over = true;
+        self.arrived.notify_one();
+        self.wake_writer();
+    }
+
+    /// Takes a connection, as its reader. The last one left the lane late, so somebody has to look before touches count.
+    pub(crate) fn begin(&self, rt: &impl Wait, shared: &Shared<K>, stream: Arc<TcpStream, Global>) {
+        self.outgoing.lock(rt).begin(stream);
+        if let Ok(owed) = self.word.take_over() {
+            let _is_late = self.deliver_owed(rt, shared, owed);
+        }
+    }
+
+    /// Ends the connection, and lets go of it, after its writer's last look.
+    fn release(&self, rt: &impl Wait) {
         let mut outgoing = self.outgoing.lock(rt);
         outgoing.hang_up();
         outgoing.stream = None;
-        outgoing.has_writer = false;
+        outgoing.has_connection = false;
         drop(outgoing);
         self.released.notify_all();
     }
@@ -161,9 +231,11 @@ impl<K: BookName> Lane<K> {
     /// Has the writer send what there is, and waits until it has let go of the connection.
     pub(crate) fn end(&self, rt: &impl Wait) {
         self.request_close();
-        let outgoing = self
-            .released
-            .wait_while(rt, self.outgoing.lock(rt), |outgoing| outgoing.has_writer);
+        let outgoing = self.released.wait_while(
+            rt,
+            self.outgoing.lock(rt),
+            |outgoing| outgoing.has_connection,
+        );
         drop(outgoing);
     }
 
@@ -261,19 +333,23 @@ impl<K: BookName> Lane<K> {
         unreachable!()
     }
 
-    /// Runs the writer of a connection.
+    /// Runs the slot's writer, connection after connection, until none comes any more. What woke it may be of a connection
+    /// that is gone.
     pub(crate) fn run_writer<R: Wait + Clock>(&self, rt: &R, shared: &Shared<K>) {
         let parker = self.parker.lock(rt);
         for _ in rt.forever() {
-            // An error means that somebody else looks after this, and hands the lane over where the connection is to end.
-            if let Ok(owed) = self.word.take_over() {
-                if self.write_owed(rt, shared, owed) {
+            if !self.outgoing.lock(rt).has_connection {
+                if self.crew.lock(rt).is_over {
                     break;
+                }
+            } else if let Ok(owed) = self.word.take_over() {
+                // An error means that somebody else looks after this, and hands the lane over where the connection is to end.
+                if self.write_owed(rt, shared, owed) {
+                    self.release(rt);
+                    continue;
                 }
             }
             parker.park(rt);
         }
-        drop(parker);
-        self.release(rt);
     }
 }

@@ -19,6 +19,10 @@ use std::time::Instant;
 /// The most bytes of a piece that doesn't wait for others: a few requests without data.
 const SHORT_PIECE: usize = 256;
 
+/// How many units of a longer piece don't wait for others either: a request or two with data. Where a client sends many at a
+/// time, none is free.
+const FIRST_UNITS: u32 = 2;
+
 /// After how many units a session looks whether its turn is over.
 const UNITS_A_LOOK: u32 = 8;
 
@@ -93,19 +97,39 @@ struct Session<'s, K: BookName, R, G, N> {
     applier: Applier<'s, K, R, G>,
     feeder: Feeder,
     server: &'s N,
+    /// Whether the last long piece had many units, as the next one then has: that waits from its first unit on.
+    is_pipelining: bool,
 }
 
 /// A session's turn: what it does before others are told what came of that.
 #[derive(Drop)]
 struct Turn<'s> {
-    /// Held over a long piece, so that no other session has such a turn. Many units in a row, of several connections at
+    /// How many units don't wait for other sessions' turns.
+    free_units: u32,
+    /// Held over the other units, so that no other session has such a turn. Many units in a row, of several connections at
     /// once, would wake and sleep at the book's lock at each unit.
-    _alone: Option<MutexGuard<'s, ()>>,
+    alone: Option<MutexGuard<'s, ()>>,
     units: u32,
     begun: Option<Instant>,
 }
 
 impl<'s> Turn<'s> {
+    fn new(free_units: u32) -> Turn<'s> {
+        Turn {
+            free_units,
+            alone: None,
+            units: 0,
+            begun: None,
+        }
+    }
+
+    /// Lets the next unit in. The first that isn't free waits until no other session has such a turn.
+    fn admit<R: Wait, N: Notify<R>>(&mut self, server: &'s N, rt: &R) {
+        if self.units >= self.free_units && self.alone.is_none() {
+            self.alone = Some(server.long_piece_lock().lock(rt));
+        }
+    }
+
     /// Whether it is over, after a unit more. A text line may be the work of many units, so it ends a turn.
     fn is_over<R, N: Notify<R>>(&mut self, server: &N, rt: &R, is_line: bool) -> bool {
         self.units = self.units.wrapping_add(1);
@@ -116,52 +140,54 @@ impl<'s> Turn<'s> {
 /// Has the server tell what came of events, after which there is nothing more to tell.
 fn tell<R, N: Notify<R>>(server: &N, rt: &R, effects: &mut Effects) {
     server.notify(rt, effects);
-    *effects = Effects::new();
+    *effects = Effects::new(effects.own);
 }
 
 impl<'s, K: BookName, R: Wait, G: Gate, N: Notify<R>> Session<'s, K, R, G, N> {
-    /// The next turn, of a long piece or a short one.
-    fn turn(&self, is_long: bool) -> Turn<'s> {
-        let server = self.server;
-        let alone = if is_long {
-            Some(server.long_piece_lock().lock(self.applier.rt))
+    /// How many units of a piece of this length don't wait for other sessions.
+    fn free_units(&self, length: usize) -> u32 {
+        if length <= SHORT_PIECE {
+            u32::MAX
+        } else if self.is_pipelining {
+            0
         } else {
-            None
-        };
-        Turn {
-            _alone: alone,
-            units: 0,
-            begun: None,
+            FIRST_UNITS
         }
     }
 
     /// Takes each unit that stands in the feeder, and the fault after them. Where the session is over, it says why. Where
     /// its turn is over, it tells what came of it, and others have theirs.
-    fn unload(&mut self, is_long: bool) -> Result<(), SessionEnd>
+    fn unload(&mut self, length: usize) -> Result<(), SessionEnd>
         ensures unloads { Unloads K.taped self.old.applier.slot self.old.feeder result self.old.applier.desk.now.share.items self.new.applier.desk.now.share.items self.new.feeder }
         ensures same_desk { self.new.applier.desk.ghost_name ≡ self.old.applier.desk.ghost_name }
         ensures number { self.new.applier.desk.now.number ≡ self.old.applier.desk.now.number }
         ensures slot { self.new.applier.slot ≡ self.old.applier.slot }
     {
         let slot = self.applier.slot;
-        let mut turn = self.turn(is_long);
+        let server = self.server;
+        let free_units = self.free_units(length);
+        let mut turn = Turn::new(free_units);
         loop {
             let is_line = match next_event(&mut self.feeder, slot) {
                 Next::Unit(event) => {
                     let is_line = matches!(event, Event::Line { .. });
+                    turn.admit(server, self.applier.rt);
                     self.applier.apply_unit(event)?;
                     is_line
                 }
-                Next::Wait => return Ok(()),
+                Next::Wait => {
+                    self.is_pipelining = turn.units > FIRST_UNITS;
+                    return Ok(());
+                }
                 Next::Fault(fault) => {
                     self.applier.apply(Event::Fault { slot, fault })?;
                     return Err(SessionEnd::Shut);
                 }
             };
-            if turn.is_over(self.server, self.applier.rt, is_line) {
+            if turn.is_over(server, self.applier.rt, is_line) {
                 drop(turn);
-                tell(self.server, self.applier.rt, &mut self.applier.effects);
-                turn = self.turn(is_long);
+                tell(server, self.applier.rt, &mut self.applier.effects);
+                turn = Turn::new(free_units);
             }
         }
     }
@@ -174,7 +200,7 @@ impl<'s, K: BookName, R: Wait, G: Gate, N: Notify<R>> Session<'s, K, R, G, N> {
         ensures number { self.new.applier.desk.now.number ≡ self.old.applier.desk.now.number }
         ensures slot { self.new.applier.slot ≡ self.old.applier.slot }
     {
-        let outcome = self.unload(len > SHORT_PIECE);
+        let outcome = self.unload(len);
         tell(self.server, self.applier.rt, &mut self.applier.effects);
         outcome
     }
@@ -245,10 +271,11 @@ pub fn read_session<'s, K: BookName, R: Wait, I: Read, G: Gate, N: Notify<R>>(
             gate,
             slot,
             index: 0,
-            effects: Effects::new(),
+            effects: Effects::new(Some(slot)),
         },
         feeder: Feeder::new(alloc, limits),
         server,
+        is_pipelining: false,
     };
     let end = session.run(reader);
     // The desk is the caller's again.

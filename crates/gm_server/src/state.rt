@@ -12,7 +12,7 @@ use gm_shared::{BookName, Desk, Pen, Receipt, Shared};
 use std::alloc::{AllocError, Global};
 use std::net::TcpStream;
 use std::sync::atomic::{AtomicBool, AtomicU64, Ordering};
-use std::sync::{Mutex, Wait};
+use std::sync::{Arc, Mutex, Wait};
 use std::time::{Clock, Instant};
 
 /// How long one who isn't the writer goes on writing to others, in milliseconds. The writers do the rest.
@@ -41,6 +41,35 @@ pub(crate) struct ServerState<K: BookName> {
     // There was no memory to enter a connection's end on the tape, so the book still has its slot open.
     out_of_memory: AtomicBool,
     ghost sized: { slots ≡ K.settings.slots },
+}
+
+/// How far somebody is who delivers to others.
+#[derive(Drop)]
+struct Round {
+    has_begun: bool,
+    /// When the clock was first read: a round of one slot doesn't read it.
+    begun: Option<Instant>,
+    /// A peer was found slow, or the time is over.
+    is_late: bool,
+}
+
+impl Round {
+    fn new() -> Round {
+        Round {
+            has_begun: false,
+            begun: None,
+            is_late: false,
+        }
+    }
+
+    /// Whether the rest is for the writers. It is asked before each slot.
+    fn is_over(&mut self, rt: &impl Clock) -> bool {
+        if self.has_begun && !self.is_late {
+            self.is_late = is_over(rt, &mut self.begun, DELIVERING_TIME);
+        }
+        self.has_begun = true;
+        self.is_late
+    }
 }
 
 /// A lane for each slot, in their order.
@@ -129,26 +158,36 @@ impl<K: BookName> ServerState<K> {
         }
     }
 
+    /// Touches the lane of a slot, and delivers where nobody else does; or has its writer do so, where the round is over.
+    fn touch<R: Wait + Clock>(&self, rt: &R, slot: u32, round: &mut Round) {
+        let Some(lane) = self.lane(slot) else {
+            return;
+        };
+        if round.is_over(rt) {
+            lane.touch_for_writer();
+        } else {
+            round.is_late = lane.touch(rt, &self.shared);
+        }
+    }
+
     /// Touches the lane of each of the slots, and delivers where nobody else does, until a peer is found slow or the time
-    /// is over; then it has the writers do so.
+    /// is over; then it has the writers do so. Who made the events is answered first: there may be a thousand others.
     fn deliver<R: Wait + Clock>(&self, rt: &R, effects: &Effects) {
-        let mut begun = None;
-        let mut is_late = false;
+        let mut round = Round::new();
+        let own = effects.own_touched();
+        if let Some(slot) = own {
+            self.touch(rt, slot, &mut round);
+        }
         for slot in &effects.touched {
-            let Some(lane) = self.lane(slot) else {
-                continue;
-            };
-            if is_late {
-                lane.touch_for_writer();
-                continue;
+            if Some(slot) != own {
+                self.touch(rt, slot, &mut round);
             }
-            is_late = lane.touch(rt, &self.shared) || is_over(rt, &mut begun, DELIVERING_TIME);
         }
     }
 
     /// Tells what came of an event.
     fn tell<R: Wait + Clock>(&self, rt: &R, receipt: &Receipt) {
-        let mut effects = Effects::new();
+        let mut effects = Effects::new(None);
         effects.add(&receipt.touched, receipt.mode);
         self.notify(rt, &effects);
     }
@@ -190,30 +229,52 @@ impl<K: BookName> ServerState<K> {
         }
     }
 
-    /// Runs the reader of a connection, and ends the connection with it.
-    pub(crate) fn run_reader<R: Wait + Clock, G: Gate>(
+    /// Reads a connection to its end, and ends it.
+    fn read<R: Wait + Clock, G: Gate>(
         &self,
         rt: &R,
         gate: &G,
-        slot: u32,
-        stream: &TcpStream,
+        lane: &Lane<K>,
+        stream: &Arc<TcpStream, Global>,
     ) {
+        let mut desk = lane.desk.lock(rt);
+        if let Ok(sending) = Arc::try_clone(stream) {
+            lane.begin(rt, &self.shared, sending);
+            let mut reader: &TcpStream = stream;
+            desk.read(
+                &*rt,
+                self.alloc,
+                &mut reader,
+                &self.shared,
+                self.limits,
+                &*gate,
+                &*self,
+            );
+            lane.end(rt);
+        }
+        self.close(rt, &mut desk);
+    }
+
+    /// Runs a slot's reader, connection after connection, until none comes any more.
+    pub(crate) fn run_reader<R: Wait + Clock, G: Gate>(&self, rt: &R, gate: &G, slot: u32) {
         let Some(lane) = self.lane(slot) else {
             return;
         };
-        let mut desk = lane.desk.lock(rt);
-        let mut reader = stream;
-        desk.read(
-            &*rt,
-            self.alloc,
-            &mut reader,
-            &self.shared,
-            self.limits,
-            &*gate,
-            &*self,
-        );
-        lane.end(rt);
-        self.close(rt, &mut desk);
+        for _ in rt.forever() {
+            let Some(stream) = lane.next_stream(rt) else {
+                break;
+            };
+            self.read(rt, gate, lane, &stream);
+            drop(stream);
+            self.end();
+        }
+    }
+
+    /// Has the threads of each slot end, once they have no connection.
+    pub(crate) fn dismiss(&self, rt: &impl Wait) {
+        for lane in &self.lanes {
+            lane.dismiss(rt);
+        }
     }
 }
 

@@ -1,13 +1,13 @@
 //! The book.
 
-ghost use Rattle.std.specs.Prelude.{◌≡◌, ◌<◌, ◌≤◌, ◌++◌, ℕ, [], List, IfOk, false, length};
+ghost use Rattle.std.specs.Prelude.{◌≡◌, ◌⊎◌, ◌<◌, ◌≤◌, ◌++◌, ℕ, [], List, IfOk, true, false, length};
 ghost use Rattle.gm_conns.specs.Slots.{has};
-ghost use Rattle.gm_conns.specs.ConnTables.{is_touched};
+ghost use Rattle.gm_conns.specs.ConnTables.{conn, is_touched};
 ghost use Rattle.gm_word.specs.Seats.{fresh_pens};
 ghost use Rattle.gm_notes.specs.Settings.{Settings};
 ghost use Rattle.gm_notes.specs.Steps.{Step, run};
 ghost use Rattle.gm_notes.specs.Servers.{step_of, IsSized};
-ghost use Rattle.gm_core.specs.Holds.{AllTouched, CoreAgrees};
+ghost use Rattle.gm_core.specs.Holds.{AllTouched, CoreAgrees, outbox};
 ghost use Rattle.std.specs.Result.{IsErrOf};
 
 use crate::events::{Noop, asks_a_job, slot_of};
@@ -39,7 +39,7 @@ pub struct Booked {
 
 impl Booked {
     ghost use Rattle.gm_laws.specs.Laws.{MayBeTakenLater};
-    ghost use Rattle.gm_shared.specs.Books.{Holds, BookedAgrees, Held, NeedsNoMemory, Drains, AsksWord, FollowsAt, FollowsCore};
+    ghost use Rattle.gm_shared.specs.Books.{Holds, BookedAgrees, Held, NeedsNoMemory, Drains, AsksWord, FollowsAt, FollowsCore, IsIdle};
     ghost use Rattle.gm_shared.specs.Events.{takes_back, slot_of, MayFind, entered};
     ghost use Rattle.gm_shared.specs.Tapes.{is_on};
 
@@ -122,7 +122,8 @@ impl Booked {
         self.tape.enter_noop(share, desk, noop);
         let done = self.core.apply(event)?;
         let at = self.tape.enter_event(share, desk, copies, done);
-        let touched = self.follow(table, event);
+        let mut touched = self.follow(table, event);
+        self.leave_out_idle(event, &mut touched);
         Ok(Receipt {
             at,
             done,
@@ -260,5 +261,29 @@ impl Booked {
             touched.insert(slot);
         }
         touched
+    }
+
+    /// Whether nothing is to be delivered to a slot.
+    fn is_idle(&self, slot: u32) -> bool
+        ensures { result ≡ true → IsIdle (outbox (conn self.now.core.conns slot)) }
+    {
+        let (conns, _, _) = self.core.parts();
+        conns.is_open(slot)
+            && !conns.phase(slot).is_owed()
+            && !conns.is_shut(slot)
+            && conns.waiting(slot).is_empty()
+    }
+
+    /// Takes the event's own slot out of those that it touched, if nothing is to be delivered there: a worker that goes to
+    /// sleep.
+    fn leave_out_idle(&self, event: &Event<'_>, touched: &mut SlotSet)
+        ensures { (c : ℕ) → has touched.new c ≡ false → (has touched.old c ≡ false) ⊎ IsIdle (outbox (conn self.now.core.conns c)) }
+    {
+        if let Some(slot) = slot_of(event)
+            && slot < self.slots
+            && self.is_idle(slot)
+        {
+            touched.remove(slot);
+        }
     }
 }

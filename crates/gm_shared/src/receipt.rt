@@ -12,8 +12,8 @@ pub struct Receipt {
     pub done: Done,
     /// Whether the server goes on, after the event.
     pub mode: Mode,
-    /// The slots whose waiting bytes, phase or shut changed, and perhaps more: it is for them that a writer may have
-    /// something to do.
+    /// The slots whose waiting bytes, phase or shut changed and to which something is to be delivered, and perhaps more:
+    /// it is for them that a writer may have something to do.
     pub touched: SlotSet,
 }
 
