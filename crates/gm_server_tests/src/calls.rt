@@ -199,6 +199,51 @@ static JOB_RETRIES: [Call; 22] = [
     call!(drain 1 => b"\0RES\0\0\0\x0a\0\0\0\0\0RES\0\0\0\x13\0\0\0\x1bjob_not_found\0job not found", false),
 ];
 
+/// Two clients submit ten jobs each, and two workers can do them.
+static SUBMISSIONS: [Call; 26] = [
+    call!(open 0),
+    call!(open 1),
+    call!(open 2),
+    call!(open 3),
+    call!(packet 0, 18, b"f\0-\0d" => Some(1), [0]),
+    call!(packet 1, 18, b"f\0-\0d" => Some(2), [1]),
+    call!(packet 0, 18, b"f\0-\0d" => Some(3), [0]),
+    call!(packet 1, 18, b"f\0-\0d" => Some(4), [1]),
+    call!(packet 0, 18, b"f\0-\0d" => Some(5), [0]),
+    call!(packet 1, 18, b"f\0-\0d" => Some(6), [1]),
+    call!(packet 0, 18, b"f\0-\0d" => Some(7), [0]),
+    call!(packet 1, 18, b"f\0-\0d" => Some(8), [1]),
+    call!(packet 0, 18, b"f\0-\0d" => Some(9), [0]),
+    call!(packet 1, 18, b"f\0-\0d" => Some(10), [1]),
+    call!(packet 0, 18, b"f\0-\0d" => Some(11), [0]),
+    call!(packet 1, 18, b"f\0-\0d" => Some(12), [1]),
+    call!(packet 0, 18, b"f\0-\0d" => Some(13), [0]),
+    call!(packet 1, 18, b"f\0-\0d" => Some(14), [1]),
+    call!(packet 0, 18, b"f\0-\0d" => Some(15), [0]),
+    call!(packet 1, 18, b"f\0-\0d" => Some(16), [1]),
+    call!(packet 0, 18, b"f\0-\0d" => Some(17), [0]),
+    call!(packet 1, 18, b"f\0-\0d" => Some(18), [1]),
+    call!(packet 0, 18, b"f\0-\0d" => Some(19), [0]),
+    call!(packet 1, 18, b"f\0-\0d" => Some(20), [1]),
+    call!(packet 2, 1, b"f" => None, []),
+    call!(packet 3, 1, b"f" => None, []),
+];
+
+/// Each worker asks for a job.
+static GRABS_OF_TWO: [Call; 2] = [
+    call!(packet 2, 9, b"" => None, [2]),
+    call!(packet 3, 9, b"" => None, [3]),
+];
+
+/// Each job runs, and each slot is told of its own ten.
+static TEN_EACH: [Call; 5] = [
+    call!(event 0, Event::Line { slot: 0, bytes: b"status" } => Running, [0]),
+    call!(drain 0 => b"\0RES\0\0\0\x08\0\0\0\x07H:gmd:1\0RES\0\0\0\x08\0\0\0\x07H:gmd:3\0RES\0\0\0\x08\0\0\0\x07H:gmd:5\0RES\0\0\0\x08\0\0\0\x07H:gmd:7\0RES\0\0\0\x08\0\0\0\x07H:gmd:9\0RES\0\0\0\x08\0\0\0\x08H:gmd:11\0RES\0\0\0\x08\0\0\0\x08H:gmd:13\0RES\0\0\0\x08\0\0\0\x08H:gmd:15\0RES\0\0\0\x08\0\0\0\x08H:gmd:17\0RES\0\0\0\x08\0\0\0\x08H:gmd:19f\t20\t20\t2\n.\n", false),
+    call!(drain 1 => b"\0RES\0\0\0\x08\0\0\0\x07H:gmd:2\0RES\0\0\0\x08\0\0\0\x07H:gmd:4\0RES\0\0\0\x08\0\0\0\x07H:gmd:6\0RES\0\0\0\x08\0\0\0\x07H:gmd:8\0RES\0\0\0\x08\0\0\0\x08H:gmd:10\0RES\0\0\0\x08\0\0\0\x08H:gmd:12\0RES\0\0\0\x08\0\0\0\x08H:gmd:14\0RES\0\0\0\x08\0\0\0\x08H:gmd:16\0RES\0\0\0\x08\0\0\0\x08H:gmd:18\0RES\0\0\0\x08\0\0\0\x08H:gmd:20", false),
+    call!(drain 2 => b"\0RES\0\0\0\x0b\0\0\0\x0bH:gmd:1\0f\0d\0RES\0\0\0\x0b\0\0\0\x0bH:gmd:3\0f\0d\0RES\0\0\0\x0b\0\0\0\x0bH:gmd:5\0f\0d\0RES\0\0\0\x0b\0\0\0\x0bH:gmd:7\0f\0d\0RES\0\0\0\x0b\0\0\0\x0bH:gmd:9\0f\0d\0RES\0\0\0\x0b\0\0\0\x0cH:gmd:11\0f\0d\0RES\0\0\0\x0b\0\0\0\x0cH:gmd:13\0f\0d\0RES\0\0\0\x0b\0\0\0\x0cH:gmd:15\0f\0d\0RES\0\0\0\x0b\0\0\0\x0cH:gmd:17\0f\0d\0RES\0\0\0\x0b\0\0\0\x0cH:gmd:19\0f\0d", false),
+    call!(drain 3 => b"\0RES\0\0\0\x0b\0\0\0\x0bH:gmd:2\0f\0d\0RES\0\0\0\x0b\0\0\0\x0bH:gmd:4\0f\0d\0RES\0\0\0\x0b\0\0\0\x0bH:gmd:6\0f\0d\0RES\0\0\0\x0b\0\0\0\x0bH:gmd:8\0f\0d\0RES\0\0\0\x0b\0\0\0\x0cH:gmd:10\0f\0d\0RES\0\0\0\x0b\0\0\0\x0cH:gmd:12\0f\0d\0RES\0\0\0\x0b\0\0\0\x0cH:gmd:14\0f\0d\0RES\0\0\0\x0b\0\0\0\x0cH:gmd:16\0f\0d\0RES\0\0\0\x0b\0\0\0\x0cH:gmd:18\0f\0d\0RES\0\0\0\x0b\0\0\0\x0cH:gmd:20\0f\0d", false),
+];
+
 /// The slots of the set are these, in their order.
 fn assert_slots(rt: &impl Abort, event: Event<'static>, set: &SlotSet, slots: &[u32]) {
     let mut left = set.iter();
@@ -296,6 +341,7 @@ impl<'a> Scene for Calls<'a> {
         rt: &R,
         room: &mut Room<K>,
     ) -> Result<(), Fail> {
+        room.refuse_growth();
         for calls in self.parts {
             assert_calls(rt, room, self.tape, calls);
         }
@@ -377,6 +423,27 @@ fn stale_noop(rt: HostRuntime) -> Result<(), Fail> {
 #[test]
 fn job_retries(rt: HostRuntime) -> Result<(), Fail> {
     play_both(&rt, 2, &[&JOB_RETRIES], 22)
+}
+
+/// Two clients and two workers, ten times each.
+#[test]
+fn ten_each(rt: HostRuntime) -> Result<(), Fail> {
+    let grabs = GRABS_OF_TWO.as_slice();
+    let parts = [
+        &SUBMISSIONS,
+        grabs,
+        grabs,
+        grabs,
+        grabs,
+        grabs,
+        grabs,
+        grabs,
+        grabs,
+        grabs,
+        grabs,
+        &TEN_EACH,
+    ];
+    play_both(&rt, 4, &parts, 51)
 }
 
 /// The pen takes the NOOP before the worker asks for a job or goes, or it is withdrawn: all else is the same.

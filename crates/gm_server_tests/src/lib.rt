@@ -1,6 +1,6 @@
 //! Tests of what threads do at once: a shared book, by worked cases over its desks and pens and by threads that work at
-//! it; and the server: sessions, what a writer writes, and connections of which one is held at a unit. It holds nothing
-//! else. What can be seen from outside is tested at the program, by tests/serve.
+//! it; a front to which growths are refused; and the server: sessions, what a writer writes, and connections of which one
+//! is held at a unit. It holds nothing else. What can be seen from outside is tested at the program, by tests/serve.
 #![tactic(auto)]
 
 #[cfg(test)]
@@ -15,6 +15,10 @@ mod client;
 mod crowds;
 #[cfg(test)]
 mod devices;
+#[cfg(test)]
+mod fronts;
+#[cfg(test)]
+mod growths;
 #[cfg(test)]
 mod held;
 #[cfg(test)]

@@ -4,10 +4,12 @@
 
 ghost use Rattle.std.specs.Prelude.{◌≡◌};
 
-use crate::checks::must;
+use crate::checks::{must, same};
+use crate::growths::{MOST, refuse};
 use gm_notes::{ApplyError, Config, Event};
 use gm_shared::{
-    Blank, BookName, Desk, Drained, Entry, Pen, Receipt, SettleError, Shared, TapeMode, settle,
+    Blank, BookName, Desk, Drained, Entry, Pen, Receipt, SettleError, Settled, Shared, TapeMode,
+    settle,
 };
 use std::alloc::{AllocError, Global};
 use std::hash::RandomState;
@@ -32,6 +34,9 @@ pub struct Room<K: BookName> {
     pub desks: Vec<Desk<K>>,
     pub pens: Vec<Pen<K>>,
     pub control: Desk<K>,
+    alloc: Global,
+    /// Which growth is to be refused.
+    growth: u32,
 }
 
 /// What is done in a room.
@@ -68,7 +73,14 @@ impl<K: BookName> Room<K> {
             desks,
             pens,
             control,
+            alloc,
+            growth: 0,
         })
+    }
+
+    /// From now on a growth is refused, up to the settling: that of the room's number.
+    pub fn refuse_growth(&self) {
+        refuse(self.alloc, self.growth);
     }
 
     /// Keeps the first desk back, or the first pen.
@@ -88,18 +100,28 @@ impl<K: BookName> Room<K> {
             mut desks,
             pens,
             control,
+            ..
         } = self;
+        refuse(alloc, 0);
         let Ok(()) = desks.push(control) else {
+            drop(shared);
             return Err(SettleError::Memory.number());
         };
         match settle(alloc, shared, desks, pens) {
-            Ok(settled) => Ok(settled.tape),
-            Err(error) => Err(error.number()),
+            Ok(Settled { core, tape, .. }) => {
+                drop(core);
+                Ok(tape)
+            }
+            Err(error) => {
+                let number = error.number();
+                drop(error);
+                Err(number)
+            }
         }
     }
 
     /// Hands in an event at the desk of this number, or at the control desk where no slot has it.
-    pub fn apply<R: Wait + Abort>(
+    pub fn try_apply<R: Wait + Abort>(
         &mut self,
         rt: &R,
         desk: usize,
@@ -111,6 +133,19 @@ impl<K: BookName> Room<K> {
         }
     }
 
+    /// The same, and once more where it is refused for memory.
+    pub fn apply<R: Wait + Abort>(
+        &mut self,
+        rt: &R,
+        desk: usize,
+        event: Event<'_>,
+    ) -> Result<Receipt, ApplyError> {
+        match self.try_apply(rt, desk, event) {
+            Err(ApplyError::Memory) => self.try_apply(rt, desk, event),
+            answer => answer,
+        }
+    }
+
     pub fn take(&mut self, rt: &impl Abort, slot: usize) -> bool {
         self.pens
             .get_mut(slot)
@@ -118,11 +153,19 @@ impl<K: BookName> Room<K> {
             .take(&self.shared)
     }
 
-    pub fn drain<R: Wait + Abort>(&mut self, rt: &R, slot: usize) -> Result<Drained, ApplyError> {
+    fn try_drain<R: Wait + Abort>(&mut self, rt: &R, slot: usize) -> Result<Drained, ApplyError> {
         self.pens
             .get_mut(slot)
             .expect(rt, "each slot has a pen")
             .drain(rt, &self.shared)
+    }
+
+    /// Drains, and once more where that is refused for memory.
+    pub fn drain<R: Wait + Abort>(&mut self, rt: &R, slot: usize) -> Result<Drained, ApplyError> {
+        match self.try_drain(rt, slot) {
+            Err(ApplyError::Memory) => self.try_drain(rt, slot),
+            answer => answer,
+        }
     }
 }
 
@@ -132,12 +175,14 @@ fn play_at<K: BookName + Send + Sync, S: Scene, R: Threads + Wait + Abort + Sync
     alloc: Global,
     blank: Blank,
     scene: &mut S,
+    growth: u32,
 ) -> Result<Result<Vec<Entry>, u8>, Fail>
     requires table { blank.table ≡ K.table }
     requires settings { blank.settings ≡ K.settings }
     requires taped { blank.taped ≡ K.taped }
 {
     let mut room: Room<K> = Room::new(alloc, blank)?;
+    room.growth = growth;
     scene.play(rt, &mut room)?;
     Ok(room.settle(alloc))
 }
@@ -153,7 +198,16 @@ pub fn blank<R: RandomSource>(
     Ok(Blank::new(alloc, RandomState::new(rt)?, config, tape)?)
 }
 
-/// Plays in a new room with so many slots, with a tape or without, and says what the book's settling answers.
+/// How many entries there are, or the number of the refusal.
+fn entries(outcome: &Result<Vec<Entry>, u8>) -> Result<usize, u8> {
+    match outcome {
+        Ok(tape) => Ok(tape.len()),
+        Err(error) => Err(*error),
+    }
+}
+
+/// Plays in a new room with so many slots, with a tape or without, and says what the book's settling answers. It plays again
+/// with each growth refused that the scene lets be refused, and the answer has to be the same.
 pub fn play_to_the_end<S: Scene, R: RandomSource + Threads + Wait + Abort + Sync>(
     rt: &R,
     alloc: Global,
@@ -161,8 +215,18 @@ pub fn play_to_the_end<S: Scene, R: RandomSource + Threads + Wait + Abort + Sync
     tape: TapeMode,
     scene: &mut S,
 ) -> Result<Result<Vec<Entry>, u8>, Fail> {
-    let blank = blank(rt, alloc, slots, tape)?;
-    play_at::<Brand, S, R>(rt, alloc, blank, scene)
+    let mut wanted = None;
+    for growth in 1..MOST {
+        let blank = blank(rt, alloc, slots, tape)?;
+        let outcome = play_at::<Brand, S, R>(rt, alloc, blank, scene, growth)?;
+        let got = entries(&outcome);
+        same(rt, growth, &got, &wanted.unwrap_or(got));
+        wanted = Some(got);
+        if !refuse(alloc, 0) {
+            return Ok(outcome);
+        }
+    }
+    Err(Fail::from("growths without end"))
 }
 
 /// The same where the book is settled: its tape.

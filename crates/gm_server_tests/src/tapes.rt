@@ -50,6 +50,7 @@ impl Scene for Echo {
         rt: &R,
         room: &mut Room<K>,
     ) -> Result<(), Fail> {
+        room.refuse_growth();
         self.places = echo_once(rt, room)?;
         room.lose(self.lost == Lost::Desk, self.lost == Lost::Pen);
         Ok(())
@@ -90,8 +91,8 @@ fn tape_and_shares(rt: HostRuntime) -> Result<(), Fail> {
     Ok(())
 }
 
-/// A worker that is owed a NOOP goes. Where there is no memory for that, nothing changes, and it goes the next time. Its
-/// desk's share has three entries before, so that the closing finds no room for two more.
+/// A worker that is owed a NOOP goes. Where there is no memory for that, it goes the next time. Its desk's share has three
+/// entries before, so that the closing finds no room for two more.
 #[derive(Clone, Copy)]
 struct Goes;
 
@@ -107,14 +108,16 @@ impl Scene for Goes {
             bytes: b"version",
         };
         room.apply(rt, 1, line)?;
-        if let Err(error) = room.apply(rt, 1, Event::Close { slot: 1 }) {
+        room.refuse_growth();
+        if let Err(error) = room.try_apply(rt, 1, Event::Close { slot: 1 }) {
             same(rt, "a closing", &error, &ApplyError::Memory);
-            room.apply(rt, 1, Event::Close { slot: 1 })?;
+            room.try_apply(rt, 1, Event::Close { slot: 1 })?;
         }
         Ok(())
     }
 }
 
+/// The NOOP is entered once, and then the closing.
 #[test]
 fn close_tape(rt: HostRuntime) -> Result<(), Fail> {
     let tape = play_settled(&rt, rt.alloc(), 2, TapeMode::On, &mut Goes)?;
