@@ -22,7 +22,7 @@ item_of (Line bytes) = ALine bytes.now
 abbrev pub with_bytes : Stream → List ℕ → Stream
 with_bytes stream piece = record stream { pending = stream.pending ++ piece }
 
--- these bytes of the input, so many, came behind the pending ones
+-- these bytes of the input, as many as the count, came behind the pending ones
 pub record TakesIn (input rest : Option (List ℕ)) (old new : Stream) (count : ℕ) : Type 0 where
   pub piece : List ℕ
   pub consumes : Consumes input rest piece

@@ -12,7 +12,7 @@ use Rattle.gm_shared.specs.Tapes.{events_told}
 use Rattle.gm_server.specs.declared.session.SessionEnd.{SessionEnd}
 use Rattle.gm_server.specs.declared.session.SessionEnd.TheVariants as ends
 
--- a read took so many bytes of the input into the feeder, or none
+-- a read took this count of bytes of the input into the feeder, or none
 abbrev pub IsPiece : Option (List ℕ) → Option (List ℕ) → Stream → Stream → Result ℕ SessionEnd → Type 0
 IsPiece input rest old new (Ok len) = TakesIn input rest old new len
 IsPiece input rest old new (Err end) = Consumes input rest []

@@ -92,7 +92,7 @@ impl<K: BookName> Outgoing<K> {
     }
 }
 
-/// The threads that are kept for a slot, from its first connection on: making them anew costs a connection more than all
+/// The threads that are kept for a slot, from its first connection on: making new ones costs a connection more than all
 /// that it then does.
 #[derive(Drop)]
 struct Crew {

@@ -349,7 +349,7 @@ impl<'a> Scene for Calls<'a> {
     }
 }
 
-/// The calls are made in a new book with so many slots. It gives the book's tape, which is settled.
+/// The calls are made in a new book with this many slots. It gives the book's tape, which is settled.
 fn play_calls<R: RandomSource + Threads + Wait + Abort + AllocGlobal + Sync>(
     rt: &R,
     slots: u32,
@@ -359,7 +359,7 @@ fn play_calls<R: RandomSource + Threads + Wait + Abort + AllocGlobal + Sync>(
     play_settled(rt, rt.alloc(), slots, tape, &mut Calls { tape, parts })
 }
 
-/// Without a tape there are no entries, and with one so many.
+/// Without a tape there are no entries, and with one this many.
 fn play_both<R: RandomSource + Threads + Wait + Abort + AllocGlobal + Sync>(
     rt: &R,
     slots: u32,

@@ -244,7 +244,7 @@ fn assert_answer<K: BookName, R: Wait + Abort>(
     Ok(())
 }
 
-/// So many jobs live and so many of them run, and so many can do the function.
+/// This many jobs live, this many of them run, and this many workers can do the function.
 fn assert_status<K: BookName, R: Wait + Abort>(
     rt: &R,
     alloc: Global,
@@ -351,7 +351,7 @@ fn crowd_anew<R: RandomSource + Threads + Wait + Abort + Sync>(
     crowd::<Brand, R>(rt, alloc, blank(rt, alloc, slots, tape)?, slots)
 }
 
-/// The same without a tape, and with one, which has so many entries in the end.
+/// The same without a tape, and with one, which has this many entries in the end.
 fn both_crowds<R: RandomSource + Threads + Wait + Abort + Sync>(
     rt: &R,
     alloc: Global,

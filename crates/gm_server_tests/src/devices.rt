@@ -29,7 +29,7 @@ impl<'a> Read for FailingReader<'a> {
     }
 }
 
-/// Takes so many bytes, one at a call, and fails then.
+/// Takes a number of bytes, one at a call, and then fails.
 #[derive(Drop)]
 struct FailingWriter {
     room: usize,
@@ -53,7 +53,7 @@ impl Write for FailingWriter {
     }
 }
 
-/// What comes of a message where there is room for so many bytes, and the bytes that were taken.
+/// What comes of a message where there is room for this many bytes, and the bytes that were taken.
 fn written(
     alloc: Global,
     room: usize,

@@ -20,7 +20,7 @@ use std::sync::Wait;
 use std::test::Fail;
 use std::thread::Threads;
 
-/// The settings of a server with so many slots, whose workers' functions take turns or don't, and which gives a job to two
+/// The settings of a server with this many slots, whose workers' functions take turns or don't, and which gives a job to two
 /// workers at most.
 pub fn config(alloc: Global, slots: u32, round_robin: bool) -> Result<Config, Fail> {
     let config = Config::new(Vec::from_slice(alloc, b"gmd")?, 1, slots, 65536)?;
@@ -187,7 +187,7 @@ fn play_at<K: BookName + Send + Sync, S: Scene, R: Threads + Wait + Abort + Sync
     Ok(room.settle(alloc))
 }
 
-/// A new book with so many slots, with a tape or without. Functions take turns where a tape is kept.
+/// A new book with this many slots, with a tape or without. Functions take turns where a tape is kept.
 pub fn blank<R: RandomSource>(
     rt: &R,
     alloc: Global,
@@ -206,7 +206,7 @@ fn entries(outcome: &Result<Vec<Entry>, u8>) -> Result<usize, u8> {
     }
 }
 
-/// Plays in a new room with so many slots, with a tape or without, and says what the book's settling answers. It plays again
+/// Plays in a new room with this many slots, with a tape or without, and says what the book's settling answers. It plays again
 /// with each growth refused that the scene lets be refused, and the answer has to be the same.
 pub fn play_to_the_end<S: Scene, R: RandomSource + Threads + Wait + Abort + Sync>(
     rt: &R,

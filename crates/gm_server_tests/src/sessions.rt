@@ -57,7 +57,7 @@ impl<'a> Scene for OneSession<'a> {
     }
 }
 
-/// A session at a new book with one slot ends like this, with these bytes waiting and so many entries on the tape.
+/// A session at a new book with one slot ends like this, with these bytes waiting and this many entries on the tape.
 fn assert_session<R: RandomSource + Threads + Wait + Abort + AllocGlobal + Sync>(
     rt: &R,
     is_open: bool,

@@ -57,7 +57,7 @@ impl Scene for Echo {
     }
 }
 
-/// The receipts tell these places, and so many entries are settled in the end.
+/// The receipts tell these places, and this many entries are settled in the end.
 fn assert_ends<R: RandomSource + Threads + Wait + Abort + AllocGlobal + Sync>(
     rt: &R,
     tape: TapeMode,
@@ -78,7 +78,7 @@ fn assert_ends<R: RandomSource + Threads + Wait + Abort + AllocGlobal + Sync>(
     Ok(())
 }
 
-/// Each call stands on the tape at the place that was told, and what isn't given back is missed.
+/// Each call is on the tape at the place that was told, and what isn't given back is missed.
 #[test]
 fn tape_and_shares(rt: HostRuntime) -> Result<(), Fail> {
     let places = [Some(0), Some(1)];
