@@ -16,7 +16,7 @@ part_is xs start end le =
 pub part_same : (xs ys : List ℕ) (start end : ℕ) → start ≤ end → take end ys ≡ take end xs → slice_range ys start end ≡ slice_range xs start end
 part_same xs ys start end le same = part_is ys start end le ∙ (ap (drop start) same ∙ sym (part_is xs start end le))
 
--- so many bytes more
+-- a count of bytes more
 pub part_more : (xs ys : List ℕ) (start end more : ℕ) → start ≤ end → take end ys ≡ take end xs
     → slice_range ys start (end + more) ≡ slice_range xs start end ++ take more (drop end ys)
 part_more xs ys start end more le same =

@@ -246,8 +246,9 @@ fn read_piece<I: Read>(feeder: &mut Feeder, reader: &mut I) -> Result<usize, Ses
 }
 
 /// Reads a connection's stream to its end, cuts it into units and applies each at the slot, in order; where no
-/// continuation of what came can be read, it applies that fault and ends. Each unit passes the gate first. The server is told what came of each piece, or of some of its units. The desk is the
-/// slot's. With a tape the desk is told of these events and of no others.
+/// continuation of what came can be read, it applies that fault and ends. Each unit passes the gate first. The server is
+/// told what came of each piece, or of some of its units. The desk is the slot's. With a tape the desk is told of these
+/// events and of no others.
 pub fn read_session<'s, K: BookName, R: Wait, I: Read, G: Gate, N: Notify<R>>(
     rt: &'s R,
     alloc: Global,
