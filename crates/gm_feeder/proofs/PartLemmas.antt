@@ -39,6 +39,14 @@ part_rest xs start end len le =
     ap (take (end - (start + len))) (sym (drop-drop len start xs))
     ∙ (sym (drop-take len (end - (start + len)) (drop start xs)) ∙ ap (λ (n : ℕ). drop len (take n (drop start xs))) so)
 
+-- the first bytes of a part, without those that are skipped
+pub part_inner : (xs : List ℕ) (start end skip len : ℕ) → skip ≤ len → len ≤ end - start
+    → drop (start + skip) (take (start + len) xs) ≡ drop skip (take len (slice_range xs start end))
+part_inner xs start end skip len short le =
+    let so : skip ≤ (start + len) - start = omega (arith, short) in
+    sym (part_is xs (start + skip) (start + len) (omega (arith, short)))
+    ∙ (part_rest xs start (start + len) skip so ∙ ap (drop skip) (part_first xs start end len le))
+
 -- the bytes from the end on are cut off, and a piece comes there
 pub part_joined : (xs piece : List ℕ) (start end : ℕ) → start ≤ end → end ≤ length xs
     → slice_range (take end xs ++ piece) start (end + length piece) ≡ slice_range xs start end ++ piece

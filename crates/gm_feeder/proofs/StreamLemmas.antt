@@ -1,5 +1,5 @@
 -- The laws of units, spellings and faults.
-use Rattle.std.proofs.Common.{◌≡◌, ◌<◌, ℕ, arith, List, None, [], ◌∷◌, ◌++◌, length, take, drop, refl, sym, ap, ap₂, subst, ◌∙◌, ◌⊎◌, inl}
+use Rattle.std.proofs.Common.{◌≡◌, ◌<◌, ℕ, arith, List, Option, None, Some, IfSome, [], ◌∷◌, ◌++◌, length, take, drop, refl, sym, ap, ap₂, subst, ◌∙◌, ◌⊎◌, inl}
 use Rattle.std.proofs.Common.{inr, take-append-drop, ⊎_elim, append_assoc, append-nil, length-append, zero-le, lit≤}
 use Rattle.std.proofs.lemmas.Bool.{cases_eq, cases_Bool, false≢true}
 use Rattle.std.proofs.lemmas.Slice.Eq.{bytes_eq-Decides}
@@ -12,7 +12,9 @@ use Rattle.gm_packet.specs.Packets.{request_magic}
 use Rattle.gm_packet.proofs.Packets.{same_prefixes}
 use Rattle.gm_feeder.specs.Units.{Item, APacket, ALine, IsUnit, IsUnitThen, BeginsNoUnit, Spells, CanGoOn, IsHopeless, IsHopelessPacket}
 use Rattle.gm_feeder.specs.Units.{IsHopelessLine, AgreesWithMagic, IsFaultOf, Waits, without_return}
-use Rattle.gm_feeder.specs.Streams.{Stream, Event, Fed, Gave, with_bytes, without_first, GivesUnit, Runs, all_fed, all_given}
+use Rattle.gm_feeder.specs.declared.units.OwnedPacket.{OwnedPacket}
+use Rattle.gm_feeder.specs.Heads.{data_of}
+use Rattle.gm_feeder.specs.Streams.{Stream, Event, Fed, Gave, item_in, with_bytes, without_first, GivesUnit, Runs, all_fed, all_given}
 use Rattle.gm_feeder.proofs.UnitLemmas.{header, packet_is, same_kind, same_size, nul_longer, nul_first, packet_nul}
 use Rattle.gm_feeder.proofs.LineLemmas.{same_before, line_is, line_not_nul}
 use Rattle.gm_feeder.proofs.HeadLemmas.{empty_goes_on, take_nil}
@@ -230,3 +232,13 @@ gives_first old mid new item len running same is unit =
       };
       kept = left ∙ ap (λ (l : List ℕ). record old { pending = l }) (sym pending);
     }
+
+-- a packet that was given out with its memory was the first unit
+pub gives_packet : (old mid new : Stream) (kind len : ℕ) (found : Option OwnedPacket) → old.fault ≡ None → mid ≡ old
+    → IsUnit old.limits (take len old.pending) (APacket kind (data_of (take len old.pending)))
+    → IfSome found (λ packet. item_in packet ≡ APacket kind (data_of (take len mid.pending)))
+    → IfSome found (λ packet. new ≡ without_first len mid) → IfSome found (λ packet. GivesUnit old (item_in packet) new)
+gives_packet old mid new kind len None running same unit says left = tt
+gives_packet old mid new kind len (Some packet) running same unit says left =
+    let item : item_in packet ≡ APacket kind (data_of (take len old.pending)) = says ∙ ap (λ (s : Stream). APacket kind (data_of (take len s.pending))) same in
+    gives_first old mid new (item_in packet) len running same left (subst (IsUnit old.limits (take len old.pending)) (sym item) unit)

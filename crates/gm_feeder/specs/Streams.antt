@@ -5,6 +5,7 @@ use Rattle.gm_feeder.specs.declared.units.Limits.{Limits}
 use Rattle.gm_feeder.specs.declared.units.FeedFault.{FeedFault}
 use Rattle.gm_feeder.specs.declared.units.Unit.{Unit as Given}
 use Rattle.gm_feeder.specs.declared.units.Unit.TheVariants.{Packet, Line}
+use Rattle.gm_feeder.specs.declared.units.OwnedPacket.{OwnedPacket}
 use Rattle.gm_feeder.specs.Units.{Item, APacket, ALine, IsUnitThen, IsFaultOf, Waits}
 
 -- what a feeder is to its callers: the bytes that came and were not yet given out, and the fault that it has returned
@@ -17,6 +18,10 @@ pub record Stream : Type 0 where
 abbrev pub item_of : Given → Item
 item_of (Packet kind bytes) = APacket kind bytes.now
 item_of (Line bytes) = ALine bytes.now
+
+-- the same of a packet with the memory in which it came
+abbrev pub item_in : OwnedPacket → Item
+item_in packet = APacket packet.kind (drop packet.data_at packet.bytes.items)
 
 -- the stream with a piece more
 abbrev pub with_bytes : Stream → List ℕ → Stream

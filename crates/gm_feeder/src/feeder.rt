@@ -1,20 +1,21 @@
 //! The bytes of one connection, cut into units.
 
-ghost use Rattle.std.specs.Prelude.{◌≡◌, ◌≤◌, List, ℕ, [], Some, None, IfSome, IfNone, IfOk, IfErr, OnOk, OnErr, length, take};
+ghost use Rattle.std.specs.Prelude.{◌≡◌, ◌+◌, ◌≤◌, List, ℕ, [], Some, None, IfSome, IfNone, IfOk, IfErr, OnOk, OnErr, length, take};
 ghost use Rattle.std.specs.Borrow.{sem};
 ghost use Rattle.std.specs.Io.BufRead.{Rests};
 ghost use Rattle.std.specs.Io.KnownBytes.{Keeps, IsAtEnd};
 ghost use Rattle.gm_feeder.specs.contracts.feeder.Feeder.{the_row};
-ghost use Rattle.gm_feeder.specs.Units.{IsUnitThen, IsFaultOf, Waits};
-ghost use Rattle.gm_feeder.specs.Heads.{IsHead};
-ghost use Rattle.gm_feeder.specs.Streams.{item_of, with_bytes, without_first, GivesNext, TakesIn};
+ghost use Rattle.gm_feeder.specs.Units.{IsUnitThen, IsFaultOf, Waits, APacket};
+ghost use Rattle.gm_feeder.specs.Heads.{IsHead, data_of as spec_data_of};
+ghost use Rattle.gm_feeder.specs.Streams.{item_of, item_in, with_bytes, without_first, GivesNext, GivesUnit, TakesIn};
 
 use crate::head::{HEADER_LEN, Head, data_of, find_head, missing_of, text_of};
 use crate::room::{make_room, read_at};
-use crate::units::{FeedFault, Limits, ReadError, Unit};
+use crate::units::{FeedFault, Limits, OwnedPacket, ReadError, Unit};
 use std::alloc::Global;
 use std::io::Read;
 use std::marker::Model;
+use std::mem;
 
 /// The most room that is kept where no byte is pending.
 const MOST_KEPT: usize = 65_536;
@@ -177,6 +178,50 @@ impl Feeder {
                 Ok(Some(Unit::Line { bytes }))
             }
         }
+    }
+
+    /// The next unit with its memory, if it is a packet with at least `least` bytes of data, and there is memory for the
+    /// bytes behind it. If not, nothing changes. It is for long packets, whose data can be kept without a copy.
+    pub fn take_packet(&mut self, least: usize) -> Option<OwnedPacket>
+        ensures packet { IfSome result (λ packet. GivesUnit self.old (item_in packet) self.new) }
+        ensures none { IfNone result (self.new ≡ self.old) }
+    {
+        if self.fault.is_some() || self.end - self.start < least {
+            return None;
+        }
+        match self.look() {
+            Head::Packet { kind, size } if size as usize >= least => {
+                self.take_buffer(kind, size as usize)
+            }
+            _ => None,
+        }
+    }
+
+    // Gives out the packet with which the pending bytes begin, with its memory: the bytes behind it are copied to memory of
+    // their own.
+    fn take_buffer(&mut self, kind: u32, size: usize) -> Option<OwnedPacket>
+        requires within { 12 + size ≤ length self.old.pending }
+        requires running { self.old.fault ≡ None }
+        ensures data { IfSome result (λ packet. item_in packet ≡ APacket kind (spec_data_of (take (12 + size) self.old.pending))) }
+        ensures rest { IfSome result (λ _. self.new ≡ without_first (12 + size) self.old) }
+        ensures none { IfNone result (self.new ≡ self.old) }
+    {
+        let data_at = self.start + HEADER_LEN;
+        let end = data_at + size;
+        let rest = &self.buffer[end..self.end];
+        let Ok(rest) = Vec::from_slice(*self.buffer.allocator(), rest) else {
+            return None;
+        };
+        let mut bytes = mem::replace(&mut self.buffer, rest);
+        bytes.truncate(end);
+        self.start = 0;
+        self.end = self.buffer.len();
+        self.scanned = 0;
+        Some(OwnedPacket {
+            kind,
+            bytes,
+            data_at,
+        })
     }
 
     // Gives large memory back where nothing is in it that is still to be given out.

@@ -14,4 +14,4 @@ mod room;
 mod units;
 
 pub use feeder::Feeder;
-pub use units::{FeedFault, Limits, ReadError, Unit};
+pub use units::{FeedFault, Limits, OwnedPacket, ReadError, Unit};

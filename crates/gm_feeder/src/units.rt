@@ -1,6 +1,6 @@
 //! What a feeder gives out, how large it may be, and what can be wrong.
 
-ghost use Rattle.std.specs.Prelude.{◌≡◌, ◌≤◌};
+ghost use Rattle.std.specs.Prelude.{◌≡◌, ◌≤◌, length};
 
 use std::io;
 
@@ -56,4 +56,16 @@ pub enum Unit<'a> {
     Packet { kind: u32, bytes: &'a [u8] },
     /// A text line: its bytes without the newline, and without one `\r` directly before it.
     Line { bytes: &'a [u8] },
+}
+
+/// A packet with the memory in which it came, for whoever keeps its data without a copy.
+#[derive(Drop)]
+pub struct OwnedPacket {
+    /// The packet type.
+    pub kind: u32,
+    /// Bytes that end with its data.
+    pub bytes: Vec<u8>,
+    /// The position in them at which its data begin.
+    pub data_at: usize,
+    pub ghost within: { data_at ≤ length bytes.items },
 }
