@@ -1,5 +1,6 @@
 -- Requests as they come, against the table of effects.
-use Rattle.std.proofs.Common.{◌≡◌, ℕ, true, false, List, [], ◌∷◌, Option, Some, None, Result, Ok, Err, refl, ap}
+use Rattle.std.proofs.Common.{◌≡◌, ℕ, Bool, true, false, List, [], ◌∷◌, ◌++◌, append_assoc, Option, Some, None, IfSome, Result, Ok, Err, refl, sym, ap, subst, ◌∙◌}
+use Rattle.std.specs.List.{join_with_byte}
 use Rattle.std.specs.Option.{option_map, ok_or}
 use Rattle.gm_packet.specs.declared.kind.Kind.{Kind}
 use Rattle.gm_packet.specs.declared.request.Request.{Request}
@@ -16,6 +17,8 @@ use Rattle.gm_notes.specs.Past.{Past, refuse}
 use Rattle.gm_notes.specs.Submissions.{Submission, submit}
 use Rattle.gm_notes.specs.Workers.{work}
 use Rattle.gm_actions.specs.Actions.{serve, unread}
+use Rattle.gm_actions.specs.Endings.{IsSpelledBy, EndsInText, second}
+use Rattle.gm_notes.specs.declared.states.Priority.{Priority}
 use Rattle.gm_actions.specs.Groups.{SaidOf, foreground_by, background_by, said_by}
 use Rattle.gm_actions.specs.Refusals.{code_of}
 use Rattle.gm_notes.specs.Requests.{packet_of, request_if_read, submission, passing, ending}
@@ -82,3 +85,48 @@ served_work k c (WorkComplete h b) s past is =
 served_work k c (WorkFail h) s past is =
     let same : s ≡ record { handle = h.now; work = ending (work_fail h.now) } = cc in ap (λ (x : SaidOf). work k c x.handle x.work past) same
 served_work k c r s past is = absurd cc
+
+-- ---- where the bodies are
+
+-- after one argument, and after two
+pub ends_in_two : (first text bytes : List ℕ) → bytes ≡ join_with_byte 0 (first ∷ text ∷ []) → EndsInText text bytes
+ends_in_two first text bytes is = (first ++ 0 ∷ [], is ∙ sym (append_assoc first (0 ∷ []) text))
+
+pub ends_in_three : (first second text bytes : List ℕ) → bytes ≡ join_with_byte 0 (first ∷ second ∷ text ∷ []) → EndsInText text bytes
+ends_in_three first second text bytes is =
+    ((first ++ 0 ∷ second) ++ 0 ∷ [], is ∙ (sym (append_assoc first (0 ∷ second) (0 ∷ text)) ∙ sym (append_assoc (first ++ 0 ∷ second) (0 ∷ []) text)))
+
+ends_as : (s : Submission) (p : Priority) (background : Bool) (f u b bytes : List ℕ) → s ≡ submission p background (f ∷ u ∷ b ∷ [])
+    → bytes ≡ join_with_byte 0 (f ∷ u ∷ b ∷ []) → EndsInText s.body bytes
+ends_as s p background f u b bytes same is =
+    subst (λ (text : List ℕ). EndsInText text bytes) (sym (ap (λ (x : Submission). x.body) same)) (ends_in_three f u b bytes is)
+
+pub ends_foreground : (r : Request) (s : Submission) (bytes : List ℕ) → Some s ≡ foreground_by r → IsSpelledBy (asked_of r) bytes → EndsInText s.body bytes
+ends_foreground (SubmitJob f u b) s bytes is spelled = ends_as s Normal false f.now u.now b.now bytes (cc) spelled.3
+ends_foreground (SubmitJobHigh f u b) s bytes is spelled = ends_as s High false f.now u.now b.now bytes (cc) spelled.3
+ends_foreground (SubmitJobLow f u b) s bytes is spelled = ends_as s Low false f.now u.now b.now bytes (cc) spelled.3
+ends_foreground r s bytes is spelled = absurd cc
+
+pub ends_background : (r : Request) (s : Submission) (bytes : List ℕ) → Some s ≡ background_by r → IsSpelledBy (asked_of r) bytes → EndsInText s.body bytes
+ends_background (SubmitJobBg f u b) s bytes is spelled = ends_as s Normal true f.now u.now b.now bytes (cc) spelled.3
+ends_background (SubmitJobHighBg f u b) s bytes is spelled = ends_as s High true f.now u.now b.now bytes (cc) spelled.3
+ends_background (SubmitJobLowBg f u b) s bytes is spelled = ends_as s Low true f.now u.now b.now bytes (cc) spelled.3
+ends_background r s bytes is spelled = absurd cc
+
+-- what is said of a job ends so too
+pub ends_work : (r : Request) (s : SaidOf) (bytes : List ℕ) → Some s ≡ said_by r → IsSpelledBy (asked_of r) bytes
+    → IfSome (second s.work.answer.arguments) (λ text. EndsInText text bytes)
+ends_work (WorkStatus h a b) s bytes is spelled =
+    let same : s ≡ record { handle = h.now; work = record (passing (work_status h.now a.now b.now)) { report = Some (a.now, b.now) } } = cc in rw same tt
+ends_work (WorkData h b) s bytes is spelled =
+    let same : s ≡ record { handle = h.now; work = passing (work_data h.now b.now) } = cc in rw same (ends_in_two h.now b.now bytes spelled.3)
+ends_work (WorkWarning h b) s bytes is spelled =
+    let same : s ≡ record { handle = h.now; work = passing (work_warning h.now b.now) } = cc in rw same (ends_in_two h.now b.now bytes spelled.3)
+ends_work (WorkException h b) s bytes is spelled =
+    let same : s ≡ record { handle = h.now; work = record (passing (work_exception h.now b.now)) { exceptions_only = true } } = cc in
+    rw same (ends_in_two h.now b.now bytes spelled.3)
+ends_work (WorkComplete h b) s bytes is spelled =
+    let same : s ≡ record { handle = h.now; work = ending (work_complete h.now b.now) } = cc in rw same (ends_in_two h.now b.now bytes spelled.3)
+ends_work (WorkFail h) s bytes is spelled =
+    let same : s ≡ record { handle = h.now; work = ending (work_fail h.now) } = cc in rw same tt
+ends_work r s bytes is spelled = absurd cc

@@ -1,6 +1,6 @@
 //! Packets as they come.
 
-ghost use Rattle.std.specs.Prelude.{◌≡◌, ◌≤◌, ℕ, true, false, None, IfOk, IfSome, length};
+ghost use Rattle.std.specs.Prelude.{◌≡◌, ◌≤◌, ℕ, List, true, false, None, IfOk, IfSome, length};
 ghost use Rattle.std.specs.Option.{option_map};
 ghost use Rattle.std.specs.Str.{bytes_eq};
 ghost use Rattle.std.specs.Prelude.{codes};
@@ -14,6 +14,7 @@ ghost use Rattle.gm_notes.specs.Workers.{can_do, cant_do};
 ghost use Rattle.gm_actions.specs.Actions.{acted, serve, unread, submission_of, needs_no_memory, NeedsNoMemory, IsNamed};
 ghost use Rattle.gm_actions.specs.Actions.{CanBeTold, SaidFits, ActsWithoutMemory};
 ghost use Rattle.gm_actions.specs.Carried.{HasCome, IsCarried};
+ghost use Rattle.gm_actions.specs.Endings.{IsSpelledBy, EndsInText, EndsIn};
 ghost use Rattle.gm_actions.specs.Groups.{foreground_by, background_by, said_by, about_of};
 
 use crate::refusal::Refusal;
@@ -290,6 +291,7 @@ fn able<'a>(function: &'a [u8], timeout: u32) -> Result<Action<'a>, Refusal>
     ensures does { (k : Settings) (c : ℕ) (past : Past) → acted k c result past ≡ can_do k c function.now timeout past }
     ensures named { IfOk result IsNamed }
     ensures told { IfOk result CanBeTold }
+    ensures ends { (bytes : List ℕ) → IfOk result (λ action. EndsIn action bytes) }
 {
     if is_bad_name(function) {
         Err(Refusal::BadFunction)
@@ -303,6 +305,7 @@ fn unable<'a>(function: &'a [u8]) -> Result<Action<'a>, Refusal>
     ensures does { (k : Settings) (c : ℕ) (past : Past) → acted k c result past ≡ cant_do c function.now past }
     ensures named { IfOk result IsNamed }
     ensures told { IfOk result CanBeTold }
+    ensures ends { (bytes : List ℕ) → IfOk result (λ action. EndsIn action bytes) }
 {
     if is_bad_name(function) {
         Err(Refusal::BadFunction)
@@ -316,6 +319,7 @@ fn option<'a>(name: &'a [u8]) -> Result<Action<'a>, Refusal>
     ensures does { (k : Settings) (c : ℕ) (past : Past) → acted k c result past ≡ set_option c name.now past }
     ensures named { IfOk result IsNamed }
     ensures told { IfOk result CanBeTold }
+    ensures ends { (bytes : List ℕ) → IfOk result (λ action. EndsIn action bytes) }
 {
     if is_option(name) {
         Ok(Action::SetOption { name })
@@ -329,6 +333,7 @@ fn submitted<'a>(asked: Submission<'a>) -> Result<Action<'a>, Refusal>
     ensures does { (k : Settings) (c : ℕ) (past : Past) → acted k c result past ≡ submit k c (submission_of asked.entry) past }
     ensures named { IfOk result IsNamed }
     ensures told { IsCarried asked.entry.function.now asked.entry.unique.now asked.entry.body.now → IfOk result CanBeTold }
+    ensures ends { (bytes : List ℕ) → EndsInText asked.entry.body.now bytes → IfOk result (λ action. EndsIn action bytes) }
 {
     if is_bad_name(asked.function) {
         Err(Refusal::BadFunction)
@@ -345,6 +350,7 @@ fn other<'a>(request: &Request<'a>) -> Result<Action<'a>, Refusal>
     ensures does { (k : Settings) (c : ℕ) (past : Past) → acted k c result past ≡ serve k c (asked_of request.now) past }
     ensures named { IfOk result IsNamed }
     ensures told { HasCome (asked_of request.now) → IfOk result CanBeTold }
+    ensures ends { (bytes : List ℕ) → IsSpelledBy (asked_of request.now) bytes → IfOk result (λ action. EndsIn action bytes) }
     ensures memory { needs_no_memory (asked_of request.now).kind ≡ true → ActsWithoutMemory result }
 {
     match *request {
@@ -368,6 +374,7 @@ fn asked<'a>(request: &Request<'a>) -> Result<Action<'a>, Refusal>
     ensures does { (k : Settings) (c : ℕ) (past : Past) → acted k c result past ≡ serve k c (asked_of request.now) past }
     ensures named { IfOk result IsNamed }
     ensures told { HasCome (asked_of request.now) → IfOk result CanBeTold }
+    ensures ends { (bytes : List ℕ) → IsSpelledBy (asked_of request.now) bytes → IfOk result (λ action. EndsIn action bytes) }
     ensures memory { needs_no_memory (asked_of request.now).kind ≡ true → ActsWithoutMemory result }
 {
     if let Some(found) = in_foreground(request) {
@@ -388,6 +395,7 @@ impl<'a> Action<'a> {
         ensures does { (k : Settings) (c : ℕ) (past : Past) → acted k c result past ≡ packet_of k c (kind_of kind) bytes.now past }
         ensures named { IfOk result IsNamed }
         ensures told { length bytes.now ≤ 1073741824 → IfOk result CanBeTold }
+        ensures ends { IfOk result (λ action. EndsIn action bytes.now) }
         ensures memory { NeedsNoMemory kind bytes.now → ActsWithoutMemory result }
     {
         match Request::read(kind, bytes) {
