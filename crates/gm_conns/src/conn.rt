@@ -1,9 +1,11 @@
 //! What is known of one connection.
 
-ghost use Rattle.std.specs.Prelude.{◌≡◌, ℕ, ◌<◌, ◌≤◌, ◌==◌, not, ◌&&◌, ◌||◌, IsTrue, IfSome, IfNone, OnOk, OnErr, [], length, slice_get};
+ghost use Rattle.std.specs.Prelude.{◌≡◌, ℕ, ◌<◌, ◌≤◌, ◌==◌, not, ◌&&◌, ◌||◌, IsTrue, IfSome, IfNone, OnOk, OnErr, [], ◌++◌, ◌+◌, length, slice_get};
 ghost use Rattle.gm_conns.specs.Connections.{closed, opened, shut, with_option, with_phase, with_id, with_ability, without_ability};
 ghost use Rattle.gm_conns.specs.Connections.{with_last, with_room, with_bytes, drained, timeout_of, is_able, index_of};
 
+use crate::outgoing::{Outgoing, flatten, tail_slice};
+use gm_bytes::SharedBytes;
 use gm_notes::Phase;
 use indexmap::IndexMap;
 use std::alloc::{AllocError, Global};
@@ -24,20 +26,24 @@ pub(crate) struct Conn {
     // The function of its last job.
     last: Option<u32>,
     waiting: Vec<u8>,
+    // What waits behind those bytes, where a large packet was put last. It is counted in their allocation, so that it can
+    // be copied there.
+    tail: Option<SharedBytes>,
     // How many bytes more there is room for, whatever the allocation has.
     room: usize,
 }
 
 impl Model for Conn {
-    ghost use Rattle.std.specs.Prelude.{◌+◌, ◌≤◌};
+    ghost use Rattle.std.specs.Prelude.{◌+◌, ◌≤◌, ◌++◌, [], length};
+    ghost use Rattle.std.specs.Option.{unwrap_or};
     ghost use Rattle.std.specs.Vec.{vec_len, vec_capacity};
     ghost use Rattle.gm_conns.specs.Connections.{Connection};
 
     ghost Value = { Connection };
 
-    ghost view = { λ c. record { is_open = c.open; is_shut = c.shut; has_option = c.option; phase = c.phase; addr = c.addr.items; id = c.id.items; abilities = c.abilities.entries; last = c.last; waiting = c.waiting.items; room = c.room } };
+    ghost view = { λ c. record { is_open = c.open; is_shut = c.shut; has_option = c.option; phase = c.phase; addr = c.addr.items; id = c.id.items; abilities = c.abilities.entries; last = c.last; waiting = c.waiting.items ++ unwrap_or c.tail []; room = c.room } };
 
-    ghost invariant = { λ c. vec_len c.waiting + c.room ≤ vec_capacity c.waiting };
+    ghost invariant = { λ c. vec_len c.waiting + length (unwrap_or c.tail []) + c.room ≤ vec_capacity c.waiting };
 }
 
 impl Conn {
@@ -55,6 +61,7 @@ impl Conn {
             abilities: IndexMap::new(alloc),
             last: None,
             waiting: Vec::new(alloc),
+            tail: None,
             room: 0,
         }
     }
@@ -225,7 +232,9 @@ impl Conn {
         ensures err { OnErr result (self.new ≡ self.old) }
     {
         if n > self.room {
-            self.waiting.reserve(n)?;
+            let tail = tail_slice(&self.tail).len();
+            self.waiting
+                .reserve(n.checked_add(tail).ok_or(AllocError)?)?;
             self.room = n;
         }
         Ok(())
@@ -242,8 +251,25 @@ impl Conn {
         requires { length bytes.now ≤ self.old.room }
         ensures { self.new ≡ with_bytes bytes.now self.old }
     {
+        flatten(&mut self.waiting, self.tail.take());
         let _added = self.waiting.extend_from_slice(bytes);
         self.room -= bytes.len();
+    }
+
+    /// The head and the tail wait behind the others, in reserved room. The tail is shared and not copied, if it can be.
+    pub(crate) fn put_shared(&mut self, head: &[u8], tail: &SharedBytes)
+        requires { length head.now + length tail.now ≤ self.old.room }
+        ensures { self.new ≡ with_bytes (head.now ++ tail.now) self.old }
+    {
+        flatten(&mut self.waiting, self.tail.take());
+        let _head = self.waiting.extend_from_slice(head);
+        self.room -= head.len() + tail.as_slice().len();
+        match tail.suffix(0) {
+            Ok(shared) => self.tail = Some(shared),
+            Err(_) => {
+                let _tail = self.waiting.extend_from_slice(tail.as_slice());
+            }
+        }
     }
 
     /// The bytes wait behind the others, in reserved room, and are taken out of `bytes`. Where nothing else waits they
@@ -253,7 +279,7 @@ impl Conn {
         ensures conn { self.new ≡ with_bytes bytes.old.items self.old }
         ensures bytes { bytes.new.items ≡ [] }
     {
-        if self.waiting.is_empty() && self.room <= bytes.capacity() {
+        if self.waiting.is_empty() && self.tail.is_none() && self.room <= bytes.capacity() {
             self.room -= bytes.len();
             mem::swap(&mut self.waiting, bytes);
         } else {
@@ -262,19 +288,28 @@ impl Conn {
         }
     }
 
-    /// The bytes that wait.
-    pub(crate) fn waiting(&self) -> &[u8]
-        ensures { result.now ≡ self.now.waiting }
+    /// The bytes that wait, in two parts, of which either may be empty.
+    pub(crate) fn waiting(&self) -> (&[u8], &[u8])
+        ensures { result.0.now ++ result.1.now ≡ self.now.waiting }
     {
-        self.waiting.as_slice()
+        (self.waiting.as_slice(), tail_slice(&self.tail))
+    }
+
+    /// Whether bytes wait.
+    pub(crate) fn is_waiting(&self) -> bool
+        ensures { result ≡ not (length self.now.waiting == 0) }
+    {
+        !self.waiting.is_empty() || !tail_slice(&self.tail).is_empty()
     }
 
     /// Takes out the bytes that wait.
-    pub(crate) fn drain(&mut self, alloc: Global) -> Vec<u8>
-        ensures bytes { result.items ≡ self.old.waiting }
+    pub(crate) fn take_out(&mut self, alloc: Global) -> Outgoing
+        ensures bytes { result ≡ self.old.waiting }
         ensures after { self.new ≡ drained self.old }
     {
         self.room = 0;
-        mem::replace(&mut self.waiting, Vec::new(alloc))
+        let tail = self.tail.take();
+        let bytes = mem::replace(&mut self.waiting, Vec::new(alloc));
+        Outgoing::with_tail(bytes, tail)
     }
 }

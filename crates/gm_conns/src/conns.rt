@@ -1,6 +1,6 @@
 //! The table of connections.
 
-ghost use Rattle.std.specs.Prelude.{◌≡◌, ℕ, ◌<◌, ◌≤◌, ◌↔◌, ◌⊎◌, true, false, not, ◌&&◌, ◌==◌, [], IsTrue, length, slice_get};
+ghost use Rattle.std.specs.Prelude.{◌≡◌, ℕ, ◌<◌, ◌≤◌, ◌↔◌, ◌⊎◌, true, false, not, ◌&&◌, ◌==◌, [], ◌++◌, ◌+◌, IsTrue, length, slice_get};
 ghost use Rattle.std.specs.Prelude.{IfSome, IfNone, IfOk, IfErr, OnOk, OnErr, Err};
 ghost use Rattle.gm_conns.specs.Connections.{closed, opened, shut, with_option, with_phase, with_id, with_ability, without_ability};
 ghost use Rattle.gm_conns.specs.Connections.{without_abilities, with_last, with_room, with_bytes, drained, timeout_of, index_of};
@@ -8,7 +8,9 @@ ghost use Rattle.gm_conns.specs.ConnTables.{conn, IsOpen, is_touched, able_count
 
 use crate::able::{AbleSet, cover};
 use crate::conn::Conn;
+use crate::outgoing::Outgoing;
 use crate::slot_set::SlotSet;
+use gm_bytes::SharedBytes;
 use gm_notes::{ApplyError, Phase};
 use std::alloc::{AllocError, Global};
 use std::marker::Model;
@@ -381,25 +383,55 @@ impl Conns {
         self.touched.insert(slot);
     }
 
-    /// The bytes that wait for the connection.
-    pub fn waiting(&self, slot: u32) -> &[u8]
+    /// The head and the tail wait for the connection, behind the others, in reserved room. The tail is shared: where that
+    /// can't be, it is copied as well. What was shared before is copied now.
+    pub fn put_shared(&mut self, slot: u32, head: &[u8], tail: &SharedBytes)
+        requires open { IsOpen self.old slot }
+        requires room { length head.now + length tail.now ≤ (conn self.old slot).room }
+        ensures { Changes slot (with_bytes (head.now ++ tail.now)) true self.old self.new }
+    {
+        let conn = &mut self.conns[slot as usize];
+        conn.put_shared(head, tail);
+        self.touched.insert(slot);
+    }
+
+    /// The bytes that wait for the connection, in two parts, of which either may be empty.
+    pub fn waiting(&self, slot: u32) -> (&[u8], &[u8])
         requires { IsOpen self.now slot }
-        ensures { result.now ≡ (conn self.now slot).waiting }
+        ensures { result.0.now ++ result.1.now ≡ (conn self.now slot).waiting }
     {
         let conn = &self.conns[slot as usize];
         conn.waiting()
     }
 
+    /// Whether bytes wait for the connection.
+    pub fn is_waiting(&self, slot: u32) -> bool
+        requires { IsOpen self.now slot }
+        ensures { result ≡ not (length (conn self.now slot).waiting == 0) }
+    {
+        let conn = &self.conns[slot as usize];
+        conn.is_waiting()
+    }
+
     /// Takes out the bytes that wait. No room is reserved then.
+    pub fn take_out(&mut self, slot: u32) -> Outgoing
+        requires { IsOpen self.old slot }
+        ensures bytes { result ≡ (conn self.old slot).waiting }
+        ensures rest { Changes slot drained true self.old self.new }
+    {
+        let conn = &mut self.conns[slot as usize];
+        let bytes = conn.take_out(self.alloc);
+        self.touched.insert(slot);
+        bytes
+    }
+
+    /// `take_out`, as one buffer. What is shared is copied.
     pub fn drain(&mut self, slot: u32) -> Vec<u8>
         requires { IsOpen self.old slot }
         ensures bytes { result.items ≡ (conn self.old slot).waiting }
         ensures rest { Changes slot drained true self.old self.new }
     {
-        let conn = &mut self.conns[slot as usize];
-        let bytes = conn.drain(self.alloc);
-        self.touched.insert(slot);
-        bytes
+        self.take_out(slot).into_bytes()
     }
 
     /// The least slot that was touched since it was last taken, which is taken out: a slot is touched when

@@ -9,7 +9,9 @@
 mod able;
 mod conn;
 mod conns;
+mod outgoing;
 mod slot_set;
 
 pub use conns::Conns;
+pub use outgoing::Outgoing;
 pub use slot_set::{SlotIter, SlotSet};
