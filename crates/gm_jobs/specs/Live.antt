@@ -7,6 +7,8 @@ use Rattle.gm_notes.specs.declared.states.Place.{Place}
 use Rattle.gm_notes.specs.declared.states.Place.TheVariants as places
 use Rattle.gm_jobs.specs.declared.job.Stage.{Stage}
 use Rattle.gm_jobs.specs.declared.job.Stage.TheVariants.{Waiting, Running, Lost}
+use Rattle.gm_jobs.specs.declared.job.Body.{Body}
+use Rattle.gm_jobs.specs.declared.job.Body.TheVariants.{Own, Shared}
 
 -- Its function, priority, unique id and body; whether a background submission keeps it; whether it waits or runs, how
 -- often it came back where that is counted, and the moment at which it fails; how far it is, once that was told; and who
@@ -22,6 +24,11 @@ pub record Live : Type 0 where
   pub deadline : Option ℕ
   pub report : Option (List ℕ × List ℕ)
   pub listeners : List ℕ
+
+-- the bytes of a body, its own or shared
+abbrev pub body_bytes : Body → List ℕ
+body_bytes (Own bytes) = bytes.items
+body_bytes (Shared bytes) = bytes
 
 abbrev pub listed : Option ℕ → List ℕ
 listed None = []

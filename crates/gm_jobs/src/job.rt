@@ -1,14 +1,16 @@
 //! What is known of one job.
 
-ghost use Rattle.std.specs.Prelude.{◌≡◌, ◌≤◌, ◌&&◌, not, ◌==◌, ◌↔◌, length, IsTrue, false, IsOk, IfSome, ◌<◌, IfOk, OnOk, OnErr, Some, None, is_some};
-ghost use Rattle.std.specs.Option.{option_map};
-ghost use Rattle.gm_jobs.specs.Live.{Live, fresh, given_back, reported, with_listener, without_listener, place_at, is_named, is_run_by, is_orphan, is_due, is_last_try, waits, runs_at};
+ghost use Rattle.std.specs.Prelude.{◌≡◌, ◌≤◌, ◌&&◌, not, ◌==◌, ◌↔◌, [], length, IsTrue, false, IsOk, IfSome, ◌<◌, IfOk, OnOk, OnErr, Some, None, is_some};
+ghost use Rattle.std.specs.Option.{option_map, unwrap_or};
+ghost use Rattle.std.specs.Vec.{vec_capacity};
+ghost use Rattle.gm_jobs.specs.Live.{Live, body_bytes, fresh, given_back, reported, with_listener, without_listener, place_at, is_named, is_run_by, is_orphan, is_due, is_last_try, waits, runs_at};
 ghost use Rattle.gm_notes.specs.Jobs.{joins};
 ghost use Rattle.gm_jobs.specs.Queries.{meets};
 ghost use Rattle.gm_jobs.specs.Tables.{Room};
 ghost use Rattle.gm_jobs.specs.Changes.{changed, takes_memory};
 ghost use Rattle.gm_jobs.specs.Links.{stands_in};
 
+use gm_bytes::SharedBytes;
 use gm_notes::{Place, Priority};
 use std::alloc::{AllocError, Global};
 use std::marker::Model;
@@ -26,6 +28,26 @@ pub struct NewJob<'a> {
     /// Whether a background submission keeps it.
     pub kept: bool,
     pub listener: Option<u32>,
+}
+
+// What a job is to work on.
+#[derive(Drop)]
+enum Body {
+    // Bytes of its own.
+    Own(Vec<u8>),
+    // The end of a buffer that others may own as well.
+    Shared(SharedBytes),
+}
+
+impl Body {
+    fn as_slice(&self) -> &[u8]
+        ensures { result.now ≡ body_bytes self.now }
+    {
+        match self {
+            Body::Own(bytes) => bytes.as_slice(),
+            Body::Shared(bytes) => bytes.as_slice(),
+        }
+    }
 }
 
 // How far a job is.
@@ -119,18 +141,18 @@ pub struct Job {
     returns: u32,
     deadline: Option<u64>,
     unique: Vec<u8>,
-    body: Vec<u8>,
+    body: Body,
     report: Option<Box<Report>>,
     listeners: Vec<u32>,
 }
 
 impl Model for Job {
     ghost use Rattle.std.specs.Option.{option_map};
-    ghost use Rattle.gm_jobs.specs.Live.{Live};
+    ghost use Rattle.gm_jobs.specs.Live.{Live, body_bytes};
 
     ghost Value = { Live };
 
-    ghost view = { λ j. record { function = j.f; priority = j.p; unique = j.unique.items; body = j.body.items; kept = j.kept; stage = j.stage; returns = j.returns; deadline = j.deadline; report = option_map (λ r. (r.value.numerator.items, r.value.denominator.items)) j.report; listeners = j.listeners.items } };
+    ghost view = { λ j. record { function = j.f; priority = j.p; unique = j.unique.items; body = body_bytes j.body; kept = j.kept; stage = j.stage; returns = j.returns; deadline = j.deadline; report = option_map (λ r. (r.value.numerator.items, r.value.denominator.items)) j.report; listeners = j.listeners.items } };
 }
 
 /// Whether a unique id names a job: it isn't empty, and no dash.
@@ -164,6 +186,16 @@ impl Job {
         ensures { result.now ≡ self.now.body }
     {
         self.body.as_slice()
+    }
+
+    /// The body, where it is the end of a buffer that others may own as well.
+    pub fn shared_body(&self) -> Option<&SharedBytes>
+        ensures { IfSome result (λ shared. shared.now ≡ self.now.body) }
+    {
+        match &self.body {
+            Body::Shared(bytes) => Some(bytes),
+            Body::Own(_) => None,
+        }
     }
 
     /// Whether a background submission keeps it.
@@ -354,6 +386,21 @@ impl Model for Reservation {
     ghost invariant = { λ s. (s.unique.items ≡ []) × (s.body.items ≡ []) × (s.listeners.items ≡ []) × (0 < vec_capacity s.listeners) };
 }
 
+// The body: the shared one, if there is one, and otherwise the bytes, in this memory.
+fn fill_body(mut memory: Vec<u8>, bytes: &[u8], shared: Option<SharedBytes>) -> Body
+    requires empty { memory.items ≡ [] }
+    requires room { length bytes.now ≤ vec_capacity memory }
+    ensures { body_bytes result ≡ unwrap_or shared bytes.now }
+{
+    match shared {
+        Some(shared) => Body::Shared(shared),
+        None => {
+            let _body = memory.extend_from_slice(bytes);
+            Body::Own(memory)
+        }
+    }
+}
+
 impl Reservation {
     pub(crate) fn new(
         alloc: Global,
@@ -371,20 +418,20 @@ impl Reservation {
         })
     }
 
-    /// The job, in this memory.
-    pub(crate) fn fill(self, alloc: Global, new: NewJob<'_>) -> Job
+    /// The job, in this memory. A shared body takes the place of the one that it says.
+    pub(crate) fn fill(self, alloc: Global, new: NewJob<'_>, shared: Option<SharedBytes>) -> Job
         requires unique { length new.unique.now ≤ self.unique_len }
         requires body { length new.body.now ≤ self.body_len }
-        ensures { result ≡ fresh new.entry.f new.entry.p new.entry.unique.now new.entry.body.now new.entry.kept new.entry.listener }
+        ensures { result ≡ fresh new.entry.f new.entry.p new.entry.unique.now (unwrap_or shared new.entry.body.now) new.entry.kept new.entry.listener }
     {
         let Reservation {
             f: _,
             mut unique,
-            mut body,
+            body,
             mut listeners,
         } = self;
         let _unique = unique.extend_from_slice(new.unique);
-        let _body = body.extend_from_slice(new.body);
+        let body = fill_body(body, new.body, shared);
         match new.listener {
             Some(slot) => {
                 let _listens = listeners.push(slot);

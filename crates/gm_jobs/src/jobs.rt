@@ -1,7 +1,7 @@
 //! The table of jobs.
 
 ghost use Rattle.std.specs.Prelude.{◌≡◌, ℕ, ◌+◌, ◌<◌, ◌≤◌, ◌^◌, ◌↔◌, true, Some, None, IsSome, IfSome, IfNone, IfOk, OnOk, OnErr, Err, Contains, length};
-ghost use Rattle.std.specs.Option.{option_copied, option_map};
+ghost use Rattle.std.specs.Option.{option_copied, option_map, unwrap_or};
 ghost use Rattle.gm_jobs.specs.Live.{Live, fresh, assigned, given_back, kept, reported, with_listener, without_listener, is_run_by, is_orphan, is_due, is_last_try};
 ghost use Rattle.gm_jobs.specs.Tables.{no_jobs, job, find_job, is_made, place, back, listeners_of, passes, IsNamed, HasRoom, with_room, Makes, Changes, Ends, Leaves, IsNext, IsLast};
 ghost use Rattle.gm_jobs.specs.Deadlines.{AllListed};
@@ -14,6 +14,7 @@ use crate::deadlines::Deadlines;
 use crate::job::{Change, Job, NewJob, ORPHANS, Query, Reservation, joins};
 use crate::listening::Listening;
 use crate::uniques::{Uniques, digest};
+use gm_bytes::SharedBytes;
 use gm_notes::Place;
 use std::alloc::{AllocError, Global};
 use std::hash::RandomState;
@@ -173,6 +174,23 @@ impl Jobs {
         Ok(())
     }
 
+    // Makes a job in the room that is reserved. A shared body takes the place of the one that the job says.
+    fn make(&mut self, new: NewJob<'_>, shared: Option<SharedBytes>) -> u64
+        requires room { HasRoom new.f (length new.unique.now) (length new.body.now) self.old }
+        requires single { (n : ℕ) → IsNamed new.f new.unique.now self.old n → ⊥ }
+        ensures number { result ≡ self.old.next }
+        ensures makes { Makes (fresh new.entry.f new.entry.p new.entry.unique.now (unwrap_or shared new.entry.body.now) new.entry.kept new.entry.listener) self.old self.new }
+    {
+        let reservation = self.reservation.take().unwrap();
+        let number = self.next.unwrap();
+        self.next = number.checked_add(1);
+        let job = reservation.fill(self.alloc, new, shared);
+        self.jobs.insert(number, job);
+        self.uniques.insert(&self.seed, new.f, new.unique, number);
+        self.listening.begin(new.listener, number);
+        number
+    }
+
     /// Makes a job in the room that is reserved, and gives its number. No live job of its function has its unique
     /// id, unless that is empty or a dash.
     pub fn insert_reserved(&mut self, new: NewJob<'_>) -> u64
@@ -181,14 +199,18 @@ impl Jobs {
         ensures number { result ≡ self.old.next }
         ensures makes { Makes (fresh new.entry.f new.entry.p new.entry.unique.now new.entry.body.now new.entry.kept new.entry.listener) self.old self.new }
     {
-        let reservation = self.reservation.take().unwrap();
-        let number = self.next.unwrap();
-        self.next = number.checked_add(1);
-        let job = reservation.fill(self.alloc, new);
-        self.jobs.insert(number, job);
-        self.uniques.insert(&self.seed, new.f, new.unique, number);
-        self.listening.begin(new.listener, number);
-        number
+        self.make(new, None)
+    }
+
+    /// As `insert_reserved`, with a body that others may own as well. It isn't copied, and wants no room. The body that
+    /// the new job says is ignored.
+    pub fn insert_shared(&mut self, new: NewJob<'_>, body: SharedBytes) -> u64
+        requires room { HasRoom new.f (length new.unique.now) 0 self.old }
+        requires single { (n : ℕ) → IsNamed new.f new.unique.now self.old n → ⊥ }
+        ensures number { result ≡ self.old.next }
+        ensures makes { Makes (fresh new.entry.f new.entry.p new.entry.unique.now body new.entry.kept new.entry.listener) self.old self.new }
+    {
+        self.make(NewJob { body: &[], ..new }, Some(body))
     }
 
     /// The live job of a number.
