@@ -19,7 +19,7 @@ use Rattle.gm_notes.specs.Past.{Past, with_note}
 use Rattle.gm_notes.specs.Jobs.{job_state, job as note_job, is_wanted, is_job_with, is_last_try as is_last_try_of}
 use Rattle.gm_notes.specs.JobStates.{is_waiting, is_running, is_running_at}
 use Rattle.gm_notes.specs.JobStates as states
-use Rattle.gm_notes.specs.Closings.{give_back_one, return_or_lose, wake_for}
+use Rattle.gm_notes.specs.Closings.{give_back_one, return_or_lose}
 use Rattle.gm_queues.specs.Queues.{Queue, Leaves, without_reserved_one, with_job}
 use Rattle.gm_queues.specs.FunctionTables.{number_of, queue, is_queue, HasIdleRoom, ChangesQueue, ForgetsJob}
 use Rattle.gm_queues.specs.FunctionTables as queues

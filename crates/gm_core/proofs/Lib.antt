@@ -27,3 +27,4 @@ pub mod TickLemmas
 pub mod TurnLemmas
 pub mod WakeLemmas
 pub mod WorkLemmas
+pub mod WritingLemmas

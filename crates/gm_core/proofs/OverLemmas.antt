@@ -20,7 +20,7 @@ use Rattle.gm_jobs.specs.Live.{Live, waits}
 use Rattle.gm_jobs.specs.Tables.{Table, job, place_or, is_made, Ends}
 use Rattle.gm_core.specs.Facts.{FunctionFacts, JobFacts, job_facts, waits_with, runs_with, queued, running_with}
 use Rattle.gm_core.specs.Ticks.{OthersStay}
-use Rattle.gm_core.specs.Holds.{name_at, job_state_at, jobs_named, HoldsFunctions, HoldsJobs, IsJob}
+use Rattle.gm_core.specs.Holds.{name_at, jobs_named, HoldsFunctions, HoldsJobs, IsJob}
 use Rattle.gm_core.proofs.FunctionLemmas.{apart}
 use Rattle.gm_core.proofs.JobLemmas.{made_same, turned, state_waits, state_runs}
 use Rattle.gm_core.proofs.OnceLemmas.{times, filter_alike, once_down, one_more}

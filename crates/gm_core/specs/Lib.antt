@@ -4,3 +4,4 @@ pub mod Listings
 pub mod Telling
 pub mod Ticks
 pub mod NoMemory
+pub mod Writing

@@ -13,13 +13,13 @@ use Rattle.gm_core.specs.Telling.{needed}
 abbrev pub AreLate : Settings → ℕ → List (ℕ × Live) → ℕ → List Late → Type 0
 AreLate k now live after [] = IsLast (is_due now) after live
 AreLate k now live after (late ∷ rest) =
-    IsNext (is_due now) after live late.job × (late.text.items ≡ answer_packet (work_fail (handle k late.job))) × AreLate k now live late.job rest
+    IsNext (is_due now) after live late.job × (late.text ≡ answer_packet (work_fail (handle k late.job))) × AreLate k now live late.job rest
 
 -- the bytes that slot c is told of them, if it hears
 abbrev pub late_bytes : (ℕ → Bool) → Table → ℕ → List Late → ℕ
 late_bytes hears table c [] = 0
 late_bytes hears table c (late ∷ rest) =
-    needed (length late.text.items) c (filter hears (listeners_of (job table late.job))) + late_bytes hears table c rest
+    needed (length late.text) c (filter hears (listeners_of (job table late.job))) + late_bytes hears table c rest
 
 -- no other job changes
 abbrev pub OthersStay : ℕ → Table → Table → Type 0

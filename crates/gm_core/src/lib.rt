@@ -3,5 +3,6 @@
 
 mod server;
 mod telling;
+mod written;
 
 pub use server::Core;

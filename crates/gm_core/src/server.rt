@@ -1,6 +1,6 @@
 //! The fast server: connections, functions and live jobs in tables.
 
-ghost use Rattle.std.specs.Prelude.{◌≡◌, ℕ, ◌≤◌, ◌<◌, ◌^◌, ◌==◌, ◌&&◌, not, false, List, [], ◌∷◌, IfOk, OnOk, IfSome, IfNone};
+ghost use Rattle.std.specs.Prelude.{◌≡◌, ℕ, ◌≤◌, ◌<◌, ◌^◌, ◌==◌, ◌&&◌, not, false, List, [], ◌∷◌, None, IfOk, OnOk, IfSome, IfNone};
 ghost use Rattle.std.specs.Prelude.{IsTrue, IsErrOf, length};
 ghost use Rattle.gm_packet.specs.Answers.{answer_of};
 ghost use Rattle.gm_packet.specs.Packets.{Fits};
@@ -28,20 +28,16 @@ mod ticking;
 mod waking;
 mod working;
 
+use crate::written::Written;
 use gm_actions::Refusal;
-use gm_conns::Conns;
+use gm_bytes::SharedBytes;
+use gm_conns::{Conns, Outgoing};
 use gm_jobs::Jobs;
 use gm_notes::{ApplyError, Config, Done, Event, JobServer, Mode, Phase, Place};
-use gm_packet::{Response, write_response};
+use gm_packet::Response;
 use gm_queues::Functions;
 use std::alloc::{AllocError, Global};
 use std::hash::RandomState;
-
-/// The fewest bytes of a packet that is moved to where it waits; a shorter one is copied.
-const LEAST_MOVED: usize = 4_096;
-
-/// The most room that is kept for the next packet.
-const MOST_KEPT: usize = 65_536;
 
 /// The server on tables. It keeps no list of what has happened, and no job that is gone.
 #[derive(Drop)]
@@ -53,8 +49,10 @@ pub struct Core {
     jobs: Jobs,
     moment: u64,
     mode: Mode,
-    // The packet that is being written.
-    text: Vec<u8>,
+    // What is to be queued next.
+    text: Written,
+    // The body of the job that ended last, if that is shared.
+    ended: Option<SharedBytes>,
 }
 
 /// The number of the first job.
@@ -66,7 +64,9 @@ fn first_job(config: &Config) -> u64
 }
 
 impl Core {
-    ghost use Rattle.gm_core.specs.Holds.{outbox, Holds, Goes, Does, CoreAgrees};
+    ghost use Rattle.gm_core.specs.Holds.{outbox, Holds, Goes, Does, AllTouched, CoreAgrees};
+    ghost use Rattle.gm_core.specs.NoMemory.{NeedsNoMemory};
+    ghost use Rattle.gm_core.specs.Writing.{AreDataOf};
 
     /// A server to which nothing has happened. Names and ids come from strangers, so its tables hash with this seed.
     pub fn new(alloc: Global, seed: RandomState, config: Config) -> Result<Core, AllocError>
@@ -83,7 +83,8 @@ impl Core {
             jobs,
             moment: 0,
             mode: Mode::Running,
-            text: Vec::new(alloc),
+            text: Written::new(alloc),
+            ended: None,
         })
     }
 
@@ -111,52 +112,99 @@ impl Core {
         self.conns.take_touched()
     }
 
+    /// As `apply`. Where the data of a packet are shared, and given once more so, no byte is copied of what is kept or passed
+    /// on of them: of a job's body, and of what is echoed or a worker says.
+    pub fn apply_with(
+        &mut self,
+        event: &Event<'_>,
+        whole: Option<&SharedBytes>,
+    ) -> Result<Done, ApplyError>
+        requires size { IsSized event.now }
+        requires whole { IfSome whole (λ shared. AreDataOf event.now shared.now) }
+        ensures answers { (k : Settings) (steps : List Step) → CoreAgrees self.old k steps
+            → Answers k steps (step_of event.now) result
+            × CoreAgrees self.new k (steps_after result (step_of event.now) steps) }
+        ensures memory { NeedsNoMemory self.old event.now → IsErrOf result ApplyError.Memory → ⊥ }
+        ensures touched { AllTouched self.old.conns self.new.conns }
+    {
+        match *event {
+            Event::Open { addr } => self.open(addr),
+            Event::Packet { slot, kind, bytes } => self.packet(slot, kind, bytes, whole),
+            Event::Line { slot, bytes } => self.line(slot, bytes),
+            Event::Fault { slot, fault } => self.fault(slot, fault),
+            Event::Close { slot } => self.close(slot),
+            Event::Tick { now } => self.tick(now),
+        }
+    }
+
+    /// `drain`, which hands on what is shared as it is.
+    pub fn take_out(&mut self, slot: u32) -> Outgoing
+        ensures answers { (k : Settings) (steps : List Step) → CoreAgrees self.old k steps
+            → (result ≡ waiting slot (run k steps).flow) × CoreAgrees self.new k (Drain slot ∷ steps) }
+        ensures touched { AllTouched self.old.conns self.new.conns }
+    {
+        if !self.conns.is_open(slot) {
+            return Outgoing::new(Vec::new(self.alloc));
+        }
+        self.conns.take_out(slot)
+    }
+
+    /// The body of the job that ended last, if that is shared and wasn't taken yet: it may be long, so whoever holds a lock
+    /// takes it out, and frees it later.
+    pub fn take_ended(&mut self) -> Option<SharedBytes>
+        ensures body { result ≡ self.old.ended }
+        ensures taken { self.new.ended ≡ None }
+        ensures agrees { (k : Settings) (steps : List Step) → CoreAgrees self.old k steps → CoreAgrees self.new k steps }
+        ensures conns { self.new.conns ≡ self.old.conns }
+    {
+        self.ended.take()
+    }
+
     /// Writes a packet and makes room for it at a slot.
     fn prepare(&mut self, slot: u32, response: &Response<'_>) -> Result<(), AllocError>
         requires open { IsOpen self.old.conns slot }
         requires fits { Fits (answer_of response.now).arguments }
         ensures goes { Goes self.old self.new (λ past. past) }
         ensures open { IsOpen self.new.conns slot }
-        ensures text { OnOk result (self.new.text.items ≡ answer_packet (answer_of response.now)) }
-        ensures room { OnOk result (length self.new.text.items ≤ (conn self.new.conns slot).room) }
+        ensures text { OnOk result (self.new.text ≡ answer_packet (answer_of response.now)) }
+        ensures room { OnOk result (length self.new.text ≤ (conn self.new.conns slot).room) }
         ensures functions { self.new.functions ≡ self.old.functions }
         ensures jobs { self.new.jobs ≡ self.old.jobs }
     {
-        self.text.clear();
-        write_response(response, &mut self.text)?;
-        self.conns.reserve_out(slot, self.text.len())
+        self.text.write(response, None)?;
+        let len = self.text.len()?;
+        self.conns.reserve_out(slot, len)
     }
 
     /// Queues the packet that was written to a slot, where there is room for it.
     fn send(&mut self, slot: u32)
         requires open { IsOpen self.old.conns slot }
-        requires room { length self.old.text.items ≤ (conn self.old.conns slot).room }
-        ensures goes { Goes self.old self.new (with_output slot self.old.text.items) }
+        requires room { length self.old.text ≤ (conn self.old.conns slot).room }
+        ensures goes { Goes self.old self.new (with_output slot self.old.text) }
         ensures open { IsOpen self.new.conns slot }
         ensures functions { self.new.functions ≡ self.old.functions }
         ensures jobs { self.new.jobs ≡ self.old.jobs }
         ensures moment { self.new.moment ≡ self.old.moment }
     {
-        if self.has_short_text() {
-            self.conns.put_out(slot, self.text.as_slice());
+        if self.text.is_short() {
+            self.text.put(&mut self.conns, slot);
         } else {
-            self.conns.append_out(slot, &mut self.text);
-            self.let_go();
+            self.text.append(&mut self.conns, slot);
         }
+        self.text.let_go();
     }
 
-    /// Whether the packet that was written is copied to where it waits, and not moved.
-    fn has_short_text(&self) -> bool {
-        self.text.len() < LEAST_MOVED
-    }
-
-    /// Gives large memory back, where the packet that was written is queued.
-    fn let_go(&mut self)
-        ensures { self.new ≡ record self.old { text = self.new.text } }
+    /// Takes over a text, and makes room for it at a slot.
+    fn prepare_text(&mut self, slot: u32, text: Vec<u8>) -> Result<(), AllocError>
+        requires { IsOpen self.old.conns slot }
+        ensures goes { Goes self.old self.new (λ past. past) }
+        ensures open { IsOpen self.new.conns slot }
+        ensures text { OnOk result (self.new.text ≡ text.items) }
+        ensures room { OnOk result (length self.new.text ≤ (conn self.new.conns slot).room) }
     {
-        if self.text.capacity() > MOST_KEPT {
-            self.text = Vec::new(self.alloc);
-        }
+        self.text = Written::of(text);
+        let len = self.text.len()?;
+        self.conns.reserve_out(slot, len)
     }
 
     /// Queues an answer to a slot; want of memory changes nothing.
@@ -194,14 +242,7 @@ impl JobServer for Core {
         ensures memory { NeedsNoMemory self.old event.now → IsErrOf result ApplyError.Memory → ⊥ }
         ensures touched { AllTouched self.old.conns self.new.conns }
     {
-        match *event {
-            Event::Open { addr } => self.open(addr),
-            Event::Packet { slot, kind, bytes } => self.packet(slot, kind, bytes),
-            Event::Line { slot, bytes } => self.line(slot, bytes),
-            Event::Fault { slot, fault } => self.fault(slot, fault),
-            Event::Close { slot } => self.close(slot),
-            Event::Tick { now } => self.tick(now),
-        }
+        self.apply_with(event, None)
     }
 
     fn owed(&self, slot: u32) -> bool {
@@ -245,9 +286,6 @@ impl JobServer for Core {
             → (result.items ≡ waiting slot (run k steps).flow) × CoreAgrees self.new k (Drain slot ∷ steps) }
         ensures touched { AllTouched self.old.conns self.new.conns }
     {
-        if !self.conns.is_open(slot) {
-            return Vec::new(self.alloc);
-        }
-        self.conns.drain(slot)
+        self.take_out(slot).into_bytes()
     }
 }

@@ -7,6 +7,7 @@ ghost use Rattle.gm_core.specs.Facts.{ConnFacts};
 ghost use Rattle.gm_core.specs.Holds.{HoldsConns, AllTouched};
 ghost use Rattle.gm_core.specs.Telling.{hears, poured, needed, Roomed, Poured};
 
+use crate::written::Written;
 use gm_conns::Conns;
 use std::alloc::AllocError;
 
@@ -36,7 +37,7 @@ fn reserve_one(
 }
 
 /// Makes room for `count` more bytes at each of these slots that hears, once for each time that it is listed.
-pub fn reserve_each(
+pub(crate) fn reserve_each(
     conns: &mut Conns,
     slots: &[u32],
     exceptions_only: bool,
@@ -52,7 +53,7 @@ pub fn reserve_each(
 }
 
 /// Queues a text to each of these slots that hears, where there is room.
-pub fn put_each(conns: &mut Conns, slots: &[u32], exceptions_only: bool, text: &[u8])
+pub(crate) fn put_each(conns: &mut Conns, slots: &[u32], exceptions_only: bool, text: &Written)
     requires { (c : ℕ) → needed (length text.now) c (filter (hears conns.old exceptions_only) slots.now) ≤ (conn conns.old c).room }
     ensures poured { Poured (length text.now) (filter (hears conns.old exceptions_only) slots.now) conns.old conns.new }
     ensures holds { (k : Settings) (names : List (List ℕ)) (facts : ConnFacts) (bytes : ℕ → List ℕ) → HoldsConns k conns.old names facts bytes
@@ -60,24 +61,43 @@ pub fn put_each(conns: &mut Conns, slots: &[u32], exceptions_only: bool, text: &
 {
     for slot in slots {
         if hears(conns, *slot, exceptions_only) {
-            conns.put_out(*slot, text);
+            text.put(conns, *slot);
         }
     }
 }
 
 /// As `put_each`, for a long text, which is used up: the last of the slots may take it over, and then it is copied for the
 /// others alone.
-pub fn append_each(conns: &mut Conns, slots: &[u32], exceptions_only: bool, text: &mut Vec<u8>)
-    requires { (c : ℕ) → needed (length text.old.items) c (filter (hears conns.old exceptions_only) slots.now) ≤ (conn conns.old c).room }
+fn append_each(conns: &mut Conns, slots: &[u32], exceptions_only: bool, text: &mut Written)
+    requires { (c : ℕ) → needed (length text.old) c (filter (hears conns.old exceptions_only) slots.now) ≤ (conn conns.old c).room }
     ensures touched { AllTouched conns.old conns.new }
     ensures holds { (k : Settings) (names : List (List ℕ)) (facts : ConnFacts) (bytes : ℕ → List ℕ) → HoldsConns k conns.old names facts bytes
-        → HoldsConns k conns.new names facts (poured text.old.items (filter (hears conns.old exceptions_only) slots.now) bytes) }
+        → HoldsConns k conns.new names facts (poured text.old (filter (hears conns.old exceptions_only) slots.now) bytes) }
 {
     let Some((last, others)) = slots.split_last() else {
         return;
     };
-    put_each(conns, others, exceptions_only, text.as_slice());
+    put_each(conns, others, exceptions_only, text);
     if hears(conns, *last, exceptions_only) {
-        conns.append_out(*last, text);
+        text.append(conns, *last);
+    }
+}
+
+/// Queues a text to each of these slots that hears, where there is room. It is used up.
+pub(crate) fn queue_each(
+    conns: &mut Conns,
+    slots: &[u32],
+    exceptions_only: bool,
+    text: &mut Written,
+)
+    requires { (c : ℕ) → needed (length text.old) c (filter (hears conns.old exceptions_only) slots.now) ≤ (conn conns.old c).room }
+    ensures touched { AllTouched conns.old conns.new }
+    ensures holds { (k : Settings) (names : List (List ℕ)) (facts : ConnFacts) (bytes : ℕ → List ℕ) → HoldsConns k conns.old names facts bytes
+        → HoldsConns k conns.new names facts (poured text.old (filter (hears conns.old exceptions_only) slots.now) bytes) }
+{
+    if text.is_short() {
+        put_each(conns, slots, exceptions_only, text);
+    } else {
+        append_each(conns, slots, exceptions_only, text);
     }
 }

@@ -76,7 +76,7 @@ impl Core {
         };
         let running = found.place().is_running();
         let response = known_status(handle, running, report_of(found));
-        prepare_at(&mut self.conns, &mut self.text, slot, &response)?;
+        prepare_at(&mut self.conns, &mut self.text, slot, &response, None)?;
         self.send(slot);
         Ok(())
     }

@@ -69,12 +69,12 @@ impl Core {
         requires { IsOpen self.old.conns slot }
         ensures goes { Goes self.old self.new (λ past. past) }
         ensures open { IsOpen self.new.conns slot }
-        ensures text { OnOk result (self.new.text.items ≡ error_text error) }
-        ensures room { OnOk result (length self.new.text.items ≤ (conn self.new.conns slot).room) }
+        ensures text { OnOk result (self.new.text ≡ error_text error) }
+        ensures room { OnOk result (length self.new.text ≤ (conn self.new.conns slot).room) }
     {
-        self.text.clear();
-        write_fault(error, &mut self.text)?;
-        self.conns.reserve_out(slot, self.text.len())
+        let mut text = Vec::new(self.alloc);
+        write_fault(error, &mut text)?;
+        self.prepare_text(slot, text)
     }
 
     /// Answers a line that is refused.
@@ -87,30 +87,17 @@ impl Core {
         Ok(())
     }
 
-    /// Takes over a text, and makes room for it at a slot.
-    fn prepare_text(&mut self, slot: u32, text: &[u8]) -> Result<(), AllocError>
-        requires { IsOpen self.old.conns slot }
-        ensures goes { Goes self.old self.new (λ past. past) }
-        ensures open { IsOpen self.new.conns slot }
-        ensures text { OnOk result (self.new.text.items ≡ text.now) }
-        ensures room { OnOk result (length self.new.text.items ≤ (conn self.new.conns slot).room) }
-    {
-        self.text.clear();
-        self.text.extend_from_slice(text)?;
-        self.conns.reserve_out(slot, self.text.len())
-    }
-
     /// Writes that a command was done, and makes room for it at a slot.
     fn prepare_ok(&mut self, slot: u32) -> Result<(), AllocError>
         requires { IsOpen self.old.conns slot }
         ensures goes { Goes self.old self.new (λ past. past) }
         ensures open { IsOpen self.new.conns slot }
-        ensures text { OnOk result (self.new.text.items ≡ ok_text) }
-        ensures room { OnOk result (length self.new.text.items ≤ (conn self.new.conns slot).room) }
+        ensures text { OnOk result (self.new.text ≡ ok_text) }
+        ensures room { OnOk result (length self.new.text ≤ (conn self.new.conns slot).room) }
     {
-        self.text.clear();
-        write_ok(&mut self.text)?;
-        self.conns.reserve_out(slot, self.text.len())
+        let mut text = Vec::new(self.alloc);
+        write_ok(&mut text)?;
+        self.prepare_text(slot, text)
     }
 
     /// Tells a slot that its command was done.
@@ -129,12 +116,12 @@ impl Core {
         requires { IsOpen self.old.conns slot }
         ensures goes { Goes self.old self.new (λ past. past) }
         ensures open { IsOpen self.new.conns slot }
-        ensures text { OnOk result (self.new.text.items ≡ version_text) }
-        ensures room { OnOk result (length self.new.text.items ≤ (conn self.new.conns slot).room) }
+        ensures text { OnOk result (self.new.text ≡ version_text) }
+        ensures room { OnOk result (length self.new.text ≤ (conn self.new.conns slot).room) }
     {
-        self.text.clear();
-        write_version(&mut self.text)?;
-        self.conns.reserve_out(slot, self.text.len())
+        let mut text = Vec::new(self.alloc);
+        write_version(&mut text)?;
+        self.prepare_text(slot, text)
     }
 
     /// Tells a slot the version of the server.
@@ -148,9 +135,9 @@ impl Core {
     }
 
     /// Queues a text to a slot.
-    pub(super) fn say(&mut self, slot: u32, text: &[u8]) -> Result<(), AllocError>
+    pub(super) fn say(&mut self, slot: u32, text: Vec<u8>) -> Result<(), AllocError>
         requires { IsOpen self.old.conns slot }
-        ensures does { Does self.old result self.new (with_output slot text.now) }
+        ensures does { Does self.old result self.new (with_output slot text.items) }
         ensures open { IsOpen self.new.conns slot }
     {
         self.prepare_text(slot, text)?;

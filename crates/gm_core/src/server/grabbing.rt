@@ -1,6 +1,6 @@
 //! Workers that ask for jobs.
 
-ghost use Rattle.std.specs.Prelude.{◌≡◌, ◌<◌, ◌≤◌, ℕ, false, Some, IfOk, OnOk, OnErr, length, slice_get};
+ghost use Rattle.std.specs.Prelude.{◌≡◌, ◌<◌, ◌≤◌, ℕ, false, Some, IfSome, IfOk, OnOk, OnErr, length, slice_get};
 ghost use Rattle.std.specs.Option.{option_map};
 ghost use Rattle.gm_packet.specs.Answers.{answer_of};
 ghost use Rattle.gm_packet.specs.Packets.{Fits};
@@ -11,6 +11,7 @@ ghost use Rattle.gm_queues.specs.FunctionTables.{waiting_for};
 ghost use Rattle.gm_jobs.specs.Live.{Live};
 ghost use Rattle.gm_jobs.specs.Tables as jobs;
 ghost use Rattle.gm_core.specs.Holds.{name_at};
+ghost use Rattle.gm_core.specs.Writing.{EndsWith};
 ghost use Rattle.gm_notes.specs.Settings.{Settings};
 ghost use Rattle.gm_notes.specs.declared.note.Note.TheVariants.{Assigned};
 ghost use Rattle.gm_notes.specs.Jobs.{handle};
@@ -19,31 +20,35 @@ ghost use Rattle.gm_notes.specs.Workers.{deadline_after, assignment, give_out, w
 
 use super::Core;
 use super::abilities::Choice;
+use crate::written::Written;
 use gm_actions::{JobView, assignment, deadline_after, handle};
+use gm_bytes::SharedBytes;
 use gm_conns::Conns;
 use gm_notes::Priority;
-use gm_packet::{Response, response_fits, write_response};
+use gm_packet::{Response, response_fits};
 use std::alloc::AllocError;
 
-/// Writes a packet and makes room for it at a slot. A packet that can't carry its texts is refused as if out of
-/// memory: what came in a packet fits one.
+/// Writes a packet and makes room for it at a slot; where its last argument is a shared body, that isn't copied. A packet
+/// that can't carry its texts is refused as if out of memory: what came in a packet fits one.
 pub(super) fn prepare_at(
     conns: &mut Conns,
-    text: &mut Vec<u8>,
+    text: &mut Written,
     slot: u32,
     response: &Response<'_>,
+    body: Option<&SharedBytes>,
 ) -> Result<(), AllocError>
-    requires { IsOpen conns.old slot }
-    ensures text { OnOk result (text.new.items ≡ answer_packet (answer_of response.now)) }
-    ensures conns { OnOk result (Changes slot (with_room (length text.new.items)) false conns.old conns.new) }
+    requires open { IsOpen conns.old slot }
+    requires ends { IfSome body (λ shared. EndsWith shared.now (answer_of response.now)) }
+    ensures text { OnOk result (text.new ≡ answer_packet (answer_of response.now)) }
+    ensures conns { OnOk result (Changes slot (with_room (length text.new)) false conns.old conns.new) }
     ensures err { OnErr result (conns.new ≡ conns.old) }
 {
-    text.clear();
     if !response_fits(response) {
         return Err(AllocError);
     }
-    write_response(response, text)?;
-    conns.reserve_out(slot, text.len())
+    text.write(response, body)?;
+    let len = text.len()?;
+    conns.reserve_out(slot, len)
 }
 
 impl Core {
@@ -60,10 +65,10 @@ impl Core {
         requires within { found.function < length self.old.functions.names }
         ensures goes { Goes self.old self.new (λ past. past) }
         ensures open { IsOpen self.new.conns slot }
-        ensures room { OnOk result (length self.new.text.items ≤ (conn self.new.conns slot).room) }
+        ensures room { OnOk result (length self.new.text ≤ (conn self.new.conns slot).room) }
         ensures priority { IfOk result (λ p. option_map (λ live. live.priority) (jobs.job self.old.jobs found.pick.job) ≡ Some p) }
         ensures text { OnOk result ((live : Live) → jobs.job self.old.jobs found.pick.job ≡ Some live
-            → self.new.text.items ≡ answer_packet (assignment self.old.config with_unique found.pick.job
+            → self.new.text ≡ answer_packet (assignment self.old.config with_unique found.pick.job
             (record { function = name_at self.old.functions.names found.function; priority = live.priority; unique = live.unique; body = live.body }))) }
         ensures functions { self.new.functions ≡ self.old.functions }
         ensures jobs { self.new.jobs ≡ self.old.jobs }
@@ -81,7 +86,13 @@ impl Core {
             body: job.body(),
         };
         let response = assignment(&handle, &view, with_unique);
-        prepare_at(&mut self.conns, &mut self.text, slot, &response)?;
+        prepare_at(
+            &mut self.conns,
+            &mut self.text,
+            slot,
+            &response,
+            job.shared_body(),
+        )?;
         Ok(job.p())
     }
 

@@ -153,7 +153,7 @@ impl Core {
         ensures { Does self.old result self.new (λ past. with_output slot (status_text (status_rows self.old.config past.notes)) past) }
     {
         let text = self.status_text()?;
-        self.say(slot, &text)
+        self.say(slot, text)
     }
 
     /// Every connection is listed, with what it can do.
@@ -162,6 +162,6 @@ impl Core {
         ensures { Does self.old result self.new (λ past. with_output slot (workers_text (worker_rows self.old.config past.notes)) past) }
     {
         let text = self.workers_text()?;
-        self.say(slot, &text)
+        self.say(slot, text)
     }
 }

@@ -36,12 +36,12 @@ impl Core {
         requires { IsOpen self.old.conns slot }
         ensures goes { Goes self.old self.new (λ past. past) }
         ensures open { IsOpen self.new.conns slot }
-        ensures text { OnOk result (self.new.text.items ≡ fault_text fault) }
-        ensures room { OnOk result (length self.new.text.items ≤ (conn self.new.conns slot).room) }
+        ensures text { OnOk result (self.new.text ≡ fault_text fault) }
+        ensures room { OnOk result (length self.new.text ≤ (conn self.new.conns slot).room) }
     {
-        self.text.clear();
-        append_fault(fault, &mut self.text)?;
-        self.conns.reserve_out(slot, self.text.len())
+        let mut text = Vec::new(self.alloc);
+        append_fault(fault, &mut text)?;
+        self.prepare_text(slot, text)
     }
 
     /// Nothing that can be read follows in a slot: it is told why, and takes no more units.

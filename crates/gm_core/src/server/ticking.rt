@@ -15,6 +15,7 @@ ghost use Rattle.gm_core.specs.Ticks.{AreLate, late_bytes, OthersStay};
 
 use super::Core;
 use crate::telling::{put_each, reserve_each};
+use crate::written::Written;
 use gm_actions::handle;
 use gm_notes::{ApplyError, Done};
 use gm_packet::{Response, write_response};
@@ -24,7 +25,7 @@ use std::alloc::AllocError;
 #[derive(Drop)]
 struct Late {
     job: u64,
-    text: Vec<u8>,
+    text: Written,
 }
 
 impl Core {
@@ -39,14 +40,15 @@ impl Core {
         ensures moment { self.new.moment ≡ self.old.moment }
         ensures roomed { Roomed self.old.conns self.new.conns }
         ensures job { IfOk result (λ late. late.job ≡ job) }
-        ensures text { IfOk result (λ late. late.text.items ≡ answer_packet (work_fail (handle self.old.config job))) }
-        ensures room { IfOk result (λ late. (c : ℕ) → (conn self.old.conns c).room + needed (length late.text.items) c (filter (hears self.old.conns false) (listeners_of (job_of self.old.jobs job))) ≤ (conn self.new.conns c).room) }
+        ensures text { IfOk result (λ late. late.text ≡ answer_packet (work_fail (handle self.old.config job))) }
+        ensures room { IfOk result (λ late. (c : ℕ) → (conn self.old.conns c).room + needed (length late.text) c (filter (hears self.old.conns false) (listeners_of (job_of self.old.jobs job))) ≤ (conn self.new.conns c).room) }
     {
         let handle = handle(self.alloc, &self.config, job)?;
         let mut text = Vec::new(self.alloc);
         write_response(&Response::WorkFail { handle: &handle }, &mut text)?;
         let slots = self.jobs.listeners(job);
         reserve_each(&mut self.conns, slots, false, text.len())?;
+        let text = Written::of(text);
         Ok(Late { job, text })
     }
 
@@ -74,15 +76,15 @@ impl Core {
     /// no memory.
     fn expire(&mut self, late: &Late)
         requires due { passes (is_due self.old.moment) (job_of self.old.jobs late.now.job) ≡ true }
-        requires text { late.now.text.items ≡ answer_packet (work_fail (handle self.old.config late.now.job)) }
-        requires room { (c : ℕ) → needed (length late.now.text.items) c (filter (hears self.old.conns false) (listeners_of (job_of self.old.jobs late.now.job))) ≤ (conn self.old.conns c).room }
+        requires text { late.now.text ≡ answer_packet (work_fail (handle self.old.config late.now.job)) }
+        requires room { (c : ℕ) → needed (length late.now.text) c (filter (hears self.old.conns false) (listeners_of (job_of self.old.jobs late.now.job))) ≤ (conn self.old.conns c).room }
         ensures goes { Goes self.old self.new (expire_one self.old.config late.now.job) }
         ensures moment { self.new.moment ≡ self.old.moment }
         ensures jobs { OthersStay late.now.job self.old.jobs self.new.jobs }
-        ensures poured { Poured (length late.now.text.items) (filter (hears self.old.conns false) (listeners_of (job_of self.old.jobs late.now.job))) self.old.conns self.new.conns }
+        ensures poured { Poured (length late.now.text) (filter (hears self.old.conns false) (listeners_of (job_of self.old.jobs late.now.job))) self.old.conns self.new.conns }
     {
         let slots = self.jobs.listeners(late.job);
-        put_each(&mut self.conns, slots, false, late.text.as_slice());
+        put_each(&mut self.conns, slots, false, &late.text);
         self.end(late.job);
     }
 

@@ -12,15 +12,39 @@ ghost use Rattle.gm_notes.specs.Past.{Past, with_note, tell_all};
 ghost use Rattle.gm_notes.specs.declared.note.Note.TheVariants.{Ended};
 ghost use Rattle.gm_notes.specs.Workers.{hearers, keep_report, end_if, tell_work, work};
 ghost use Rattle.gm_actions.specs.Actions.{said_report, work_of};
+ghost use Rattle.gm_actions.specs.Endings.{SaidEndsIn};
+ghost use Rattle.gm_core.specs.Writing.{EndsWith};
 ghost use Rattle.gm_core.specs.Ticks.{OthersStay};
 ghost use Rattle.gm_core.specs.Telling.{hears, needed, IsRunning, running_there};
 
 use super::Core;
-use crate::telling::{append_each, put_each, reserve_each};
+use super::serving::shared_end;
+use crate::telling::{queue_each, reserve_each};
 use gm_actions::{Refusal, Report, Said};
+use gm_bytes::SharedBytes;
+use gm_jobs::Jobs;
 use gm_notes::Priority;
-use gm_packet::{response_fits, write_response};
+use gm_packet::{Response, response_fits};
 use std::alloc::AllocError;
+
+/// The body of a job, if that is shared.
+fn body_of(jobs: &Jobs, job: u64) -> Option<SharedBytes> {
+    jobs.by_number(job)?.shared_body()?.suffix(0).ok()
+}
+
+/// The bytes that a worker passes on, at the end of shared data; none where they aren't shared.
+fn shared_body(said: &Said<'_>, whole: Option<&SharedBytes>) -> Option<SharedBytes>
+    requires { IfSome whole (λ shared. SaidEndsIn said.now shared.now) }
+    ensures { IfSome result (λ body. EndsWith body (answer_of said.now.response)) }
+{
+    match said.response {
+        Response::WorkData { body, .. } => shared_end(body, whole),
+        Response::WorkWarning { body, .. } => shared_end(body, whole),
+        Response::WorkException { body, .. } => shared_end(body, whole),
+        Response::WorkComplete { body, .. } => shared_end(body, whole),
+        _ => None,
+    }
+}
 
 impl Core {
     ghost use Rattle.gm_core.specs.Holds.{Keeps, Goes, Does};
@@ -31,12 +55,14 @@ impl Core {
         slot: u32,
         handle: &[u8],
         said: &Said<'_>,
+        whole: Option<&SharedBytes>,
     ) -> Result<(), AllocError>
-        requires { IsOpen self.old.conns slot }
+        requires open { IsOpen self.old.conns slot }
+        requires whole { IfSome whole (λ shared. SaidEndsIn said.now shared.now) }
         ensures { Does self.old result self.new (work self.old.config slot handle.now (work_of said.now)) }
     {
         match self.running_at(slot, handle) {
-            Some(job) => self.tell_work(job, said),
+            Some(job) => self.tell_work(job, said, whole),
             None => self.refuse(slot, Refusal::JobNotFound),
         }
     }
@@ -55,24 +81,26 @@ impl Core {
     }
 
     /// Writes what is said of a job, and makes room for it at each connection that hears it.
-    fn prepare_each(&mut self, job: u64, said: &Said<'_>) -> Result<(), AllocError>
+    fn prepare_each(
+        &mut self,
+        job: u64,
+        said: &Said<'_>,
+        whole: Option<&SharedBytes>,
+    ) -> Result<(), AllocError>
+        requires { IfSome whole (λ shared. SaidEndsIn said.now shared.now) }
         ensures goes { Goes self.old self.new (λ past. past) }
-        ensures text { OnOk result (self.new.text.items ≡ answer_packet (answer_of said.now.response)) }
-        ensures room { OnOk result ((c : ℕ) → needed (length self.new.text.items) c (filter (hears self.new.conns said.now.exceptions_only) (listeners_of (job_of self.new.jobs job))) ≤ (conn self.new.conns c).room) }
+        ensures text { OnOk result (self.new.text ≡ answer_packet (answer_of said.now.response)) }
+        ensures room { OnOk result ((c : ℕ) → needed (length self.new.text) c (filter (hears self.new.conns said.now.exceptions_only) (listeners_of (job_of self.new.jobs job))) ≤ (conn self.new.conns c).room) }
         ensures jobs { self.new.jobs ≡ self.old.jobs }
     {
-        self.text.clear();
         if !response_fits(&said.response) {
             return Err(AllocError);
         }
-        write_response(&said.response, &mut self.text)?;
+        let body = shared_body(said, whole);
+        self.text.write(&said.response, body.as_ref())?;
+        let len = self.text.len()?;
         let slots = self.jobs.listeners(job);
-        reserve_each(
-            &mut self.conns,
-            slots,
-            said.exceptions_only,
-            self.text.len(),
-        )
+        reserve_each(&mut self.conns, slots, said.exceptions_only, len)
     }
 
     /// How far the job is is kept, if it is said.
@@ -92,28 +120,28 @@ impl Core {
     /// The packet that was written is queued to each connection that hears of a live job, where there is room.
     fn tell_each(&mut self, job: u64, exceptions_only: bool)
         requires runs { IsRunning (job_of self.old.jobs job) }
-        requires room { (c : ℕ) → needed (length self.old.text.items) c (filter (hears self.old.conns exceptions_only) (listeners_of (job_of self.old.jobs job))) ≤ (conn self.old.conns c).room }
-        ensures goes { (answer : Answer) → self.old.text.items ≡ answer_packet answer
+        requires room { (c : ℕ) → needed (length self.old.text) c (filter (hears self.old.conns exceptions_only) (listeners_of (job_of self.old.jobs job))) ≤ (conn self.old.conns c).room }
+        ensures goes { (answer : Answer) → self.old.text ≡ answer_packet answer
             → Goes self.old self.new (λ past. tell_all answer (hearers exceptions_only (listeners job past.notes) past.notes) past) }
         ensures jobs { self.new.jobs ≡ self.old.jobs }
     {
-        let is_short = self.has_short_text();
         let slots = self.jobs.listeners(job);
-        if is_short {
-            let text = self.text.as_slice();
-            put_each(&mut self.conns, slots, exceptions_only, text);
-        } else {
-            append_each(&mut self.conns, slots, exceptions_only, &mut self.text);
-            self.let_go();
-        }
+        queue_each(&mut self.conns, slots, exceptions_only, &mut self.text);
+        self.text.let_go();
     }
 
     /// What a worker says of its job, which runs, is told to those that hear it, kept, and perhaps ends the job.
-    fn tell_work(&mut self, job: u64, said: &Said<'_>) -> Result<(), AllocError>
-        requires { IsRunning (job_of self.old.jobs job) }
+    fn tell_work(
+        &mut self,
+        job: u64,
+        said: &Said<'_>,
+        whole: Option<&SharedBytes>,
+    ) -> Result<(), AllocError>
+        requires runs { IsRunning (job_of self.old.jobs job) }
+        requires whole { IfSome whole (λ shared. SaidEndsIn said.now shared.now) }
         ensures { Does self.old result self.new (tell_work (work_of said.now) job) }
     {
-        self.prepare_each(job, said)?;
+        self.prepare_each(job, said, whole)?;
         self.keep_report(job, said.report)?;
         self.tell_each(job, said.exceptions_only);
         self.end_if(job, said.ends);
@@ -139,6 +167,7 @@ impl Core {
         ensures jobs { OthersStay job self.old.jobs self.new.jobs }
     {
         if let Some((f, priority)) = self.queue_of_running(job) {
+            self.ended = body_of(&self.jobs, job);
             self.functions.release(f, priority);
             self.jobs.end(job);
         }

@@ -11,50 +11,50 @@ put_each-requires c d =
     let P = hears c.args.conns.now c.args.exceptions_only in
     let last = c.in-Some.last.now in
     let others = c.in-Some.others.now in
-    let text = c.args.text.now.items in
+    let text = c.args.text.now in
     let fits = c.requires d in
     let split = needed_others (length text) d P c.args.slots.now others last c.in-Some.ensures.cases.0 in
-    subst (λ (l : List ℕ). needed (length l) d (filter P others) ≤ (conn c.args.conns.now d).room) (sym c.as_slice.ensures.value) (omega (arith, fits, split))
+    omega (arith, fits, split)
 
-pub append_out-requires-clause-room : goal.append_out-requires-clause-room
-append_out-requires-clause-room c =
+pub append-requires-clause-room : goal.append-requires-clause-room
+append-requires-clause-room c =
     let P = hears c.args.conns.now c.args.exceptions_only in
     let last = c.in-Some.last.now in
     let others = c.in-Some.others.now in
-    let text = c.args.text.now.items in
+    let text = c.args.text.now in
     let n = length text in
     let heard : P last ≡ true = sym (c.put_each.ensures.poured.hear c.args.exceptions_only last) ∙ (sym c.hears.ensures.value ∙ c.if-hears.true) in
     let split : needed n last (filter P c.args.slots.now) ≡ needed n last (filter P others) + needed n last (last ∷ []) =
     needed_others n last P c.args.slots.now others last c.in-Some.ensures.cases.0 ∙ ap (λ t. needed n last (filter P others) + needed n last (if t then last ∷ [] else [])) heard in
-    let left = subst (λ (l : List ℕ). (conn c.args.conns.now last).room ≤ (conn c.put_each.new.conns last).room + needed (length l) last (filter P others)) c.as_slice.ensures.value (c.put_each.ensures.poured.room last) in
+    let left = c.put_each.ensures.poured.room last in
     let fits = c.requires last in
     let here : needed n last (last ∷ []) ≤ (conn c.put_each.new.conns last).room = omega (arith, fits, split, left) in
     first_room n last [] (conn c.put_each.new.conns last).room here
 
 pub returns-then-hears-clause-touched : goal.returns-then-hears-clause-touched
-returns-then-hears-clause-touched c = touched_then c.put_each.ensures.poured.touched (touched_told c.in-Some.last.now c.append_out.ensures.conns)
+returns-then-hears-clause-touched c = touched_then c.put_each.ensures.poured.touched (touched_told c.in-Some.last.now c.append.ensures)
 
 pub returns-then-hears-clause-holds : goal.returns-then-hears-clause-holds
 returns-then-hears-clause-holds c k names facts bytes held =
     let P = hears c.args.conns.now c.args.exceptions_only in
     let last = c.in-Some.last.now in
     let others = c.in-Some.others.now in
-    let text = c.args.text.now.items in
+    let text = c.args.text.now in
     let heard : P last ≡ true = sym (c.put_each.ensures.poured.hear c.args.exceptions_only last) ∙ (sym c.hears.ensures.value ∙ c.if-hears.true) in
     let who : filter P c.args.slots.now ≡ filter P others ++ last ∷ [] =
     heard_last P c.args.slots.now others last c.in-Some.ensures.cases.0 ∙ ap (λ t. filter P others ++ (if t then last ∷ [] else [])) heard in
-    let before = subst (λ (l : List ℕ). HoldsConns k c.put_each.new.conns names facts (poured l (filter P others) bytes)) c.as_slice.ensures.value (c.put_each.ensures.holds k names facts bytes held) in
-    subst (HoldsConns k c.append_out.new.self names facts) (sym (ap (λ (l : List ℕ). poured text l bytes) who ∙ poured_last text (filter P others) last bytes))
-    (put_holds c.put_each.new.conns c.append_out.new.self last text c.append_out.ensures.conns before)
+    let before = c.put_each.ensures.holds k names facts bytes held in
+    subst (HoldsConns k c.append.new.conns names facts) (sym (ap (λ (l : List ℕ). poured text l bytes) who ∙ poured_last text (filter P others) last bytes))
+    (put_holds c.put_each.new.conns c.append.new.conns last text c.append.ensures before)
 
 pub returns-else-hears-clause-holds : goal.returns-else-hears-clause-holds
 returns-else-hears-clause-holds c k names facts bytes held =
     let P = hears c.args.conns.now c.args.exceptions_only in
     let last = c.in-Some.last.now in
     let others = c.in-Some.others.now in
-    let text = c.args.text.now.items in
+    let text = c.args.text.now in
     let deaf : P last ≡ false = sym (c.put_each.ensures.poured.hear c.args.exceptions_only last) ∙ (sym c.hears.ensures.value ∙ c.if-hears.false) in
     let who : filter P c.args.slots.now ≡ filter P others =
     heard_last P c.args.slots.now others last c.in-Some.ensures.cases.0 ∙ (ap (λ t. filter P others ++ (if t then last ∷ [] else [])) deaf ∙ append-nil (filter P others)) in
-    let before = subst (λ (l : List ℕ). HoldsConns k c.put_each.new.conns names facts (poured l (filter P others) bytes)) c.as_slice.ensures.value (c.put_each.ensures.holds k names facts bytes held) in
+    let before = c.put_each.ensures.holds k names facts bytes held in
     subst (λ (l : List ℕ). HoldsConns k c.put_each.new.conns names facts (poured text l bytes)) (sym who) before

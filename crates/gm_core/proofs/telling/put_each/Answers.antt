@@ -22,18 +22,18 @@ loop-slot-preserved c =
           let heard : P x ≡ true = sym (c.loop-slot.invariant.hear e x) ∙ (sym c.hears.ensures.value ∙ w.if-hears.true) in
           let next = heard_next P slots i c.loop-slot-test.true heard in
           rw w.conns-is (record {
-            hear = λ b d. put_hears c.loop-slot.conns w.put_out.new.self x text w.put_out.ensures b d ∙ c.loop-slot.invariant.hear b d;
-            room = put_room c.loop-slot.conns w.put_out.new.self x text w.put_out.ensures (filter P (drop (i + 1) slots))
+            hear = λ b d. put_hears c.loop-slot.conns w.put.new.conns x text w.put.ensures b d ∙ c.loop-slot.invariant.hear b d;
+            room = put_room c.loop-slot.conns w.put.new.conns x text w.put.ensures (filter P (drop (i + 1) slots))
                 (λ d. subst (λ (l : List ℕ). needed (length text) d l ≤ (conn c.loop-slot.conns d).room) next (c.loop-slot.invariant.room d));
-            touched = touched_then c.loop-slot.invariant.touched (touched_told x w.put_out.ensures);
-            left = put_left c.loop-slot.conns w.put_out.new.self x text w.put_out.ensures (filter P (drop (i + 1) slots)) (λ d. (conn c.args.conns.now d).room) (λ d. needed (length text) d (filter P slots))
+            touched = touched_then c.loop-slot.invariant.touched (touched_told x w.put.ensures);
+            left = put_left c.loop-slot.conns w.put.new.conns x text w.put.ensures (filter P (drop (i + 1) slots)) (λ d. (conn c.args.conns.now d).room) (λ d. needed (length text) d (filter P slots))
                 (λ d. subst (λ (l : List ℕ). needed (length text) d l ≤ (conn c.loop-slot.conns d).room) next (c.loop-slot.invariant.room d))
                 (λ d. subst (λ (l : List ℕ). (conn c.args.conns.now d).room + needed (length text) d l ≤ (conn c.loop-slot.conns d).room + needed (length text) d (filter P slots)) next (c.loop-slot.invariant.left d));
             holds = λ k names facts bytes held.
                 let was = c.loop-slot.invariant.holds k names facts bytes held in
                 record {
                   now = λ d. if d == x then was.now d ++ text else was.now d;
-                  holds = put_holds c.loop-slot.conns w.put_out.new.self x text w.put_out.ensures was.holds;
+                  holds = put_holds c.loop-slot.conns w.put.new.conns x text w.put.ensures was.holds;
                   leads = was.leads ∙ ap (λ (l : List ℕ). poured text l was.now) next;
                 };
           })

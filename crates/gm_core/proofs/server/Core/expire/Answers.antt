@@ -1,4 +1,4 @@
-use Rattle.std.proofs.Common.{false, ◌∙◌}
+use Rattle.std.proofs.Common.{false}
 use Rattle.gm_packet.specs.Answers.{work_fail}
 use Rattle.gm_notes.specs.Closings.{expire_one}
 use Rattle.gm_notes.specs.Jobs.{handle}
@@ -14,6 +14,6 @@ returns-clause-goes c =
     let k = old.config in
     goes_as (expire_one k n)
     (goes_then
-    (told_goes old c.put_each.new.conns n false c.as_slice.result.now c.listeners-slots.result.now (due_runs old.moment _ c.requires.due) c.listeners-slots.ensures c.put_each.ensures.poured.touched c.put_each.ensures.holds (work_fail (handle k n))
-    (c.as_slice.ensures.value ∙ c.requires.text)) c.end.ensures.goes)
+    (told_goes old c.put_each.new.conns n false c.args.late.now.text c.listeners-slots.result.now (due_runs old.moment _ c.requires.due) c.listeners-slots.ensures c.put_each.ensures.poured.touched c.put_each.ensures.holds (work_fail (handle k n))
+    c.requires.text) c.end.ensures.goes)
     (λ p keeps. expires_so old p keeps n k c.requires.due)

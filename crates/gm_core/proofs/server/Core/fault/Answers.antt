@@ -16,7 +16,7 @@ returns-clause-answers c k steps agrees =
     let taken : refusal k (Fault slot c.args.fault) (run k steps) ≡ None =
     ap unless_not_open (sym (c.takes_units.ensures.value (run k steps) agrees.past) ∙ c.if-not-takes_units.false) in (
       (taken, ap (λ (o : Option ℕ). record { opened = None; created = o }) (sym (none_made (made (run k steps).notes)))),
-      agrees_next k steps (Fault slot c.args.fault) (λ past. with_note (Shut slot) (with_output slot c.prepare_fault.new.self.text.items past)) agrees
+      agrees_next k steps (Fault slot c.args.fault) (λ past. with_note (Shut slot) (with_output slot c.prepare_fault.new.self.text past)) agrees
           (goes_then (goes_then c.in_ok-prepare_fault.ensures.goes c.send.ensures.goes)
           (goes_shut slot (record { config = refl; functions = refl; jobs = refl; moment = refl; mode = refl }) c.shut_down.ensures)) taken
           (ap (λ bytes. with_note (Shut slot) (with_output slot bytes (run k steps))) c.in_ok-prepare_fault.ensures.text),

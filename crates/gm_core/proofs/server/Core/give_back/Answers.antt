@@ -1,13 +1,13 @@
-use Rattle.std.proofs.Common.{◌≡◌, ℕ, ◌<◌, Bool, true, false, List, length, Option, Some, refl, sym, ap, subst, ◌∙◌}
+use Rattle.std.proofs.Common.{◌≡◌, ℕ, ◌<◌, Bool, true, false, List, length, Option, refl, sym, ap, subst, ◌∙◌}
 use Rattle.gm_notes.specs.declared.states.Priority.{Priority}
 use Rattle.gm_notes.specs.declared.note.Note.TheVariants.{Returned, Lost}
-use Rattle.gm_notes.specs.Jobs.{Job, job as note_job, is_last_try as is_last_try_of}
+use Rattle.gm_notes.specs.Jobs.{Job, is_last_try as is_last_try_of}
 use Rattle.gm_notes.specs.Past.{Past, with_note, wake}
 use Rattle.gm_notes.specs.Closings.{wake_for, return_or_lose}
 use Rattle.gm_queues.specs.Queues.{with_job}
 use Rattle.gm_queues.specs.FunctionTables.{ChangesQueue}
 use Rattle.gm_queues.specs.FunctionTables as queues
-use Rattle.gm_jobs.specs.Live.{Live, given_back, is_last_try, is_run_by}
+use Rattle.gm_jobs.specs.Live.{given_back, is_last_try, is_run_by}
 use Rattle.gm_jobs.specs.Tables.{Table, job, Changes, passes, back, back_of}
 use Rattle.gm_jobs.specs.declared.jobs.Back.{Back}
 use Rattle.gm_jobs.specs.declared.jobs.Back.TheVariants as backs

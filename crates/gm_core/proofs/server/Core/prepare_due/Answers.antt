@@ -25,7 +25,7 @@ loop-job-preserved c =
     let all : c.push.new.self.items ≡ lates ++ late ∷ [] = c.in_ok-push.ensures.items in
     let next : IsNext (is_due now) c.loop-job.after jobs.live late.job =
     subst (IsNext (is_due now) c.loop-job.after jobs.live) (sym said.job) (subst (λ (t : Table). IsNext (is_due now) c.loop-job.after t.live c.in-Some.job) c.loop-job.invariant.jobs c.in-Some.ensures.next) in
-    let text : late.text.items ≡ answer_packet (work_fail (handle k late.job)) =
+    let text : late.text ≡ answer_packet (work_fail (handle k late.job)) =
     said.text ∙ (λ i. answer_packet (work_fail (handle (c.loop-job.invariant.goes.config i) (sym said.job i)))) in
     record {
       goes = goes_then (goes_then c.loop-job.invariant.goes (goes_nothing refl refl refl c.in-Some.ensures.kept refl refl)) said.goes;
@@ -36,8 +36,8 @@ loop-job-preserved c =
           (late_next k now jobs self.conns new.conns lates c.loop-job.after late next text c.loop-job.invariant.late));
       room = subst (λ (l : List Late). (d : ℕ) → late_bytes (hears new.conns false) jobs d l ≤ (conn new.conns d).room) (sym all)
           (room_next k now jobs self.conns new.conns lates c.loop-job.after late next said.roomed c.loop-job.invariant.room
-          (subst (λ (t : Table). (d : ℕ) → (conn self.conns d).room + needed (length late.text.items) d (filter (hears self.conns false) (listeners_of (job_of t late.job))) ≤ (conn new.conns d).room) kept
-          (subst (λ (n : ℕ). (d : ℕ) → (conn self.conns d).room + needed (length late.text.items) d (filter (hears self.conns false) (listeners_of (job_of c.due.new.self n))) ≤ (conn new.conns d).room) (sym said.job) said.room)));
+          (subst (λ (t : Table). (d : ℕ) → (conn self.conns d).room + needed (length late.text) d (filter (hears self.conns false) (listeners_of (job_of t late.job))) ≤ (conn new.conns d).room) kept
+          (subst (λ (n : ℕ). (d : ℕ) → (conn self.conns d).room + needed (length late.text) d (filter (hears self.conns false) (listeners_of (job_of c.due.new.self n))) ≤ (conn new.conns d).room) (sym said.job) said.room)));
     }
 
 pub returns-clause-late : goal.returns-clause-late

@@ -15,4 +15,4 @@ returns c =
     (goes_then (goes_then c.in_ok-prepare_ok.ensures.goes c.in_ok-f.ensures.goes)
     (goes_limit c.mention.new.self _ name c.in_ok-f.f c.args.size (record { config = refl; conns = refl; jobs = refl; moment = refl; mode = refl }) c.in_ok-f.ensures.found c.set_limit.ensures))
     c.send.ensures.goes)
-    (λ p keeps. ap (λ bytes. with_output slot bytes (with_note (Limit name c.args.size) (with_mention name p))) (ap (λ v. v.items) c.in_ok-f.ensures.text ∙ c.in_ok-prepare_ok.ensures.text))
+    (λ p keeps. ap (λ bytes. with_output slot bytes (with_note (Limit name c.args.size) (with_mention name p))) (c.in_ok-f.ensures.text ∙ c.in_ok-prepare_ok.ensures.text))

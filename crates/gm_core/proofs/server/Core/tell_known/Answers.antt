@@ -14,7 +14,7 @@ pub returns : goal.returns
 returns c =
     goes_as (known_told c.args.slot c.args.handle.now c.args.job)
     (goes_then
-    (goes_room {old = c.args.self.now} {new = record c.args.self.now { conns = c.prepare_at.new.conns; text = c.prepare_at.new.text }} c.args.slot (record { config = refl; functions = refl; jobs = refl; moment = refl; mode = refl }) (length c.prepare_at.new.text.items) c.in_ok-prepare_at.ensures.conns)
+    (goes_room {old = c.args.self.now} {new = record c.args.self.now { conns = c.prepare_at.new.conns; text = c.prepare_at.new.text }} c.args.slot (record { config = refl; functions = refl; jobs = refl; moment = refl; mode = refl }) (length c.prepare_at.new.text) c.in_ok-prepare_at.ensures.conns)
     c.send.ensures.goes)
     (λ p keeps.
     let is = keeps.jobs.live c.args.job c.in-Some.found.now (sym c.in-Some.ensures) in

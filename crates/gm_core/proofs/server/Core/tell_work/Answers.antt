@@ -1,4 +1,4 @@
-use Rattle.std.proofs.Common.{ap, ◌∙◌}
+use Rattle.std.proofs.Common.{◌∙◌}
 use Rattle.gm_packet.specs.Answers.{answer_of}
 use Rattle.gm_notes.specs.Workers.{tell_work}
 use Rattle.gm_actions.specs.Actions.{said_report, work_of}
@@ -9,7 +9,7 @@ use Rattle.gm_core.proofs.server.Core.tell_work.Goals as goal
 pub returns : goal.returns
 returns c =
     let said = c.args.said.now in
-    let text = ap (λ v. v.items) c.in_ok-keep_report.ensures.text ∙ c.in_ok-prepare_each.ensures.text in
+    let text = c.in_ok-keep_report.ensures.text ∙ c.in_ok-prepare_each.ensures.text in
     goes_as (tell_work (work_of said) c.args.job)
     (goes_then (goes_then (goes_then c.in_ok-prepare_each.ensures.goes c.in_ok-keep_report.ensures.does) (c.tell_each.ensures.goes (answer_of said.response) text)) c.end_if.ensures)
     (λ p keeps. told_after said.ends c.args.job (answer_of said.response) said.exceptions_only (said_report said.report) p)

@@ -1,5 +1,5 @@
-use Rattle.std.proofs.Common.{◌≡◌, Option, Some, None, sym, ◌∙◌, arith}
-use Rattle.gm_core.proofs.TurnLemmas.{scans_straight, scans_at_first, scans_in_turn, scans_without, at_next}
+use Rattle.std.proofs.Common.{sym, ◌∙◌, arith}
+use Rattle.gm_core.proofs.TurnLemmas.{scans_in_turn, scans_without, at_next}
 use Rattle.gm_core.proofs.server.Core.tried_last.Goals as goal
 
 pub overflow_add-result : goal.overflow_add-result

@@ -1,0 +1,25 @@
+use Rattle.std.proofs.Common.{◌≡◌, ◌+◌, ◌-◌, ◌++◌, ℕ, List, length, take, drop, refl, ap, ap₂, ◌∙◌, arith}
+use Rattle.std.specs.Int.{w32, to_be_bytes}
+use Rattle.std.specs.List.{join_with_byte}
+use Rattle.gm_packet.specs.Packets.{response_magic}
+use Rattle.gm_packet.specs.Answers.{answer_of, answer_packet}
+use Rattle.gm_packet.proofs.Packets.{length-packet}
+use Rattle.gm_core.proofs.WritingLemmas.{written_over}
+use Rattle.gm_core.proofs.written.Written.write_over.Goals as goal
+
+pub lengthen-requires : goal.lengthen-requires
+lengthen-requires c =
+    let items : c.write_response.new.out.items ≡ answer_packet (answer_of c.args.bare.now) =
+    c.in_ok-write_response.ensures.ok ∙ ap (λ (l : List ℕ). l ++ answer_packet (answer_of c.args.bare.now)) c.clear.ensures.items in
+    omega (arith, ap length items, length-packet response_magic (answer_of c.args.bare.now).kind (join_with_byte 0 (answer_of c.args.bare.now).arguments) refl)
+
+pub returns : goal.returns
+returns c answer same ends =
+    let short = answer_of c.args.bare.now in
+    let items : c.write_response.new.out.items ≡ answer_packet short =
+    c.in_ok-write_response.ensures.ok ∙ ap (λ (l : List ℕ). l ++ answer_packet short) c.clear.ensures.items in
+    let count : length c.as_slice.result.now ≡ length c.args.body.now = ap length c.as_slice.ensures in
+    ap (λ (l : List ℕ). c.lengthen.new.packet.items ++ l) c.in_ok-suffix.ensures
+    ∙ written_over answer short c.args.body.now c.lengthen.new.packet.items same ends
+    (c.in_ok-lengthen.ensures
+    ∙ ap₂ (λ (l : List ℕ) (n : ℕ). take 8 l ++ to_be_bytes w32 ((length l - 12) + n) ++ drop 12 l) items count)
