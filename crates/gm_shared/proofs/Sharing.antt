@@ -115,7 +115,7 @@ pub emptied_own : (k : Settings) (taped : Bool) (slot : ℕ) (result : Result Dr
 emptied_own k taped slot (Ok drained) share after e own =
     ap (drains_alone slot) e.share_is
     ∙ (drains_more slot share e.told
-    ∙ (ap (λ b. b && drains_alone slot e.told) own ∙ (ap (drains_alone slot) e.drains.tape.told_is ∙ one_drain e.old.tape.on _ slot slot drained.bytes.items)))
+    ∙ (ap (λ b. b && drains_alone slot e.told) own ∙ (ap (drains_alone slot) e.drains.tape.told_is ∙ one_drain e.old.tape.on _ slot slot drained.bytes)))
 emptied_own k taped slot (Err refused) share after e own =
     ap (drains_alone slot) e.share_is
     ∙ (drains_more slot share e.told

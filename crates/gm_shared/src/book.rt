@@ -1,6 +1,6 @@
 //! The book.
 
-ghost use Rattle.std.specs.Prelude.{◌≡◌, ◌⊎◌, ◌<◌, ◌≤◌, ◌++◌, ℕ, [], List, IfOk, true, false, length};
+ghost use Rattle.std.specs.Prelude.{◌≡◌, ◌⊎◌, ◌<◌, ◌≤◌, ◌++◌, ℕ, [], List, IfOk, IfSome, true, false, length};
 ghost use Rattle.gm_conns.specs.Slots.{has};
 ghost use Rattle.gm_conns.specs.ConnTables.{conn, is_touched};
 ghost use Rattle.gm_word.specs.Seats.{fresh_pens};
@@ -8,12 +8,14 @@ ghost use Rattle.gm_notes.specs.Settings.{Settings};
 ghost use Rattle.gm_notes.specs.Steps.{Step, run};
 ghost use Rattle.gm_notes.specs.Servers.{step_of, IsSized};
 ghost use Rattle.gm_core.specs.Holds.{AllTouched, CoreAgrees, outbox};
+ghost use Rattle.gm_core.specs.Writing.{AreDataOf};
 ghost use Rattle.std.specs.Result.{IsErrOf};
 
 use crate::events::{Noop, asks_a_job, slot_of};
 use crate::receipt::{Drained, Receipt};
 use crate::tape::{Entry, Tape, TapeMode, Told};
 use crate::words::sync_word;
+use gm_bytes::SharedBytes;
 use gm_conns::SlotSet;
 use gm_core::Core;
 use gm_laws::laws::may_be_taken_later;
@@ -98,18 +100,21 @@ impl Booked {
     {
         may_be_taken_later();
         let mut share = Vec::new(self.alloc);
-        self.hold(table, desk, event, &mut share)
+        self.hold(table, desk, event, None, &mut share)
     }
 
-    /// `apply`, which adds what the desk is told of the tape to its share.
+    /// `apply`, which adds what the desk is told of the tape to its share. The data of a packet may be shared, as
+    /// `Core::apply_with` says.
     pub(crate) fn hold(
         &mut self,
         table: &SleepTable,
         desk: u32,
         event: &Event<'_>,
+        whole: Option<&SharedBytes>,
         share: &mut Vec<Told>,
     ) -> Result<Receipt, ApplyError>
         requires size { IsSized event.now }
+        requires whole { IfSome whole (λ shared. AreDataOf event.now shared.now) }
         requires table { self.old.seat.table ≡ table.now }
         ensures holding { (k : Settings) (steps : List Step) → BookedAgrees self.old k steps
             → (told : List Told) × (share.new.items ≡ share.old.items ++ told)
@@ -120,7 +125,7 @@ impl Booked {
         let copies = self.tape.room_for(self.alloc, share, event)?;
         let noop = self.resolve_noop(table, event);
         self.tape.enter_noop(share, desk, noop);
-        let done = self.core.apply(event)?;
+        let done = self.core.apply_with(event, whole)?;
         let at = self.tape.enter_event(share, desk, copies, done);
         let mut touched = self.follow(table, event);
         self.leave_out_idle(event, &mut touched);
@@ -130,6 +135,15 @@ impl Booked {
             mode: self.core.mode(),
             touched,
         })
+    }
+
+    /// What is to be freed once no lock is held: the body of a job that ended.
+    pub(crate) fn take_ended(&mut self) -> Option<SharedBytes>
+        ensures agrees { (k : Settings) (steps : List Step) → BookedAgrees self.old k steps → BookedAgrees self.new k steps }
+        ensures seat { self.new.seat ≡ self.old.seat }
+        ensures tape { self.new.tape ≡ self.old.tape }
+    {
+        self.core.take_ended()
     }
 
     /// Takes the bytes that wait for a slot, which wait no more. `NotOpen` comes where the slot isn't open; it
@@ -164,7 +178,7 @@ impl Booked {
             .tape
             .room_for_bytes(self.alloc, share, conns.waiting(slot))?;
         let shut = self.core.shut(slot);
-        let bytes = self.core.drain(slot);
+        let bytes = self.core.take_out(slot);
         // The drain touched its slot, for which no writer has anything to do.
         let _slot = self.core.take_touched();
         self.tape.enter_drain(share, pen, slot, copies);
@@ -271,7 +285,7 @@ impl Booked {
         conns.is_open(slot)
             && !conns.phase(slot).is_owed()
             && !conns.is_shut(slot)
-            && conns.waiting(slot).is_empty()
+            && !conns.is_waiting(slot)
     }
 
     /// Takes the event's own slot out of those that it touched, if nothing is to be delivered there: a worker that goes to

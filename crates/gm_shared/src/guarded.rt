@@ -1,7 +1,8 @@
 //! What the lock guards.
 
-ghost use Rattle.std.specs.Prelude.{◌≡◌};
+ghost use Rattle.std.specs.Prelude.{◌≡◌, IfSome};
 ghost use Rattle.gm_notes.specs.Servers.{step_of, IsSized};
+ghost use Rattle.gm_core.specs.Writing.{AreDataOf};
 ghost use Rattle.gm_shared.specs.Books.{NeedsNoMemory};
 ghost use Rattle.gm_shared.specs.Shared.{IsGuarded, Applied, Emptied};
 ghost use Rattle.std.specs.Result.{IsErrOf};
@@ -10,6 +11,7 @@ use crate::book::Booked;
 use crate::name::BookName;
 use crate::receipt::{Drained, Receipt};
 use crate::tape::Told;
+use gm_bytes::SharedBytes;
 use gm_notes::{ApplyError, Event};
 use gm_word::SleepTable;
 use std::marker::{Model, PhantomData};
@@ -43,20 +45,23 @@ impl<K: BookName> Guarded<K> {
         }
     }
 
-    /// `Booked::apply`, in one holding of the lock.
+    /// `Booked::hold`, in one holding of the lock, and what is to be freed after it.
     pub(crate) fn apply(
         &mut self,
         table: &SleepTable,
         desk: u32,
         event: &Event<'_>,
+        whole: Option<&SharedBytes>,
         share: &mut Vec<Told>,
-    ) -> Result<Receipt, ApplyError>
+    ) -> (Result<Receipt, ApplyError>, Option<SharedBytes>)
         requires size { IsSized event.now }
+        requires whole { IfSome whole (λ shared. AreDataOf event.now shared.now) }
         requires table { table.now ≡ K.table }
-        ensures applied { Applied K.settings K.taped (step_of event.now) desk result share.old.items share.new.items }
-        ensures memory { NeedsNoMemory K.taped (step_of event.now) → IsErrOf result ApplyError.Memory → ⊥ }
+        ensures applied { Applied K.settings K.taped (step_of event.now) desk result.0 share.old.items share.new.items }
+        ensures memory { NeedsNoMemory K.taped (step_of event.now) → IsErrOf result.0 ApplyError.Memory → ⊥ }
     {
-        self.booked.hold(table, desk, event, share)
+        let result = self.booked.hold(table, desk, event, whole, share);
+        (result, self.booked.take_ended())
     }
 
     /// `Booked::drain`, in one holding of the lock.

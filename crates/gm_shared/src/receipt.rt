@@ -1,6 +1,6 @@
 //! What a book answers.
 
-use gm_conns::SlotSet;
+use gm_conns::{Outgoing, SlotSet};
 use gm_notes::{Done, Mode};
 
 /// What an event that was taken made.
@@ -20,8 +20,8 @@ pub struct Receipt {
 /// What waited for a slot.
 #[derive(Drop)]
 pub struct Drained {
-    /// The bytes that waited, which wait no more.
-    pub bytes: Vec<u8>,
+    /// The bytes that waited, which wait no more. What is shared of them isn't copied.
+    pub bytes: Outgoing,
     /// Whether the slot takes no more units.
     pub shut: bool,
 }

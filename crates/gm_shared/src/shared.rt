@@ -1,9 +1,10 @@
 //! The book that threads share, and what each of them has of its own: desks, at which events are handed in, and pens,
 //! which take out what waits for a slot.
 
-ghost use Rattle.std.specs.Prelude.{◌≡◌, ◌+◌, IfOk, MatchBool, map, All, [], true};
+ghost use Rattle.std.specs.Prelude.{◌≡◌, ◌+◌, IfOk, IfSome, MatchBool, map, All, [], true};
 ghost use Rattle.gm_notes.specs.Servers.{step_of, IsSized};
 ghost use Rattle.gm_word.specs.Seats.{fresh_pens};
+ghost use Rattle.gm_core.specs.Writing.{AreDataOf};
 ghost use Rattle.gm_shared.specs.Books.{NeedsNoMemory};
 ghost use Rattle.gm_shared.specs.Tapes.{drains_alone};
 ghost use Rattle.gm_shared.specs.Shared.{Applied, AddsEvent, Emptied, numbers_below};
@@ -14,6 +15,7 @@ use crate::guarded::Guarded;
 use crate::name::BookName;
 use crate::receipt::{Drained, Receipt};
 use crate::tape::Told;
+use gm_bytes::SharedBytes;
 use gm_notes::{ApplyError, Event};
 use gm_word::{PenSeat, SleepTable};
 use std::alloc::{AllocError, Global};
@@ -117,10 +119,32 @@ impl<K: BookName> Desk<K> {
         ensures memory { NeedsNoMemory K.taped (step_of event.entry) → IsErrOf result ApplyError.Memory → ⊥ }
         ensures number { self.new.number ≡ self.old.number }
     {
-        shared
+        self.apply_with(rt, shared, event, None)
+    }
+
+    /// As `apply`. Where the data of a packet are shared, and given once more so, no byte of them is copied while the lock is
+    /// held, unless a tape is kept.
+    pub fn apply_with(
+        &mut self,
+        rt: &impl Wait,
+        shared: &Shared<K>,
+        event: Event<'_>,
+        whole: Option<&SharedBytes>,
+    ) -> Result<Receipt, ApplyError>
+        requires size { IsSized event }
+        requires whole { IfSome whole (λ bytes. AreDataOf event bytes.now) }
+        ensures applied { Applied K.settings K.taped (step_of event.entry) self.old.number result self.old.share.items self.new.share.items }
+        ensures adds { AddsEvent K.taped (step_of event.entry) result self.old.share.items self.new.share.items }
+        ensures memory { NeedsNoMemory K.taped (step_of event.entry) → IsErrOf result ApplyError.Memory → ⊥ }
+        ensures number { self.new.number ≡ self.old.number }
+    {
+        let share = &mut self.share;
+        let (result, ended) = shared
             .book
             .lock(rt)
-            .apply(&shared.table, self.number, &event, &mut self.share)
+            .apply(&shared.table, self.number, &event, whole, share);
+        drop(ended);
+        result
     }
 }
 

@@ -168,6 +168,15 @@ pub(crate) struct Waited {
     told: Text,
 }
 
+/// A copy of two parts, as one text.
+fn joined(alloc: Global, first: &[u8], second: &[u8]) -> Result<Text, AllocError>
+    ensures { IfOk result (λ text. text ≡ first.now ++ second.now) }
+{
+    let mut bytes = Vec::from_slice(alloc, first)?;
+    bytes.extend_from_slice(second)?;
+    Ok(Text::from_vec(bytes))
+}
+
 /// What a NOOP's taking or its withdrawal makes.
 const NOTHING: Done = Done {
     opened: None,
@@ -236,13 +245,13 @@ impl Tape {
         &mut self,
         alloc: Global,
         share: &mut Vec<Told>,
-        bytes: &[u8],
+        waiting: (&[u8], &[u8]),
     ) -> Result<Option<Waited>, AllocError>
         ensures on { self.new.on ≡ self.old.on }
         ensures entries { self.new.entries.items ≡ self.old.entries.items }
         ensures share { share.new.items ≡ share.old.items }
         ensures room { OnOk result (HasRoom 1 self.new (vec_len share.new) (vec_capacity share.new)) }
-        ensures copies { IfOk result (λ copies. HaveWaited self.new.on bytes.now copies) }
+        ensures copies { IfOk result (λ copies. HaveWaited self.new.on (waiting.entry.0.now ++ waiting.entry.1.now) copies) }
         ensures kept { IfOk result (λ copies. AreOn self.new.on copies) }
         ensures wanting { OnErr result (self.new.on ≡ true) }
     {
@@ -252,8 +261,8 @@ impl Tape {
         self.entries.reserve(1)?;
         share.reserve(1)?;
         Ok(Some(Waited {
-            entry: Text::copy_of(alloc, bytes)?,
-            told: Text::copy_of(alloc, bytes)?,
+            entry: joined(alloc, waiting.0, waiting.1)?,
+            told: joined(alloc, waiting.0, waiting.1)?,
         }))
     }
 

@@ -1,7 +1,6 @@
-use Rattle.std.proofs.Common.{All, sym, subst, ◌∙◌, refl}
+use Rattle.std.proofs.Common.{sym, subst, ◌∙◌, refl}
 use Rattle.gm_core.specs.Holds.{CoreAgrees}
 use Rattle.gm_shared.specs.Books.{WordsAgree}
-use Rattle.gm_shared.specs.Shared.{TookThose}
 use Rattle.gm_shared.proofs.Ending.{tape_is, now_up, not_up, settled_took, some_of, none_of}
 use Rattle.gm_shared.proofs.settling.end.Goals as goal
 use Rattle.gm_shared.proofs.settling.end.Goals.{in-Some, in-None}

@@ -8,19 +8,19 @@ use Rattle.gm_shared.proofs.book.Booked.drain_into.Goals as goal
 
 pub returns-clause-drains : goal.returns-clause-drains
 returns-clause-drains c = λ k steps h.
-    let done = c.drain-bytes.ensures.answers k steps h.holds.core in
+    let done = c.take_out-bytes.ensures.answers k steps h.holds.core in
     let old = c.args.self.now.tape in
     let mid = c.room_for_bytes.new.self in
     let new = c.enter_drain.new.self in
     let on = c.room_for_bytes.ensures.on in
     let room = grows_none old mid on c.room_for_bytes.ensures.entries in
-    let waited : c.waiting.result.now ≡ c.drain-bytes.result.items =
+    let waited : c.waiting.result.0.now ++ c.waiting.result.1.now ≡ c.take_out-bytes.result =
     c.waiting.ensures ∙ (ap (λ (t : Table). (conn t c.args.slot).waiting) c.parts.ensures.conns ∙ (h.holds.core.past.conns.waiting c.args.slot ∙ sym done.0)) in
-    let entry = c.enter_drain.ensures c.drain-bytes.result.items (subst (λ bytes. HaveWaited mid.on bytes c.in_ok-copies.copies) waited c.in_ok-copies.ensures.copies) in
+    let entry = c.enter_drain.ensures c.take_out-bytes.result (subst (λ bytes. HaveWaited mid.on bytes c.in_ok-copies.copies) waited c.in_ok-copies.ensures.copies) in
     let all = grows_twice [] _ old mid new _ _ room entry.0 in
     let kept = tape_after k steps [] old mid _ room (tape_same k steps old.on old.entries.items h.tape) in (
-      told_of mid (drain_entry c.args.pen c.args.slot c.drain-bytes.result.items ∷ []),
-      entry.1 ∙ ap (λ ts. ts ++ told_of mid (drain_entry c.args.pen c.args.slot c.drain-bytes.result.items ∷ [])) c.room_for_bytes.ensures.share,
+      told_of mid (drain_entry c.args.pen c.args.slot c.take_out-bytes.result ∷ []),
+      entry.1 ∙ ap (λ ts. ts ++ told_of mid (drain_entry c.args.pen c.args.slot c.take_out-bytes.result ∷ [])) c.room_for_bytes.ensures.share,
       record {
         opened = sym (h.holds.core.past.conns.opens c.args.slot) ∙ (ap (λ (t : Table). (conn t c.args.slot).is_open) (sym c.parts.ensures.conns) ∙ (sym c.is_open.ensures.value ∙ c.if-not-is_open.false));
         bytes_are = done.0;

@@ -1,15 +1,21 @@
-use Rattle.std.proofs.Common.{◌∙◌}
+use Rattle.std.proofs.Common.{◌∙◌, ap}
 use Rattle.gm_shared.proofs.Keeping.{applied_keeps}
 use Rattle.gm_shared.proofs.guarded.Guarded.apply.Goals as goal
 
 pub invariant_of-self : goal.invariant_of-self
 invariant_of-self g c =
     let i = c.self.invariant in
-    let h = c.hold.ensures.holding _ i.steps i.agrees in
-    applied_keeps _ _ _ i.steps _ _ _ _ _ h.0 h.2 (c.hold.ensures.table ∙ i.table_is) i.on
+    let h = c.hold-result.ensures.holding _ i.steps i.agrees in
+    let kept = applied_keeps _ _ _ i.steps _ _ _ _ _ h.0 h.2 (c.hold-result.ensures.table ∙ i.table_is) i.on in
+    record {
+      steps = kept.steps;
+      agrees = c.take_ended.ensures.agrees _ kept.steps kept.agrees;
+      table_is = ap (λ s. s.table) c.take_ended.ensures.seat ∙ kept.table_is;
+      on = ap (λ t. t.on) c.take_ended.ensures.tape ∙ kept.on;
+    }
 
 pub returns-clause-applied : goal.returns-clause-applied
 returns-clause-applied g c =
     let i = c.self.invariant in
-    let h = c.hold.ensures.holding _ i.steps i.agrees in
+    let h = c.hold-result.ensures.holding _ i.steps i.agrees in
     record { steps = i.steps; old = _; new = _; on = i.on; agrees = i.agrees; told = h.0; held = h.2; share_is = h.1 }

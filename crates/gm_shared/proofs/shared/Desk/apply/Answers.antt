@@ -1,5 +1,0 @@
-use Rattle.gm_shared.proofs.Sharing.{applied_adds}
-use Rattle.gm_shared.proofs.shared.Desk.apply.Goals as goal
-
-pub returns-clause-adds : goal.returns-clause-adds
-returns-clause-adds g c = applied_adds _ _ c.args.event _ _ _ _ c.apply.ensures.applied
