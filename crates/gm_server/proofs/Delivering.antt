@@ -58,20 +58,20 @@ module _ (k : Settings) (taped : Bool) (slot takes takes_after : ℕ) (share aft
       };
     }
 
-    module _ (drained : Drained) (emptied : Emptied k taped slot slot (Ok drained) share after) (new : Option (List ℕ)) (due left_after : List ℕ) (is_due : due ≡ turn_of took drained.bytes.items) where
+    module _ (drained : Drained) (emptied : Emptied k taped slot slot (Ok drained) share after) (new : Option (List ℕ)) (due left_after : List ℕ) (is_due : due ≡ turn_of took drained.bytes) where
       -- it gave, and that was sent as far as the peer took it
       pub delivers_more : (delivery : Delivery) → Sends delivery mid new due left_after → Delivers k taped delivery slot takes takes_after share after old new left left_after
       delivers_more delivery more = record {
         asked = true;
         took = took;
-        gave = drained.bytes.items;
+        gave = drained.bytes;
         gives = given took drained takes_so emptied;
         done = λ is. refl;
         sends = record {
           sent = sends.sent ++ more.sent;
           rest = more.rest;
           written = Appends-trans old mid new sends.sent more.sent sends.written more.written;
-          whole = ap (λ front. front ++ turn_of took drained.bytes.items) all_sent ∙ (ap (λ bytes. sends.sent ++ bytes) (sym is_due ∙ more.whole) ∙ sym (append_assoc sends.sent more.sent more.rest));
+          whole = ap (λ front. front ++ turn_of took drained.bytes) all_sent ∙ (ap (λ bytes. sends.sent ++ bytes) (sym is_due ∙ more.whole) ∙ sym (append_assoc sends.sent more.sent more.rest));
           leaves = more.leaves;
         };
       }

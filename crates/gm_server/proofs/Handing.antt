@@ -5,8 +5,8 @@ use Rattle.std.specs.Prelude.{IfSome}
 use Rattle.std.proofs.lemmas.List.{append-nil, append_assoc, map-append}
 use Rattle.std.specs.Io.KnownBytes.{Consumes}
 use Rattle.gm_feeder.specs.declared.units.Limits.{Limits}
-use Rattle.gm_feeder.specs.Units.{Item, IsFaultOf, Waits}
-use Rattle.gm_feeder.specs.Streams.{Stream, GivesNone, TakesIn, with_bytes}
+use Rattle.gm_feeder.specs.Units.{Item, Waits}
+use Rattle.gm_feeder.specs.Streams.{Stream, GivesUnit, GivesNone, TakesIn, with_bytes}
 use Rattle.gm_feeder.proofs.HeadLemmas.{empty_goes_on}
 use Rattle.gm_feeder.proofs.StreamLemmas.{unit_not_empty}
 use Rattle.gm_notes.specs.declared.event.UnitFault.{UnitFault}
@@ -17,7 +17,8 @@ use Rattle.gm_shared.specs.declared.tape.Told.{Told}
 use Rattle.gm_shared.specs.Tapes.{events_told}
 use Rattle.gm_server.specs.declared.session.SessionEnd.{SessionEnd}
 use Rattle.gm_server.specs.declared.session.SessionEnd.TheVariants as ends
-use Rattle.gm_server.specs.Sessions.{Adds, HandsIn, IsWhole, Reads, Applies, Unloads}
+use Rattle.gm_server.specs.declared.session.Taken.TheVariants.{Unit as AUnit, Nothing}
+use Rattle.gm_server.specs.Sessions.{Adds, HandsIn, Reads, Applies, Stops, TakesNext, Unloads}
 
 -- ---- events told, one after another
 
@@ -67,42 +68,57 @@ pub unloading_none : (taped : Bool) (c : ℕ) (old : Stream) (share : List Told)
 unloading_none taped c old share = record { handed = handed_none taped c old.limits old.pending share; limited = refl }
 
 module _ (taped : Bool) (c : ℕ) (old : Stream) (share mid_share after : List Told) (mid new : Stream) (u : Unloading taped c old share mid_share mid) where
-  pub unloading_more : (s : Step) → GivesEvent c mid s new → Applies taped s (Ok tt) mid_share after → Unloading taped c old share after new
-  unloading_more s g applies = record {
+  pub unloading_more : (is_line : Bool) → TakesNext taped c mid (Ok (AUnit is_line)) mid_share after new → Unloading taped c old share after new
+  unloading_more is_line t = record {
     handed = record {
-      items = u.handed.items ++ g.item ∷ [];
-      begins = begins_more old.limits old.pending u.handed.items g.item mid new u.limited u.handed.begins g.gives;
-      adds = adds_same taped _ _ share after (sym (map-append (step_of_unit c) u.handed.items (g.item ∷ [])))
-          (adds_then taped _ _ share mid_share after u.handed.adds (adds_same taped _ _ mid_share after (ap (λ (s : Step). s ∷ []) g.is_step) applies));
+      items = u.handed.items ++ t.0 ∷ [];
+      begins = begins_more old.limits old.pending u.handed.items t.0 mid new u.limited u.handed.begins t.1;
+      adds = adds_same taped _ _ share after (sym (map-append (step_of_unit c) u.handed.items (t.0 ∷ [])))
+          (adds_then taped _ _ share mid_share after u.handed.adds t.2);
     };
-    limited = ap (λ (s : Stream). s.limits) g.gives.kept ∙ u.limited;
+    limited = ap (λ (s : Stream). s.limits) t.1.kept ∙ u.limited;
   }
 
-  pub unloads_all : GivesNone mid new → mid_share ≡ after → Unloads taped c old (Ok tt) share after new
-  unloads_all w same = record {
+  pub unloads_all : TakesNext taped c mid (Ok Nothing) mid_share after new → Unloads taped c old (Ok tt) share after new
+  unloads_all t = record {
     hands = hands taped c old.limits old.pending new.pending None share mid_share after
-        (subst (λ (s : Stream). Handed taped c old.limits old.pending s.pending share mid_share) (sym w.kept) u.handed) tt (subst (λ (l : List Told). Adds taped [] mid_share l) same (adds_none taped mid_share));
-    waits = subst (λ (s : Stream). Waits old.limits s.pending) (sym w.kept) (subst (λ (l : Limits). Waits l mid.pending) u.limited w.waits);
-    limited = ap (λ (s : Stream). s.limits) w.kept ∙ u.limited;
+        (subst (λ (s : Stream). Handed taped c old.limits old.pending s.pending share mid_share) (sym t.0.kept) u.handed) tt
+        (subst (λ (l : List Told). Adds taped [] mid_share l) (sym t.1) (adds_none taped mid_share));
+    waits = subst (λ (s : Stream). Waits old.limits s.pending) (sym t.0.kept) (subst (λ (l : Limits). Waits l mid.pending) u.limited t.0.waits);
+    limited = ap (λ (s : Stream). s.limits) t.0.kept ∙ u.limited;
   }
 
-  -- the unit or the fault that stands there was refused
-  pub unloads_some : (end : SessionEnd) → Adds taped [] mid_share after × (IsWhole end → ⊥) → Unloads taped c old (Err end) share after new
-  unloads_some end applies = record {
+  -- the unit that stands there was refused, or the fault was applied
+  pub unloads_stops : (end : SessionEnd) → Stops taped c mid end mid_share after → Unloads taped c old (Err end) share after new
+  unloads_stops end t = record {
     rest = mid.pending;
-    fault = None;
-    hands = hands taped c old.limits old.pending mid.pending None share mid_share after u.handed tt applies.0;
-    broken = applies.1;
+    fault = t.fault;
+    hands = hands taped c old.limits old.pending mid.pending t.fault share mid_share after u.handed
+        (subst (λ (l : Limits). IfSome t.fault (λ fault. IsFaultAt l mid.pending fault)) u.limited t.stands) t.adds;
+    broken = t.broken;
   }
 
-  pub unloads_fault : (fault : UnitFault) → GivesFaultAs mid fault new → Applies taped (Fault c fault) (Ok tt) mid_share after → Unloads taped c old (Err ends.Shut) share after new
-  unloads_fault fault g applies = record {
-    rest = mid.pending;
+-- ---- the next unit
+
+module _ (taped : Bool) (c : ℕ) (old mid new : Stream) (share after : List Told) (same : mid ≡ old) where
+  pub next_unit : (s : Step) (is_line : Bool) → GivesEvent c mid s new → Applies taped s (Ok tt) share after → TakesNext taped c old (Ok (AUnit is_line)) share after new
+  next_unit s is_line g applies =
+      (g.item, subst (λ (m : Stream). GivesUnit m g.item new) same g.gives, adds_same taped _ _ share after (ap (λ (x : Step). x ∷ []) g.is_step) applies)
+
+  pub next_none : GivesNone mid new → after ≡ share → TakesNext taped c old (Ok Nothing) share after new
+  next_none g left = (subst (λ (m : Stream). GivesNone m new) same g, left)
+
+  pub next_fault : (fault : UnitFault) → GivesFaultAs mid fault new → Applies taped (Fault c fault) (Ok tt) share after → Stops taped c old ends.Shut share after
+  next_fault fault g applies = record {
     fault = Some fault;
-    hands = hands taped c old.limits old.pending mid.pending (Some fault) share mid_share after u.handed
-        (record { fed = g.fed; named = g.named; stands = subst (λ (l : Limits). IsFaultOf l mid.pending g.fed) u.limited g.gives.stands }) applies;
+    stands = subst (λ (m : Stream). IsFaultAt m.limits m.pending fault) same (record { fed = g.fed; named = g.named; stands = g.gives.stands });
+    adds = applies;
     broken = λ whole. whole;
   }
+
+-- a unit or a fault that was refused
+pub next_stops : (taped : Bool) (c : ℕ) (old : Stream) (s : Step) (end : SessionEnd) (share after : List Told) → Applies taped s (Err end) share after → Stops taped c old end share after
+next_stops taped c old s end share after applies = record { fault = None; stands = tt; adds = applies.0; broken = applies.1 }
 
 -- ---- a session
 

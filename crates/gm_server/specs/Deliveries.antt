@@ -13,7 +13,7 @@ use Rattle.gm_server.specs.Turns.{turn_of}
 
 -- what isn't sent yet of a message
 abbrev pub unsent : Message → List ℕ
-unsent message = drop message.written message.bytes.items ++ message.noop.now
+unsent message = drop message.written message.bytes ++ message.noop.now
 
 abbrev pub left_in : Option Message → List ℕ
 left_in None = []
@@ -43,7 +43,7 @@ pub record Sends (delivery : Delivery) (old new : Option (List ℕ)) (due left :
 pub data Gives (k : Settings) (taped : Bool) (slot takes takes_after : ℕ) (share after : List Told) : Bool → Bool → List ℕ → Type 0 where
   unasked : takes_after ≡ takes → after ≡ share → Gives k taped slot takes takes_after share after false false []
   given : (took : Bool) (drained : Drained) → MatchBool took (takes_after ≡ takes + 1) (takes_after ≡ takes)
-      → Emptied k taped slot slot (Ok drained) share after → Gives k taped slot takes takes_after share after true took drained.bytes.items
+      → Emptied k taped slot slot (Ok drained) share after → Gives k taped slot takes takes_after share after true took drained.bytes
   refused : (took : Bool) (error : ApplyError) → MatchBool took (takes_after ≡ takes + 1) (takes_after ≡ takes)
       → Emptied k taped slot slot (Err error) share after → Gives k taped slot takes takes_after share after false took []
 

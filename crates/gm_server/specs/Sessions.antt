@@ -3,14 +3,16 @@ use Rattle.std.specs.Prelude.{◌≡◌, ℕ, Bool, true, false, List, [], ◌�
 use Rattle.std.specs.Io.KnownBytes.{Consumes}
 use Rattle.gm_feeder.specs.declared.units.Limits.{Limits}
 use Rattle.gm_feeder.specs.Units.{Item, Waits}
-use Rattle.gm_feeder.specs.Streams.{Stream, TakesIn}
+use Rattle.gm_feeder.specs.Streams.{Stream, TakesIn, GivesUnit, GivesNone}
 use Rattle.gm_notes.specs.declared.event.UnitFault.{UnitFault}
 use Rattle.gm_notes.specs.Steps.{Step}
-use Rattle.gm_front.specs.Units.{steps_of, IsFaultAt, BeginsWith}
+use Rattle.gm_front.specs.Units.{step_of_unit, fault_steps, steps_of, IsFaultAt, BeginsWith}
 use Rattle.gm_shared.specs.declared.tape.Told.{Told}
 use Rattle.gm_shared.specs.Tapes.{events_told}
 use Rattle.gm_server.specs.declared.session.SessionEnd.{SessionEnd}
 use Rattle.gm_server.specs.declared.session.SessionEnd.TheVariants as ends
+use Rattle.gm_server.specs.declared.session.Taken.{Taken}
+use Rattle.gm_server.specs.declared.session.Taken.TheVariants.{Unit as AUnit, Nothing}
 
 -- a read took this count of bytes of the input into the feeder, or none
 abbrev pub IsPiece : Option (List ℕ) → Option (List ℕ) → Stream → Stream → Result ℕ SessionEnd → Type 0
@@ -54,6 +56,19 @@ pub record Reads (taped : Bool) (c : ℕ) (limits : Limits) (old new : Option (L
 abbrev pub Applies : Bool → Step → Result (Unit {0}) SessionEnd → List Told → List Told → Type 0
 Applies taped s (Ok done) share after = Adds taped (s ∷ []) share after
 Applies taped s (Err end) share after = Adds taped [] share after × (IsWhole end → ⊥)
+
+-- the fault that stands next was applied, or nothing was, and the session is over
+pub record Stops (taped : Bool) (c : ℕ) (old : Stream) (end : SessionEnd) (share after : List Told) : Type 0 where
+  pub fault : Option UnitFault
+  pub stands : IfSome fault (λ fault. IsFaultAt old.limits old.pending fault)
+  pub adds : Adds taped (fault_steps c fault) share after
+  pub broken : IsWhole end → ⊥
+
+-- what becomes of the next unit: it was applied; or there is none, and more bytes are waited for; or the session is over
+abbrev pub TakesNext : Bool → ℕ → Stream → Result Taken SessionEnd → List Told → List Told → Stream → Type 0
+TakesNext taped c old (Ok (AUnit is_line)) share after new = (item : Item) × GivesUnit old item new × Adds taped (step_of_unit c item ∷ []) share after
+TakesNext taped c old (Ok Nothing) share after new = GivesNone old new × (after ≡ share)
+TakesNext taped c old (Err end) share after new = Stops taped c old end share after
 
 -- after a piece more bytes are waited for
 pub record GoesOn (taped : Bool) (c : ℕ) (limits : Limits) (bytes : List ℕ) (share after : List Told) (new : Stream) : Type 0 where

@@ -95,6 +95,33 @@ pub(crate) fn write_parts<W: Write>(bytes: &[u8], noop: &[u8], w: &mut W) -> Res
     }
 }
 
+/// As `write_parts`, of drained bytes that are in two parts, each in one write.
+pub(crate) fn write_message<W: Write>(
+    first: &[u8],
+    second: &[u8],
+    noop: &[u8],
+    w: &mut W,
+) -> Result<(), Halt>
+    ensures ok { OnOk result (Appends (W.contents w.old) (W.contents w.new) ((first.now ++ second.now) ++ noop.now)) }
+    ensures halt { IfErr result (λ halt. Parts (W.contents w.old) (W.contents w.new) (first.now ++ second.now) noop.now halt) }
+{
+    if let Err(stop) = write_once(first, w) {
+        return Err(Halt {
+            bytes: stop.written,
+            noop: 0,
+            is_late: stop.is_late,
+        });
+    }
+    match write_parts(second, noop, w) {
+        Ok(()) => Ok(()),
+        Err(halt) => Err(Halt {
+            bytes: first.len() + halt.bytes,
+            noop: halt.noop,
+            is_late: halt.is_late,
+        }),
+    }
+}
+
 /// Writes a turn: the drained bytes, and then a NOOP where one was taken. A fault comes where the writer fails or takes
 /// no byte, and says how many bytes of the turn were written.
 pub fn write_turn<W: Write>(took: bool, drained: &[u8], w: &mut W) -> Result<(), WriteFault>

@@ -1,8 +1,9 @@
 //! What is to be sent to a connection, and how it is sent.
 
-ghost use Rattle.std.specs.Prelude.{◌≡◌, ◌≤◌, [], length};
+ghost use Rattle.std.specs.Prelude.{◌≡◌, ◌≤◌, ◌++◌, [], length, drop};
 
-use crate::message::{noop_if, write_parts};
+use crate::message::{noop_if, write_message};
+use gm_conns::Outgoing;
 use gm_shared::{BookName, Drained, Pen, Shared};
 use std::io::Write;
 use std::sync::Wait;
@@ -10,20 +11,33 @@ use std::sync::Wait;
 /// What is being sent: drained bytes, and then a NOOP where one was taken.
 #[derive(Drop)]
 struct Message {
-    bytes: Vec<u8>,
+    bytes: Outgoing,
     /// How many of the bytes are sent.
     written: usize,
     /// What isn't sent yet of the NOOP.
     noop: &'static [u8],
-    ghost within: { written ≤ length bytes.items },
+    ghost within: { written ≤ length bytes },
+}
+
+/// What is left of two parts behind so many bytes.
+fn rest_of<'a>(parts: (&'a [u8], &'a [u8]), written: usize) -> (&'a [u8], &'a [u8])
+    requires { written ≤ length (parts.0.now ++ parts.1.now) }
+    ensures { result.0.now ++ result.1.now ≡ drop written (parts.entry.0.now ++ parts.entry.1.now) }
+{
+    let (first, second) = parts;
+    if written < first.len() {
+        (&first[written..], second)
+    } else {
+        (&[], &second[written - first.len()..])
+    }
 }
 
 impl Message {
     ghost use Rattle.gm_server.specs.Turns.{turn_of};
     ghost use Rattle.gm_server.specs.Deliveries.{unsent, SendsFront};
 
-    fn new(bytes: Vec<u8>, took: bool) -> Message
-        ensures { unsent result ≡ turn_of took bytes.items }
+    fn new(bytes: Outgoing, took: bool) -> Message
+        ensures { unsent result ≡ turn_of took bytes }
     {
         Message {
             bytes,
@@ -36,7 +50,8 @@ impl Message {
     fn send<W: Write>(&mut self, w: &mut W) -> Delivery
         ensures { SendsFront result (W.contents w.old) (W.contents w.new) (unsent self.old) (unsent self.new) }
     {
-        match write_parts(&self.bytes[self.written..], self.noop, w) {
+        let (first, second) = rest_of(self.bytes.parts(), self.written);
+        match write_message(first, second, self.noop, w) {
             Ok(()) => {
                 self.written = self.bytes.len();
                 self.noop = &[];

@@ -1,17 +1,20 @@
 //! What one connection says, from its opening to its end.
 
-ghost use Rattle.std.specs.Prelude.{◌≡◌, [], IfErr};
+ghost use Rattle.std.specs.Prelude.{◌≡◌, ◌≤◌, [], IfOk, IfErr, IfSome, length, drop};
 ghost use Rattle.std.specs.Io.KnownBytes.{IsAtEnd};
 ghost use Rattle.gm_notes.specs.Servers.{step_of, IsSized};
-ghost use Rattle.gm_server.specs.Sessions.{IsPiece, Applies, Unloads, Reads};
+ghost use Rattle.gm_notes.specs.Steps.{Packet};
+ghost use Rattle.gm_core.specs.Writing.{AreDataOf};
+ghost use Rattle.gm_server.specs.Sessions.{IsPiece, Applies, TakesNext, Unloads, Reads};
 
 use crate::effects::{Effects, Notify};
 use crate::gate::Gate;
-use gm_feeder::{Feeder, Limits, ReadError};
+use gm_bytes::SharedBytes;
+use gm_feeder::{Feeder, Limits, OwnedPacket, ReadError};
 use gm_front::{Next, next_event};
 use gm_notes::{ApplyError, Event};
 use gm_shared::{BookName, Desk, Shared};
-use std::alloc::Global;
+use std::alloc::{AllocError, Global};
 use std::io::{ErrorKind, Read};
 use std::sync::{MutexGuard, Wait};
 use std::time::Instant;
@@ -25,6 +28,9 @@ const FIRST_UNITS: u32 = 2;
 
 /// After how many units a session looks whether its turn is over.
 const UNITS_A_LOOK: u32 = 8;
+
+/// The fewest bytes of data of a packet that is shared and not copied.
+const LONG_PACKET: usize = 65_536;
 
 /// The most pieces that a session reads.
 const MOST_PIECES: u64 = 1_099_511_627_776;
@@ -59,15 +65,16 @@ struct Applier<'s, K: BookName, R, G> {
 }
 
 impl<'s, K: BookName, R: Wait, G: Gate> Applier<'s, K, R, G> {
-    /// Applies an event. Where it is refused, the session is over.
-    fn apply(&mut self, event: Event<'_>) -> Result<(), SessionEnd>
-        requires { IsSized event }
+    /// Applies an event; the data of a packet may be shared. Where it is refused, the session is over.
+    fn apply(&mut self, event: Event<'_>, whole: Option<&SharedBytes>) -> Result<(), SessionEnd>
+        requires size { IsSized event }
+        requires whole { IfSome whole (λ shared. AreDataOf event shared.now) }
         ensures applies { Applies K.taped (step_of event.entry) result self.old.desk.now.share.items self.new.desk.now.share.items }
         ensures same_desk { self.new.desk.ghost_name ≡ self.old.desk.ghost_name }
         ensures number { self.new.desk.now.number ≡ self.old.desk.now.number }
         ensures slot { self.new.slot ≡ self.old.slot }
     {
-        match self.desk.apply(self.rt, self.shared, event) {
+        match self.desk.apply_with(self.rt, self.shared, event, whole) {
             Ok(receipt) => {
                 self.effects.add(&receipt.touched, receipt.mode);
                 Ok(())
@@ -78,8 +85,13 @@ impl<'s, K: BookName, R: Wait, G: Gate> Applier<'s, K, R, G> {
     }
 
     /// Lets a unit pass the gate, and applies it.
-    fn apply_unit(&mut self, event: Event<'_>) -> Result<(), SessionEnd>
-        requires { IsSized event }
+    fn apply_unit(
+        &mut self,
+        event: Event<'_>,
+        whole: Option<&SharedBytes>,
+    ) -> Result<(), SessionEnd>
+        requires size { IsSized event }
+        requires whole { IfSome whole (λ shared. AreDataOf event shared.now) }
         ensures applies { Applies K.taped (step_of event.entry) result self.old.desk.now.share.items self.new.desk.now.share.items }
         ensures same_desk { self.new.desk.ghost_name ≡ self.old.desk.ghost_name }
         ensures number { self.new.desk.now.number ≡ self.old.desk.now.number }
@@ -87,18 +99,35 @@ impl<'s, K: BookName, R: Wait, G: Gate> Applier<'s, K, R, G> {
     {
         self.gate.pass(self.rt, self.slot, self.index);
         self.index = self.index.saturating_add(1);
-        self.apply(event)
+        self.apply(event, whole)
     }
 }
 
 /// A connection's way in: its bytes are cut into units, and each is applied at its desk.
 #[derive(Drop)]
 struct Session<'s, K: BookName, R, G, N> {
+    alloc: Global,
     applier: Applier<'s, K, R, G>,
     feeder: Feeder,
     server: &'s N,
     /// Whether the last long piece had many units, as the next one then has: that waits from its first unit on.
     is_pipelining: bool,
+}
+
+/// What was taken of a connection's bytes.
+#[derive(Clone, Copy)]
+pub(crate) enum Taken {
+    /// A unit, which was applied.
+    Unit { is_line: bool },
+    /// No unit: more bytes are needed.
+    Nothing,
+}
+
+/// The data of a packet, to be shared.
+fn share(alloc: Global, packet: OwnedPacket) -> Result<SharedBytes, AllocError>
+    ensures { IfOk result (λ shared. shared ≡ drop packet.data_at packet.bytes.items) }
+{
+    SharedBytes::new(alloc, packet.bytes)?.suffix(packet.data_at)
 }
 
 /// A session's turn: what it does before others are told what came of that.
@@ -155,6 +184,55 @@ impl<'s, K: BookName, R: Wait, G: Gate, N: Notify<R>> Session<'s, K, R, G, N> {
         }
     }
 
+    /// Takes the next unit that stands in the feeder, or the fault that stands there. A long packet is taken with its
+    /// memory, so that its data are shared and not copied. Where the session is over, it says why.
+    fn take_unit(&mut self, turn: &mut Turn<'s>) -> Result<Taken, SessionEnd>
+        ensures takes { TakesNext K.taped self.old.applier.slot self.old.feeder result self.old.applier.desk.now.share.items self.new.applier.desk.now.share.items self.new.feeder }
+        ensures same_desk { self.new.applier.desk.ghost_name ≡ self.old.applier.desk.ghost_name }
+        ensures number { self.new.applier.desk.now.number ≡ self.old.applier.desk.now.number }
+        ensures slot { self.new.applier.slot ≡ self.old.applier.slot }
+    {
+        let slot = self.applier.slot;
+        if let Some(packet) = self.feeder.take_packet(LONG_PACKET) {
+            turn.admit(self.server, self.applier.rt);
+            self.take_long(packet)?;
+            return Ok(Taken::Unit { is_line: false });
+        }
+        match next_event(&mut self.feeder, slot) {
+            Next::Unit(event) => {
+                let is_line = matches!(event, Event::Line { .. });
+                turn.admit(self.server, self.applier.rt);
+                self.applier.apply_unit(event, None)?;
+                Ok(Taken::Unit { is_line })
+            }
+            Next::Wait => Ok(Taken::Nothing),
+            Next::Fault(fault) => {
+                self.applier.apply(Event::Fault { slot, fault }, None)?;
+                Err(SessionEnd::Shut)
+            }
+        }
+    }
+
+    /// Applies a packet that was taken with its memory.
+    fn take_long(&mut self, packet: OwnedPacket) -> Result<(), SessionEnd>
+        requires { length (drop packet.data_at packet.bytes.items) ≤ 1073741824 }
+        ensures applies { Applies K.taped (Packet self.old.applier.slot packet.kind (drop packet.data_at packet.bytes.items)) result
+            self.old.applier.desk.now.share.items self.new.applier.desk.now.share.items }
+        ensures feeder { self.new.feeder ≡ self.old.feeder }
+        ensures same_desk { self.new.applier.desk.ghost_name ≡ self.old.applier.desk.ghost_name }
+        ensures number { self.new.applier.desk.now.number ≡ self.old.applier.desk.now.number }
+        ensures slot { self.new.applier.slot ≡ self.old.applier.slot }
+    {
+        let slot = self.applier.slot;
+        let kind = packet.kind;
+        let Ok(data) = share(self.alloc, packet) else {
+            return Err(SessionEnd::Memory);
+        };
+        let bytes = data.as_slice();
+        self.applier
+            .apply_unit(Event::Packet { slot, kind, bytes }, Some(&data))
+    }
+
     /// Takes each unit that stands in the feeder, and the fault after them. Where the session is over, it says why. Where
     /// its turn is over, it tells what came of it, and others have theirs.
     fn unload(&mut self, length: usize) -> Result<(), SessionEnd>
@@ -163,25 +241,15 @@ impl<'s, K: BookName, R: Wait, G: Gate, N: Notify<R>> Session<'s, K, R, G, N> {
         ensures number { self.new.applier.desk.now.number ≡ self.old.applier.desk.now.number }
         ensures slot { self.new.applier.slot ≡ self.old.applier.slot }
     {
-        let slot = self.applier.slot;
         let server = self.server;
         let free_units = self.free_units(length);
         let mut turn = Turn::new(free_units);
         loop {
-            let is_line = match next_event(&mut self.feeder, slot) {
-                Next::Unit(event) => {
-                    let is_line = matches!(event, Event::Line { .. });
-                    turn.admit(server, self.applier.rt);
-                    self.applier.apply_unit(event)?;
-                    is_line
-                }
-                Next::Wait => {
+            let is_line = match self.take_unit(&mut turn)? {
+                Taken::Unit { is_line } => is_line,
+                Taken::Nothing => {
                     self.is_pipelining = turn.units > FIRST_UNITS;
                     return Ok(());
-                }
-                Next::Fault(fault) => {
-                    self.applier.apply(Event::Fault { slot, fault })?;
-                    return Err(SessionEnd::Shut);
                 }
             };
             if turn.is_over(server, self.applier.rt, is_line) {
@@ -265,6 +333,7 @@ pub fn read_session<'s, K: BookName, R: Wait, I: Read, G: Gate, N: Notify<R>>(
     ensures number { desk.new.number ≡ desk.old.number }
 {
     let mut session = Session {
+        alloc,
         applier: Applier {
             rt,
             shared,

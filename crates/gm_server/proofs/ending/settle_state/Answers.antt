@@ -1,4 +1,4 @@
-use Rattle.std.proofs.Common.{◌∙◌, ap, sym, subst, get_or, ◌≡◌, true, All, map}
+use Rattle.std.proofs.Common.{◌∙◌, ap, sym, subst, get_or, ◌≡◌, true, map}
 use Rattle.std.proofs.lemmas.List.Elements.{All-map}
 use Rattle.gm_shared.specs.declared.tape.Actor.TheVariants as actors
 use Rattle.gm_shared.specs.Shared.{IsSettled}

@@ -1,4 +1,3 @@
-use Rattle.std.proofs.Common.{List}
 use Rattle.gm_server.proofs.Owning.{tape_own, said_own, drain_own}
 use Rattle.gm_server.proofs.laws.no_slot_speaks_for_another.Goals as goal
 

@@ -1,6 +1,3 @@
-use Rattle.std.proofs.Common.{◌≡◌, ◌∙◌, true, sym, ap, subst}
-use Rattle.gm_shared.specs.declared.tape.Actor.TheVariants as actors
-use Rattle.gm_server.specs.Owners.{is_own_share}
 use Rattle.gm_server.proofs.Owning.{own_reads}
 use Rattle.gm_server.proofs.own_desk.OwnDesk.read.Goals as goal
 

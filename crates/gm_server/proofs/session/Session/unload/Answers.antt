@@ -1,49 +1,51 @@
-use Rattle.std.proofs.Common.{◌∙◌}
+use Rattle.std.proofs.Common.{◌∙◌, Ok, subst}
 use Rattle.std.proofs.lemmas.Result.{err_from_is_err_and}
 use Rattle.gm_front.proofs.Heads.{falls}
-use Rattle.gm_server.proofs.Handing.{unloading_more, unloads_some, unloads_fault}
+use Rattle.gm_server.specs.declared.session.Taken.TheVariants.{Unit as AUnit}
+use Rattle.gm_server.specs.Sessions.{Stops, TakesNext}
+use Rattle.gm_server.proofs.Handing.{unloading_more, unloads_stops}
 use Rattle.gm_server.proofs.session.Session.unload.Goals as goal
 
-pub loop-event-smaller : goal.loop-event-smaller
-loop-event-smaller g c =
-    let e = rw c.in-Unit.is at c.next_event.follows.holds-at-none in
-    falls c.loop-event.self.feeder c.next_event.follows.lender-at-none e.item e.gives
+pub loop-turn-smaller : goal.loop-turn-smaller
+loop-turn-smaller g c =
+    let t = rw c.in-Unit.is at c.in_ok-is_line.ensures.takes in
+    falls c.loop-turn.self.feeder c.take_unit.new.self.feeder t.0 t.1
 
-pub loop-event-preserved : goal.loop-event-preserved
-loop-event-preserved g c = record {
-  unloading = unloading_more _ _ _ _ _ _ _ _ c.loop-event.invariant.unloading _ (rw c.in-Unit.is at c.next_event.follows.holds-at-none) c.in_ok-apply_unit-in-Unit.ensures.applies;
-  same_desk = c.in_ok-apply_unit-in-Unit.ensures.same_desk ∙ c.loop-event.invariant.same_desk;
-  number = c.in_ok-apply_unit-in-Unit.ensures.number ∙ c.loop-event.invariant.number;
-  slot = c.in_ok-apply_unit-in-Unit.ensures.slot ∙ c.loop-event.invariant.slot;
-}
+pub loop-turn-preserved : goal.loop-turn-preserved
+loop-turn-preserved g c =
+    let t = rw c.in-Unit.is at c.in_ok-is_line.ensures.takes in
+    record {
+      unloading = unloading_more _ _ _ _ _ _ _ _ c.loop-turn.invariant.unloading c.in-Unit.is_line
+          (subst (λ slot. TakesNext g.K.BookName.taped slot c.loop-turn.self.feeder (Ok (AUnit c.in-Unit.is_line)) c.loop-turn.self.applier.desk.now.share.items
+          c.take_unit.new.self.applier.desk.now.share.items c.take_unit.new.self.feeder) c.loop-turn.invariant.slot t);
+      same_desk = c.in_ok-is_line.ensures.same_desk ∙ c.loop-turn.invariant.same_desk;
+      number = c.in_ok-is_line.ensures.number ∙ c.loop-turn.invariant.number;
+      slot = c.in_ok-is_line.ensures.slot ∙ c.loop-turn.invariant.slot;
+    }
 
-pub returns-in_err-apply-in-Fault-clause-unloads : goal.returns-in_err-apply-in-Fault-clause-unloads
-returns-in_err-apply-in-Fault-clause-unloads g c =
-    let e = err_from_is_err_and c.from_residual-in_err-apply-in-Fault.result c.from_residual-in_err-apply-in-Fault.ensures.1 in
-    rw (e.1, e.2)
-    (unloads_some g.K.BookName.taped c.args.self.now.applier.slot c.args.self.now.feeder c.args.self.now.applier.desk.now.share.items c.loop-event.self.applier.desk.now.share.items c.apply.new.self.desk.now.share.items c.loop-event.self.feeder
-    c.next_event.follows.lender-at-none c.loop-event.invariant.unloading c.in_err-apply-in-Fault.field-0.0 c.in_err-apply-in-Fault.ensures.applies)
+pub loop-turn-smaller-then-is_over : goal.loop-turn-smaller-then-is_over
+loop-turn-smaller-then-is_over g c =
+    let t = rw c.in-Unit.is at c.in_ok-is_line.ensures.takes in
+    falls c.loop-turn.self.feeder c.take_unit.new.self.feeder t.0 t.1
 
-pub returns-in-Fault-clause-unloads : goal.returns-in-Fault-clause-unloads
-returns-in-Fault-clause-unloads g c =
-    unloads_fault _ _ _ _ _ _ _ _ c.loop-event.invariant.unloading c.in-Fault.fault (rw c.in-Fault.is at c.next_event.follows.holds-at-none) c.in_ok-apply-in-Fault.ensures.applies
+pub loop-turn-preserved-then-is_over : goal.loop-turn-preserved-then-is_over
+loop-turn-preserved-then-is_over g c =
+    let t = rw c.in-Unit.is at c.in_ok-is_line.ensures.takes in
+    record {
+      unloading = unloading_more _ _ _ _ _ _ _ _ c.loop-turn.invariant.unloading c.in-Unit.is_line
+          (subst (λ slot. TakesNext g.K.BookName.taped slot c.loop-turn.self.feeder (Ok (AUnit c.in-Unit.is_line)) c.loop-turn.self.applier.desk.now.share.items
+          c.take_unit.new.self.applier.desk.now.share.items c.take_unit.new.self.feeder) c.loop-turn.invariant.slot t);
+      same_desk = c.in_ok-is_line.ensures.same_desk ∙ c.loop-turn.invariant.same_desk;
+      number = c.in_ok-is_line.ensures.number ∙ c.loop-turn.invariant.number;
+      slot = c.in_ok-is_line.ensures.slot ∙ c.loop-turn.invariant.slot;
+    }
 
-pub loop-event-smaller-then-is_over : goal.loop-event-smaller-then-is_over
-loop-event-smaller-then-is_over g c =
-    let e = rw c.in-Unit.is at c.next_event.follows.holds-at-none in
-    falls c.loop-event.self.feeder c.next_event.follows.lender-at-none e.item e.gives
-
-pub loop-event-preserved-then-is_over : goal.loop-event-preserved-then-is_over
-loop-event-preserved-then-is_over g c = record {
-  unloading = unloading_more _ _ _ _ _ _ _ _ c.loop-event.invariant.unloading _ (rw c.in-Unit.is at c.next_event.follows.holds-at-none) c.in_ok-apply_unit-in-Unit.ensures.applies;
-  same_desk = c.in_ok-apply_unit-in-Unit.ensures.same_desk ∙ c.loop-event.invariant.same_desk;
-  number = c.in_ok-apply_unit-in-Unit.ensures.number ∙ c.loop-event.invariant.number;
-  slot = c.in_ok-apply_unit-in-Unit.ensures.slot ∙ c.loop-event.invariant.slot;
-}
-
-pub returns-in_err-apply_unit-in-Unit-clause-unloads : goal.returns-in_err-apply_unit-in-Unit-clause-unloads
-returns-in_err-apply_unit-in-Unit-clause-unloads g c =
+pub returns-in_err-is_line-clause-unloads : goal.returns-in_err-is_line-clause-unloads
+returns-in_err-is_line-clause-unloads g c =
     let e = err_from_is_err_and c.from_residual.result c.from_residual.ensures.1 in
+    let end = c.in_err-is_line.field-0.0 in
     rw (e.1, e.2)
-    (unloads_some g.K.BookName.taped c.args.self.now.applier.slot c.args.self.now.feeder c.args.self.now.applier.desk.now.share.items c.loop-event.self.applier.desk.now.share.items c.apply_unit.new.self.desk.now.share.items c.loop-event.self.feeder
-    c.next_event.follows.lender-at-none c.loop-event.invariant.unloading c.in_err-apply_unit-in-Unit.field-0.0 c.in_err-apply_unit-in-Unit.ensures.applies)
+    (unloads_stops g.K.BookName.taped c.args.self.now.applier.slot c.args.self.now.feeder c.args.self.now.applier.desk.now.share.items c.loop-turn.self.applier.desk.now.share.items
+    c.take_unit.new.self.applier.desk.now.share.items c.loop-turn.self.feeder c.take_unit.new.self.feeder c.loop-turn.invariant.unloading end
+    (subst (λ slot. Stops g.K.BookName.taped slot c.loop-turn.self.feeder end c.loop-turn.self.applier.desk.now.share.items c.take_unit.new.self.applier.desk.now.share.items)
+    c.loop-turn.invariant.slot c.in_err-is_line.ensures.takes))

@@ -2,13 +2,13 @@ use Rattle.std.proofs.Common.{◌≡◌, length}
 use Rattle.gm_server.proofs.Handing.{Unloading}
 use Rattle.gm_server.proofs.session.Session.unload.Given as goal
 
-abbrev pub invariant-loop-event : goal.invariant-loop-event
-invariant-loop-event g l = record {
-  unloading : Unloading g.K.BookName.taped l.slot l.fn.self.feeder l.fn.self.applier.desk.now.share.items l.self.applier.desk.now.share.items l.self.feeder;
+abbrev pub invariant-loop-turn : goal.invariant-loop-turn
+invariant-loop-turn g l = record {
+  unloading : Unloading g.K.BookName.taped l.fn.self.applier.slot l.fn.self.feeder l.fn.self.applier.desk.now.share.items l.self.applier.desk.now.share.items l.self.feeder;
   same_desk : l.self.applier.desk.ghost_name ≡ l.fn.self.applier.desk.ghost_name;
   number : l.self.applier.desk.now.number ≡ l.fn.self.applier.desk.now.number;
   slot : l.self.applier.slot ≡ l.fn.self.applier.slot;
 }
 
-abbrev pub decreases-loop-event : goal.decreases-loop-event
-decreases-loop-event g l = length l.self.feeder.pending
+abbrev pub decreases-loop-turn : goal.decreases-loop-turn
+decreases-loop-turn g l = length l.self.feeder.pending
