@@ -24,7 +24,7 @@ fn is_opening(rt: &impl Abort, receipt: &Receipt) {
 /// What waits is the answer to an echo of two bytes.
 fn is_echo(rt: &impl Abort, drained: &Drained) {
     let wanted = b"\0RES\0\0\0\x11\0\0\0\x02hi".as_slice();
-    same(rt, "the echo", &drained.bytes.as_slice(), &wanted);
+    same(rt, "the echo", &drained.bytes.parts().0, &wanted);
     same(rt, "shut", &drained.shut, &false);
 }
 

@@ -1,6 +1,7 @@
 //! The table of connections.
 
 use crate::checks::{must, next_random, same};
+use gm_bytes::SharedBytes;
 use gm_conns::Conns;
 use gm_notes::{ApplyError, Phase};
 use std::alloc::{AllocError, Global};
@@ -59,6 +60,54 @@ fn end(rt: &impl Abort, conns: &mut Conns) -> Result<(), AllocError> {
     must(rt, conns.is_open(0));
     conns.close(0);
     must(rt, !conns.is_open(0));
+    Ok(())
+}
+
+// Puts a head and a tail into room that is reserved for them.
+fn put_shared(
+    rt: &impl Abort,
+    conns: &mut Conns,
+    head: &[u8],
+    tail: &SharedBytes,
+) -> Result<(), AllocError> {
+    must(rt, conns.is_open(0));
+    conns.reserve_out(0, 16)?;
+    must(rt, conns.is_open(0));
+    assert!(rt; head.len() <= 8 && tail.as_slice().len() <= 8 && conns.room(0) >= 16);
+    conns.put_shared(0, head, tail);
+    Ok(())
+}
+
+fn assert_takes_out(rt: &impl Abort, conns: &mut Conns, bytes: &[u8]) {
+    must(rt, conns.is_open(0));
+    let out = conns.take_out(0);
+    same(rt, "how much waits", &out.len(), &bytes.len());
+    same(rt, "what waits", &out.into_bytes().as_slice(), &bytes);
+}
+
+// A tail is shared, and copied where more comes behind it.
+fn share(rt: &impl Abort, conns: &mut Conns, tail: &SharedBytes) -> Result<(), AllocError> {
+    put_shared(rt, conns, b"head", tail)?;
+    put_checked(rt, conns, 0, b"on")?;
+    assert_drains(rt, conns, 0, b"headtailon");
+    put_shared(rt, conns, b"to", tail)?;
+    must(rt, conns.is_open(0));
+    let parts = (b"to".as_slice(), b"tail".as_slice());
+    same(rt, "what waits", &conns.waiting(0), &parts);
+    assert_takes_out(rt, conns, b"totail");
+    must(rt, conns.is_open(0));
+    same(rt, "whether bytes wait", &conns.is_waiting(0), &false);
+    Ok(())
+}
+
+#[test]
+fn conns_shared(rt: HostRuntime) -> Result<(), Fail> {
+    let whole = SharedBytes::new(rt.alloc(), Vec::from_slice(rt.alloc(), b"a tail")?)?;
+    assert!(&rt; whole.as_slice().len() == 6);
+    let tail = whole.suffix(2)?;
+    let mut conns = Conns::new(rt.alloc(), 1)?;
+    same(&rt, "an opening", &conns.open(b"a"), &Ok(0));
+    share(&rt, &mut conns, &tail)?;
     Ok(())
 }
 
@@ -235,11 +284,12 @@ fn compare(rt: &impl Abort, conns: &Conns, plain: &Plain, slot: u32) {
         &told,
         &(plain.shut, plain.option, plain.phase),
     );
+    let waiting = conns.waiting(slot);
     same(
         rt,
         "what waits",
-        &conns.waiting(slot),
-        &plain.waiting.as_slice(),
+        &Some(waiting),
+        &plain.waiting.as_slice().split_at_checked(waiting.0.len()),
     );
     for i in 0..5 {
         let ability = plain.abilities.get(i).copied();

@@ -1,6 +1,7 @@
 //! The table of live jobs.
 
 use crate::checks::{must, next_random, same};
+use gm_bytes::SharedBytes;
 use gm_jobs::{Back, JobError, Jobs, NewJob};
 use gm_notes::{Place, Priority};
 use std::alloc::{AllocError, Global};
@@ -134,6 +135,42 @@ fn call_each_anew(rt: &impl Abort, alloc: Global, seed: RandomState) -> Result<(
 fn jobs_ample(rt: HostRuntime) -> Result<(), Fail> {
     let seed = RandomState::new(&rt)?;
     call_each_anew(&rt, rt.alloc(), seed)?;
+    Ok(())
+}
+
+// Makes a job whose body is shared. Its own is ignored.
+fn make_shared(jobs: &mut Jobs, body: SharedBytes) -> Result<Option<u64>, JobError> {
+    jobs.reserve(0, 0, 0)?;
+    if jobs.by_unique(0, b"").is_some() {
+        return Ok(None);
+    }
+    let new = NewJob {
+        f: 0,
+        p: Priority::Low,
+        unique: b"",
+        body: b"b",
+        kept: false,
+        listener: None,
+    };
+    Ok(Some(jobs.insert_shared(new, body)))
+}
+
+fn assert_shared(rt: &impl Abort, jobs: &Jobs) {
+    match jobs.by_number(1) {
+        Some(job) => {
+            same(rt, "a body", &job.body(), &b"body".as_slice());
+            must(rt, job.shared_body().is_some());
+        }
+        None => must(rt, false),
+    }
+}
+
+#[test]
+fn job_with_shared_body(rt: HostRuntime) -> Result<(), Fail> {
+    let body = SharedBytes::new(rt.alloc(), Vec::from_slice(rt.alloc(), b"body")?)?;
+    let mut jobs = Jobs::new(rt.alloc(), RandomState::new(&rt)?, 1)?;
+    same(&rt, "a job", &make_shared(&mut jobs, body), &Ok(Some(1)));
+    assert_shared(&rt, &jobs);
     Ok(())
 }
 
