@@ -24,6 +24,16 @@ open_within [] slot h = absurd (false≢true h)
 open_within (x ∷ xs) zero h = omega arith
 open_within (x ∷ xs) (suc slot) h = omega (arith, open_within xs slot h)
 
+-- a slot more, in which nobody is
+pub closed_more : (conns : List Connection) → ((c : ℕ) → in_slot conns c ≡ closed) → (c : ℕ) → in_slot (conns ++ closed ∷ []) c ≡ closed
+closed_more [] h zero = refl
+closed_more [] h (suc c) = refl
+closed_more (x ∷ xs) h zero = h 0
+closed_more (x ∷ xs) h (suc c) = closed_more xs (λ c. h (suc c)) c
+
+pub below_more : (i n : ℕ) → ((i == n) || nat_lt i n) ≡ nat_lt i (n + 1)
+below_more i n = grind (arith, nat_tests)
+
 chosen : {A : Type 0} (x y z : A) (c slot : ℕ) → (c ≡ slot → x ≡ y) → (c ≢ slot → x ≡ z) → x ≡ (if c == slot then y else z)
 chosen x y z c slot here there = by (c == slot) refl
   where

@@ -1,10 +1,10 @@
 //! What is known of one connection.
 
-ghost use Rattle.std.specs.Prelude.{◌≡◌, ℕ, ◌<◌, ◌≤◌, ◌==◌, not, ◌&&◌, ◌||◌, IsTrue, IfSome, IfNone, OnOk, OnErr, [], ◌++◌, ◌+◌, length, slice_get};
+ghost use Rattle.std.specs.Prelude.{◌≡◌, ℕ, ◌<◌, ◌≤◌, ◌==◌, not, ◌&&◌, ◌||◌, IsTrue, IfSome, IfNone, IfOk, OnOk, OnErr, [], ◌++◌, ◌+◌, length, slice_get};
 ghost use Rattle.gm_conns.specs.Connections.{closed, opened, shut, with_option, with_phase, with_id, with_ability, without_ability};
 ghost use Rattle.gm_conns.specs.Connections.{with_last, with_room, with_bytes, drained, timeout_of, is_able, index_of};
 
-use crate::outgoing::{Outgoing, flatten, tail_slice};
+use crate::outgoing::{Outgoing, Part, flatten, tail_slice};
 use gm_bytes::SharedBytes;
 use gm_notes::Phase;
 use indexmap::IndexMap;
@@ -25,25 +25,30 @@ pub(crate) struct Conn {
     abilities: IndexMap<u32, u32>,
     // The function of its last job.
     last: Option<u32>,
+    // What waits before the other bytes, in parts that end in a large packet each, and how many bytes these are.
+    full: Vec<Part>,
+    full_len: usize,
     waiting: Vec<u8>,
-    // What waits behind those bytes, where a large packet was put last. It is counted in their allocation, so that it can
-    // be copied there.
+    // What waits behind those bytes, where a large packet was put last. All that waits is counted in their allocation, so
+    // that it can be copied there.
     tail: Option<SharedBytes>,
     // How many bytes more there is room for, whatever the allocation has.
     room: usize,
 }
 
 impl Model for Conn {
-    ghost use Rattle.std.specs.Prelude.{◌+◌, ◌≤◌, ◌++◌, [], length};
+    ghost use Rattle.std.specs.Prelude.{◌≡◌, ◌+◌, ◌<◌, ◌≤◌, ◌++◌, [], All, length};
+    ghost use Rattle.std.specs.List.{concat};
     ghost use Rattle.std.specs.Option.{unwrap_or};
     ghost use Rattle.std.specs.Vec.{vec_len, vec_capacity};
     ghost use Rattle.gm_conns.specs.Connections.{Connection};
 
     ghost Value = { Connection };
 
-    ghost view = { λ c. record { is_open = c.open; is_shut = c.shut; has_option = c.option; phase = c.phase; addr = c.addr.items; id = c.id.items; abilities = c.abilities.entries; last = c.last; waiting = c.waiting.items ++ unwrap_or c.tail []; room = c.room } };
+    ghost view = { λ c. record { is_open = c.open; is_shut = c.shut; has_option = c.option; phase = c.phase; addr = c.addr.items; id = c.id.items; abilities = c.abilities.entries; last = c.last; waiting = concat c.full.items ++ (c.waiting.items ++ unwrap_or c.tail []); room = c.room } };
 
-    ghost invariant = { λ c. vec_len c.waiting + length (unwrap_or c.tail []) + c.room ≤ vec_capacity c.waiting };
+    ghost invariant = { λ c. (c.full_len ≡ length (concat c.full.items)) × All (λ part. 0 < length part) c.full.items
+        × (vec_len c.waiting + length (unwrap_or c.tail []) + c.full_len + c.room ≤ vec_capacity c.waiting) };
 }
 
 impl Conn {
@@ -60,6 +65,8 @@ impl Conn {
             id: Vec::new(alloc),
             abilities: IndexMap::new(alloc),
             last: None,
+            full: Vec::new(alloc),
+            full_len: 0,
             waiting: Vec::new(alloc),
             tail: None,
             room: 0,
@@ -232,11 +239,30 @@ impl Conn {
         ensures err { OnErr result (self.new ≡ self.old) }
     {
         if n > self.room {
-            let tail = tail_slice(&self.tail).len();
+            self.set_aside()?;
+            let beside = self.full_len + tail_slice(&self.tail).len();
             self.waiting
-                .reserve(n.checked_add(tail).ok_or(AllocError)?)?;
+                .reserve(n.checked_add(beside).ok_or(AllocError)?)?;
             self.room = n;
         }
+        Ok(())
+    }
+
+    /// Where a large packet was put last, it and the bytes before it become a part, so that it isn't copied where more is put
+    /// behind it.
+    fn set_aside(&mut self) -> Result<(), AllocError>
+        ensures { self.new ≡ self.old }
+    {
+        let tail_len = tail_slice(&self.tail).len();
+        if tail_len == 0 {
+            return Ok(());
+        }
+        let alloc = *self.waiting.allocator();
+        let bytes = Vec::from_slice(alloc, self.waiting.as_slice())?;
+        self.full.reserve(1)?;
+        self.full_len += bytes.len() + tail_len;
+        self.full.push_reserved(Part::new(bytes, self.tail.take()));
+        self.waiting.clear();
         Ok(())
     }
 
@@ -279,7 +305,11 @@ impl Conn {
         ensures conn { self.new ≡ with_bytes bytes.old.items self.old }
         ensures bytes { bytes.new.items ≡ [] }
     {
-        if self.waiting.is_empty() && self.tail.is_none() && self.room <= bytes.capacity() {
+        if self.full.is_empty()
+            && self.waiting.is_empty()
+            && self.tail.is_none()
+            && self.room <= bytes.capacity()
+        {
             self.room -= bytes.len();
             mem::swap(&mut self.waiting, bytes);
         } else {
@@ -288,18 +318,26 @@ impl Conn {
         }
     }
 
-    /// The bytes that wait, in two parts, of which either may be empty.
-    pub(crate) fn waiting(&self) -> (&[u8], &[u8])
-        ensures { result.0.now ++ result.1.now ≡ self.now.waiting }
+    /// A copy of the bytes that wait.
+    pub(crate) fn copy_waiting(&self) -> Result<Vec<u8>, AllocError>
+        ensures { IfOk result (λ copy. copy.items ≡ self.now.waiting) }
     {
-        (self.waiting.as_slice(), tail_slice(&self.tail))
+        let mut copy = Vec::new(*self.waiting.allocator());
+        for part in &self.full {
+            let (first, second) = part.slices();
+            copy.extend_from_slice(first)?;
+            copy.extend_from_slice(second)?;
+        }
+        copy.extend_from_slice(self.waiting.as_slice())?;
+        copy.extend_from_slice(tail_slice(&self.tail))?;
+        Ok(copy)
     }
 
     /// Whether bytes wait.
     pub(crate) fn is_waiting(&self) -> bool
         ensures { result ≡ not (length self.now.waiting == 0) }
     {
-        !self.waiting.is_empty() || !tail_slice(&self.tail).is_empty()
+        !self.full.is_empty() || !self.waiting.is_empty() || !tail_slice(&self.tail).is_empty()
     }
 
     /// Takes out the bytes that wait.
@@ -308,8 +346,9 @@ impl Conn {
         ensures after { self.new ≡ drained self.old }
     {
         self.room = 0;
-        let tail = self.tail.take();
+        self.full_len = 0;
+        let full = mem::replace(&mut self.full, Vec::new(alloc));
         let bytes = mem::replace(&mut self.waiting, Vec::new(alloc));
-        Outgoing::with_tail(bytes, tail)
+        Outgoing::with_parts(full, bytes, self.tail.take())
     }
 }

@@ -384,7 +384,7 @@ impl Conns {
     }
 
     /// The head and the tail wait for the connection, behind the others, in reserved room. The tail is shared: where that
-    /// can't be, it is copied as well. What was shared before is copied now.
+    /// can't be, it is copied as well. A tail that was put since room was last reserved is copied now; others aren't.
     pub fn put_shared(&mut self, slot: u32, head: &[u8], tail: &SharedBytes)
         requires open { IsOpen self.old slot }
         requires room { length head.now + length tail.now ≤ (conn self.old slot).room }
@@ -395,13 +395,13 @@ impl Conns {
         self.touched.insert(slot);
     }
 
-    /// The bytes that wait for the connection, in two parts, of which either may be empty.
-    pub fn waiting(&self, slot: u32) -> (&[u8], &[u8])
+    /// A copy of the bytes that wait for the connection.
+    pub fn copy_waiting(&self, slot: u32) -> Result<Vec<u8>, AllocError>
         requires { IsOpen self.now slot }
-        ensures { result.0.now ++ result.1.now ≡ (conn self.now slot).waiting }
+        ensures { IfOk result (λ copy. copy.items ≡ (conn self.now slot).waiting) }
     {
         let conn = &self.conns[slot as usize];
-        conn.waiting()
+        conn.copy_waiting()
     }
 
     /// Whether bytes wait for the connection.

@@ -78,23 +78,24 @@ fn put_shared(
     Ok(())
 }
 
-fn assert_takes_out(rt: &impl Abort, conns: &mut Conns, bytes: &[u8]) {
+fn assert_takes_out(rt: &impl Abort, conns: &mut Conns, first: (&[u8], &[u8]), rest: &[u8]) {
     must(rt, conns.is_open(0));
-    let out = conns.take_out(0);
-    same(rt, "how much waits", &out.len(), &bytes.len());
-    same(rt, "what waits", &out.into_bytes().as_slice(), &bytes);
+    let mut out = conns.take_out(0);
+    same(rt, "the first part", &out.next_part().slices(), &first);
+    same(rt, "the other bytes", &out.into_bytes().as_slice(), &rest);
 }
 
-// A tail is shared, and copied where more comes behind it.
+// A tail is shared, also where more comes behind it; where room was left for that, it is copied.
 fn share(rt: &impl Abort, conns: &mut Conns, tail: &SharedBytes) -> Result<(), AllocError> {
     put_shared(rt, conns, b"head", tail)?;
     put_checked(rt, conns, 0, b"on")?;
     assert_drains(rt, conns, 0, b"headtailon");
     put_shared(rt, conns, b"to", tail)?;
-    must(rt, conns.is_open(0));
-    let parts = (b"to".as_slice(), b"tail".as_slice());
-    same(rt, "what waits", &conns.waiting(0), &parts);
-    assert_takes_out(rt, conns, b"totail");
+    put_shared(rt, conns, b"and", tail)?;
+    assert_takes_out(rt, conns, (b"to", b"tail"), b"andtail");
+    put_shared(rt, conns, b"to", tail)?;
+    put_shared(rt, conns, b"and", tail)?;
+    assert_drains(rt, conns, 0, b"totailandtail");
     must(rt, conns.is_open(0));
     same(rt, "whether bytes wait", &conns.is_waiting(0), &false);
     Ok(())
@@ -284,13 +285,15 @@ fn compare(rt: &impl Abort, conns: &Conns, plain: &Plain, slot: u32) {
         &told,
         &(plain.shut, plain.option, plain.phase),
     );
-    let waiting = conns.waiting(slot);
-    same(
-        rt,
-        "what waits",
-        &Some(waiting),
-        &plain.waiting.as_slice().split_at_checked(waiting.0.len()),
-    );
+    match conns.copy_waiting(slot) {
+        Ok(copy) => same(
+            rt,
+            "what waits",
+            &copy.as_slice(),
+            &plain.waiting.as_slice(),
+        ),
+        Err(_) => must(rt, false),
+    }
     for i in 0..5 {
         let ability = plain.abilities.get(i).copied();
         same(rt, "an ability", &conns.able(slot, i), &ability);
