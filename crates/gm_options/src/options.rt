@@ -1,6 +1,8 @@
 //! Options, and those of every job server.
 
-ghost use Rattle.std.specs.Prelude.{◌≡◌, ◌≤◌, Some};
+ghost use Rattle.std.specs.Prelude.{◌≡◌, ◌≤◌, ◌∷◌, [], IfOk, Some, codes, false, map, min, ℕ};
+ghost use Rattle.clap.specs.Words.{app_of, found_of, is_broken, items_of, one_text, rule_of};
+ghost use Rattle.gm_options.specs.Options.{number_rule, text_rule, flag_rule, with_server_rules, ReadsNumber, ReadsFlag};
 
 use clap::{Arg, ArgAction, ArgMatches, Command};
 use gm_feeder::Limits;
@@ -21,7 +23,11 @@ pub fn number<'a>(
     default: &'a str,
     help: &'a str,
 ) -> Arg<'a>
-    ensures { result.long ≡ Some name.entry }
+    ensures rule { rule_of result ≡ number_rule name.entry.now least most default.entry.now }
+    ensures long { result.long ≡ Some name.entry }
+    ensures shown { map (λ text. text.now) (items_of result.val_names) ≡ codes "N" ∷ [] }
+    ensures help { result.help ≡ Some help.entry }
+    ensures local { result.global ≡ false }
 {
     Arg::new(alloc, name)
         .long(name)
@@ -39,7 +45,11 @@ pub fn text<'a>(
     default: &'a str,
     help: &'a str,
 ) -> Arg<'a>
-    ensures { result.long ≡ Some name.entry }
+    ensures rule { rule_of result ≡ text_rule name.entry.now default.entry.now }
+    ensures long { result.long ≡ Some name.entry }
+    ensures shown { items_of result.val_names ≡ value.entry ∷ [] }
+    ensures help { result.help ≡ Some help.entry }
+    ensures local { result.global ≡ false }
 {
     Arg::new(alloc, name)
         .long(name)
@@ -50,7 +60,10 @@ pub fn text<'a>(
 
 /// An option that takes nothing.
 pub fn flag<'a>(alloc: Global, name: &'a str, help: &'a str) -> Arg<'a>
-    ensures { result.long ≡ Some name.entry }
+    ensures rule { rule_of result ≡ flag_rule name.entry.now }
+    ensures long { result.long ≡ Some name.entry }
+    ensures help { result.help ≡ Some help.entry }
+    ensures local { result.global ≡ false }
 {
     Arg::new(alloc, name)
         .long(name)
@@ -63,7 +76,10 @@ pub fn flag<'a>(alloc: Global, name: &'a str, help: &'a str) -> Arg<'a>
 pub fn with_server_options<'a>(
     alloc: Global,
     command: Command<'a>,
-) -> Result<Command<'a>, AllocError> {
+) -> Result<Command<'a>, AllocError>
+    ensures options { IfOk result (λ made. app_of made ≡ with_server_rules (app_of command.entry)) }
+    ensures broken { IfOk result (λ made. is_broken made ≡ is_broken command.entry) }
+{
     command
         .arg(number(
             alloc,
@@ -110,7 +126,13 @@ pub struct ServerOptions {
 }
 
 /// What the options of every job server ask for, where the command had them.
-pub fn server_options(matches: &ArgMatches<'_>) -> ServerOptions {
+pub fn server_options(matches: &ArgMatches<'_>) -> ServerOptions
+    ensures slots { ReadsNumber (one_text (found_of matches.now) (codes "slots")) 64 result.slots }
+    ensures max_data { (max : ℕ) × ReadsNumber (one_text (found_of matches.now) (codes "max-data")) 67108864 max × (result.limits.max_bytes ≡ min max 1073741824) }
+    ensures max_line { result.limits.max_line ≡ 1024 }
+    ensures round_robin { ReadsFlag (one_text (found_of matches.now) (codes "round-robin")) result.round_robin }
+    ensures job_retries { ReadsNumber (one_text (found_of matches.now) (codes "job-retries")) 0 result.job_retries }
+{
     let max_data = matches.get_one::<u32>("max-data").unwrap_or(67_108_864);
     ServerOptions {
         slots: matches.get_one::<u32>("slots").unwrap_or(64),

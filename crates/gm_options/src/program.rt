@@ -17,7 +17,7 @@ pub enum ArgumentsError {
 }
 
 impl ArgumentsError {
-    ghost use Rattle.gm_options.specs.Statuses.{arguments_status};
+    ghost use Rattle.gm_options.specs.Statuses.{arguments_status, arguments_text};
 
     /// The status that a program ends with for it.
     pub fn status(self) -> u8
@@ -30,7 +30,9 @@ impl ArgumentsError {
     }
 
     /// What a program says of it.
-    pub fn text(self) -> &'static str {
+    pub fn text(self) -> &'static str
+        ensures { result.now ≡ arguments_text self }
+    {
         match self {
             ArgumentsError::NotText => "invalid arguments: not text",
             ArgumentsError::Memory => "out of memory",
@@ -47,6 +49,11 @@ impl From<AllocError> for ArgumentsError {
 }
 
 impl From<io::Error> for ArgumentsError {
+    ghost use Rattle.std.specs.IoError.{error_kind};
+    ghost use Rattle.gm_options.specs.Statuses.{arguments_error};
+
+    ghost from_gives = { λ error e. e ≡ arguments_error (error_kind error) };
+
     fn from(error: io::Error) -> ArgumentsError {
         match error.kind() {
             io::ErrorKind::OutOfMemory => ArgumentsError::Memory,
