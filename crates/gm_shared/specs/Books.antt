@@ -63,6 +63,11 @@ pub record BookedAgrees (booked : Booked) (k : Settings) (steps : List Step) : T
 abbrev pub IsIdle : List ℕ × Phase × Bool → Type 0
 IsIdle (bytes, goes, is_shut) = (bytes ≡ []) × (goes ≡ Owed → ⊥) × (is_shut ≡ false)
 
+-- the event's own slot is in none of these, if it is open and nothing is to be delivered there
+abbrev pub IsLeftOut : Step → List ℕ → Booked → Type 0
+IsLeftOut s touched booked = (c : ℕ) → slot_of s ≡ Some c → c < booked.slots → (conn booked.core.conns c).is_open ≡ true
+    → IsIdle (outbox (conn booked.core.conns c)) → has touched c ≡ false
+
 -- the event was taken after these steps, and the receipt tells so
 pub record IsTaken (k : Settings) (steps : List Step) (s : Step) (receipt : Receipt) (old new : Booked) : Type 0 where
   pub taken : refusal k s (run k steps) ≡ None
@@ -72,6 +77,7 @@ pub record IsTaken (k : Settings) (steps : List Step) (s : Step) (receipt : Rece
   -- whose waiting bytes, phase or shut changed is among the touched slots, unless nothing is to be delivered there
   pub touched : (c : ℕ) → has receipt.touched c ≡ false
       → (outbox (conn new.core.conns c) ≡ outbox (conn old.core.conns c)) ⊎ IsIdle (outbox (conn new.core.conns c))
+  pub left_out : IsLeftOut s receipt.touched new
 
 abbrev pub IsDone : Settings → List Step → Step → Result Receipt ApplyError → Booked → Booked → Type 0
 IsDone k steps s (Ok receipt) old new = IsTaken k steps s receipt old new

@@ -1,6 +1,6 @@
 //! The book.
 
-ghost use Rattle.std.specs.Prelude.{◌≡◌, ◌⊎◌, ◌<◌, ◌≤◌, ◌++◌, ℕ, [], List, IfOk, IfSome, true, false, length};
+ghost use Rattle.std.specs.Prelude.{◌≡◌, ◌⊎◌, ◌<◌, ◌≤◌, ◌++◌, ℕ, [], List, IfOk, IfSome, true, false, length, None};
 ghost use Rattle.gm_conns.specs.Slots.{has};
 ghost use Rattle.gm_conns.specs.ConnTables.{conn, is_touched};
 ghost use Rattle.gm_word.specs.Seats.{fresh_pens};
@@ -41,7 +41,7 @@ pub struct Booked {
 
 impl Booked {
     ghost use Rattle.gm_laws.specs.Laws.{MayBeTakenLater};
-    ghost use Rattle.gm_shared.specs.Books.{Holds, BookedAgrees, Held, NeedsNoMemory, Drains, AsksWord, FollowsAt, FollowsCore, IsIdle};
+    ghost use Rattle.gm_shared.specs.Books.{Holds, BookedAgrees, Held, NeedsNoMemory, Drains, AsksWord, FollowsAt, FollowsCore, IsIdle, IsLeftOut};
     ghost use Rattle.gm_shared.specs.Events.{takes_back, slot_of, MayFind, entered};
     ghost use Rattle.gm_shared.specs.Tapes.{is_on};
 
@@ -139,6 +139,8 @@ impl Booked {
 
     /// What is to be freed once no lock is held: the body of a job that ended.
     pub(crate) fn take_ended(&mut self) -> Option<SharedBytes>
+        ensures body { result ≡ self.old.core.ended }
+        ensures taken { self.new.core.ended ≡ None }
         ensures agrees { (k : Settings) (steps : List Step) → BookedAgrees self.old k steps → BookedAgrees self.new k steps }
         ensures seat { self.new.seat ≡ self.old.seat }
         ensures tape { self.new.tape ≡ self.old.tape }
@@ -174,9 +176,7 @@ impl Booked {
         if !conns.is_open(slot) {
             return Err(ApplyError::NotOpen);
         }
-        let copies = self
-            .tape
-            .room_for_bytes(self.alloc, share, conns.waiting(slot))?;
+        let copies = self.tape.room_for_bytes(share, conns, slot)?;
         let shut = self.core.shut(slot);
         let bytes = self.core.take_out(slot);
         // The drain touched its slot, for which no writer has anything to do.
@@ -277,9 +277,10 @@ impl Booked {
         touched
     }
 
-    /// Whether nothing is to be delivered to a slot.
+    /// Whether a slot is open, and nothing is to be delivered there.
     fn is_idle(&self, slot: u32) -> bool
-        ensures { result ≡ true → IsIdle (outbox (conn self.now.core.conns slot)) }
+        ensures idle { result ≡ true → IsIdle (outbox (conn self.now.core.conns slot)) }
+        ensures busy { result ≡ false → (conn self.now.core.conns slot).is_open ≡ true → IsIdle (outbox (conn self.now.core.conns slot)) → ⊥ }
     {
         let (conns, _, _) = self.core.parts();
         conns.is_open(slot)
@@ -291,7 +292,8 @@ impl Booked {
     /// Takes the event's own slot out of those that it touched, if nothing is to be delivered there: a worker that goes to
     /// sleep.
     fn leave_out_idle(&self, event: &Event<'_>, touched: &mut SlotSet)
-        ensures { (c : ℕ) → has touched.new c ≡ false → (has touched.old c ≡ false) ⊎ IsIdle (outbox (conn self.now.core.conns c)) }
+        ensures others { (c : ℕ) → has touched.new c ≡ false → (has touched.old c ≡ false) ⊎ IsIdle (outbox (conn self.now.core.conns c)) }
+        ensures own { IsLeftOut (step_of event.now) touched.new self.now }
     {
         if let Some(slot) = slot_of(event)
             && slot < self.slots

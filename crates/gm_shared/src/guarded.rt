@@ -1,9 +1,10 @@
 //! What the lock guards.
 
-ghost use Rattle.std.specs.Prelude.{◌≡◌, IfSome};
+ghost use Rattle.std.specs.Prelude.{◌≡◌, List, IfSome};
+ghost use Rattle.gm_notes.specs.Steps.{Step};
 ghost use Rattle.gm_notes.specs.Servers.{step_of, IsSized};
 ghost use Rattle.gm_core.specs.Writing.{AreDataOf};
-ghost use Rattle.gm_shared.specs.Books.{NeedsNoMemory};
+ghost use Rattle.gm_shared.specs.Books.{BookedAgrees, Held, NeedsNoMemory, Drains};
 ghost use Rattle.gm_shared.specs.Shared.{IsGuarded, Applied, Emptied};
 ghost use Rattle.std.specs.Result.{IsErrOf};
 
@@ -38,6 +39,7 @@ impl<K: BookName> Model for Guarded<K> {
 impl<K: BookName> Guarded<K> {
     pub(crate) fn new(booked: Booked) -> Guarded<K>
         requires { IsGuarded K.table K.settings K.taped booked }
+        ensures { result ≡ booked }
     {
         Guarded {
             booked,
@@ -58,6 +60,8 @@ impl<K: BookName> Guarded<K> {
         requires whole { IfSome whole (λ shared. AreDataOf event.now shared.now) }
         requires table { table.now ≡ K.table }
         ensures applied { Applied K.settings K.taped (step_of event.now) desk result.0 share.old.items share.new.items }
+        ensures holding { (steps : List Step) → BookedAgrees self.old K.settings steps
+            → (told : List Told) × (new : Booked) × Held K.settings steps (step_of event.now) desk result.0 self.old new told }
         ensures memory { NeedsNoMemory K.taped (step_of event.now) → IsErrOf result.0 ApplyError.Memory → ⊥ }
     {
         let result = self.booked.hold(table, desk, event, whole, share);
@@ -71,14 +75,17 @@ impl<K: BookName> Guarded<K> {
         slot: u32,
         share: &mut Vec<Told>,
     ) -> Result<Drained, ApplyError>
-        ensures { Emptied K.settings K.taped pen slot result share.old.items share.new.items }
+        ensures emptied { Emptied K.settings K.taped pen slot result share.old.items share.new.items }
+        ensures drains { (steps : List Step) → BookedAgrees self.old K.settings steps
+            → (told : List Told) × Drains K.settings steps pen slot result self.old self.new told }
     {
         self.booked.drain_into(pen, slot, share)
     }
 
     /// The book, which is under no lock any more.
     pub(crate) fn into_book(self) -> Booked
-        ensures { IsGuarded K.table K.settings K.taped result }
+        ensures book { result ≡ self }
+        ensures guarded { IsGuarded K.table K.settings K.taped result }
     {
         self.booked
     }

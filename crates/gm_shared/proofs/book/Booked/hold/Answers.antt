@@ -86,7 +86,8 @@ returns-clause-holding c = λ k steps h.
             holds = agrees_after k event before c.resolve_noop-noop.new.self _ c.follow-touched.new.self c.follow-touched.result found.1 refl refl answer.1 c.in_ok-done.ensures.touched c.follow-touched.ensures.follows calm;
             tape = all_kept;
           };
-          touched = λ d left. elim (c.leave_out_idle.ensures d left) [ inr idle ↦ inr idle | inl was ↦ inl (lanes_after k event before c.resolve_noop-noop.new.self _ c.follow-touched.new.self c.follow-touched.result found.1 refl refl answer.1 c.in_ok-done.ensures.touched c.follow-touched.ensures.follows calm c.args.self.now steps h.holds.core c.resolve_noop-noop.ensures.touched d was) ];
+          touched = λ d left. elim (c.leave_out_idle.ensures.others d left) [ inr idle ↦ inr idle | inl was ↦ inl (lanes_after k event before c.resolve_noop-noop.new.self _ c.follow-touched.new.self c.follow-touched.result found.1 refl refl answer.1 c.in_ok-done.ensures.touched c.follow-touched.ensures.follows calm c.args.self.now steps h.holds.core c.resolve_noop-noop.ensures.touched d was) ];
+          left_out = c.leave_out_idle.ensures.own;
         };
         tape = grows_twice (noop_entries desk noop) _ old then_ new _ _ noop_all last;
         place = c.enter_event-at.ensures.place (tape_step (step_of event)) copies ∙ place_after _ old then_ _ noop_all;

@@ -6,5 +6,5 @@ pub invariant_of-self : goal.invariant_of-self
 invariant_of-self g c = record {
   named = search rules;
   sits = search rules;
-  own = emptied_own _ _ _ _ _ _ c.drain.ensures c.args.self.now.own;
+  own = emptied_own _ _ _ _ _ _ c.drain.ensures.emptied c.args.self.now.own;
 }
