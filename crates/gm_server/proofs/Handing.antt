@@ -5,11 +5,12 @@ use Rattle.std.specs.Prelude.{IfSome}
 use Rattle.std.proofs.lemmas.List.{append-nil, append_assoc, map-append}
 use Rattle.std.specs.Io.KnownBytes.{Consumes}
 use Rattle.gm_feeder.specs.declared.units.Limits.{Limits}
-use Rattle.gm_feeder.specs.Units.{Item, Waits}
+use Rattle.gm_feeder.specs.Units.{Item, IsUnitThen, Waits}
 use Rattle.gm_feeder.specs.Streams.{Stream, GivesUnit, GivesNone, TakesIn, with_bytes}
 use Rattle.gm_feeder.proofs.HeadLemmas.{empty_goes_on}
 use Rattle.gm_feeder.proofs.StreamLemmas.{unit_not_empty}
 use Rattle.gm_notes.specs.declared.event.UnitFault.{UnitFault}
+use Rattle.gm_notes.specs.Settings.{Settings}
 use Rattle.gm_notes.specs.Steps.{Step, Fault}
 use Rattle.gm_front.specs.Units.{step_of_unit, steps_of, IsFaultAt, BeginsWith, GivesEvent, GivesFaultAs}
 use Rattle.gm_front.proofs.Heads.{begins_then, begins_stay, begins_more}
@@ -18,7 +19,7 @@ use Rattle.gm_shared.specs.Tapes.{events_told}
 use Rattle.gm_server.specs.declared.session.SessionEnd.{SessionEnd}
 use Rattle.gm_server.specs.declared.session.SessionEnd.TheVariants as ends
 use Rattle.gm_server.specs.declared.session.Taken.TheVariants.{Unit as AUnit, Nothing}
-use Rattle.gm_server.specs.Sessions.{Adds, HandsIn, Reads, Applies, Stops, TakesNext, Unloads}
+use Rattle.gm_server.specs.Sessions.{Adds, HandsIn, Reads, Applies, Stops, TakesNext, Unloads, Breaks, IsShutBy, StandsNext, unit, broken}
 
 -- ---- events told, one after another
 
@@ -59,7 +60,7 @@ hands taped c limits bytes rest fault share mid after h stands adds = record {
   adds = adds_then taped (map (step_of_unit c) h.items) (steps_of c [] fault) share mid after h.adds adds;
 }
 
--- so many units of the feeder were handed in
+-- some units of the feeder were handed in, and the rest stands there still
 pub record Unloading (taped : Bool) (c : ℕ) (old : Stream) (share after : List Told) (new : Stream) : Type 0 where
   pub handed : Handed taped c old.limits old.pending new.pending share after
   pub limited : new.limits ≡ old.limits
@@ -67,8 +68,8 @@ pub record Unloading (taped : Bool) (c : ℕ) (old : Stream) (share after : List
 pub unloading_none : (taped : Bool) (c : ℕ) (old : Stream) (share : List Told) → Unloading taped c old share share old
 unloading_none taped c old share = record { handed = handed_none taped c old.limits old.pending share; limited = refl }
 
-module _ (taped : Bool) (c : ℕ) (old : Stream) (share mid_share after : List Told) (mid new : Stream) (u : Unloading taped c old share mid_share mid) where
-  pub unloading_more : (is_line : Bool) → TakesNext taped c mid (Ok (AUnit is_line)) mid_share after new → Unloading taped c old share after new
+module _ (k : Settings) (taped : Bool) (desk c : ℕ) (old : Stream) (share mid_share after : List Told) (mid new : Stream) (u : Unloading taped c old share mid_share mid) where
+  pub unloading_more : (is_line : Bool) → TakesNext k taped desk c mid (Ok (AUnit is_line)) mid_share after new → Unloading taped c old share after new
   unloading_more is_line t = record {
     handed = record {
       items = u.handed.items ++ t.0 ∷ [];
@@ -79,7 +80,7 @@ module _ (taped : Bool) (c : ℕ) (old : Stream) (share mid_share after : List T
     limited = ap (λ (s : Stream). s.limits) t.1.kept ∙ u.limited;
   }
 
-  pub unloads_all : TakesNext taped c mid (Ok Nothing) mid_share after new → Unloads taped c old (Ok tt) share after new
+  pub unloads_all : TakesNext k taped desk c mid (Ok Nothing) mid_share after new → Unloads k taped desk c old (Ok tt) share after new
   unloads_all t = record {
     hands = hands taped c old.limits old.pending new.pending None share mid_share after
         (subst (λ (s : Stream). Handed taped c old.limits old.pending s.pending share mid_share) (sym t.0.kept) u.handed) tt
@@ -89,36 +90,55 @@ module _ (taped : Bool) (c : ℕ) (old : Stream) (share mid_share after : List T
   }
 
   -- the unit that stands there was refused, or the fault was applied
-  pub unloads_stops : (end : SessionEnd) → Stops taped c mid end mid_share after → Unloads taped c old (Err end) share after new
+  pub unloads_stops : (end : SessionEnd) → Stops k taped desk c mid end mid_share after → Unloads k taped desk c old (Err end) share after new
   unloads_stops end t = record {
     rest = mid.pending;
     fault = t.fault;
     hands = hands taped c old.limits old.pending mid.pending t.fault share mid_share after u.handed
         (subst (λ (l : Limits). IfSome t.fault (λ fault. IsFaultAt l mid.pending fault)) u.limited t.stands) t.adds;
     broken = t.broken;
+    shut = λ is. subst (λ (l : Limits). IsShutBy k taped desk c l mid.pending t.fault after) u.limited (t.shut is);
   }
 
 -- ---- the next unit
 
-module _ (taped : Bool) (c : ℕ) (old mid new : Stream) (share after : List Told) (same : mid ≡ old) where
-  pub next_unit : (s : Step) (is_line : Bool) → GivesEvent c mid s new → Applies taped s (Ok tt) share after → TakesNext taped c old (Ok (AUnit is_line)) share after new
+module _ (k : Settings) (taped : Bool) (desk c : ℕ) (old mid new : Stream) (share after : List Told) (same : mid ≡ old) where
+  pub next_unit : (s : Step) (is_line : Bool) → GivesEvent c mid s new → Applies k taped desk s (Ok tt) share after → TakesNext k taped desk c old (Ok (AUnit is_line)) share after new
   next_unit s is_line g applies =
       (g.item, subst (λ (m : Stream). GivesUnit m g.item new) same g.gives, adds_same taped _ _ share after (ap (λ (x : Step). x ∷ []) g.is_step) applies)
 
-  pub next_none : GivesNone mid new → after ≡ share → TakesNext taped c old (Ok Nothing) share after new
+  pub next_none : GivesNone mid new → after ≡ share → TakesNext k taped desk c old (Ok Nothing) share after new
   next_none g left = (subst (λ (m : Stream). GivesNone m new) same g, left)
 
-  pub next_fault : (fault : UnitFault) → GivesFaultAs mid fault new → Applies taped (Fault c fault) (Ok tt) share after → Stops taped c old ends.Shut share after
+  fault_stands : (fault : UnitFault) → GivesFaultAs mid fault new → IsFaultAt old.limits old.pending fault
+  fault_stands fault g = subst (λ (m : Stream). IsFaultAt m.limits m.pending fault) same (record { fed = g.fed; named = g.named; stands = g.gives.stands })
+
+  pub next_fault : (fault : UnitFault) → GivesFaultAs mid fault new → Applies k taped desk (Fault c fault) (Ok tt) share after → Stops k taped desk c old ends.Shut share after
   next_fault fault g applies = record {
     fault = Some fault;
-    stands = subst (λ (m : Stream). IsFaultAt m.limits m.pending fault) same (record { fed = g.fed; named = g.named; stands = g.gives.stands });
+    stands = fault_stands fault g;
     adds = applies;
     broken = λ whole. whole;
+    shut = λ is. tt;
   }
 
--- a unit or a fault that was refused
-pub next_stops : (taped : Bool) (c : ℕ) (old : Stream) (s : Step) (end : SessionEnd) (share after : List Told) → Applies taped s (Err end) share after → Stops taped c old end share after
-next_stops taped c old s end share after applies = record { fault = None; stands = tt; adds = applies.0; broken = applies.1 }
+  -- a unit or a fault that was refused
+  stops : (s : Step) (end : SessionEnd) → StandsNext c old.limits old.pending s → Applies k taped desk s (Err end) share after → Stops k taped desk c old end share after
+  stops s end stands applies = record { fault = None; stands = tt; adds = applies.0; broken = applies.1; shut = λ is. (s, stands, applies.2 is) }
+
+  pub unit_stops : (s : Step) (end : SessionEnd) → GivesEvent c mid s new → Applies k taped desk s (Err end) share after → Stops k taped desk c old end share after
+  unit_stops s end g applies =
+      stops s end (subst (λ (x : Step). StandsNext c old.limits old.pending x) (sym g.is_step)
+      (unit g.item new.pending (subst (λ (m : Stream). IsUnitThen m.limits m.pending g.item new.pending) same g.gives.unit))) applies
+
+  pub fault_stops : (fault : UnitFault) (end : SessionEnd) → GivesFaultAs mid fault new → Applies k taped desk (Fault c fault) (Err end) share after → Stops k taped desk c old end share after
+  fault_stops fault end g applies = stops (Fault c fault) end (broken fault (fault_stands fault g)) applies
+
+-- a packet that was taken with its memory was refused
+pub packet_stops : (k : Settings) (taped : Bool) (desk c : ℕ) (old new : Stream) (item : Item) (s : Step) (end : SessionEnd) (share after : List Told) → s ≡ step_of_unit c item → GivesUnit old item new
+    → Applies k taped desk s (Err end) share after → Stops k taped desk c old end share after
+packet_stops k taped desk c old new item s end share after is g applies =
+    unit_stops k taped desk c old old new share after refl s end (record { item = item; is_step = is; gives = g }) applies
 
 -- ---- a session
 
@@ -156,7 +176,7 @@ reading_none taped c old share feeder empty = record {
   waits = subst (λ rest. Waits feeder.limits rest) (sym empty) (waits_none feeder.limits);
 }
 
-module _ (taped : Bool) (c : ℕ) (limits : Limits) (old now new : Option (List ℕ)) (share mid after : List Told) (feeder : Stream) (r : Reading taped c limits old now share mid feeder) where
+module _ (k : Settings) (taped : Bool) (desk c : ℕ) (limits : Limits) (old now new : Option (List ℕ)) (share mid after : List Told) (feeder : Stream) (r : Reading taped c limits old now share mid feeder) where
   -- more units, and the fault behind them, after those that were handed in
   hands_more : (piece rest : List ℕ) (fault : Option UnitFault) → HandsIn taped c feeder.limits (feeder.pending ++ piece) rest fault mid after → HandsIn taped c limits (r.read ++ piece) rest fault share after
   hands_more piece rest fault h =
@@ -168,9 +188,9 @@ module _ (taped : Bool) (c : ℕ) (limits : Limits) (old now new : Option (List 
         adds = adds_same taped _ _ share after (steps_then c r.handed.items h.items fault) (adds_then taped _ _ share mid after r.handed.adds h.adds);
       }
 
-  pub reading_more : (d : ℕ) → d ≡ c → (len : ℕ) (fed next : Stream) → TakesIn now new feeder fed len → Unloads taped d fed (Ok tt) mid after next → Reading taped c limits old new share after next
+  pub reading_more : (d : ℕ) → d ≡ c → (len : ℕ) (fed next : Stream) → TakesIn now new feeder fed len → Unloads k taped desk d fed (Ok tt) mid after next → Reading taped c limits old new share after next
   reading_more d here len fed next came taken =
-      let t = subst (λ (slot : ℕ). Unloads taped slot (with_bytes feeder came.piece) (Ok tt) mid after next) here (subst (λ (s : Stream). Unloads taped d s (Ok tt) mid after next) came.kept taken) in
+      let t = subst (λ (slot : ℕ). Unloads k taped desk slot (with_bytes feeder came.piece) (Ok tt) mid after next) here (subst (λ (s : Stream). Unloads k taped desk d s (Ok tt) mid after next) came.kept taken) in
       let more = hands_more came.piece next.pending None t.hands in
       record {
         read = r.read ++ came.piece;
@@ -180,21 +200,23 @@ module _ (taped : Bool) (c : ℕ) (limits : Limits) (old now new : Option (List 
         waits = subst (λ (l : Limits). Waits l next.pending) r.limited t.waits;
       }
 
-  pub reading_ends : (end : SessionEnd) → Consumes now new [] → Reads taped c limits old new end share mid
-  reading_ends end consumes = record {
+  pub reading_ends : (end : SessionEnd) → Consumes now new [] × (end ≡ ends.Shut → ⊥) → Reads k taped desk c limits old new end share mid
+  reading_ends end kept = record {
     read = r.read ++ [];
-    consumes = consumes_then old now new r.read [] r.consumes consumes;
+    consumes = consumes_then old now new r.read [] r.consumes kept.0;
     rest = feeder.pending;
     fault = None;
     hands = hands taped c limits (r.read ++ []) feeder.pending None share mid mid
         (subst (λ bytes. Handed taped c limits bytes feeder.pending share mid) (sym (append-nil r.read)) r.handed) tt (adds_none taped mid);
     whole = λ w. (refl, r.waits);
+    shut = λ is. absurd (kept.1 is);
   }
 
-  pub reading_breaks : (d : ℕ) → d ≡ c → (len : ℕ) (fed next : Stream) (end : SessionEnd) → TakesIn now new feeder fed len → Unloads taped d fed (Err end) mid after next
-      → Reads taped c limits old new end share after
-  reading_breaks d here len fed next end came taken =
-      let t = subst (λ (slot : ℕ). Unloads taped slot (with_bytes feeder came.piece) (Err end) mid after next) here (subst (λ (s : Stream). Unloads taped d s (Err end) mid after next) came.kept taken) in
+  pub reading_breaks : (n d : ℕ) → n ≡ desk → d ≡ c → (len : ℕ) (fed next : Stream) (end : SessionEnd) → TakesIn now new feeder fed len → Unloads k taped n d fed (Err end) mid after next
+      → Reads k taped desk c limits old new end share after
+  reading_breaks n d same here len fed next end came taken =
+      let t = subst (λ (slot : ℕ). Breaks k taped desk slot feeder.limits (feeder.pending ++ came.piece) end mid after) here
+      (subst (λ (i : ℕ). Breaks k taped i d feeder.limits (feeder.pending ++ came.piece) end mid after) same (subst (λ (s : Stream). Unloads k taped n d s (Err end) mid after next) came.kept taken)) in
       record {
         read = r.read ++ came.piece;
         consumes = consumes_then old now new r.read came.piece r.consumes came.consumes;
@@ -202,4 +224,5 @@ module _ (taped : Bool) (c : ℕ) (limits : Limits) (old now new : Option (List 
         fault = t.fault;
         hands = hands_more came.piece t.rest t.fault t.hands;
         whole = λ w. absurd (t.broken w);
+        shut = λ is. subst (λ (l : Limits). IsShutBy k taped desk c l t.rest t.fault after) r.limited (t.shut is);
       }

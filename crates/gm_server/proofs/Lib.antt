@@ -3,4 +3,5 @@ mod Handing
 mod Owning
 mod Promised
 mod Serving
+mod Sending
 mod Writing

@@ -1,10 +1,10 @@
 -- Whose the entries of a tape are.
 use Rattle.std.proofs.Common.{◌≡◌, ℕ, zero, suc, ◌+◌, ◌≤◌, Bool, true, false, if◌then◌else◌, List, [], ◌∷◌, ◌++◌, length, map, All}
-use Rattle.std.proofs.Common.{Option, Some, None, Result, Ok, Err, refl, sym, ap, subst, ◌∙◌, arith, add-one}
+use Rattle.std.proofs.Common.{Option, Some, None, Result, Ok, Err, refl, sym, ap, subst, ◌∙◌, arith, add-one, length-append}
 use Rattle.std.specs.Prelude.{◌==◌, ◌&&◌, ◌<◌, get_or, drop}
 use Rattle.std.proofs.lemmas.List.{map-append, append_assoc, append_cancel_left}
 use Rattle.std.proofs.lemmas.List.Elements.{All-push, All-append}
-use Rattle.std.proofs.Math.Seq.{drop-cons}
+use Rattle.std.proofs.Math.Seq.{drop-cons, drop-append-add}
 use Rattle.std.proofs.lemmas.Bool.Decides.{nat_tests}
 use Rattle.gm_feeder.specs.Units.{Item, APacket, ALine}
 use Rattle.gm_feeder.specs.declared.units.Limits.{Limits}
@@ -75,9 +75,9 @@ own_units true c limits bytes rest fault share after hands h =
 own_units false c limits bytes rest fault share after hands h = refl
 
 -- what a session reads is said at its desk
-pub own_reads : (taped : Bool) (n m c : ℕ) (limits : Limits) (old new : Option (List ℕ)) (end : SessionEnd) (share after : List Told) → c ≡ n → m ≡ n
-    → Reads taped c limits old new end share after → is_own_share taped (Desk n) share ≡ true → is_own_share taped (Desk m) after ≡ true
-own_reads taped n m c limits old new end share after here same reads own =
+pub own_reads : (k : Settings) (taped : Bool) (desk n m c : ℕ) (limits : Limits) (old new : Option (List ℕ)) (end : SessionEnd) (share after : List Told) → c ≡ n → m ≡ n
+    → Reads k taped desk c limits old new end share after → is_own_share taped (Desk n) share ≡ true → is_own_share taped (Desk m) after ≡ true
+own_reads k taped desk n m c limits old new end share after here same reads own =
     ap (λ (i : ℕ). is_own_share taped (Desk i) after) (same ∙ sym here)
     ∙ own_units taped c limits reads.read reads.rest reads.fault share after reads.hands (ap (λ (i : ℕ). is_own_share taped (Desk i) share) here ∙ own)
 
@@ -351,6 +351,17 @@ module _ (shares left left_after : List Share) (actors rest rest_after : List Ac
 -- what a list keeps with one more at its end
 pub all_then : {A : Type 0} (P : A → Type 0) (xs all : List A) (x : A) → all ≡ xs ++ x ∷ [] → All P xs → P x → All P all
 all_then P xs all x is each last = subst (All P) (sym is) (All-push P xs x each last)
+
+-- one is moved from the head of what is left to the end of what was made
+pub one_more : {A B : Type 0} (xs all : List A) (x : A) (left rest : List B) (y : B) (n : ℕ) → all ≡ xs ++ x ∷ [] → left ≡ y ∷ rest → length xs + length left ≡ n
+    → length all + length rest ≡ n
+one_more xs all x left rest y n is next sum = omega (arith, ap length is, length-append xs (x ∷ []), ap length next, sum)
+
+-- what was put behind n others is the last
+pub last_of : {A : Type 0} (xs all : List A) (x : A) (n : ℕ) → all ≡ xs ++ x ∷ [] → length xs ≡ n → drop n all ≡ x ∷ []
+last_of xs all x n is long =
+    let same : n ≡ length xs + 0 = omega (arith, long) in
+    ap (drop n) is ∙ (ap (λ (i : ℕ). drop i (xs ++ x ∷ [])) same ∙ drop-append-add xs (x ∷ []) 0)
 
 abbrev OwnPair : Bool → Actor × List Told → Type 0
 OwnPair taped pair = is_own_share taped pair.0 pair.1 ≡ true

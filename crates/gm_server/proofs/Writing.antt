@@ -1,5 +1,5 @@
 -- A turn that is written in parts.
-use Rattle.std.proofs.Common.{◌≡◌, ◌≤◌, ◌+◌, ℕ, Bool, List, [], ◌++◌, Option, length, take, drop, refl, sym, ap, ap₂, subst, ◌∙◌, arith, length-append, length-take-le, take_all}
+use Rattle.std.proofs.Common.{◌≡◌, ◌<◌, ◌+◌, ℕ, Bool, List, [], ◌++◌, Option, length, take, drop, refl, sym, ap, ap₂, subst, ◌∙◌, arith, length-append, length-take-le, take_all}
 use Rattle.std.proofs.lemmas.List.{append_assoc, append-nil, take-append-le, take-append-drop}
 use Rattle.std.proofs.Math.Seq.{take-append-add, drop-append-add}
 use Rattle.std.proofs.KnownBytes.{Appends-nil, Appends-trans}
@@ -58,15 +58,17 @@ writing_front old now turn written bytes noop w =
 -- ---- bytes in two parts
 
 -- the first part was written, and then as much of the others as was
-pub parts_behind : (old mid new : Option (List ℕ)) (first second noop : List ℕ) (halt : Halt) (is_late : Bool) → Appends old mid first → Parts mid new second noop halt
-    → Parts old new (first ++ second) noop (record { bytes = length first + halt.bytes; noop = halt.noop; is_late = is_late })
-parts_behind old mid new first second noop halt is_late before parts =
+pub parts_behind : (old mid new : Option (List ℕ)) (first second noop : List ℕ) (halt : Halt) → Appends old mid first → Parts mid new second noop halt
+    → Parts old new (first ++ second) noop (record { bytes = length first + halt.bytes; noop = halt.noop; is_late = halt.is_late })
+parts_behind old mid new first second noop halt before parts =
     let n = halt.bytes in
     let taken : take (length first + n) (first ++ second) ≡ first ++ take n second = take-append-add first second n in
     let left : drop (length first + n) (first ++ second) ≡ drop n second = drop-append-add first second n in
     record {
       bytes_within = omega (arith, parts.bytes_within, length-append first second);
       noop_within = parts.noop_within;
+      short = omega (arith, parts.short, length-append first second);
+      late = parts.late;
       written = subst (λ l. Appends old new l) (sym (ap (λ l. l ++ take halt.noop noop) taken ∙ append_assoc first (take n second) (take halt.noop noop)))
           (Appends-trans old mid new first (take n second ++ take halt.noop noop) before parts.written);
       whole = append_assoc first second noop
@@ -76,13 +78,15 @@ parts_behind old mid new first second noop halt is_late before parts =
     }
 
 -- not even the first part was written whole
-pub parts_first : (old new : Option (List ℕ)) (first second noop : List ℕ) (n : ℕ) (is_late : Bool) → n ≤ length first → Appends old new (take n first)
+pub parts_first : (old new : Option (List ℕ)) (first second noop : List ℕ) (n : ℕ) (is_late : Bool) → n < length first → Appends old new (take n first)
     → Parts old new (first ++ second) noop (record { bytes = n; noop = 0; is_late = is_late })
-parts_first old new first second noop n is_late within written =
-    let taken : take n (first ++ second) ≡ take n first = take-append-le n first second within in
+parts_first old new first second noop n is_late short written =
+    let taken : take n (first ++ second) ≡ take n first = take-append-le n first second (omega (arith, short)) in
     record {
-      bytes_within = omega (arith, within, length-append first second);
+      bytes_within = omega (arith, short, length-append first second);
       noop_within = omega arith;
+      short = omega (arith, short, length-append first second);
+      late = λ some. absurd (omega (arith, some));
       written = subst (λ l. Appends old new l) (sym (append-nil (take n (first ++ second)) ∙ taken)) written;
       whole = ap (λ l. l ++ noop) (sym (take-append-drop n (first ++ second))) ∙ (append_assoc (take n (first ++ second)) (drop n (first ++ second)) noop
           ∙ ap (λ l. l ++ (drop n (first ++ second) ++ noop)) (sym (append-nil (take n (first ++ second)))));

@@ -13,46 +13,59 @@ use Rattle.gm_server.specs.Turns.{turn_of}
 
 -- what isn't sent yet of a message
 abbrev pub unsent : Message → List ℕ
-unsent message = drop message.written message.bytes ++ message.noop.now
+unsent message = drop message.written message.part ++ (message.rest ++ message.noop.now)
 
 abbrev pub left_in : Option Message → List ℕ
 left_in None = []
 left_in (Some message) = unsent message
 
--- A front of what was due was sent, and this is left; nothing where all is done.
+-- A front of what was due was sent, and this is left; nothing exactly where all is done.
 pub record SendsFront (delivery : Delivery) (old new : Option (List ℕ)) (due left : List ℕ) : Type 0 where
   pub sent : List ℕ
   pub written : Appends old new sent
   pub whole : due ≡ sent ++ left
   pub done : delivery ≡ Done → left ≡ []
+  pub undone : left ≡ [] → delivery ≡ Done
 
--- What becomes of what wasn't sent: at Done there is none; at Late it is what is left; a connection that is over forgets it.
+-- A front of what was due was sent, and this is left; something where not even the present part is done.
+pub record SendsPart (delivery : Delivery) (old new : Option (List ℕ)) (due left : List ℕ) : Type 0 where
+  pub sent : List ℕ
+  pub written : Appends old new sent
+  pub whole : due ≡ sent ++ left
+  pub undone : left ≡ [] → delivery ≡ Done
+
+-- What becomes of what wasn't sent: at Done there is none; at Late there is some, and it is left; a connection that is over forgets it.
 abbrev pub Leaves : Delivery → List ℕ → List ℕ → Type 0
 Leaves Done rest left = (rest ≡ []) × (left ≡ [])
-Leaves Late rest left = left ≡ rest
+Leaves Late rest left = (left ≡ rest) × (rest ≡ [] → ⊥)
 Leaves Over rest left = left ≡ []
 
-pub record Sends (delivery : Delivery) (old new : Option (List ℕ)) (due left : List ℕ) : Type 0 where
+-- A front of what was due was sent. The connection is over where the writer failed before all was sent, or, with all sent, where it has
+-- ended anyhow.
+pub record Sends (ended : Type 0) (delivery : Delivery) (old new : Option (List ℕ)) (due left : List ℕ) : Type 0 where
   pub sent : List ℕ
   pub rest : List ℕ
   pub written : Appends old new sent
   pub whole : due ≡ sent ++ rest
   pub leaves : Leaves delivery rest left
+  pub over : delivery ≡ Over → rest ≡ [] → ended
 
--- What a pen gave for a delivery, whether it was asked and gave at all, with a NOOP or without, and the bytes.
-pub data Gives (k : Settings) (taped : Bool) (slot takes takes_after : ℕ) (share after : List Told) : Bool → Bool → List ℕ → Type 0 where
-  unasked : takes_after ≡ takes → after ≡ share → Gives k taped slot takes takes_after share after false false []
+-- What a pen gave for a delivery: whether it was asked and gave at all, with a NOOP or without, the bytes, and whether the connection has
+-- ended by that, as its slot is shut or nothing was given.
+pub data Gives (k : Settings) (taped : Bool) (slot takes takes_after : ℕ) (share after : List Told) : Bool → Bool → List ℕ → Bool → Type 0 where
+  unasked : takes_after ≡ takes → after ≡ share → Gives k taped slot takes takes_after share after false false [] false
   given : (took : Bool) (drained : Drained) → MatchBool took (takes_after ≡ takes + 1) (takes_after ≡ takes)
-      → Emptied k taped slot slot (Ok drained) share after → Gives k taped slot takes takes_after share after true took drained.bytes
+      → Emptied k taped slot slot (Ok drained) share after → Gives k taped slot takes takes_after share after true took drained.bytes drained.shut
   refused : (took : Bool) (error : ApplyError) → MatchBool took (takes_after ≡ takes + 1) (takes_after ≡ takes)
-      → Emptied k taped slot slot (Err error) share after → Gives k taped slot takes takes_after share after false took []
+      → Emptied k taped slot slot (Err error) share after → Gives k taped slot takes takes_after share after false took [] true
 
 -- A delivery sends what was left, and then what the pen gives, the NOOP behind the bytes that were drained with it: in this order,
--- each byte once. All is done only where the pen gave.
+-- each byte once. All is done only where the pen gave, and the slot isn't shut; with all sent the connection is over only where it has ended.
 pub record Delivers (k : Settings) (taped : Bool) (delivery : Delivery) (slot takes takes_after : ℕ) (share after : List Told) (old new : Option (List ℕ)) (left left_after : List ℕ) : Type 0 where
   pub asked : Bool
   pub took : Bool
   pub gave : List ℕ
-  pub gives : Gives k taped slot takes takes_after share after asked took gave
-  pub done : delivery ≡ Done → asked ≡ true
-  pub sends : Sends delivery old new (left ++ turn_of took gave) left_after
+  pub ended : Bool
+  pub gives : Gives k taped slot takes takes_after share after asked took gave ended
+  pub done : delivery ≡ Done → (asked ≡ true) × (ended ≡ false)
+  pub sends : Sends (ended ≡ true) delivery old new (left ++ turn_of took gave) left_after

@@ -1,4 +1,6 @@
+pub mod Arguments
 pub mod Deliveries
+pub mod Effects
 pub mod Owners
 pub mod Promise
 pub mod Served

@@ -1,12 +1,15 @@
 -- Whose the entries of a tape are: what a connection says is handed in at its slot's desk, and its slot's pen drains what waits for it.
-use Rattle.std.specs.Prelude.{ℕ, ◌==◌, ◌&&◌, Bool, true, false, if◌then◌else◌, List, [], ◌∷◌, ◌++◌, map}
+use Rattle.std.specs.Prelude.{◌≡◌, ℕ, ◌==◌, ◌&&◌, Bool, true, false, if◌then◌else◌, List, [], ◌∷◌, ◌++◌, map, Option, None, Result, Ok, Err}
+use Rattle.gm_notes.specs.declared.event.ApplyError.{ApplyError}
+use Rattle.gm_notes.specs.Settings.{Settings}
 use Rattle.gm_notes.specs.Steps.{Step, Open, Packet, Line, Fault, Close, Tick, Took, Withdrew, Drain}
+use Rattle.gm_shared.specs.declared.receipt.Receipt.{Receipt}
 use Rattle.gm_shared.specs.declared.tape.Actor.{Actor}
 use Rattle.gm_shared.specs.declared.tape.Actor.TheVariants.{Desk, Pen}
 use Rattle.gm_shared.specs.declared.tape.TapeStep.{TapeStep}
 use Rattle.gm_shared.specs.declared.tape.Told.{Told}
 use Rattle.gm_shared.specs.Tapes.{if_event, events_told, is_drain_of, drains_alone}
-use Rattle.gm_shared.specs.Shared.{numbers_below}
+use Rattle.gm_shared.specs.Shared.{Applied, numbers_below}
 
 -- the desk of this number hands in what its own slot says, and openings and ticks, which no slot says
 abbrev pub is_said_by : ℕ → Step → Bool
@@ -37,6 +40,19 @@ tells_own (Pen n) told = drains_alone n told
 -- where a tape is kept
 abbrev pub is_own_share : Bool → Actor → List Told → Bool
 is_own_share taped actor told = if taped then tells_own actor told else true
+
+-- the event was handed in at the desk, whatever the book answered
+abbrev pub Asks : Settings → Bool → Step → ℕ → List Told → List Told → Type 0
+Asks k taped s desk share after = (answer : Result Receipt ApplyError) × Applied k taped s desk answer share after
+
+-- the slot that was opened, if the opening was taken
+abbrev pub opened_by : Result Receipt ApplyError → Option ℕ
+opened_by (Ok receipt) = receipt.done.opened
+opened_by (Err refused) = None
+
+-- an opening from this address was handed in at the desk, and the book opened this slot, or none
+abbrev pub Opens : Settings → Bool → ℕ → List ℕ → Option ℕ → List Told → List Told → Type 0
+Opens k taped desk addr slot share after = (answer : Result Receipt ApplyError) × Applied k taped (Open addr) desk answer share after × (slot ≡ opened_by answer)
 
 -- all that have a share in a book with this number of slots, in order: the desks, the control desk, the pens
 abbrev pub everybody : ℕ → List Actor

@@ -1,13 +1,17 @@
 -- What a session reads, and what it hands in of that.
-use Rattle.std.specs.Prelude.{◌≡◌, ℕ, Bool, true, false, List, [], ◌∷◌, ◌++◌, Option, None, IfSome, Result, Ok, Err}
+use Rattle.std.specs.Prelude.{◌≡◌, ℕ, Bool, true, false, List, [], ◌∷◌, ◌++◌, Option, Some, None, IfSome, Result, Ok, Err}
 use Rattle.std.specs.Io.KnownBytes.{Consumes}
 use Rattle.gm_feeder.specs.declared.units.Limits.{Limits}
-use Rattle.gm_feeder.specs.Units.{Item, Waits}
+use Rattle.gm_feeder.specs.Units.{Item, IsUnitThen, Waits}
 use Rattle.gm_feeder.specs.Streams.{Stream, TakesIn, GivesUnit, GivesNone}
 use Rattle.gm_notes.specs.declared.event.UnitFault.{UnitFault}
-use Rattle.gm_notes.specs.Steps.{Step}
+use Rattle.gm_notes.specs.declared.event.ApplyError.{ApplyError}
+use Rattle.gm_notes.specs.declared.event.ApplyError.TheVariants as refusals
+use Rattle.gm_notes.specs.Settings.{Settings}
+use Rattle.gm_notes.specs.Steps.{Step, Fault}
 use Rattle.gm_front.specs.Units.{step_of_unit, fault_steps, steps_of, IsFaultAt, BeginsWith}
 use Rattle.gm_shared.specs.declared.tape.Told.{Told}
+use Rattle.gm_shared.specs.Shared.{Applied}
 use Rattle.gm_shared.specs.Tapes.{events_told}
 use Rattle.gm_server.specs.declared.session.SessionEnd.{SessionEnd}
 use Rattle.gm_server.specs.declared.session.SessionEnd.TheVariants as ends
@@ -17,7 +21,7 @@ use Rattle.gm_server.specs.declared.session.Taken.TheVariants.{Unit as AUnit, No
 -- a read took this count of bytes of the input into the feeder, or none
 abbrev pub IsPiece : Option (List ℕ) → Option (List ℕ) → Stream → Stream → Result ℕ SessionEnd → Type 0
 IsPiece input rest old new (Ok len) = TakesIn input rest old new len
-IsPiece input rest old new (Err end) = Consumes input rest []
+IsPiece input rest old new (Err end) = Consumes input rest [] × (end ≡ ends.Shut → ⊥)
 
 -- with a tape the share has these events more
 abbrev pub Adds : Bool → List Step → List Told → List Told → Type 0
@@ -32,43 +36,67 @@ pub record HandsIn (taped : Bool) (c : ℕ) (limits : Limits) (bytes rest : List
   pub stands : IfSome fault (λ fault. IsFaultAt limits rest fault)
   pub adds : Adds taped (steps_of c items fault) share after
 
--- the input is used up, or the reader failed
+-- the input is used up, or the reader failed, or it read as many pieces as it may
 abbrev pub IsWhole : SessionEnd → Type 0
 IsWhole ends.Ended = Unit {0}
 IsWhole ends.ReadFault = Unit {0}
 IsWhole ends.Shut = ⊥
 IsWhole ends.Memory = ⊥
-IsWhole ends.Turns = ⊥
+IsWhole ends.Turns = Unit {0}
 
--- What a session read of its input, and what it handed in of that: all units and no fault, where the input is used up or
--- the reader failed; then no unit stands at the rest, and no fault.
-pub record Reads (taped : Bool) (c : ℕ) (limits : Limits) (old new : Option (List ℕ)) (end : SessionEnd) (share after : List Told) : Type 0 where
+-- ---- why a session found its slot shut
+
+-- the event was handed in at this desk, and the book refused it for another reason than memory
+pub record Refuses (k : Settings) (taped : Bool) (s : Step) (desk : ℕ) (after : List Told) : Type 0 where
+  pub error : ApplyError
+  pub before : List Told
+  pub applied : Applied k taped s desk (Err error) before after
+  pub reason : error ≡ refusals.Memory → ⊥
+
+-- this event of slot c stands next in the bytes
+pub data StandsNext (c : ℕ) (limits : Limits) (bytes : List ℕ) : Step → Type 0 where
+  unit : (item : Item) (later : List ℕ) → IsUnitThen limits bytes item later → StandsNext c limits bytes (step_of_unit c item)
+  broken : (fault : UnitFault) → IsFaultAt limits bytes fault → StandsNext c limits bytes (Fault c fault)
+
+-- The fault that stands at the rest was handed in; or the book refused what stands there.
+abbrev pub IsShutBy : Settings → Bool → ℕ → ℕ → Limits → List ℕ → Option UnitFault → List Told → Type 0
+IsShutBy k taped desk c limits rest (Some fault) after = Unit {0}
+IsShutBy k taped desk c limits rest None after = (s : Step) × StandsNext c limits rest s × Refuses k taped s desk after
+
+-- ---- a session
+
+-- What a session read of its input, and what it handed in of that: all units and no fault, where the input is used up,
+-- the reader failed or it read as many pieces as it may; then no unit stands at the rest, and no fault. Where it
+-- found its slot shut, why.
+pub record Reads (k : Settings) (taped : Bool) (desk c : ℕ) (limits : Limits) (old new : Option (List ℕ)) (end : SessionEnd) (share after : List Told) : Type 0 where
   pub read : List ℕ
   pub consumes : Consumes old new read
   pub rest : List ℕ
   pub fault : Option UnitFault
   pub hands : HandsIn taped c limits read rest fault share after
   pub whole : IsWhole end → (fault ≡ None) × Waits limits rest
+  pub shut : end ≡ ends.Shut → IsShutBy k taped desk c limits rest fault after
 
 -- ---- in small
 
 -- an event was applied, or nothing was and the session is over
-abbrev pub Applies : Bool → Step → Result (Unit {0}) SessionEnd → List Told → List Told → Type 0
-Applies taped s (Ok done) share after = Adds taped (s ∷ []) share after
-Applies taped s (Err end) share after = Adds taped [] share after × (IsWhole end → ⊥)
+abbrev pub Applies : Settings → Bool → ℕ → Step → Result (Unit {0}) SessionEnd → List Told → List Told → Type 0
+Applies k taped desk s (Ok done) share after = Adds taped (s ∷ []) share after
+Applies k taped desk s (Err end) share after = Adds taped [] share after × (IsWhole end → ⊥) × (end ≡ ends.Shut → Refuses k taped s desk after)
 
 -- the fault that stands next was applied, or nothing was, and the session is over
-pub record Stops (taped : Bool) (c : ℕ) (old : Stream) (end : SessionEnd) (share after : List Told) : Type 0 where
+pub record Stops (k : Settings) (taped : Bool) (desk c : ℕ) (old : Stream) (end : SessionEnd) (share after : List Told) : Type 0 where
   pub fault : Option UnitFault
   pub stands : IfSome fault (λ fault. IsFaultAt old.limits old.pending fault)
   pub adds : Adds taped (fault_steps c fault) share after
   pub broken : IsWhole end → ⊥
+  pub shut : end ≡ ends.Shut → IsShutBy k taped desk c old.limits old.pending fault after
 
 -- what becomes of the next unit: it was applied; or there is none, and more bytes are waited for; or the session is over
-abbrev pub TakesNext : Bool → ℕ → Stream → Result Taken SessionEnd → List Told → List Told → Stream → Type 0
-TakesNext taped c old (Ok (AUnit is_line)) share after new = (item : Item) × GivesUnit old item new × Adds taped (step_of_unit c item ∷ []) share after
-TakesNext taped c old (Ok Nothing) share after new = GivesNone old new × (after ≡ share)
-TakesNext taped c old (Err end) share after new = Stops taped c old end share after
+abbrev pub TakesNext : Settings → Bool → ℕ → ℕ → Stream → Result Taken SessionEnd → List Told → List Told → Stream → Type 0
+TakesNext k taped desk c old (Ok (AUnit is_line)) share after new = (item : Item) × GivesUnit old item new × Adds taped (step_of_unit c item ∷ []) share after
+TakesNext k taped desk c old (Ok Nothing) share after new = GivesNone old new × (after ≡ share)
+TakesNext k taped desk c old (Err end) share after new = Stops k taped desk c old end share after
 
 -- after a piece more bytes are waited for
 pub record GoesOn (taped : Bool) (c : ℕ) (limits : Limits) (bytes : List ℕ) (share after : List Told) (new : Stream) : Type 0 where
@@ -77,16 +105,17 @@ pub record GoesOn (taped : Bool) (c : ℕ) (limits : Limits) (bytes : List ℕ) 
   pub limited : new.limits ≡ limits
 
 -- after a piece the session is over
-pub record Breaks (taped : Bool) (c : ℕ) (limits : Limits) (bytes : List ℕ) (end : SessionEnd) (share after : List Told) : Type 0 where
+pub record Breaks (k : Settings) (taped : Bool) (desk c : ℕ) (limits : Limits) (bytes : List ℕ) (end : SessionEnd) (share after : List Told) : Type 0 where
   pub rest : List ℕ
   pub fault : Option UnitFault
   pub hands : HandsIn taped c limits bytes rest fault share after
   pub broken : IsWhole end → ⊥
+  pub shut : end ≡ ends.Shut → IsShutBy k taped desk c limits rest fault after
 
 -- what becomes of these bytes
-abbrev pub Takes : Bool → ℕ → Limits → List ℕ → Result (Unit {0}) SessionEnd → List Told → List Told → Stream → Type 0
-Takes taped c limits bytes (Ok done) share after new = GoesOn taped c limits bytes share after new
-Takes taped c limits bytes (Err end) share after new = Breaks taped c limits bytes end share after
+abbrev pub Takes : Settings → Bool → ℕ → ℕ → Limits → List ℕ → Result (Unit {0}) SessionEnd → List Told → List Told → Stream → Type 0
+Takes k taped desk c limits bytes (Ok done) share after new = GoesOn taped c limits bytes share after new
+Takes k taped desk c limits bytes (Err end) share after new = Breaks k taped desk c limits bytes end share after
 
-abbrev pub Unloads : Bool → ℕ → Stream → Result (Unit {0}) SessionEnd → List Told → List Told → Stream → Type 0
-Unloads taped c old outcome share after new = Takes taped c old.limits old.pending outcome share after new
+abbrev pub Unloads : Settings → Bool → ℕ → ℕ → Stream → Result (Unit {0}) SessionEnd → List Told → List Told → Stream → Type 0
+Unloads k taped desk c old outcome share after new = Takes k taped desk c old.limits old.pending outcome share after new

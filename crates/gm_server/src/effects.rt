@@ -1,5 +1,9 @@
 //! What came of events, for those who are to be told.
 
+ghost use Rattle.std.specs.Prelude.{◌≡◌, ℕ, false, Some, IfSome, IfNone, IsTrue};
+ghost use Rattle.gm_conns.specs.Slots.{has};
+ghost use Rattle.gm_server.specs.Effects.{IsNothing, Collects};
+
 use gm_conns::SlotSet;
 use gm_notes::Mode;
 use std::sync::Mutex;
@@ -18,7 +22,10 @@ pub struct Effects {
 
 impl Effects {
     /// Nothing came of the events of this slot's connection, or of nobody's.
-    pub fn new(own: Option<u32>) -> Effects {
+    pub fn new(own: Option<u32>) -> Effects
+        ensures own { result.own ≡ own }
+        ensures nothing { IsNothing result }
+    {
         Effects {
             own,
             touched: SlotSet::new(),
@@ -27,13 +34,18 @@ impl Effects {
     }
 
     /// The slot whose connection's events they were, if there may be something to send to it.
-    pub(crate) fn own_touched(&self) -> Option<u32> {
+    pub(crate) fn own_touched(&self) -> Option<u32>
+        ensures some { IfSome result (λ slot. (self.now.own ≡ Some slot) × IsTrue (has self.now.touched slot)) }
+        ensures none { IfNone result ((slot : ℕ) → self.now.own ≡ Some slot → has self.now.touched slot ≡ false) }
+    {
         let own = self.own?;
         self.touched.next(own).filter(|slot| *slot == own)
     }
 
     /// Takes a receipt's slots and mode.
-    pub fn add(&mut self, touched: &SlotSet, mode: Mode) {
+    pub fn add(&mut self, touched: &SlotSet, mode: Mode)
+        ensures { Collects touched.now mode self.old self.new }
+    {
         self.mode = mode;
         self.touched.union(touched);
     }

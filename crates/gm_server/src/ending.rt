@@ -1,6 +1,6 @@
 //! The end of a server: its book is settled, and everybody's share is there.
 
-ghost use Rattle.std.specs.Prelude.{◌≡◌, Bool, IfOk, MatchBool, All, map, true};
+ghost use Rattle.std.specs.Prelude.{◌≡◌, Bool, [], ◌∷◌, IfOk, MatchBool, All, map, length, drop, true};
 ghost use Rattle.gm_notes.specs.Settings.{Settings as BookSettings};
 ghost use Rattle.gm_shared.specs.Shared.{AddsUp};
 ghost use Rattle.gm_shared.specs.declared.tape.Actor.TheVariants as actors;
@@ -51,7 +51,9 @@ fn all_parts<K: BookName>(
     lanes: Vec<Lane<K>>,
     control: OwnDesk<K>,
 ) -> Result<(Vec<Desk<K>>, Vec<Pen<K>>), AllocError>
-    ensures { IfOk result (λ parts. All (λ desk. is_own_share K.taped (actors.Desk desk.number) desk.share.items ≡ true) parts.0.items) }
+    ensures own { IfOk result (λ parts. All (λ desk. is_own_share K.taped (actors.Desk desk.number) desk.share.items ≡ true) parts.0.items) }
+    ensures desks { IfOk result (λ parts. drop (length lanes.items) parts.0.items ≡ control.desk ∷ []) }
+    ensures pens { IfOk result (λ parts. length parts.1.items ≡ length lanes.items) }
 {
     let mut desks = Vec::with_capacity(alloc, lanes.len())?;
     let mut pens = Vec::with_capacity(alloc, lanes.len())?;

@@ -50,6 +50,10 @@ pub enum ControlError {
 }
 
 impl From<AllocError> for ControlError {
+    ghost use Rattle.gm_server.specs.declared.error.ControlError.TheVariants.{Memory};
+
+    ghost from_gives = { λ _ e. e ≡ Memory };
+
     fn from(_e: AllocError) -> ControlError {
         ControlError::Memory
     }

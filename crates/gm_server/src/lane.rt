@@ -1,7 +1,7 @@
 //! What a slot has of its own: where its connection's events are handed in, and the way of its bytes to the socket.
 
-ghost use Rattle.std.specs.Prelude.{◌≡◌, []};
-ghost use Rattle.gm_server.specs.Deliveries.{left_in};
+ghost use Rattle.std.specs.Prelude.{◌≡◌, ℕ, List, [], Option, true, Some, None, IfSome, IfNone, is_none};
+ghost use Rattle.gm_server.specs.Deliveries.{left_in, Delivers};
 
 use crate::outbox::{Delivery, Outbox};
 use crate::own_desk::OwnDesk;
@@ -28,7 +28,10 @@ const MOST_LOOKS: u32 = 16;
 
 /// Whether `time` milliseconds have passed since this was first asked; `begun` keeps when that was. If the clock can't be
 /// read, they have.
-pub(crate) fn is_over(rt: &impl Clock, begun: &mut Option<Instant>, time: u64) -> bool {
+pub(crate) fn is_over(rt: &impl Clock, begun: &mut Option<Instant>, time: u64) -> bool
+    ensures keeps { IfSome begun.old (λ first. begun.new ≡ Some first) }
+    ensures first { begun.old ≡ None → result ≡ is_none begun.new }
+{
     match begun {
         Some(begun) => match begun.elapsed(rt) {
             Ok(elapsed) => elapsed >= Duration::from_millis(time),
@@ -53,7 +56,10 @@ pub(crate) struct Outgoing<K: BookName> {
 impl<K: BookName> Outgoing<K> {
     /// Takes a connection. Nothing is left for it of the last one.
     fn begin(&mut self, stream: Arc<TcpStream, Global>)
-        ensures { left_in self.new.outbox.left ≡ [] }
+        ensures left { left_in self.new.outbox.left ≡ [] }
+        ensures pen { self.new.outbox.pen ≡ self.old.outbox.pen }
+        ensures stream { self.new.stream ≡ Some stream }
+        ensures taken { self.new.has_connection ≡ true }
     {
         Outbox::forget(&mut self.outbox);
         self.stream = Some(stream);
@@ -62,7 +68,12 @@ impl<K: BookName> Outgoing<K> {
     }
 
     /// Ends the connection, so that its reader ends.
-    fn hang_up(&mut self) {
+    fn hang_up(&mut self)
+        ensures left { left_in self.new.outbox.left ≡ [] }
+        ensures pen { self.new.outbox.pen ≡ self.old.outbox.pen }
+        ensures stream { self.new.stream ≡ self.old.stream }
+        ensures connection { self.new.has_connection ≡ self.old.has_connection }
+    {
         if let Some(stream) = &self.stream {
             // Where it fails, the peer is gone already.
             let _ = stream.shutdown(Shutdown::Both);
@@ -79,7 +90,15 @@ impl<K: BookName> Outgoing<K> {
     }
 
     /// Sends what there is to send, and ends the connection where it is over. It is done in a look at the lane alone.
-    fn deliver(&mut self, rt: &impl Wait, shared: &Shared<K>, _looking: &Looking<'_>) -> Delivery {
+    fn deliver(&mut self, rt: &impl Wait, shared: &Shared<K>, _looking: &Looking<'_>) -> Delivery
+        ensures delivers { IfSome self.old.stream (λ stream. (old new : Option (List ℕ)) × Delivers K.settings K.taped result self.old.outbox.pen.slot
+            self.old.outbox.pen.seat.takes self.new.outbox.pen.seat.takes self.old.outbox.pen.share.items self.new.outbox.pen.share.items old new
+            (left_in self.old.outbox.left) (left_in self.new.outbox.left)) }
+        ensures none { IfNone self.old.stream ((result ≡ Delivery.Over) × (self.new.outbox ≡ self.old.outbox)) }
+        ensures slot { self.new.outbox.pen.slot ≡ self.old.outbox.pen.slot }
+        ensures stream { self.new.stream ≡ self.old.stream }
+        ensures connection { self.new.has_connection ≡ self.old.has_connection }
+    {
         let Some(stream) = &self.stream else {
             return Delivery::Over;
         };

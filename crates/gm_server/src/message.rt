@@ -1,6 +1,6 @@
 //! What is written to a socket at a time.
 
-ghost use Rattle.std.specs.Prelude.{◌≡◌, ◌≤◌, ◌++◌, length, take, OnOk, IfErr};
+ghost use Rattle.std.specs.Prelude.{◌≡◌, ◌<◌, ◌++◌, true, length, take, OnOk, IfErr};
 ghost use Rattle.std.specs.Io.KnownBytes.{Appends};
 ghost use Rattle.gm_server.specs.Turns.{noop_if, turn_of, Parts};
 
@@ -54,7 +54,8 @@ pub(crate) fn noop_if(took: bool) -> &'static [u8]
 /// Writes the bytes, if the writer takes them in one write. Where it takes some, it takes no more at present.
 fn write_once<W: Write>(bytes: &[u8], w: &mut W) -> Result<(), Stop>
     ensures ok { OnOk result (Appends (W.contents w.old) (W.contents w.new) bytes.now) }
-    ensures within { IfErr result (λ stop. stop.written ≤ length bytes.now) }
+    ensures short { IfErr result (λ stop. stop.written < length bytes.now) }
+    ensures late { IfErr result (λ stop. 0 < stop.written → stop.is_late ≡ true) }
     ensures stop { IfErr result (λ stop. Appends (W.contents w.old) (W.contents w.new) (take stop.written bytes.now)) }
 {
     if bytes.is_empty() {
@@ -126,7 +127,7 @@ pub(crate) fn write_message<W: Write>(
 /// no byte, and says how many bytes of the turn were written.
 pub fn write_turn<W: Write>(took: bool, drained: &[u8], w: &mut W) -> Result<(), WriteFault>
     ensures ok { OnOk result (Appends (W.contents w.old) (W.contents w.new) (turn_of took drained.now)) }
-    ensures within { IfErr result (λ fault. fault.written ≤ length (turn_of took drained.now)) }
+    ensures short { IfErr result (λ fault. fault.written < length (turn_of took drained.now)) }
     ensures fault { IfErr result (λ fault. Appends (W.contents w.old) (W.contents w.new) (take fault.written (turn_of took drained.now))) }
 {
     let mut bytes = drained;

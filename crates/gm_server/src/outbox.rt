@@ -1,25 +1,28 @@
 //! What is to be sent to a connection, and how it is sent.
 
-ghost use Rattle.std.specs.Prelude.{◌≡◌, ◌≤◌, ◌++◌, [], length, drop};
+ghost use Rattle.std.specs.Prelude.{◌≡◌, ◌+◌, ◌<◌, ◌≤◌, ◌++◌, [], MatchBool, length, drop};
 
-use crate::message::{noop_if, write_message};
-use gm_conns::Outgoing;
+use crate::message::{Halt, noop_if, write_message};
+use gm_conns::{Outgoing, Part};
 use gm_shared::{BookName, Drained, Pen, Shared};
 use std::io::Write;
 use std::sync::Wait;
 
-/// What is being sent: drained bytes, and then a NOOP where one was taken.
+/// What is being sent: drained bytes, part after part, and then a NOOP where one was taken.
 #[derive(Drop)]
 struct Message {
-    bytes: Outgoing,
-    /// How many of the bytes are sent.
+    /// The part that is being sent.
+    part: Part,
+    /// How many of its bytes are sent.
     written: usize,
+    /// What comes after it.
+    rest: Outgoing,
     /// What isn't sent yet of the NOOP.
     noop: &'static [u8],
-    ghost within: { written ≤ length bytes },
+    ghost within: { written ≤ length part },
 }
 
-/// What is left of two parts behind so many bytes.
+/// What is left of two parts when `written` of their bytes are sent.
 fn rest_of<'a>(parts: (&'a [u8], &'a [u8]), written: usize) -> (&'a [u8], &'a [u8])
     requires { written ≤ length (parts.0.now ++ parts.1.now) }
     ensures { result.0.now ++ result.1.now ≡ drop written (parts.entry.0.now ++ parts.entry.1.now) }
@@ -34,14 +37,18 @@ fn rest_of<'a>(parts: (&'a [u8], &'a [u8]), written: usize) -> (&'a [u8], &'a [u
 
 impl Message {
     ghost use Rattle.gm_server.specs.Turns.{turn_of};
-    ghost use Rattle.gm_server.specs.Deliveries.{unsent, SendsFront};
+    ghost use Rattle.gm_server.specs.Deliveries.{unsent, SendsFront, SendsPart};
 
     fn new(bytes: Outgoing, took: bool) -> Message
-        ensures { unsent result ≡ turn_of took bytes }
+        ensures unsent { unsent result ≡ turn_of took bytes }
+        ensures written { result.written ≡ 0 }
     {
+        let mut rest = bytes;
+        let part = rest.next_part();
         Message {
-            bytes,
+            part,
             written: 0,
+            rest,
             noop: noop_if(took),
         }
     }
@@ -50,22 +57,66 @@ impl Message {
     fn send<W: Write>(&mut self, w: &mut W) -> Delivery
         ensures { SendsFront result (W.contents w.old) (W.contents w.new) (unsent self.old) (unsent self.new) }
     {
-        let (first, second) = rest_of(self.bytes.parts(), self.written);
+        while !self.rest.is_empty() {
+            match self.send_part(w) {
+                Delivery::Done => {}
+                Delivery::Late => return Delivery::Late,
+                Delivery::Over => return Delivery::Over,
+            }
+        }
+        self.send_last(w)
+    }
+
+    /// Sends what isn't sent yet of the present part, and then goes on to the next.
+    fn send_part<W: Write>(&mut self, w: &mut W) -> Delivery
+        ensures sends { SendsPart result (W.contents w.old) (W.contents w.new) (unsent self.old) (unsent self.new) }
+        ensures shorter { result ≡ Delivery.Done → 0 < length self.old.rest → length self.new.rest < length self.old.rest }
+    {
+        let (first, second) = rest_of(self.part.slices(), self.written);
+        match write_message(first, second, &[], w) {
+            Ok(()) => {
+                self.part = self.rest.next_part();
+                self.written = 0;
+                Delivery::Done
+            }
+            Err(halt) => self.stop_at(halt),
+        }
+    }
+
+    /// Sends what isn't sent yet of the last part, and the NOOP behind it.
+    fn send_last<W: Write>(&mut self, w: &mut W) -> Delivery
+        requires { self.old.rest ≡ [] }
+        ensures { SendsFront result (W.contents w.old) (W.contents w.new) (unsent self.old) (unsent self.new) }
+    {
+        let (first, second) = rest_of(self.part.slices(), self.written);
         match write_message(first, second, self.noop, w) {
             Ok(()) => {
-                self.written = self.bytes.len();
+                self.written = self.part.len();
                 self.noop = &[];
                 Delivery::Done
             }
-            Err(halt) => {
-                self.written += halt.bytes;
-                self.noop = &self.noop[halt.noop..];
-                if halt.is_late {
-                    Delivery::Late
-                } else {
-                    Delivery::Over
-                }
-            }
+            Err(halt) => self.stop_at(halt),
+        }
+    }
+
+    /// The writing of the present part stopped there.
+    fn stop_at(&mut self, halt: Halt) -> Delivery
+        requires part { self.old.written + halt.bytes ≤ length self.old.part }
+        requires noop { halt.noop ≤ length self.old.noop.now }
+        ensures part { self.new.part ≡ self.old.part }
+        ensures rest { self.new.rest ≡ self.old.rest }
+        ensures written { self.new.written ≡ self.old.written + halt.bytes }
+        ensures noop { self.new.noop.now ≡ drop halt.noop self.old.noop.now }
+        ensures late { MatchBool halt.is_late (result ≡ Delivery.Late) (result ≡ Delivery.Over) }
+    {
+        // The sum is at most this, so it doesn't overflow.
+        let _most = self.part.len();
+        self.written += halt.bytes;
+        self.noop = &self.noop[halt.noop..];
+        if halt.is_late {
+            Delivery::Late
+        } else {
+            Delivery::Over
         }
     }
 }
@@ -114,7 +165,7 @@ impl<K: BookName> Outbox<K> {
 
     /// Sends what is left of the present message.
     fn send_left<W: Write>(&mut self, w: &mut W) -> Delivery
-        ensures sends { Sends result (W.contents w.old) (W.contents w.new) (left_in self.old.left) (left_in self.new.left) }
+        ensures sends { Sends ⊥ result (W.contents w.old) (W.contents w.new) (left_in self.old.left) (left_in self.new.left) }
         ensures pen { self.new.pen ≡ self.old.pen }
     {
         let Some(message) = &mut self.left else {

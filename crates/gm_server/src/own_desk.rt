@@ -1,9 +1,15 @@
 //! A desk at which no other slot's connection speaks.
 
-ghost use Rattle.std.specs.Prelude.{◌≡◌, true, []};
+ghost use Rattle.std.specs.Prelude.{◌≡◌, true, false, []};
+ghost use Rattle.std.specs.Result.{IsErrOf};
+ghost use Rattle.std.specs.Io.KnownBytes.{IsAtEnd};
 ghost use Rattle.gm_notes.specs.Servers.{step_of, IsSized};
+ghost use Rattle.gm_notes.specs.Steps.{Open, Close, Tick};
+ghost use Rattle.gm_shared.specs.Books.{NeedsNoMemory};
+ghost use Rattle.gm_shared.specs.Shared.{Applied, AddsEvent};
 ghost use Rattle.gm_shared.specs.declared.tape.Actor.TheVariants as actors;
 ghost use Rattle.gm_server.specs.Owners.{is_said_by, is_own_share};
+ghost use Rattle.gm_server.specs.Sessions.{Reads};
 
 use crate::effects::Notify;
 use crate::gate::Gate;
@@ -26,12 +32,14 @@ impl<K: BookName> OwnDesk<K> {
     /// A desk that was told nothing yet.
     pub(crate) fn new(desk: Desk<K>) -> OwnDesk<K>
         requires { desk.share.items ≡ [] }
+        ensures { result.desk ≡ desk }
     {
         OwnDesk { desk }
     }
 
     pub(crate) fn into_desk(self) -> Desk<K>
-        ensures { is_own_share K.taped (actors.Desk result.number) result.share.items ≡ true }
+        ensures desk { result ≡ self.desk }
+        ensures own { is_own_share K.taped (actors.Desk result.number) result.share.items ≡ true }
     {
         self.desk
     }
@@ -45,6 +53,10 @@ impl<K: BookName> OwnDesk<K> {
     ) -> Result<Receipt, ApplyError>
         requires size { IsSized event }
         requires own { is_said_by self.old.desk.number (step_of event) ≡ true }
+        ensures applied { Applied K.settings K.taped (step_of event.entry) self.old.desk.number result self.old.desk.share.items self.new.desk.share.items }
+        ensures adds { AddsEvent K.taped (step_of event.entry) result self.old.desk.share.items self.new.desk.share.items }
+        ensures memory { NeedsNoMemory K.taped (step_of event.entry) → IsErrOf result ApplyError.Memory → ⊥ }
+        ensures number { self.new.desk.number ≡ self.old.desk.number }
     {
         self.desk.apply(rt, shared, event)
     }
@@ -55,7 +67,10 @@ impl<K: BookName> OwnDesk<K> {
         rt: &impl Wait,
         shared: &Shared<K>,
         addr: &[u8],
-    ) -> Result<Receipt, ApplyError> {
+    ) -> Result<Receipt, ApplyError>
+        ensures applied { Applied K.settings K.taped (Open addr.now) self.old.desk.number result self.old.desk.share.items self.new.desk.share.items }
+        ensures number { self.new.desk.number ≡ self.old.desk.number }
+    {
         self.apply(rt, shared, Event::Open { addr })
     }
 
@@ -65,7 +80,10 @@ impl<K: BookName> OwnDesk<K> {
         rt: &impl Wait,
         shared: &Shared<K>,
         now: u64,
-    ) -> Result<Receipt, ApplyError> {
+    ) -> Result<Receipt, ApplyError>
+        ensures applied { Applied K.settings K.taped (Tick now) self.old.desk.number result self.old.desk.share.items self.new.desk.share.items }
+        ensures number { self.new.desk.number ≡ self.old.desk.number }
+    {
         self.apply(rt, shared, Event::Tick { now })
     }
 
@@ -74,7 +92,11 @@ impl<K: BookName> OwnDesk<K> {
         &mut self,
         rt: &impl Wait,
         shared: &Shared<K>,
-    ) -> Result<Receipt, ApplyError> {
+    ) -> Result<Receipt, ApplyError>
+        ensures applied { Applied K.settings K.taped (Close self.old.desk.number) self.old.desk.number result self.old.desk.share.items self.new.desk.share.items }
+        ensures memory { K.taped ≡ false → IsErrOf result ApplyError.Memory → ⊥ }
+        ensures number { self.new.desk.number ≡ self.old.desk.number }
+    {
         let slot = self.desk.number();
         self.apply(rt, shared, Event::Close { slot })
     }
@@ -89,7 +111,11 @@ impl<K: BookName> OwnDesk<K> {
         limits: Limits,
         gate: &G,
         server: &N,
-    ) -> SessionEnd {
+    ) -> SessionEnd
+        ensures ended { result ≡ SessionEnd.Ended → IsAtEnd (I.remaining reader.new) }
+        ensures reads { Reads K.settings K.taped self.old.desk.number self.old.desk.number limits (I.remaining reader.old) (I.remaining reader.new) result self.old.desk.share.items self.new.desk.share.items }
+        ensures number { self.new.desk.number ≡ self.old.desk.number }
+    {
         let slot = self.desk.number();
         read_session(
             rt,

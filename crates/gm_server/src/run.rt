@@ -1,6 +1,9 @@
 //! Runs the program on its arguments.
 
-ghost use Rattle.std.specs.Prelude.{◌≡◌};
+ghost use Rattle.std.specs.Prelude.{◌≡◌, None, IfOk, IsOk, IsErr, OnOk, OnErr};
+ghost use Rattle.std.specs.Result.{IsErrOf};
+ghost use Rattle.gm_notes.specs.Settings.{config_fault};
+ghost use Rattle.gm_server.specs.Arguments.{asked_settings};
 ghost use Rattle.gm_server.specs.Statuses.{run_status, ended_status, IsStatus};
 
 use crate::args::{Args, parse_args};
@@ -59,13 +62,21 @@ impl RunError {
 }
 
 impl From<AllocError> for RunError {
+    ghost use Rattle.gm_server.specs.declared.error.ServeError.TheVariants.{Memory};
+    ghost use Rattle.gm_server.specs.declared.run.RunError.TheVariants.{Serve};
+
+    ghost from_gives = { λ _ e. e ≡ Serve Memory };
+
     fn from(_e: AllocError) -> RunError {
         RunError::Serve(ServeError::Memory)
     }
 }
 
 /// The outcome of a write to standard output.
-fn written(outcome: io::Result<()>) -> Result<(), RunError> {
+fn written(outcome: io::Result<()>) -> Result<(), RunError>
+    ensures ok { OnOk result (IsOk outcome) }
+    ensures err { OnErr result (IsErr outcome) }
+{
     match outcome {
         Ok(()) => Ok(()),
         Err(_) => Err(RunError::Output),
@@ -86,7 +97,12 @@ fn tell<W: Write>(rt: &impl Eprint, error: &clap::Error, w: &mut W) -> Result<()
 }
 
 /// The settings that are asked for.
-fn settings_of(alloc: Global, args: Args<'_>) -> Result<Settings, RunError> {
+fn settings_of(alloc: Global, args: Args<'_>) -> Result<Settings, RunError>
+    ensures config { IfOk result (λ settings. settings.config ≡ asked_settings args.entry) }
+    ensures name { IsErrOf result RunError.Name → config_fault (asked_settings args.entry) ≡ None → ⊥ }
+    ensures limits { IfOk result (λ settings. settings.limits ≡ args.entry.server.limits) }
+    ensures tape { IfOk result (λ settings. settings.tape ≡ args.entry.tape) }
+{
     let name = Vec::from_slice(alloc, args.name.as_bytes())?;
     let Ok(config) = Config::new(name, 1, args.server.slots, 65_536) else {
         return Err(RunError::Name);

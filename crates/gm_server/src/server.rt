@@ -96,7 +96,8 @@ pub fn serve_book<
 
 /// What is told of a server that ended so.
 fn served(connections: u64, book: &Result<Settled, SettleError>) -> Result<Served, ServeError>
-    ensures { (k : BookSettings) (taped : Bool) → SettledSo k taped book.now → EndsSo k taped result }
+    ensures ends { (k : BookSettings) (taped : Bool) → SettledSo k taped book.now → EndsSo k taped result }
+    ensures connections { IfOk result (λ served. served.connections ≡ connections) }
 {
     match book {
         Ok(settled) => Ok(Served {

@@ -1,10 +1,11 @@
 //! What one connection says, from its opening to its end.
 
-ghost use Rattle.std.specs.Prelude.{◌≡◌, ◌≤◌, [], IfOk, IfErr, IfSome, length, drop};
+ghost use Rattle.std.specs.Prelude.{◌≡◌, ◌+◌, ◌-◌, ◌%◌, ◌^◌, ◌<◌, ◌≤◌, true, false, [], None, IsSome, IsNone, IfOk, IfErr, IfSome, length, drop};
 ghost use Rattle.std.specs.Io.KnownBytes.{IsAtEnd};
 ghost use Rattle.gm_notes.specs.Servers.{step_of, IsSized};
 ghost use Rattle.gm_notes.specs.Steps.{Packet};
 ghost use Rattle.gm_core.specs.Writing.{AreDataOf};
+ghost use Rattle.gm_server.specs.Effects.{IsNothing, Keeps};
 ghost use Rattle.gm_server.specs.Sessions.{IsPiece, Applies, TakesNext, Unloads, Reads};
 
 use crate::effects::{Effects, Notify};
@@ -69,7 +70,9 @@ impl<'s, K: BookName, R: Wait, G: Gate> Applier<'s, K, R, G> {
     fn apply(&mut self, event: Event<'_>, whole: Option<&SharedBytes>) -> Result<(), SessionEnd>
         requires size { IsSized event }
         requires whole { IfSome whole (λ shared. AreDataOf event shared.now) }
-        ensures applies { Applies K.taped (step_of event.entry) result self.old.desk.now.share.items self.new.desk.now.share.items }
+        ensures applies { Applies K.settings K.taped self.old.desk.now.number (step_of event.entry) result self.old.desk.now.share.items self.new.desk.now.share.items }
+        ensures keeps { Keeps K.settings K.taped (step_of event.entry) self.old.desk.now.number result self.old.desk.now.share.items self.new.desk.now.share.items
+            self.old.effects self.new.effects }
         ensures same_desk { self.new.desk.ghost_name ≡ self.old.desk.ghost_name }
         ensures number { self.new.desk.now.number ≡ self.old.desk.now.number }
         ensures slot { self.new.slot ≡ self.old.slot }
@@ -92,7 +95,9 @@ impl<'s, K: BookName, R: Wait, G: Gate> Applier<'s, K, R, G> {
     ) -> Result<(), SessionEnd>
         requires size { IsSized event }
         requires whole { IfSome whole (λ shared. AreDataOf event shared.now) }
-        ensures applies { Applies K.taped (step_of event.entry) result self.old.desk.now.share.items self.new.desk.now.share.items }
+        ensures applies { Applies K.settings K.taped self.old.desk.now.number (step_of event.entry) result self.old.desk.now.share.items self.new.desk.now.share.items }
+        ensures keeps { Keeps K.settings K.taped (step_of event.entry) self.old.desk.now.number result self.old.desk.now.share.items self.new.desk.now.share.items
+            self.old.effects self.new.effects }
         ensures same_desk { self.new.desk.ghost_name ≡ self.old.desk.ghost_name }
         ensures number { self.new.desk.now.number ≡ self.old.desk.now.number }
         ensures slot { self.new.slot ≡ self.old.slot }
@@ -143,7 +148,12 @@ struct Turn<'s> {
 }
 
 impl<'s> Turn<'s> {
-    fn new(free_units: u32) -> Turn<'s> {
+    fn new(free_units: u32) -> Turn<'s>
+        ensures free { result.free_units ≡ free_units }
+        ensures units { result.units ≡ 0 }
+        ensures alone { IsNone result.alone }
+        ensures begun { result.begun ≡ None }
+    {
         Turn {
             free_units,
             alone: None,
@@ -153,28 +163,45 @@ impl<'s> Turn<'s> {
     }
 
     /// Lets the next unit in. The first that isn't free waits until no other session has such a turn.
-    fn admit<R: Wait, N: Notify<R>>(&mut self, server: &'s N, rt: &R) {
+    fn admit<R: Wait, N: Notify<R>>(&mut self, server: &'s N, rt: &R)
+        ensures free { self.new.free_units ≡ self.old.free_units }
+        ensures units { self.new.units ≡ self.old.units }
+        ensures waits { self.old.free_units ≤ self.old.units → IsSome self.new.alone }
+        ensures begun { self.new.begun ≡ self.old.begun }
+    {
         if self.units >= self.free_units && self.alone.is_none() {
             self.alone = Some(server.long_piece_lock().lock(rt));
         }
     }
 
     /// Whether it is over, after a unit more. A text line may be the work of many units, so it ends a turn.
-    fn is_over<R, N: Notify<R>>(&mut self, server: &N, rt: &R, is_line: bool) -> bool {
+    fn is_over<R, N: Notify<R>>(&mut self, server: &N, rt: &R, is_line: bool) -> bool
+        ensures free { self.new.free_units ≡ self.old.free_units }
+        ensures units { self.new.units ≡ (self.old.units + 1) % 2 ^ 32 }
+        ensures line { is_line ≡ true → result ≡ true }
+        ensures looks { is_line ≡ false → 0 < self.new.units % 8 → result ≡ false }
+    {
         self.units = self.units.wrapping_add(1);
         is_line || self.units % UNITS_A_LOOK == 0 && server.is_time(rt, &mut self.begun)
     }
 }
 
 /// Has the server tell what came of events, after which there is nothing more to tell.
-fn tell<R, N: Notify<R>>(server: &N, rt: &R, effects: &mut Effects) {
+fn tell<R, N: Notify<R>>(server: &N, rt: &R, effects: &mut Effects)
+    ensures own { effects.new.own ≡ effects.old.own }
+    ensures nothing { IsNothing effects.new }
+{
     server.notify(rt, effects);
     *effects = Effects::new(effects.own);
 }
 
 impl<'s, K: BookName, R: Wait, G: Gate, N: Notify<R>> Session<'s, K, R, G, N> {
     /// How many units of a piece of this length don't wait for other sessions.
-    fn free_units(&self, length: usize) -> u32 {
+    fn free_units(&self, length: usize) -> u32
+        ensures short { length ≤ 256 → result ≡ 2 ^ 32 - 1 }
+        ensures pipelining { 256 < length → self.now.is_pipelining ≡ true → result ≡ 0 }
+        ensures first { 256 < length → self.now.is_pipelining ≡ false → result ≡ 2 }
+    {
         if length <= SHORT_PIECE {
             u32::MAX
         } else if self.is_pipelining {
@@ -187,7 +214,7 @@ impl<'s, K: BookName, R: Wait, G: Gate, N: Notify<R>> Session<'s, K, R, G, N> {
     /// Takes the next unit that stands in the feeder, or the fault that stands there. A long packet is taken with its
     /// memory, so that its data are shared and not copied. Where the session is over, it says why.
     fn take_unit(&mut self, turn: &mut Turn<'s>) -> Result<Taken, SessionEnd>
-        ensures takes { TakesNext K.taped self.old.applier.slot self.old.feeder result self.old.applier.desk.now.share.items self.new.applier.desk.now.share.items self.new.feeder }
+        ensures takes { TakesNext K.settings K.taped self.old.applier.desk.now.number self.old.applier.slot self.old.feeder result self.old.applier.desk.now.share.items self.new.applier.desk.now.share.items self.new.feeder }
         ensures same_desk { self.new.applier.desk.ghost_name ≡ self.old.applier.desk.ghost_name }
         ensures number { self.new.applier.desk.now.number ≡ self.old.applier.desk.now.number }
         ensures slot { self.new.applier.slot ≡ self.old.applier.slot }
@@ -216,7 +243,7 @@ impl<'s, K: BookName, R: Wait, G: Gate, N: Notify<R>> Session<'s, K, R, G, N> {
     /// Applies a packet that was taken with its memory.
     fn take_long(&mut self, packet: OwnedPacket) -> Result<(), SessionEnd>
         requires { length (drop packet.data_at packet.bytes.items) ≤ 1073741824 }
-        ensures applies { Applies K.taped (Packet self.old.applier.slot packet.kind (drop packet.data_at packet.bytes.items)) result
+        ensures applies { Applies K.settings K.taped self.old.applier.desk.now.number (Packet self.old.applier.slot packet.kind (drop packet.data_at packet.bytes.items)) result
             self.old.applier.desk.now.share.items self.new.applier.desk.now.share.items }
         ensures feeder { self.new.feeder ≡ self.old.feeder }
         ensures same_desk { self.new.applier.desk.ghost_name ≡ self.old.applier.desk.ghost_name }
@@ -236,7 +263,7 @@ impl<'s, K: BookName, R: Wait, G: Gate, N: Notify<R>> Session<'s, K, R, G, N> {
     /// Takes each unit that stands in the feeder, and the fault after them. Where the session is over, it says why. Where
     /// its turn is over, it tells what came of it, and others have theirs.
     fn unload(&mut self, length: usize) -> Result<(), SessionEnd>
-        ensures unloads { Unloads K.taped self.old.applier.slot self.old.feeder result self.old.applier.desk.now.share.items self.new.applier.desk.now.share.items self.new.feeder }
+        ensures unloads { Unloads K.settings K.taped self.old.applier.desk.now.number self.old.applier.slot self.old.feeder result self.old.applier.desk.now.share.items self.new.applier.desk.now.share.items self.new.feeder }
         ensures same_desk { self.new.applier.desk.ghost_name ≡ self.old.applier.desk.ghost_name }
         ensures number { self.new.applier.desk.now.number ≡ self.old.applier.desk.now.number }
         ensures slot { self.new.applier.slot ≡ self.old.applier.slot }
@@ -263,7 +290,8 @@ impl<'s, K: BookName, R: Wait, G: Gate, N: Notify<R>> Session<'s, K, R, G, N> {
     /// Takes what stands in the feeder since a piece of this length came, and tells what came of it. Where the session is
     /// over, it says why.
     fn take_piece(&mut self, len: usize) -> Result<(), SessionEnd>
-        ensures unloads { Unloads K.taped self.old.applier.slot self.old.feeder result self.old.applier.desk.now.share.items self.new.applier.desk.now.share.items self.new.feeder }
+        ensures told { IsNothing self.new.applier.effects }
+        ensures unloads { Unloads K.settings K.taped self.old.applier.desk.now.number self.old.applier.slot self.old.feeder result self.old.applier.desk.now.share.items self.new.applier.desk.now.share.items self.new.feeder }
         ensures same_desk { self.new.applier.desk.ghost_name ≡ self.old.applier.desk.ghost_name }
         ensures number { self.new.applier.desk.now.number ≡ self.old.applier.desk.now.number }
         ensures slot { self.new.applier.slot ≡ self.old.applier.slot }
@@ -277,7 +305,7 @@ impl<'s, K: BookName, R: Wait, G: Gate, N: Notify<R>> Session<'s, K, R, G, N> {
     fn run<I: Read>(&mut self, reader: &mut I) -> SessionEnd
         requires { self.old.feeder.pending ≡ [] }
         ensures ended { result ≡ SessionEnd.Ended → IsAtEnd (I.remaining reader.new) }
-        ensures reads { Reads K.taped self.old.applier.slot self.old.feeder.limits (I.remaining reader.old) (I.remaining reader.new) result
+        ensures reads { Reads K.settings K.taped self.old.applier.desk.now.number self.old.applier.slot self.old.feeder.limits (I.remaining reader.old) (I.remaining reader.new) result
             self.old.applier.desk.now.share.items self.new.applier.desk.now.share.items }
         ensures same_desk { self.new.applier.desk.ghost_name ≡ self.old.applier.desk.ghost_name }
         ensures number { self.new.applier.desk.now.number ≡ self.old.applier.desk.now.number }
@@ -329,7 +357,7 @@ pub fn read_session<'s, K: BookName, R: Wait, I: Read, G: Gate, N: Notify<R>>(
     server: &'s N,
 ) -> SessionEnd
     ensures ended { result ≡ SessionEnd.Ended → IsAtEnd (I.remaining reader.new) }
-    ensures reads { Reads K.taped slot limits (I.remaining reader.old) (I.remaining reader.new) result desk.old.share.items desk.new.share.items }
+    ensures reads { Reads K.settings K.taped desk.old.number slot limits (I.remaining reader.old) (I.remaining reader.new) result desk.old.share.items desk.new.share.items }
     ensures number { desk.new.number ≡ desk.old.number }
 {
     let mut session = Session {

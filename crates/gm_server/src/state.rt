@@ -1,6 +1,8 @@
 //! What all threads of a server share.
 
-ghost use Rattle.std.specs.Prelude.{◌≡◌, All, []};
+ghost use Rattle.std.specs.Prelude.{◌≡◌, ◌<◌, ◌≤◌, All, [], true, false, None, IfSome, IfNone, length};
+ghost use Rattle.gm_notes.specs.Steps.{Tick, Close};
+ghost use Rattle.gm_server.specs.Owners.{Asks, Opens};
 
 use crate::effects::{Effects, Notify};
 use crate::gate::Gate;
@@ -54,7 +56,11 @@ struct Round {
 }
 
 impl Round {
-    fn new() -> Round {
+    fn new() -> Round
+        ensures begun { result.has_begun ≡ false }
+        ensures clock { result.begun ≡ None }
+        ensures late { result.is_late ≡ false }
+    {
         Round {
             has_begun: false,
             begun: None,
@@ -63,7 +69,12 @@ impl Round {
     }
 
     /// Whether the rest is for the writers. It is asked before each slot.
-    fn is_over(&mut self, rt: &impl Clock) -> bool {
+    fn is_over(&mut self, rt: &impl Clock) -> bool
+        ensures begun { self.new.has_begun ≡ true }
+        ensures says { self.new.is_late ≡ result }
+        ensures first { self.old.has_begun ≡ false → result ≡ self.old.is_late }
+        ensures stays { self.old.is_late ≡ true → result ≡ true }
+    {
         if self.has_begun && !self.is_late {
             self.is_late = is_over(rt, &mut self.begun, DELIVERING_TIME);
         }
@@ -115,15 +126,22 @@ impl<K: BookName> ServerState<K> {
         })
     }
 
-    pub(crate) fn alloc(&self) -> Global {
+    pub(crate) fn alloc(&self) -> Global
+        ensures { result ≡ self.now.alloc }
+    {
         self.alloc
     }
 
-    pub(crate) fn shared(&self) -> &Shared<K> {
+    pub(crate) fn shared(&self) -> &Shared<K>
+        ensures { result.now ≡ self.now.shared }
+    {
         &self.shared
     }
 
-    pub(crate) fn lane(&self, slot: u32) -> Option<&Lane<K>> {
+    pub(crate) fn lane(&self, slot: u32) -> Option<&Lane<K>>
+        ensures some { IfSome result (λ _. slot < length self.now.lanes.items) }
+        ensures none { IfNone result (length self.now.lanes.items ≤ slot) }
+    {
         self.lanes.get(slot as usize)
     }
 
@@ -159,7 +177,9 @@ impl<K: BookName> ServerState<K> {
     }
 
     /// Touches the lane of a slot, and delivers where nobody else does; or has its writer do so, where the round is over.
-    fn touch<R: Wait + Clock>(&self, rt: &R, slot: u32, round: &mut Round) {
+    fn touch<R: Wait + Clock>(&self, rt: &R, slot: u32, round: &mut Round)
+        ensures { round.old.is_late ≡ true → round.new.is_late ≡ true }
+    {
         let Some(lane) = self.lane(slot) else {
             return;
         };
@@ -198,14 +218,20 @@ impl<K: BookName> ServerState<K> {
         rt: &R,
         desk: &mut OwnDesk<K>,
         addr: &[u8],
-    ) -> Option<u32> {
+    ) -> Option<u32>
+        ensures opens { Opens K.settings K.taped desk.old.desk.number addr.now result desk.old.desk.share.items desk.new.desk.share.items }
+        ensures number { desk.new.desk.number ≡ desk.old.desk.number }
+    {
         let receipt = desk.open(rt, &self.shared, addr).ok()?;
         self.tell(rt, &receipt);
         receipt.done.opened
     }
 
     /// Tells the book which second it is. If there is no memory for that, the book hears of the next second.
-    pub(crate) fn tick<R: Wait + Clock>(&self, rt: &R, desk: &mut OwnDesk<K>, now: u64) {
+    pub(crate) fn tick<R: Wait + Clock>(&self, rt: &R, desk: &mut OwnDesk<K>, now: u64)
+        ensures asks { Asks K.settings K.taped (Tick now) desk.old.desk.number desk.old.desk.share.items desk.new.desk.share.items }
+        ensures number { desk.new.desk.number ≡ desk.old.desk.number }
+    {
         if let Ok(receipt) = desk.tick(rt, &self.shared, now) {
             self.tell(rt, &receipt);
         }
@@ -213,7 +239,10 @@ impl<K: BookName> ServerState<K> {
 
     /// Closes a desk's slot. With a tape there may be no memory for that. Then the slot stays open in the book, and the
     /// server ends.
-    fn close<R: Wait + Clock>(&self, rt: &R, desk: &mut OwnDesk<K>) {
+    fn close<R: Wait + Clock>(&self, rt: &R, desk: &mut OwnDesk<K>)
+        ensures asks { Asks K.settings K.taped (Close desk.old.desk.number) desk.old.desk.number desk.old.desk.share.items desk.new.desk.share.items }
+        ensures number { desk.new.desk.number ≡ desk.old.desk.number }
+    {
         match desk.close(rt, &self.shared) {
             Ok(receipt) => self.tell(rt, &receipt),
             Err(ApplyError::Memory) => self.out_of_memory.store(true, Ordering::SeqCst),

@@ -22,10 +22,15 @@ fn is_opening(rt: &impl Abort, receipt: &Receipt) {
 }
 
 /// What waits is the answer to an echo of two bytes.
-fn is_echo(rt: &impl Abort, drained: &Drained) {
+fn is_echo(rt: &impl Abort, drained: Drained) {
     let wanted = b"\0RES\0\0\0\x11\0\0\0\x02hi".as_slice();
-    same(rt, "the echo", &drained.bytes.parts().0, &wanted);
     same(rt, "shut", &drained.shut, &false);
+    same(
+        rt,
+        "the echo",
+        &drained.bytes.into_bytes().as_slice(),
+        &wanted,
+    );
 }
 
 /// Each call of a new book is answered. It has the book by reference, as the proof of a function that owns a book spells out
@@ -46,7 +51,7 @@ fn is_answering(rt: &impl Abort, book: &mut Booked, table: &SleepTable) -> Resul
     };
     let touched = book.apply(table, 0, &echo)?.touched.next(0);
     same(rt, "the echo", &touched, &Some(0));
-    is_echo(rt, &book.drain(0, 0)?);
+    is_echo(rt, book.drain(0, 0)?);
     Ok(())
 }
 

@@ -179,7 +179,7 @@ fn assigned_jobs<K: BookName, R: Wait + Abort>(
     let mut jobs = Vec::new(alloc);
     for slot in 2..room.pens.len() {
         let drained = room.drain(rt, slot)?;
-        add_assigned(rt, drained.bytes.parts().0, &mut jobs)?;
+        add_assigned(rt, drained.bytes.into_bytes().as_slice(), &mut jobs)?;
     }
     jobs.sort()?;
     let mut last = 0;
@@ -217,7 +217,7 @@ fn assert_all_created<K: BookName, R: Wait + Abort>(
     for (slot, numbers) in told.iter().take(2).enumerate() {
         same(rt, slot, &numbers.len(), &TIMES);
         let drained = room.drain(rt, slot)?;
-        assert_created(rt, alloc, drained.bytes.parts().0, numbers)?;
+        assert_created(rt, alloc, drained.bytes.into_bytes().as_slice(), numbers)?;
     }
     Ok(())
 }
