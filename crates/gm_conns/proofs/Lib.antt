@@ -1,3 +1,4 @@
 pub mod AbilityLemmas
 pub mod ConnTableLemmas
+pub mod RunLemmas
 pub mod SlotLemmas

@@ -53,24 +53,72 @@ module _ (words : List ℕ) (slot i : ℕ) (long : length words ≡ 16) (small :
         | inr apart ↦ no_out _ _ i slot (ap (λ w. bit_at w (i % 64)) (get_or-set_other words (slot / 64) (i / 64) m 0 apart)) (omega arith)
       ]
 
+-- ---- the words that aren't marked as used
+
+abbrev pub AreUsed : ℕ → List ℕ → Type 0
+AreUsed used words = (at : ℕ) → bit_at used at ≡ 0 → get_or words at 0 ≡ 0
+
+module _ (used : ℕ) (words : List ℕ) (k word : ℕ) (long : length words ≡ 16) (small : k < 16) (are : AreUsed used words) where
+  -- the word is marked and takes another value
+  pub used-with : AreUsed (bit_or used (1 * 2 ^ k % 2 ^ 64)) (set words k word)
+  used-with at none = elim (cases_eq at k) [
+    | inl same ↦ absurd (omega (arith, none, ap (bit_at (bit_or used (1 * 2 ^ k % 2 ^ 64))) same ∙ bit_at_set_same w64 used k (omega (arith, small))))
+    | inr other ↦ get_or-set_other words k at word 0 other ∙ are at (sym (bit_at_set_other w64 used k (omega (arith, small)) at other) ∙ none)
+  ]
+
+  -- its value is 0, and the mark goes
+  pub used-without : word ≡ 0 → AreUsed (bit_and used (bit_not w64 (1 * 2 ^ k % 2 ^ 64))) (set words k word)
+  used-without is_zero at none = elim (cases_eq at k) [
+    | inl same ↦ ap (λ i. get_or (set words k word) i 0) same ∙ (get_or-set_same words k word 0 (omega (arith, long, small)) ∙ is_zero)
+    | inr other ↦ get_or-set_other words k at word 0 other ∙ elim (cases_lt at 16) [
+      | inl within ↦ are at (sym (bit_at_clear_other w64 used k (omega (arith, small)) at (omega (arith, within)) other) ∙ none)
+      | inr past ↦ get_or_past words at 0 (omega (arith, long, past))
+    ]
+  ]
+
+pub has-zero : (words : List ℕ) (i : ℕ) → get_or words (i / 64) 0 ≡ 0 → has words i ≡ false
+has-zero words i is_zero = ap (λ w. bit_at w (i % 64) == 1) is_zero ∙ ap (λ b. b == 1) (bit_at-zero (i % 64))
+
+false_and : (a b : Bool) → a ≡ false → (a && b) ≡ false
+false_and a b h = grind (arith)
+
+and_false : (a b : Bool) → b ≡ false → (a && b) ≡ false
+and_false a b h = grind (arith)
+
+-- where no word is marked in both sets, none of its slots is in both
+module _ (used : ℕ) (words : List ℕ) (are : AreUsed used words) (used_other : ℕ) (other : List ℕ) (are_other : AreUsed used_other other) where
+  has_unused : (i : ℕ) → bit_at (bit_and used used_other) (i / 64) ≡ 0 → (has words i && has other i) ≡ false
+  has_unused i none =
+      let both = sym (bit_at_and used used_other (i / 64)) ∙ none in
+      elim (cases_eq (bit_at used (i / 64)) 0) [
+        | inl unset ↦ false_and (has words i) (has other i) (has-zero words i (are (i / 64) unset))
+        | inr some ↦ and_false (has words i) (has other i) (has-zero other i (are_other (i / 64) (omega (arith, both, some))))
+      ]
+
+  pub has_between : (low high : ℕ) → ((at : ℕ) → low ≤ at → at < high → bit_at (bit_and used used_other) at ≡ 0)
+      → (i : ℕ) → low * 64 ≤ i → i < high * 64 → (has words i && has other i) ≡ false
+  has_between low high none i l h = has_unused i (none (i / 64) (omega (arith, l)) (omega (arith, h)))
+
 -- ---- the slots of two sets together
 
 or_of : (a b : ℕ) → a < 2 → b < 2 → (max a b == 1) ≡ ((a == 1) || (b == 1))
 or_of a b small less = grind (arith, nat_tests)
 
-module _ (words other : List ℕ) (at i : ℕ) where
-  -- a word has the bits of both
-  pub has-or : at < length words → i / 64 ≡ at → has (set words at (bit_or (get_or words at 0) (get_or other at 0))) i ≡ (has words i || has other i)
-  has-or within is =
-      let word = bit_or (get_or words at 0) (get_or other at 0) in
-      ap (λ w. bit_at w (i % 64) == 1) (ap (λ k. get_or (set words at word) k 0) is ∙ get_or-set_same words at word 0 within)
-      ∙ ap (λ b. b == 1) (bit_at_or (get_or words at 0) (get_or other at 0) (i % 64))
-      ∙ or_of _ _ (bit_at-lt (get_or words at 0) (i % 64)) (bit_at-lt (get_or other at 0) (i % 64))
-      ∙ ap (λ k. (bit_at (get_or words k 0) (i % 64) == 1) || (bit_at (get_or other k 0) (i % 64) == 1)) (sym is)
+-- a word of both sets
+abbrev pub IsOr : List ℕ → List ℕ → List ℕ → ℕ → Type 0
+IsOr words other both at = get_or both at 0 ≡ bit_or (get_or words at 0) (get_or other at 0)
 
-  -- the other words stay
-  pub has-or_other : i / 64 ≢ at → has (set words at (bit_or (get_or words at 0) (get_or other at 0))) i ≡ has words i
-  has-or_other apart = ap (λ w. bit_at w (i % 64) == 1) (get_or-set_other words at (i / 64) (bit_or (get_or words at 0) (get_or other at 0)) 0 apart)
+module _ (words other both : List ℕ) where
+  pub has-or : (i : ℕ) → IsOr words other both (i / 64) → has both i ≡ (has words i || has other i)
+  has-or i is =
+      ap (λ w. bit_at w (i % 64) == 1) is
+      ∙ (ap (λ b. b == 1) (bit_at_or (get_or words (i / 64) 0) (get_or other (i / 64) 0) (i % 64))
+      ∙ or_of _ _ (bit_at-lt (get_or words (i / 64) 0) (i % 64)) (bit_at-lt (get_or other (i / 64) 0) (i % 64)))
+
+  pub used-or : (used used_other : ℕ) → AreUsed used words → AreUsed used_other other → ((at : ℕ) → IsOr words other both at) → AreUsed (bit_or used used_other) both
+  used-or used used_other are are_other is at none =
+      let max_is = sym (bit_at_or used used_other at) ∙ none in
+      is at ∙ (λ j. bit_or (are at (omega (arith, max_is)) j) (are_other at (omega (arith, max_is)) j))
 
 -- ---- the first bit from a position on
 
@@ -135,6 +183,10 @@ module _ (xs ys : List ℕ) where
 pub has_past : (words : List ℕ) (i : ℕ) → length words ≡ 16 → 1024 ≤ i → has words i ≡ false
 has_past words i long past =
     ap (λ w. bit_at w (i % 64) == 1) (get_or_past words (i / 64) 0 (omega arith)) ∙ ap (λ b. b == 1) (bit_at-zero (i % 64))
+
+-- nor is it in two
+pub past_both : (words other : List ℕ) (i : ℕ) → length words ≡ 16 → 1024 ≤ i → (has words i && has other i) ≡ false
+past_both words other i long past = false_and (has words i) (has other i) (has_past words i long past)
 
 -- ---- the slots of a set, in rising order
 

@@ -1,3 +1,4 @@
 pub mod ConnTables
 pub mod Connections
+pub mod Runs
 pub mod Slots

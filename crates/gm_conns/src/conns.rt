@@ -383,8 +383,8 @@ impl Conns {
         self.touched.insert(slot);
     }
 
-    /// The head and the tail wait for the connection, behind the others, in reserved room. The tail is shared: where that
-    /// can't be, it is copied as well. A tail that was put since room was last reserved is copied now; others aren't.
+    /// The head and the tail wait for the connection, behind the others, in reserved room. The tail is shared; where that
+    /// can't be, it is copied as well.
     pub fn put_shared(&mut self, slot: u32, head: &[u8], tail: &SharedBytes)
         requires open { IsOpen self.old slot }
         requires room { length head.now + length tail.now ≤ (conn self.old slot).room }
@@ -431,7 +431,10 @@ impl Conns {
         ensures bytes { result.items ≡ (conn self.old slot).waiting }
         ensures rest { Changes slot drained true self.old self.new }
     {
-        self.take_out(slot).into_bytes()
+        let conn = &mut self.conns[slot as usize];
+        let bytes = conn.drain(self.alloc);
+        self.touched.insert(slot);
+        bytes
     }
 
     /// The least slot that was touched since it was last taken, which is taken out: a slot is touched when

@@ -13,5 +13,5 @@ mod outgoing;
 mod slot_set;
 
 pub use conns::Conns;
-pub use outgoing::{Outgoing, Part};
+pub use outgoing::Outgoing;
 pub use slot_set::{SlotIter, SlotSet};

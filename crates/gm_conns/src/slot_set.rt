@@ -1,29 +1,32 @@
 //! Sets of slots.
 
-ghost use Rattle.std.specs.Prelude.{◌≡◌, ℕ, ◌<◌, ◌≤◌, false, ◌&&◌, ◌||◌, ◌==◌, if◌then◌else◌, not, IsTrue, IfSome, IfNone};
+ghost use Rattle.std.specs.Prelude.{◌≡◌, ℕ, ◌*◌, ◌<◌, ◌≤◌, false, ◌&&◌, ◌||◌, ◌==◌, if◌then◌else◌, not, IsTrue, IfSome, IfNone};
 ghost use Rattle.std.specs.Int.{bit_at};
 ghost use Rattle.std.specs.Iterator.{YieldsFirst, item_count};
 ghost use Rattle.gm_conns.specs.Slots.{has, slots_of};
 
 use std::marker::Model;
 
-const WORDS: usize = 16;
+const WORDS: u32 = 16;
 
 /// A set of slots below 1,024, which takes no memory of its own. Contracts see its words: `has` says which slots are in
 /// it, and `slots_of` lists them.
 #[derive(Drop)]
 pub struct SlotSet {
     words: [u64; 16],
+    // A bit for each word. A word whose bit isn't set is 0, so searches pass it over.
+    used: u64,
 }
 
 impl Model for SlotSet {
-    ghost use Rattle.std.specs.Prelude.{◌≡◌, List, ℕ, length};
+    ghost use Rattle.std.specs.Prelude.{◌≡◌, List, ℕ, length, slice_index};
+    ghost use Rattle.std.specs.Int.{bit_at};
 
     ghost Value = { List ℕ };
 
     ghost view = { λ s. s.words };
 
-    ghost invariant = { λ s. length s.words ≡ 16 };
+    ghost invariant = { λ s. (length s.words ≡ 16) × ((at : ℕ) → bit_at s.used at ≡ 0 → slice_index s.words at ≡ 0) };
 }
 
 // The position of the first bit that is set in a word, from a position on.
@@ -44,7 +47,10 @@ impl SlotSet {
     pub fn new() -> SlotSet
         ensures { (i : ℕ) → has result i ≡ false }
     {
-        SlotSet { words: [0; 16] }
+        SlotSet {
+            words: [0; 16],
+            used: 0,
+        }
     }
 
     /// Puts a slot in.
@@ -53,6 +59,7 @@ impl SlotSet {
         ensures { (i : ℕ) → has self.new i ≡ ((i == slot) || has self.old i) }
     {
         self.words[slot as usize / 64] |= 1 << (slot % 64);
+        self.used |= 1 << (slot / 64);
     }
 
     /// Takes a slot out.
@@ -60,7 +67,11 @@ impl SlotSet {
         requires { slot < 1024 }
         ensures { (i : ℕ) → has self.new i ≡ (not (i == slot) && has self.old i) }
     {
-        self.words[slot as usize / 64] &= !(1 << (slot % 64));
+        let word = self.words[slot as usize / 64] & !(1 << (slot % 64));
+        self.words[slot as usize / 64] = word;
+        if word == 0 {
+            self.used &= !(1 << (slot / 64));
+        }
     }
 
     /// Puts a slot in or takes it out.
@@ -80,8 +91,9 @@ impl SlotSet {
         ensures { (i : ℕ) → has self.new i ≡ (has self.old i || has other.now i) }
     {
         for at in 0..WORDS {
-            self.words[at] |= other.words[at];
+            self.words[at as usize] |= other.words[at as usize];
         }
+        self.used |= other.used;
     }
 
     /// The least slot of the set from `from` on.
@@ -106,12 +118,37 @@ impl SlotSet {
         ensures least { IfSome result (λ r. (i : ℕ) → from ≤ i → i < r → (has self.now i && has other.now i) ≡ false) }
         ensures none { IfNone result ((i : ℕ) → from ≤ i → (has self.now i && has other.now i) ≡ false) }
     {
-        let mut low = from % 64;
-        for at in from as usize / 64..WORDS {
-            if let Some(bit) = first_bit(self.words[at] & other.words[at], low) {
-                return Some(at as u32 * 64 + bit);
+        let at = from / 64;
+        let Some(word) = self.words.get(at as usize) else {
+            return None;
+        };
+        if let Some(bit) = first_bit(*word & other.words[at as usize], from % 64) {
+            return Some(at * 64 + bit);
+        }
+        self.first_in_both(other, at + 1)
+    }
+
+    /// The least slot that is in both sets, from the first of a word on.
+    fn first_in_both(&self, other: &SlotSet, from: u32) -> Option<u32>
+        requires { from ≤ 16 }
+        ensures found { IfSome result (λ r. (from * 64 ≤ r) × (r < 1024) × IsTrue (has self.now r && has other.now r)) }
+        ensures least { IfSome result (λ r. (i : ℕ) → from * 64 ≤ i → i < r → (has self.now i && has other.now i) ≡ false) }
+        ensures none { IfNone result ((i : ℕ) → from * 64 ≤ i → (has self.now i && has other.now i) ≡ false) }
+    {
+        let used = self.used & other.used;
+        let mut at = from;
+        while at < WORDS {
+            let Some(next) = first_bit(used, at) else {
+                return None;
+            };
+            if next >= WORDS {
+                return None;
             }
-            low = 0;
+            let word = self.words[next as usize] & other.words[next as usize];
+            if let Some(bit) = first_bit(word, 0) {
+                return Some(next * 64 + bit);
+            }
+            at = next + 1;
         }
         None
     }

@@ -1,4 +1,4 @@
-use Rattle.std.proofs.Common.{[], ◌++◌, unwrap_or, ap, sym, ◌∙◌}
+use Rattle.std.proofs.Common.{◌++◌, ap, sym, ◌∙◌}
 use Rattle.std.specs.List.{concat}
 use Rattle.std.specs.Map.{lookup}
 use Rattle.gm_conns.specs.Connections.{without_ability}
@@ -17,7 +17,7 @@ returns-clause-abilities c =
       id = c.self.inside.id.items;
       abilities = abilities;
       last = c.self.inside.last;
-      waiting = concat c.self.inside.full.items ++ (c.self.inside.waiting.items ++ unwrap_or c.self.inside.tail []);
+      waiting = concat c.self.inside.runs.items ++ c.self.inside.waiting.items;
       room = c.self.inside.room;
     })
     (c.shift_remove-timeout.ensures.entries ∙ remove_entry-once c.args.f c.self.inside.abilities.entries gone)

@@ -1,32 +1,61 @@
-use Rattle.std.proofs.Common.{◌+◌, ◌*◌, ◌&&◌, ◌==◌, inl, inr, sym, ap, ◌∙◌, arith}
+use Rattle.std.proofs.Common.{◌≡◌, ◌+◌, ◌*◌, ◌/◌, ◌%◌, ◌&&◌, ◌==◌, ◌≤◌, ◌<◌, ℕ, false, List, bit_and, get_or, Option, Some, None, IfSome, IfNone, inl, inr, sym, ap, ◌∙◌, arith}
 use Rattle.std.proofs.lemmas.Bool.{cases_lt}
+use Rattle.std.specs.Int.{bit_at}
 use Rattle.gm_conns.specs.Slots.{has}
 use Rattle.gm_conns.proofs.SlotLemmas.{has_both, has_none}
 use Rattle.gm_conns.proofs.slot_set.SlotSet.next_in_both.Goals as goal
 
-pub returns-in-Some-clause-found : goal.returns-in-Some-clause-found
-returns-in-Some-clause-found c =
-    let bit = c.in-Some.ensures.found in (
+lift_some : (r : Option ℕ) (P Q : ℕ → Type 0) → ((x : ℕ) → P x → Q x) → IfSome r P → IfSome r Q
+lift_some None P Q f h = tt
+lift_some (Some x) P Q f h = f x h
+
+lift_none : (r : Option ℕ) (P Q : Type 0) → (P → Q) → IfNone r P → IfNone r Q
+lift_none None P Q f h = f h
+lift_none (Some x) P Q f h = tt
+
+-- none in the rest of a word of which no bit is in both
+module _ (words other : List ℕ) (from word : ℕ) (is : word ≡ get_or words (from / 64) 0)
+    (none : (r : ℕ) → from % 64 ≤ r → r < 64 → bit_at (bit_and word (get_or other (from / 64) 0)) r ≡ 0) where
+  in_word : (i : ℕ) → from ≤ i → i < (from / 64 + 1) * 64 → (has words i && has other i) ≡ false
+  in_word i low high =
+      has_none words other (from / 64) (from % 64) 64 (omega arith) (λ r l h. ap (λ w. bit_at (bit_and w (get_or other (from / 64) 0)) r) (sym is) ∙ none r l h) i (omega (arith, low)) (omega (arith, high))
+
+pub returns-in-Some-first_bit-clause-found : goal.returns-in-Some-first_bit-clause-found
+returns-in-Some-first_bit-clause-found c =
+    let bit = c.in-Some-first_bit.ensures.found in
+    let at = c.args.from / 64 * 64 + c.in-Some-first_bit.bit in (
       omega (arith, bit.0),
-      omega (arith, bit.1),
-      (λ j. has (sym c.self.view_is j) (c.loop-at.at * 64 + c.in-Some.bit) && has (sym c.other.view_is j) (c.loop-at.at * 64 + c.in-Some.bit)) ∙ has_both c.self.inside.words c.other.inside.words c.loop-at.at c.in-Some.bit bit.1 ∙ ap (λ b. b == 1) bit.2,
+      omega (arith, bit.1, c.in-Some.ensures.lookup.3.0, c.self.invariant.0),
+      (λ j. has (sym c.self.view_is j) at && has (sym c.other.view_is j) at)
+          ∙ (has_both c.self.inside.words c.other.inside.words (c.args.from / 64) c.in-Some-first_bit.bit bit.1
+          ∙ ap (λ b. b == 1) (ap (λ w. bit_at (bit_and w (get_or c.other.inside.words (c.args.from / 64) 0)) c.in-Some-first_bit.bit) (sym (c.in-Some.ensures.lookup.4 (omega arith) 0)) ∙ bit.2)),
     )
 
-pub returns-in-Some-clause-least : goal.returns-in-Some-clause-least
-returns-in-Some-clause-least c = λ i low high.
-    let bit = c.in-Some.ensures.found in
+pub returns-in-Some-first_bit-clause-least : goal.returns-in-Some-first_bit-clause-least
+returns-in-Some-first_bit-clause-least c = λ i low high.
+    let bit = c.in-Some-first_bit.ensures.found in
     (λ j. has (sym c.self.view_is j) i && has (sym c.other.view_is j) i)
-    ∙ elim (cases_lt i (c.loop-at.at * 64 + c.loop-at.low)) [
-      | inl before ↦ c.loop-at.invariant.out i low before
-      | inr behind ↦ has_none c.self.inside.words c.other.inside.words c.loop-at.at c.loop-at.low c.in-Some.bit (omega (arith, bit.1)) bit.3 i behind high
-    ]
+    ∙ has_none c.self.inside.words c.other.inside.words (c.args.from / 64) (c.args.from % 64) c.in-Some-first_bit.bit (omega (arith, bit.1))
+    (λ r l h. ap (λ w. bit_at (bit_and w (get_or c.other.inside.words (c.args.from / 64) 0)) r) (sym (c.in-Some.ensures.lookup.4 (omega arith) 0)) ∙ bit.3 r l h) i (omega (arith, low)) high
 
-pub loop-at-preserved : goal.loop-at-preserved
-loop-at-preserved c = record {
-  low = omega arith;
-  reached = omega arith;
-  out = λ i low high. elim (cases_lt i (c.loop-at.at * 64 + c.loop-at.low)) [
-    | inl before ↦ c.loop-at.invariant.out i low before
-    | inr behind ↦ has_none c.self.inside.words c.other.inside.words c.loop-at.at c.loop-at.low 64 (omega arith) c.in_default.ensures.none i behind (omega arith)
-  ];
-}
+pub returns-clause-least : goal.returns-clause-least
+returns-clause-least c =
+    lift_some c.first_in_both.result _ _
+    (λ found least i low high. elim (cases_lt i ((c.args.from / 64 + 1) * 64)) [
+      | inl here ↦
+          (λ j. has (sym c.self.view_is j) i && has (sym c.other.view_is j) i)
+          ∙ in_word c.self.inside.words c.other.inside.words c.args.from c.in-Some.word.now (c.in-Some.ensures.lookup.4 (omega arith) 0) c.in_default-first_bit.ensures.none i low here
+      | inr later ↦ least i later high
+    ])
+    c.first_in_both.ensures.least
+
+pub returns-clause-none : goal.returns-clause-none
+returns-clause-none c =
+    lift_none c.first_in_both.result _ _
+    (λ none i low. elim (cases_lt i ((c.args.from / 64 + 1) * 64)) [
+      | inl here ↦
+          (λ j. has (sym c.self.view_is j) i && has (sym c.other.view_is j) i)
+          ∙ in_word c.self.inside.words c.other.inside.words c.args.from c.in-Some.word.now (c.in-Some.ensures.lookup.4 (omega arith) 0) c.in_default-first_bit.ensures.none i low here
+      | inr later ↦ none i later
+    ])
+    c.first_in_both.ensures.none
