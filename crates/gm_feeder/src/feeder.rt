@@ -9,7 +9,9 @@ ghost use Rattle.gm_feeder.specs.Units.{IsUnitThen, IsFaultOf, Waits, APacket};
 ghost use Rattle.gm_feeder.specs.Heads.{IsHead, data_of as spec_data_of};
 ghost use Rattle.gm_feeder.specs.Streams.{item_of, item_in, with_bytes, without_first, GivesNext, GivesUnit, TakesIn};
 
-use crate::head::{HEADER_LEN, Head, data_of, find_head, missing_of, text_of};
+use crate::head::{
+    HEADER_LEN, Head, begins_with_nul, data_of, find_head, find_packet, missing_of, text_of,
+};
 use crate::room::{make_room, read_at};
 use crate::units::{FeedFault, Limits, OwnedPacket, ReadError, Unit};
 use std::alloc::Global;
@@ -186,10 +188,11 @@ impl Feeder {
         ensures packet { IfSome result (λ packet. GivesUnit self.old (item_in packet) self.new) }
         ensures none { IfNone result (self.new ≡ self.old) }
     {
-        if self.fault.is_some() || self.end - self.start < least {
+        let pending = &self.buffer[self.start..self.end];
+        if self.fault.is_some() || pending.len() < least || !begins_with_nul(pending) {
             return None;
         }
-        match self.look() {
+        match find_packet(pending, self.limits) {
             Head::Packet { kind, size } if size as usize >= least => {
                 self.take_buffer(kind, size as usize)
             }

@@ -42,14 +42,15 @@ fn filled_header(bytes: &[u8]) -> [u8; HEADER_LEN]
     header
 }
 
-fn begins_with_nul(bytes: &[u8]) -> bool
+/// Whether they begin with NUL, as a packet does.
+pub(crate) fn begins_with_nul(bytes: &[u8]) -> bool
     ensures { IsTrue result ↔ BeginsWithNul bytes.now }
 {
     matches!(bytes, [0, ..])
 }
 
 /// The head of bytes that begin with NUL.
-fn find_packet(bytes: &[u8], limits: Limits) -> Head
+pub(crate) fn find_packet(bytes: &[u8], limits: Limits) -> Head
     requires { BeginsWithNul bytes.now }
     ensures { IsHead limits bytes.now result }
 {
