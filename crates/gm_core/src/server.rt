@@ -286,6 +286,9 @@ impl JobServer for Core {
             → (result.items ≡ waiting slot (run k steps).flow) × CoreAgrees self.new k (Drain slot ∷ steps) }
         ensures touched { AllTouched self.old.conns self.new.conns }
     {
-        self.take_out(slot).into_bytes()
+        if !self.conns.is_open(slot) {
+            return Vec::new(self.alloc);
+        }
+        self.conns.drain(slot)
     }
 }
