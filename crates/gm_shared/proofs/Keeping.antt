@@ -16,17 +16,17 @@ use Rattle.gm_shared.specs.Events.{entered}
 use Rattle.gm_shared.specs.Books.{Held, asked, unasked, Drains}
 use Rattle.gm_shared.specs.Shared.{IsGuarded, numbers_below}
 
-pub held_so : {k : Settings} {steps : List Step} {s : Step} {desk : ℕ} {result same : Result Receipt ApplyError} {old new : Booked} {told : List Told}
-    → result ≡ same → Held k steps s desk same old new told → Held k steps s desk result old new told
-held_so {k} {steps} {s} {desk} {result} {same} {old} {new} {told} e h = subst (λ r. Held k steps s desk r old new told) (sym e) h
+pub held_so : {k : Settings} {steps : List Step} {s : Step} {desk : ℕ} {result same : Result Receipt ApplyError} {touched : List ℕ} {old new : Booked} {told : List Told}
+    → result ≡ same → Held k steps s desk same touched old new told → Held k steps s desk result touched old new told
+held_so {k} {steps} {s} {desk} {result} {same} {touched} {old} {new} {told} e h = subst (λ r. Held k steps s desk r touched old new told) (sym e) h
 
-pub applied_keeps : (table : TableId) (taped : Bool) (k : Settings) (steps : List Step) (s : Step) (desk : ℕ) (result : Result Receipt ApplyError) (old new : Booked) (told : List Told)
-    → Held k steps s desk result old new told → new.seat.table ≡ table → old.tape.on ≡ taped → IsGuarded table k taped new
-applied_keeps table taped k steps s desk (Ok receipt) old new told (asked noop h) same on =
+pub applied_keeps : (table : TableId) (taped : Bool) (k : Settings) (steps : List Step) (s : Step) (desk : ℕ) (result : Result Receipt ApplyError) (touched : List ℕ) (old new : Booked) (told : List Told)
+    → Held k steps s desk result touched old new told → new.seat.table ≡ table → old.tape.on ≡ taped → IsGuarded table k taped new
+applied_keeps table taped k steps s desk (Ok receipt) touched old new told (asked noop h) same on =
     record { steps = s ∷ entered noop steps; agrees = h.event.agrees; table_is = same; on = h.tape.on ∙ on }
-applied_keeps table taped k steps s desk (Err refused) old new told (asked noop h) same on =
+applied_keeps table taped k steps s desk (Err refused) touched old new told (asked noop h) same on =
     record { steps = entered noop steps; agrees = h.event.1; table_is = same; on = h.tape.on ∙ on }
-applied_keeps table taped k steps s desk result old new told (unasked h) same on =
+applied_keeps table taped k steps s desk result touched old new told (unasked h) same on =
     record { steps = steps; agrees = h.agrees; table_is = same; on = h.tape.on ∙ on }
 
 pub drained_keeps : (table : TableId) (taped : Bool) (k : Settings) (steps : List Step) (pen slot : ℕ) (result : Result Drained ApplyError) (old new : Booked) (told : List Told)

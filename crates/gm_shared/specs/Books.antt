@@ -68,20 +68,20 @@ abbrev pub IsLeftOut : Step → List ℕ → Booked → Type 0
 IsLeftOut s touched booked = (c : ℕ) → slot_of s ≡ Some c → c < booked.slots → (conn booked.core.conns c).is_open ≡ true
     → IsIdle (outbox (conn booked.core.conns c)) → has touched c ≡ false
 
--- the event was taken after these steps, and the receipt tells so
-pub record IsTaken (k : Settings) (steps : List Step) (s : Step) (receipt : Receipt) (old new : Booked) : Type 0 where
+-- The event was taken after these steps, as the receipt tells, and touched these slots.
+pub record IsTaken (k : Settings) (steps : List Step) (s : Step) (receipt : Receipt) (touched : List ℕ) (old new : Booked) : Type 0 where
   pub taken : refusal k s (run k steps) ≡ None
   pub done_is : receipt.done ≡ done k s (run k steps)
   pub mode_is : receipt.mode ≡ mode (run k (s ∷ steps)).notes
   pub agrees : BookedAgrees new k (s ∷ steps)
   -- whose waiting bytes, phase or shut changed is among the touched slots, unless nothing is to be delivered there
-  pub touched : (c : ℕ) → has receipt.touched c ≡ false
+  pub told : (c : ℕ) → has touched c ≡ false
       → (outbox (conn new.core.conns c) ≡ outbox (conn old.core.conns c)) ⊎ IsIdle (outbox (conn new.core.conns c))
-  pub left_out : IsLeftOut s receipt.touched new
+  pub left_out : IsLeftOut s touched new
 
-abbrev pub IsDone : Settings → List Step → Step → Result Receipt ApplyError → Booked → Booked → Type 0
-IsDone k steps s (Ok receipt) old new = IsTaken k steps s receipt old new
-IsDone k steps s (Err refused) old new = IsRefusal refused (refusal k s (run k steps)) × BookedAgrees new k steps
+abbrev pub IsDone : Settings → List Step → Step → Result Receipt ApplyError → List ℕ → Booked → Booked → Type 0
+IsDone k steps s (Ok receipt) touched old new = IsTaken k steps s receipt touched old new
+IsDone k steps s (Err refused) touched old new = IsRefusal refused (refusal k s (run k steps)) × BookedAgrees new k steps
 
 -- the receipt tells the event's place, behind what was entered of the NOOP
 abbrev pub TellsPlace : ℕ → Noop → Result Receipt ApplyError → Tape → Type 0
@@ -95,10 +95,10 @@ AsksWord (Some c) past old new = owes c past ≡ true → (line_at c old).looks 
 
 -- What a holding did: it asked the word of the event's slot, found this of the NOOP, and entered it; after that the event was taken, or was refused and changed
 -- nothing. Both are entered on the tape, if one is kept, and the desk is told so.
-pub record Holding (k : Settings) (steps : List Step) (s : Step) (desk : ℕ) (noop : Noop) (result : Result Receipt ApplyError) (old new : Booked) (told : List Told) : Type 0 where
+pub record Holding (k : Settings) (steps : List Step) (s : Step) (desk : ℕ) (noop : Noop) (result : Result Receipt ApplyError) (touched : List ℕ) (old new : Booked) (told : List Told) : Type 0 where
   pub asks : AsksWord (slot_of s) (run k steps) old.seat.lines new.seat.lines
   pub found : MayFind noop s (run k steps)
-  pub event : IsDone k (entered noop steps) s result old new
+  pub event : IsDone k (entered noop steps) s result touched old new
   pub tape : Grows (holding_entries desk noop s result) old.tape new.tape told
   pub place : TellsPlace desk noop result old.tape
 
@@ -109,9 +109,9 @@ pub record NoRoom (k : Settings) (steps : List Step) (result : Result Receipt Ap
   pub agrees : BookedAgrees new k steps
   pub tape : Grows [] old.tape new.tape told
 
-pub data Held (k : Settings) (steps : List Step) (s : Step) (desk : ℕ) (result : Result Receipt ApplyError) (old new : Booked) (told : List Told) : Type 0 where
-  asked : (noop : Noop) → Holding k steps s desk noop result old new told → Held k steps s desk result old new told
-  unasked : NoRoom k steps result old new told → Held k steps s desk result old new told
+pub data Held (k : Settings) (steps : List Step) (s : Step) (desk : ℕ) (result : Result Receipt ApplyError) (touched : List ℕ) (old new : Booked) (told : List Told) : Type 0 where
+  asked : (noop : Noop) → Holding k steps s desk noop result touched old new told → Held k steps s desk result touched old new told
+  unasked : NoRoom k steps result old new told → Held k steps s desk result touched old new told
 
 -- a closing needs no memory, where no tape is kept
 abbrev pub NeedsNoMemory : Bool → Step → Type 0

@@ -40,17 +40,21 @@ pub record IsGuarded (table : TableId) (k : Settings) (taped : Bool) (booked : B
   pub table_is : booked.seat.table ≡ table
   pub on : booked.tape.on ≡ taped
 
--- The answer is that of one holding of a book that agreed with these settings and some list of steps, and what the desk was told
--- of its tape was added to the desk's share.
-pub record Applied (k : Settings) (taped : Bool) (s : Step) (desk : ℕ) (result : Result Receipt ApplyError) (share after : List Told) : Type 0 where
+-- The answer is that of one holding of a book that agreed with these settings and some list of steps, the event touched these
+-- slots, and what the desk was told of the book's tape was added to the desk's share.
+pub record AppliedTo (k : Settings) (taped : Bool) (s : Step) (desk : ℕ) (result : Result Receipt ApplyError) (touched : List ℕ) (share after : List Told) : Type 0 where
   pub steps : List Step
   pub old : Booked
   pub new : Booked
   pub on : old.tape.on ≡ taped
   pub agrees : BookedAgrees old k steps
   pub told : List Told
-  pub held : Held k steps s desk result old new told
+  pub held : Held k steps s desk result touched old new told
   pub share_is : after ≡ share ++ told
+
+-- the same, whichever slots it touched
+abbrev pub Applied : Settings → Bool → Step → ℕ → Result Receipt ApplyError → List Told → List Told → Type 0
+Applied k taped s desk result share after = (touched : List ℕ) × AppliedTo k taped s desk result touched share after
 
 pub record Emptied (k : Settings) (taped : Bool) (pen slot : ℕ) (result : Result Drained ApplyError) (share after : List Told) : Type 0 where
   pub steps : List Step

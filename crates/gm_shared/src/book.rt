@@ -1,6 +1,6 @@
 //! The book.
 
-ghost use Rattle.std.specs.Prelude.{◌≡◌, ◌⊎◌, ◌<◌, ◌≤◌, ◌++◌, ℕ, [], List, IfOk, IfSome, true, false, length, None};
+ghost use Rattle.std.specs.Prelude.{◌≡◌, ◌⊎◌, ◌<◌, ◌≤◌, ◌++◌, ℕ, [], List, IfOk, IfErr, IfSome, true, false, length, None};
 ghost use Rattle.gm_conns.specs.Slots.{has};
 ghost use Rattle.gm_conns.specs.ConnTables.{conn, is_touched};
 ghost use Rattle.gm_word.specs.Seats.{fresh_pens};
@@ -92,7 +92,7 @@ impl Booked {
         requires size { IsSized event.now }
         requires table { self.old.seat.table ≡ table.now }
         ensures holding { (k : Settings) (steps : List Step) → BookedAgrees self.old k steps
-            → (told : List Told) × Held k steps (step_of event.now) desk result self.old self.new told }
+            → (told : List Told) × (touched : List ℕ) × Held k steps (step_of event.now) desk result touched self.old self.new told }
         ensures memory { NeedsNoMemory self.old.tape.on (step_of event.now) → IsErrOf result ApplyError.Memory → ⊥ }
         ensures table { self.new.seat.table ≡ self.old.seat.table }
         // That a taking is entered only when the book next looks at the slot changes no other step.
@@ -100,11 +100,16 @@ impl Booked {
     {
         may_be_taken_later();
         let mut share = Vec::new(self.alloc);
-        self.hold(table, desk, event, None, &mut share)
+        let mut touched = SlotSet::new();
+        self.hold(table, desk, event, None, &mut share, &mut touched)
     }
 
     /// `apply`, which adds what the desk is told of the tape to its share. The data of a packet may be shared, as
     /// `Core::apply_with` says.
+    ///
+    /// `touched` becomes the slots whose waiting bytes, phase or shut changed and to which something is to be delivered,
+    /// and perhaps more: it is for them that a writer may have something to do. Where the event is refused there are none.
+    /// The set is the caller's, and not a part of the receipt, because a receipt is moved at each return.
     pub(crate) fn hold(
         &mut self,
         table: &SleepTable,
@@ -112,28 +117,30 @@ impl Booked {
         event: &Event<'_>,
         whole: Option<&SharedBytes>,
         share: &mut Vec<Told>,
+        touched: &mut SlotSet,
     ) -> Result<Receipt, ApplyError>
         requires size { IsSized event.now }
         requires whole { IfSome whole (λ shared. AreDataOf event.now shared.now) }
         requires table { self.old.seat.table ≡ table.now }
         ensures holding { (k : Settings) (steps : List Step) → BookedAgrees self.old k steps
             → (told : List Told) × (share.new.items ≡ share.old.items ++ told)
-            × Held k steps (step_of event.now) desk result self.old self.new told }
+            × Held k steps (step_of event.now) desk result touched.new self.old self.new told }
+        ensures refused { IfErr result (λ _. (c : ℕ) → has touched.new c ≡ false) }
         ensures memory { NeedsNoMemory self.old.tape.on (step_of event.now) → IsErrOf result ApplyError.Memory → ⊥ }
         ensures table { self.new.seat.table ≡ self.old.seat.table }
     {
+        *touched = SlotSet::new();
         let copies = self.tape.room_for(self.alloc, share, event)?;
         let noop = self.resolve_noop(table, event);
         self.tape.enter_noop(share, desk, noop);
         let done = self.core.apply_with(event, whole)?;
         let at = self.tape.enter_event(share, desk, copies, done);
-        let mut touched = self.follow(table, event);
-        self.leave_out_idle(event, &mut touched);
+        self.follow(table, event, touched);
+        self.leave_out_idle(event, touched);
         Ok(Receipt {
             at,
             done,
             mode: self.core.mode(),
-            touched,
         })
     }
 
@@ -238,35 +245,35 @@ impl Booked {
         }
     }
 
-    /// Makes the words of the touched slots follow the core, which were touched since they were last taken.
-    fn follow_touched(&mut self, table: &SleepTable) -> SlotSet
+    /// Makes the words of the touched slots follow the core. `touched` becomes the slots that were touched since they were
+    /// last taken.
+    fn follow_touched(&mut self, table: &SleepTable, touched: &mut SlotSet)
         requires { self.old.seat.table ≡ table.now }
-        ensures follows { FollowsAt result self.old self.new }
+        ensures follows { FollowsAt touched.new self.old self.new }
         ensures tape { self.new.tape ≡ self.old.tape }
-        ensures missed { (c : ℕ) → c < self.old.slots → has result c ≡ false → is_touched self.old.core.conns c ≡ false }
+        ensures missed { (c : ℕ) → c < self.old.slots → has touched.new c ≡ false → is_touched self.old.core.conns c ≡ false }
     {
-        let mut touched = SlotSet::new();
+        *touched = SlotSet::new();
         for _at in 0..self.slots {
             let Some(slot) = self.core.take_touched() else {
-                return touched;
+                return;
             };
             if slot >= self.slots {
-                return touched;
+                return;
             }
             let phase = self.core.phase(slot);
             sync_word(&mut self.seat, table, slot, phase);
             touched.insert(slot);
         }
-        touched
     }
 
-    /// Makes the words follow the core after an event, and gives the slots that were touched.
-    fn follow(&mut self, table: &SleepTable, event: &Event<'_>) -> SlotSet
+    /// Makes the words follow the core after an event. `touched` becomes the slots that were touched.
+    fn follow(&mut self, table: &SleepTable, event: &Event<'_>, touched: &mut SlotSet)
         requires { self.old.seat.table ≡ table.now }
-        ensures follows { FollowsCore (step_of event.now) result self.old self.new }
+        ensures follows { FollowsCore (step_of event.now) touched.new self.old self.new }
         ensures tape { self.new.tape ≡ self.old.tape }
     {
-        let mut touched = self.follow_touched(table);
+        self.follow_touched(table, touched);
         if let Event::Close { slot } = *event
             && slot < self.slots
         {
@@ -274,7 +281,6 @@ impl Booked {
             sync_word(&mut self.seat, table, slot, phase);
             touched.insert(slot);
         }
-        touched
     }
 
     /// Whether a slot is open, and nothing is to be delivered there.

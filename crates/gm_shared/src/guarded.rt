@@ -1,11 +1,12 @@
 //! What the lock guards.
 
-ghost use Rattle.std.specs.Prelude.{◌≡◌, List, IfSome};
+ghost use Rattle.std.specs.Prelude.{◌≡◌, ℕ, List, IfErr, IfSome, false};
+ghost use Rattle.gm_conns.specs.Slots.{has};
 ghost use Rattle.gm_notes.specs.Steps.{Step};
 ghost use Rattle.gm_notes.specs.Servers.{step_of, IsSized};
 ghost use Rattle.gm_core.specs.Writing.{AreDataOf};
 ghost use Rattle.gm_shared.specs.Books.{BookedAgrees, Held, NeedsNoMemory, Drains};
-ghost use Rattle.gm_shared.specs.Shared.{IsGuarded, Applied, Emptied};
+ghost use Rattle.gm_shared.specs.Shared.{IsGuarded, AppliedTo, Emptied};
 ghost use Rattle.std.specs.Result.{IsErrOf};
 
 use crate::book::Booked;
@@ -13,6 +14,7 @@ use crate::name::BookName;
 use crate::receipt::{Drained, Receipt};
 use crate::tape::Told;
 use gm_bytes::SharedBytes;
+use gm_conns::SlotSet;
 use gm_notes::{ApplyError, Event};
 use gm_word::SleepTable;
 use std::marker::{Model, PhantomData};
@@ -55,16 +57,18 @@ impl<K: BookName> Guarded<K> {
         event: &Event<'_>,
         whole: Option<&SharedBytes>,
         share: &mut Vec<Told>,
+        touched: &mut SlotSet,
     ) -> (Result<Receipt, ApplyError>, Option<SharedBytes>)
         requires size { IsSized event.now }
         requires whole { IfSome whole (λ shared. AreDataOf event.now shared.now) }
         requires table { table.now ≡ K.table }
-        ensures applied { Applied K.settings K.taped (step_of event.now) desk result.0 share.old.items share.new.items }
+        ensures applied { AppliedTo K.settings K.taped (step_of event.now) desk result.0 touched.new share.old.items share.new.items }
         ensures holding { (steps : List Step) → BookedAgrees self.old K.settings steps
-            → (told : List Told) × (new : Booked) × Held K.settings steps (step_of event.now) desk result.0 self.old new told }
+            → (told : List Told) × (new : Booked) × Held K.settings steps (step_of event.now) desk result.0 touched.new self.old new told }
+        ensures refused { IfErr result.0 (λ _. (c : ℕ) → has touched.new c ≡ false) }
         ensures memory { NeedsNoMemory K.taped (step_of event.now) → IsErrOf result.0 ApplyError.Memory → ⊥ }
     {
-        let result = self.booked.hold(table, desk, event, whole, share);
+        let result = self.booked.hold(table, desk, event, whole, share, touched);
         (result, self.booked.take_ended())
     }
 

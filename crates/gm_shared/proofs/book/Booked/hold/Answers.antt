@@ -54,7 +54,7 @@ returns-clause-holding c = λ k steps h.
     let old = c.args.self.now.tape in
     let mid = c.resolve_noop-noop.new.self.tape in
     let then_ = c.enter_noop.new.self in
-    let new = c.follow-touched.new.self.tape in
+    let new = c.follow.new.self.tape in
     let found = c.resolve_noop-noop.ensures.found k steps (record { core = h.holds.core; slots = h.holds.slots; words = h.holds.words }) in
     let before = entered noop steps in
     let answer = c.in_ok-done.ensures.answers k before found.1.core in
@@ -65,7 +65,7 @@ returns-clause-holding c = λ k steps h.
     let done = c.in_ok-done.done in
     let copies = subst (λ on. AreCopies on (tape_step (step_of event)) c.in_ok-copies.copies) (sym (ap (λ t. t.on) c.resolve_noop-noop.ensures.tape) ∙ sym first.0.on) c.in_ok-copies.ensures.copies in
     let second = c.enter_event-at.ensures.grows (tape_step (step_of event)) copies in
-    let last = grows_same _ then_ c.enter_event-at.new.self new _ second.0 c.follow-touched.ensures.tape in
+    let last = grows_same _ then_ c.enter_event-at.new.self new _ second.0 c.follow.ensures.tape in
     let noop_all = grows_twice [] (noop_entries desk noop) old mid then_ [] _ room first.0 in
     let told = told_of mid (noop_entries desk noop) ++ told_of then_ (event_entry desk (tape_step (step_of event)) done ∷ []) in
     let begun = tape_after k steps [] old mid _ room (tape_same k steps old.on old.entries.items h.tape) in
@@ -74,19 +74,19 @@ returns-clause-holding c = λ k steps h.
       told,
       second.1 ∙ (ap (λ ts. ts ++ told_of then_ (event_entry desk (tape_step (step_of event)) done ∷ [])) (first.1 ∙ ap (λ ts. ts ++ told_of mid (noop_entries desk noop)) c.room_for.ensures.share) ∙ append_assoc c.args.share.now.items _ _),
       asked noop (record {
-        asks = asks_still (slot_of (step_of event)) k steps c.args.self.now.seat.lines c.resolve_noop-noop.new.self.seat.lines c.follow-touched.new.self.seat.lines
+        asks = asks_still (slot_of (step_of event)) k steps c.args.self.now.seat.lines c.resolve_noop-noop.new.self.seat.lines c.follow.new.self.seat.lines
             (c.resolve_noop-noop.ensures.asks k steps (record { core = h.holds.core; slots = h.holds.slots; words = h.holds.words }))
-            (asked_before k event before c.resolve_noop-noop.new.self _ c.follow-touched.new.self c.follow-touched.result found.1 refl refl answer.1 c.in_ok-done.ensures.touched c.follow-touched.ensures.follows calm);
+            (asked_before k event before c.resolve_noop-noop.new.self _ c.follow.new.self c.follow.new.touched found.1 refl refl answer.1 c.in_ok-done.ensures.touched c.follow.ensures.follows calm);
         found = found.0;
         event = record {
           taken = answer.0.0;
           done_is = answer.0.1;
-          mode_is = c.mode.ensures k _ (c.follow-touched.ensures.follows.follows.agrees k _ answer.1);
+          mode_is = c.mode.ensures k _ (c.follow.ensures.follows.follows.agrees k _ answer.1);
           agrees = record {
-            holds = agrees_after k event before c.resolve_noop-noop.new.self _ c.follow-touched.new.self c.follow-touched.result found.1 refl refl answer.1 c.in_ok-done.ensures.touched c.follow-touched.ensures.follows calm;
+            holds = agrees_after k event before c.resolve_noop-noop.new.self _ c.follow.new.self c.follow.new.touched found.1 refl refl answer.1 c.in_ok-done.ensures.touched c.follow.ensures.follows calm;
             tape = all_kept;
           };
-          touched = λ d left. elim (c.leave_out_idle.ensures.others d left) [ inr idle ↦ inr idle | inl was ↦ inl (lanes_after k event before c.resolve_noop-noop.new.self _ c.follow-touched.new.self c.follow-touched.result found.1 refl refl answer.1 c.in_ok-done.ensures.touched c.follow-touched.ensures.follows calm c.args.self.now steps h.holds.core c.resolve_noop-noop.ensures.touched d was) ];
+          told = λ d left. elim (c.leave_out_idle.ensures.others d left) [ inr idle ↦ inr idle | inl was ↦ inl (lanes_after k event before c.resolve_noop-noop.new.self _ c.follow.new.self c.follow.new.touched found.1 refl refl answer.1 c.in_ok-done.ensures.touched c.follow.ensures.follows calm c.args.self.now steps h.holds.core c.resolve_noop-noop.ensures.touched d was) ];
           left_out = c.leave_out_idle.ensures.own;
         };
         tape = grows_twice (noop_entries desk noop) _ old then_ new _ _ noop_all last;

@@ -11,7 +11,7 @@ pub invariant_of-self : goal.invariant_of-self
 invariant_of-self g c =
     let i = c.self.invariant in
     let h = c.hold-result.ensures.holding _ i.steps i.agrees in
-    let kept = applied_keeps _ _ _ i.steps _ _ _ _ _ h.0 h.2 (c.hold-result.ensures.table ∙ i.table_is) i.on in
+    let kept = applied_keeps _ _ _ i.steps _ _ _ _ _ _ h.0 h.2 (c.hold-result.ensures.table ∙ i.table_is) i.on in
     record {
       steps = kept.steps;
       agrees = c.take_ended.ensures.agrees _ kept.steps kept.agrees;
@@ -28,5 +28,5 @@ returns-clause-applied g c =
 pub returns-clause-holding : goal.returns-clause-holding
 returns-clause-holding g c =
     subst (λ (b : Booked). (steps : List Step) → BookedAgrees b g.K.BookName.settings steps
-    → (told : List Told) × (new : Booked) × Held g.K.BookName.settings steps (step_of c.args.event.now) c.args.desk c.hold-result.result b new told) c.self.view_is
+    → (told : List Told) × (new : Booked) × Held g.K.BookName.settings steps (step_of c.args.event.now) c.args.desk c.hold-result.result c.hold-result.new.touched b new told) c.self.view_is
     (λ steps h. let done = c.hold-result.ensures.holding _ steps h in (done.0, _, done.2))
