@@ -8,8 +8,8 @@ use Rattle.gm_notes.specs.declared.event.ApplyError.{ApplyError}
 use Rattle.gm_shared.specs.declared.receipt.Drained.{Drained}
 use Rattle.gm_shared.specs.declared.tape.Told.{Told}
 use Rattle.gm_shared.specs.Shared.{Emptied}
-use Rattle.gm_server.specs.declared.outbox.Delivery.{Delivery}
-use Rattle.gm_server.specs.declared.outbox.Delivery.TheVariants.{Done, Over}
+use Rattle.gm_server.specs.declared.message.Delivery.{Delivery}
+use Rattle.gm_server.specs.declared.message.Delivery.TheVariants.{Done, Over}
 use Rattle.gm_server.specs.Turns.{turn_of}
 use Rattle.gm_server.specs.Deliveries.{Sends, unasked, given, refused, Delivers}
 

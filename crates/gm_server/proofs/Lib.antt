@@ -4,4 +4,3 @@ mod Owning
 mod Promised
 mod Serving
 mod Sending
-mod Writing

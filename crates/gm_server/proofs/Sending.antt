@@ -1,14 +1,12 @@
--- A message that is sent part after part.
-use Rattle.std.proofs.Common.{◌≡◌, ◌+◌, ◌≤◌, ℕ, List, [], ◌++◌, Option, length, take, drop, refl, sym, ap, subst, ◌∙◌, arith, length-append}
-use Rattle.std.proofs.Common.{length-take-le}
-use Rattle.std.proofs.lemmas.List.{append_assoc, append-nil, take-append-drop, drop-drop}
+-- A message that is sent in several writes.
+use Rattle.std.proofs.Common.{◌≡◌, ◌+◌, ◌≤◌, ℕ, List, [], ◌++◌, Option, length, take, drop, refl, sym, ap, subst, ◌∙◌, arith, length-append, length-drop}
+use Rattle.std.proofs.lemmas.List.{append_assoc, take-append-drop, take-append-le}
 use Rattle.std.proofs.KnownBytes.{Appends-nil, Appends-trans}
 use Rattle.std.specs.Io.KnownBytes.{Appends}
-use Rattle.gm_server.specs.declared.outbox.Delivery.{Delivery}
-use Rattle.gm_server.specs.declared.outbox.Delivery.TheVariants.{Done}
-use Rattle.gm_server.specs.declared.message.Halt.{Halt}
-use Rattle.gm_server.specs.Deliveries.{SendsFront, SendsPart}
-use Rattle.gm_server.specs.Turns.{Parts}
+use Rattle.gm_server.specs.declared.message.Delivery.{Delivery}
+use Rattle.gm_server.specs.declared.message.Delivery.TheVariants.{Done}
+use Rattle.gm_server.specs.Deliveries.{SendsFront}
+use Rattle.gm_server.specs.Turns.{Writes}
 
 -- a front of what was due is sent, and this is left
 pub record Sending (old now : Option (List ℕ)) (due left : List ℕ) : Type 0 where
@@ -23,20 +21,14 @@ module _ (old now new : Option (List ℕ)) (due left after : List ℕ) (so_far :
   joined : (sent : List ℕ) → left ≡ sent ++ after → due ≡ (so_far.sent ++ sent) ++ after
   joined sent whole = so_far.whole ∙ (ap (λ l. so_far.sent ++ l) whole ∙ sym (append_assoc so_far.sent sent after))
 
-  pub sending_more : (delivery : Delivery) → SendsPart delivery now new left after → Sending old new due after
-  sending_more delivery part = record {
-    sent = so_far.sent ++ part.sent;
-    written = Appends-trans old now new so_far.sent part.sent so_far.written part.written;
-    whole = joined part.sent part.whole;
+  pub sending_more : (sent : List ℕ) → Appends now new sent → left ≡ sent ++ after → Sending old new due after
+  sending_more sent written whole = record {
+    sent = so_far.sent ++ sent;
+    written = Appends-trans old now new so_far.sent sent so_far.written written;
+    whole = joined sent whole;
   }
 
-  -- it stopped within a part
-  pub sending_stops : (delivery : Delivery) → (delivery ≡ Done → ⊥) → SendsPart delivery now new left after → SendsFront delivery old new due after
-  sending_stops delivery undone part =
-      let more = sending_more delivery part in
-      record { sent = more.sent; written = more.written; whole = more.whole; done = λ is. absurd (undone is); undone = part.undone }
-
-  -- the last part
+  -- the last write
   pub sending_last : (delivery : Delivery) → SendsFront delivery now new left after → SendsFront delivery old new due after
   sending_last delivery last = record {
     sent = so_far.sent ++ last.sent;
@@ -46,30 +38,32 @@ module _ (old now new : Option (List ℕ)) (due left after : List ℕ) (so_far :
     undone = last.undone;
   }
 
--- ---- one part
+-- ---- one write of the bytes that lie in one place
 
-module _ (old new : Option (List ℕ)) (part rest noop bytes : List ℕ) (written : ℕ) (left : bytes ≡ drop written part) where
-  abbrev due : List ℕ
-  due = drop written part ++ (rest ++ noop)
+module _ (old now new : Option (List ℕ)) (due bytes chunk rest moved noop : List ℕ) (count : ℕ) (delivery : Delivery) (so_far : Sending old now due (bytes ++ noop))
+    (first : bytes ≡ chunk ++ rest) (writes : Writes now new chunk count delivery) (after : moved ≡ drop count bytes) where
+  taken : take count bytes ≡ take count chunk
+  taken = ap (take count) first ∙ take-append-le count chunk rest writes.within
 
-  module _ (halt : Halt) where
-    abbrev after : List ℕ
-    after = drop (written + halt.bytes) part
+  pub chunk_sent : Sending old new due (moved ++ noop)
+  chunk_sent =
+      sending_more old now new due (bytes ++ noop) (moved ++ noop) so_far (take count chunk) writes.written
+      (ap (λ l. l ++ noop) (sym (take-append-drop count bytes)) ∙ (append_assoc (take count bytes) (drop count bytes) noop ∙ (λ j. taken j ++ (sym after j ++ noop))))
 
-    halves : bytes ≡ take halt.bytes bytes ++ after
-    halves = sym (take-append-drop halt.bytes bytes) ∙ ap (λ l. take halt.bytes bytes ++ l) (ap (drop halt.bytes) left ∙ drop-drop halt.bytes written part)
-
-    after_long : halt.bytes ≤ length bytes → length after + halt.bytes ≡ length bytes
-    after_long within = omega (arith, within, ap length halves ∙ length-append (take halt.bytes bytes) after, length-take-le halt.bytes bytes within)
-
-    -- within it the peer takes no more
-    pub part_stopped : (delivery : Delivery) → Parts old new bytes [] halt → SendsPart delivery old new due (after ++ (rest ++ drop halt.noop noop))
-    part_stopped delivery parts =
-        let none : halt.noop ≡ 0 = omega (arith, parts.noop_within) in
-        record {
-          sent = take halt.bytes bytes;
-          written = subst (λ l. Appends old new l) (ap (λ n. take halt.bytes bytes ++ take n []) none ∙ append-nil (take halt.bytes bytes)) parts.written;
-          whole = ap (λ l. l ++ (rest ++ noop)) (sym left ∙ halves)
-              ∙ (append_assoc (take halt.bytes bytes) after (rest ++ noop) ∙ ap (λ n. take halt.bytes bytes ++ (after ++ (rest ++ drop n noop))) (sym none));
-          undone = λ is. absurd (omega (arith, none, parts.short, after_long parts.bytes_within, ap length is, length-append after (rest ++ drop halt.noop noop)));
-        }
+  -- the peer takes no more
+  pub chunk_stops : (stopped : Delivery) → delivery ≡ stopped → (stopped ≡ Done → ⊥) → SendsFront stopped old new due (moved ++ noop)
+  chunk_stops stopped is_stopped undone = record {
+    sent = chunk_sent.sent;
+    written = chunk_sent.written;
+    whole = chunk_sent.whole;
+    done = λ is. absurd (undone is);
+    undone = λ is. sym is_stopped ∙ writes.undone (omega (
+      arith,
+      writes.within,
+      ap length is,
+      length-append moved noop,
+      ap length after,
+      length-drop count bytes,
+      ap length first ∙ length-append chunk rest,
+    ));
+  }

@@ -1,19 +1,19 @@
 -- What a delivery sends to a connection.
-use Rattle.std.specs.Prelude.{◌≡◌, ◌+◌, ℕ, List, [], ◌++◌, drop, Bool, true, false, Option, Some, None, Ok, Err, MatchBool}
+use Rattle.std.specs.Prelude.{◌≡◌, ◌+◌, ℕ, List, [], ◌++◌, Bool, true, false, Option, Some, None, Ok, Err, MatchBool}
 use Rattle.std.specs.Io.KnownBytes.{Appends}
 use Rattle.gm_notes.specs.Settings.{Settings}
 use Rattle.gm_notes.specs.declared.event.ApplyError.{ApplyError}
 use Rattle.gm_shared.specs.declared.receipt.Drained.{Drained}
 use Rattle.gm_shared.specs.declared.tape.Told.{Told}
 use Rattle.gm_shared.specs.Shared.{Emptied}
-use Rattle.gm_server.specs.declared.outbox.Delivery.{Delivery}
-use Rattle.gm_server.specs.declared.outbox.Delivery.TheVariants.{Done, Late, Over}
+use Rattle.gm_server.specs.declared.message.Delivery.{Delivery}
+use Rattle.gm_server.specs.declared.message.Delivery.TheVariants.{Done, Late, Over}
 use Rattle.gm_server.specs.declared.outbox.Message.{Message}
 use Rattle.gm_server.specs.Turns.{turn_of}
 
 -- what isn't sent yet of a message
 abbrev pub unsent : Message → List ℕ
-unsent message = drop message.written message.part ++ (message.rest ++ message.noop.now)
+unsent message = message.bytes ++ message.noop.now
 
 abbrev pub left_in : Option Message → List ℕ
 left_in None = []
@@ -25,13 +25,6 @@ pub record SendsFront (delivery : Delivery) (old new : Option (List ℕ)) (due l
   pub written : Appends old new sent
   pub whole : due ≡ sent ++ left
   pub done : delivery ≡ Done → left ≡ []
-  pub undone : left ≡ [] → delivery ≡ Done
-
--- A front of what was due was sent, and this is left; something where not even the present part is done.
-pub record SendsPart (delivery : Delivery) (old new : Option (List ℕ)) (due left : List ℕ) : Type 0 where
-  pub sent : List ℕ
-  pub written : Appends old new sent
-  pub whole : due ≡ sent ++ left
   pub undone : left ≡ [] → delivery ≡ Done
 
 -- What becomes of what wasn't sent: at Done there is none; at Late there is some, and it is left; a connection that is over forgets it.

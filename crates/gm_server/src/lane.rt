@@ -3,7 +3,8 @@
 ghost use Rattle.std.specs.Prelude.{◌≡◌, ℕ, List, [], Option, true, Some, None, IfSome, IfNone, is_none};
 ghost use Rattle.gm_server.specs.Deliveries.{left_in, Delivers};
 
-use crate::outbox::{Delivery, Outbox};
+use crate::message::Delivery;
+use crate::outbox::Outbox;
 use crate::own_desk::OwnDesk;
 use crossbeam_utils::sync::{Parker, Unparker};
 use gm_lane_word::{LaneWord, Looking, Owed};

@@ -1,135 +1,63 @@
 //! What is to be sent to a connection, and how it is sent.
 
-ghost use Rattle.std.specs.Prelude.{◌≡◌, ◌+◌, ◌<◌, ◌≤◌, ◌++◌, [], MatchBool, length, drop};
+ghost use Rattle.std.specs.Prelude.{◌≡◌, []};
 
-use crate::message::{Halt, noop_if, write_message};
-use gm_conns::{Outgoing, Part};
+use crate::message::{Delivery, noop_if, write_once};
+use gm_conns::Outgoing;
 use gm_shared::{BookName, Drained, Pen, Shared};
 use std::io::Write;
 use std::sync::Wait;
 
-/// What is being sent: drained bytes, part after part, and then a NOOP where one was taken.
+/// What is being sent: drained bytes, and then a NOOP where one was taken.
 #[derive(Drop)]
 struct Message {
-    /// The part that is being sent.
-    part: Part,
-    /// How many of its bytes are sent.
-    written: usize,
-    /// What comes after it.
-    rest: Outgoing,
+    /// The bytes that aren't sent yet.
+    bytes: Outgoing,
     /// What isn't sent yet of the NOOP.
     noop: &'static [u8],
-    ghost within: { written ≤ length part },
-}
-
-/// What is left of two parts when `written` of their bytes are sent.
-fn rest_of<'a>(parts: (&'a [u8], &'a [u8]), written: usize) -> (&'a [u8], &'a [u8])
-    requires { written ≤ length (parts.0.now ++ parts.1.now) }
-    ensures { result.0.now ++ result.1.now ≡ drop written (parts.entry.0.now ++ parts.entry.1.now) }
-{
-    let (first, second) = parts;
-    if written < first.len() {
-        (&first[written..], second)
-    } else {
-        (&[], &second[written - first.len()..])
-    }
 }
 
 impl Message {
     ghost use Rattle.gm_server.specs.Turns.{turn_of};
-    ghost use Rattle.gm_server.specs.Deliveries.{unsent, SendsFront, SendsPart};
+    ghost use Rattle.gm_server.specs.Deliveries.{unsent, SendsFront};
 
     fn new(bytes: Outgoing, took: bool) -> Message
-        ensures unsent { unsent result ≡ turn_of took bytes }
-        ensures written { result.written ≡ 0 }
+        ensures { unsent result ≡ turn_of took bytes }
     {
-        let mut rest = bytes;
-        let part = rest.next_part();
         Message {
-            part,
-            written: 0,
-            rest,
+            bytes,
             noop: noop_if(took),
         }
     }
 
-    /// Sends what isn't sent yet, as far as the peer takes it at once.
+    /// Sends what isn't sent yet: the bytes in as many writes as the places that they lie in, and then the NOOP.
     fn send<W: Write>(&mut self, w: &mut W) -> Delivery
         ensures { SendsFront result (W.contents w.old) (W.contents w.new) (unsent self.old) (unsent self.new) }
     {
-        while !self.rest.is_empty() {
-            match self.send_part(w) {
+        loop {
+            let chunk = self.bytes.chunk();
+            if chunk.is_empty() {
+                return self.send_noop(w);
+            }
+            let (count, delivery) = write_once(chunk, w);
+            self.bytes.advance(count);
+            match delivery {
                 Delivery::Done => {}
                 Delivery::Late => return Delivery::Late,
                 Delivery::Over => return Delivery::Over,
             }
         }
-        self.send_last(w)
     }
 
-    /// Sends what isn't sent yet of the present part, and then goes on to the next.
-    fn send_part<W: Write>(&mut self, w: &mut W) -> Delivery
-        ensures sends { SendsPart result (W.contents w.old) (W.contents w.new) (unsent self.old) (unsent self.new) }
-        ensures shorter { result ≡ Delivery.Done → 0 < length self.old.rest → length self.new.rest < length self.old.rest }
-    {
-        let (first, second) = rest_of(self.part.slices(), self.written);
-        match write_message(first, second, &[], w) {
-            Ok(()) => {
-                self.part = self.rest.next_part();
-                self.written = 0;
-                Delivery::Done
-            }
-            Err(halt) => self.stop_at(halt),
-        }
-    }
-
-    /// Sends what isn't sent yet of the last part, and the NOOP behind it.
-    fn send_last<W: Write>(&mut self, w: &mut W) -> Delivery
-        requires { self.old.rest ≡ [] }
+    /// Sends what isn't sent yet of the NOOP, where all of the bytes are.
+    fn send_noop<W: Write>(&mut self, w: &mut W) -> Delivery
+        requires { self.old.bytes ≡ [] }
         ensures { SendsFront result (W.contents w.old) (W.contents w.new) (unsent self.old) (unsent self.new) }
     {
-        let (first, second) = rest_of(self.part.slices(), self.written);
-        match write_message(first, second, self.noop, w) {
-            Ok(()) => {
-                self.written = self.part.len();
-                self.noop = &[];
-                Delivery::Done
-            }
-            Err(halt) => self.stop_at(halt),
-        }
+        let (count, delivery) = write_once(self.noop, w);
+        self.noop = &self.noop[count..];
+        delivery
     }
-
-    /// The writing of the present part stopped there.
-    fn stop_at(&mut self, halt: Halt) -> Delivery
-        requires part { self.old.written + halt.bytes ≤ length self.old.part }
-        requires noop { halt.noop ≤ length self.old.noop.now }
-        ensures part { self.new.part ≡ self.old.part }
-        ensures rest { self.new.rest ≡ self.old.rest }
-        ensures written { self.new.written ≡ self.old.written + halt.bytes }
-        ensures noop { self.new.noop.now ≡ drop halt.noop self.old.noop.now }
-        ensures late { MatchBool halt.is_late (result ≡ Delivery.Late) (result ≡ Delivery.Over) }
-    {
-        // The sum is at most this, so it doesn't overflow.
-        let _most = self.part.len();
-        self.written += halt.bytes;
-        self.noop = &self.noop[halt.noop..];
-        if halt.is_late {
-            Delivery::Late
-        } else {
-            Delivery::Over
-        }
-    }
-}
-
-/// What came of a delivery.
-#[derive(Clone, Copy, PartialEq, Eq)]
-pub(crate) enum Delivery {
-    /// All was sent.
-    Done,
-    /// The peer takes no more at present; what is left waits in the lane.
-    Late,
-    /// There is no connection to send to.
-    Over,
 }
 
 /// What is to be sent to a connection: what is left of the present message, and what its pen gives.

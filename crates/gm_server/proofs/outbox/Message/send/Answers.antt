@@ -1,15 +1,20 @@
-use Rattle.gm_server.specs.declared.outbox.Delivery.TheVariants.{Done, Late, Over}
-use Rattle.gm_server.proofs.Sending.{sending_more, sending_stops, sending_last}
+use Rattle.gm_server.specs.declared.message.Delivery.TheVariants.{Late, Over}
+use Rattle.gm_server.proofs.Sending.{sending_last, chunk_sent, chunk_stops}
 use Rattle.gm_server.proofs.outbox.Message.send.Goals as goal
 
-pub loop-self-preserved : goal.loop-self-preserved
-loop-self-preserved g c = sending_more _ _ _ _ _ _ c.loop-self.invariant Done c.in-Done.ensures.sends
+pub returns-then-is_empty : goal.returns-then-is_empty
+returns-then-is_empty g c = sending_last _ _ _ _ _ _ c.loop-chunk.invariant c.send_noop.result c.send_noop.ensures
+
+pub loop-chunk-preserved : goal.loop-chunk-preserved
+loop-chunk-preserved g c =
+    chunk_sent _ _ _ _ _ _ _ _ _ _ c.write_once-count.result.1 c.loop-chunk.invariant c.chunk-chunk.ensures.first.1 c.write_once-count.ensures c.advance.ensures
 
 pub returns-in-Late : goal.returns-in-Late
-returns-in-Late g c = sending_stops _ _ _ _ _ _ c.loop-self.invariant Late (λ is. absurd cc) c.in-Late.ensures.sends
+returns-in-Late g c =
+    chunk_stops _ _ _ _ _ _ _ _ _ _ c.write_once-count.result.1 c.loop-chunk.invariant c.chunk-chunk.ensures.first.1 c.write_once-count.ensures c.advance.ensures
+    Late c.in-Late.is (λ is. absurd cc)
 
 pub returns-in-Over : goal.returns-in-Over
-returns-in-Over g c = sending_stops _ _ _ _ _ _ c.loop-self.invariant Over (λ is. absurd cc) c.in-Over.ensures.sends
-
-pub returns : goal.returns
-returns g c = sending_last _ _ _ _ _ _ c.loop-self.invariant c.send_last.result c.send_last.ensures
+returns-in-Over g c =
+    chunk_stops _ _ _ _ _ _ _ _ _ _ c.write_once-count.result.1 c.loop-chunk.invariant c.chunk-chunk.ensures.first.1 c.write_once-count.ensures c.advance.ensures
+    Over c.in-Over.is (λ is. absurd cc)

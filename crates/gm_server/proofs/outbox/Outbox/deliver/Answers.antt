@@ -28,7 +28,7 @@ returns-then-shut-clause-delivers g c =
     delivers_last _ _ _ _ _ _ _ _ _ _ _ c.in-Done.ensures.sends c.take-took.result
     (takes_as _ _ _ _ _ (ap (λ p. p.seat.takes) pen) (ap (λ s. s.takes) (sym c.in-Ok.ensures.seat) ∙ ap (λ p. p.seat.takes) (sym sent.pen)) asked.takes)
     c.in-Ok.drained (emptied_as _ _ _ _ _ _ _ _ _ (asked.slot ∙ ap (λ p. p.slot) pen) (ap (λ s. s.items) asked.share ∙ ap (λ p. p.share.items) pen) (ap (λ p. p.share.items) (sym sent.pen)) c.in-Ok.ensures.emptied)
-    _ _ _ c.new.ensures.unsent c.if-shut.true sent.sends
+    _ _ _ c.new.ensures c.if-shut.true sent.sends
 
 pub returns-else-shut-clause-delivers : goal.returns-else-shut-clause-delivers
 returns-else-shut-clause-delivers g c =
@@ -38,7 +38,7 @@ returns-else-shut-clause-delivers g c =
     delivers_more _ _ _ _ _ _ _ _ _ _ _ c.in-Done.ensures.sends c.take-took.result
     (takes_as _ _ _ _ _ (ap (λ p. p.seat.takes) pen) (ap (λ s. s.takes) (sym c.in-Ok.ensures.seat) ∙ ap (λ p. p.seat.takes) (sym sent.pen)) asked.takes)
     c.in-Ok.drained (emptied_as _ _ _ _ _ _ _ _ _ (asked.slot ∙ ap (λ p. p.slot) pen) (ap (λ s. s.items) asked.share ∙ ap (λ p. p.share.items) pen) (ap (λ p. p.share.items) (sym sent.pen)) c.in-Ok.ensures.emptied)
-    _ _ _ c.new.ensures.unsent _ (λ is. c.if-shut.false) sent.sends
+    _ _ _ c.new.ensures _ (λ is. c.if-shut.false) sent.sends
 
 pub returns-in-Late-send_left-clause-delivers : goal.returns-in-Late-send_left-clause-delivers
 returns-in-Late-send_left-clause-delivers g c =
@@ -48,7 +48,7 @@ returns-in-Late-send_left-clause-delivers g c =
     delivers_more _ _ _ _ _ _ _ _ _ _ _ c.in-Done.ensures.sends c.take-took.result
     (takes_as _ _ _ _ _ (ap (λ p. p.seat.takes) pen) (ap (λ s. s.takes) (sym c.in-Ok.ensures.seat) ∙ ap (λ p. p.seat.takes) (sym sent.pen)) asked.takes)
     c.in-Ok.drained (emptied_as _ _ _ _ _ _ _ _ _ (asked.slot ∙ ap (λ p. p.slot) pen) (ap (λ s. s.items) asked.share ∙ ap (λ p. p.share.items) pen) (ap (λ p. p.share.items) (sym sent.pen)) c.in-Ok.ensures.emptied)
-    _ _ _ c.new.ensures.unsent _ (λ is. absurd cc) sent.sends
+    _ _ _ c.new.ensures _ (λ is. absurd cc) sent.sends
 
 pub returns-in-Over-send_left-clause-delivers : goal.returns-in-Over-send_left-clause-delivers
 returns-in-Over-send_left-clause-delivers g c =
@@ -58,4 +58,4 @@ returns-in-Over-send_left-clause-delivers g c =
     delivers_more _ _ _ _ _ _ _ _ _ _ _ c.in-Done.ensures.sends c.take-took.result
     (takes_as _ _ _ _ _ (ap (λ p. p.seat.takes) pen) (ap (λ s. s.takes) (sym c.in-Ok.ensures.seat) ∙ ap (λ p. p.seat.takes) (sym sent.pen)) asked.takes)
     c.in-Ok.drained (emptied_as _ _ _ _ _ _ _ _ _ (asked.slot ∙ ap (λ p. p.slot) pen) (ap (λ s. s.items) asked.share ∙ ap (λ p. p.share.items) pen) (ap (λ p. p.share.items) (sym sent.pen)) c.in-Ok.ensures.emptied)
-    _ _ _ c.new.ensures.unsent _ (λ is. absurd cc) sent.sends
+    _ _ _ c.new.ensures _ (λ is. absurd cc) sent.sends
