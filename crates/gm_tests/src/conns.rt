@@ -78,21 +78,26 @@ fn put_shared(
     Ok(())
 }
 
-fn assert_takes_out(rt: &impl Abort, conns: &mut Conns, first: (&[u8], &[u8]), rest: &[u8]) {
+fn assert_takes_out(rt: &impl Abort, conns: &mut Conns, chunks: &[&[u8]]) {
     must(rt, conns.is_open(0));
     let mut out = conns.take_out(0);
-    same(rt, "the first part", &out.next_part().slices(), &first);
-    same(rt, "the other bytes", &out.into_bytes().as_slice(), &rest);
+    for chunk in chunks {
+        same(rt, "a chunk", &out.chunk(), chunk);
+        let len = out.chunk().len();
+        out.advance(len);
+    }
+    same(rt, "what is left", &out.chunk(), &b"".as_slice());
 }
 
-// A tail is shared, also where more comes behind it; where room was left for that, it is copied.
+// A tail is shared wherever it stands, and what comes before it or behind it is a chunk of its own.
 fn share(rt: &impl Abort, conns: &mut Conns, tail: &SharedBytes) -> Result<(), AllocError> {
     put_shared(rt, conns, b"head", tail)?;
     put_checked(rt, conns, 0, b"on")?;
     assert_drains(rt, conns, 0, b"headtailon");
-    put_shared(rt, conns, b"to", tail)?;
+    put_shared(rt, conns, b"up to", tail)?;
     put_shared(rt, conns, b"and", tail)?;
-    assert_takes_out(rt, conns, (b"to", b"tail"), b"andtail");
+    put_checked(rt, conns, 0, b"on")?;
+    assert_takes_out(rt, conns, &[b"up to", b"tail", b"and", b"tail", b"on"]);
     put_shared(rt, conns, b"to", tail)?;
     put_shared(rt, conns, b"and", tail)?;
     assert_drains(rt, conns, 0, b"totailandtail");

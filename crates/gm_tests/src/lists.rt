@@ -12,17 +12,21 @@ fn name_of(number: u32) -> [u8; 4] {
     [b'f', digit(number / 100), digit(number / 10), digit(number)]
 }
 
-/// 64 connections, and 1,000 functions that they can do in turn.
+const CONNECTIONS: u32 = 32;
+
+const FUNCTIONS: u32 = 250;
+
+/// Connections, and functions that they can do in turn.
 fn crowd(alloc: Global) -> Result<PlainServer, Fail> {
-    let config = Config::new(Vec::from_slice(alloc, b"gmd")?, 1, 64, 65536)?;
+    let config = Config::new(Vec::from_slice(alloc, b"gmd")?, 1, CONNECTIONS, 65536)?;
     let mut server = PlainServer::new(alloc, config)?;
-    for _ in 0..64 {
+    for _ in 0..CONNECTIONS {
         server.apply(&Event::Open { addr: b"a" })?;
     }
-    for number in 0..1000 {
+    for number in 0..FUNCTIONS {
         let name = name_of(number);
         server.apply(&Event::Packet {
-            slot: number % 64,
+            slot: number % CONNECTIONS,
             kind: 1,
             bytes: &name,
         })?;
@@ -42,7 +46,7 @@ fn answer(server: &mut PlainServer, line: &[u8]) -> Result<Vec<u8>, Fail> {
 /// A row for each function: no jobs, and one worker.
 fn functions(alloc: Global) -> Result<Vec<u8>, Fail> {
     let mut text = Vec::new(alloc);
-    for number in 0..1000 {
+    for number in 0..FUNCTIONS {
         text.extend_from_slice(&name_of(number))?;
         text.extend_from_slice(b"\t0\t0\t1\n")?;
     }
@@ -50,12 +54,12 @@ fn functions(alloc: Global) -> Result<Vec<u8>, Fail> {
     Ok(text)
 }
 
-/// A row for each connection: its slot, and every 64th function.
+/// A row for each connection: its slot, and the functions that it can do.
 fn connections(alloc: Global) -> Result<Vec<u8>, Fail> {
     let mut text = Vec::new(alloc);
-    for slot in 0..64 {
+    for slot in 0..CONNECTIONS {
         text.extend_from_slice(format!(in alloc; "{slot} a - :")?.as_bytes())?;
-        for number in (slot..1000).step_by(64) {
+        for number in (slot..FUNCTIONS).step_by(CONNECTIONS as usize) {
             text.push(b' ')?;
             text.extend_from_slice(&name_of(number))?;
         }
