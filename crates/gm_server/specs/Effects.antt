@@ -7,7 +7,7 @@ use Rattle.gm_notes.specs.Settings.{Settings}
 use Rattle.gm_notes.specs.Steps.{Step}
 use Rattle.gm_shared.specs.declared.receipt.Receipt.{Receipt}
 use Rattle.gm_shared.specs.declared.tape.Told.{Told}
-use Rattle.gm_shared.specs.Shared.{Applied}
+use Rattle.gm_shared.specs.Shared.{AppliedTo}
 use Rattle.gm_server.specs.declared.effects.Effects.{Effects}
 use Rattle.gm_server.specs.declared.session.SessionEnd.{SessionEnd}
 
@@ -22,11 +22,12 @@ pub record Collects (touched : List ℕ) (mode : Mode) (old new : Effects) : Typ
   pub slots : (c : ℕ) → has new.touched c ≡ (has old.touched c || has touched c)
   pub mode_is : new.mode ≡ mode
 
--- An event was applied with this receipt, of which nothing is lost to those who are to be told.
+-- An event was applied with this receipt and touched these slots, of which nothing is lost to those who are to be told.
 pub record KeepsReceipt (k : Settings) (taped : Bool) (s : Step) (desk : ℕ) (share after : List Told) (old new : Effects) : Type 0 where
   pub receipt : Receipt
-  pub applied : Applied k taped s desk (Ok receipt) share after
-  pub collects : Collects receipt.touched receipt.mode old new
+  pub touched : List ℕ
+  pub applied : AppliedTo k taped s desk (Ok receipt) touched share after
+  pub collects : Collects touched receipt.mode old new
 
 -- what came of an event is kept; where it wasn't applied, nothing came of it
 abbrev pub Keeps : Settings → Bool → Step → ℕ → Result (Unit {0}) SessionEnd → List Told → List Told → Effects → Effects → Type 0

@@ -42,7 +42,7 @@ impl Effects {
         self.touched.next(own).filter(|slot| *slot == own)
     }
 
-    /// Takes a receipt's slots and mode.
+    /// Takes the slots that an event touched, and the mode that its receipt tells.
     pub fn add(&mut self, touched: &SlotSet, mode: Mode)
         ensures { Collects touched.now mode self.old self.new }
     {

@@ -6,7 +6,7 @@ ghost use Rattle.std.specs.Io.KnownBytes.{IsAtEnd};
 ghost use Rattle.gm_notes.specs.Servers.{step_of, IsSized};
 ghost use Rattle.gm_notes.specs.Steps.{Open, Close, Tick};
 ghost use Rattle.gm_shared.specs.Books.{NeedsNoMemory};
-ghost use Rattle.gm_shared.specs.Shared.{Applied, AddsEvent};
+ghost use Rattle.gm_shared.specs.Shared.{AppliedTo, AddsEvent};
 ghost use Rattle.gm_shared.specs.declared.tape.Actor.TheVariants as actors;
 ghost use Rattle.gm_server.specs.Owners.{is_said_by, is_own_share};
 ghost use Rattle.gm_server.specs.Sessions.{Reads};
@@ -14,6 +14,7 @@ ghost use Rattle.gm_server.specs.Sessions.{Reads};
 use crate::effects::Notify;
 use crate::gate::Gate;
 use crate::session::{SessionEnd, read_session};
+use gm_conns::SlotSet;
 use gm_feeder::Limits;
 use gm_notes::{ApplyError, Event};
 use gm_shared::{BookName, Desk, Receipt, Shared};
@@ -44,21 +45,23 @@ impl<K: BookName> OwnDesk<K> {
         self.desk
     }
 
-    /// Hands in an event that is of this desk's slot, or of none.
+    /// Hands in an event that is of this desk's slot, or of none. `touched` becomes the slots that it touched, as
+    /// `Desk::apply_with` says.
     fn apply(
         &mut self,
         rt: &impl Wait,
         shared: &Shared<K>,
         event: Event<'_>,
+        touched: &mut SlotSet,
     ) -> Result<Receipt, ApplyError>
         requires size { IsSized event }
         requires own { is_said_by self.old.desk.number (step_of event) ≡ true }
-        ensures applied { Applied K.settings K.taped (step_of event.entry) self.old.desk.number result self.old.desk.share.items self.new.desk.share.items }
+        ensures applied { AppliedTo K.settings K.taped (step_of event.entry) self.old.desk.number result touched.new self.old.desk.share.items self.new.desk.share.items }
         ensures adds { AddsEvent K.taped (step_of event.entry) result self.old.desk.share.items self.new.desk.share.items }
         ensures memory { NeedsNoMemory K.taped (step_of event.entry) → IsErrOf result ApplyError.Memory → ⊥ }
         ensures number { self.new.desk.number ≡ self.old.desk.number }
     {
-        self.desk.apply(rt, shared, event)
+        self.desk.apply_with(rt, shared, event, None, touched)
     }
 
     /// Opens a connection from this address.
@@ -67,11 +70,12 @@ impl<K: BookName> OwnDesk<K> {
         rt: &impl Wait,
         shared: &Shared<K>,
         addr: &[u8],
+        touched: &mut SlotSet,
     ) -> Result<Receipt, ApplyError>
-        ensures applied { Applied K.settings K.taped (Open addr.now) self.old.desk.number result self.old.desk.share.items self.new.desk.share.items }
+        ensures applied { AppliedTo K.settings K.taped (Open addr.now) self.old.desk.number result touched.new self.old.desk.share.items self.new.desk.share.items }
         ensures number { self.new.desk.number ≡ self.old.desk.number }
     {
-        self.apply(rt, shared, Event::Open { addr })
+        self.apply(rt, shared, Event::Open { addr }, touched)
     }
 
     /// Tells the book which second it is.
@@ -80,11 +84,12 @@ impl<K: BookName> OwnDesk<K> {
         rt: &impl Wait,
         shared: &Shared<K>,
         now: u64,
+        touched: &mut SlotSet,
     ) -> Result<Receipt, ApplyError>
-        ensures applied { Applied K.settings K.taped (Tick now) self.old.desk.number result self.old.desk.share.items self.new.desk.share.items }
+        ensures applied { AppliedTo K.settings K.taped (Tick now) self.old.desk.number result touched.new self.old.desk.share.items self.new.desk.share.items }
         ensures number { self.new.desk.number ≡ self.old.desk.number }
     {
-        self.apply(rt, shared, Event::Tick { now })
+        self.apply(rt, shared, Event::Tick { now }, touched)
     }
 
     /// Closes the desk's slot.
@@ -92,13 +97,14 @@ impl<K: BookName> OwnDesk<K> {
         &mut self,
         rt: &impl Wait,
         shared: &Shared<K>,
+        touched: &mut SlotSet,
     ) -> Result<Receipt, ApplyError>
-        ensures applied { Applied K.settings K.taped (Close self.old.desk.number) self.old.desk.number result self.old.desk.share.items self.new.desk.share.items }
+        ensures applied { AppliedTo K.settings K.taped (Close self.old.desk.number) self.old.desk.number result touched.new self.old.desk.share.items self.new.desk.share.items }
         ensures memory { K.taped ≡ false → IsErrOf result ApplyError.Memory → ⊥ }
         ensures number { self.new.desk.number ≡ self.old.desk.number }
     {
         let slot = self.desk.number();
-        self.apply(rt, shared, Event::Close { slot })
+        self.apply(rt, shared, Event::Close { slot }, touched)
     }
 
     /// Reads the stream of the slot's connection to its end (`read_session`).

@@ -11,6 +11,7 @@ ghost use Rattle.gm_server.specs.Sessions.{IsPiece, Applies, TakesNext, Unloads,
 use crate::effects::{Effects, Notify};
 use crate::gate::Gate;
 use gm_bytes::SharedBytes;
+use gm_conns::SlotSet;
 use gm_feeder::{Feeder, Limits, OwnedPacket, ReadError};
 use gm_front::{Next, next_event};
 use gm_notes::{ApplyError, Event};
@@ -63,6 +64,9 @@ struct Applier<'s, K: BookName, R, G> {
     index: u64,
     /// What came of the events since it was told last.
     effects: Effects,
+    /// What the last event touched. It is made once for the session, as a set is too large to be made and moved for each
+    /// event.
+    touched: SlotSet,
 }
 
 impl<'s, K: BookName, R: Wait, G: Gate> Applier<'s, K, R, G> {
@@ -77,9 +81,12 @@ impl<'s, K: BookName, R: Wait, G: Gate> Applier<'s, K, R, G> {
         ensures number { self.new.desk.now.number ≡ self.old.desk.now.number }
         ensures slot { self.new.slot ≡ self.old.slot }
     {
-        match self.desk.apply_with(self.rt, self.shared, event, whole) {
+        match self
+            .desk
+            .apply_with(self.rt, self.shared, event, whole, &mut self.touched)
+        {
             Ok(receipt) => {
-                self.effects.add(&receipt.touched, receipt.mode);
+                self.effects.add(&self.touched, receipt.mode);
                 Ok(())
             }
             Err(ApplyError::Memory) => Err(SessionEnd::Memory),
@@ -370,6 +377,7 @@ pub fn read_session<'s, K: BookName, R: Wait, I: Read, G: Gate, N: Notify<R>>(
             slot,
             index: 0,
             effects: Effects::new(Some(slot)),
+            touched: SlotSet::new(),
         },
         feeder: Feeder::new(alloc, limits),
         server,

@@ -8,9 +8,10 @@ use crate::effects::{Effects, Notify};
 use crate::gate::Gate;
 use crate::lane::{Lane, is_over};
 use crate::own_desk::OwnDesk;
+use gm_conns::SlotSet;
 use gm_feeder::Limits;
 use gm_notes::{ApplyError, Mode};
-use gm_shared::{BookName, Desk, Pen, Receipt, Shared};
+use gm_shared::{BookName, Desk, Pen, Shared};
 use std::alloc::{AllocError, Global};
 use std::net::TcpStream;
 use std::sync::atomic::{AtomicBool, AtomicU64, Ordering};
@@ -206,9 +207,9 @@ impl<K: BookName> ServerState<K> {
     }
 
     /// Tells what came of an event.
-    fn tell<R: Wait + Clock>(&self, rt: &R, receipt: &Receipt) {
+    fn tell<R: Wait + Clock>(&self, rt: &R, touched: &SlotSet, mode: Mode) {
         let mut effects = Effects::new(None);
-        effects.add(&receipt.touched, receipt.mode);
+        effects.add(touched, mode);
         self.notify(rt, &effects);
     }
 
@@ -222,8 +223,9 @@ impl<K: BookName> ServerState<K> {
         ensures opens { Opens K.settings K.taped desk.old.desk.number addr.now result desk.old.desk.share.items desk.new.desk.share.items }
         ensures number { desk.new.desk.number ≡ desk.old.desk.number }
     {
-        let receipt = desk.open(rt, &self.shared, addr).ok()?;
-        self.tell(rt, &receipt);
+        let mut touched = SlotSet::new();
+        let receipt = desk.open(rt, &self.shared, addr, &mut touched).ok()?;
+        self.tell(rt, &touched, receipt.mode);
         receipt.done.opened
     }
 
@@ -232,8 +234,9 @@ impl<K: BookName> ServerState<K> {
         ensures asks { Asks K.settings K.taped (Tick now) desk.old.desk.number desk.old.desk.share.items desk.new.desk.share.items }
         ensures number { desk.new.desk.number ≡ desk.old.desk.number }
     {
-        if let Ok(receipt) = desk.tick(rt, &self.shared, now) {
-            self.tell(rt, &receipt);
+        let mut touched = SlotSet::new();
+        if let Ok(receipt) = desk.tick(rt, &self.shared, now, &mut touched) {
+            self.tell(rt, &touched, receipt.mode);
         }
     }
 
@@ -243,8 +246,9 @@ impl<K: BookName> ServerState<K> {
         ensures asks { Asks K.settings K.taped (Close desk.old.desk.number) desk.old.desk.number desk.old.desk.share.items desk.new.desk.share.items }
         ensures number { desk.new.desk.number ≡ desk.old.desk.number }
     {
-        match desk.close(rt, &self.shared) {
-            Ok(receipt) => self.tell(rt, &receipt),
+        let mut touched = SlotSet::new();
+        match desk.close(rt, &self.shared, &mut touched) {
+            Ok(receipt) => self.tell(rt, &touched, receipt.mode),
             Err(ApplyError::Memory) => self.out_of_memory.store(true, Ordering::SeqCst),
             Err(_) => {}
         }

@@ -49,8 +49,8 @@ fn is_answering(rt: &impl Abort, book: &mut Booked, table: &SleepTable) -> Resul
         kind: 16,
         bytes: b"hi",
     };
-    let touched = book.apply(table, 0, &echo)?.touched.next(0);
-    same(rt, "the echo", &touched, &Some(0));
+    let mode = book.apply(table, 0, &echo)?.mode;
+    same(rt, "the echo", &mode, &Mode::Running);
     is_echo(rt, book.drain(0, 0)?);
     Ok(())
 }

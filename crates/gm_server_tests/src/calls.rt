@@ -253,20 +253,20 @@ fn assert_slots(rt: &impl Abort, event: Event<'static>, set: &SlotSet, slots: &[
     same(rt, event, &left.next(), &None);
 }
 
-/// The receipt says this. It has a place where a tape is kept.
+/// The receipt says this, and the event touched these slots. The receipt has a place where a tape is kept.
 fn assert_answer(
     rt: &impl Abort,
     tape: TapeMode,
     event: Event<'static>,
     got: Result<Receipt, ApplyError>,
     answer: Result<(Done, Mode), ApplyError>,
-    touched: &[u32],
+    (touched, slots): (&SlotSet, &[u32]),
 ) {
+    assert_slots(rt, event, touched, slots);
     match (got, answer) {
         (Ok(receipt), Ok(answer)) => {
             same(rt, event, &receipt.at.is_some(), &(tape == TapeMode::On));
             same(rt, event, &(receipt.done, receipt.mode), &answer);
-            assert_slots(rt, event, &receipt.touched, touched);
         }
         (got, answer) => same(rt, event, &got.err(), &answer.err()),
     }
@@ -303,14 +303,10 @@ fn assert_call<K: BookName, R: Wait + Abort>(
             event,
             answer,
             touched,
-        } => assert_answer(
-            rt,
-            tape,
-            event,
-            room.apply(rt, desk, event),
-            answer,
-            touched,
-        ),
+        } => {
+            let got = room.apply(rt, desk, event);
+            assert_answer(rt, tape, event, got, answer, (&room.touched, touched));
+        }
         Call::Take { slot, taken } => same(rt, slot, &room.take(rt, slot), &taken),
         Call::Drain { slot, answer } => assert_drained(rt, slot, room.drain(rt, slot), answer),
     }

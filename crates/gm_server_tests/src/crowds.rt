@@ -5,6 +5,7 @@ ghost use Rattle.std.specs.Prelude.{◌≡◌};
 use crate::checks::{must, same};
 use crate::packets::{assigned, cut, handle};
 use crate::room::{Room, apply, blank};
+use gm_conns::SlotSet;
 use gm_notes::{ApplyError, Event};
 use gm_shared::{Blank, BookName, Desk, Shared, TapeMode};
 use std::alloc::{AllocError, Global};
@@ -43,7 +44,8 @@ impl<K: BookName> Hand<K> {
             kind,
             bytes,
         };
-        let receipt = apply(rt, shared, &mut self.desk, event)?;
+        let mut touched = SlotSet::new();
+        let receipt = apply(rt, shared, &mut self.desk, event, &mut touched)?;
         if let Some(number) = receipt.done.created {
             self.created.push(number)?;
         }

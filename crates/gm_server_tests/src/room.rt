@@ -6,6 +6,7 @@ ghost use Rattle.std.specs.Prelude.{◌≡◌};
 
 use crate::checks::{must, same};
 use crate::growths::{MOST, refuse};
+use gm_conns::SlotSet;
 use gm_notes::{ApplyError, Config, Event};
 use gm_shared::{
     Blank, BookName, Desk, Drained, Entry, Pen, Receipt, SettleError, Settled, Shared, TapeMode,
@@ -34,6 +35,8 @@ pub struct Room<K: BookName> {
     pub desks: Vec<Desk<K>>,
     pub pens: Vec<Pen<K>>,
     pub control: Desk<K>,
+    /// What the last event touched.
+    pub touched: SlotSet,
     alloc: Global,
     /// Which growth is to be refused.
     growth: u32,
@@ -48,17 +51,18 @@ pub trait Scene {
     ) -> Result<(), Fail>;
 }
 
-/// Hands in an event, which isn't too large.
+/// Hands in an event, which isn't too large. The set becomes the slots that it touched.
 pub fn apply<K: BookName, R: Wait + Abort>(
     rt: &R,
     shared: &Shared<K>,
     desk: &mut Desk<K>,
     event: Event<'_>,
+    touched: &mut SlotSet,
 ) -> Result<Receipt, ApplyError> {
     if let Event::Packet { bytes, .. } = event {
         must(rt, bytes.len() <= 1_073_741_824);
     }
-    desk.apply(rt, shared, event)
+    desk.apply_with(rt, shared, event, None, touched)
 }
 
 impl<K: BookName> Room<K> {
@@ -73,6 +77,7 @@ impl<K: BookName> Room<K> {
             desks,
             pens,
             control,
+            touched: SlotSet::new(),
             alloc,
             growth: 0,
         })
@@ -127,9 +132,10 @@ impl<K: BookName> Room<K> {
         desk: usize,
         event: Event<'_>,
     ) -> Result<Receipt, ApplyError> {
+        let touched = &mut self.touched;
         match self.desks.get_mut(desk) {
-            Some(desk) => apply(rt, &self.shared, desk, event),
-            None => apply(rt, &self.shared, &mut self.control, event),
+            Some(desk) => apply(rt, &self.shared, desk, event, touched),
+            None => apply(rt, &self.shared, &mut self.control, event, touched),
         }
     }
 
