@@ -283,7 +283,7 @@ fn assert_drained(
         (Ok(drained), Ok(answer)) => same(
             rt,
             slot,
-            &(drained.bytes.into_bytes().as_slice(), drained.shut),
+            &(drained.bytes.chunk(), drained.shut),
             &answer,
         ),
         (got, answer) => same(rt, slot, &got.err(), &answer.err()),

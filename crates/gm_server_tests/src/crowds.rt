@@ -181,7 +181,7 @@ fn assigned_jobs<K: BookName, R: Wait + Abort>(
     let mut jobs = Vec::new(alloc);
     for slot in 2..room.pens.len() {
         let drained = room.drain(rt, slot)?;
-        add_assigned(rt, drained.bytes.into_bytes().as_slice(), &mut jobs)?;
+        add_assigned(rt, drained.bytes.chunk(), &mut jobs)?;
     }
     jobs.sort()?;
     let mut last = 0;
@@ -219,7 +219,7 @@ fn assert_all_created<K: BookName, R: Wait + Abort>(
     for (slot, numbers) in told.iter().take(2).enumerate() {
         same(rt, slot, &numbers.len(), &TIMES);
         let drained = room.drain(rt, slot)?;
-        assert_created(rt, alloc, drained.bytes.into_bytes().as_slice(), numbers)?;
+        assert_created(rt, alloc, drained.bytes.chunk(), numbers)?;
     }
     Ok(())
 }
@@ -231,7 +231,8 @@ fn answer<K: BookName, R: Wait + Abort>(
     event: Event<'_>,
 ) -> Result<Vec<u8>, Fail> {
     room.apply(rt, 0, event)?;
-    Ok(room.drain(rt, 0)?.bytes.into_bytes())
+    let drained = room.drain(rt, 0)?;
+    Ok(Vec::from_slice(room.alloc, drained.bytes.chunk())?)
 }
 
 /// Slot 0 is answered this, and nothing else.

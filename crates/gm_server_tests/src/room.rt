@@ -37,7 +37,7 @@ pub struct Room<K: BookName> {
     pub control: Desk<K>,
     /// What the last event touched.
     pub touched: SlotSet,
-    alloc: Global,
+    pub alloc: Global,
     /// Which growth is to be refused.
     growth: u32,
 }

@@ -51,7 +51,7 @@ impl<'a> Scene for OneSession<'a> {
             &Alone::new(),
         );
         if let Ok(drained) = room.drain(rt, 0) {
-            self.waiting = drained.bytes.into_bytes();
+            self.waiting = Vec::from_slice(self.alloc, drained.bytes.chunk())?;
         }
         Ok(())
     }
