@@ -75,7 +75,7 @@ pub record IsTaken (k : Settings) (steps : List Step) (s : Step) (receipt : Rece
   pub mode_is : receipt.mode ≡ mode (run k (s ∷ steps)).notes
   pub agrees : BookedAgrees new k (s ∷ steps)
   -- whose waiting bytes, phase or shut changed is among the touched slots, unless nothing is to be delivered there
-  pub told : (c : ℕ) → has touched c ≡ false
+  pub missed : (c : ℕ) → has touched c ≡ false
       → (outbox (conn new.core.conns c) ≡ outbox (conn old.core.conns c)) ⊎ IsIdle (outbox (conn new.core.conns c))
   pub left_out : IsLeftOut s touched new
 
