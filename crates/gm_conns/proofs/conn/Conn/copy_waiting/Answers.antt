@@ -1,4 +1,4 @@
-use Rattle.std.proofs.Common.{◌≡◌, ◌++◌, take, sym, ap, ap₂, ◌∙◌, arith, take_all}
+use Rattle.std.proofs.Common.{◌≡◌, ◌++◌, sym, ap, ap₂, ◌∙◌, arith, take_all}
 use Rattle.std.proofs.lemmas.List.Concat.{concat_is}
 use Rattle.std.specs.List.{concat, flat_map}
 use Rattle.gm_conns.proofs.conn.Conn.copy_waiting.Goals as goal
