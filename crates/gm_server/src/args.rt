@@ -18,8 +18,8 @@ pub(crate) struct Args<'a> {
     pub(crate) tape: bool,
 }
 
-/// The command with the options of where it listens, and of what it is called.
-fn with_names<'a>(alloc: Global, command: Command<'a>) -> Result<Command<'a>, AllocError> {
+/// The command with the options of where it listens.
+fn with_address<'a>(alloc: Global, command: Command<'a>) -> Result<Command<'a>, AllocError> {
     command
         .arg(number(alloc, "port", 1, 65_535, "4730", "The port to listen on"))?
         .arg(text(
@@ -28,14 +28,18 @@ fn with_names<'a>(alloc: Global, command: Command<'a>) -> Result<Command<'a>, Al
             "ADDR",
             "0.0.0.0",
             "The address to listen on",
-        ))?
-        .arg(text(
-            alloc,
-            "name",
-            "NAME",
-            "gmd",
-            "The name in job handles: 1 to 40 letters, digits, dots and hyphens",
         ))
+}
+
+/// The command with the option of what it is called.
+fn with_name<'a>(alloc: Global, command: Command<'a>) -> Result<Command<'a>, AllocError> {
+    command.arg(text(
+        alloc,
+        "name",
+        "NAME",
+        "gmd",
+        "The name in job handles: 1 to 40 letters, digits, dots and hyphens",
+    ))
 }
 
 /// The command with the options that take nothing.
@@ -54,7 +58,8 @@ fn command<'a>(alloc: Global) -> Result<Command<'a>, AllocError> {
     let command = Command::new(alloc, "gmd")
         .version("1.0.0")
         .about("A Gearman job server");
-    let command = with_server_options(alloc, with_names(alloc, command)?)?;
+    let command = with_name(alloc, with_address(alloc, command)?)?;
+    let command = with_server_options(alloc, command)?;
     with_flags(alloc, command)
 }
 

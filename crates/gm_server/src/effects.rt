@@ -70,6 +70,7 @@ pub struct Alone {
 }
 
 impl Alone {
+    /// For one session. Its lock for long pieces is free.
     pub fn new() -> Alone {
         Alone {
             long_piece_lock: Mutex::new(()),

@@ -29,10 +29,8 @@ pub(crate) enum Delivery {
 
 /// Whether a write only came too early.
 fn is_late(error: &Error) -> bool {
-    match error.kind() {
-        ErrorKind::WouldBlock | ErrorKind::TimedOut | ErrorKind::Interrupted => true,
-        _ => false,
-    }
+    let kind = error.kind();
+    kind == ErrorKind::WouldBlock || kind == ErrorKind::TimedOut || kind == ErrorKind::Interrupted
 }
 
 /// A NOOP, where one was taken.

@@ -238,10 +238,24 @@ static GRABS_OF_TWO: [Call; 2] = [
 /// Each job runs, and each slot is told of its own ten.
 static TEN_EACH: [Call; 5] = [
     call!(event 0, Event::Line { slot: 0, bytes: b"status" } => Running, [0]),
-    call!(drain 0 => b"\0RES\0\0\0\x08\0\0\0\x07H:gmd:1\0RES\0\0\0\x08\0\0\0\x07H:gmd:3\0RES\0\0\0\x08\0\0\0\x07H:gmd:5\0RES\0\0\0\x08\0\0\0\x07H:gmd:7\0RES\0\0\0\x08\0\0\0\x07H:gmd:9\0RES\0\0\0\x08\0\0\0\x08H:gmd:11\0RES\0\0\0\x08\0\0\0\x08H:gmd:13\0RES\0\0\0\x08\0\0\0\x08H:gmd:15\0RES\0\0\0\x08\0\0\0\x08H:gmd:17\0RES\0\0\0\x08\0\0\0\x08H:gmd:19f\t20\t20\t2\n.\n", false),
-    call!(drain 1 => b"\0RES\0\0\0\x08\0\0\0\x07H:gmd:2\0RES\0\0\0\x08\0\0\0\x07H:gmd:4\0RES\0\0\0\x08\0\0\0\x07H:gmd:6\0RES\0\0\0\x08\0\0\0\x07H:gmd:8\0RES\0\0\0\x08\0\0\0\x08H:gmd:10\0RES\0\0\0\x08\0\0\0\x08H:gmd:12\0RES\0\0\0\x08\0\0\0\x08H:gmd:14\0RES\0\0\0\x08\0\0\0\x08H:gmd:16\0RES\0\0\0\x08\0\0\0\x08H:gmd:18\0RES\0\0\0\x08\0\0\0\x08H:gmd:20", false),
-    call!(drain 2 => b"\0RES\0\0\0\x0b\0\0\0\x0bH:gmd:1\0f\0d\0RES\0\0\0\x0b\0\0\0\x0bH:gmd:3\0f\0d\0RES\0\0\0\x0b\0\0\0\x0bH:gmd:5\0f\0d\0RES\0\0\0\x0b\0\0\0\x0bH:gmd:7\0f\0d\0RES\0\0\0\x0b\0\0\0\x0bH:gmd:9\0f\0d\0RES\0\0\0\x0b\0\0\0\x0cH:gmd:11\0f\0d\0RES\0\0\0\x0b\0\0\0\x0cH:gmd:13\0f\0d\0RES\0\0\0\x0b\0\0\0\x0cH:gmd:15\0f\0d\0RES\0\0\0\x0b\0\0\0\x0cH:gmd:17\0f\0d\0RES\0\0\0\x0b\0\0\0\x0cH:gmd:19\0f\0d", false),
-    call!(drain 3 => b"\0RES\0\0\0\x0b\0\0\0\x0bH:gmd:2\0f\0d\0RES\0\0\0\x0b\0\0\0\x0bH:gmd:4\0f\0d\0RES\0\0\0\x0b\0\0\0\x0bH:gmd:6\0f\0d\0RES\0\0\0\x0b\0\0\0\x0bH:gmd:8\0f\0d\0RES\0\0\0\x0b\0\0\0\x0cH:gmd:10\0f\0d\0RES\0\0\0\x0b\0\0\0\x0cH:gmd:12\0f\0d\0RES\0\0\0\x0b\0\0\0\x0cH:gmd:14\0f\0d\0RES\0\0\0\x0b\0\0\0\x0cH:gmd:16\0f\0d\0RES\0\0\0\x0b\0\0\0\x0cH:gmd:18\0f\0d\0RES\0\0\0\x0b\0\0\0\x0cH:gmd:20\0f\0d", false),
+    call!(drain 0 => b"\0RES\0\0\0\x08\0\0\0\x07H:gmd:1\0RES\0\0\0\x08\0\0\0\x07H:gmd:3\
+        \0RES\0\0\0\x08\0\0\0\x07H:gmd:5\0RES\0\0\0\x08\0\0\0\x07H:gmd:7\0RES\0\0\0\x08\0\0\0\x07H:gmd:9\
+        \0RES\0\0\0\x08\0\0\0\x08H:gmd:11\0RES\0\0\0\x08\0\0\0\x08H:gmd:13\0RES\0\0\0\x08\0\0\0\x08H:gmd:15\
+        \0RES\0\0\0\x08\0\0\0\x08H:gmd:17\0RES\0\0\0\x08\0\0\0\x08H:gmd:19f\t20\t20\t2\n.\n", false),
+    call!(drain 1 => b"\0RES\0\0\0\x08\0\0\0\x07H:gmd:2\0RES\0\0\0\x08\0\0\0\x07H:gmd:4\
+        \0RES\0\0\0\x08\0\0\0\x07H:gmd:6\0RES\0\0\0\x08\0\0\0\x07H:gmd:8\0RES\0\0\0\x08\0\0\0\x08H:gmd:10\
+        \0RES\0\0\0\x08\0\0\0\x08H:gmd:12\0RES\0\0\0\x08\0\0\0\x08H:gmd:14\0RES\0\0\0\x08\0\0\0\x08H:gmd:16\
+        \0RES\0\0\0\x08\0\0\0\x08H:gmd:18\0RES\0\0\0\x08\0\0\0\x08H:gmd:20", false),
+    call!(drain 2 => b"\0RES\0\0\0\x0b\0\0\0\x0bH:gmd:1\0f\0d\0RES\0\0\0\x0b\0\0\0\x0bH:gmd:3\0f\0d\
+        \0RES\0\0\0\x0b\0\0\0\x0bH:gmd:5\0f\0d\0RES\0\0\0\x0b\0\0\0\x0bH:gmd:7\0f\0d\
+        \0RES\0\0\0\x0b\0\0\0\x0bH:gmd:9\0f\0d\0RES\0\0\0\x0b\0\0\0\x0cH:gmd:11\0f\0d\
+        \0RES\0\0\0\x0b\0\0\0\x0cH:gmd:13\0f\0d\0RES\0\0\0\x0b\0\0\0\x0cH:gmd:15\0f\0d\
+        \0RES\0\0\0\x0b\0\0\0\x0cH:gmd:17\0f\0d\0RES\0\0\0\x0b\0\0\0\x0cH:gmd:19\0f\0d", false),
+    call!(drain 3 => b"\0RES\0\0\0\x0b\0\0\0\x0bH:gmd:2\0f\0d\0RES\0\0\0\x0b\0\0\0\x0bH:gmd:4\0f\0d\
+        \0RES\0\0\0\x0b\0\0\0\x0bH:gmd:6\0f\0d\0RES\0\0\0\x0b\0\0\0\x0bH:gmd:8\0f\0d\
+        \0RES\0\0\0\x0b\0\0\0\x0cH:gmd:10\0f\0d\0RES\0\0\0\x0b\0\0\0\x0cH:gmd:12\0f\0d\
+        \0RES\0\0\0\x0b\0\0\0\x0cH:gmd:14\0f\0d\0RES\0\0\0\x0b\0\0\0\x0cH:gmd:16\0f\0d\
+        \0RES\0\0\0\x0b\0\0\0\x0cH:gmd:18\0f\0d\0RES\0\0\0\x0b\0\0\0\x0cH:gmd:20\0f\0d", false),
 ];
 
 /// The slots of the set are these, in their order.
