@@ -7,6 +7,7 @@ ghost use Rattle.gm_conns.specs.Connections.{closed, opened, shut, with_option, 
 ghost use Rattle.gm_conns.specs.Connections.{with_last, with_room, with_bytes, drained, timeout_of, is_able, index_of};
 
 use crate::outgoing::Outgoing;
+use crate::waiting::Waiting;
 use gm_bytes::SharedBytes;
 use gm_notes::Phase;
 use indexmap::IndexMap;
@@ -316,16 +317,13 @@ impl Conn {
         }
     }
 
-    /// A copy of the bytes that wait.
-    pub(crate) fn copy_waiting(&self) -> Result<Vec<u8>, AllocError>
-        ensures { IfOk result (λ copy. copy.items ≡ self.now.waiting) }
+    pub(crate) fn waiting(&self) -> Waiting<'_>
+        ensures { result ≡ self.now.waiting }
     {
-        let mut copy = Vec::new(*self.waiting.allocator());
-        for at in 0..self.runs.len() {
-            copy.extend_from_slice(self.runs[at].as_slice())?;
+        Waiting {
+            runs: &self.runs,
+            bytes: &self.waiting,
         }
-        copy.extend_from_slice(self.waiting.as_slice())?;
-        Ok(copy)
     }
 
     /// Whether bytes wait.

@@ -10,6 +10,7 @@ use crate::able::{AbleSet, cover};
 use crate::conn::Conn;
 use crate::outgoing::Outgoing;
 use crate::slot_set::SlotSet;
+use crate::waiting::Waiting;
 use gm_bytes::SharedBytes;
 use gm_notes::{ApplyError, Phase};
 use std::alloc::{AllocError, Global};
@@ -395,13 +396,13 @@ impl Conns {
         self.touched.insert(slot);
     }
 
-    /// A copy of the bytes that wait for the connection.
-    pub fn copy_waiting(&self, slot: u32) -> Result<Vec<u8>, AllocError>
+    /// The bytes that wait for the connection.
+    pub fn waiting(&self, slot: u32) -> Waiting<'_>
         requires { IsOpen self.now slot }
-        ensures { IfOk result (λ copy. copy.items ≡ (conn self.now slot).waiting) }
+        ensures { result ≡ (conn self.now slot).waiting }
     {
         let conn = &self.conns[slot as usize];
-        conn.copy_waiting()
+        conn.waiting()
     }
 
     /// Whether bytes wait for the connection.

@@ -242,7 +242,10 @@ impl JobServer for Core {
         ensures memory { NeedsNoMemory self.old event.now → IsErrOf result ApplyError.Memory → ⊥ }
         ensures touched { AllTouched self.old.conns self.new.conns }
     {
-        self.apply_with(event, None)
+        let answer = self.apply_with(event, None);
+        // Here no lock is held, so a body that is gone is freed at once.
+        drop(self.take_ended());
+        answer
     }
 
     fn owed(&self, slot: u32) -> bool {

@@ -1,11 +1,11 @@
 -- What is true of the jobs in a ring's entries.
-use Rattle.std.proofs.Common.{◌≡◌, ℕ, zero, suc, ◌+◌, ◌-◌, ◌<◌, ◌≤◌, Bool, true, false, cond, not, ◌==◌, inl, inr, if◌then◌else◌, List, [], ◌∷◌, ◌++◌}
+use Rattle.std.proofs.Common.{◌≡◌, ℕ, zero, suc, ◌+◌, ◌-◌, ◌<◌, ◌≤◌, Bool, true, false, cond, not, ◌==◌, if◌then◌else◌, List, [], ◌∷◌, ◌++◌}
 use Rattle.std.proofs.Common.{length, set, drop, filter, count_by, slice_get, Contains, Option, Some, None, IfSome, IfNone, IsTrue, ◌↔◌}
 use Rattle.std.proofs.Common.{is_some, refl, sym, ap, ◌∙◌, arith, length-append}
 use Rattle.std.proofs.lemmas.Bool.{false≢true}
 use Rattle.std.proofs.lemmas.Bool.Decides.{nat_tests}
 use Rattle.std.proofs.lemmas.List.Sums.{sum_by-cons}
-use Rattle.gm_queues.specs.Queues.{Queue, Leaves, jobs_in, BeginsWithJob}
+use Rattle.gm_queues.specs.Queues.{Queue, Leaves, jobs_in}
 
 pub jobs_in-append : (xs ys : List (Option ℕ)) → jobs_in (xs ++ ys) ≡ jobs_in xs ++ jobs_in ys
 jobs_in-append [] ys = refl
@@ -29,17 +29,6 @@ pub length-filter_some : (xs : List (Option ℕ)) → length (filter is_some xs)
 length-filter_some [] = refl
 length-filter_some (None ∷ xs) = length-filter_some xs
 length-filter_some (Some n ∷ xs) = ap suc (length-filter_some xs)
-
--- so the first of them has a job
-pub begins-filter : (xs : List (Option ℕ)) → BeginsWithJob (filter is_some xs)
-begins-filter [] = inl refl
-begins-filter (None ∷ xs) = begins-filter xs
-begins-filter (Some n ∷ xs) = inr (n, refl)
-
--- and so it is behind which a job comes
-pub begins-append : (xs : List (Option ℕ)) (job : ℕ) → BeginsWithJob xs → BeginsWithJob (xs ++ Some job ∷ [])
-begins-append [] job begins = inr (job, refl)
-begins-append (x ∷ xs) job begins = begins
 
 -- where a job's entry is cleared, the job leaves
 pub Leaves-cleared : (xs : List (Option ℕ)) (i job reserved : ℕ) → slice_get xs i ≡ Some (Some job)

@@ -1,5 +1,5 @@
 -- What a queue of waiting jobs is.
-use Rattle.std.specs.Prelude.{◌≡◌, ℕ, ◌+◌, ◌-◌, ◌⊎◌, List, [], ◌∷◌, ◌++◌, length, drop, slice_get, Option, Some, None}
+use Rattle.std.specs.Prelude.{◌≡◌, ℕ, ◌+◌, ◌-◌, List, [], ◌∷◌, ◌++◌, length, drop, Option, Some, None}
 
 -- the waiting jobs in their order, and for how many jobs room is reserved: for these, and for those that may come
 pub record Queue : Type 0 where
@@ -41,7 +41,3 @@ abbrev pub jobs_in : List (Option ℕ) → List ℕ
 jobs_in [] = []
 jobs_in (None ∷ entries) = jobs_in entries
 jobs_in (Some job ∷ entries) = job ∷ jobs_in entries
-
--- the first entry, where there is one, has a job
-abbrev pub BeginsWithJob : List (Option ℕ) → Type 0
-BeginsWithJob entries = (slice_get entries 0 ≡ None) ⊎ ((job : ℕ) × (slice_get entries 0 ≡ Some (Some job)))

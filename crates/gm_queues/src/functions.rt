@@ -321,17 +321,20 @@ impl Functions {
     }
 
     // The first job of a queue.
-    fn first_in(&self, f: u32, p: Priority) -> Option<u64>
-        requires { f < length self.now.names }
-        ensures { result ≡ slice_get (queue self.now f p).jobs 0 }
+    fn first_in(&mut self, f: u32, p: Priority) -> Option<u64>
+        requires { f < length self.old.names }
+        ensures value { result ≡ slice_get (queue self.old f p).jobs 0 }
+        ensures same { self.new ≡ self.old }
     {
-        self.rings[ring_of(f, p)].first()
+        let ring = &mut self.rings[ring_of(f, p)];
+        ring.first()
     }
 
     /// The job of a function that is given out next: the oldest of the highest priority.
-    pub fn first(&self, f: u32) -> Option<u64>
-        requires { f < length self.now.names }
-        ensures { result ≡ slice_get (waiting_for self.now f) 0 }
+    pub fn first(&mut self, f: u32) -> Option<u64>
+        requires { f < length self.old.names }
+        ensures value { result ≡ slice_get (waiting_for self.old f) 0 }
+        ensures same { self.new ≡ self.old }
     {
         if let Some(job) = self.first_in(f, Priority::High) {
             return Some(job);

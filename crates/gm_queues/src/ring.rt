@@ -3,7 +3,7 @@
 ghost use Rattle.std.specs.Prelude.{◌≡◌, ℕ, ◌^◌, ◌<◌, ◌≤◌, ◌==◌, ◌⊎◌, ◌↔◌, not, IsTrue, Contains, length, count_by, filter, slice_get};
 ghost use Rattle.std.specs.Prelude.{Some, None, IsSome, IfSome, IfNone, OnOk, OnErr};
 ghost use Rattle.std.specs.VecDeque.{deque_len, deque_capacity};
-ghost use Rattle.gm_queues.specs.Queues.{no_jobs, idle, with_reserved_one, without_reserved_one, with_job, without_first, Leaves, jobs_in, BeginsWithJob};
+ghost use Rattle.gm_queues.specs.Queues.{no_jobs, idle, with_reserved_one, without_reserved_one, with_job, without_first, Leaves, jobs_in};
 
 use crate::hints::Hints;
 use std::alloc::{AllocError, Global};
@@ -12,7 +12,8 @@ use std::marker::Model;
 
 /// The waiting jobs of one function and priority in their order, and the room that is reserved for jobs.
 ///
-/// A job that is taken out of the middle leaves a cleared entry, which is dropped once it is the first. The ring has capacity for all reserved room that no waiting job uses.
+/// A job that is forgotten leaves a cleared entry, which whoever wants the first job drops. The ring has capacity for
+/// all reserved room that no waiting job uses.
 #[derive(Drop)]
 pub(crate) struct Ring {
     entries: VecDeque<Option<u64>>,
@@ -26,7 +27,7 @@ pub(crate) struct Ring {
 impl Model for Ring {
     ghost use Rattle.std.specs.Prelude.{◌≡◌, ◌+◌, ◌^◌, ◌≤◌, length};
     ghost use Rattle.std.specs.VecDeque.{deque_len, deque_capacity};
-    ghost use Rattle.gm_queues.specs.Queues.{Queue, jobs_in, BeginsWithJob};
+    ghost use Rattle.gm_queues.specs.Queues.{Queue, jobs_in};
 
     ghost Value = { Queue };
 
@@ -35,8 +36,7 @@ impl Model for Ring {
     ghost invariant = { λ r. (r.waiting ≡ length (jobs_in r.entries.items))
         × (r.waiting ≤ r.reserved)
         × (deque_len r.entries + r.reserved ≤ deque_capacity r.entries + r.waiting)
-        × (r.reserved ≤ 2 ^ 56)
-        × BeginsWithJob r.entries.items };
+        × (r.reserved ≤ 2 ^ 56) };
 }
 
 // No machine has the memory for that many jobs, and the sum of three such counts fits a u64.
@@ -45,7 +45,7 @@ const MOST_RESERVED: usize = 1 << 56;
 // Drops the cleared entries at the front.
 fn skip_cleared(entries: &mut VecDeque<Option<u64>>, hints: &mut Hints)
     ensures jobs { jobs_in entries.new.items ≡ jobs_in entries.old.items }
-    ensures first { BeginsWithJob entries.new.items }
+    ensures first { IfSome (slice_get entries.new.items 0) IsSome }
     ensures shorter { deque_len entries.new ≤ deque_len entries.old }
     ensures capacity { deque_capacity entries.new ≡ deque_capacity entries.old }
 {
@@ -59,7 +59,6 @@ fn skip_cleared(entries: &mut VecDeque<Option<u64>>, hints: &mut Hints)
 fn drop_cleared(entries: &mut VecDeque<Option<u64>>, hints: &mut Hints)
     ensures jobs { jobs_in entries.new.items ≡ jobs_in entries.old.items }
     ensures len { deque_len entries.new ≡ length (jobs_in entries.old.items) }
-    ensures first { BeginsWithJob entries.new.items }
     ensures capacity { deque_capacity entries.new ≡ deque_capacity entries.old }
 {
     entries.retain(|entry| entry.is_some());
@@ -96,7 +95,6 @@ fn make_room(
     requires { reserved ≤ deque_capacity entries.old }
     ensures jobs { jobs_in entries.new.items ≡ jobs_in entries.old.items }
     ensures len { deque_len entries.new ≡ length (jobs_in entries.old.items) }
-    ensures first { BeginsWithJob entries.new.items }
     ensures capacity { deque_capacity entries.old ≤ deque_capacity entries.new }
     ensures ok { OnOk result (reserved < deque_capacity entries.new) }
 {
@@ -177,19 +175,21 @@ impl Ring {
         ensures rest { self.new ≡ without_first self.old }
         ensures free { IsSome result → length self.new.jobs < self.new.reserved }
     {
+        skip_cleared(&mut self.entries, &mut self.hints);
         let Some(Some(job)) = self.entries.pop_front() else {
             return None;
         };
         self.hints.pass();
         self.waiting -= 1;
-        skip_cleared(&mut self.entries, &mut self.hints);
         Some(job)
     }
 
     /// The first job.
-    pub(crate) fn first(&self) -> Option<u64>
-        ensures { result ≡ slice_get self.now.jobs 0 }
+    pub(crate) fn first(&mut self) -> Option<u64>
+        ensures value { result ≡ slice_get self.old.jobs 0 }
+        ensures same { self.new ≡ self.old }
     {
+        skip_cleared(&mut self.entries, &mut self.hints);
         *self.entries.front()?
     }
 
@@ -205,7 +205,6 @@ impl Ring {
         self.entries[index] = None;
         self.waiting -= 1;
         self.reserved -= 1;
-        skip_cleared(&mut self.entries, &mut self.hints);
     }
 
     /// Whether the job waits here.

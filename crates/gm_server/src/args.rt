@@ -18,17 +18,18 @@ pub(crate) struct Args<'a> {
     pub(crate) tape: bool,
 }
 
-/// The command with the options of where it listens.
+/// The command with the options of where it listens. Their letters are those of gearmand(8).
 fn with_address<'a>(alloc: Global, command: Command<'a>) -> Result<Command<'a>, AllocError> {
     command
-        .arg(number(alloc, "port", 1, 65_535, "4730", "The port to listen on"))?
+        .arg(number(alloc, "port", 1, 65_535, "4730", "The port to listen on").short('p'))?
         .arg(text(
             alloc,
             "listen",
             "ADDR",
             "0.0.0.0",
             "The address to listen on",
-        ))
+        )
+        .short('L'))
 }
 
 /// The command with the option of what it is called.

@@ -26,11 +26,11 @@ mod session;
 mod settings;
 mod state;
 
-pub use effects::{Alone, Effects, Notify};
 pub use error::{ControlError, ServeError};
 pub use gate::{Gate, OpenGate};
-pub use message::{WriteFault, write_turn};
-pub use ready::{Ready, Unannounced};
+pub use message::{Delivery, WriteFault, write_turn};
+pub use outbox::Message;
+pub use ready::Ready;
 pub use run::run_words;
 pub use server::{Ended, serve, serve_book};
 pub use session::{SessionEnd, read_session};

@@ -17,8 +17,8 @@ pub struct WriteFault {
 }
 
 /// What came of a delivery, or of a write.
-#[derive(Clone, Copy, PartialEq, Eq)]
-pub(crate) enum Delivery {
+#[derive(Clone, Copy, Debug, PartialEq, Eq)]
+pub enum Delivery {
     /// All was sent.
     Done,
     /// The peer takes no more at present; what is left waits in the lane.

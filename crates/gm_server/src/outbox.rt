@@ -10,7 +10,7 @@ use std::sync::Wait;
 
 /// What is being sent: drained bytes, and then a NOOP where one was taken.
 #[derive(Drop)]
-struct Message {
+pub struct Message {
     /// The bytes that aren't sent yet.
     bytes: Outgoing,
     /// What isn't sent yet of the NOOP.
@@ -21,7 +21,8 @@ impl Message {
     ghost use Rattle.gm_server.specs.Turns.{turn_of};
     ghost use Rattle.gm_server.specs.Deliveries.{unsent, SendsFront};
 
-    fn new(bytes: Outgoing, took: bool) -> Message
+    /// These bytes, and a NOOP where one was taken.
+    pub fn new(bytes: Outgoing, took: bool) -> Message
         ensures { unsent result ≡ turn_of took bytes }
     {
         Message {
@@ -31,7 +32,7 @@ impl Message {
     }
 
     /// Sends what isn't sent yet: the bytes in as many writes as the places that they lie in, and then the NOOP.
-    fn send<W: Write>(&mut self, w: &mut W) -> Delivery
+    pub fn send<W: Write>(&mut self, w: &mut W) -> Delivery
         ensures { SendsFront result (W.contents w.old) (W.contents w.new) (unsent self.old) (unsent self.new) }
     {
         loop {

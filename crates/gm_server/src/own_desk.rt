@@ -13,7 +13,7 @@ ghost use Rattle.gm_server.specs.Sessions.{Reads};
 
 use crate::effects::Notify;
 use crate::gate::Gate;
-use crate::session::{SessionEnd, read_session};
+use crate::session::{SessionEnd, read_and_notify};
 use gm_conns::SlotSet;
 use gm_feeder::Limits;
 use gm_notes::{ApplyError, Event};
@@ -107,7 +107,7 @@ impl<K: BookName> OwnDesk<K> {
         self.apply(rt, shared, Event::Close { slot }, touched)
     }
 
-    /// Reads the stream of the slot's connection to its end (`read_session`).
+    /// Reads the stream of the slot's connection to its end (`read_and_notify`).
     pub(crate) fn read<R: Wait, I: Read, G: Gate, N: Notify<R>>(
         &mut self,
         rt: &R,
@@ -123,7 +123,7 @@ impl<K: BookName> OwnDesk<K> {
         ensures number { self.new.desk.number ≡ self.old.desk.number }
     {
         let slot = self.desk.number();
-        read_session(
+        read_and_notify(
             rt,
             alloc,
             reader,

@@ -10,7 +10,7 @@ use crate::args::{Args, parse_args};
 use crate::error::ServeError;
 use crate::gate::OpenGate;
 use crate::ready::Ready;
-use crate::server::serve;
+use crate::server::serve_announced;
 use crate::settings::{Served, Settings};
 use clap::error::ErrorKind;
 use gm_notes::Config;
@@ -187,7 +187,7 @@ fn serve_on<
         told: Ok(()),
     };
     let alloc = rt.alloc();
-    let outcome = serve(
+    let outcome = serve_announced(
         rt,
         alloc,
         seed,

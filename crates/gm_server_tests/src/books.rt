@@ -54,7 +54,7 @@ fn is_answering(rt: &impl Abort, book: &mut Booked, table: &SleepTable) -> Resul
 #[test]
 fn booked_ample(rt: HostRuntime) -> Result<(), Fail> {
     let seed = RandomState::new(&rt)?;
-    let config = config(rt.alloc(), 2, false)?;
+    let config = config(rt.alloc(), 2, 0)?;
     let (mut book, table, pens) = Booked::new(rt.alloc(), seed, config, TapeMode::On)?;
     same(&rt, "pens", &pens.len(), &2);
     is_answering(&rt, &mut book, &table)

@@ -267,16 +267,18 @@ fn assert_slots(rt: &impl Abort, event: Event<'static>, set: &SlotSet, slots: &[
     same(rt, event, &left.next(), &None);
 }
 
-/// The receipt says this, and the event touched these slots. The receipt has a place where a tape is kept.
+/// The receipt says this, and the event touched these slots, if that was asked. The receipt has a place where a tape is kept.
 fn assert_answer(
     rt: &impl Abort,
     tape: TapeMode,
     event: Event<'static>,
     got: Result<Receipt, ApplyError>,
     answer: Result<(Done, Mode), ApplyError>,
-    (touched, slots): (&SlotSet, &[u32]),
+    (touched, slots): (&Option<SlotSet>, &[u32]),
 ) {
-    assert_slots(rt, event, touched, slots);
+    if let Some(touched) = touched {
+        assert_slots(rt, event, touched, slots);
+    }
     match (got, answer) {
         (Ok(receipt), Ok(answer)) => {
             same(rt, event, &receipt.at.is_some(), &(tape == TapeMode::On));
@@ -342,43 +344,69 @@ pub fn assert_calls<K: BookName, R: Wait + Abort>(
 #[derive(Clone, Copy)]
 struct Calls<'a> {
     tape: TapeMode,
+    /// Whether it is asked what each event touches.
+    asks: bool,
+    retries: u32,
     parts: &'a [&'a [Call]],
+    /// The place that the last receipt told.
+    at: Option<u64>,
 }
 
 impl<'a> Scene for Calls<'a> {
+    fn retries(&self) -> u32 {
+        self.retries
+    }
+
     fn play<K: BookName + Send + Sync, R: Threads + Wait + Abort + Sync>(
         &mut self,
         rt: &R,
         room: &mut Room<K>,
     ) -> Result<(), Fail> {
+        if self.asks {
+            room.touched = Some(SlotSet::new());
+        }
         room.refuse_growth();
         for calls in self.parts {
             assert_calls(rt, room, self.tape, calls);
         }
+        self.at = room.at;
         Ok(())
     }
 }
 
-/// The calls are made in a new book with this many slots. It gives the book's tape, which is settled.
+/// The calls are made in a new book with this many slots, by both calls of a desk. It gives the numbers of entries on the book's
+/// tape, which is settled.
 fn play_calls<R: RandomSource + Threads + Wait + Abort + AllocGlobal + Sync>(
     rt: &R,
     slots: u32,
+    retries: u32,
     tape: TapeMode,
     parts: &[&[Call]],
-) -> Result<Vec<Entry>, Fail> {
-    play_settled(rt, rt.alloc(), slots, tape, &mut Calls { tape, parts })
+) -> Result<(usize, usize), Fail> {
+    let mut calls = Calls {
+        tape,
+        asks: false,
+        retries,
+        parts,
+        at: None,
+    };
+    let plain = play_settled(rt, rt.alloc(), slots, tape, &mut calls)?.len();
+    calls.asks = true;
+    let asked = play_settled(rt, rt.alloc(), slots, tape, &mut calls)?.len();
+    Ok((plain, asked))
 }
 
 /// Without a tape there are no entries, and with one this many.
 fn play_both<R: RandomSource + Threads + Wait + Abort + AllocGlobal + Sync>(
     rt: &R,
     slots: u32,
+    retries: u32,
     parts: &[&[Call]],
     entries: usize,
 ) -> Result<(), Fail> {
-    let off = play_calls(rt, slots, TapeMode::Off, parts)?.len();
-    let on = play_calls(rt, slots, TapeMode::On, parts)?.len();
-    same(rt, "the entries", &(off, on), &(0, entries));
+    let off = play_calls(rt, slots, retries, TapeMode::Off, parts)?;
+    let on = play_calls(rt, slots, retries, TapeMode::On, parts)?;
+    same(rt, "the entries", &(off, on), &((0, 0), (entries, entries)));
     Ok(())
 }
 
@@ -388,8 +416,8 @@ fn play_owed<R: RandomSource + Threads + Wait + Abort + AllocGlobal + Sync>(
     end: &[Call],
     entries: usize,
 ) -> Result<(), Fail> {
-    play_both(rt, 2, &[&OWED, end], entries)?;
-    play_both(rt, 2, &[&OWED, &TAKEN_FIRST, end], entries)
+    play_both(rt, 2, 0, &[&OWED, end], entries)?;
+    play_both(rt, 2, 0, &[&OWED, &TAKEN_FIRST, end], entries)
 }
 
 /// What the tape says that became of the NOOP of slot 1, where it says that the slot's desk found it.
@@ -413,13 +441,21 @@ fn found(entry: Option<&Entry>) -> Option<bool> {
     }
 }
 
-/// The worker asks for a job. Before that its NOOP is entered, as taken or as withdrawn.
+/// The worker asks for a job, which the receipt tells to be entry 6. Before that its NOOP is entered, as taken or as withdrawn.
 fn assert_found<R: RandomSource + Threads + Wait + Abort + AllocGlobal + Sync>(
     rt: &R,
     parts: &[&[Call]],
     taken: bool,
 ) -> Result<(), Fail> {
-    let tape = play_calls(rt, 2, TapeMode::On, parts)?;
+    let mut calls = Calls {
+        tape: TapeMode::On,
+        asks: false,
+        retries: 0,
+        parts,
+        at: None,
+    };
+    let tape = play_settled(rt, rt.alloc(), 2, TapeMode::On, &mut calls)?;
+    same(rt, "the grab's place", &calls.at, &Some(6));
     same(rt, "the entries", &tape.len(), &8);
     same(rt, "the NOOP", &found(tape.get(5)), &Some(taken));
     Ok(())
@@ -427,12 +463,12 @@ fn assert_found<R: RandomSource + Threads + Wait + Abort + AllocGlobal + Sync>(
 
 #[test]
 fn stale_noop(rt: HostRuntime) -> Result<(), Fail> {
-    play_both(&rt, 3, &[&STALE_NOOP], 13)
+    play_both(&rt, 3, 0, &[&STALE_NOOP], 13)
 }
 
 #[test]
 fn job_retries(rt: HostRuntime) -> Result<(), Fail> {
-    play_both(&rt, 2, &[&JOB_RETRIES], 22)
+    play_both(&rt, 2, 2, &[&JOB_RETRIES], 22)
 }
 
 /// Two clients and two workers, ten times each.
@@ -453,7 +489,7 @@ fn ten_each(rt: HostRuntime) -> Result<(), Fail> {
         grabs,
         &TEN_EACH,
     ];
-    play_both(&rt, 4, &parts, 51)
+    play_both(&rt, 4, 0, &parts, 51)
 }
 
 /// The pen takes the NOOP before the worker asks for a job or goes, or it is withdrawn: all else is the same.
@@ -461,8 +497,8 @@ fn ten_each(rt: HostRuntime) -> Result<(), Fail> {
 fn withdrawn_or_taken(rt: HostRuntime) -> Result<(), Fail> {
     assert_found(&rt, &[&OWED, &GRABS], false)?;
     assert_found(&rt, &[&OWED, &TAKEN_FIRST, &GRABS], true)?;
-    play_both(&rt, 2, &[&OWED, &GRABS, &SLEEPS_AGAIN], 11)?;
-    play_both(&rt, 2, &[&OWED, &TAKEN_FIRST, &GRABS, &SLEEPS_AGAIN], 11)?;
+    play_both(&rt, 2, 0, &[&OWED, &GRABS, &SLEEPS_AGAIN], 11)?;
+    play_both(&rt, 2, 0, &[&OWED, &TAKEN_FIRST, &GRABS, &SLEEPS_AGAIN], 11)?;
     play_owed(&rt, &GRABS_WITH_ID, 8)?;
     play_owed(&rt, &GOES, 11)
 }
@@ -470,5 +506,5 @@ fn withdrawn_or_taken(rt: HostRuntime) -> Result<(), Fail> {
 /// Each call that can be refused is answered where there is memory, and refused where it has to be.
 #[test]
 fn shared_ample(rt: HostRuntime) -> Result<(), Fail> {
-    play_both(&rt, 2, &[&REFUSALS], 15)
+    play_both(&rt, 2, 0, &[&REFUSALS], 15)
 }

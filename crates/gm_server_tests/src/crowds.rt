@@ -5,7 +5,6 @@ ghost use Rattle.std.specs.Prelude.{◌≡◌};
 use crate::checks::{must, same};
 use crate::packets::{assigned, cut, handle};
 use crate::room::{Room, apply, blank};
-use gm_conns::SlotSet;
 use gm_notes::{ApplyError, Event};
 use gm_shared::{Blank, BookName, Desk, Shared, TapeMode};
 use std::alloc::{AllocError, Global};
@@ -44,8 +43,7 @@ impl<K: BookName> Hand<K> {
             kind,
             bytes,
         };
-        let mut touched = SlotSet::new();
-        let receipt = apply(rt, shared, &mut self.desk, event, &mut touched)?;
+        let receipt = apply(rt, shared, &mut self.desk, event, &mut None)?;
         if let Some(number) = receipt.done.created {
             self.created.push(number)?;
         }
@@ -351,7 +349,7 @@ fn crowd_anew<R: RandomSource + Threads + Wait + Abort + Sync>(
     slots: u32,
     tape: TapeMode,
 ) -> Result<usize, Fail> {
-    crowd::<Brand, R>(rt, alloc, blank(rt, alloc, slots, tape)?, slots)
+    crowd::<Brand, R>(rt, alloc, blank(rt, alloc, slots, 0, tape)?, slots)
 }
 
 /// The same without a tape, and with one, which has this many entries in the end.

@@ -1,13 +1,15 @@
 //! A reader and a writer that fail at a call of one's choice, and what is written to such a writer.
 
 use crate::checks::same;
-use gm_server::{WriteFault, write_turn};
+use gm_conns::Outgoing;
+use gm_server::{Delivery, Message, WriteFault, write_turn};
 use std::alloc::Global;
 use std::io::{Error, ErrorKind, Read, Result, Write};
+use std::process::Abort;
 use std::test::Fail;
 
 /// Gives its bytes in pieces of one size, and fails at a call.
-#[derive(Drop)]
+#[derive(Clone, Copy)]
 pub struct FailingReader<'a> {
     pub rest: &'a [u8],
     pub piece: usize,
@@ -53,13 +55,11 @@ impl Write for FailingWriter {
     }
 }
 
-/// What comes of a message where there is room for this many bytes, and the bytes that were taken.
-fn written(
-    alloc: Global,
-    room: usize,
-    took: bool,
-    drained: &[u8],
-) -> (std::result::Result<(), WriteFault>, Vec<u8>) {
+/// What came of a message: whether all was written, or the fault; and the bytes that were taken.
+type Outcome = (std::result::Result<(), WriteFault>, Vec<u8>);
+
+/// What comes of a message where there is room for this many bytes.
+fn written(alloc: Global, room: usize, took: bool, drained: &[u8]) -> Outcome {
     let mut writer = FailingWriter {
         room,
         taken: Vec::new(alloc),
@@ -68,29 +68,74 @@ fn written(
     (outcome, writer.taken)
 }
 
-/// Two bytes, and a NOOP.
-static TWO: [u8; 14] = [97, 98, 0, 82, 69, 83, 0, 0, 0, 6, 0, 0, 0, 0];
+/// The same where it is delivered, by sendings until it is done or over.
+fn sent(
+    alloc: Global,
+    room: usize,
+    took: bool,
+    drained: &[u8],
+) -> std::result::Result<Outcome, Fail> {
+    let mut writer = FailingWriter {
+        room,
+        taken: Vec::new(alloc),
+    };
+    let mut message = Message::new(Outgoing::new(Vec::from_slice(alloc, drained)?), took);
+    for _ in 0..100 {
+        let outcome = match message.send(&mut writer) {
+            Delivery::Late => continue,
+            Delivery::Done => Ok(()),
+            Delivery::Over => Err(WriteFault {
+                written: writer.taken.len(),
+            }),
+        };
+        return Ok((outcome, writer.taken));
+    }
+    Err(Fail::from("a message without end"))
+}
 
-#[test]
-fn write_turns(rt: HostRuntime) -> std::result::Result<(), Fail> {
-    let (outcome, taken) = written(rt.alloc(), 100, true, b"ab");
-    same(&rt, "a message", &outcome, &Ok(()));
-    same(&rt, "its bytes", &taken.as_slice(), &TWO.as_slice());
-    let (outcome, taken) = written(rt.alloc(), 100, false, b"ab");
-    same(&rt, "no NOOP", &outcome, &Ok(()));
-    same(&rt, "the bytes alone", &taken.as_slice(), &b"ab".as_slice());
-    let (outcome, _) = written(rt.alloc(), 1, true, b"ab");
-    same(&rt, "one byte", &outcome, &Err(WriteFault { written: 1 }));
+/// A message is written like this, and is delivered like this, where there is room for this many bytes: all of it, or as many
+/// bytes as there is room for.
+fn assert_written(
+    rt: &impl Abort,
+    alloc: Global,
+    room: usize,
+    took: bool,
+    drained: &[u8],
+    whole: &[u8],
+) -> std::result::Result<(), Fail> {
+    let wanted = if room < whole.len() {
+        Err(WriteFault { written: room })
+    } else {
+        Ok(())
+    };
+    let bytes = &whole[..room.min(whole.len())];
+    for (outcome, taken) in [
+        written(alloc, room, took, drained),
+        sent(alloc, room, took, drained)?,
+    ] {
+        same(rt, room, &outcome, &wanted);
+        same(rt, room, &taken.as_slice(), &bytes);
+    }
     Ok(())
 }
 
+/// Two bytes, and a NOOP.
+const TWO: &[u8] = b"ab\0RES\0\0\0\x06\0\0\0\0";
+
+/// Three bytes, and a NOOP.
+const THREE: &[u8] = b"abc\0RES\0\0\0\x06\0\0\0\0";
+
 #[test]
-fn device_fails(rt: HostRuntime) {
-    for room in 0..15 {
-        let (outcome, taken) = written(rt.alloc(), room, true, b"abc");
-        same(&rt, "a fault", &outcome, &Err(WriteFault { written: room }));
-        same(&rt, "what was taken", &taken.len(), &room);
+fn write_turns(rt: HostRuntime) -> std::result::Result<(), Fail> {
+    assert_written(&rt, rt.alloc(), 100, true, b"ab", TWO)?;
+    assert_written(&rt, rt.alloc(), 100, false, b"ab", b"ab")?;
+    assert_written(&rt, rt.alloc(), 1, true, b"ab", TWO)
+}
+
+#[test]
+fn device_fails(rt: HostRuntime) -> std::result::Result<(), Fail> {
+    for room in 0..16 {
+        assert_written(&rt, rt.alloc(), room, true, b"abc", THREE)?;
     }
-    let (outcome, _) = written(rt.alloc(), 15, true, b"abc");
-    same(&rt, "none", &outcome, &Ok(()));
+    Ok(())
 }

@@ -4,7 +4,7 @@ use crate::checks::same;
 use crate::client::{Client, joined};
 use gm_feeder::Limits;
 use gm_notes::Config;
-use gm_server::{Gate, Served, Settings, Unannounced, serve};
+use gm_server::{Gate, Served, Settings, serve};
 use std::alloc::Global;
 use std::hash::RandomState;
 use std::net::{Net, SocketAddr, TcpListener, TcpStream};
@@ -34,7 +34,7 @@ fn served<R: Threads + Wait + Clock + RandomSource + Eprint + Sync>(
         },
         tape: false,
     };
-    serve(rt, alloc, seed, listener, settings, hold, &mut Unannounced).ok()
+    serve(rt, alloc, seed, listener, settings, hold).ok()
 }
 
 /// Holds what slot 0 sends, from one of its units on, until the client of slot 1 has read its answer, but not for ever.

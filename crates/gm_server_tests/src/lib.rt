@@ -1,6 +1,6 @@
 //! Tests of what threads do at once: a shared book, by worked cases over its desks and pens and by threads that work at
-//! it; a front to which growths are refused; and the server: sessions, what a writer writes, and connections of which one
-//! is held at a unit. It holds nothing else. What can be seen from outside is tested at the program, by tests/serve.
+//! it; and the server: its arguments, sessions, what a writer writes, and connections
+//! of which one is held at a unit. It holds nothing else. What can be seen from outside is tested at the program, by tests/serve.
 #![tactic(auto)]
 
 #[cfg(test)]
@@ -16,8 +16,6 @@ mod crowds;
 #[cfg(test)]
 mod devices;
 #[cfg(test)]
-mod fronts;
-#[cfg(test)]
 mod growths;
 #[cfg(test)]
 mod held;
@@ -29,3 +27,5 @@ mod room;
 mod sessions;
 #[cfg(test)]
 mod tapes;
+#[cfg(test)]
+mod words;

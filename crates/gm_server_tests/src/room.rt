@@ -21,11 +21,10 @@ use std::sync::Wait;
 use std::test::Fail;
 use std::thread::Threads;
 
-/// The settings of a server with this many slots, whose workers' functions take turns or don't, and which gives a job to two
-/// workers at most.
-pub fn config(alloc: Global, slots: u32, round_robin: bool) -> Result<Config, Fail> {
-    let config = Config::new(Vec::from_slice(alloc, b"gmd")?, 1, slots, 65536)?;
-    Ok(config.with_round_robin(round_robin).with_retries(2))
+/// The settings of a server with this many slots, which gives a job to so many workers at most; 0 is no limit. All else is as
+/// it is where nothing else is asked for.
+pub fn config(alloc: Global, slots: u32, retries: u32) -> Result<Config, Fail> {
+    Ok(Config::new(Vec::from_slice(alloc, b"gmd")?, 1, slots, 65536)?.with_retries(retries))
 }
 
 /// A shared book, with all its desks and pens.
@@ -35,8 +34,10 @@ pub struct Room<K: BookName> {
     pub desks: Vec<Desk<K>>,
     pub pens: Vec<Pen<K>>,
     pub control: Desk<K>,
-    /// What the last event touched.
-    pub touched: SlotSet,
+    /// What the last event touched, if that is asked.
+    pub touched: Option<SlotSet>,
+    /// The place that the last receipt tells.
+    pub at: Option<u64>,
     pub alloc: Global,
     /// Which growth is to be refused.
     growth: u32,
@@ -44,6 +45,11 @@ pub struct Room<K: BookName> {
 
 /// What is done in a room.
 pub trait Scene {
+    /// To how many workers a job may be given; 0 is no limit.
+    fn retries(&self) -> u32 {
+        0
+    }
+
     fn play<K: BookName + Send + Sync, R: Threads + Wait + Abort + Sync>(
         &mut self,
         rt: &R,
@@ -51,18 +57,21 @@ pub trait Scene {
     ) -> Result<(), Fail>;
 }
 
-/// Hands in an event, which isn't too large. The set becomes the slots that it touched.
+/// Hands in an event, which isn't too large. A set becomes the slots that it touched.
 pub fn apply<K: BookName, R: Wait + Abort>(
     rt: &R,
     shared: &Shared<K>,
     desk: &mut Desk<K>,
     event: Event<'_>,
-    touched: &mut SlotSet,
+    touched: &mut Option<SlotSet>,
 ) -> Result<Receipt, ApplyError> {
     if let Event::Packet { bytes, .. } = event {
         must(rt, bytes.len() <= 1_073_741_824);
     }
-    desk.apply_with(rt, shared, event, None, touched)
+    match touched {
+        Some(touched) => desk.apply_with(rt, shared, event, None, touched),
+        None => desk.apply(rt, shared, event),
+    }
 }
 
 impl<K: BookName> Room<K> {
@@ -77,7 +86,8 @@ impl<K: BookName> Room<K> {
             desks,
             pens,
             control,
-            touched: SlotSet::new(),
+            touched: None,
+            at: None,
             alloc,
             growth: 0,
         })
@@ -133,10 +143,12 @@ impl<K: BookName> Room<K> {
         event: Event<'_>,
     ) -> Result<Receipt, ApplyError> {
         let touched = &mut self.touched;
-        match self.desks.get_mut(desk) {
-            Some(desk) => apply(rt, &self.shared, desk, event, touched),
-            None => apply(rt, &self.shared, &mut self.control, event, touched),
-        }
+        let receipt = match self.desks.get_mut(desk) {
+            Some(desk) => apply(rt, &self.shared, desk, event, touched)?,
+            None => apply(rt, &self.shared, &mut self.control, event, touched)?,
+        };
+        self.at = receipt.at;
+        Ok(receipt)
     }
 
     /// The same, and once more where it is refused for memory.
@@ -193,14 +205,15 @@ fn play_at<K: BookName + Send + Sync, S: Scene, R: Threads + Wait + Abort + Sync
     Ok(room.settle(alloc))
 }
 
-/// A new book with this many slots, with a tape or without. Functions take turns where a tape is kept.
+/// A new book with this many slots, with a tape or without.
 pub fn blank<R: RandomSource>(
     rt: &R,
     alloc: Global,
     slots: u32,
+    retries: u32,
     tape: TapeMode,
 ) -> Result<Blank, Fail> {
-    let config = config(alloc, slots, tape == TapeMode::On)?;
+    let config = config(alloc, slots, retries)?;
     Ok(Blank::new(alloc, RandomState::new(rt)?, config, tape)?)
 }
 
@@ -223,7 +236,7 @@ pub fn play_to_the_end<S: Scene, R: RandomSource + Threads + Wait + Abort + Sync
 ) -> Result<Result<Vec<Entry>, u8>, Fail> {
     let mut wanted = None;
     for growth in 1..MOST {
-        let blank = blank(rt, alloc, slots, tape)?;
+        let blank = blank(rt, alloc, slots, scene.retries(), tape)?;
         let outcome = play_at::<Brand, S, R>(rt, alloc, blank, scene, growth)?;
         let got = entries(&outcome);
         same(rt, growth, &got, &wanted.unwrap_or(got));

@@ -5,7 +5,7 @@ use crate::devices::FailingReader;
 use crate::room::{Room, Scene, play_settled};
 use gm_feeder::Limits;
 use gm_notes::Event;
-use gm_server::{Alone, OpenGate, SessionEnd, read_session};
+use gm_server::{OpenGate, SessionEnd, read_session};
 use gm_shared::{BookName, TapeMode};
 use std::alloc::Global;
 use std::process::Abort;
@@ -48,7 +48,6 @@ impl<'a> Scene for OneSession<'a> {
             0,
             LIMITS,
             &OpenGate,
-            &Alone::new(),
         );
         if let Ok(drained) = room.drain(rt, 0) {
             self.waiting = Vec::from_slice(self.alloc, drained.bytes.chunk())?;
@@ -58,8 +57,9 @@ impl<'a> Scene for OneSession<'a> {
 }
 
 /// A session at a new book with one slot ends like this, with these bytes waiting and this many entries on the tape.
-fn assert_session<R: RandomSource + Threads + Wait + Abort + AllocGlobal + Sync>(
+fn assert_session_with<R: RandomSource + Threads + Wait + Abort + AllocGlobal + Sync>(
     rt: &R,
+    tape: TapeMode,
     is_open: bool,
     reader: FailingReader<'_>,
     wanted: (SessionEnd, &[u8], usize),
@@ -72,10 +72,21 @@ fn assert_session<R: RandomSource + Threads + Wait + Abort + AllocGlobal + Sync>
         end: SessionEnd::ReadFault,
         waiting: Vec::new(alloc),
     };
-    let entries = play_settled(rt, alloc, 1, TapeMode::On, &mut scene)?.len();
+    let entries = play_settled(rt, alloc, 1, tape, &mut scene)?.len();
     let got = (scene.end, scene.waiting.as_slice(), entries);
-    same(rt, "the session", &got, &wanted);
+    same(rt, tape, &got, &wanted);
     Ok(())
+}
+
+/// The same with a tape, which has this many entries, and without one.
+fn assert_session<R: RandomSource + Threads + Wait + Abort + AllocGlobal + Sync>(
+    rt: &R,
+    is_open: bool,
+    reader: FailingReader<'_>,
+    (end, waiting, entries): (SessionEnd, &[u8], usize),
+) -> Result<(), Fail> {
+    assert_session_with(rt, TapeMode::On, is_open, reader, (end, waiting, entries))?;
+    assert_session_with(rt, TapeMode::Off, is_open, reader, (end, waiting, 0))
 }
 
 /// An echo of two bytes, asked for.

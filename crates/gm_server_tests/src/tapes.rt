@@ -3,7 +3,7 @@
 use crate::calls::{OWED, assert_calls};
 use crate::checks::same;
 use crate::room::{Room, Scene, play_settled, play_to_the_end};
-use gm_notes::{ApplyError, Event};
+use gm_notes::{ApplyError, Event, Mode};
 use gm_shared::{BookName, TapeMode};
 use std::process::Abort;
 use std::random::RandomSource;
@@ -19,29 +19,29 @@ enum Lost {
     Pen,
 }
 
-/// An opening, an echo and its drain, after which something isn't given back: the places that the receipts tell.
+/// An opening, an echo and its drain, after which something isn't given back: the places and modes that the receipts tell.
 #[derive(Clone, Copy)]
 struct Echo {
     lost: Lost,
-    places: [Option<u64>; 2],
+    receipts: [(Option<u64>, Mode); 2],
 }
 
 /// Slot 0 is opened, asks for an echo and gets it.
 fn echo_once<K: BookName, R: Wait + Abort>(
     rt: &R,
     room: &mut Room<K>,
-) -> Result<[Option<u64>; 2], ApplyError> {
-    let opening = room.apply(rt, 2, Event::Open { addr: b"127.0.0.1" })?.at;
+) -> Result<[(Option<u64>, Mode); 2], ApplyError> {
+    let opening = room.apply(rt, 2, Event::Open { addr: b"127.0.0.1" })?;
     let event = Event::Packet {
         slot: 0,
         kind: 16,
         bytes: b"hi",
     };
-    let echo = room.apply(rt, 0, event)?.at;
+    let echo = room.apply(rt, 0, event)?;
     let drained = room.drain(rt, 0)?;
     let wanted = b"\0RES\0\0\0\x11\0\0\0\x02hi".as_slice();
     same(rt, "the echo", &drained.bytes.chunk(), &wanted);
-    Ok([opening, echo])
+    Ok([(opening.at, opening.mode), (echo.at, echo.mode)])
 }
 
 impl Scene for Echo {
@@ -51,13 +51,13 @@ impl Scene for Echo {
         room: &mut Room<K>,
     ) -> Result<(), Fail> {
         room.refuse_growth();
-        self.places = echo_once(rt, room)?;
+        self.receipts = echo_once(rt, room)?;
         room.lose(self.lost == Lost::Desk, self.lost == Lost::Pen);
         Ok(())
     }
 }
 
-/// The receipts tell these places, and this many entries are settled in the end.
+/// The receipts tell these places, and that the server runs, and this many entries are settled in the end.
 fn assert_ends<R: RandomSource + Threads + Wait + Abort + AllocGlobal + Sync>(
     rt: &R,
     tape: TapeMode,
@@ -67,13 +67,14 @@ fn assert_ends<R: RandomSource + Threads + Wait + Abort + AllocGlobal + Sync>(
 ) -> Result<(), Fail> {
     let mut scene = Echo {
         lost,
-        places: [None, None],
+        receipts: [(None, Mode::Stopped); 2],
     };
     let got = match play_to_the_end(rt, rt.alloc(), 2, tape, &mut scene)? {
         Ok(tape) => Ok(tape.len()),
         Err(error) => Err(error),
     };
-    same(rt, lost, &scene.places, &places);
+    let wanted = [(places[0], Mode::Running), (places[1], Mode::Running)];
+    same(rt, lost, &scene.receipts, &wanted);
     same(rt, lost, &got, &entries);
     Ok(())
 }

@@ -290,7 +290,7 @@ fn compare(rt: &impl Abort, conns: &Conns, plain: &Plain, slot: u32) {
         &told,
         &(plain.shut, plain.option, plain.phase),
     );
-    match conns.copy_waiting(slot) {
+    match conns.waiting(slot).to_vec() {
         Ok(copy) => same(
             rt,
             "what waits",

@@ -14,6 +14,7 @@ fn make(
     jobs: &mut Jobs,
     f: u32,
     unique: &[u8],
+    kept: bool,
     listener: Option<u32>,
 ) -> Result<Option<u64>, JobError> {
     jobs.reserve(f, unique.len(), 1)?;
@@ -25,18 +26,18 @@ fn make(
         p: Priority::Low,
         unique,
         body: b"b",
-        kept: false,
+        kept,
         listener,
     })))
 }
 
-fn assert_makes(rt: &impl Abort, jobs: &mut Jobs, f: u32, made: Option<u64>) {
-    same(rt, f, &make(jobs, f, b"x", None), &Ok(made));
+fn assert_makes(rt: &impl Abort, jobs: &mut Jobs, f: u32, kept: bool, made: Option<u64>) {
+    same(rt, f, &make(jobs, f, b"x", kept, None), &Ok(made));
 }
 
 fn assert_spent(rt: &impl Abort, jobs: &mut Jobs) {
     let spent = JobError::NumbersSpent;
-    same(rt, "spent", &make(jobs, 0, b"y", None), &Err(spent));
+    same(rt, "spent", &make(jobs, 0, b"y", false, None), &Err(spent));
     same(rt, "its number", &spent.number(), &15);
 }
 
@@ -46,7 +47,7 @@ fn assert_finds(rt: &impl Abort, jobs: &Jobs, f: u32, found: Option<u64>) {
 
 fn spend_last(rt: &impl Abort, alloc: Global, seed: RandomState) -> Result<(), AllocError> {
     let mut jobs = Jobs::new(alloc, seed, u64::MAX)?;
-    assert_makes(rt, &mut jobs, 0, Some(u64::MAX));
+    assert_makes(rt, &mut jobs, 0, false, Some(u64::MAX));
     assert_spent(rt, &mut jobs);
     Ok(())
 }
@@ -58,11 +59,11 @@ fn last_number_spent(rt: HostRuntime) -> Result<(), Fail> {
     Ok(())
 }
 
-// Two functions have jobs of one unique id, and one of them no second.
+// Two functions have jobs of one unique id, the second of which is kept, and the first function has no second.
 fn make_two(rt: &impl Abort, jobs: &mut Jobs) {
-    assert_makes(rt, jobs, 0, Some(1));
-    assert_makes(rt, jobs, 1, Some(2));
-    assert_makes(rt, jobs, 0, None);
+    assert_makes(rt, jobs, 0, false, Some(1));
+    assert_makes(rt, jobs, 1, true, Some(2));
+    assert_makes(rt, jobs, 0, false, None);
 }
 
 fn find_two(rt: &impl Abort, jobs: &Jobs) {
@@ -72,15 +73,14 @@ fn find_two(rt: &impl Abort, jobs: &Jobs) {
 }
 
 fn listen_and_leave(rt: &impl Abort, jobs: &mut Jobs) -> Result<(), AllocError> {
-    for slot in [3, 4, 3] {
+    for slot in [3, 3] {
         jobs.listen(1, slot)?;
     }
-    same(rt, "listeners", &jobs.listeners(1), &[3, 4, 3].as_slice());
+    same(rt, "listeners", &jobs.listeners(1), &[3, 3].as_slice());
     jobs.leave(3);
-    same(rt, "listeners", &jobs.listeners(1), &[4].as_slice());
-    jobs.keep(1);
-    same(rt, "an orphan", &jobs.next_orphan(0), &Some(2));
-    same(rt, "an orphan", &jobs.next_orphan(2), &None);
+    same(rt, "no listeners", &jobs.listeners(1).len(), &0);
+    same(rt, "an orphan", &jobs.next_orphan(0), &Some(1));
+    same(rt, "an orphan", &jobs.next_orphan(1), &None);
     Ok(())
 }
 
@@ -318,7 +318,7 @@ fn add_made(plain: &mut Plain, unique: u8, made: Option<u64>) -> Result<(), Allo
 
 // A job of one byte as unique id, in both, unless it lives.
 fn make_both(jobs: &mut Jobs, plain: &mut Plain, unique: u8) -> Result<(), JobError> {
-    let made = make(jobs, 0, &[unique], None)?;
+    let made = make(jobs, 0, &[unique], false, None)?;
     add_made(plain, unique, made)?;
     Ok(())
 }

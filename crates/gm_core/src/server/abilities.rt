@@ -29,9 +29,10 @@ impl Core {
     ghost use Rattle.gm_core.specs.Holds.{Keeps, Goes, Does};
 
     /// The first job of a function, if there is such a function.
-    fn first_for(&self, f: u32) -> Option<u64>
-        ensures value { f < length self.now.functions.names → result ≡ slice_get (waiting_for self.now.functions f) 0 }
-        ensures within { IfSome result (λ job. f < length self.now.functions.names) }
+    fn first_for(&mut self, f: u32) -> Option<u64>
+        ensures value { f < length self.old.functions.names → result ≡ slice_get (waiting_for self.old.functions f) 0 }
+        ensures within { IfSome result (λ job. f < length self.old.functions.names) }
+        ensures same { self.new ≡ self.old }
     {
         if f < self.functions.len() {
             self.functions.first(f)
@@ -61,13 +62,14 @@ impl Core {
     }
 
     /// The first job for one of these abilities of a slot.
-    fn pick_among(&self, slot: u32, from: usize, to: usize) -> Option<Choice>
-        requires open { IsOpen self.now.conns slot }
-        requires to { to ≤ length (conn self.now.conns slot).abilities }
-        ensures value { (past : Past) → Keeps self.now past → option_map (λ (found : Choice). found.pick) result
-            ≡ pick_from (map (ability_named self.now.functions.names) (drop from (take to (conn self.now.conns slot).abilities))) past.notes }
-        ensures first { IfSome result (λ found. slice_get (waiting_for self.now.functions found.function) 0 ≡ Some found.pick.job) }
-        ensures within { IfSome result (λ found. found.function < length self.now.functions.names) }
+    fn pick_among(&mut self, slot: u32, from: usize, to: usize) -> Option<Choice>
+        requires open { IsOpen self.old.conns slot }
+        requires to { to ≤ length (conn self.old.conns slot).abilities }
+        ensures value { (past : Past) → Keeps self.old past → option_map (λ (found : Choice). found.pick) result
+            ≡ pick_from (map (ability_named self.old.functions.names) (drop from (take to (conn self.old.conns slot).abilities))) past.notes }
+        ensures first { IfSome result (λ found. slice_get (waiting_for self.old.functions found.function) 0 ≡ Some found.pick.job) }
+        ensures within { IfSome result (λ found. found.function < length self.old.functions.names) }
+        ensures same { self.new ≡ self.old }
     {
         for i in from..to {
             let (function, timeout) = self.conns.able(slot, i)?;
@@ -82,11 +84,12 @@ impl Core {
     }
 
     /// The job that a grab of a slot gets.
-    pub(super) fn pick(&self, slot: u32) -> Option<Choice>
-        requires { IsOpen self.now.conns slot }
-        ensures value { (past : Past) → Keeps self.now past → option_map (λ (found : Choice). found.pick) result ≡ pick self.now.config slot past.notes }
-        ensures first { IfSome result (λ found. slice_get (waiting_for self.now.functions found.function) 0 ≡ Some found.pick.job) }
-        ensures within { IfSome result (λ found. found.function < length self.now.functions.names) }
+    pub(super) fn pick(&mut self, slot: u32) -> Option<Choice>
+        requires { IsOpen self.old.conns slot }
+        ensures value { (past : Past) → Keeps self.old past → option_map (λ (found : Choice). found.pick) result ≡ pick self.old.config slot past.notes }
+        ensures first { IfSome result (λ found. slice_get (waiting_for self.old.functions found.function) 0 ≡ Some found.pick.job) }
+        ensures within { IfSome result (λ found. found.function < length self.old.functions.names) }
+        ensures same { self.new ≡ self.old }
     {
         let len = self.conns.abilities_len(slot);
         let last = self.tried_last(slot, len);

@@ -1,7 +1,7 @@
-use Rattle.std.proofs.Common.{◌≡◌, rules, filter, is_some, length, sym, ap, subst, ◌∙◌}
+use Rattle.std.proofs.Common.{◌≡◌, rules, filter, is_some, length, ap, ◌∙◌}
 use Rattle.std.proofs.lemmas.Fn.{filter_same}
-use Rattle.gm_queues.specs.Queues.{jobs_in, BeginsWithJob}
-use Rattle.gm_queues.proofs.QueueLemmas.{jobs_in-filter, length-filter_some, begins-filter}
+use Rattle.gm_queues.specs.Queues.{jobs_in}
+use Rattle.gm_queues.proofs.QueueLemmas.{jobs_in-filter, length-filter_some}
 use Rattle.gm_queues.proofs.ring.drop_cleared.Goals as goal
 use Rattle.gm_queues.proofs.ring.drop_cleared.Goals.{After-learn}
 
@@ -13,6 +13,3 @@ returns-clause-jobs c = ap jobs_in (kept ((goal.at.returns-clause-jobs c).After-
 
 pub returns-clause-len : goal.returns-clause-len
 returns-clause-len c = c.retain.new.self.ok.0 ∙ ap length (kept ((goal.at.returns-clause-len c).After-learn)) ∙ length-filter_some c.args.entries.now.items
-
-pub returns-clause-first : goal.returns-clause-first
-returns-clause-first c = subst BeginsWithJob (sym (kept ((goal.at.returns-clause-first c).After-learn))) (begins-filter c.args.entries.now.items)

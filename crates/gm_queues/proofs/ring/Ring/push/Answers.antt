@@ -1,6 +1,6 @@
 use Rattle.std.proofs.Common.{◌≡◌, ◌<◌, Some, IsOk, [], ◌∷◌, ◌++◌, length, sym, ap, subst, ◌∙◌, arith, length-append}
-use Rattle.gm_queues.specs.Queues.{Queue, with_job, jobs_in, BeginsWithJob}
-use Rattle.gm_queues.proofs.QueueLemmas.{jobs_in-append, begins-append}
+use Rattle.gm_queues.specs.Queues.{Queue, with_job, jobs_in}
+use Rattle.gm_queues.proofs.QueueLemmas.{jobs_in-append}
 use Rattle.gm_queues.proofs.ring.Ring.push.Goals as goal
 use Rattle.gm_queues.proofs.ring.Ring.push.Goals.{After-add}
 
@@ -21,7 +21,7 @@ invariant_of-self c =
     let longer = ap length (jobs_after d) ∙ length-append (jobs_in c.self.inside.entries.items) (c.args.job ∷ []) in
     let ok : IsOk c.push_back-pushed.result = c.push_back-pushed.ensures.succeeds (omega arith) in
     let len = rw ok at c.push_back-pushed.ensures.len in
-    (omega arith, omega arith, omega arith, omega arith, subst BeginsWithJob (sym (entries_after d)) (begins-append c.self.inside.entries.items c.args.job c.self.invariant.4))
+    (omega arith, omega arith, omega arith, omega arith)
 
 pub returns : goal.returns
 returns c =

@@ -9,4 +9,4 @@ pub invariant_of-self : goal.invariant_of-self
 invariant_of-self c =
     let same = ap length c.make_room.ensures.jobs in
     let shorter = length-jobs_in c.self.inside.entries.items in
-    (omega arith, omega arith, omega arith, omega arith, c.make_room.ensures.first)
+    (omega arith, omega arith, omega arith, omega arith)

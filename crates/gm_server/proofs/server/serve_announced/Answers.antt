@@ -1,6 +1,6 @@
 use Rattle.std.proofs.Common.{◌∙◌}
 use Rattle.gm_server.proofs.Serving.{ends_as}
-use Rattle.gm_server.proofs.server.serve.Goals as goal
+use Rattle.gm_server.proofs.server.serve_announced.Goals as goal
 
 pub returns : goal.returns
 returns g c =

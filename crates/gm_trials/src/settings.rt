@@ -1,0 +1,78 @@
+//! The settings of a trial, and the servers and fronts that it begins with.
+
+use crate::error::TrialError;
+use gm_core::Core;
+use gm_feeder::Limits;
+use gm_front::Front;
+use gm_notes::Config;
+use gm_plain::PlainServer;
+use std::alloc::Global;
+use std::hash::RandomState;
+
+/// How large a unit may be.
+pub const LIMITS: Limits = Limits {
+    max_bytes: 67_108_864,
+    max_line: 1024,
+};
+
+/// The settings of a server.
+#[derive(Drop)]
+pub struct Settings {
+    pub first_job: u64,
+    slots: u32,
+    functions: u32,
+    round_robin: bool,
+    retries: u32,
+    seed: RandomState,
+}
+
+fn number(argument: &str) -> Result<u64, TrialError> {
+    argument.parse().ok().ok_or(TrialError::Usage)
+}
+
+fn short(argument: &str) -> Result<u32, TrialError> {
+    argument.parse().ok().ok_or(TrialError::Usage)
+}
+
+impl Settings {
+    /// The settings that these numbers say: the first job's, those of slots and functions, whether functions take turns, and to
+    /// how many workers a job is given.
+    pub fn parse(seed: RandomState, numbers: &[&str]) -> Result<Settings, TrialError> {
+        let [first_job, slots, functions, turns, retries] = numbers else {
+            return Err(TrialError::Usage);
+        };
+        Ok(Settings {
+            first_job: number(first_job)?,
+            slots: short(slots)?,
+            functions: short(functions)?,
+            round_robin: short(turns)? != 0,
+            retries: short(retries)?,
+            seed,
+        })
+    }
+
+    fn config(&self, alloc: Global) -> Result<Config, TrialError> {
+        let name = Vec::from_slice(alloc, b"gmd")?;
+        let Ok(config) = Config::new(name, self.first_job, self.slots, self.functions) else {
+            return Err(TrialError::Usage);
+        };
+        Ok(
+            config
+                .with_round_robin(self.round_robin)
+                .with_retries(self.retries),
+        )
+    }
+
+    pub fn plain_server(&self, alloc: Global) -> Result<PlainServer, TrialError> {
+        Ok(PlainServer::new(alloc, self.config(alloc)?)?)
+    }
+
+    pub fn plain_front(&self, alloc: Global) -> Result<Front<PlainServer>, TrialError> {
+        Ok(Front::new(alloc, self.plain_server(alloc)?, LIMITS)?)
+    }
+
+    pub fn core_front(&self, alloc: Global) -> Result<Front<Core>, TrialError> {
+        let core = Core::new(alloc, self.seed, self.config(alloc)?)?;
+        Ok(Front::new(alloc, core, LIMITS)?)
+    }
+}
