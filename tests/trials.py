@@ -1,6 +1,8 @@
 """What the parts of ../test share: their checks, the rows, and runs of a program in which a call fails (failing.c)."""
+import contextlib
 import os
 import pathlib
+import signal
 import subprocess
 import sys
 import tempfile
@@ -11,39 +13,64 @@ ROOT = pathlib.Path(__file__).resolve().parent.parent
 KIT = pathlib.Path(subprocess.run(["rt", "doc"], capture_output=True, text=True, check=True).stdout.strip()).parent
 ROOM = tempfile.TemporaryDirectory(prefix="gmd-test-")
 ROOM_PATH = pathlib.Path(ROOM.name)
-counts = {"passed": 0, "failed": 0}
+counts = {"passed": 0, "failed": 0, "skipped": 0}
 
 
 class Wrong(Exception):
     """What a check found wrong."""
 
 
+class Hung(BaseException):
+    """The part's time is over."""
+
+
+def hang(_signal, _frame):
+    signal.signal(signal.SIGTERM, signal.SIG_IGN)
+    raise Hung
+
+
+signal.signal(signal.SIGTERM, hang)
+
+
 def check(name, call, *args, **named):
-    """A check passes where its function returns; what that returns is a remark on it."""
+    """A check passes where its function returns; what that returns is a remark on it. Its name is that of a trial, and perhaps
+    ': ' and what is tried."""
     try:
         remark = call(*args, **named)
     except Wrong as wrong:
         counts["failed"] += 1
         print(f"FAILED {name}\n    {wrong}", flush=True)
+    except (Exception, Hung) as error:
+        counts["failed"] += 1
+        print(f"FAILED {name}\n    {'it hung' if isinstance(error, Hung) else repr(error)}", flush=True)
+        if isinstance(error, Hung):
+            finish()
     else:
         counts["passed"] += 1
         print(f"ok {name}" + (f": {remark}" if remark else ""), flush=True)
 
 
+def same(what, got, wanted):
+    """Part of a check."""
+    if got != wanted:
+        raise Wrong(f"{what}: {str(got)[:300]}, and not {str(wanted)[:300]}")
+
+
 def skip(name, why):
+    counts["skipped"] += 1
     print(f"skip {name}: {why}", flush=True)
 
 
 def finish():
-    print(f"{counts['passed']} passed, {counts['failed']} failed")
+    print(", ".join(f"{count} {what}" for what, count in counts.items()), flush=True)
     sys.exit(1 if counts["failed"] else 0)
 
 
-def program(crate, name):
-    """The program that `rt ci` or `rt run` built in this crate, or the one that the first argument names."""
-    path = pathlib.Path(sys.argv[1]) if sys.argv[1:] else ROOT / "crates" / crate / "out" / name
+def program(crate, name, argument=1):
+    """The program that `rt ci` or `rt run` built in this crate, or the one that this argument names."""
+    path = pathlib.Path(sys.argv[argument]) if sys.argv[argument:] else ROOT / "crates" / crate / "out" / name
     if not os.access(path, os.X_OK):
-        skip("all", f"there is no program {path}")
+        check(name, same, "programs", f"there is no {path}", "README.md says how to build it")
         finish()
     return path.resolve()
 
@@ -88,7 +115,12 @@ class Runner:
         env = {"LD_PRELOAD": self.library, "FAIL": fail, "FAIL_TOLD": str(self.told)} if fail else {}
         streams = [(os.POSIX_SPAWN_DUP2, fd, at) for at, fd in enumerate((self.input, self.output, self.error))]
         child = os.posix_spawn(self.path, [self.path, *words], env, file_actions=streams)
-        status = os.waitstatus_to_exitcode(os.waitpid(child, 0)[1])
+        try:
+            status = os.waitstatus_to_exitcode(os.waitpid(child, 0)[1])
+        except Hung:
+            with contextlib.suppress(ProcessLookupError):
+                os.kill(child, signal.SIGKILL)
+            raise
         self.runs += 1
         said = [os.pread(fd, os.fstat(fd).st_size, 0).decode(errors="replace") for fd in (self.output, self.error)]
         return status, *said, os.fstat(self.told).st_size > 0

@@ -1,0 +1,60 @@
+"""Scripts for gm_play, made at random."""
+from loopback import packet
+
+# The packet types of requests, each with a letter for each argument; what jobs live on is there more than once.
+KINDS = """1f 1f 2f 3 4 4 4 7fub 7fub 9 9 9 12hnn 13hb 13hb 14h 15h 15h 16b 18fub 18fub 21fub 22b 23fn 23fn 25hb 26o 28hb 29hb 30 30
+    32fub 33fub 34fub""".split()
+# Few words of each kind, so that they meet.
+WORDS = {
+    "f": [b"f", b"g", b"h", b"i"],
+    "u": [b"-", b"", b"a", b"b"],
+    "b": [b"", b"x", b"yz"],
+    "h": [b"H:gmd:%d" % n for n in (1, 2, 3, 5, 8, 13, 21, 0)] + [b"H:gmd"],
+    "n": [b"1", b"2", b"0"],
+    "o": [b"exceptions", b"x"],
+}
+LINES = [b"status", b"workers", b"version", b"maxqueue f 2", b"maxqueue f", b"x"]
+
+
+def random_piece(dice, words):
+    """Mostly a packet."""
+    if dice.randrange(16) == 0:
+        return dice.choice(LINES) + b"\n"
+    kind = dice.choice(KINDS)
+    letters = kind.lstrip("0123456789")
+    return packet(int(kind[: len(kind) - len(letters)]), *(dice.choice(words[letter]) for letter in letters))
+
+
+def with_ticks(dice):
+    """A script in which time goes on, for a server with six slots."""
+    lines = ["open a", "open b", "open c", "open d"]
+    for moment in range(100):
+        lines.append(f"tick {moment}")
+        for _ in range(10):
+            event = dice.randrange(32)
+            if event < 2:
+                lines.append("open a")
+            elif event == 2:
+                lines.append(f"close {dice.randrange(3)}")
+            else:
+                lines.append(f"bytes {dice.randrange(7)} {random_piece(dice, WORDS).hex()}")
+    return "\n".join(lines) + "\n"
+
+
+def without_ticks(dice, most, length):
+    """A script of this length in which no time limit is reached and slot 0 stays open: at first there is half of the connections
+    that may be, now and then a body is long, and who breaks the protocol is closed."""
+    bodies = [b"", b"x", b"yz"] * 20 + [bytes([65 + n]) * size for n, size in enumerate((65_535, 65_536, 70_000))]
+    words = {**WORDS, "b": bodies, "n": [b"0", b"4294967295"]}
+    lines = ["open 127.0.0.1"] * max(2, most // 2)
+    for _ in range(length):
+        event = dice.randrange(32)
+        if event < 2:
+            lines.append("open 127.0.0.1")
+        elif event == 2:
+            lines.append(f"close {dice.randrange(1, most)}")
+        elif event == 3 and (slot := dice.randrange(1, most)) % 4 == 0:
+            lines += [f"bytes {slot} 00524553", f"close {slot}"]
+        else:
+            lines.append(f"bytes {dice.randrange(most)} {random_piece(dice, words).hex()}")
+    return "\n".join(lines) + "\n"

@@ -1,0 +1,182 @@
+"""A gmd that runs, and connections to it over loopback."""
+import contextlib
+import socket
+import subprocess
+
+from trials import ROOM_PATH, Wrong
+
+PATIENCE = 60  # seconds, after which something doesn't come any more
+LISTENING = b"gmd: listening\n"
+TAKEN = "(os error 98)"  # in what a server says whose port another has
+CAN_DO, CANT_DO, RESET_ABILITIES, PRE_SLEEP, NOOP, SUBMIT_JOB, JOB_CREATED, GRAB_JOB, NO_JOB, JOB_ASSIGN = 1, 2, 3, 4, 6, 7, 8, 9, 10, 11
+WORK_STATUS, WORK_COMPLETE, WORK_FAIL, GET_STATUS, ECHO_REQ, ECHO_RES, SUBMIT_JOB_BG, ERROR, STATUS_RES = 12, 13, 14, 15, 16, 17, 18, 19, 20
+SUBMIT_JOB_HIGH, SET_CLIENT_ID, CAN_DO_TIMEOUT, ALL_YOURS, WORK_EXCEPTION, WORK_DATA, WORK_WARNING = 21, 22, 23, 24, 25, 28, 29
+GRAB_JOB_UNIQ, JOB_ASSIGN_UNIQ, SUBMIT_JOB_HIGH_BG, SUBMIT_JOB_LOW, SUBMIT_JOB_LOW_BG = 30, 31, 32, 33, 34
+MEBIBYTE = 1_048_576
+
+
+def packet(kind, *arguments, magic=b"\0REQ"):
+    data = b"\0".join(arguments)
+    return magic + kind.to_bytes(4, "big") + len(data).to_bytes(4, "big") + data
+
+
+def kind_of(unit):
+    """A packet's type, or None of a line."""
+    return None if unit[0] else int.from_bytes(unit[4:8], "big")
+
+
+def unit_end(stream, begin=0):
+    """Where the unit ends that begins here in a stream, or None where bytes of it are missing."""
+    if begin == len(stream):
+        return None
+    if stream[begin]:
+        return stream.find(b"\n", begin) + 1 or None
+    end = begin + 12 + int.from_bytes(stream[begin + 8 : begin + 12], "big")
+    return end if begin + 12 <= len(stream) and end <= len(stream) else None
+
+
+def units_of(stream):
+    """The whole units of a stream, and the bytes behind them."""
+    units, begin = [], 0
+    while end := unit_end(stream, begin):
+        units.append(bytes(stream[begin:end]))
+        begin = end
+    return units, bytes(stream[begin:])
+
+
+def on_free_port(start):
+    """What this answers for a port that nobody listens on. It says what it answers, and whether another took the port meanwhile."""
+    for _ in range(100):
+        with socket.socket() as probe:
+            probe.bind(("127.0.0.1", 0))
+            port = probe.getsockname()[1]
+        answer, is_taken = start(port)
+        if not is_taken:
+            return answer
+    raise Wrong("each port is taken by another")
+
+
+class Server:
+    """A server in the background, which listens or has ended."""
+
+    def __init__(self, program, *options, under=(), env=None, told=()):
+        self.error = open(ROOM_PATH / "error", "w+b")
+
+        def start(port):
+            self.port = port
+            self.process = subprocess.Popen([*under, program, "--listen", "127.0.0.1", "--port", str(port), *options], env=env,
+                                            stdin=subprocess.DEVNULL, stdout=subprocess.PIPE, stderr=self.error, pass_fds=told)
+            try:
+                self.said = self.process.stdout.readline()
+                is_taken = not self.is_listening() and self.process.wait(PATIENCE) == 3 and TAKEN in self.errors()
+            except BaseException:
+                self.__exit__()
+                raise
+            if is_taken:
+                self.process.stdout.close()
+                self.error.truncate(0)
+            return None, is_taken
+
+        on_free_port(start)
+
+    def __enter__(self):
+        return self
+
+    def __exit__(self, *_):
+        self.process.kill()
+        self.process.wait()
+        self.process.stdout.close()
+        self.error.close()
+
+    def is_listening(self):
+        return self.said == LISTENING
+
+    def errors(self):
+        self.error.seek(0)
+        return self.error.read().decode(errors="replace")
+
+    def has_ended(self, status, line=""):
+        """Whether it ended with this status, and said this on standard error."""
+        try:
+            return self.process.wait(PATIENCE) == status and line in self.errors()
+        except subprocess.TimeoutExpired:
+            raise Wrong("the server doesn't end") from None
+
+    def ended(self, status, line=""):
+        """It ends so."""
+        if not self.has_ended(status, line):
+            raise Wrong(f"status {self.process.returncode} and {self.errors()!r}, and not {status} and {line!r}")
+
+
+class Client:
+    """A connection to the server."""
+
+    def __init__(self, port, source="127.0.0.1", room=None):
+        """With room, the system keeps at most so many bytes, or a little more, that weren't read yet."""
+        self.socket = socket.socket()
+        self.socket.settimeout(PATIENCE)
+        if room:
+            self.socket.setsockopt(socket.SOL_SOCKET, socket.SO_RCVBUF, room)
+        self.socket.setsockopt(socket.IPPROTO_TCP, socket.TCP_NODELAY, 1)
+        try:
+            self.socket.bind((source, 0))
+            self.socket.connect(("127.0.0.1", port))
+        except BaseException:
+            self.socket.close()
+            raise
+
+    def send(self, data):
+        self.socket.sendall(data)
+
+    def request(self, kind, *arguments):
+        self.send(packet(kind, *arguments))
+
+    def read(self, count):
+        data = bytearray()
+        while len(data) < count:
+            piece = self.socket.recv(count - len(data))
+            if not piece:
+                raise EOFError
+            data += piece
+        return bytes(data)
+
+    def whole(self):
+        """The type and the data of a packet that came."""
+        head = self.read(12)
+        return kind_of(head), self.read(int.from_bytes(head[8:], "big"))
+
+    def answer(self):
+        """The type and the arguments of a packet that came."""
+        kind, data = self.whole()
+        return kind, *data.split(b"\0")
+
+    def lines(self, command):
+        """The answer of one line, or the lines up to a dot."""
+        self.send(command + b"\n")
+        data = b""
+        while not (data.endswith(b".\n") or data.startswith(b"OK") and data.endswith(b"\n")):
+            data += self.read(1)
+        return data.decode().split("\n")[:-1]
+
+    def echoes(self, data=b"hi"):
+        self.request(ECHO_REQ, data)
+        return self.answer() == (ECHO_RES, data)
+
+    def is_served(self, timeout=PATIENCE):
+        """Whether it is answered, and not closed or left waiting."""
+        self.socket.settimeout(timeout)
+        with contextlib.suppress(OSError, EOFError):
+            return self.echoes()
+        return False
+
+    def ask(self, data, size):
+        """Sends this, and reads an answer of this size; less comes where the connection is closed."""
+        said = b""
+        with contextlib.suppress(ConnectionError, TimeoutError):
+            self.send(data)
+            while len(said) < size and (more := self.socket.recv(size - len(said))):
+                said += more
+        return said
+
+    def close(self):
+        self.socket.close()
