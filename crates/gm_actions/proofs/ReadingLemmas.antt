@@ -1,6 +1,7 @@
 -- Requests as they come, against the table of effects.
-use Rattle.std.proofs.Common.{◌≡◌, ℕ, Bool, true, false, List, [], ◌∷◌, ◌++◌, append_assoc, Option, Some, None, IfSome, Result, Ok, Err, refl, sym, ap, subst, ◌∙◌}
+use Rattle.std.proofs.Common.{◌≡◌, ℕ, Bool, true, false, List, [], ◌∷◌, ◌++◌, append_assoc, length, take, drop, ◌+◌, ◌-◌, ◌≤◌, if◌then◌else◌, Option, Some, None, Result, Ok, Err, refl, sym, ap, ap₂, ◌∙◌, rules}
 use Rattle.std.specs.List.{join_with_byte}
+use Rattle.std.specs.Io.BufRead.{strip_last, ends_with_byte}
 use Rattle.std.specs.Option.{option_map, ok_or}
 use Rattle.gm_packet.specs.declared.kind.Kind.{Kind}
 use Rattle.gm_packet.specs.declared.request.Request.{Request}
@@ -16,8 +17,13 @@ use Rattle.gm_notes.specs.Settings.{Settings}
 use Rattle.gm_notes.specs.Past.{Past, refuse}
 use Rattle.gm_notes.specs.Submissions.{Submission, submit}
 use Rattle.gm_notes.specs.Workers.{work}
-use Rattle.gm_actions.specs.Actions.{serve, unread}
-use Rattle.gm_actions.specs.Endings.{IsSpelledBy, EndsInText, second}
+use Rattle.gm_packet.specs.Packets.{Fits}
+use Rattle.gm_actions.specs.Actions.{serve, unread, ReportFits}
+use Rattle.gm_actions.specs.Carried.{HasCome}
+use Rattle.gm_bytes.specs.Endings.{EndsIn}
+use Rattle.std.proofs.lemmas.List.{length-append}
+use native.Mathlib.Omega.{arith}
+use Rattle.std.proofs.Math.Seq.{drop-append_seam}
 use Rattle.gm_notes.specs.declared.states.Priority.{Priority}
 use Rattle.gm_actions.specs.Groups.{SaidOf, foreground_by, background_by, said_by}
 use Rattle.gm_actions.specs.Refusals.{code_of}
@@ -86,47 +92,41 @@ served_work k c (WorkFail h) s past is =
     let same : s ≡ record { handle = h.now; work = ending (work_fail h.now) } = cc in ap (λ (x : SaidOf). work k c x.handle x.work past) same
 served_work k c r s past is = absurd cc
 
+stripped_short : (bytes : List ℕ) → length (strip_last 0 bytes) ≤ length bytes
+stripped_short bytes = go (ends_with_byte 0 bytes) where
+  go : (t : Bool) → length (if t then take (length bytes - 1) bytes else bytes) ≤ length bytes
+  go true = search rules
+  go false = search rules
+
+-- what is said of a job can be passed on, and its report told again
+pub fits_work : (r : Request) (s : SaidOf) → Some s ≡ said_by r → HasCome (asked_of r) → Fits s.work.answer.arguments × ReportFits s.work.report
+fits_work (WorkStatus h a b) s is come =
+    let long : length (strip_last 0 come.bytes) ≡ length h.now + length (0 ∷ (a.now ++ 0 ∷ b.now)) = ap length come.spelled.3 ∙ length-append h.now (0 ∷ (a.now ++ 0 ∷ b.now)) in
+    let same : s ≡ record { handle = h.now; work = record (passing (work_status h.now a.now b.now)) { report = Some (a.now, b.now) } } = cc in rw same (search rules, record { separable = search rules; sized = omega (arith, long, stripped_short come.bytes, come.sized) })
+fits_work (WorkData h b) s is come =
+    let same : s ≡ record { handle = h.now; work = passing (work_data h.now b.now) } = cc in rw same (search rules, tt)
+fits_work (WorkWarning h b) s is come =
+    let same : s ≡ record { handle = h.now; work = passing (work_warning h.now b.now) } = cc in rw same (search rules, tt)
+fits_work (WorkException h b) s is come =
+    let same : s ≡ record { handle = h.now; work = record (passing (work_exception h.now b.now)) { exceptions_only = true } } = cc in rw same (search rules, tt)
+fits_work (WorkComplete h b) s is come =
+    let same : s ≡ record { handle = h.now; work = ending (work_complete h.now b.now) } = cc in rw same (search rules, tt)
+fits_work (WorkFail h) s is come =
+    let same : s ≡ record { handle = h.now; work = ending (work_fail h.now) } = cc in rw same (search rules, tt)
+fits_work r s is come = absurd cc
+
 -- ---- where the bodies are
 
+behind : (before text bytes : List ℕ) → bytes ≡ before ++ text → EndsIn text bytes
+behind before text bytes is =
+    let all : length bytes ≡ length before + length text = ap length is ∙ length-append before text in
+    let from : length bytes - length text ≡ length before = omega (arith, all) in
+    (omega (arith, all), ap₂ drop from is ∙ drop-append_seam before text)
+
 -- after one argument, and after two
-pub ends_in_two : (first text bytes : List ℕ) → bytes ≡ join_with_byte 0 (first ∷ text ∷ []) → EndsInText text bytes
-ends_in_two first text bytes is = (first ++ 0 ∷ [], is ∙ sym (append_assoc first (0 ∷ []) text))
+pub ends_in_two : (first text bytes : List ℕ) → bytes ≡ join_with_byte 0 (first ∷ text ∷ []) → EndsIn text bytes
+ends_in_two first text bytes is = behind (first ++ 0 ∷ []) text bytes (is ∙ sym (append_assoc first (0 ∷ []) text))
 
-pub ends_in_three : (first second text bytes : List ℕ) → bytes ≡ join_with_byte 0 (first ∷ second ∷ text ∷ []) → EndsInText text bytes
+pub ends_in_three : (first second text bytes : List ℕ) → bytes ≡ join_with_byte 0 (first ∷ second ∷ text ∷ []) → EndsIn text bytes
 ends_in_three first second text bytes is =
-    ((first ++ 0 ∷ second) ++ 0 ∷ [], is ∙ (sym (append_assoc first (0 ∷ second) (0 ∷ text)) ∙ sym (append_assoc (first ++ 0 ∷ second) (0 ∷ []) text)))
-
-ends_as : (s : Submission) (p : Priority) (background : Bool) (f u b bytes : List ℕ) → s ≡ submission p background (f ∷ u ∷ b ∷ [])
-    → bytes ≡ join_with_byte 0 (f ∷ u ∷ b ∷ []) → EndsInText s.body bytes
-ends_as s p background f u b bytes same is =
-    subst (λ (text : List ℕ). EndsInText text bytes) (sym (ap (λ (x : Submission). x.body) same)) (ends_in_three f u b bytes is)
-
-pub ends_foreground : (r : Request) (s : Submission) (bytes : List ℕ) → Some s ≡ foreground_by r → IsSpelledBy (asked_of r) bytes → EndsInText s.body bytes
-ends_foreground (SubmitJob f u b) s bytes is spelled = ends_as s Normal false f.now u.now b.now bytes (cc) spelled.3
-ends_foreground (SubmitJobHigh f u b) s bytes is spelled = ends_as s High false f.now u.now b.now bytes (cc) spelled.3
-ends_foreground (SubmitJobLow f u b) s bytes is spelled = ends_as s Low false f.now u.now b.now bytes (cc) spelled.3
-ends_foreground r s bytes is spelled = absurd cc
-
-pub ends_background : (r : Request) (s : Submission) (bytes : List ℕ) → Some s ≡ background_by r → IsSpelledBy (asked_of r) bytes → EndsInText s.body bytes
-ends_background (SubmitJobBg f u b) s bytes is spelled = ends_as s Normal true f.now u.now b.now bytes (cc) spelled.3
-ends_background (SubmitJobHighBg f u b) s bytes is spelled = ends_as s High true f.now u.now b.now bytes (cc) spelled.3
-ends_background (SubmitJobLowBg f u b) s bytes is spelled = ends_as s Low true f.now u.now b.now bytes (cc) spelled.3
-ends_background r s bytes is spelled = absurd cc
-
--- what is said of a job ends so too
-pub ends_work : (r : Request) (s : SaidOf) (bytes : List ℕ) → Some s ≡ said_by r → IsSpelledBy (asked_of r) bytes
-    → IfSome (second s.work.answer.arguments) (λ text. EndsInText text bytes)
-ends_work (WorkStatus h a b) s bytes is spelled =
-    let same : s ≡ record { handle = h.now; work = record (passing (work_status h.now a.now b.now)) { report = Some (a.now, b.now) } } = cc in rw same tt
-ends_work (WorkData h b) s bytes is spelled =
-    let same : s ≡ record { handle = h.now; work = passing (work_data h.now b.now) } = cc in rw same (ends_in_two h.now b.now bytes spelled.3)
-ends_work (WorkWarning h b) s bytes is spelled =
-    let same : s ≡ record { handle = h.now; work = passing (work_warning h.now b.now) } = cc in rw same (ends_in_two h.now b.now bytes spelled.3)
-ends_work (WorkException h b) s bytes is spelled =
-    let same : s ≡ record { handle = h.now; work = record (passing (work_exception h.now b.now)) { exceptions_only = true } } = cc in
-    rw same (ends_in_two h.now b.now bytes spelled.3)
-ends_work (WorkComplete h b) s bytes is spelled =
-    let same : s ≡ record { handle = h.now; work = ending (work_complete h.now b.now) } = cc in rw same (ends_in_two h.now b.now bytes spelled.3)
-ends_work (WorkFail h) s bytes is spelled =
-    let same : s ≡ record { handle = h.now; work = ending (work_fail h.now) } = cc in rw same tt
-ends_work r s bytes is spelled = absurd cc
+    behind ((first ++ 0 ∷ second) ++ 0 ∷ []) text bytes (is ∙ (sym (append_assoc first (0 ∷ second) (0 ∷ text)) ∙ sym (append_assoc (first ++ 0 ∷ second) (0 ∷ []) text)))

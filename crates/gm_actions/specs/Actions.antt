@@ -32,7 +32,7 @@ use Rattle.gm_actions.specs.Carried.{IsCarried, AreNumbers}
 -- what is submitted
 abbrev pub submission_of : Found → Submission
 submission_of s =
-    record { function = s.function.now; unique = s.unique.now; body = s.body.now; priority = s.priority; background = s.background }
+    record { function = s.function.now; unique = s.unique.now; body = s.body.bytes.now; priority = s.priority; background = s.background }
 
 -- what a job is
 abbrev pub job_of : JobView → Job
@@ -72,7 +72,7 @@ act k c (Grab with_unique) past = grab k c with_unique past
 act k c (Submit asked) past = submit k c (submission_of asked) past
 act k c (Tell about) past = work k c about.handle.now (work_of about.said) past
 act k c (GetStatus handle) past = tell_status k c handle.now (job_of_handle k handle.now past.notes) past
-act k c (Echo body) past = give c (echo_res body.now) past
+act k c (Echo body) past = give c (echo_res body.bytes.now) past
 act k c (SetClientId id) past = with_note (Named c id.now) past
 act k c (SetOption name) past = set_option c name.now past
 act k c Nothing past = past
@@ -113,10 +113,10 @@ pub record SaidFits (said : Said) : Type 0 where
 
 -- a packet can carry again what came in one
 abbrev pub CanBeTold : Action → Type 0
-CanBeTold (Submit asked) = IsCarried asked.function.now asked.unique.now asked.body.now
+CanBeTold (Submit asked) = IsCarried asked.function.now asked.unique.now asked.body.bytes.now
 CanBeTold (Tell about) = SaidFits about.said
 CanBeTold (GetStatus handle) = IsWord handle.now
-CanBeTold (Echo body) = length body.now ≤ 1073741824
+CanBeTold (Echo body) = length body.bytes.now ≤ 1073741824
 CanBeTold action = Unit {0}
 
 -- ---- what needs no memory

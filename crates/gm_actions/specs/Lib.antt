@@ -1,7 +1,7 @@
 pub mod Actions
 pub mod Carried
 pub mod Effects
-pub mod Endings
+pub mod Bodies
 pub mod Groups
 pub mod Lines
 pub mod Refusals

@@ -1,25 +1,12 @@
-//! Packets as they come.
+//! What packets ask.
 
-ghost use Rattle.std.specs.Prelude.{◌≡◌, ◌≤◌, ℕ, List, true, false, None, IfOk, IfSome, length};
-ghost use Rattle.std.specs.Option.{option_map};
-ghost use Rattle.std.specs.Str.{bytes_eq};
-ghost use Rattle.std.specs.Prelude.{codes};
-ghost use Rattle.gm_packet.specs.Kinds.{kind_of};
-ghost use Rattle.gm_packet.specs.Views.{asked_of};
-ghost use Rattle.gm_notes.specs.Settings.{Settings};
-ghost use Rattle.gm_notes.specs.Past.{Past};
-ghost use Rattle.gm_notes.specs.Requests.{packet_of, set_option};
-ghost use Rattle.gm_notes.specs.Submissions.{is_bad_name, submit};
-ghost use Rattle.gm_notes.specs.Workers.{can_do, cant_do};
-ghost use Rattle.gm_actions.specs.Actions.{acted, serve, unread, submission_of, needs_no_memory, NeedsNoMemory, IsNamed};
-ghost use Rattle.gm_actions.specs.Actions.{CanBeTold, SaidFits, ActsWithoutMemory};
-ghost use Rattle.gm_actions.specs.Carried.{HasCome, IsCarried};
-ghost use Rattle.gm_actions.specs.Endings.{IsSpelledBy, EndsInText, EndsIn};
-ghost use Rattle.gm_actions.specs.Groups.{foreground_by, background_by, said_by, about_of};
+ghost use Rattle.std.specs.Option.{ForSome};
+ghost use Rattle.gm_packet.specs.Answers.{answer_of};
+ghost use Rattle.gm_actions.specs.Bodies.{EndsWith};
 
-use crate::refusal::Refusal;
+use gm_bytes::Data;
 use gm_notes::Priority;
-use gm_packet::{Kind, Request, Response};
+use gm_packet::Response;
 
 /// What is submitted.
 #[derive(Clone, Copy)]
@@ -29,7 +16,7 @@ pub struct Submission<'a> {
     /// The unique id.
     pub unique: &'a [u8],
     /// The body.
-    pub body: &'a [u8],
+    pub body: Data<'a>,
     /// The priority.
     pub priority: Priority,
     /// Whether nobody listens to the job.
@@ -51,6 +38,9 @@ pub struct Report<'a> {
 pub struct Said<'a> {
     /// The packet that is passed on.
     pub response: Response<'a>,
+    /// Its last argument, if that is a body.
+    pub body: Option<Data<'a>>,
+    ghost body_ends: { ForSome body (λ body. EndsWith body.bytes.now (answer_of response)) },
     /// Whether only those hear it who want exceptions.
     pub exceptions_only: bool,
     /// How far the job is, if that is said.
@@ -88,319 +78,11 @@ pub enum Action<'a> {
     /// The client asks how far a job is.
     GetStatus { handle: &'a [u8] },
     /// The bytes are wanted back.
-    Echo { body: &'a [u8] },
+    Echo { body: Data<'a> },
     /// The connection names itself.
     SetClientId { id: &'a [u8] },
     /// The connection sets an option.
     SetOption { name: &'a [u8] },
     /// ALL_YOURS, which asks nothing of this server.
     Nothing,
-}
-
-/// Why data that spell nothing are refused.
-fn fault(kind: u32) -> Refusal
-    ensures { result ≡ unread (kind_of kind) }
-{
-    match Kind::of(kind) {
-        Some(_) => Refusal::BadArguments,
-        None => Refusal::UnknownCommand,
-    }
-}
-
-/// Whether a function's name is empty, or has over 512 bytes.
-fn is_bad_name(function: &[u8]) -> bool
-    ensures { result ≡ is_bad_name function.now }
-{
-    function.is_empty() || function.len() > 512
-}
-
-/// Whether there is an option of this name: there is one.
-fn is_option(name: &[u8]) -> bool
-    ensures { result ≡ bytes_eq name.now (codes "exceptions") }
-{
-    name == b"exceptions".as_slice()
-}
-
-/// What a request submits in the foreground.
-fn in_foreground<'a>(request: &Request<'a>) -> Option<Submission<'a>>
-    ensures value { option_map submission_of result ≡ foreground_by request.now }
-    ensures carried { HasCome (asked_of request.now) → IfSome result (λ s. IsCarried s.function.now s.unique.now s.body.now) }
-{
-    match *request {
-        Request::SubmitJob {
-            function,
-            unique,
-            body,
-        } => Some(Submission {
-            function,
-            unique,
-            body,
-            priority: Priority::Normal,
-            background: false,
-        }),
-        Request::SubmitJobHigh {
-            function,
-            unique,
-            body,
-        } => Some(Submission {
-            function,
-            unique,
-            body,
-            priority: Priority::High,
-            background: false,
-        }),
-        Request::SubmitJobLow {
-            function,
-            unique,
-            body,
-        } => Some(Submission {
-            function,
-            unique,
-            body,
-            priority: Priority::Low,
-            background: false,
-        }),
-        _ => None,
-    }
-}
-
-/// What a request submits in the background.
-fn in_background<'a>(request: &Request<'a>) -> Option<Submission<'a>>
-    ensures value { option_map submission_of result ≡ background_by request.now }
-    ensures carried { HasCome (asked_of request.now) → IfSome result (λ s. IsCarried s.function.now s.unique.now s.body.now) }
-{
-    match *request {
-        Request::SubmitJobBg {
-            function,
-            unique,
-            body,
-        } => Some(Submission {
-            function,
-            unique,
-            body,
-            priority: Priority::Normal,
-            background: true,
-        }),
-        Request::SubmitJobHighBg {
-            function,
-            unique,
-            body,
-        } => Some(Submission {
-            function,
-            unique,
-            body,
-            priority: Priority::High,
-            background: true,
-        }),
-        Request::SubmitJobLowBg {
-            function,
-            unique,
-            body,
-        } => Some(Submission {
-            function,
-            unique,
-            body,
-            priority: Priority::Low,
-            background: true,
-        }),
-        _ => None,
-    }
-}
-
-/// A packet about a job that is passed on to its listeners.
-fn passing<'a>(handle: &'a [u8], response: Response<'a>) -> About<'a>
-    ensures handle { result.handle.now ≡ handle.now }
-    ensures response { result.said.response ≡ response.entry }
-    ensures rest { (result.said.exceptions_only ≡ false) × (result.said.report ≡ None) × (result.said.ends ≡ false) }
-{
-    let said = Said {
-        response,
-        exceptions_only: false,
-        report: None,
-        ends: false,
-    };
-    About { handle, said }
-}
-
-/// A packet about a job that ends it.
-fn ending<'a>(handle: &'a [u8], response: Response<'a>) -> About<'a>
-    ensures handle { result.handle.now ≡ handle.now }
-    ensures response { result.said.response ≡ response.entry }
-    ensures rest { (result.said.exceptions_only ≡ false) × (result.said.report ≡ None) × (result.said.ends ≡ true) }
-{
-    let said = Said {
-        response,
-        exceptions_only: false,
-        report: None,
-        ends: true,
-    };
-    About { handle, said }
-}
-
-/// What a request says of a job that runs.
-fn said_in<'a>(request: &Request<'a>) -> Option<About<'a>>
-    ensures value { option_map about_of result ≡ said_by request.now }
-    ensures fits { HasCome (asked_of request.now) → IfSome result (λ about. SaidFits about.said) }
-{
-    Some(match *request {
-        Request::WorkStatus {
-            handle,
-            numerator,
-            denominator,
-        } => {
-            let response = Response::WorkStatus {
-                handle,
-                numerator,
-                denominator,
-            };
-            let report = Report {
-                numerator,
-                denominator,
-            };
-            let said = Said {
-                response,
-                exceptions_only: false,
-                report: Some(report),
-                ends: false,
-            };
-            About { handle, said }
-        }
-        Request::WorkData { handle, body } => passing(handle, Response::WorkData { handle, body }),
-        Request::WorkWarning { handle, body } => {
-            passing(handle, Response::WorkWarning { handle, body })
-        }
-        Request::WorkException { handle, body } => {
-            let said = Said {
-                response: Response::WorkException { handle, body },
-                exceptions_only: true,
-                report: None,
-                ends: false,
-            };
-            About { handle, said }
-        }
-        Request::WorkComplete { handle, body } => {
-            ending(handle, Response::WorkComplete { handle, body })
-        }
-        Request::WorkFail { handle } => ending(handle, Response::WorkFail { handle }),
-        _ => return None,
-    })
-}
-
-/// A function that a worker can do, if it can be one.
-fn able<'a>(function: &'a [u8], timeout: u32) -> Result<Action<'a>, Refusal>
-    ensures does { (k : Settings) (c : ℕ) (past : Past) → acted k c result past ≡ can_do k c function.now timeout past }
-    ensures named { IfOk result IsNamed }
-    ensures told { IfOk result CanBeTold }
-    ensures ends { (bytes : List ℕ) → IfOk result (λ action. EndsIn action bytes) }
-{
-    if is_bad_name(function) {
-        Err(Refusal::BadFunction)
-    } else {
-        Ok(Action::CanDo { function, timeout })
-    }
-}
-
-/// A function that a worker can't do any longer, if it can be one.
-fn unable<'a>(function: &'a [u8]) -> Result<Action<'a>, Refusal>
-    ensures does { (k : Settings) (c : ℕ) (past : Past) → acted k c result past ≡ cant_do c function.now past }
-    ensures named { IfOk result IsNamed }
-    ensures told { IfOk result CanBeTold }
-    ensures ends { (bytes : List ℕ) → IfOk result (λ action. EndsIn action bytes) }
-{
-    if is_bad_name(function) {
-        Err(Refusal::BadFunction)
-    } else {
-        Ok(Action::CantDo { function })
-    }
-}
-
-/// An option that is set, if there is one of this name.
-fn option<'a>(name: &'a [u8]) -> Result<Action<'a>, Refusal>
-    ensures does { (k : Settings) (c : ℕ) (past : Past) → acted k c result past ≡ set_option c name.now past }
-    ensures named { IfOk result IsNamed }
-    ensures told { IfOk result CanBeTold }
-    ensures ends { (bytes : List ℕ) → IfOk result (λ action. EndsIn action bytes) }
-{
-    if is_option(name) {
-        Ok(Action::SetOption { name })
-    } else {
-        Err(Refusal::UnknownOption)
-    }
-}
-
-/// A submission, if its function can be one.
-fn submitted<'a>(asked: Submission<'a>) -> Result<Action<'a>, Refusal>
-    ensures does { (k : Settings) (c : ℕ) (past : Past) → acted k c result past ≡ submit k c (submission_of asked.entry) past }
-    ensures named { IfOk result IsNamed }
-    ensures told { IsCarried asked.entry.function.now asked.entry.unique.now asked.entry.body.now → IfOk result CanBeTold }
-    ensures ends { (bytes : List ℕ) → EndsInText asked.entry.body.now bytes → IfOk result (λ action. EndsIn action bytes) }
-{
-    if is_bad_name(asked.function) {
-        Err(Refusal::BadFunction)
-    } else {
-        Ok(Action::Submit(asked))
-    }
-}
-
-/// What a request asks that is neither a submission nor about a job that runs.
-fn other<'a>(request: &Request<'a>) -> Result<Action<'a>, Refusal>
-    requires no_foreground { foreground_by request.now ≡ None }
-    requires no_background { background_by request.now ≡ None }
-    requires no_work { said_by request.now ≡ None }
-    ensures does { (k : Settings) (c : ℕ) (past : Past) → acted k c result past ≡ serve k c (asked_of request.now) past }
-    ensures named { IfOk result IsNamed }
-    ensures told { HasCome (asked_of request.now) → IfOk result CanBeTold }
-    ensures ends { (bytes : List ℕ) → IsSpelledBy (asked_of request.now) bytes → IfOk result (λ action. EndsIn action bytes) }
-    ensures memory { needs_no_memory (asked_of request.now).kind ≡ true → ActsWithoutMemory result }
-{
-    match *request {
-        Request::CanDo { function } => able(function, 0),
-        Request::CanDoTimeout { function, timeout } => able(function, timeout),
-        Request::CantDo { function } => unable(function),
-        Request::ResetAbilities => Ok(Action::ResetAbilities),
-        Request::PreSleep => Ok(Action::PreSleep),
-        Request::GrabJob => Ok(Action::Grab { with_unique: false }),
-        Request::GrabJobUniq => Ok(Action::Grab { with_unique: true }),
-        Request::GetStatus { handle } => Ok(Action::GetStatus { handle }),
-        Request::EchoReq { body } => Ok(Action::Echo { body }),
-        Request::SetClientId { id } => Ok(Action::SetClientId { id }),
-        Request::OptionReq { name } => option(name),
-        _ => Ok(Action::Nothing),
-    }
-}
-
-/// What a request asks, or why it is refused whatever the server holds.
-fn asked<'a>(request: &Request<'a>) -> Result<Action<'a>, Refusal>
-    ensures does { (k : Settings) (c : ℕ) (past : Past) → acted k c result past ≡ serve k c (asked_of request.now) past }
-    ensures named { IfOk result IsNamed }
-    ensures told { HasCome (asked_of request.now) → IfOk result CanBeTold }
-    ensures ends { (bytes : List ℕ) → IsSpelledBy (asked_of request.now) bytes → IfOk result (λ action. EndsIn action bytes) }
-    ensures memory { needs_no_memory (asked_of request.now).kind ≡ true → ActsWithoutMemory result }
-{
-    if let Some(found) = in_foreground(request) {
-        return submitted(found);
-    }
-    if let Some(found) = in_background(request) {
-        return submitted(found);
-    }
-    match said_in(request) {
-        Some(about) => Ok(Action::Tell(about)),
-        None => other(request),
-    }
-}
-
-impl<'a> Action<'a> {
-    /// Reads a packet: what it asks, or why it is refused whatever the server holds.
-    pub fn read(kind: u32, bytes: &'a [u8]) -> Result<Action<'a>, Refusal>
-        ensures does { (k : Settings) (c : ℕ) (past : Past) → acted k c result past ≡ packet_of k c (kind_of kind) bytes.now past }
-        ensures named { IfOk result IsNamed }
-        ensures told { length bytes.now ≤ 1073741824 → IfOk result CanBeTold }
-        ensures ends { IfOk result (λ action. EndsIn action bytes.now) }
-        ensures memory { NeedsNoMemory kind bytes.now → ActsWithoutMemory result }
-    {
-        match Request::read(kind, bytes) {
-            Ok(request) => asked(&request),
-            Err(_) => Err(fault(kind)),
-        }
-    }
 }

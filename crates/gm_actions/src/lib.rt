@@ -8,6 +8,7 @@ mod deadlines;
 mod faults;
 mod handles;
 mod lines;
+mod reading;
 mod refusal;
 
 pub use actions::{About, Action, Report, Said, Submission};

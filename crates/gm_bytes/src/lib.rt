@@ -5,6 +5,8 @@
 //! is freed with the last of them.
 #![tactic(auto)]
 
+mod data;
 mod shared_bytes;
 
+pub use data::{Data, LONG};
 pub use shared_bytes::SharedBytes;

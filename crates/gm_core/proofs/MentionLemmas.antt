@@ -277,3 +277,12 @@ module _ (k : Settings) (old new : Table) (same : Same old new) where
         let queues = same.queues f p in
         rw (queues, names) (holds.room f p here);
   }
+
+-- its number is the last one, and it is free
+pub freed : (old new : Table) (name : List ℕ) (f : ℕ) → number_of name old ≡ None → ChangesNames (old.names ++ name ∷ []) old new → number_of name new ≡ Some f → IsFree f new
+    → IsFree (length new.names - 1) new
+freed old new name f unnamed fresh found free =
+    let here : f ≡ length old.names = some_same f (length old.names) (sym found ∙ number_here old new name unnamed fresh) in
+    let long : length new.names ≡ length old.names + 1 = ap length fresh.names ∙ length-append old.names (name ∷ []) in
+    let last : f ≡ length new.names - 1 = omega (arith, here, long) in
+    subst (λ (n : ℕ). IsFree n new) last free

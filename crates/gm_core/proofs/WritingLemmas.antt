@@ -5,7 +5,8 @@ use Rattle.std.specs.List.{join_with_byte}
 use Rattle.gm_packet.specs.Packets.{response_magic, packet}
 use Rattle.gm_packet.specs.Answers.{Answer, answer_packet}
 use Rattle.gm_packet.proofs.Packets.{length-packet}
-use Rattle.gm_core.specs.Writing.{last_text, bare, bare_answer, EndsWith}
+use Rattle.gm_actions.specs.Bodies.{last_text, EndsWith}
+use Rattle.gm_core.specs.Writing.{bare, bare_answer}
 
 -- the last argument comes behind the others
 join_bare : (texts : List (List ℕ)) (text : List ℕ) → last_text texts ≡ Some text → join_with_byte 0 texts ≡ join_with_byte 0 (bare texts) ++ text

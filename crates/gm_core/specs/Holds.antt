@@ -200,8 +200,3 @@ first_listener false c = Some c
 -- no live job of this function has this unique id, if that joins
 abbrev pub IsAlone : List ℕ → List ℕ → queues.Table → jobs.Table → Type 0
 IsAlone f unique mentioned live = (g : ℕ) → number_of f mentioned ≡ Some g → (n : ℕ) → IsNamed g unique live n → ⊥
-
--- the bytes of its own that a job's body takes: none, if it is shared
-abbrev pub own_len : List ℕ → Option (List ℕ) → ℕ
-own_len body None = length body
-own_len body (Some shared) = 0

@@ -9,7 +9,7 @@ use Rattle.gm_core.specs.declared.server.Core.{Core}
 
 -- a packet of RESET_ABILITIES or PRE_SLEEP, a closing, and a tick that reaches no deadline
 abbrev pub NeedsNoMemory : Core → Event → Type 0
-NeedsNoMemory core (events.Packet slot number bytes) = actions.NeedsNoMemory number bytes.now
+NeedsNoMemory core (events.Packet slot number bytes) = actions.NeedsNoMemory number bytes.bytes.now
 NeedsNoMemory core (events.Close slot) = Unit {0}
 NeedsNoMemory core (events.Tick now) = IsLast (is_due (max now core.moment)) 0 core.jobs.live
 NeedsNoMemory core event = ⊥

@@ -6,9 +6,10 @@ ghost use Rattle.gm_packet.specs.Answers.{Answer, answer_of, answer_packet};
 ghost use Rattle.gm_packet.specs.Packets.{Fits};
 ghost use Rattle.gm_conns.specs.Connections.{with_bytes};
 ghost use Rattle.gm_conns.specs.ConnTables.{IsOpen, conn, Changes};
-ghost use Rattle.gm_core.specs.Writing.{bare_answer, EndsWith};
+ghost use Rattle.gm_actions.specs.Bodies.{EndsWith};
+ghost use Rattle.gm_core.specs.Writing.{bare_answer};
 
-use gm_bytes::SharedBytes;
+use gm_bytes::{Data, SharedBytes};
 use gm_conns::Conns;
 use gm_packet::{Response, response_fits, write_response};
 use std::alloc::{AllocError, Global};
@@ -114,20 +115,21 @@ impl Written {
         }
     }
 
-    /// Writes the packet of a response. Where its last argument is a body that is shared, that isn't copied.
+    /// Writes the packet of a response. Its last argument may be this body; one that can be shared isn't copied.
     pub(crate) fn write(
         &mut self,
         response: &Response<'_>,
-        body: Option<&SharedBytes>,
+        body: Option<&Data<'_>>,
     ) -> Result<(), AllocError>
         requires fits { Fits (answer_of response.now).arguments }
-        requires ends { IfSome body (λ shared. EndsWith shared.now (answer_of response.now)) }
+        requires ends { IfSome body (λ body. EndsWith body.now.bytes.now (answer_of response.now)) }
         ensures { OnOk result (self.new ≡ answer_packet (answer_of response.now)) }
     {
         if let Some(body) = body
+            && let Some(shared) = body.share()
             && let Some(bare) = without_body(response)
         {
-            return self.write_over(&bare, body);
+            return self.write_over(&bare, shared);
         }
         self.body = None;
         self.bytes.clear();
@@ -135,8 +137,8 @@ impl Written {
     }
 
     /// Writes a packet whose last argument is empty, and puts a body in its place.
-    fn write_over(&mut self, bare: &Response<'_>, body: &SharedBytes) -> Result<(), AllocError>
-        ensures { OnOk result ((answer : Answer) → answer_of bare.now ≡ bare_answer answer → EndsWith body.now answer → self.new ≡ answer_packet answer) }
+    fn write_over(&mut self, bare: &Response<'_>, body: SharedBytes) -> Result<(), AllocError>
+        ensures { OnOk result ((answer : Answer) → answer_of bare.now ≡ bare_answer answer → EndsWith body answer → self.new ≡ answer_packet answer) }
     {
         self.bytes.clear();
         if !response_fits(bare) {
@@ -144,7 +146,7 @@ impl Written {
         }
         write_response(bare, &mut self.bytes)?;
         lengthen(&mut self.bytes, body.as_slice().len())?;
-        self.body = Some(body.suffix(0)?);
+        self.body = Some(body);
         Ok(())
     }
 

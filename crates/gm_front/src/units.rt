@@ -6,6 +6,7 @@ ghost use Rattle.std.specs.Io.BufRead.{Rests};
 ghost use Rattle.gm_feeder.specs.contracts.feeder.Feeder.{the_row};
 ghost use Rattle.gm_front.specs.Units.{IsSizedNext, GivesNext};
 
+use gm_bytes::Data;
 use gm_feeder::{FeedFault, Feeder, Unit};
 use gm_notes::{Event, UnitFault};
 
@@ -27,7 +28,10 @@ pub fn next_event(feeder: &mut Feeder, slot: u32) -> Next<'_>
     ensures* after { sem 𝓛 (Rests the_row feeder.entry (λ new. GivesNext slot feeder.old result new)) }
 {
     match feeder.next_unit() {
-        Ok(Some(Unit::Packet { kind, bytes })) => Next::Unit(Event::Packet { slot, kind, bytes }),
+        Ok(Some(Unit::Packet { kind, bytes })) => {
+            let bytes = Data::lent(bytes);
+            Next::Unit(Event::Packet { slot, kind, bytes })
+        }
         Ok(Some(Unit::Line { bytes })) => Next::Unit(Event::Line { slot, bytes }),
         Ok(None) => Next::Wait,
         Err(FeedFault::BadMagic) => Next::Fault(UnitFault::BadMagic),

@@ -1,6 +1,6 @@
 //! What is known of one job.
 
-ghost use Rattle.std.specs.Prelude.{◌≡◌, ◌≤◌, ◌&&◌, not, ◌==◌, ◌↔◌, [], length, IsTrue, false, IsOk, IfSome, ◌<◌, IfOk, OnOk, OnErr, Some, None, is_some};
+ghost use Rattle.std.specs.Prelude.{◌≡◌, ◌≤◌, ◌&&◌, ◌==◌, [], length, false, IsOk, IfSome, ◌<◌, IfOk, OnOk, OnErr, Some, None};
 ghost use Rattle.std.specs.Option.{option_map, unwrap_or};
 ghost use Rattle.std.specs.Vec.{vec_capacity};
 ghost use Rattle.gm_jobs.specs.Live.{Live, body_bytes, fresh, given_back, reported, with_listener, without_listener, place_at, is_named, is_run_by, is_orphan, is_due, is_last_try, waits, runs_at};
@@ -10,7 +10,7 @@ ghost use Rattle.gm_jobs.specs.Tables.{Room};
 ghost use Rattle.gm_jobs.specs.Changes.{changed, takes_memory};
 ghost use Rattle.gm_jobs.specs.Links.{stands_in};
 
-use gm_bytes::SharedBytes;
+use gm_bytes::{Data, SharedBytes};
 use gm_notes::{Place, Priority};
 use std::alloc::{AllocError, Global};
 use std::marker::Model;
@@ -113,8 +113,6 @@ pub(crate) enum Query {
     RunBy(u32),
     /// Whether it waits and nobody wants it.
     Orphan,
-    /// Whether it runs and its deadline is reached at this moment.
-    Due(u64),
 }
 
 impl Query {
@@ -125,7 +123,6 @@ impl Query {
         match self {
             Query::RunBy(slot) => job.is_run_by(slot),
             Query::Orphan => job.is_orphan(),
-            Query::Due(now) => job.is_due(now),
         }
     }
 }
@@ -188,13 +185,13 @@ impl Job {
         self.body.as_slice()
     }
 
-    /// The body, where it is the end of a buffer that others may own as well.
-    pub fn shared_body(&self) -> Option<&SharedBytes>
-        ensures { IfSome result (λ shared. shared.now ≡ self.now.body) }
+    /// The body, as data that can be shared where others may own them as well.
+    pub fn data(&self) -> Data<'_>
+        ensures { result.bytes.now ≡ self.now.body }
     {
         match &self.body {
-            Body::Shared(bytes) => Some(bytes),
-            Body::Own(_) => None,
+            Body::Own(bytes) => Data::lent(bytes.as_slice()),
+            Body::Shared(bytes) => Data::shared(bytes),
         }
     }
 

@@ -1,8 +1,8 @@
 //! The table of jobs.
 
-ghost use Rattle.std.specs.Prelude.{◌≡◌, ℕ, ◌+◌, ◌<◌, ◌≤◌, ◌^◌, ◌↔◌, true, Some, None, IsSome, IfSome, IfNone, IfOk, OnOk, OnErr, Err, Contains, length};
-ghost use Rattle.std.specs.Option.{option_copied, option_map, unwrap_or};
-ghost use Rattle.gm_jobs.specs.Live.{Live, fresh, assigned, given_back, kept, reported, with_listener, without_listener, is_run_by, is_orphan, is_due, is_last_try};
+ghost use Rattle.std.specs.Prelude.{◌≡◌, ℕ, ◌+◌, ◌<◌, ◌≤◌, ◌^◌, ◌↔◌, Some, None, IsSome, IfSome, IfNone, IfOk, OnOk, OnErr, Err, Contains, length};
+ghost use Rattle.std.specs.Option.{option_copied, unwrap_or};
+ghost use Rattle.gm_jobs.specs.Live.{fresh, assigned, given_back, kept, reported, with_listener, is_run_by, is_orphan, is_due, is_last_try};
 ghost use Rattle.gm_jobs.specs.Tables.{no_jobs, job, find_job, is_made, place, back, listeners_of, passes, IsNamed, HasRoom, with_room, Makes, Changes, Ends, Leaves, IsNext, IsLast};
 ghost use Rattle.gm_jobs.specs.Deadlines.{AllListed};
 ghost use Rattle.gm_jobs.specs.Listening.{Heard};
@@ -174,8 +174,9 @@ impl Jobs {
         Ok(())
     }
 
-    // Makes a job in the room that is reserved. A shared body takes the place of the one that the job says.
-    fn make(&mut self, new: NewJob<'_>, shared: Option<SharedBytes>) -> u64
+    /// Makes a job in the room that is reserved, and gives its number. A shared body takes the place of the one that the
+    /// job says. No live job of its function has its unique id, unless that is empty or a dash.
+    pub fn insert(&mut self, new: NewJob<'_>, shared: Option<SharedBytes>) -> u64
         requires room { HasRoom new.f (length new.unique.now) (length new.body.now) self.old }
         requires single { (n : ℕ) → IsNamed new.f new.unique.now self.old n → ⊥ }
         ensures number { result ≡ self.old.next }
@@ -191,26 +192,14 @@ impl Jobs {
         number
     }
 
-    /// Makes a job in the room that is reserved, and gives its number. No live job of its function has its unique
-    /// id, unless that is empty or a dash.
+    /// `insert`, with a body that is copied.
     pub fn insert_reserved(&mut self, new: NewJob<'_>) -> u64
         requires room { HasRoom new.f (length new.unique.now) (length new.body.now) self.old }
         requires single { (n : ℕ) → IsNamed new.f new.unique.now self.old n → ⊥ }
         ensures number { result ≡ self.old.next }
         ensures makes { Makes (fresh new.entry.f new.entry.p new.entry.unique.now new.entry.body.now new.entry.kept new.entry.listener) self.old self.new }
     {
-        self.make(new, None)
-    }
-
-    /// As `insert_reserved`, with a body that others may own as well. It isn't copied, and wants no room. The body that
-    /// the new job says is ignored.
-    pub fn insert_shared(&mut self, new: NewJob<'_>, body: SharedBytes) -> u64
-        requires room { HasRoom new.f (length new.unique.now) 0 self.old }
-        requires single { (n : ℕ) → IsNamed new.f new.unique.now self.old n → ⊥ }
-        ensures number { result ≡ self.old.next }
-        ensures makes { Makes (fresh new.entry.f new.entry.p new.entry.unique.now body new.entry.kept new.entry.listener) self.old self.new }
-    {
-        self.make(NewJob { body: &[], ..new }, Some(body))
+        self.insert(new, None)
     }
 
     /// The live job of a number.

@@ -1,9 +1,9 @@
 -- Which steps add which note, and what they may say.
 use Rattle.std.specs.Prelude.{◌≡◌, ◌⊎◌, ℕ, Bool, true, false, ◌&&◌, ◌||◌, ◌==◌, max, List, [], ◌∷◌, ◌++◌, Option, Some, None, Ok}
 use Rattle.gm_packet.specs.declared.kind.Kind.{Kind}
-use Rattle.gm_packet.specs.declared.kind.Kind.TheVariants.{CanDo, CantDo, ResetAbilities, PreSleep, SubmitJob, GrabJob}
+use Rattle.gm_packet.specs.declared.kind.Kind.TheVariants.{CanDo, CantDo, ResetAbilities, PreSleep, SubmitJob}
 use Rattle.gm_packet.specs.declared.kind.Kind.TheVariants.{WorkStatus, WorkComplete, WorkFail, SubmitJobBg, SubmitJobHigh}
-use Rattle.gm_packet.specs.declared.kind.Kind.TheVariants.{SetClientId, CanDoTimeout, OptionReq, GrabJobUniq, SubmitJobHighBg}
+use Rattle.gm_packet.specs.declared.kind.Kind.TheVariants.{SetClientId, CanDoTimeout, OptionReq, SubmitJobHighBg}
 use Rattle.gm_packet.specs.declared.kind.Kind.TheVariants.{SubmitJobLow, SubmitJobLowBg}
 use Rattle.gm_packet.specs.Kinds.{number, kind_of}
 use Rattle.gm_packet.specs.Requests.{Asked, request_of}
@@ -19,6 +19,7 @@ use Rattle.gm_notes.specs.Settings.{Settings}
 use Rattle.gm_notes.specs.Requests.{first}
 use Rattle.gm_notes.specs.Closings.{is_reached}
 use Rattle.gm_notes.specs.Steps.{Step, Open, Packet, Line, Fault, Close, Tick, Took, Withdrew}
+pub use Rattle.gm_notes.specs.Withdrawals.{is_grab}
 use Rattle.gm_laws.specs.History.{Gets}
 
 -- ---- kinds of requests
@@ -54,11 +55,6 @@ is_resetting kind = false
 abbrev pub is_sleeping : Kind → Bool
 is_sleeping PreSleep = true
 is_sleeping kind = false
-
-abbrev pub is_grab : Kind → Bool
-is_grab GrabJob = true
-is_grab GrabJobUniq = true
-is_grab kind = false
 
 abbrev pub is_reporting : Kind → Bool
 is_reporting WorkStatus = true

@@ -14,4 +14,5 @@ pub mod Settings
 pub mod Steps
 pub mod Submissions
 pub mod Texts
+pub mod Withdrawals
 pub mod Workers

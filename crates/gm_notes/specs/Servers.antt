@@ -14,7 +14,7 @@ use Rattle.gm_notes.specs.Steps.{done, run}
 -- the step that an event is, wherever its bytes lie
 abbrev pub step_of : Event → Step
 step_of (events.Open addr) = Open addr.now
-step_of (events.Packet slot kind bytes) = Packet slot kind bytes.now
+step_of (events.Packet slot kind bytes) = Packet slot kind bytes.bytes.now
 step_of (events.Line slot bytes) = Line slot bytes.now
 step_of (events.Fault slot fault) = Fault slot fault
 step_of (events.Close slot) = Close slot
@@ -23,7 +23,7 @@ step_of (events.Tick now) = Tick now
 -- what who hands in an event sees to: a packet has at most 1,073,741,824 bytes of data
 abbrev pub IsSized : Event → Type 0
 IsSized (events.Open addr) = Unit {0}
-IsSized (events.Packet slot kind bytes) = length bytes.now ≤ 1073741824
+IsSized (events.Packet slot kind bytes) = length bytes.bytes.now ≤ 1073741824
 IsSized (events.Line slot bytes) = Unit {0}
 IsSized (events.Fault slot fault) = Unit {0}
 IsSized (events.Close slot) = Unit {0}

@@ -3,6 +3,7 @@
 ghost use Rattle.std.specs.Prelude.{◌≡◌};
 ghost use Rattle.gm_notes.specs.declared.event.ApplyError.TheVariants.{Memory};
 
+use gm_bytes::Data;
 use std::alloc::{AllocError, AllocFailed};
 
 /// What is wrong with the bytes of a connection, so that no more can be read of them. The numbers are
@@ -81,7 +82,7 @@ pub enum Event<'a> {
     Packet {
         slot: u32,
         kind: u32,
-        bytes: &'a [u8],
+        bytes: Data<'a>,
     },
     /// A text line came, without its newline.
     Line {

@@ -159,7 +159,7 @@ impl JobServer for PlainServer {
     fn apply(&mut self, event: &Event<'_>) -> Result<Done, ApplyError> {
         match *event {
             Event::Open { addr } => self.open(addr),
-            Event::Packet { slot, kind, bytes } => self.packet(slot, kind, bytes),
+            Event::Packet { slot, kind, bytes } => self.packet(slot, kind, bytes.as_slice()),
             Event::Line { slot, bytes } => self.line(slot, bytes),
             Event::Fault { slot, fault } => self.fault(slot, fault),
             Event::Close { slot } => self.close(slot),

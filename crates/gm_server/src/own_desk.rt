@@ -61,7 +61,7 @@ impl<K: BookName> OwnDesk<K> {
         ensures memory { NeedsNoMemory K.taped (step_of event.entry) → IsErrOf result ApplyError.Memory → ⊥ }
         ensures number { self.new.desk.number ≡ self.old.desk.number }
     {
-        self.desk.apply_with(rt, shared, event, None, touched)
+        self.desk.apply_with(rt, shared, event, touched)
     }
 
     /// Opens a connection from this address.

@@ -1,16 +1,15 @@
 //! What one connection says, from its opening to its end.
 
-ghost use Rattle.std.specs.Prelude.{◌≡◌, ◌+◌, ◌-◌, ◌%◌, ◌^◌, ◌<◌, ◌≤◌, true, false, [], None, IsSome, IsNone, IfOk, IfErr, IfSome, length, drop};
+ghost use Rattle.std.specs.Prelude.{◌≡◌, ◌+◌, ◌-◌, ◌%◌, ◌^◌, ◌<◌, ◌≤◌, true, false, [], None, IsSome, IsNone, IfOk, IfErr, length, drop};
 ghost use Rattle.std.specs.Io.KnownBytes.{IsAtEnd};
 ghost use Rattle.gm_notes.specs.Servers.{step_of, IsSized};
 ghost use Rattle.gm_notes.specs.Steps.{Packet};
-ghost use Rattle.gm_core.specs.Writing.{AreDataOf};
 ghost use Rattle.gm_server.specs.Effects.{IsNothing, Keeps};
 ghost use Rattle.gm_server.specs.Sessions.{IsPiece, Applies, TakesNext, Unloads, Reads};
 
 use crate::effects::{Alone, Effects, Notify};
 use crate::gate::Gate;
-use gm_bytes::SharedBytes;
+use gm_bytes::{Data, LONG, SharedBytes};
 use gm_conns::SlotSet;
 use gm_feeder::{Feeder, Limits, OwnedPacket, ReadError};
 use gm_front::{Next, next_event};
@@ -30,9 +29,6 @@ const FIRST_UNITS: u32 = 2;
 
 /// After how many units a session looks whether its turn is over.
 const UNITS_A_LOOK: u32 = 8;
-
-/// The fewest bytes of data of a packet that is shared and not copied.
-const LONG_PACKET: usize = 65_536;
 
 /// The most pieces that a session reads.
 const MOST_PIECES: u64 = 1_099_511_627_776;
@@ -70,10 +66,9 @@ struct Applier<'s, K: BookName, R, G> {
 }
 
 impl<'s, K: BookName, R: Wait, G: Gate> Applier<'s, K, R, G> {
-    /// Applies an event; the data of a packet may be shared. Where it is refused, the session is over.
-    fn apply(&mut self, event: Event<'_>, whole: Option<&SharedBytes>) -> Result<(), SessionEnd>
-        requires size { IsSized event }
-        requires whole { IfSome whole (λ shared. AreDataOf event shared.now) }
+    /// Applies an event. Where it is refused, the session is over.
+    fn apply(&mut self, event: Event<'_>) -> Result<(), SessionEnd>
+        requires { IsSized event }
         ensures applies { Applies K.settings K.taped self.old.desk.now.number (step_of event.entry) result self.old.desk.now.share.items self.new.desk.now.share.items }
         ensures keeps { Keeps K.settings K.taped (step_of event.entry) self.old.desk.now.number result self.old.desk.now.share.items self.new.desk.now.share.items
             self.old.effects self.new.effects }
@@ -83,7 +78,7 @@ impl<'s, K: BookName, R: Wait, G: Gate> Applier<'s, K, R, G> {
     {
         match self
             .desk
-            .apply_with(self.rt, self.shared, event, whole, &mut self.touched)
+            .apply_with(self.rt, self.shared, event, &mut self.touched)
         {
             Ok(receipt) => {
                 self.effects.add(&self.touched, receipt.mode);
@@ -95,13 +90,8 @@ impl<'s, K: BookName, R: Wait, G: Gate> Applier<'s, K, R, G> {
     }
 
     /// Lets a unit pass the gate, and applies it.
-    fn apply_unit(
-        &mut self,
-        event: Event<'_>,
-        whole: Option<&SharedBytes>,
-    ) -> Result<(), SessionEnd>
-        requires size { IsSized event }
-        requires whole { IfSome whole (λ shared. AreDataOf event shared.now) }
+    fn apply_unit(&mut self, event: Event<'_>) -> Result<(), SessionEnd>
+        requires { IsSized event }
         ensures applies { Applies K.settings K.taped self.old.desk.now.number (step_of event.entry) result self.old.desk.now.share.items self.new.desk.now.share.items }
         ensures keeps { Keeps K.settings K.taped (step_of event.entry) self.old.desk.now.number result self.old.desk.now.share.items self.new.desk.now.share.items
             self.old.effects self.new.effects }
@@ -111,7 +101,7 @@ impl<'s, K: BookName, R: Wait, G: Gate> Applier<'s, K, R, G> {
     {
         self.gate.pass(self.rt, self.slot, self.index);
         self.index = self.index.saturating_add(1);
-        self.apply(event, whole)
+        self.apply(event)
     }
 }
 
@@ -227,7 +217,7 @@ impl<'s, K: BookName, R: Wait, G: Gate, N: Notify<R>> Session<'s, K, R, G, N> {
         ensures slot { self.new.applier.slot ≡ self.old.applier.slot }
     {
         let slot = self.applier.slot;
-        if let Some(packet) = self.feeder.take_packet(LONG_PACKET) {
+        if let Some(packet) = self.feeder.take_packet(LONG) {
             turn.admit(self.server, self.applier.rt);
             self.take_long(packet)?;
             return Ok(Taken::Unit { is_line: false });
@@ -236,12 +226,12 @@ impl<'s, K: BookName, R: Wait, G: Gate, N: Notify<R>> Session<'s, K, R, G, N> {
             Next::Unit(event) => {
                 let is_line = matches!(event, Event::Line { .. });
                 turn.admit(self.server, self.applier.rt);
-                self.applier.apply_unit(event, None)?;
+                self.applier.apply_unit(event)?;
                 Ok(Taken::Unit { is_line })
             }
             Next::Wait => Ok(Taken::Nothing),
             Next::Fault(fault) => {
-                self.applier.apply(Event::Fault { slot, fault }, None)?;
+                self.applier.apply(Event::Fault { slot, fault })?;
                 Err(SessionEnd::Shut)
             }
         }
@@ -262,9 +252,9 @@ impl<'s, K: BookName, R: Wait, G: Gate, N: Notify<R>> Session<'s, K, R, G, N> {
         let Ok(data) = share(self.alloc, packet) else {
             return Err(SessionEnd::Memory);
         };
-        let bytes = data.as_slice();
+        let bytes = Data::shared(&data);
         self.applier
-            .apply_unit(Event::Packet { slot, kind, bytes }, Some(&data))
+            .apply_unit(Event::Packet { slot, kind, bytes })
     }
 
     /// Takes each unit that stands in the feeder, and the fault after them. Where the session is over, it says why. Where

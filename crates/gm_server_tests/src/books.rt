@@ -4,6 +4,7 @@ ghost use Rattle.std.specs.Prelude.{◌≡◌};
 
 use crate::checks::same;
 use crate::room::config;
+use gm_bytes::Data;
 use gm_notes::{ApplyError, Done, Event, Mode};
 use gm_shared::{Booked, Drained, Receipt, TapeMode};
 use gm_word::SleepTable;
@@ -42,7 +43,7 @@ fn is_answering(rt: &impl Abort, book: &mut Booked, table: &SleepTable) -> Resul
     let echo = Event::Packet {
         slot: 0,
         kind: 16,
-        bytes: b"hi",
+        bytes: Data::lent(b"hi"),
     };
     let mode = book.apply(table, 0, &echo)?.mode;
     same(rt, "the echo", &mode, &Mode::Running);

@@ -2,6 +2,7 @@
 
 use crate::checks::same;
 use crate::room::{Room, Scene, play_settled};
+use gm_bytes::Data;
 use gm_conns::SlotSet;
 use gm_notes::{ApplyError, Done, Event, Mode, UnitFault};
 use gm_shared::{Actor, BookName, Drained, Entry, Receipt, TapeMode, TapeStep};
@@ -11,13 +12,57 @@ use std::sync::Wait;
 use std::test::Fail;
 use std::thread::Threads;
 
+/// An event, as a table can have it.
+#[derive(Clone, Copy, Debug)]
+pub enum Given {
+    Open {
+        addr: &'static [u8],
+    },
+    Packet {
+        slot: u32,
+        kind: u32,
+        bytes: &'static [u8],
+    },
+    Line {
+        slot: u32,
+        bytes: &'static [u8],
+    },
+    Fault {
+        slot: u32,
+        fault: UnitFault,
+    },
+    Close {
+        slot: u32,
+    },
+    Tick {
+        now: u64,
+    },
+}
+
+impl Given {
+    fn event(self) -> Event<'static> {
+        match self {
+            Given::Open { addr } => Event::Open { addr },
+            Given::Packet { slot, kind, bytes } => Event::Packet {
+                slot,
+                kind,
+                bytes: Data::lent(bytes),
+            },
+            Given::Line { slot, bytes } => Event::Line { slot, bytes },
+            Given::Fault { slot, fault } => Event::Fault { slot, fault },
+            Given::Close { slot } => Event::Close { slot },
+            Given::Tick { now } => Event::Tick { now },
+        }
+    }
+}
+
 /// A call, and what comes of it.
 #[derive(Clone, Copy)]
 pub enum Call {
     /// An event is handed in at a desk: what the receipt says of it, and which slots it touches.
     Apply {
         desk: usize,
-        event: Event<'static>,
+        event: Given,
         answer: Result<(Done, Mode), ApplyError>,
         touched: &'static [u32],
     },
@@ -38,7 +83,7 @@ macro_rules! call {
     (open $slot:literal) => {
         Call::Apply {
             desk: 1024,
-            event: Event::Open { addr: b"127.0.0.1" },
+            event: Given::Open { addr: b"127.0.0.1" },
             answer: Ok((Done { opened: Some($slot), created: None }, Mode::Running)),
             touched: &[$slot],
         }
@@ -46,7 +91,7 @@ macro_rules! call {
     (packet $slot:literal, $kind:literal, $bytes:literal => $created:expr, $touched:expr) => {
         Call::Apply {
             desk: $slot,
-            event: Event::Packet { slot: $slot, kind: $kind, bytes: $bytes },
+            event: Given::Packet { slot: $slot, kind: $kind, bytes: $bytes },
             answer: Ok((Done { opened: None, created: $created }, Mode::Running)),
             touched: &$touched,
         }
@@ -131,7 +176,7 @@ static GRABS_WITH_ID: [Call; 3] = [
 
 /// It goes, and who comes to its slot next is owed nothing, until it sleeps beside the job.
 static GOES: [Call; 9] = [
-    call!(event 1, Event::Close { slot: 1 } => Running, [1]),
+    call!(event 1, Given::Close { slot: 1 } => Running, [1]),
     call!(take 1 => false),
     call!(open 1),
     call!(packet 1, 1, b"f" => None, []),
@@ -147,30 +192,30 @@ static TAKEN_FIRST: [Call; 2] = [call!(take 1 => true), call!(take 1 => false)];
 
 /// Each refusal, and what it takes to meet it.
 static REFUSALS: [Call; 24] = [
-    call!(refused 0, Event::Packet { slot: 0, kind: 16, bytes: b"hi" } => NotOpen),
+    call!(refused 0, Given::Packet { slot: 0, kind: 16, bytes: b"hi" } => NotOpen),
     call!(closed 0),
-    call!(refused 0, Event::Close { slot: 0 } => NotOpen),
+    call!(refused 0, Given::Close { slot: 0 } => NotOpen),
     call!(open 0),
     call!(open 1),
-    call!(refused 2, Event::Open { addr: b"10.0.0.2" } => NoSlot),
+    call!(refused 2, Given::Open { addr: b"10.0.0.2" } => NoSlot),
     call!(packet 0, 16, b"hi" => None, [0]),
     call!(drain 0 => b"\0RES\0\0\0\x11\0\0\0\x02hi", false),
-    call!(event 1, Event::Fault { slot: 1, fault: UnitFault::BadMagic } => Running, [1]),
+    call!(event 1, Given::Fault { slot: 1, fault: UnitFault::BadMagic } => Running, [1]),
     call!(drain 1 => b"\0RES\0\0\0\x13\0\0\0\x13bad_magic\0bad magic", true),
-    call!(refused 1, Event::Packet { slot: 1, kind: 16, bytes: b"hi" } => NotOpen),
-    call!(event 1, Event::Close { slot: 1 } => Running, [1]),
+    call!(refused 1, Given::Packet { slot: 1, kind: 16, bytes: b"hi" } => NotOpen),
+    call!(event 1, Given::Close { slot: 1 } => Running, [1]),
     call!(closed 1),
     call!(take 1 => false),
     call!(open 1),
-    call!(event 0, Event::Line { slot: 0, bytes: b"shutdown graceful" } => Graceful, [0]),
+    call!(event 0, Given::Line { slot: 0, bytes: b"shutdown graceful" } => Graceful, [0]),
     call!(drain 0 => b"OK\n", false),
-    call!(refused 2, Event::Open { addr: b"10.0.0.2" } => Refusing),
-    call!(event 0, Event::Line { slot: 0, bytes: b"shutdown" } => Stopped, [0, 1]),
+    call!(refused 2, Given::Open { addr: b"10.0.0.2" } => Refusing),
+    call!(event 0, Given::Line { slot: 0, bytes: b"shutdown" } => Stopped, [0, 1]),
     call!(drain 0 => b"OK\n", true),
     call!(drain 1 => b"", true),
-    call!(refused 1, Event::Line { slot: 1, bytes: b"version" } => NotOpen),
-    call!(event 2, Event::Tick { now: 1 } => Stopped, []),
-    call!(event 1, Event::Close { slot: 1 } => Stopped, [1]),
+    call!(refused 1, Given::Line { slot: 1, bytes: b"version" } => NotOpen),
+    call!(event 2, Given::Tick { now: 1 } => Stopped, []),
+    call!(event 1, Given::Close { slot: 1 } => Stopped, [1]),
 ];
 
 /// A job whose second worker goes waits no more, and the next tick fails it.
@@ -180,20 +225,20 @@ static JOB_RETRIES: [Call; 22] = [
     call!(packet 0, 7, b"f\0a\x001" => Some(1), [0]),
     call!(packet 1, 1, b"f" => None, []),
     call!(packet 1, 9, b"" => None, [1]),
-    call!(event 1, Event::Close { slot: 1 } => Running, [1]),
+    call!(event 1, Given::Close { slot: 1 } => Running, [1]),
     call!(open 1),
     call!(packet 1, 1, b"f" => None, []),
     call!(packet 1, 9, b"" => None, [1]),
     call!(packet 1, 28, b"H:gmd:1\0z" => None, [0]),
-    call!(event 1, Event::Close { slot: 1 } => Running, [1]),
+    call!(event 1, Given::Close { slot: 1 } => Running, [1]),
     call!(packet 0, 15, b"H:gmd:1" => None, [0]),
-    call!(event 0, Event::Line { slot: 0, bytes: b"status" } => Running, [0]),
+    call!(event 0, Given::Line { slot: 0, bytes: b"status" } => Running, [0]),
     call!(open 1),
     call!(packet 1, 1, b"f" => None, []),
     call!(packet 1, 9, b"" => None, [1]),
     call!(packet 1, 13, b"H:gmd:1\0x" => None, [1]),
     call!(drain 0 => b"\0RES\0\0\0\x08\0\0\0\x07H:gmd:1\0RES\0\0\0\x1c\0\0\0\x09H:gmd:1\0z\0RES\0\0\0\x14\0\0\0\x0fH:gmd:1\x001\x001\x000\x000f\t1\t1\t0\n.\n", false),
-    call!(event 2, Event::Tick { now: 0 } => Running, [0]),
+    call!(event 2, Given::Tick { now: 0 } => Running, [0]),
     call!(packet 0, 15, b"H:gmd:1" => None, [0]),
     call!(drain 0 => b"\0RES\0\0\0\x0e\0\0\0\x07H:gmd:1\0RES\0\0\0\x14\0\0\0\x0fH:gmd:1\x000\x000\x000\x000", false),
     call!(drain 1 => b"\0RES\0\0\0\x0a\0\0\0\0\0RES\0\0\0\x13\0\0\0\x1bjob_not_found\0job not found", false),
@@ -237,7 +282,7 @@ static GRABS_OF_TWO: [Call; 2] = [
 
 /// Each job runs, and each slot is told of its own ten.
 static TEN_EACH: [Call; 5] = [
-    call!(event 0, Event::Line { slot: 0, bytes: b"status" } => Running, [0]),
+    call!(event 0, Given::Line { slot: 0, bytes: b"status" } => Running, [0]),
     call!(drain 0 => b"\0RES\0\0\0\x08\0\0\0\x07H:gmd:1\0RES\0\0\0\x08\0\0\0\x07H:gmd:3\
         \0RES\0\0\0\x08\0\0\0\x07H:gmd:5\0RES\0\0\0\x08\0\0\0\x07H:gmd:7\0RES\0\0\0\x08\0\0\0\x07H:gmd:9\
         \0RES\0\0\0\x08\0\0\0\x08H:gmd:11\0RES\0\0\0\x08\0\0\0\x08H:gmd:13\0RES\0\0\0\x08\0\0\0\x08H:gmd:15\
@@ -259,7 +304,7 @@ static TEN_EACH: [Call; 5] = [
 ];
 
 /// The slots of the set are these, in their order.
-fn assert_slots(rt: &impl Abort, event: Event<'static>, set: &SlotSet, slots: &[u32]) {
+fn assert_slots(rt: &impl Abort, event: Given, set: &SlotSet, slots: &[u32]) {
     let mut left = set.iter();
     for slot in slots {
         same(rt, event, &left.next(), &Some(*slot));
@@ -271,7 +316,7 @@ fn assert_slots(rt: &impl Abort, event: Event<'static>, set: &SlotSet, slots: &[
 fn assert_answer(
     rt: &impl Abort,
     tape: TapeMode,
-    event: Event<'static>,
+    event: Given,
     got: Result<Receipt, ApplyError>,
     answer: Result<(Done, Mode), ApplyError>,
     (touched, slots): (&Option<SlotSet>, &[u32]),
@@ -320,7 +365,7 @@ fn assert_call<K: BookName, R: Wait + Abort>(
             answer,
             touched,
         } => {
-            let got = room.apply(rt, desk, event);
+            let got = room.apply(rt, desk, event.event());
             assert_answer(rt, tape, event, got, answer, (&room.touched, touched));
         }
         Call::Take { slot, taken } => same(rt, slot, &room.take(rt, slot), &taken),

@@ -5,6 +5,7 @@ ghost use Rattle.std.specs.Prelude.{◌≡◌};
 use crate::checks::{must, same};
 use crate::packets::{assigned, cut, handle};
 use crate::room::{Room, apply, blank};
+use gm_bytes::Data;
 use gm_notes::{ApplyError, Event};
 use gm_shared::{Blank, BookName, Desk, Shared, TapeMode};
 use std::alloc::{AllocError, Global};
@@ -41,7 +42,7 @@ impl<K: BookName> Hand<K> {
         let event = Event::Packet {
             slot: self.slot,
             kind,
-            bytes,
+            bytes: Data::lent(bytes),
         };
         let receipt = apply(rt, shared, &mut self.desk, event, &mut None)?;
         if let Some(number) = receipt.done.created {
@@ -271,7 +272,7 @@ fn assert_data<K: BookName, R: Wait + Abort>(
     let event = Event::Packet {
         slot: 0,
         kind: 15,
-        bytes: handle,
+        bytes: Data::lent(handle),
     };
     let bytes = answer(rt, room, event)?;
     let (kind, data, _) = cut(&bytes).ok_or("the question is answered")?;

@@ -66,10 +66,10 @@ pub fn apply<K: BookName, R: Wait + Abort>(
     touched: &mut Option<SlotSet>,
 ) -> Result<Receipt, ApplyError> {
     if let Event::Packet { bytes, .. } = event {
-        must(rt, bytes.len() <= 1_073_741_824);
+        must(rt, bytes.as_slice().len() <= 1_073_741_824);
     }
     match touched {
-        Some(touched) => desk.apply_with(rt, shared, event, None, touched),
+        Some(touched) => desk.apply_with(rt, shared, event, touched),
         None => desk.apply(rt, shared, event),
     }
 }

@@ -3,6 +3,7 @@
 use crate::calls::{OWED, assert_calls};
 use crate::checks::same;
 use crate::room::{Room, Scene, play_settled, play_to_the_end};
+use gm_bytes::Data;
 use gm_notes::{ApplyError, Event, Mode};
 use gm_shared::{BookName, TapeMode};
 use std::process::Abort;
@@ -35,7 +36,7 @@ fn echo_once<K: BookName, R: Wait + Abort>(
     let event = Event::Packet {
         slot: 0,
         kind: 16,
-        bytes: b"hi",
+        bytes: Data::lent(b"hi"),
     };
     let echo = room.apply(rt, 0, event)?;
     let drained = room.drain(rt, 0)?;

@@ -1,6 +1,6 @@
 //! The book.
 
-ghost use Rattle.std.specs.Prelude.{◌≡◌, ◌⊎◌, ◌<◌, ◌≤◌, ◌++◌, ℕ, [], List, IfOk, IfErr, IfSome, true, false, length, None};
+ghost use Rattle.std.specs.Prelude.{◌≡◌, ◌⊎◌, ◌<◌, ◌≤◌, ◌++◌, ℕ, [], List, IfOk, IfErr, true, false, length, None};
 ghost use Rattle.gm_conns.specs.Slots.{has};
 ghost use Rattle.gm_conns.specs.ConnTables.{conn, is_touched};
 ghost use Rattle.gm_word.specs.Seats.{fresh_pens};
@@ -8,7 +8,6 @@ ghost use Rattle.gm_notes.specs.Settings.{Settings};
 ghost use Rattle.gm_notes.specs.Steps.{Step, run};
 ghost use Rattle.gm_notes.specs.Servers.{step_of, IsSized};
 ghost use Rattle.gm_core.specs.Holds.{AllTouched, CoreAgrees, outbox};
-ghost use Rattle.gm_core.specs.Writing.{AreDataOf};
 ghost use Rattle.std.specs.Result.{IsErrOf};
 
 use crate::events::{Noop, asks_a_job, slot_of};
@@ -42,7 +41,8 @@ pub struct Booked {
 impl Booked {
     ghost use Rattle.gm_laws.specs.Laws.{MayBeTakenLater};
     ghost use Rattle.gm_shared.specs.Books.{Holds, BookedAgrees, Held, NeedsNoMemory, Drains, AsksWord, FollowsAt, FollowsCore, IsIdle, IsLeftOut};
-    ghost use Rattle.gm_shared.specs.Events.{takes_back, slot_of, MayFind, entered};
+    ghost use Rattle.gm_shared.specs.Events.{slot_of, MayFind, entered};
+    ghost use Rattle.gm_notes.specs.Withdrawals.{withdraws_noop};
     ghost use Rattle.gm_shared.specs.Tapes.{is_on};
 
     /// The book of a server to which nothing has happened, the table of its sleep words, and a pen for each slot, in
@@ -77,7 +77,7 @@ impl Booked {
     }
 
     /// Lets an event take effect, in one holding. It asks the word of the event's slot what became of the NOOP that the
-    /// slot is owed. One that was taken is entered first; so is one that is still owed and that the event takes back, as taken or as withdrawn. What is refused
+    /// slot is owed. One that was taken is entered first; so is one that is still owed and that the event withdraws, as taken or as withdrawn. What is refused
     /// changes nothing but that; a refusal is one of `JobServer::apply`.
     ///
     /// With a tape room for what it enters is found first, and copies of the bytes: where that fails `Memory` comes
@@ -101,26 +101,25 @@ impl Booked {
         may_be_taken_later();
         let mut share = Vec::new(self.alloc);
         let mut touched = SlotSet::new();
-        self.hold(table, desk, event, None, &mut share, &mut touched)
+        self.hold(table, desk, event, &mut share, &mut touched, &mut None)
     }
 
-    /// `apply`, which adds what the desk is told of the tape to its share. The data of a packet may be shared, as
-    /// `Core::apply_with` says.
+    /// `apply`, which adds what the desk is told of the tape to its share.
     ///
     /// `touched` becomes the slots whose waiting bytes, phase or shut changed and to which something is to be delivered,
     /// and perhaps more: it is for them that a writer may have something to do. Where the event is refused there are none.
-    /// The set is the caller's, and not a part of the receipt, because a receipt is moved at each return.
+    /// The set is the caller's, and not a part of the receipt, because a receipt is moved at each return. `freed` becomes what
+    /// is to be freed once no lock is held: the body of a job that ended.
     pub(crate) fn hold(
         &mut self,
         table: &SleepTable,
         desk: u32,
         event: &Event<'_>,
-        whole: Option<&SharedBytes>,
         share: &mut Vec<Told>,
         touched: &mut SlotSet,
+        freed: &mut Option<SharedBytes>,
     ) -> Result<Receipt, ApplyError>
         requires size { IsSized event.now }
-        requires whole { IfSome whole (λ shared. AreDataOf event.now shared.now) }
         requires table { self.old.seat.table ≡ table.now }
         ensures holding { (k : Settings) (steps : List Step) → BookedAgrees self.old k steps
             → (told : List Told) × (share.new.items ≡ share.old.items ++ told)
@@ -133,7 +132,7 @@ impl Booked {
         let copies = self.tape.room_for(self.alloc, share, event)?;
         let noop = self.resolve_noop(table, event);
         self.tape.enter_noop(share, desk, noop);
-        let done = self.core.apply_with(event, whole)?;
+        let done = self.core.apply_locked(event, freed)?;
         let at = self.tape.enter_event(share, desk, copies, done);
         self.follow(table, event, touched);
         self.leave_out_idle(event, touched);
@@ -142,17 +141,6 @@ impl Booked {
             done,
             mode: self.core.mode(),
         })
-    }
-
-    /// What is to be freed once no lock is held: the body of a job that ended.
-    pub(crate) fn take_ended(&mut self) -> Option<SharedBytes>
-        ensures body { result ≡ self.old.core.ended }
-        ensures taken { self.new.core.ended ≡ None }
-        ensures agrees { (k : Settings) (steps : List Step) → BookedAgrees self.old k steps → BookedAgrees self.new k steps }
-        ensures seat { self.new.seat ≡ self.old.seat }
-        ensures tape { self.new.tape ≡ self.old.tape }
-    {
-        self.core.take_ended()
     }
 
     /// Takes the bytes that wait for a slot, which wait no more. `NotOpen` comes where the slot isn't open; it
@@ -201,13 +189,13 @@ impl Booked {
         (self.core, self.seat, self.tape.into_entries())
     }
 
-    /// Whether an event takes back a NOOP that its slot is still owed.
-    fn takes_back(&self, event: &Event<'_>) -> bool
-        ensures { (k : Settings) (steps : List Step) → CoreAgrees self.now.core k steps → result ≡ takes_back (step_of event.now) (run k steps) }
+    /// Whether an event withdraws the NOOP that its slot is still owed.
+    fn is_withdrawal(&self, event: &Event<'_>) -> bool
+        ensures { (k : Settings) (steps : List Step) → CoreAgrees self.now.core k steps → result ≡ withdraws_noop (step_of event.now) (run k steps) }
     {
         match *event {
             Event::Close { .. } => true,
-            Event::Packet { slot, kind, bytes } => asks_a_job(kind, bytes) && !self.core.shut(slot),
+            Event::Packet { slot, kind, bytes } => asks_a_job(kind, bytes.as_slice()) && !self.core.shut(slot),
             _ => false,
         }
     }
@@ -233,7 +221,7 @@ impl Booked {
             let _taken = self.core.took(slot);
             return Noop::Taken(slot);
         }
-        if self.seat.phase(slot) != Phase::Owed || !self.takes_back(event) {
+        if self.seat.phase(slot) != Phase::Owed || !self.is_withdrawal(event) {
             return Noop::Left;
         }
         if self.seat.withdraw(table, slot) {

@@ -1,10 +1,9 @@
 //! What the lock guards.
 
-ghost use Rattle.std.specs.Prelude.{◌≡◌, ℕ, List, IfErr, IfSome, false};
+ghost use Rattle.std.specs.Prelude.{◌≡◌, ℕ, List, IfErr, false};
 ghost use Rattle.gm_conns.specs.Slots.{has};
 ghost use Rattle.gm_notes.specs.Steps.{Step};
 ghost use Rattle.gm_notes.specs.Servers.{step_of, IsSized};
-ghost use Rattle.gm_core.specs.Writing.{AreDataOf};
 ghost use Rattle.gm_shared.specs.Books.{BookedAgrees, Held, NeedsNoMemory, Drains};
 ghost use Rattle.gm_shared.specs.Shared.{IsGuarded, AppliedTo, Emptied};
 ghost use Rattle.std.specs.Result.{IsErrOf};
@@ -49,27 +48,26 @@ impl<K: BookName> Guarded<K> {
         }
     }
 
-    /// `Booked::hold`, in one holding of the lock, and what is to be freed after it.
+    /// `Booked::hold`, in one holding of the lock.
     pub(crate) fn apply(
         &mut self,
         table: &SleepTable,
         desk: u32,
         event: &Event<'_>,
-        whole: Option<&SharedBytes>,
         share: &mut Vec<Told>,
         touched: &mut SlotSet,
-    ) -> (Result<Receipt, ApplyError>, Option<SharedBytes>)
+        freed: &mut Option<SharedBytes>,
+    ) -> Result<Receipt, ApplyError>
         requires size { IsSized event.now }
-        requires whole { IfSome whole (λ shared. AreDataOf event.now shared.now) }
         requires table { table.now ≡ K.table }
-        ensures applied { AppliedTo K.settings K.taped (step_of event.now) desk result.0 touched.new share.old.items share.new.items }
+        ensures applied { AppliedTo K.settings K.taped (step_of event.now) desk result touched.new share.old.items share.new.items }
         ensures holding { (steps : List Step) → BookedAgrees self.old K.settings steps
-            → (told : List Told) × (new : Booked) × Held K.settings steps (step_of event.now) desk result.0 touched.new self.old new told }
-        ensures refused { IfErr result.0 (λ _. (c : ℕ) → has touched.new c ≡ false) }
-        ensures memory { NeedsNoMemory K.taped (step_of event.now) → IsErrOf result.0 ApplyError.Memory → ⊥ }
+            → (told : List Told) × (new : Booked) × Held K.settings steps (step_of event.now) desk result touched.new self.old new told }
+        ensures refused { IfErr result (λ _. (c : ℕ) → has touched.new c ≡ false) }
+        ensures memory { NeedsNoMemory K.taped (step_of event.now) → IsErrOf result ApplyError.Memory → ⊥ }
     {
-        let result = self.booked.hold(table, desk, event, whole, share, touched);
-        (result, self.booked.take_ended())
+        self.booked
+            .hold(table, desk, event, share, touched, freed)
     }
 
     /// `Booked::drain`, in one holding of the lock.

@@ -1,11 +1,10 @@
 //! The book that threads share, and what each of them has of its own: desks, at which events are handed in, and pens,
 //! which take out what waits for a slot.
 
-ghost use Rattle.std.specs.Prelude.{◌≡◌, ◌+◌, ℕ, IfOk, IfErr, IfSome, MatchBool, map, All, [], true, false};
+ghost use Rattle.std.specs.Prelude.{◌≡◌, ◌+◌, ℕ, IfOk, IfErr, MatchBool, map, All, [], true, false};
 ghost use Rattle.gm_notes.specs.Servers.{step_of, IsSized};
 ghost use Rattle.gm_conns.specs.Slots.{has};
 ghost use Rattle.gm_word.specs.Seats.{fresh_pens};
-ghost use Rattle.gm_core.specs.Writing.{AreDataOf};
 ghost use Rattle.gm_shared.specs.Books.{NeedsNoMemory};
 ghost use Rattle.gm_shared.specs.Tapes.{drains_alone};
 ghost use Rattle.gm_shared.specs.Shared.{Applied, AppliedTo, AddsEvent, Emptied, numbers_below};
@@ -16,7 +15,6 @@ use crate::guarded::Guarded;
 use crate::name::BookName;
 use crate::receipt::{Drained, Receipt};
 use crate::tape::Told;
-use gm_bytes::SharedBytes;
 use gm_conns::SlotSet;
 use gm_notes::{ApplyError, Event};
 use gm_word::{PenSeat, SleepTable};
@@ -122,36 +120,32 @@ impl<K: BookName> Desk<K> {
         ensures number { self.new.number ≡ self.old.number }
     {
         let mut touched = SlotSet::new();
-        self.apply_with(rt, shared, event, None, &mut touched)
+        self.apply_with(rt, shared, event, &mut touched)
     }
 
-    /// As `apply`. Where the data of a packet are shared, and given once more so, no byte of them is copied while the lock is
-    /// held, unless a tape is kept.
-    ///
-    /// `touched` becomes the slots whose waiting bytes, phase or shut changed and to which something is to be delivered,
+    /// As `apply`. `touched` becomes the slots whose waiting bytes, phase or shut changed and to which something is to be delivered,
     /// and perhaps more: it is for them that a writer may have something to do. Where the event is refused there are none.
     pub fn apply_with(
         &mut self,
         rt: &impl Wait,
         shared: &Shared<K>,
         event: Event<'_>,
-        whole: Option<&SharedBytes>,
         touched: &mut SlotSet,
     ) -> Result<Receipt, ApplyError>
-        requires size { IsSized event }
-        requires whole { IfSome whole (λ bytes. AreDataOf event bytes.now) }
+        requires { IsSized event }
         ensures applied { AppliedTo K.settings K.taped (step_of event.entry) self.old.number result touched.new self.old.share.items self.new.share.items }
         ensures refused { IfErr result (λ _. (c : ℕ) → has touched.new c ≡ false) }
         ensures adds { AddsEvent K.taped (step_of event.entry) result self.old.share.items self.new.share.items }
         ensures memory { NeedsNoMemory K.taped (step_of event.entry) → IsErrOf result ApplyError.Memory → ⊥ }
         ensures number { self.new.number ≡ self.old.number }
     {
+        let mut freed = None;
         let share = &mut self.share;
-        let (result, ended) = shared
+        let result = shared
             .book
             .lock(rt)
-            .apply(&shared.table, self.number, &event, whole, share, touched);
-        drop(ended);
+            .apply(&shared.table, self.number, &event, share, touched, &mut freed);
+        drop(freed);
         result
     }
 }

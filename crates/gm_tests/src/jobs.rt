@@ -138,7 +138,7 @@ fn jobs_ample(rt: HostRuntime) -> Result<(), Fail> {
     Ok(())
 }
 
-// Makes a job whose body is shared. Its own is ignored.
+// Makes a job whose body is shared.
 fn make_shared(jobs: &mut Jobs, body: SharedBytes) -> Result<Option<u64>, JobError> {
     jobs.reserve(0, 0, 0)?;
     if jobs.by_unique(0, b"").is_some() {
@@ -148,18 +148,18 @@ fn make_shared(jobs: &mut Jobs, body: SharedBytes) -> Result<Option<u64>, JobErr
         f: 0,
         p: Priority::Low,
         unique: b"",
-        body: b"b",
+        body: b"",
         kept: false,
         listener: None,
     };
-    Ok(Some(jobs.insert_shared(new, body)))
+    Ok(Some(jobs.insert(new, Some(body))))
 }
 
 fn assert_shared(rt: &impl Abort, jobs: &Jobs) {
     match jobs.by_number(1) {
         Some(job) => {
             same(rt, "a body", &job.body(), &b"body".as_slice());
-            must(rt, job.shared_body().is_some());
+            must(rt, job.data().share().is_some());
         }
         None => must(rt, false),
     }

@@ -1,6 +1,7 @@
 //! The lists for administrators, where there is much to list.
 
 use crate::checks::same;
+use gm_bytes::Data;
 use gm_notes::{Config, Event, JobServer};
 use gm_plain::PlainServer;
 use std::alloc::Global;
@@ -28,7 +29,7 @@ fn crowd(alloc: Global) -> Result<PlainServer, Fail> {
         server.apply(&Event::Packet {
             slot: number % CONNECTIONS,
             kind: 1,
-            bytes: &name,
+            bytes: Data::lent(&name),
         })?;
     }
     Ok(server)

@@ -1,6 +1,7 @@
 //! The plain server, called as a host calls it.
 
 use crate::checks::{must, same};
+use gm_bytes::Data;
 use gm_notes::{ApplyError, Config, Done, Event, JobServer, Place};
 use gm_plain::PlainServer;
 use std::alloc::Global;
@@ -58,12 +59,9 @@ fn withdrawn_noop(rt: HostRuntime) -> Result<(), Fail> {
             created,
             ..Done::NONE
         };
-        same(
-            &rt,
-            kind,
-            &server.apply(&Event::Packet { slot, kind, bytes }),
-            &Ok(done),
-        );
+        let bytes = Data::lent(bytes);
+        let event = Event::Packet { slot, kind, bytes };
+        same(&rt, kind, &server.apply(&event), &Ok(done));
     }
     withdraw(&rt, &mut server);
     close(&rt, &mut server, 1);
@@ -149,6 +147,7 @@ fn closings(rt: HostRuntime) -> Result<(), Fail> {
     let mut server = server(rt.alloc(), 3)?;
     for request in &REQUESTS {
         let Request { slot, kind, bytes } = *request;
+        let bytes = Data::lent(bytes);
         let done = server.apply(&Event::Packet { slot, kind, bytes });
         if done == Err(ApplyError::Memory) {
             break;

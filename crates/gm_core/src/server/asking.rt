@@ -11,7 +11,7 @@ ghost use Rattle.gm_notes.specs.Past.{Past};
 ghost use Rattle.gm_notes.specs.Requests.{tell_status};
 
 use super::Core;
-use super::grabbing::prepare_at;
+use super::answering::prepare;
 use gm_actions::{Report, known_status, number_in, unknown_status};
 use gm_jobs::Job;
 use std::alloc::AllocError;
@@ -76,7 +76,7 @@ impl Core {
         };
         let running = found.place().is_running();
         let response = known_status(handle, running, report_of(found));
-        prepare_at(&mut self.conns, &mut self.text, slot, &response, None)?;
+        prepare(&mut self.conns, &mut self.text, slot, &response, None)?;
         self.send(slot);
         Ok(())
     }
@@ -85,6 +85,6 @@ impl Core {
         requires { IsOpen self.old.conns slot }
         ensures { Does self.old result self.new (unknown_told slot handle.now) }
     {
-        self.answer(slot, &unknown_status(handle))
+        self.answer(slot, &unknown_status(handle), None)
     }
 }

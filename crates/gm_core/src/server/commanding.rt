@@ -1,7 +1,7 @@
 //! What administrators command in text lines.
 
-ghost use Rattle.std.specs.Prelude.{◌≡◌, ◌<◌, ◌≤◌, true, false, List, Ok, OnOk, OnErr, IfOk, Some, length};
-ghost use Rattle.gm_admin.specs.Answers.{ok_text, version_text, error_text};
+ghost use Rattle.std.specs.Prelude.{◌≡◌, ◌<◌, true, false, List, Ok, OnOk, OnErr, IfOk, Some, length, ◌≤◌};
+ghost use Rattle.gm_admin.specs.Answers.{ok_text, version_text};
 ghost use Rattle.gm_admin.specs.Commands.{command_of};
 ghost use Rattle.gm_admin.specs.Views.{asked_of};
 ghost use Rattle.gm_conns.specs.ConnTables.{IsOpen, conn};
@@ -64,27 +64,14 @@ impl Core {
         }
     }
 
-    /// Writes the line that says what is wrong, and makes room for it at a slot.
-    fn prepare_error(&mut self, slot: u32, error: AdminError) -> Result<(), AllocError>
-        requires { IsOpen self.old.conns slot }
-        ensures goes { Goes self.old self.new (λ past. past) }
-        ensures open { IsOpen self.new.conns slot }
-        ensures text { OnOk result (self.new.text ≡ error_text error) }
-        ensures room { OnOk result (length self.new.text ≤ (conn self.new.conns slot).room) }
-    {
-        let mut text = Vec::new(self.alloc);
-        write_fault(error, &mut text)?;
-        self.prepare_text(slot, text)
-    }
-
     /// Answers a line that is refused.
     fn refuse_line(&mut self, slot: u32, error: AdminError) -> Result<(), AllocError>
         requires { IsOpen self.old.conns slot }
         ensures { Does self.old result self.new (refuse_line slot error) }
     {
-        self.prepare_error(slot, error)?;
-        self.send(slot);
-        Ok(())
+        let mut text = Vec::new(self.alloc);
+        write_fault(error, &mut text)?;
+        self.say(slot, text)
     }
 
     /// Writes that a command was done, and makes room for it at a slot.
@@ -111,38 +98,14 @@ impl Core {
         Ok(())
     }
 
-    /// Writes the version, and makes room for it at a slot.
-    fn prepare_version(&mut self, slot: u32) -> Result<(), AllocError>
-        requires { IsOpen self.old.conns slot }
-        ensures goes { Goes self.old self.new (λ past. past) }
-        ensures open { IsOpen self.new.conns slot }
-        ensures text { OnOk result (self.new.text ≡ version_text) }
-        ensures room { OnOk result (length self.new.text ≤ (conn self.new.conns slot).room) }
-    {
-        let mut text = Vec::new(self.alloc);
-        write_version(&mut text)?;
-        self.prepare_text(slot, text)
-    }
-
     /// Tells a slot the version of the server.
     fn tell_version(&mut self, slot: u32) -> Result<(), AllocError>
         requires { IsOpen self.old.conns slot }
         ensures { Does self.old result self.new (with_output slot version_text) }
     {
-        self.prepare_version(slot)?;
-        self.send(slot);
-        Ok(())
-    }
-
-    /// Queues a text to a slot.
-    pub(super) fn say(&mut self, slot: u32, text: Vec<u8>) -> Result<(), AllocError>
-        requires { IsOpen self.old.conns slot }
-        ensures does { Does self.old result self.new (with_output slot text.items) }
-        ensures open { IsOpen self.new.conns slot }
-    {
-        self.prepare_text(slot, text)?;
-        self.send(slot);
-        Ok(())
+        let mut text = Vec::new(self.alloc);
+        write_version(&mut text)?;
+        self.say(slot, text)
     }
 
     /// Sets the most jobs of a function that may wait or run; 0 is no limit.

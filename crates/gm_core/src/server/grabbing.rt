@@ -1,55 +1,25 @@
 //! Workers that ask for jobs.
 
-ghost use Rattle.std.specs.Prelude.{◌≡◌, ◌<◌, ◌≤◌, ℕ, false, Some, IfSome, IfOk, OnOk, OnErr, length, slice_get};
+ghost use Rattle.std.specs.Prelude.{◌≡◌, ◌<◌, ◌≤◌, Some, IfOk, OnOk, length, slice_get};
 ghost use Rattle.std.specs.Option.{option_map};
-ghost use Rattle.gm_packet.specs.Answers.{answer_of};
-ghost use Rattle.gm_packet.specs.Packets.{Fits};
 ghost use Rattle.gm_packet.specs.Answers.{answer_packet};
-ghost use Rattle.gm_conns.specs.Connections.{with_room};
-ghost use Rattle.gm_conns.specs.ConnTables.{IsOpen, conn, Changes};
+ghost use Rattle.gm_conns.specs.ConnTables.{IsOpen, conn};
 ghost use Rattle.gm_queues.specs.FunctionTables.{waiting_for};
 ghost use Rattle.gm_jobs.specs.Live.{Live};
 ghost use Rattle.gm_jobs.specs.Tables as jobs;
 ghost use Rattle.gm_core.specs.Holds.{name_at};
-ghost use Rattle.gm_core.specs.Writing.{EndsWith};
-ghost use Rattle.gm_notes.specs.Settings.{Settings};
 ghost use Rattle.gm_notes.specs.declared.note.Note.TheVariants.{Assigned};
 ghost use Rattle.gm_notes.specs.Jobs.{handle};
-ghost use Rattle.gm_notes.specs.Past.{Past, with_note};
+ghost use Rattle.gm_notes.specs.Past.{with_note};
 ghost use Rattle.gm_notes.specs.Workers.{deadline_after, assignment, give_out, wake_itself, grab};
 
 use super::Core;
 use super::abilities::Choice;
-use crate::written::Written;
+use super::answering::prepare;
 use gm_actions::{JobView, assignment, deadline_after, handle};
-use gm_bytes::SharedBytes;
-use gm_conns::Conns;
 use gm_notes::Priority;
-use gm_packet::{Response, response_fits};
+use gm_packet::Response;
 use std::alloc::AllocError;
-
-/// Writes a packet and makes room for it at a slot; where its last argument is a shared body, that isn't copied. A packet
-/// that can't carry its texts is refused as if out of memory: what came in a packet fits one.
-pub(super) fn prepare_at(
-    conns: &mut Conns,
-    text: &mut Written,
-    slot: u32,
-    response: &Response<'_>,
-    body: Option<&SharedBytes>,
-) -> Result<(), AllocError>
-    requires open { IsOpen conns.old slot }
-    requires ends { IfSome body (λ shared. EndsWith shared.now (answer_of response.now)) }
-    ensures text { OnOk result (text.new ≡ answer_packet (answer_of response.now)) }
-    ensures conns { OnOk result (Changes slot (with_room (length text.new)) false conns.old conns.new) }
-    ensures err { OnErr result (conns.new ≡ conns.old) }
-{
-    if !response_fits(response) {
-        return Err(AllocError);
-    }
-    text.write(response, body)?;
-    let len = text.len()?;
-    conns.reserve_out(slot, len)
-}
 
 impl Core {
     ghost use Rattle.gm_core.specs.Holds.{Keeps, Goes, Does};
@@ -86,12 +56,13 @@ impl Core {
             body: job.body(),
         };
         let response = assignment(&handle, &view, with_unique);
-        prepare_at(
+        let body = job.data();
+        prepare(
             &mut self.conns,
             &mut self.text,
             slot,
             &response,
-            job.shared_body(),
+            Some(&body),
         )?;
         Ok(job.p())
     }
@@ -131,7 +102,7 @@ impl Core {
         match self.pick(slot) {
             Some(found) => self.assign(slot, found, with_unique),
             None => {
-                self.give(slot, &Response::NoJob)?;
+                self.answer(slot, &Response::NoJob, None)?;
                 self.wake_itself(slot);
                 Ok(())
             }

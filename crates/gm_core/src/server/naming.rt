@@ -28,7 +28,7 @@ impl Core {
         requires named { bytes_eq name.now (codes "exceptions") ≡ true }
         ensures { Does self.old result self.new (set_option slot name.now) }
     {
-        self.give(slot, &Response::OptionRes { name })?;
+        self.answer(slot, &Response::OptionRes { name }, None)?;
         self.conns.set_option(slot);
         Ok(())
     }

@@ -1,16 +1,13 @@
 //! Connections that are opened, and their faults.
 
-ghost use Rattle.std.specs.Prelude.{◌≡◌, ◌≤◌, List, ◌∷◌, OnOk, length};
-ghost use Rattle.gm_conns.specs.ConnTables.{IsOpen, conn};
+ghost use Rattle.std.specs.Prelude.{List};
 ghost use Rattle.gm_notes.specs.Settings.{Settings};
 ghost use Rattle.gm_notes.specs.Steps.{Step, Open, Fault};
 ghost use Rattle.gm_notes.specs.Servers.{Answers, steps_after};
-ghost use Rattle.gm_notes.specs.Texts.{fault_text};
 
 use super::Core;
 use gm_actions::append_fault;
 use gm_notes::{ApplyError, Done, UnitFault};
-use std::alloc::AllocError;
 
 impl Core {
     ghost use Rattle.gm_core.specs.Holds.{Goes, AllTouched, CoreAgrees};
@@ -31,19 +28,6 @@ impl Core {
         })
     }
 
-    /// Writes what a fault prints and makes room for it at a slot.
-    fn prepare_fault(&mut self, slot: u32, fault: UnitFault) -> Result<(), AllocError>
-        requires { IsOpen self.old.conns slot }
-        ensures goes { Goes self.old self.new (λ past. past) }
-        ensures open { IsOpen self.new.conns slot }
-        ensures text { OnOk result (self.new.text ≡ fault_text fault) }
-        ensures room { OnOk result (length self.new.text ≤ (conn self.new.conns slot).room) }
-    {
-        let mut text = Vec::new(self.alloc);
-        append_fault(fault, &mut text)?;
-        self.prepare_text(slot, text)
-    }
-
     /// Nothing that can be read follows in a slot: it is told why, and takes no more units.
     pub(super) fn fault(&mut self, slot: u32, fault: UnitFault) -> Result<Done, ApplyError>
         ensures answers { (k : Settings) (steps : List Step) → CoreAgrees self.old k steps
@@ -53,8 +37,9 @@ impl Core {
         if !self.takes_units(slot) {
             return Err(ApplyError::NotOpen);
         }
-        self.prepare_fault(slot, fault)?;
-        self.send(slot);
+        let mut text = Vec::new(self.alloc);
+        append_fault(fault, &mut text)?;
+        self.say(slot, text)?;
         self.conns.shut_down(slot);
         Ok(Done::NONE)
     }

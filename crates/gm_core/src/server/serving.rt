@@ -1,8 +1,7 @@
 //! Requests as they come.
 
-ghost use Rattle.std.specs.Prelude.{IsErrOf, OnErr, IfSome, ◌≡◌, ◌↔◌, ◌^◌, List, true};
+ghost use Rattle.std.specs.Prelude.{IsErrOf, OnErr, ◌≡◌, ◌↔◌, ◌^◌, List, true};
 ghost use Rattle.std.specs.Option.{unwrap_or};
-ghost use Rattle.gm_packet.specs.Answers.{answer_of};
 ghost use Rattle.gm_packet.specs.Kinds.{kind_of};
 ghost use Rattle.gm_packet.specs.Answers.{echo_res};
 ghost use Rattle.gm_conns.specs.ConnTables.{IsOpen};
@@ -11,14 +10,11 @@ ghost use Rattle.gm_notes.specs.Requests.{packet_of};
 ghost use Rattle.gm_notes.specs.Servers.{Answers, steps_after};
 ghost use Rattle.gm_notes.specs.Settings.{Settings};
 ghost use Rattle.gm_notes.specs.Steps.{Step, Packet};
-ghost use Rattle.gm_actions.specs.Endings.{EndsIn, EndsInText};
-ghost use Rattle.gm_core.specs.Writing.{EndsWith};
 ghost use Rattle.gm_actions.specs.Actions.{act, IsNamed, acts_without_memory, NeedsNoMemory};
 
 use super::Core;
-use super::grabbing::prepare_at;
 use gm_actions::Action;
-use gm_bytes::SharedBytes;
+use gm_bytes::{Data, SharedBytes};
 use gm_notes::{ApplyError, Done};
 use gm_packet::Response;
 use std::alloc::AllocError;
@@ -34,38 +30,27 @@ fn is_same(one: Option<u64>, other: Option<u64>) -> bool
     }
 }
 
-/// The end of shared data that is this text, shared as well; none where that can't be.
-pub(super) fn shared_end(text: &[u8], whole: Option<&SharedBytes>) -> Option<SharedBytes>
-    requires { IfSome whole (λ shared. EndsInText text.now shared.now) }
-    ensures { IfSome result (λ end. end ≡ text.now) }
-{
-    let whole = whole?;
-    let from = whole.as_slice().len().checked_sub(text.len())?;
-    whole.suffix(from).ok()
-}
-
 impl Core {
     ghost use Rattle.gm_core.specs.Holds.{Does, AllTouched, CoreAgrees};
 
-    /// A packet of a slot. Where its data are shared, what is kept or passed on of them isn't copied.
+    /// A packet of a slot.
     pub(super) fn packet(
         &mut self,
         slot: u32,
         kind: u32,
-        bytes: &[u8],
-        whole: Option<&SharedBytes>,
+        bytes: &Data<'_>,
+        freed: &mut Option<SharedBytes>,
     ) -> Result<Done, ApplyError>
-        requires { IfSome whole (λ shared. shared.now ≡ bytes.now) }
         ensures answers { (k : Settings) (steps : List Step) → CoreAgrees self.old k steps
-            → Answers k steps (Packet slot kind bytes.now) result × CoreAgrees self.new k (steps_after result (Packet slot kind bytes.now) steps) }
-        ensures memory { NeedsNoMemory kind bytes.now → IsErrOf result ApplyError.Memory → ⊥ }
+            → Answers k steps (Packet slot kind bytes.now.bytes.now) result × CoreAgrees self.new k (steps_after result (Packet slot kind bytes.now.bytes.now) steps) }
+        ensures memory { NeedsNoMemory kind bytes.now.bytes.now → IsErrOf result ApplyError.Memory → ⊥ }
         ensures touched { AllTouched self.old.conns self.new.conns }
     {
         if !self.takes_units(slot) {
             return Err(ApplyError::NotOpen);
         }
         let before = self.jobs.next_number();
-        self.read(slot, kind, bytes, whole)?;
+        self.read(slot, kind, bytes, freed)?;
         let created = if is_same(self.jobs.next_number(), before) {
             None
         } else {
@@ -82,30 +67,28 @@ impl Core {
         &mut self,
         slot: u32,
         kind: u32,
-        bytes: &[u8],
-        whole: Option<&SharedBytes>,
+        bytes: &Data<'_>,
+        freed: &mut Option<SharedBytes>,
     ) -> Result<(), AllocError>
         requires open { IsOpen self.old.conns slot }
-        requires whole { IfSome whole (λ shared. shared.now ≡ bytes.now) }
-        ensures does { Does self.old result self.new (packet_of self.old.config slot (kind_of kind) bytes.now) }
-        ensures memory { NeedsNoMemory kind bytes.now → OnErr result ⊥ }
+        ensures does { Does self.old result self.new (packet_of self.old.config slot (kind_of kind) bytes.now.bytes.now) }
+        ensures memory { NeedsNoMemory kind bytes.now.bytes.now → OnErr result ⊥ }
     {
         match Action::read(kind, bytes) {
-            Ok(action) => self.act(slot, &action, whole),
+            Ok(action) => self.act(slot, &action, freed),
             Err(refusal) => self.refuse(slot, refusal),
         }
     }
 
-    /// Does what is asked of a slot, in data that are shared or aren't.
+    /// Does what is asked of a slot.
     fn act(
         &mut self,
         slot: u32,
         action: &Action<'_>,
-        whole: Option<&SharedBytes>,
+        freed: &mut Option<SharedBytes>,
     ) -> Result<(), AllocError>
         requires open { IsOpen self.old.conns slot }
         requires named { IsNamed action.now }
-        requires whole { IfSome whole (λ shared. EndsIn action.now shared.now) }
         ensures does { Does self.old result self.new (act self.old.config slot action.now) }
         ensures memory { acts_without_memory action.now ≡ true → OnErr result ⊥ }
     {
@@ -124,13 +107,10 @@ impl Core {
                 Ok(())
             }
             Action::Grab { with_unique } => self.grab(slot, with_unique),
-            Action::Submit(asked) => {
-                let body = shared_end(asked.body, whole);
-                self.submit(slot, &asked, &body)
-            }
-            Action::Tell(about) => self.work(slot, about.handle, &about.said, whole),
+            Action::Submit(asked) => self.submit(slot, &asked),
+            Action::Tell(about) => self.work(slot, about.handle, &about.said, freed),
             Action::GetStatus { handle } => self.tell_status(slot, handle),
-            Action::Echo { body } => self.echo(slot, body, whole),
+            Action::Echo { body } => self.echo(slot, &body),
             Action::SetClientId { id } => self.set_client_id(slot, id),
             Action::SetOption { name } => self.set_option(slot, name),
             Action::Nothing => Ok(()),
@@ -138,41 +118,13 @@ impl Core {
     }
 
     /// The connection in a slot gets its bytes back.
-    fn echo(
-        &mut self,
-        slot: u32,
-        body: &[u8],
-        whole: Option<&SharedBytes>,
-    ) -> Result<(), AllocError>
-        requires open { IsOpen self.old.conns slot }
-        requires whole { IfSome whole (λ shared. body.now ≡ shared.now) }
-        ensures { Does self.old result self.new (give slot (echo_res body.now)) }
-    {
-        self.answer_with(slot, &Response::EchoRes { body }, whole)
-    }
-
-    /// Queues an answer to a slot. One that no packet can carry is refused as if memory had run out: what came in a
-    /// packet fits one.
-    pub(super) fn answer(&mut self, slot: u32, response: &Response<'_>) -> Result<(), AllocError>
+    fn echo(&mut self, slot: u32, body: &Data<'_>) -> Result<(), AllocError>
         requires { IsOpen self.old.conns slot }
-        ensures { Does self.old result self.new (give slot (answer_of response.now)) }
+        ensures { Does self.old result self.new (give slot (echo_res body.now.bytes.now)) }
     {
-        self.answer_with(slot, response, None)
-    }
-
-    /// `answer`, where the last argument may be shared.
-    fn answer_with(
-        &mut self,
-        slot: u32,
-        response: &Response<'_>,
-        body: Option<&SharedBytes>,
-    ) -> Result<(), AllocError>
-        requires open { IsOpen self.old.conns slot }
-        requires ends { IfSome body (λ shared. EndsWith shared.now (answer_of response.now)) }
-        ensures { Does self.old result self.new (give slot (answer_of response.now)) }
-    {
-        prepare_at(&mut self.conns, &mut self.text, slot, response, body)?;
-        self.send(slot);
-        Ok(())
+        let response = Response::EchoRes {
+            body: body.as_slice(),
+        };
+        self.answer(slot, &response, Some(body))
     }
 }

@@ -5,9 +5,8 @@ ghost use Rattle.std.specs.Prelude.{OnOk, OnErr, IfOk, length};
 ghost use Rattle.gm_packet.specs.Answers.{job_created, answer_packet};
 ghost use Rattle.gm_conns.specs.ConnTables.{IsOpen, conn};
 ghost use Rattle.gm_queues.specs.FunctionTables.{number_of};
-ghost use Rattle.gm_jobs.specs.Live.{fresh};
-ghost use Rattle.gm_jobs.specs.Tables.{IsNamed, HasRoom, Makes};
-ghost use Rattle.gm_core.specs.Holds.{IsAlone, add_job, first_listener, own_len};
+ghost use Rattle.gm_jobs.specs.Tables.{IsNamed};
+ghost use Rattle.gm_core.specs.Holds.{IsAlone, add_job, first_listener};
 ghost use Rattle.gm_notes.specs.Jobs.{handle, joined};
 ghost use Rattle.gm_notes.specs.declared.note.Note.TheVariants.{Mention};
 ghost use Rattle.gm_notes.specs.Past.{Past, with_note};
@@ -15,10 +14,9 @@ ghost use Rattle.gm_actions.specs.Actions.{submission_of};
 ghost use Rattle.gm_notes.specs.Submissions.{is_bad_name, is_one_too_many, is_full, keep_or_listen, make, join_or_make, submit};
 
 use super::Core;
+use super::answering::prepare;
 use gm_actions::{Refusal, Submission, handle};
-use gm_bytes::SharedBytes;
-use gm_jobs::{Jobs, NewJob};
-use gm_notes::Priority;
+use gm_jobs::NewJob;
 use gm_packet::Response;
 use gm_queues::Counts;
 use std::alloc::AllocError;
@@ -38,40 +36,6 @@ fn is_limit_reached(limit: u32, counts: Counts) -> bool
     limit != 0 && (limit <= counts.waiting || limit - counts.waiting <= counts.running)
 }
 
-/// One owner more of a body, if it is shared.
-fn another(shared: &Option<SharedBytes>) -> Result<Option<SharedBytes>, AllocError>
-    ensures { IfOk result (λ body. body ≡ shared.now) }
-{
-    match shared {
-        Some(body) => Ok(Some(body.suffix(0)?)),
-        None => Ok(None),
-    }
-}
-
-/// How many bytes of room a job's body wants: none, if it is shared.
-fn own_len(body: &[u8], shared: &Option<SharedBytes>) -> usize
-    ensures { result ≡ own_len body.now shared.now }
-{
-    match shared {
-        Some(_) => 0,
-        None => body.len(),
-    }
-}
-
-/// Makes a job in the room that is reserved, with its body shared, if it is.
-fn insert(jobs: &mut Jobs, new: NewJob<'_>, shared: Option<SharedBytes>) -> u64
-    requires room { HasRoom new.f (length new.unique.now) (own_len new.body.now shared) jobs.old }
-    requires single { (n : ℕ) → IsNamed new.f new.unique.now jobs.old n → ⊥ }
-    requires shared { IfSome shared (λ body. body ≡ new.body.now) }
-    ensures number { result ≡ jobs.old.next }
-    ensures makes { Makes (fresh new.entry.f new.entry.p new.entry.unique.now new.entry.body.now new.entry.kept new.entry.listener) jobs.old jobs.new }
-{
-    match shared {
-        Some(body) => jobs.insert_shared(new, body),
-        None => jobs.insert_reserved(new),
-    }
-}
-
 impl Core {
     ghost use Rattle.gm_core.specs.Holds.{Keeps, Goes, Does};
 
@@ -80,17 +44,15 @@ impl Core {
         &mut self,
         slot: u32,
         asked: &Submission<'_>,
-        shared: &Option<SharedBytes>,
     ) -> Result<(), AllocError>
         requires open { IsOpen self.old.conns slot }
         requires named { is_bad_name asked.now.function.now ≡ false }
-        requires shared { IfSome shared.now (λ body. body ≡ asked.now.body.now) }
         ensures { Does self.old result self.new (submit self.old.config slot (submission_of asked.now)) }
     {
         let found = self.functions.find(asked.function);
         match self.joined(found, asked.unique) {
             Some(job) => self.join(slot, asked, job),
-            None => self.make_new(slot, asked, found, shared),
+            None => self.make_new(slot, asked, found),
         }
     }
 
@@ -100,13 +62,11 @@ impl Core {
         slot: u32,
         asked: &Submission<'_>,
         found: Option<u32>,
-        shared: &Option<SharedBytes>,
     ) -> Result<(), AllocError>
         requires open { IsOpen self.old.conns slot }
         requires found { number_of asked.now.function.now self.old.functions ≡ found }
         requires within { IfSome found (λ f. f < length self.old.functions.names) }
         requires alone { IsAlone asked.now.function.now asked.now.unique.now self.old.functions self.old.jobs }
-        requires shared { IfSome shared.now (λ body. body ≡ asked.now.body.now) }
         ensures { Does self.old result self.new (join_or_make self.old.config slot (submission_of asked.now) None) }
     {
         if self.has_no_place(found) {
@@ -116,7 +76,7 @@ impl Core {
             return self.refuse(slot, Refusal::QueueFull);
         }
         match self.jobs.next_number() {
-            Some(job) => self.make(slot, asked, found, job, shared),
+            Some(job) => self.make(slot, asked, found, job),
             None => self.refuse(slot, Refusal::NoNumbers),
         }
     }
@@ -128,19 +88,17 @@ impl Core {
         asked: &Submission<'_>,
         found: Option<u32>,
         job: u64,
-        shared: &Option<SharedBytes>,
     ) -> Result<(), AllocError>
         requires open { IsOpen self.old.conns slot }
         requires found { number_of asked.now.function.now self.old.functions ≡ found }
         requires within { IfSome found (λ f. f < length self.old.functions.names) }
         requires alone { IsAlone asked.now.function.now asked.now.unique.now self.old.functions self.old.jobs }
         requires number { job ≡ self.old.jobs.next }
-        requires shared { IfSome shared.now (λ body. body ≡ asked.now.body.now) }
         ensures { Does self.old result self.new (make self.old.config slot (submission_of asked.now) (Some job)) }
     {
         match found {
-            Some(f) => self.make_known(slot, asked, f, job, shared),
-            None => self.make_with_new_function(slot, asked, job, shared),
+            Some(f) => self.make_known(slot, asked, f, job),
+            None => self.make_with_new_function(slot, asked, job),
         }
     }
 
@@ -151,18 +109,16 @@ impl Core {
         asked: &Submission<'_>,
         f: u32,
         job: u64,
-        shared: &Option<SharedBytes>,
     ) -> Result<(), AllocError>
         requires open { IsOpen self.old.conns slot }
         requires found { number_of asked.now.function.now self.old.functions ≡ Some f }
         requires within { f < length self.old.functions.names }
         requires alone { (n : ℕ) → IsNamed f asked.now.unique.now self.old.jobs n → ⊥ }
         requires number { job ≡ self.old.jobs.next }
-        requires shared { IfSome shared.now (λ body. body ≡ asked.now.body.now) }
         ensures { Does self.old result self.new (make self.old.config slot (submission_of asked.now) (Some job)) }
     {
         self.prepare_created(slot, job)?;
-        self.add(slot, asked, f, shared)?;
+        self.add(slot, asked, f)?;
         self.send(slot);
         self.wake(f);
         Ok(())
@@ -248,16 +204,14 @@ impl Core {
         slot: u32,
         asked: &Submission<'_>,
         job: u64,
-        shared: &Option<SharedBytes>,
     ) -> Result<(), AllocError>
         requires open { IsOpen self.old.conns slot }
         requires new { number_of asked.now.function.now self.old.functions ≡ None }
         requires number { job ≡ self.old.jobs.next }
-        requires shared { IfSome shared.now (λ body. body ≡ asked.now.body.now) }
         ensures { Does self.old result self.new (make self.old.config slot (submission_of asked.now) (Some job)) }
     {
         self.prepare_created(slot, job)?;
-        let f = self.add_with_new_function(slot, asked, shared)?;
+        let f = self.add_with_new_function(slot, asked)?;
         self.send(slot);
         self.wake(f);
         Ok(())
@@ -268,11 +222,9 @@ impl Core {
         &mut self,
         slot: u32,
         asked: &Submission<'_>,
-        shared: &Option<SharedBytes>,
     ) -> Result<u32, AllocError>
         requires open { IsOpen self.old.conns slot }
         requires new { number_of asked.now.function.now self.old.functions ≡ None }
-        requires shared { IfSome shared.now (λ body. body ≡ asked.now.body.now) }
         ensures goes { OnOk result (Goes self.old self.new (λ past. add_job slot (submission_of asked.now) self.old.jobs.next (with_note (Mention asked.now.function.now) past))) }
         ensures wanting { OnErr result (Goes self.old self.new (λ past. past)) }
         ensures conns { self.new.conns ≡ self.old.conns }
@@ -288,7 +240,7 @@ impl Core {
             self.functions.unmention();
             return Err(AllocError);
         }
-        match self.add(slot, asked, f, shared) {
+        match self.add(slot, asked, f) {
             Ok(()) => Ok(f),
             Err(wanting) => {
                 self.functions.unmention();
@@ -303,12 +255,10 @@ impl Core {
         slot: u32,
         asked: &Submission<'_>,
         f: u32,
-        shared: &Option<SharedBytes>,
     ) -> Result<(), AllocError>
         requires open { IsOpen self.old.conns slot }
         requires found { number_of asked.now.function.now self.old.functions ≡ Some f }
         requires alone { (n : ℕ) → IsNamed f asked.now.unique.now self.old.jobs n → ⊥ }
-        requires shared { IfSome shared.now (λ body. body ≡ asked.now.body.now) }
         ensures does { Does self.old result self.new (add_job slot (submission_of asked.now) self.old.jobs.next) }
         ensures conns { self.new.conns ≡ self.old.conns }
         ensures text { self.new.text ≡ self.old.text }
@@ -319,9 +269,8 @@ impl Core {
         ensures err { OnErr result (self.new.functions ≡ self.old.functions) }
         ensures roomed { OnErr result (self.new.jobs ≡ record self.old.jobs { room = self.new.jobs.room }) }
     {
-        let body = another(shared)?;
-        let body_len = own_len(asked.body, &body);
-        let Ok(()) = self.jobs.reserve(f, asked.unique.len(), body_len) else {
+        let (shared, body) = asked.body.keep();
+        let Ok(()) = self.jobs.reserve(f, asked.unique.len(), body.len()) else {
             return Err(AllocError);
         };
         self.functions.reserve_one(f, asked.priority)?;
@@ -329,11 +278,11 @@ impl Core {
             f,
             p: asked.priority,
             unique: asked.unique,
-            body: asked.body,
+            body,
             kept: asked.background,
             listener: first_listener(asked.background, slot),
         };
-        let job = insert(&mut self.jobs, new, body);
+        let job = self.jobs.insert(new, shared);
         self.functions.push(f, asked.priority, job);
         Ok(())
     }
@@ -349,6 +298,8 @@ impl Core {
         ensures jobs { self.new.jobs ≡ self.old.jobs }
     {
         let handle = handle(self.alloc, &self.config, job)?;
-        self.prepare(slot, &Response::JobCreated { handle: &handle })
+        let response = Response::JobCreated { handle: &handle };
+        prepare(&mut self.conns, &mut self.text, slot, &response, None)?;
+        Ok(())
     }
 }

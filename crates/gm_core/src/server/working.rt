@@ -12,39 +12,16 @@ ghost use Rattle.gm_notes.specs.Past.{Past, with_note, tell_all};
 ghost use Rattle.gm_notes.specs.declared.note.Note.TheVariants.{Ended};
 ghost use Rattle.gm_notes.specs.Workers.{hearers, keep_report, end_if, tell_work, work};
 ghost use Rattle.gm_actions.specs.Actions.{said_report, work_of};
-ghost use Rattle.gm_actions.specs.Endings.{SaidEndsIn};
-ghost use Rattle.gm_core.specs.Writing.{EndsWith};
 ghost use Rattle.gm_core.specs.Ticks.{OthersStay};
 ghost use Rattle.gm_core.specs.Telling.{hears, needed, IsRunning, running_there};
 
 use super::Core;
-use super::serving::shared_end;
 use crate::telling::{queue_each, reserve_each};
 use gm_actions::{Refusal, Report, Said};
 use gm_bytes::SharedBytes;
-use gm_jobs::Jobs;
 use gm_notes::Priority;
-use gm_packet::{Response, response_fits};
+use gm_packet::response_fits;
 use std::alloc::AllocError;
-
-/// The body of a job, if that is shared.
-fn body_of(jobs: &Jobs, job: u64) -> Option<SharedBytes> {
-    jobs.by_number(job)?.shared_body()?.suffix(0).ok()
-}
-
-/// The bytes that a worker passes on, at the end of shared data; none where they aren't shared.
-fn shared_body(said: &Said<'_>, whole: Option<&SharedBytes>) -> Option<SharedBytes>
-    requires { IfSome whole (λ shared. SaidEndsIn said.now shared.now) }
-    ensures { IfSome result (λ body. EndsWith body (answer_of said.now.response)) }
-{
-    match said.response {
-        Response::WorkData { body, .. } => shared_end(body, whole),
-        Response::WorkWarning { body, .. } => shared_end(body, whole),
-        Response::WorkException { body, .. } => shared_end(body, whole),
-        Response::WorkComplete { body, .. } => shared_end(body, whole),
-        _ => None,
-    }
-}
 
 impl Core {
     ghost use Rattle.gm_core.specs.Holds.{Keeps, Goes, Does};
@@ -55,14 +32,13 @@ impl Core {
         slot: u32,
         handle: &[u8],
         said: &Said<'_>,
-        whole: Option<&SharedBytes>,
+        freed: &mut Option<SharedBytes>,
     ) -> Result<(), AllocError>
         requires open { IsOpen self.old.conns slot }
-        requires whole { IfSome whole (λ shared. SaidEndsIn said.now shared.now) }
         ensures { Does self.old result self.new (work self.old.config slot handle.now (work_of said.now)) }
     {
         match self.running_at(slot, handle) {
-            Some(job) => self.tell_work(job, said, whole),
+            Some(job) => self.tell_work(job, said, freed),
             None => self.refuse(slot, Refusal::JobNotFound),
         }
     }
@@ -85,9 +61,7 @@ impl Core {
         &mut self,
         job: u64,
         said: &Said<'_>,
-        whole: Option<&SharedBytes>,
     ) -> Result<(), AllocError>
-        requires { IfSome whole (λ shared. SaidEndsIn said.now shared.now) }
         ensures goes { Goes self.old self.new (λ past. past) }
         ensures text { OnOk result (self.new.text ≡ answer_packet (answer_of said.now.response)) }
         ensures room { OnOk result ((c : ℕ) → needed (length self.new.text) c (filter (hears self.new.conns said.now.exceptions_only) (listeners_of (job_of self.new.jobs job))) ≤ (conn self.new.conns c).room) }
@@ -96,8 +70,7 @@ impl Core {
         if !response_fits(&said.response) {
             return Err(AllocError);
         }
-        let body = shared_body(said, whole);
-        self.text.write(&said.response, body.as_ref())?;
+        self.text.write(&said.response, said.body.as_ref())?;
         let len = self.text.len()?;
         let slots = self.jobs.listeners(job);
         reserve_each(&mut self.conns, slots, said.exceptions_only, len)
@@ -135,25 +108,25 @@ impl Core {
         &mut self,
         job: u64,
         said: &Said<'_>,
-        whole: Option<&SharedBytes>,
+        freed: &mut Option<SharedBytes>,
     ) -> Result<(), AllocError>
         requires runs { IsRunning (job_of self.old.jobs job) }
-        requires whole { IfSome whole (λ shared. SaidEndsIn said.now shared.now) }
         ensures { Does self.old result self.new (tell_work (work_of said.now) job) }
     {
-        self.prepare_each(job, said, whole)?;
+        self.prepare_each(job, said)?;
         self.keep_report(job, said.report)?;
         self.tell_each(job, said.exceptions_only);
-        self.end_if(job, said.ends);
+        self.end_if(job, said.ends, freed);
         Ok(())
     }
 
-    /// A running job ends, if so. It needs no memory.
-    fn end_if(&mut self, job: u64, ends: bool)
+    /// A running job ends, if so. It needs no memory. Whoever frees its body later owns it too.
+    fn end_if(&mut self, job: u64, ends: bool, freed: &mut Option<SharedBytes>)
         requires { IsRunning (job_of self.old.jobs job) }
         ensures { Goes self.old self.new (end_if ends job) }
     {
         if ends {
+            *freed = self.body_of(job);
             self.end(job);
         }
     }
@@ -167,10 +140,14 @@ impl Core {
         ensures jobs { OthersStay job self.old.jobs self.new.jobs }
     {
         if let Some((f, priority)) = self.queue_of_running(job) {
-            self.ended = body_of(&self.jobs, job);
             self.functions.release(f, priority);
             self.jobs.end(job);
         }
+    }
+
+    /// The body of a job, if that is shared.
+    fn body_of(&self, job: u64) -> Option<SharedBytes> {
+        self.jobs.by_number(job)?.data().share()
     }
 
     /// The function and the priority in whose queue room is reserved for a running job; there is one.

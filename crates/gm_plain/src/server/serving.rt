@@ -8,6 +8,7 @@ ghost use Rattle.gm_actions.specs.Actions.{act, IsNamed, CanBeTold};
 
 use super::PlainServer;
 use gm_actions::Action;
+use gm_bytes::Data;
 use gm_packet::Response;
 use std::alloc::AllocError;
 
@@ -18,7 +19,7 @@ impl PlainServer {
         requires size { length bytes.now ≤ 1073741824 }
         ensures { Does self.old result self.new (packet_of self.old.config slot (kind_of kind) bytes.now) }
     {
-        match Action::read(kind, bytes) {
+        match Action::read(kind, &Data::lent(bytes)) {
             Ok(action) => self.act(slot, &action),
             Err(refusal) => self.refuse(slot, refusal),
         }
@@ -40,7 +41,10 @@ impl PlainServer {
             Action::Submit(asked) => self.submit(slot, &asked),
             Action::Tell(about) => self.work(slot, about.handle, &about.said),
             Action::GetStatus { handle } => self.tell_status(slot, handle),
-            Action::Echo { body } => self.give(slot, &Response::EchoRes { body }),
+            Action::Echo { body } => {
+                let body = body.as_slice();
+                self.give(slot, &Response::EchoRes { body })
+            }
             Action::SetClientId { id } => self.set_client_id(slot, id),
             Action::SetOption { name } => self.set_option(slot, name),
             Action::Nothing => Ok(()),

@@ -23,7 +23,7 @@ impl PlainServer {
     pub(super) fn submit(&mut self, slot: u32, asked: &Submission<'_>) -> Result<(), AllocError>
         requires slot { slot < self.old.config.slots }
         requires named { is_bad_name asked.now.function.now ≡ false }
-        requires carried { IsCarried asked.now.function.now asked.now.unique.now asked.now.body.now }
+        requires carried { IsCarried asked.now.function.now asked.now.unique.now asked.now.body.bytes.now }
         ensures { Does self.old result self.new (submit self.old.config slot (submission_of asked.now)) }
     {
         match joined(&self.log, asked.function, asked.unique) {
@@ -44,7 +44,7 @@ impl PlainServer {
 
     fn make_new(&mut self, slot: u32, asked: &Submission<'_>) -> Result<(), AllocError>
         requires slot { slot < self.old.config.slots }
-        requires carried { IsCarried asked.now.function.now asked.now.unique.now asked.now.body.now }
+        requires carried { IsCarried asked.now.function.now asked.now.unique.now asked.now.body.bytes.now }
         ensures { Does self.old result self.new (join_or_make self.old.config slot (submission_of asked.now) None) }
     {
         if is_one_too_many(&self.log, &self.config, asked.function) {
@@ -61,14 +61,14 @@ impl PlainServer {
 
     fn make(&mut self, slot: u32, asked: &Submission<'_>, job: u64) -> Result<(), AllocError>
         requires slot { slot < self.old.config.slots }
-        requires carried { IsCarried asked.now.function.now asked.now.unique.now asked.now.body.now }
+        requires carried { IsCarried asked.now.function.now asked.now.unique.now asked.now.body.bytes.now }
         requires number { next_number self.old.config self.old.log.notes ≡ Some job }
         ensures { Does self.old result self.new (make self.old.config slot (submission_of asked.now) (Some job)) }
     {
         let mention = Text::copy_of(self.alloc, asked.function)?;
         let function = Text::copy_of(self.alloc, asked.function)?;
         let unique = Text::copy_of(self.alloc, asked.unique)?;
-        let body = Text::copy_of(self.alloc, asked.body)?;
+        let body = Text::copy_of(self.alloc, asked.body.as_slice())?;
         self.make_room(4)?;
         self.give_created(slot, job)?;
         self.mention(mention);

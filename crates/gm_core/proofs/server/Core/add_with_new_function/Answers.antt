@@ -1,10 +1,23 @@
 use Rattle.std.proofs.Common.{◌≡◌, ◌≢◌, length, refl, sym, subst, ◌∙◌, take, ◌-◌}
 use Rattle.gm_queues.specs.FunctionTables.{Table, number_of, IsFree, ChangesNames}
 use Rattle.gm_core.proofs.FunctionLemmas.{is_none_of, some_same}
-use Rattle.gm_core.proofs.MentionLemmas.{taken_back, number_here}
+use Rattle.gm_core.proofs.MentionLemmas.{taken_back, number_here, freed}
 use Rattle.gm_core.proofs.CoreLemmas.{goes_then, goes_mention, goes_back}
 use Rattle.gm_core.proofs.AddLemmas.{goes_undone}
 use Rattle.gm_core.proofs.server.Core.add_with_new_function.Goals as goal
+
+pub unmention-requires-clause-free : goal.unmention-requires-clause-free
+unmention-requires-clause-free c =
+    let name = c.args.asked.now.function.now in
+    let none = is_none_of (number_of name c.args.self.now.functions) c.requires.new in
+    freed c.args.self.now.functions c.mention.new.self name c.in-Ok.f c.requires.new (c.in-Ok.ensures.fresh none) c.in-Ok.ensures.found (c.in-Ok.ensures.free none)
+
+pub unmention-requires-in-Err-clause-free : goal.unmention-requires-in-Err-clause-free
+unmention-requires-in-Err-clause-free c =
+    let name = c.args.asked.now.function.now in
+    let none = is_none_of (number_of name c.args.self.now.functions) c.requires.new in
+    subst (λ (t : Table). IsFree (length t.names - 1) t) (sym c.in-Err.ensures.err)
+    (freed c.args.self.now.functions c.mention.new.self name c.in-Ok.f c.requires.new (c.in-Ok.ensures.fresh none) c.in-Ok.ensures.found (c.in-Ok.ensures.free none))
 
 pub returns-then-is_some-clause-wanting : goal.returns-then-is_some-clause-wanting
 returns-then-is_some-clause-wanting c =

@@ -9,8 +9,8 @@ use Rattle.gm_core.proofs.server.Core.prepare_assigned.Goals as goal
 
 pub returns-clause-goes : goal.returns-clause-goes
 returns-clause-goes c =
-    goes_room {old = c.args.self.now} {new = record c.args.self.now { conns = c.prepare_at.new.conns; text = c.prepare_at.new.text }} c.args.slot
-    (record { config = refl; functions = refl; jobs = refl; moment = refl; mode = refl }) (length c.prepare_at.new.text) c.in_ok-prepare_at.ensures.conns
+    goes_room {old = c.args.self.now} {new = record c.args.self.now { conns = c.prepare.new.conns; text = c.prepare.new.text }} c.args.slot
+    (record { config = refl; functions = refl; jobs = refl; moment = refl; mode = refl }) (length c.prepare.new.text) c.in_ok-prepare.ensures.conns
 
 pub returns-clause-text : goal.returns-clause-text
 returns-clause-text c live at =
@@ -22,6 +22,6 @@ returns-clause-text c live at =
     let priority : c.p.result ≡ live.priority = c.p.ensures ∙ ap (λ (l : Live). l.priority) is in
     let unique : c.unique.result.now ≡ live.unique = c.unique.ensures ∙ ap (λ (l : Live). l.unique) is in
     let body : c.body.result.now ≡ live.body = c.body.ensures ∙ ap (λ (l : Live). l.body) is in
-    c.in_ok-prepare_at.ensures.text
+    c.in_ok-prepare.ensures.text
     ∙ (ap answer_packet (c.assignment-response.ensures.value core.config n (c.deref.ensures.value ∙ c.in_ok-handle.ensures.value))
     ∙ (λ i. answer_packet (assignment core.config c.args.with_unique n (record { function = function i; priority = priority i; unique = unique i; body = body i }))))

@@ -18,8 +18,7 @@ returns c answer same ends =
     let short = answer_of c.args.bare.now in
     let items : c.write_response.new.out.items ≡ answer_packet short =
     c.in_ok-write_response.ensures.ok ∙ ap (λ (l : List ℕ). l ++ answer_packet short) c.clear.ensures.items in
-    let count : length c.as_slice.result.now ≡ length c.args.body.now = ap length c.as_slice.ensures in
-    ap (λ (l : List ℕ). c.lengthen.new.packet.items ++ l) c.in_ok-suffix.ensures
-    ∙ written_over answer short c.args.body.now c.lengthen.new.packet.items same ends
+    let count : length c.as_slice.result.now ≡ length c.args.body = ap length c.as_slice.ensures in
+    written_over answer short c.args.body c.lengthen.new.packet.items same ends
     (c.in_ok-lengthen.ensures
     ∙ ap₂ (λ (l : List ℕ) (n : ℕ). take 8 l ++ to_be_bytes w32 ((length l - 12) + n) ++ drop 12 l) items count)

@@ -19,5 +19,5 @@ returns c =
     goes_as (make c.args.self.now.config c.args.slot s (Some c.args.job))
     (goes_then (goes_then (goes_then (goes_then (goes_then c.make_room.ensures.goes c.in_ok-give_created.ensures.does) c.mention-2.ensures.goes) c.note.ensures.goes) c.keep_or_listen.ensures) c.wake.ensures.goes)
     (λ p keeps.
-    rw (c.keep_or_listen.ensures.config, c.note.ensures.goes.config, c.mention-2.ensures.goes.config, c.in_ok-give_created.ensures.does.config, c.make_room.ensures.goes.config, c.in_ok-mention.ensures, c.in_ok-function.ensures, c.in_ok-unique.ensures, c.in_ok-body.ensures)
+    rw (c.keep_or_listen.ensures.config, c.note.ensures.goes.config, c.mention-2.ensures.goes.config, c.in_ok-give_created.ensures.does.config, c.make_room.ensures.goes.config, c.in_ok-mention.ensures, c.in_ok-function.ensures, c.in_ok-unique.ensures, c.in_ok-body.ensures, c.as_slice.ensures)
     (make_is c.args.self.now.config c.args.slot s c.args.job p))

@@ -8,8 +8,8 @@ use Rattle.gm_jobs.specs.Listening.{Heard}
 use Rattle.gm_jobs.specs.Uniques.{LeadsTo, digest_of}
 use Rattle.gm_jobs.proofs.UniqueLemmas.{leads_same}
 use Rattle.gm_jobs.proofs.JobLemmas.{beside, kept_made, next_absent, next_is, listed_heard}
-use Rattle.gm_jobs.proofs.jobs.Jobs.make.Goals as goal
-use Rattle.gm_jobs.proofs.jobs.Jobs.make.Goals.{After-begin}
+use Rattle.gm_jobs.proofs.jobs.Jobs.insert.Goals as goal
+use Rattle.gm_jobs.proofs.jobs.Jobs.insert.Goals.{After-begin}
 
 number : (c : After-begin) → (beside c.self.inside).next ≡ c.unwrap-number.result
 number c = ap (λ o. unwrap_or o (2 ^ 64)) c.unwrap-number.ensures
