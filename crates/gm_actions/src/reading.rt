@@ -25,7 +25,7 @@ use gm_notes::Priority;
 use gm_packet::{Kind, Request, Response};
 
 /// Why data that spell nothing are refused.
-fn fault(kind: u32) -> Refusal
+fn find_fault(kind: u32) -> Refusal
     ensures { result ≡ unread (kind_of kind) }
 {
     match Kind::of(kind) {
@@ -49,7 +49,7 @@ fn is_option(name: &[u8]) -> bool
 }
 
 /// What a request submits in the foreground.
-fn in_foreground<'a>(request: &Request<'a>, bytes: &Data<'a>) -> Option<Submission<'a>>
+fn read_foreground<'a>(request: &Request<'a>, bytes: &Data<'a>) -> Option<Submission<'a>>
     requires { IsSpelledBy (asked_of request.now) bytes.now.bytes.now }
     ensures value { option_map submission_of result ≡ foreground_by request.now }
     ensures carried { HasCome (asked_of request.now) → IfSome result (λ s. IsCarried s.function.now s.unique.now s.body.bytes.now) }
@@ -93,7 +93,7 @@ fn in_foreground<'a>(request: &Request<'a>, bytes: &Data<'a>) -> Option<Submissi
 }
 
 /// What a request submits in the background.
-fn in_background<'a>(request: &Request<'a>, bytes: &Data<'a>) -> Option<Submission<'a>>
+fn read_background<'a>(request: &Request<'a>, bytes: &Data<'a>) -> Option<Submission<'a>>
     requires { IsSpelledBy (asked_of request.now) bytes.now.bytes.now }
     ensures value { option_map submission_of result ≡ background_by request.now }
     ensures carried { HasCome (asked_of request.now) → IfSome result (λ s. IsCarried s.function.now s.unique.now s.body.bytes.now) }
@@ -137,7 +137,7 @@ fn in_background<'a>(request: &Request<'a>, bytes: &Data<'a>) -> Option<Submissi
 }
 
 /// A packet about a job that is passed on to its listeners, with this body.
-fn passing<'a>(handle: &'a [u8], response: Response<'a>, body: Data<'a>) -> About<'a>
+fn pass_on<'a>(handle: &'a [u8], response: Response<'a>, body: Data<'a>) -> About<'a>
     requires { EndsWith body.bytes.now (answer_of response) }
     ensures handle { result.handle.now ≡ handle.now }
     ensures response { result.said.response ≡ response.entry }
@@ -154,7 +154,7 @@ fn passing<'a>(handle: &'a [u8], response: Response<'a>, body: Data<'a>) -> Abou
 }
 
 /// A packet about a job that ends it, with this body.
-fn ending<'a>(handle: &'a [u8], response: Response<'a>, body: Option<Data<'a>>) -> About<'a>
+fn end_with<'a>(handle: &'a [u8], response: Response<'a>, body: Option<Data<'a>>) -> About<'a>
     requires { ForSome body (λ body. EndsWith body.bytes.now (answer_of response)) }
     ensures handle { result.handle.now ≡ handle.now }
     ensures response { result.said.response ≡ response.entry }
@@ -171,7 +171,7 @@ fn ending<'a>(handle: &'a [u8], response: Response<'a>, body: Option<Data<'a>>) 
 }
 
 /// What a request says of a job that runs.
-fn said_in<'a>(request: &Request<'a>, bytes: &Data<'a>) -> Option<About<'a>>
+fn read_work<'a>(request: &Request<'a>, bytes: &Data<'a>) -> Option<About<'a>>
     requires { IsSpelledBy (asked_of request.now) bytes.now.bytes.now }
     ensures value { option_map about_of result ≡ said_by request.now }
 {
@@ -200,9 +200,9 @@ fn said_in<'a>(request: &Request<'a>, bytes: &Data<'a>) -> Option<About<'a>>
             About { handle, said }
         }
         Request::WorkData { handle, body } => {
-            passing(handle, Response::WorkData { handle, body }, bytes.end(body))
+            pass_on(handle, Response::WorkData { handle, body }, bytes.end(body))
         }
-        Request::WorkWarning { handle, body } => passing(
+        Request::WorkWarning { handle, body } => pass_on(
             handle,
             Response::WorkWarning { handle, body },
             bytes.end(body),
@@ -219,15 +219,15 @@ fn said_in<'a>(request: &Request<'a>, bytes: &Data<'a>) -> Option<About<'a>>
         }
         Request::WorkComplete { handle, body } => {
             let response = Response::WorkComplete { handle, body };
-            ending(handle, response, Some(bytes.end(body)))
+            end_with(handle, response, Some(bytes.end(body)))
         }
-        Request::WorkFail { handle } => ending(handle, Response::WorkFail { handle }, None),
+        Request::WorkFail { handle } => end_with(handle, Response::WorkFail { handle }, None),
         _ => return None,
     })
 }
 
 /// A function that a worker can do, if it can be one.
-fn able<'a>(function: &'a [u8], timeout: u32) -> Result<Action<'a>, Refusal>
+fn check_can_do<'a>(function: &'a [u8], timeout: u32) -> Result<Action<'a>, Refusal>
     ensures does { (k : Settings) (c : ℕ) (past : Past) → acted k c result past ≡ can_do k c function.now timeout past }
     ensures named { IfOk result IsNamed }
     ensures told { IfOk result CanBeTold }
@@ -240,7 +240,7 @@ fn able<'a>(function: &'a [u8], timeout: u32) -> Result<Action<'a>, Refusal>
 }
 
 /// A function that a worker can't do any longer, if it can be one.
-fn unable<'a>(function: &'a [u8]) -> Result<Action<'a>, Refusal>
+fn check_cant_do<'a>(function: &'a [u8]) -> Result<Action<'a>, Refusal>
     ensures does { (k : Settings) (c : ℕ) (past : Past) → acted k c result past ≡ cant_do c function.now past }
     ensures named { IfOk result IsNamed }
     ensures told { IfOk result CanBeTold }
@@ -253,7 +253,7 @@ fn unable<'a>(function: &'a [u8]) -> Result<Action<'a>, Refusal>
 }
 
 /// An option that is set, if there is one of this name.
-fn option<'a>(name: &'a [u8]) -> Result<Action<'a>, Refusal>
+fn check_option<'a>(name: &'a [u8]) -> Result<Action<'a>, Refusal>
     ensures does { (k : Settings) (c : ℕ) (past : Past) → acted k c result past ≡ set_option c name.now past }
     ensures named { IfOk result IsNamed }
     ensures told { IfOk result CanBeTold }
@@ -266,7 +266,7 @@ fn option<'a>(name: &'a [u8]) -> Result<Action<'a>, Refusal>
 }
 
 /// A submission, if its function can be one.
-fn submitted<'a>(asked: Submission<'a>) -> Result<Action<'a>, Refusal>
+fn check_submission<'a>(asked: Submission<'a>) -> Result<Action<'a>, Refusal>
     ensures does { (k : Settings) (c : ℕ) (past : Past) → acted k c result past ≡ submit k c (submission_of asked.entry) past }
     ensures named { IfOk result IsNamed }
     ensures told { IsCarried asked.entry.function.now asked.entry.unique.now asked.entry.body.bytes.now → IfOk result CanBeTold }
@@ -279,7 +279,7 @@ fn submitted<'a>(asked: Submission<'a>) -> Result<Action<'a>, Refusal>
 }
 
 /// What a request asks that is neither a submission nor about a job that runs.
-fn other<'a>(request: &Request<'a>, bytes: &Data<'a>) -> Result<Action<'a>, Refusal>
+fn read_other<'a>(request: &Request<'a>, bytes: &Data<'a>) -> Result<Action<'a>, Refusal>
     requires spelled { IsSpelledBy (asked_of request.now) bytes.now.bytes.now }
     requires no_foreground { foreground_by request.now ≡ None }
     requires no_background { background_by request.now ≡ None }
@@ -290,9 +290,9 @@ fn other<'a>(request: &Request<'a>, bytes: &Data<'a>) -> Result<Action<'a>, Refu
     ensures memory { needs_no_memory (asked_of request.now).kind ≡ true → ActsWithoutMemory result }
 {
     match *request {
-        Request::CanDo { function } => able(function, 0),
-        Request::CanDoTimeout { function, timeout } => able(function, timeout),
-        Request::CantDo { function } => unable(function),
+        Request::CanDo { function } => check_can_do(function, 0),
+        Request::CanDoTimeout { function, timeout } => check_can_do(function, timeout),
+        Request::CantDo { function } => check_cant_do(function),
         Request::ResetAbilities => Ok(Action::ResetAbilities),
         Request::PreSleep => Ok(Action::PreSleep),
         Request::GrabJob => Ok(Action::Grab { with_unique: false }),
@@ -303,28 +303,28 @@ fn other<'a>(request: &Request<'a>, bytes: &Data<'a>) -> Result<Action<'a>, Refu
             Ok(Action::Echo { body })
         }
         Request::SetClientId { id } => Ok(Action::SetClientId { id }),
-        Request::OptionReq { name } => option(name),
+        Request::OptionReq { name } => check_option(name),
         _ => Ok(Action::Nothing),
     }
 }
 
 /// What a request asks, or why it is refused whatever the server holds.
-fn asked<'a>(request: &Request<'a>, bytes: &Data<'a>) -> Result<Action<'a>, Refusal>
+fn read_request<'a>(request: &Request<'a>, bytes: &Data<'a>) -> Result<Action<'a>, Refusal>
     requires { IsSpelledBy (asked_of request.now) bytes.now.bytes.now }
     ensures does { (k : Settings) (c : ℕ) (past : Past) → acted k c result past ≡ serve k c (asked_of request.now) past }
     ensures named { IfOk result IsNamed }
     ensures told { HasCome (asked_of request.now) → IfOk result CanBeTold }
     ensures memory { needs_no_memory (asked_of request.now).kind ≡ true → ActsWithoutMemory result }
 {
-    if let Some(found) = in_foreground(request, bytes) {
-        return submitted(found);
+    if let Some(found) = read_foreground(request, bytes) {
+        return check_submission(found);
     }
-    if let Some(found) = in_background(request, bytes) {
-        return submitted(found);
+    if let Some(found) = read_background(request, bytes) {
+        return check_submission(found);
     }
-    match said_in(request, bytes) {
+    match read_work(request, bytes) {
         Some(about) => Ok(Action::Tell(about)),
-        None => other(request, bytes),
+        None => read_other(request, bytes),
     }
 }
 
@@ -337,8 +337,8 @@ impl<'a> Action<'a> {
         ensures memory { NeedsNoMemory kind bytes.now.bytes.now → ActsWithoutMemory result }
     {
         match Request::read(kind, bytes.as_slice()) {
-            Ok(request) => asked(&request, bytes),
-            Err(_) => Err(fault(kind)),
+            Ok(request) => read_request(&request, bytes),
+            Err(_) => Err(find_fault(kind)),
         }
     }
 }

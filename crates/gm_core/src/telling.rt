@@ -12,7 +12,7 @@ use gm_conns::Conns;
 use std::alloc::AllocError;
 
 /// Whether a slot hears: it is open, and wants exceptions where only those who do hear.
-fn hears(conns: &Conns, slot: u32, exceptions_only: bool) -> bool
+fn can_hear(conns: &Conns, slot: u32, exceptions_only: bool) -> bool
     ensures value { result ≡ hears conns.now exceptions_only slot }
     ensures open { IsTrue result → IsOpen conns.now slot }
 {
@@ -29,7 +29,7 @@ fn reserve_one(
     ensures roomed { Roomed conns.old conns.new }
     ensures room { OnOk result (IsTrue (hears conns.old exceptions_only slot) → (conn conns.old slot).room + count ≤ (conn conns.new slot).room) }
 {
-    if !hears(conns, slot, exceptions_only) {
+    if !can_hear(conns, slot, exceptions_only) {
         return Ok(());
     }
     let room = conns.room(slot).checked_add(count).ok_or(AllocError)?;
@@ -60,7 +60,7 @@ pub(crate) fn put_each(conns: &mut Conns, slots: &[u32], exceptions_only: bool, 
         → HoldsConns k conns.new names facts (poured text.now (filter (hears conns.old exceptions_only) slots.now) bytes) }
 {
     for slot in slots {
-        if hears(conns, *slot, exceptions_only) {
+        if can_hear(conns, *slot, exceptions_only) {
             text.put(conns, *slot);
         }
     }
@@ -78,7 +78,7 @@ fn append_each(conns: &mut Conns, slots: &[u32], exceptions_only: bool, text: &m
         return;
     };
     put_each(conns, others, exceptions_only, text);
-    if hears(conns, *last, exceptions_only) {
+    if can_hear(conns, *last, exceptions_only) {
         text.append(conns, *last);
     }
 }

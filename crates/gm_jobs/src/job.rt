@@ -153,7 +153,7 @@ impl Model for Job {
 }
 
 /// Whether a unique id names a job: it isn't empty, and no dash.
-pub(crate) fn joins(unique: &[u8]) -> bool
+pub(crate) fn is_joining(unique: &[u8]) -> bool
     ensures { result ≡ joins unique.now }
 {
     !unique.is_empty() && unique != b"-".as_slice()

@@ -11,7 +11,7 @@ ghost use Rattle.gm_jobs.specs.Uniques.{LeadsTo};
 
 use crate::by_number::JobMap;
 use crate::deadlines::Deadlines;
-use crate::job::{Change, Job, NewJob, ORPHANS, Query, Reservation, joins};
+use crate::job::{Change, Job, NewJob, ORPHANS, Query, Reservation, is_joining};
 use crate::listening::Listening;
 use crate::uniques::{Uniques, digest};
 use gm_bytes::SharedBytes;
@@ -215,7 +215,7 @@ impl Jobs {
         ensures only { IfSome result (λ n. (m : ℕ) → IsNamed f unique.now self.now m → m ≡ n) }
         ensures none { IfNone result ((n : ℕ) → IsNamed f unique.now self.now n → ⊥) }
     {
-        if !joins(unique) {
+        if !is_joining(unique) {
             return None;
         }
         self.uniques

@@ -8,7 +8,7 @@ ghost use Rattle.gm_jobs.specs.Tables.{find_job, passes};
 ghost use Rattle.gm_jobs.specs.Uniques.{digest_of, LeadsTo};
 
 use crate::by_number::{JobMap, NumberHash};
-use crate::job::joins;
+use crate::job::is_joining;
 use indexmap::IndexMap;
 use std::alloc::{AllocError, Global};
 use std::hash::{BuildHasher, Hasher, RandomState};
@@ -129,7 +129,7 @@ impl Uniques {
         ensures stands { joins unique.now ≡ true → LeadsTo self.new (digest_of seed.now f unique.now) number }
         ensures kept { (d n : ℕ) → LeadsTo self.old d n → LeadsTo self.new d n }
     {
-        if joins(unique) {
+        if is_joining(unique) {
             self.put(digest(seed, f, unique), number);
         }
     }
@@ -152,7 +152,7 @@ impl Uniques {
         ensures room { self.old.room ≤ self.new.room }
     {
         if let Some(job) = jobs.get(number) {
-            if joins(job.unique()) {
+            if is_joining(job.unique()) {
                 self.take(digest(seed, job.f(), job.unique()), number);
             }
         }

@@ -46,7 +46,7 @@ pub fn is_shut(log: &Log, slot: u32) -> bool
 }
 
 /// Whether a slot takes units.
-pub fn takes_units(log: &Log, slot: u32) -> bool
+pub fn can_take_units(log: &Log, slot: u32) -> bool
     ensures value { result ≡ takes_units slot log.now.notes }
     ensures below { result ≡ true → slot < log.now.slots }
 {

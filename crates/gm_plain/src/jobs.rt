@@ -321,7 +321,7 @@ fn is_live_named(log: &Log, number: u64, function: &[u8], unique: &[u8]) -> bool
 }
 
 /// Whether a unique id joins jobs.
-fn joins(unique: &[u8]) -> bool
+fn is_joining(unique: &[u8]) -> bool
     ensures { result ≡ joins unique.now }
 {
     !unique.is_empty() && unique != b"-".as_slice()
@@ -331,7 +331,7 @@ fn joins(unique: &[u8]) -> bool
 pub fn joined(log: &Log, function: &[u8], unique: &[u8]) -> Option<u64>
     ensures { result ≡ joined function.now unique.now log.now.notes }
 {
-    if !joins(unique) {
+    if !is_joining(unique) {
         return None;
     }
     log.last_made(|job| is_live_named(log, job, function, unique))

@@ -253,8 +253,7 @@ impl<'s, K: BookName, R: Wait, G: Gate, N: Notify<R>> Session<'s, K, R, G, N> {
             return Err(SessionEnd::Memory);
         };
         let bytes = Data::shared(&data);
-        self.applier
-            .apply_unit(Event::Packet { slot, kind, bytes })
+        self.applier.apply_unit(Event::Packet { slot, kind, bytes })
     }
 
     /// Takes each unit that stands in the feeder, and the fault after them. Where the session is over, it says why. Where

@@ -195,7 +195,8 @@ impl Booked {
     {
         match *event {
             Event::Close { .. } => true,
-            Event::Packet { slot, kind, bytes } => asks_a_job(kind, bytes.as_slice()) && !self.core.shut(slot),
+            Event::Packet { slot, kind, bytes } => asks_a_job(kind, bytes.as_slice())
+                && !self.core.shut(slot),
             _ => false,
         }
     }

@@ -66,8 +66,7 @@ impl<K: BookName> Guarded<K> {
         ensures refused { IfErr result (λ _. (c : ℕ) → has touched.new c ≡ false) }
         ensures memory { NeedsNoMemory K.taped (step_of event.now) → IsErrOf result ApplyError.Memory → ⊥ }
     {
-        self.booked
-            .hold(table, desk, event, share, touched, freed)
+        self.booked.hold(table, desk, event, share, touched, freed)
     }
 
     /// `Booked::drain`, in one holding of the lock.

@@ -141,10 +141,14 @@ impl<K: BookName> Desk<K> {
     {
         let mut freed = None;
         let share = &mut self.share;
-        let result = shared
-            .book
-            .lock(rt)
-            .apply(&shared.table, self.number, &event, share, touched, &mut freed);
+        let result = shared.book.lock(rt).apply(
+            &shared.table,
+            self.number,
+            &event,
+            share,
+            touched,
+            &mut freed,
+        );
         drop(freed);
         result
     }

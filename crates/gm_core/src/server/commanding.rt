@@ -30,7 +30,7 @@ impl Core {
             → Answers k steps (Line slot bytes.now) result × CoreAgrees self.new k (steps_after result (Line slot bytes.now) steps) }
         ensures touched { AllTouched self.old.conns self.new.conns }
     {
-        if !self.takes_units(slot) {
+        if !self.can_take_units(slot) {
             return Err(ApplyError::NotOpen);
         }
         self.command(slot, bytes)?;
@@ -181,7 +181,7 @@ impl Core {
     fn shut_one(&mut self, slot: u32)
         ensures { Goes self.old self.new (shut_one slot) }
     {
-        if self.takes_units(slot) {
+        if self.can_take_units(slot) {
             self.conns.shut_down(slot);
         }
     }

@@ -34,7 +34,7 @@ impl Core {
             → Answers k steps (Fault slot fault) result × CoreAgrees self.new k (steps_after result (Fault slot fault) steps) }
         ensures touched { AllTouched self.old.conns self.new.conns }
     {
-        if !self.takes_units(slot) {
+        if !self.can_take_units(slot) {
             return Err(ApplyError::NotOpen);
         }
         let mut text = Vec::new(self.alloc);

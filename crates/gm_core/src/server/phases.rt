@@ -15,7 +15,7 @@ impl Core {
     ghost use Rattle.gm_core.specs.Holds.{Keeps, Goes, CoreAgrees};
 
     /// Whether a slot takes units.
-    pub(super) fn takes_units(&self, slot: u32) -> bool
+    pub(super) fn can_take_units(&self, slot: u32) -> bool
         ensures value { (past : Past) → Keeps self.now past → result ≡ takes_units slot past.notes }
         ensures open { IsTrue result → IsOpen self.now.conns slot }
     {

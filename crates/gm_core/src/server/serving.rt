@@ -46,7 +46,7 @@ impl Core {
         ensures memory { NeedsNoMemory kind bytes.now.bytes.now → IsErrOf result ApplyError.Memory → ⊥ }
         ensures touched { AllTouched self.old.conns self.new.conns }
     {
-        if !self.takes_units(slot) {
+        if !self.can_take_units(slot) {
             return Err(ApplyError::NotOpen);
         }
         let before = self.jobs.next_number();

@@ -40,11 +40,7 @@ impl Core {
     ghost use Rattle.gm_core.specs.Holds.{Keeps, Goes, Does};
 
     /// Joins a job, or makes one.
-    pub(super) fn submit(
-        &mut self,
-        slot: u32,
-        asked: &Submission<'_>,
-    ) -> Result<(), AllocError>
+    pub(super) fn submit(&mut self, slot: u32, asked: &Submission<'_>) -> Result<(), AllocError>
         requires open { IsOpen self.old.conns slot }
         requires named { is_bad_name asked.now.function.now ≡ false }
         ensures { Does self.old result self.new (submit self.old.config slot (submission_of asked.now)) }
@@ -250,12 +246,7 @@ impl Core {
     }
 
     /// A job comes to wait. No live job of the function has its unique id, if that joins.
-    fn add(
-        &mut self,
-        slot: u32,
-        asked: &Submission<'_>,
-        f: u32,
-    ) -> Result<(), AllocError>
+    fn add(&mut self, slot: u32, asked: &Submission<'_>, f: u32) -> Result<(), AllocError>
         requires open { IsOpen self.old.conns slot }
         requires found { number_of asked.now.function.now self.old.functions ≡ Some f }
         requires alone { (n : ℕ) → IsNamed f asked.now.unique.now self.old.jobs n → ⊥ }

@@ -57,11 +57,7 @@ impl Core {
     }
 
     /// Writes what is said of a job, and makes room for it at each connection that hears it.
-    fn prepare_each(
-        &mut self,
-        job: u64,
-        said: &Said<'_>,
-    ) -> Result<(), AllocError>
+    fn prepare_each(&mut self, job: u64, said: &Said<'_>) -> Result<(), AllocError>
         ensures goes { Goes self.old self.new (λ past. past) }
         ensures text { OnOk result (self.new.text ≡ answer_packet (answer_of said.now.response)) }
         ensures room { OnOk result ((c : ℕ) → needed (length self.new.text) c (filter (hears self.new.conns said.now.exceptions_only) (listeners_of (job_of self.new.jobs job))) ≤ (conn self.new.conns c).room) }

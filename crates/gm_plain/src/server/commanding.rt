@@ -17,7 +17,7 @@ ghost use Rattle.gm_plain.specs.Logs.{Spends};
 ghost use Rattle.gm_actions.specs.Lines.{NamesFunction};
 
 use super::PlainServer;
-use crate::connections::{accepts_connections, takes_units};
+use crate::connections::{accepts_connections, can_take_units};
 use crate::jobs::is_one_too_many;
 use crate::lists::{status_text, workers_text};
 use gm_actions::read_line;
@@ -31,7 +31,7 @@ impl PlainServer {
         ensures { (k : Settings) (steps : List Step) → PlainAgrees self.old k steps
             → Answers k steps (Line slot bytes.now) result × PlainAgrees self.new k (steps_after result (Line slot bytes.now) steps) }
     {
-        if !takes_units(&self.log, slot) {
+        if !can_take_units(&self.log, slot) {
             return Err(ApplyError::NotOpen);
         }
         self.command(slot, bytes)?;
@@ -171,7 +171,7 @@ impl PlainServer {
         ensures goes { Goes self.old self.new (shut_one slot) }
         ensures room { Spends 1 self.old.log self.new.log }
     {
-        if takes_units(&self.log, slot) {
+        if can_take_units(&self.log, slot) {
             self.note(Note::Shut { slot });
         }
     }

@@ -8,7 +8,7 @@ ghost use Rattle.gm_notes.specs.Servers.{Answers, steps_after};
 ghost use Rattle.gm_plain.specs.Holds.{PlainAgrees};
 
 use super::PlainServer;
-use crate::connections::{accepts_connections, free_slot, is_open, is_owed, takes_units};
+use crate::connections::{accepts_connections, can_take_units, free_slot, is_open, is_owed};
 use crate::jobs::{count_made, newest};
 use gm_notes::{ApplyError, Done, Note, Text, UnitFault};
 
@@ -39,7 +39,7 @@ impl PlainServer {
         ensures { (k : Settings) (steps : List Step) → PlainAgrees self.old k steps
             → Answers k steps (Packet slot kind bytes.now) result × PlainAgrees self.new k (steps_after result (Packet slot kind bytes.now) steps) }
     {
-        if !takes_units(&self.log, slot) {
+        if !can_take_units(&self.log, slot) {
             return Err(ApplyError::NotOpen);
         }
         let before = count_made(&self.log);
@@ -59,7 +59,7 @@ impl PlainServer {
         ensures { (k : Settings) (steps : List Step) → PlainAgrees self.old k steps
             → Answers k steps (Fault slot fault) result × PlainAgrees self.new k (steps_after result (Fault slot fault) steps) }
     {
-        if !takes_units(&self.log, slot) {
+        if !can_take_units(&self.log, slot) {
             return Err(ApplyError::NotOpen);
         }
         self.make_room(1)?;

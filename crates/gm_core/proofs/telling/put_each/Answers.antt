@@ -7,7 +7,7 @@ use Rattle.gm_core.specs.Telling.{hears, poured, needed}
 use Rattle.gm_core.proofs.ConnLemmas.{touched_then, touched_told}
 use Rattle.gm_core.proofs.TellLemmas.{put_hears, put_room, put_left, put_holds, heard_next, unheard_next}
 use Rattle.gm_core.proofs.telling.put_each.Goals as goal
-use Rattle.gm_core.proofs.telling.put_each.Goals.{then-hears, else-hears}
+use Rattle.gm_core.proofs.telling.put_each.Goals.{then-can_hear, else-can_hear}
 
 pub loop-slot-preserved : goal.loop-slot-preserved
 loop-slot-preserved c =
@@ -17,9 +17,9 @@ loop-slot-preserved c =
     let text = c.args.text.now in
     let x = get_or slots i 0 in
     let P = hears c.args.conns.now e in
-    elim c.if-hears.branch [
-      | then-hears w ↦
-          let heard : P x ≡ true = sym (c.loop-slot.invariant.hear e x) ∙ (sym c.hears.ensures.value ∙ w.if-hears.true) in
+    elim c.if-can_hear.branch [
+      | then-can_hear w ↦
+          let heard : P x ≡ true = sym (c.loop-slot.invariant.hear e x) ∙ (sym c.can_hear.ensures.value ∙ w.if-can_hear.true) in
           let next = heard_next P slots i c.loop-slot-test.true heard in
           rw w.conns-is (record {
             hear = λ b d. put_hears c.loop-slot.conns w.put.new.conns x text w.put.ensures b d ∙ c.loop-slot.invariant.hear b d;
@@ -37,8 +37,8 @@ loop-slot-preserved c =
                   leads = was.leads ∙ ap (λ (l : List ℕ). poured text l was.now) next;
                 };
           })
-      | else-hears w ↦
-          let deaf : P x ≡ false = sym (c.loop-slot.invariant.hear e x) ∙ (sym c.hears.ensures.value ∙ w.if-hears.false) in
+      | else-can_hear w ↦
+          let deaf : P x ≡ false = sym (c.loop-slot.invariant.hear e x) ∙ (sym c.can_hear.ensures.value ∙ w.if-can_hear.false) in
           let next = unheard_next P slots i c.loop-slot-test.true deaf in
           rw w.conns-is (record {
             hear = c.loop-slot.invariant.hear;

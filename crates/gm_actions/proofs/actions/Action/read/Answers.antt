@@ -9,17 +9,17 @@ use Rattle.gm_actions.proofs.actions.Action.read.Goals as goal
 
 pub returns-in-Ok-clause-does : goal.returns-in-Ok-clause-does
 returns-in-Ok-clause-does c k slot p =
-    c.asked.ensures.does k slot p
+    c.read_request.ensures.does k slot p
     ∙ (read_taken k slot (kind_of c.args.kind) c.as_slice.result.now (asked_of c.in-Ok.request) p c.in-Ok.ensures.exact
     ∙ ap (λ (bytes : List ℕ). packet_of k slot (kind_of c.args.kind) bytes p) c.as_slice.ensures)
 
 pub returns-in-Err-clause-does : goal.returns-in-Err-clause-does
 returns-in-Err-clause-does c k slot p =
-    ap (λ r. refuse slot (code_of r) p) c.fault.ensures
+    ap (λ r. refuse slot (code_of r) p) c.find_fault.ensures
     ∙ (read_refused k slot (kind_of c.args.kind) c.as_slice.result.now c.in-Err.field-0 p c.in-Err.ensures.exact
     ∙ ap (λ (bytes : List ℕ). packet_of k slot (kind_of c.args.kind) bytes p) c.as_slice.ensures)
 
 pub returns-in-Ok-clause-told : goal.returns-in-Ok-clause-told
 returns-in-Ok-clause-told c sized =
     let short = subst (λ (bytes : List ℕ). length bytes ≤ 1073741824) (sym c.as_slice.ensures) sized in
-    c.asked.ensures.told (record { bytes = c.as_slice.result.now; spelled = c.in-Ok.ensures.found.1; sized = short })
+    c.read_request.ensures.told (record { bytes = c.as_slice.result.now; spelled = c.in-Ok.ensures.found.1; sized = short })

@@ -14,7 +14,7 @@ returns-clause-answers c k steps agrees =
     let slot = c.args.slot in
     let text = fault_text c.args.fault in
     let taken : refusal k (Fault slot c.args.fault) (run k steps) ≡ None =
-    ap unless_not_open (sym (c.takes_units.ensures.value (run k steps) agrees.past) ∙ c.if-not-takes_units.false) in (
+    ap unless_not_open (sym (c.can_take_units.ensures.value (run k steps) agrees.past) ∙ c.if-not-can_take_units.false) in (
       (taken, ap (λ (o : Option ℕ). record { opened = None; created = o }) (sym (none_made (made (run k steps).notes)))),
       agrees_next k steps (Fault slot c.args.fault) (λ past. with_note (Shut slot) (with_output slot c.append_fault.new.out.items past)) agrees
           (goes_then c.in_ok-say.ensures.does

@@ -13,7 +13,7 @@ use Rattle.gm_core.proofs.server.Core.packet.Goals as goal
 pub returns-in_err-read-clause-answers : goal.returns-in_err-read-clause-answers
 returns-in_err-read-clause-answers c k steps agrees =
     let taken : refusal k (Packet c.args.slot c.args.kind c.args.bytes.now.bytes.now) (run k steps) ≡ None =
-    ap unless_not_open (sym (c.takes_units.ensures.value (run k steps) agrees.past) ∙ c.if-not-takes_units.false) in
+    ap unless_not_open (sym (c.can_take_units.ensures.value (run k steps) agrees.past) ∙ c.if-not-can_take_units.false) in
     agrees_refused k steps (Packet c.args.slot c.args.kind c.args.bytes.now.bytes.now) c.from_residual.result c.from_residual.ensures taken agrees c.in_err-read.ensures.does
 
 pub returns-then-is_same-clause-answers : goal.returns-then-is_same-clause-answers
@@ -22,7 +22,7 @@ returns-then-is_same-clause-answers c k steps agrees =
     let old = c.args.self.now in
     let change : Settings → Past → Past = λ x. packet_of x c.args.slot (kind_of c.args.kind) c.args.bytes.now.bytes.now in
     let taken : refusal k (Packet c.args.slot c.args.kind c.args.bytes.now.bytes.now) past ≡ None =
-    ap unless_not_open (sym (c.takes_units.ensures.value past agrees.past) ∙ c.if-not-takes_units.false) in
+    ap unless_not_open (sym (c.can_take_units.ensures.value past agrees.past) ∙ c.if-not-can_take_units.false) in
     let keeps : Keeps c.read.new.self (change k past) = subst (λ (x : Settings). Keeps c.read.new.self (change x past)) agrees.settings (c.in_ok-read.ensures.does.past past agrees.past) in
     let is = next_is c.next_number-before.result _ c.next_number-before.ensures.some c.next_number-before.ensures.none ∙ agrees.past.jobs.next in
     let will = next_is c.next_number.result _ c.next_number.ensures.some c.next_number.ensures.none
@@ -41,7 +41,7 @@ returns-else-is_same-clause-answers c k steps agrees =
     let change : Settings → Past → Past = λ x. packet_of x c.args.slot (kind_of c.args.kind) c.args.bytes.now.bytes.now in
     let after = made (change k past).notes in
     let taken : refusal k (Packet c.args.slot c.args.kind c.args.bytes.now.bytes.now) past ≡ None =
-    ap unless_not_open (sym (c.takes_units.ensures.value past agrees.past) ∙ c.if-not-takes_units.false) in
+    ap unless_not_open (sym (c.can_take_units.ensures.value past agrees.past) ∙ c.if-not-can_take_units.false) in
     let keeps : Keeps c.read.new.self (change k past) = subst (λ (x : Settings). Keeps c.read.new.self (change x past)) agrees.settings (c.in_ok-read.ensures.does.past past agrees.past) in
     let first : c.read.new.self.config.first_job ≡ old.config.first_job = ap (λ (x : Settings). x.first_job) c.in_ok-read.ensures.does.config in
     let is = next_is c.next_number-before.result _ c.next_number-before.ensures.some c.next_number-before.ensures.none ∙ agrees.past.jobs.next in

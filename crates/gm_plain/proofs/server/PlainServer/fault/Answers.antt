@@ -10,25 +10,25 @@ use Rattle.gm_actions.proofs.Changing.{agrees_next, agrees_refused}
 use Rattle.gm_plain.proofs.ServerLemmas.{goes_then, units_taken}
 use Rattle.gm_actions.proofs.JobsMade.{none_made}
 use Rattle.gm_plain.proofs.server.PlainServer.fault.Goals as goal
-use Rattle.gm_plain.proofs.server.PlainServer.fault.Goals.{Else-not-takes_units}
+use Rattle.gm_plain.proofs.server.PlainServer.fault.Goals.{Else-not-can_take_units}
 
-takes : (c : Else-not-takes_units) → takes_units c.args.slot c.args.self.now.log.notes ≡ true
-takes c = sym c.takes_units.ensures.value ∙ c.if-not-takes_units.false
+takes : (c : Else-not-can_take_units) → takes_units c.args.slot c.args.self.now.log.notes ≡ true
+takes c = sym c.can_take_units.ensures.value ∙ c.if-not-can_take_units.false
 
 pub returns-in_err-make_room : goal.returns-in_err-make_room
 returns-in_err-make_room c k steps agrees =
-    let taken = units_taken c.args.self.now.log.notes c.args.slot (run k steps) agrees.past.notes_are (takes (goal.at-returns-in_err-make_room c).Else-not-takes_units) in
+    let taken = units_taken c.args.self.now.log.notes c.args.slot (run k steps) agrees.past.notes_are (takes (goal.at-returns-in_err-make_room c).Else-not-can_take_units) in
     agrees_refused k steps (Fault c.args.slot c.args.fault) c.from_residual.result c.from_residual.ensures taken agrees c.make_room.ensures.goes
 
 pub returns-in_err-give_fault : goal.returns-in_err-give_fault
 returns-in_err-give_fault c k steps agrees =
-    let taken = units_taken c.args.self.now.log.notes c.args.slot (run k steps) agrees.past.notes_are (takes (goal.at-returns-in_err-give_fault c).Else-not-takes_units) in
+    let taken = units_taken c.args.self.now.log.notes c.args.slot (run k steps) agrees.past.notes_are (takes (goal.at-returns-in_err-give_fault c).Else-not-can_take_units) in
     agrees_refused k steps (Fault c.args.slot c.args.fault) c.from_residual-in_err-give_fault.result c.from_residual-in_err-give_fault.ensures taken agrees
     (goes_then c.make_room.ensures.goes c.in_err-give_fault.ensures.does)
 
 pub returns : goal.returns
 returns c k steps agrees =
-    let taken = units_taken c.args.self.now.log.notes c.args.slot (run k steps) agrees.past.notes_are (takes (goal.at-returns c).Else-not-takes_units) in (
+    let taken = units_taken c.args.self.now.log.notes c.args.slot (run k steps) agrees.past.notes_are (takes (goal.at-returns c).Else-not-can_take_units) in (
       (taken, ap (λ (o : Option ℕ). record { opened = None; created = o }) (sym (none_made (made (run k steps).notes)))),
       agrees_next k steps (Fault c.args.slot c.args.fault) (λ past. with_note (Shut c.args.slot) (with_output c.args.slot (fault_text c.args.fault) past)) agrees
           (goes_then (goes_then c.make_room.ensures.goes c.in_ok-give_fault.ensures.does) c.note.ensures.goes) taken refl,

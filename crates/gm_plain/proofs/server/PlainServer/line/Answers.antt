@@ -11,20 +11,20 @@ use Rattle.gm_plain.proofs.ServerLemmas.{units_taken}
 use Rattle.gm_actions.proofs.JobsMade.{none_made}
 use Rattle.gm_actions.proofs.JobsMade.{command_made}
 use Rattle.gm_plain.proofs.server.PlainServer.line.Goals as goal
-use Rattle.gm_plain.proofs.server.PlainServer.line.Goals.{Else-not-takes_units}
+use Rattle.gm_plain.proofs.server.PlainServer.line.Goals.{Else-not-can_take_units}
 
-takes : (c : Else-not-takes_units) → takes_units c.args.slot c.args.self.now.log.notes ≡ true
-takes c = sym c.takes_units.ensures.value ∙ c.if-not-takes_units.false
+takes : (c : Else-not-can_take_units) → takes_units c.args.slot c.args.self.now.log.notes ≡ true
+takes c = sym c.can_take_units.ensures.value ∙ c.if-not-can_take_units.false
 
 pub returns-in_err-command : goal.returns-in_err-command
 returns-in_err-command c k steps agrees =
-    let taken = units_taken c.args.self.now.log.notes c.args.slot (run k steps) agrees.past.notes_are (takes (goal.at-returns-in_err-command c).Else-not-takes_units) in
+    let taken = units_taken c.args.self.now.log.notes c.args.slot (run k steps) agrees.past.notes_are (takes (goal.at-returns-in_err-command c).Else-not-can_take_units) in
     agrees_refused k steps (Line c.args.slot c.args.bytes.now) c.from_residual.result c.from_residual.ensures taken agrees c.in_err-command.ensures
 
 pub returns : goal.returns
 returns c k steps agrees =
     let past = run k steps in
-    let taken = units_taken c.args.self.now.log.notes c.args.slot past agrees.past.notes_are (takes (goal.at-returns c).Else-not-takes_units) in
+    let taken = units_taken c.args.self.now.log.notes c.args.slot past agrees.past.notes_are (takes (goal.at-returns c).Else-not-can_take_units) in
     let none : made_since (made past.notes) (made (command k c.args.slot (command_of c.args.bytes.now) past).notes) ≡ None =
     ap (made_since (made past.notes)) (command_made k c.args.slot (command_of c.args.bytes.now) past) ∙ none_made (made past.notes) in (
       (taken, ap (λ (o : Option ℕ). record { opened = None; created = o }) (sym none)),

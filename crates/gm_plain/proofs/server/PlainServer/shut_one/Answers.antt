@@ -4,9 +4,9 @@ use Rattle.gm_notes.specs.Lines.{shut_one}
 use Rattle.gm_plain.proofs.ServerLemmas.{goes_as}
 use Rattle.gm_plain.proofs.server.PlainServer.shut_one.Goals as goal
 
-pub returns-then-takes_units-clause-goes : goal.returns-then-takes_units-clause-goes
-returns-then-takes_units-clause-goes c =
+pub returns-then-can_take_units-clause-goes : goal.returns-then-can_take_units-clause-goes
+returns-then-can_take_units-clause-goes c =
     goes_as (shut_one c.args.slot) c.note.ensures.goes
     (λ p keeps.
-    let takes : takes_units c.args.slot p.notes ≡ true = ap (takes_units c.args.slot) (sym keeps.notes_are) ∙ (sym c.takes_units.ensures.value ∙ c.if-takes_units.true) in
+    let takes : takes_units c.args.slot p.notes ≡ true = ap (takes_units c.args.slot) (sym keeps.notes_are) ∙ (sym c.can_take_units.ensures.value ∙ c.if-can_take_units.true) in
     rw takes refl)

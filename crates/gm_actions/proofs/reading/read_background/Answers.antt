@@ -3,7 +3,7 @@ use Rattle.gm_packet.specs.declared.request.Request.{Request}
 use Rattle.gm_packet.specs.Views.{asked_of}
 use Rattle.gm_actions.specs.Bodies.{IsSpelledBy}
 use Rattle.gm_actions.proofs.ReadingLemmas.{ends_in_three}
-use Rattle.gm_actions.proofs.reading.in_background.Goals as goal
+use Rattle.gm_actions.proofs.reading.read_background.Goals as goal
 
 pub end-requires : goal.end-requires
 end-requires c =
