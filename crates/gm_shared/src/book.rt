@@ -17,7 +17,6 @@ use crate::words::sync_word;
 use gm_bytes::SharedBytes;
 use gm_conns::SlotSet;
 use gm_core::Core;
-use gm_laws::laws::may_be_taken_later;
 use gm_notes::{ApplyError, Config, Event, JobServer};
 use gm_word::{BookSeat, PenSeat, Phase, SleepTable};
 use std::alloc::{AllocError, Global};
@@ -29,7 +28,7 @@ use std::hash::RandomState;
 /// knows are those that the steps give; and the tape that it keeps is one history, of these steps.
 #[derive(Drop)]
 pub struct Booked {
-    alloc: Global,
+    pub(crate) alloc: Global,
     core: Core,
     seat: BookSeat,
     slots: u32,
@@ -39,7 +38,6 @@ pub struct Booked {
 }
 
 impl Booked {
-    ghost use Rattle.gm_laws.specs.Laws.{MayBeTakenLater};
     ghost use Rattle.gm_shared.specs.Books.{Holds, BookedAgrees, Held, NeedsNoMemory, Drains, AsksWord, FollowsAt, FollowsCore, IsIdle, IsLeftOut};
     ghost use Rattle.gm_shared.specs.Events.{slot_of, MayFind, entered};
     ghost use Rattle.gm_notes.specs.Withdrawals.{withdraws_noop};
@@ -74,34 +72,6 @@ impl Booked {
             tape: Tape::new(alloc, tape),
         };
         Ok((booked, table, pens))
-    }
-
-    /// Lets an event take effect, in one holding. It asks the word of the event's slot what became of the NOOP that the
-    /// slot is owed. One that was taken is entered first; so is one that is still owed and that the event withdraws, as taken or as withdrawn. What is refused
-    /// changes nothing but that; a refusal is one of `JobServer::apply`.
-    ///
-    /// With a tape room for what it enters is found first, and copies of the bytes: where that fails `Memory` comes
-    /// and nothing changes, also where the event would be refused. The desk is the one that hands the event in. The
-    /// table is the book's.
-    pub fn apply(
-        &mut self,
-        table: &SleepTable,
-        desk: u32,
-        event: &Event<'_>,
-    ) -> Result<Receipt, ApplyError>
-        requires size { IsSized event.now }
-        requires table { self.old.seat.table ≡ table.now }
-        ensures holding { (k : Settings) (steps : List Step) → BookedAgrees self.old k steps
-            → (told : List Told) × (touched : List ℕ) × Held k steps (step_of event.now) desk result touched self.old self.new told }
-        ensures memory { NeedsNoMemory self.old.tape.on (step_of event.now) → IsErrOf result ApplyError.Memory → ⊥ }
-        ensures table { self.new.seat.table ≡ self.old.seat.table }
-        // That a taking is entered only when the book next looks at the slot changes no other step.
-        ensures later { MayBeTakenLater }
-    {
-        may_be_taken_later();
-        let mut share = Vec::new(self.alloc);
-        let mut touched = SlotSet::new();
-        self.hold(table, desk, event, &mut share, &mut touched, &mut None)
     }
 
     /// `apply`, which adds what the desk is told of the tape to its share.
@@ -141,18 +111,6 @@ impl Booked {
             done,
             mode: self.core.mode(),
         })
-    }
-
-    /// Takes the bytes that wait for a slot, which wait no more. `NotOpen` comes where the slot isn't open; it
-    /// changes nothing. Without a tape it needs no memory; with one `Memory` comes where there is none for the entry
-    /// and its bytes, and changes nothing. The pen is the one that asks.
-    pub fn drain(&mut self, pen: u32, slot: u32) -> Result<Drained, ApplyError>
-        ensures drains { (k : Settings) (steps : List Step) → BookedAgrees self.old k steps
-            → (told : List Told) × Drains k steps pen slot result self.old self.new told }
-        ensures seat { self.new.seat ≡ self.old.seat }
-    {
-        let mut share = Vec::new(self.alloc);
-        self.drain_into(pen, slot, &mut share)
     }
 
     /// `drain`, which adds what the pen is told of the tape to its share.

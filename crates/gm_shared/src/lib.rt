@@ -20,6 +20,7 @@ mod name;
 mod receipt;
 mod settling;
 mod shared;
+mod surface;
 mod tape;
 mod words;
 

@@ -7,7 +7,7 @@ ghost use Rattle.gm_conns.specs.Slots.{has};
 ghost use Rattle.gm_word.specs.Seats.{fresh_pens};
 ghost use Rattle.gm_shared.specs.Books.{NeedsNoMemory};
 ghost use Rattle.gm_shared.specs.Tapes.{drains_alone};
-ghost use Rattle.gm_shared.specs.Shared.{Applied, AppliedTo, AddsEvent, Emptied, numbers_below};
+ghost use Rattle.gm_shared.specs.Shared.{AppliedTo, AddsEvent, Emptied, numbers_below};
 ghost use Rattle.std.specs.Result.{IsErrOf};
 
 use crate::blank::Blank;
@@ -102,25 +102,6 @@ impl<K: BookName> Desk<K> {
         ensures { result ≡ self.now.number }
     {
         self.number
-    }
-
-    /// Hands in an event, which takes effect in one holding of the lock, as `Booked::apply` says. It may wait for the
-    /// lock. Without a tape a closing never wants memory. With one the desk is told of the event and its place, after
-    /// what was found of a NOOP. It is for callers who tell nobody what the event touched.
-    pub fn apply(
-        &mut self,
-        rt: &impl Wait,
-        shared: &Shared<K>,
-        event: Event<'_>,
-    ) -> Result<Receipt, ApplyError>
-        requires { IsSized event }
-        ensures applied { Applied K.settings K.taped (step_of event.entry) self.old.number result self.old.share.items self.new.share.items }
-        ensures adds { AddsEvent K.taped (step_of event.entry) result self.old.share.items self.new.share.items }
-        ensures memory { NeedsNoMemory K.taped (step_of event.entry) → IsErrOf result ApplyError.Memory → ⊥ }
-        ensures number { self.new.number ≡ self.old.number }
-    {
-        let mut touched = SlotSet::new();
-        self.apply_with(rt, shared, event, &mut touched)
     }
 
     /// As `apply`. `touched` becomes the slots whose waiting bytes, phase or shut changed and to which something is to be delivered,

@@ -1,0 +1,84 @@
+//! Calls for programs without threads, and for tests: each is a call that `gmd` makes, without what it hands along.
+
+ghost use Rattle.std.specs.Prelude.{◌≡◌, ℕ, List};
+ghost use Rattle.std.specs.Result.{IsErrOf};
+ghost use Rattle.gm_notes.specs.Settings.{Settings};
+ghost use Rattle.gm_notes.specs.Steps.{Step};
+ghost use Rattle.gm_notes.specs.Servers.{step_of, IsSized};
+ghost use Rattle.gm_shared.specs.Books.{BookedAgrees, Held, NeedsNoMemory, Drains};
+ghost use Rattle.gm_laws.specs.Laws.{MayBeTakenLater};
+ghost use Rattle.gm_shared.specs.Shared.{Applied, AddsEvent};
+ghost use Rattle.gm_shared.specs.declared.tape.Told.{Told};
+
+use crate::book::Booked;
+use crate::name::BookName;
+use crate::receipt::{Drained, Receipt};
+use crate::shared::{Desk, Shared};
+use gm_conns::SlotSet;
+use gm_laws::laws::may_be_taken_later;
+use gm_notes::{ApplyError, Event};
+use gm_word::SleepTable;
+use std::sync::Wait;
+
+impl Booked {
+    /// Lets an event take effect, in one holding. It asks the word of the event's slot what became of the NOOP that the
+    /// slot is owed. One that was taken is entered first; so is one that is still owed and that the event withdraws, as taken
+    /// or as withdrawn. What is refused changes nothing but that; a refusal is one of `JobServer::apply`.
+    ///
+    /// With a tape room for what it enters is found first, and copies of the bytes: where that fails `Memory` comes
+    /// and nothing changes, also where the event would be refused. The desk is the one that hands the event in. The
+    /// table is the book's.
+    pub fn apply(
+        &mut self,
+        table: &SleepTable,
+        desk: u32,
+        event: &Event<'_>,
+    ) -> Result<Receipt, ApplyError>
+        requires size { IsSized event.now }
+        requires table { self.old.seat.table ≡ table.now }
+        ensures holding { (k : Settings) (steps : List Step) → BookedAgrees self.old k steps
+            → (told : List Told) × (touched : List ℕ) × Held k steps (step_of event.now) desk result touched self.old self.new told }
+        ensures memory { NeedsNoMemory self.old.tape.on (step_of event.now) → IsErrOf result ApplyError.Memory → ⊥ }
+        ensures table { self.new.seat.table ≡ self.old.seat.table }
+        // That a taking is entered only when the book next looks at the slot changes no other step.
+        ensures later { MayBeTakenLater }
+    {
+        may_be_taken_later();
+        let mut share = Vec::new(self.alloc);
+        let mut touched = SlotSet::new();
+        self.hold(table, desk, event, &mut share, &mut touched, &mut None)
+    }
+
+    /// Takes the bytes that wait for a slot, which wait no more. `NotOpen` comes where the slot isn't open; it
+    /// changes nothing. Without a tape it needs no memory; with one `Memory` comes where there is none for the entry
+    /// and its bytes, and changes nothing. The pen is the one that asks.
+    pub fn drain(&mut self, pen: u32, slot: u32) -> Result<Drained, ApplyError>
+        ensures drains { (k : Settings) (steps : List Step) → BookedAgrees self.old k steps
+            → (told : List Told) × Drains k steps pen slot result self.old self.new told }
+        ensures seat { self.new.seat ≡ self.old.seat }
+    {
+        let mut share = Vec::new(self.alloc);
+        self.drain_into(pen, slot, &mut share)
+    }
+}
+
+impl<K: BookName> Desk<K> {
+    /// Hands in an event, which takes effect in one holding of the lock, as `Booked::apply` says. It may wait for the
+    /// lock. Without a tape a closing never wants memory. With one the desk is told of the event and its place, after
+    /// what was found of a NOOP. It is for callers who tell nobody what the event touched.
+    pub fn apply(
+        &mut self,
+        rt: &impl Wait,
+        shared: &Shared<K>,
+        event: Event<'_>,
+    ) -> Result<Receipt, ApplyError>
+        requires { IsSized event }
+        ensures applied { Applied K.settings K.taped (step_of event.entry) self.old.number result self.old.share.items self.new.share.items }
+        ensures adds { AddsEvent K.taped (step_of event.entry) result self.old.share.items self.new.share.items }
+        ensures memory { NeedsNoMemory K.taped (step_of event.entry) → IsErrOf result ApplyError.Memory → ⊥ }
+        ensures number { self.new.number ≡ self.old.number }
+    {
+        let mut touched = SlotSet::new();
+        self.apply_with(rt, shared, event, &mut touched)
+    }
+}
