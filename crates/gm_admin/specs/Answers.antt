@@ -1,7 +1,8 @@
 -- The texts that answer lines.
 use Rattle.std.specs.Prelude.{ℕ, ◌||◌, ◌==◌, nat_le, if◌then◌else◌, List, [], ◌∷◌, ◌++◌, length, map, codes, decimal}
-use Rattle.std.specs.Prelude.{◌≡◌, ◌+◌, ◌≤◌, vec_len, vec_capacity}
+use Rattle.std.specs.Prelude.{◌≡◌, ◌+◌, ◌<◌, ◌≤◌, take, vec_len, vec_capacity, Result, OnOk, OnErr}
 use Rattle.std.specs.Global.{Vec}
+use Rattle.std.specs.declared.alloc.AllocError.{AllocError}
 use Rattle.std.specs.List.{flat_map}
 use Rattle.gm_admin.specs.declared.answers.TheConstants.{VERSION}
 use Rattle.gm_admin.specs.declared.fault.AdminError.{AdminError}
@@ -70,8 +71,9 @@ error_code LineTooLong = codes "line_too_long"
 abbrev pub error_text : AdminError → List ℕ
 error_text error = codes "ERR " ++ error_code error ++ 10 ∷ []
 
--- The bytes were appended, in room that was there.
-pub record Appends (bytes : List ℕ) (old new : Vec ℕ) : Type 0 where
-  pub items : new.items ≡ old.items ++ bytes
-  pub len : vec_len new ≡ vec_len old + length bytes
+-- The bytes were appended; or there was no room for all of them, and those that were there still come first.
+pub record Appends (bytes : List ℕ) (result : Result (Unit {0}) AllocError) (old new : Vec ℕ) : Type 0 where
+  pub ok : OnOk result (new.items ≡ old.items ++ bytes)
+  pub full : OnErr result (vec_capacity old < vec_len old + length bytes)
+  pub kept : take (vec_len old) new.items ≡ old.items
   pub capacity : vec_capacity old ≤ vec_capacity new

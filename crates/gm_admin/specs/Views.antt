@@ -1,7 +1,5 @@
 -- What commands and lines say, without where their bytes lie in memory.
-use Rattle.std.specs.Prelude.{ℕ, List, ◌∷◌, Result, Ok, Err, map}
-use Rattle.std.specs.Borrow.{Bor}
-use Rattle.std.specs.List.{flat_map}
+use Rattle.std.specs.Prelude.{ℕ, Result, Ok, Err, map}
 use Rattle.gm_admin.specs.declared.command.Command.{Command}
 use Rattle.gm_admin.specs.declared.command.Command.TheVariants.{Status, Workers, MaxQueue, Version, Shutdown}
 use Rattle.gm_admin.specs.declared.fault.AdminFault.{AdminFault}
@@ -10,7 +8,7 @@ use Rattle.gm_admin.specs.declared.lines.StatusRow.{StatusRow}
 use Rattle.gm_admin.specs.declared.lines.WorkerRow.{WorkerRow}
 use Rattle.gm_admin.specs.Commands.{Asked}
 use Rattle.gm_admin.specs.Commands as twin
-use Rattle.gm_admin.specs.Answers.{StatusLine, WorkerLine, shown, status_line, worker_line}
+use Rattle.gm_admin.specs.Answers.{StatusLine, WorkerLine}
 
 abbrev pub asked_of : Command → Asked
 asked_of Status = twin.Status
@@ -35,15 +33,3 @@ status_of line = record { name = line.name.now; total = line.total; running = li
 
 abbrev pub worker_of : WorkerRow → WorkerLine
 worker_of line = record { slot = line.slot; addr = line.addr.now; id = line.id.now; functions = map (λ name. name.now) line.functions.items }
-
--- the text of the lines of `status`
-abbrev pub status_lines : List StatusRow → List ℕ
-status_lines lines = flat_map (λ line. status_line (status_of line)) lines
-
--- the text of the lines of `workers`
-abbrev pub worker_lines : List WorkerRow → List ℕ
-worker_lines lines = flat_map (λ line. worker_line (worker_of line)) lines
-
--- the functions in a line of `workers`, each after a space
-abbrev pub names_shown : List (Bor (List ℕ)) → List ℕ
-names_shown names = flat_map (λ name. 32 ∷ shown name.now) names

@@ -5,9 +5,8 @@ ghost use Rattle.gm_admin.specs.Answers.{status_text, workers_text, ok_text, ver
 ghost use Rattle.gm_admin.specs.Views.{status_of, worker_of};
 
 use crate::fault::AdminError;
-use crate::lengths::{status_len, workers_len};
 use crate::lines::{StatusRow, WorkerRow};
-use crate::writing::{put, put_status_lines, put_worker_lines};
+use crate::writing::write_list;
 use std::alloc::AllocError;
 
 /// The server's version, as `version` answers it.
@@ -16,6 +15,7 @@ pub const VERSION: &str = "1.0.0";
 /// Appends the answer to `status`: a line for each function, and a dot. As the other functions here do, it
 /// fails only where `out` has no room for the whole answer and there is no memory for more, and then changes
 /// no byte.
+#[tactic(auto, using(crate::proofs::LineTexts::line_texts))]
 pub fn write_status(lines: &[StatusRow<'_>], out: &mut Vec<u8>) -> Result<(), AllocError>
     ensures ok { OnOk result (out.new.items
         ≡ out.old.items ++ status_text (map status_of lines.now)) }
@@ -23,16 +23,11 @@ pub fn write_status(lines: &[StatusRow<'_>], out: &mut Vec<u8>) -> Result<(), Al
     ensures full { OnErr result (vec_capacity out.old
         < vec_len out.old + length (status_text (map status_of lines.now))) }
 {
-    let Some(len) = status_len(lines).checked_add(2) else {
-        return Err(AllocError);
-    };
-    out.reserve(len)?;
-    put_status_lines(out, lines);
-    put(out, b".\n");
-    Ok(())
+    write_list(lines, out)
 }
 
 /// Appends the answer to `workers`: a line for each connection, and a dot.
+#[tactic(auto, using(crate::proofs::LineTexts::line_texts))]
 pub fn write_workers(lines: &[WorkerRow<'_>], out: &mut Vec<u8>) -> Result<(), AllocError>
     ensures ok { OnOk result (out.new.items
         ≡ out.old.items ++ workers_text (map worker_of lines.now)) }
@@ -40,13 +35,7 @@ pub fn write_workers(lines: &[WorkerRow<'_>], out: &mut Vec<u8>) -> Result<(), A
     ensures full { OnErr result (vec_capacity out.old
         < vec_len out.old + length (workers_text (map worker_of lines.now))) }
 {
-    let Some(len) = workers_len(lines).checked_add(2) else {
-        return Err(AllocError);
-    };
-    out.reserve(len)?;
-    put_worker_lines(out, lines);
-    put(out, b".\n");
-    Ok(())
+    write_list(lines, out)
 }
 
 /// Appends the answer to a command that was carried out.
@@ -64,11 +53,7 @@ pub fn write_version(out: &mut Vec<u8>) -> Result<(), AllocError>
     ensures err { OnErr result (out.new.items ≡ out.old.items) }
     ensures full { OnErr result (vec_capacity out.old < vec_len out.old + length version_text) }
 {
-    out.reserve(4 + VERSION.len())?;
-    put(out, b"OK ");
-    put(out, VERSION.as_bytes());
-    put(out, b"\n");
-    Ok(())
+    out.extend_from_slice(b"OK 1.0.0\n")
 }
 
 /// The line that says what is wrong.

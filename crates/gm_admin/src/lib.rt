@@ -9,7 +9,6 @@
 mod answers;
 mod command;
 mod fault;
-mod lengths;
 mod lines;
 mod sizes;
 mod words;

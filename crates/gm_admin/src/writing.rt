@@ -1,19 +1,39 @@
-//! Appends the parts of a list, in room that is there.
+//! Appends the parts of a list.
 
-ghost use Rattle.std.specs.Prelude.{◌≡◌, ◌≤◌, ◌+◌, ◌∷◌, length, decimal, vec_len, vec_capacity};
-ghost use Rattle.gm_admin.specs.Answers.{Appends, shown_byte, shown, status_line, worker_line};
-ghost use Rattle.gm_admin.specs.Views.{status_of, worker_of, status_lines, worker_lines, names_shown};
+ghost use Rattle.std.specs.Prelude.{◌≡◌, ◌+◌, ◌<◌, ◌++◌, ℕ, List, [], ◌∷◌, length, decimal, vec_len, vec_capacity, OnOk, OnErr};
+ghost use Rattle.std.specs.List.{flat_map};
+ghost use Rattle.gm_admin.specs.Answers.{Appends, dot, shown_byte, shown, shown_or_dash, status_line, worker_line};
+ghost use Rattle.gm_admin.specs.Views.{status_of, worker_of};
 
-use crate::lengths::or_dash;
 use crate::lines::{StatusRow, WorkerRow};
 use itoa::Buffer;
+use std::alloc::AllocError;
+
+/// A part of a list.
+pub(crate) trait Put {
+    ghost text: { Self → List ℕ };
+
+    /// Appends its text.
+    fn put(&self, out: &mut Vec<u8>) -> Result<(), AllocError>
+        ensures { Appends (text self.now) result out.old out.new };
+}
 
 /// Appends bytes as they are.
-pub(crate) fn put(out: &mut Vec<u8>, bytes: &[u8])
-    requires { vec_len out.old + length bytes.now ≤ vec_capacity out.old }
-    ensures { Appends bytes.now out.old out.new }
+fn put_bytes(bytes: &[u8], out: &mut Vec<u8>) -> Result<(), AllocError>
+    ensures { Appends bytes.now result out.old out.new }
 {
-    out.extend_from_slice(bytes).unwrap();
+    out.extend_from_slice(bytes)
+}
+
+/// Appends parts one after the other, and then bytes as they are.
+#[tactic(auto, using(crate::proofs::LineTexts::line_texts))]
+fn put_all<T: Put>(parts: &[T], end: &[u8], out: &mut Vec<u8>) -> Result<(), AllocError>
+    ensures { Appends (flat_map T.text parts.now ++ end.now) result out.old out.new }
+{
+    for part in parts {
+        part.put(out)?;
+    }
+    put_bytes(end, out)
 }
 
 /// A byte as it is printed: a question mark for a byte that would separate words or move a terminal's cursor.
@@ -27,93 +47,76 @@ fn shown_byte(byte: u8) -> u8
     }
 }
 
-/// Appends a text as it is printed.
-fn put_shown(out: &mut Vec<u8>, text: &[u8])
-    requires { vec_len out.old + length text.now ≤ vec_capacity out.old }
-    ensures { Appends (shown text.now) out.old out.new }
-{
-    for byte in text {
-        put(out, &[shown_byte(*byte)]);
+/// A byte of a text.
+impl Put for u8 {
+    ghost text = { λ byte. shown_byte byte ∷ [] };
+
+    fn put(&self, out: &mut Vec<u8>) -> Result<(), AllocError> {
+        put_bytes(&[shown_byte(*self)], out)
     }
 }
 
-/// Appends a space, and a text as it is printed.
-fn put_spaced(out: &mut Vec<u8>, text: &[u8])
-    requires { vec_len out.old + length (32 ∷ shown text.now) ≤ vec_capacity out.old }
-    ensures { Appends (32 ∷ shown text.now) out.old out.new }
-{
-    put(out, b" ");
-    put_shown(out, text);
-}
+/// A number, after a tab.
+impl Put for u64 {
+    ghost text = { λ number. 9 ∷ decimal number };
 
-/// Appends a number.
-fn put_number(out: &mut Vec<u8>, number: u64)
-    requires { vec_len out.old + length (decimal number) ≤ vec_capacity out.old }
-    ensures { Appends (decimal number) out.old out.new }
-{
-    put(out, Buffer::new().format(number).as_bytes());
-}
-
-/// Appends a tab and a number.
-fn put_tabbed(out: &mut Vec<u8>, number: u64)
-    requires { vec_len out.old + length (9 ∷ decimal number) ≤ vec_capacity out.old }
-    ensures { Appends (9 ∷ decimal number) out.old out.new }
-{
-    put(out, b"\t");
-    put_number(out, number);
-}
-
-/// Appends a line of `status`.
-fn put_status_line(out: &mut Vec<u8>, line: &StatusRow<'_>)
-    requires { vec_len out.old + length (status_line (status_of line.now)) ≤ vec_capacity out.old }
-    ensures { Appends (status_line (status_of line.now)) out.old out.new }
-{
-    put_shown(out, line.name);
-    put_tabbed(out, line.total);
-    put_tabbed(out, line.running);
-    put_tabbed(out, u64::from(line.workers));
-    put(out, b"\n");
-}
-
-/// Appends the lines of `status`.
-pub(crate) fn put_status_lines(out: &mut Vec<u8>, lines: &[StatusRow<'_>])
-    requires { vec_len out.old + length (status_lines lines.now) ≤ vec_capacity out.old }
-    ensures { Appends (status_lines lines.now) out.old out.new }
-{
-    for line in lines {
-        put_status_line(out, line);
+    fn put(&self, out: &mut Vec<u8>) -> Result<(), AllocError> {
+        put_bytes(b"\t", out)?;
+        put_bytes(Buffer::new().format(*self).as_bytes(), out)
     }
 }
 
-/// Appends the functions in a line of `workers`, each after a space.
-fn put_names(out: &mut Vec<u8>, names: &[&[u8]])
-    requires { vec_len out.old + length (names_shown names.now) ≤ vec_capacity out.old }
-    ensures { Appends (names_shown names.now) out.old out.new }
-{
-    for name in names {
-        put_spaced(out, name);
+/// A text, after a space.
+impl Put for &[u8] {
+    ghost text = { λ bytes. 32 ∷ shown bytes.now };
+
+    fn put(&self, out: &mut Vec<u8>) -> Result<(), AllocError> {
+        put_bytes(b" ", out)?;
+        put_all(self, b"", out)
     }
 }
 
-/// Appends a line of `workers`.
-fn put_worker_line(out: &mut Vec<u8>, line: &WorkerRow<'_>)
-    requires { vec_len out.old + length (worker_line (worker_of line.now)) ≤ vec_capacity out.old }
-    ensures { Appends (worker_line (worker_of line.now)) out.old out.new }
-{
-    put_number(out, u64::from(line.slot));
-    put_spaced(out, or_dash(line.addr));
-    put_spaced(out, or_dash(line.id));
-    put(out, b" :");
-    put_names(out, line.functions.as_slice());
-    put(out, b"\n");
+impl Put for StatusRow<'_> {
+    ghost text = { λ line. status_line (status_of line) };
+
+    fn put(&self, out: &mut Vec<u8>) -> Result<(), AllocError> {
+        put_all(self.name, b"", out)?;
+        put_all(
+            &[self.total, self.running, u64::from(self.workers)],
+            b"\n",
+            out,
+        )
+    }
 }
 
-/// Appends the lines of `workers`.
-pub(crate) fn put_worker_lines(out: &mut Vec<u8>, lines: &[WorkerRow<'_>])
-    requires { vec_len out.old + length (worker_lines lines.now) ≤ vec_capacity out.old }
-    ensures { Appends (worker_lines lines.now) out.old out.new }
+/// The text, or a dash where it is empty.
+fn or_dash(text: &[u8]) -> &[u8]
+    ensures { shown result.now ≡ shown_or_dash text.now }
 {
-    for line in lines {
-        put_worker_line(out, line);
+    if text.is_empty() { b"-" } else { text }
+}
+
+#[tactic(auto, using(crate::proofs::LineTexts::line_texts))]
+impl Put for WorkerRow<'_> {
+    ghost text = { λ line. worker_line (worker_of line) };
+
+    fn put(&self, out: &mut Vec<u8>) -> Result<(), AllocError> {
+        put_bytes(Buffer::new().format(self.slot).as_bytes(), out)?;
+        put_all(&[or_dash(self.addr), or_dash(self.id)], b" :", out)?;
+        put_all(self.functions.as_slice(), b"\n", out)
     }
+}
+
+/// Appends the lines of a list and the dot that ends it, or changes no byte.
+pub(crate) fn write_list<T: Put>(lines: &[T], out: &mut Vec<u8>) -> Result<(), AllocError>
+    ensures ok { OnOk result (out.new.items ≡ out.old.items ++ (flat_map T.text lines.now ++ dot)) }
+    ensures err { OnErr result (out.new.items ≡ out.old.items) }
+    ensures full { OnErr result (vec_capacity out.old < vec_len out.old + length (flat_map T.text lines.now ++ dot)) }
+{
+    let len = out.len();
+    let written = put_all(lines, b".\n", out);
+    if written.is_err() {
+        out.truncate(len);
+    }
+    written
 }

@@ -15,7 +15,7 @@ use crate::arguments::{
 use crate::header::REQUEST_MAGIC;
 use crate::kind::Kind;
 use crate::texts::Texts;
-use crate::writing::{fits, put_texts, put_two};
+use crate::writing::{fits, put_texts};
 use itoa::Buffer;
 use std::alloc::AllocError;
 use std::fmt::{self, Debug, Formatter, Write};
@@ -140,129 +140,47 @@ pub enum Request<'a> {
     },
 }
 
-/// The request of a kind without arguments.
-fn read_bare(kind: Kind, bytes: &[u8]) -> Option<Request<'_>>
-    ensures { shape kind ≡ Empty → option_map asked_of result ≡ read_as kind bytes.now }
-{
-    no_argument(bytes)?;
-    match kind {
-        Kind::ResetAbilities => Some(Request::ResetAbilities),
-        Kind::PreSleep => Some(Request::PreSleep),
-        Kind::GrabJob => Some(Request::GrabJob),
-        Kind::AllYours => Some(Request::AllYours),
-        Kind::GrabJobUniq => Some(Request::GrabJobUniq),
-        _ => None,
-    }
-}
-
-/// The request of a kind with one argument, which holds no NUL.
-fn read_one(kind: Kind, bytes: &[u8]) -> Option<Request<'_>>
-    ensures { shape kind ≡ Plain 0 → option_map asked_of result ≡ read_as kind bytes.now }
-{
-    let text = one_plain(bytes)?;
-    match kind {
-        Kind::CanDo => Some(Request::CanDo { function: text }),
-        Kind::CantDo => Some(Request::CantDo { function: text }),
-        Kind::WorkFail => Some(Request::WorkFail { handle: text }),
-        Kind::GetStatus => Some(Request::GetStatus { handle: text }),
-        Kind::SetClientId => Some(Request::SetClientId { id: text }),
-        Kind::OptionReq => Some(Request::OptionReq { name: text }),
-        _ => None,
-    }
-}
-
-/// The request of a kind with a handle and a body.
-fn read_work(kind: Kind, bytes: &[u8]) -> Option<Request<'_>>
-    ensures { shape kind ≡ Opaque 1 → option_map asked_of result ≡ read_as kind bytes.now }
-{
-    let (handle, body) = two_opaque(bytes)?;
-    match kind {
-        Kind::WorkComplete => Some(Request::WorkComplete { handle, body }),
-        Kind::WorkException => Some(Request::WorkException { handle, body }),
-        Kind::WorkData => Some(Request::WorkData { handle, body }),
-        Kind::WorkWarning => Some(Request::WorkWarning { handle, body }),
-        _ => None,
-    }
-}
-
-/// The request of a kind that submits a job.
-fn read_submission(kind: Kind, bytes: &[u8]) -> Option<Request<'_>>
-    ensures { shape kind ≡ Opaque 2 → option_map asked_of result ≡ read_as kind bytes.now }
-{
-    let (function, unique, body) = three_opaque(bytes)?;
-    match kind {
-        Kind::SubmitJob => Some(Request::SubmitJob {
-            function,
-            unique,
-            body,
-        }),
-        Kind::SubmitJobBg => Some(Request::SubmitJobBg {
-            function,
-            unique,
-            body,
-        }),
-        Kind::SubmitJobHigh => Some(Request::SubmitJobHigh {
-            function,
-            unique,
-            body,
-        }),
-        Kind::SubmitJobHighBg => Some(Request::SubmitJobHighBg {
-            function,
-            unique,
-            body,
-        }),
-        Kind::SubmitJobLow => Some(Request::SubmitJobLow {
-            function,
-            unique,
-            body,
-        }),
-        Kind::SubmitJobLowBg => Some(Request::SubmitJobLowBg {
-            function,
-            unique,
-            body,
-        }),
-        _ => None,
-    }
+/// The request of a kind: for each kind, its arguments and what reads them.
+macro_rules! read_by_kind {
+    ($kind:ident, $bytes:ident: $($name:ident($($argument:ident),*) by $read:ident;)*) => {
+        match $kind {
+            $(Kind::$name => {
+                let ($($argument),*) = $read($bytes)?;
+                Some(Request::$name { $($argument),* })
+            })*
+        }
+    };
 }
 
 /// The request of a known kind, if the data spell its arguments.
 fn read_as(kind: Kind, bytes: &[u8]) -> Option<Request<'_>>
     ensures { option_map asked_of result ≡ read_as kind bytes.now }
 {
-    match kind {
-        Kind::ResetAbilities
-        | Kind::PreSleep
-        | Kind::GrabJob
-        | Kind::AllYours
-        | Kind::GrabJobUniq => read_bare(kind, bytes),
-        Kind::CanDo
-        | Kind::CantDo
-        | Kind::WorkFail
-        | Kind::GetStatus
-        | Kind::SetClientId
-        | Kind::OptionReq => read_one(kind, bytes),
-        Kind::WorkComplete | Kind::WorkException | Kind::WorkData | Kind::WorkWarning => {
-            read_work(kind, bytes)
-        }
-        Kind::SubmitJob
-        | Kind::SubmitJobBg
-        | Kind::SubmitJobHigh
-        | Kind::SubmitJobHighBg
-        | Kind::SubmitJobLow
-        | Kind::SubmitJobLowBg => read_submission(kind, bytes),
-        Kind::CanDoTimeout => {
-            let (function, timeout) = function_and_timeout(bytes)?;
-            Some(Request::CanDoTimeout { function, timeout })
-        }
-        Kind::WorkStatus => {
-            let (handle, numerator, denominator) = three_plain(bytes)?;
-            Some(Request::WorkStatus {
-                handle,
-                numerator,
-                denominator,
-            })
-        }
-        Kind::EchoReq => Some(Request::EchoReq { body: bytes }),
+    read_by_kind! { kind, bytes:
+        CanDo(function) by one_plain;
+        CantDo(function) by one_plain;
+        ResetAbilities() by no_argument;
+        PreSleep() by no_argument;
+        SubmitJob(function, unique, body) by three_opaque;
+        GrabJob() by no_argument;
+        WorkStatus(handle, numerator, denominator) by three_plain;
+        WorkComplete(handle, body) by two_opaque;
+        WorkFail(handle) by one_plain;
+        GetStatus(handle) by one_plain;
+        EchoReq(body) by Some;
+        SubmitJobBg(function, unique, body) by three_opaque;
+        SubmitJobHigh(function, unique, body) by three_opaque;
+        SetClientId(id) by one_plain;
+        CanDoTimeout(function, timeout) by function_and_timeout;
+        AllYours() by no_argument;
+        WorkException(handle, body) by two_opaque;
+        OptionReq(name) by one_plain;
+        WorkData(handle, body) by two_opaque;
+        WorkWarning(handle, body) by two_opaque;
+        GrabJobUniq() by no_argument;
+        SubmitJobHighBg(function, unique, body) by three_opaque;
+        SubmitJobLow(function, unique, body) by three_opaque;
+        SubmitJobLowBg(function, unique, body) by three_opaque;
     }
 }
 
@@ -336,64 +254,33 @@ fn kind(request: &Request<'_>) -> Kind
     }
 }
 
+/// A request of one of these kinds, with arguments of these names.
+macro_rules! any {
+    ($($name:ident)|+: $arguments:tt) => {
+        $(Request::$name $arguments)|+
+    };
+}
+
 /// The arguments of a request, without its timeout.
 #[inline(always)]
 fn texts<'a>(request: &Request<'a>) -> Texts<'a>
     ensures { texts_of result ≡ (asked_of request.now).arguments }
 {
     match *request {
-        Request::ResetAbilities => Texts::zero(),
-        Request::PreSleep => Texts::zero(),
-        Request::GrabJob => Texts::zero(),
-        Request::AllYours => Texts::zero(),
-        Request::GrabJobUniq => Texts::zero(),
-        Request::CanDo { function } => Texts::one(function),
-        Request::CantDo { function } => Texts::one(function),
-        Request::WorkFail { handle } => Texts::one(handle),
-        Request::GetStatus { handle } => Texts::one(handle),
-        Request::EchoReq { body } => Texts::one(body),
-        Request::SetClientId { id } => Texts::one(id),
-        Request::OptionReq { name } => Texts::one(name),
-        Request::CanDoTimeout { function, .. } => Texts::one(function),
-        Request::WorkComplete { handle, body } => Texts::two(handle, body),
-        Request::WorkException { handle, body } => Texts::two(handle, body),
-        Request::WorkData { handle, body } => Texts::two(handle, body),
-        Request::WorkWarning { handle, body } => Texts::two(handle, body),
-        Request::WorkStatus {
-            handle,
-            numerator,
-            denominator,
-        } => { Texts::three(handle, numerator, denominator) }
-        Request::SubmitJob {
-            function,
-            unique,
-            body,
-        } => Texts::three(function, unique, body),
-        Request::SubmitJobBg {
-            function,
-            unique,
-            body,
-        } => Texts::three(function, unique, body),
-        Request::SubmitJobHigh {
-            function,
-            unique,
-            body,
-        } => Texts::three(function, unique, body),
-        Request::SubmitJobHighBg {
-            function,
-            unique,
-            body,
-        } => Texts::three(function, unique, body),
-        Request::SubmitJobLow {
-            function,
-            unique,
-            body,
-        } => Texts::three(function, unique, body),
-        Request::SubmitJobLowBg {
-            function,
-            unique,
-            body,
-        } => Texts::three(function, unique, body),
+        any!(ResetAbilities | PreSleep | GrabJob | AllYours | GrabJobUniq: {}) => Texts::of(&[]),
+        any!(CanDo | CantDo | CanDoTimeout: { function, .. }) => Texts::of(&[function]),
+        any!(WorkFail | GetStatus: { handle }) => Texts::of(&[handle]),
+        Request::EchoReq { body } => Texts::of(&[body]),
+        Request::SetClientId { id } => Texts::of(&[id]),
+        Request::OptionReq { name } => Texts::of(&[name]),
+        any!(WorkComplete | WorkException | WorkData | WorkWarning: { handle, body }) => {
+            Texts::of(&[handle, body])
+        }
+        any!(WorkStatus: { handle, numerator, denominator }) => {
+            Texts::of(&[handle, numerator, denominator])
+        }
+        any!(SubmitJob | SubmitJobBg | SubmitJobHigh | SubmitJobHighBg | SubmitJobLow | SubmitJobLowBg:
+            { function, unique, body }) => Texts::of(&[function, unique, body]),
     }
 }
 
@@ -417,7 +304,7 @@ pub fn request_fits(request: &Request<'_>) -> bool
         Some((function, timeout)) => {
             let mut buffer = Buffer::new();
             let digits = buffer.format(timeout).as_bytes();
-            fits(Texts::two(function, digits).as_slice())
+            fits(&[function, digits])
         }
     }
 }
@@ -438,7 +325,7 @@ pub fn write_request(request: &Request<'_>, out: &mut Vec<u8>) -> Result<(), All
         Some((function, timeout)) => {
             let mut buffer = Buffer::new();
             let digits = buffer.format(timeout).as_bytes();
-            put_two(out, &REQUEST_MAGIC, number, function, digits)
+            put_texts(out, &REQUEST_MAGIC, number, &[function, digits])
         }
     }
 }

@@ -125,40 +125,38 @@ fn texts<'a>(response: &Response<'a>) -> Texts<'a>
     ensures { texts_of result ≡ (answer_of response.now).arguments }
 {
     match response {
-        Response::Noop => Texts::zero(),
-        Response::NoJob => Texts::zero(),
-        Response::JobCreated { handle } => Texts::one(handle),
-        Response::WorkFail { handle } => Texts::one(handle),
-        Response::EchoRes { body } => Texts::one(body),
-        Response::OptionRes { name } => Texts::one(name),
-        Response::WorkComplete { handle, body } => Texts::two(handle, body),
-        Response::WorkException { handle, body } => Texts::two(handle, body),
-        Response::WorkData { handle, body } => Texts::two(handle, body),
-        Response::WorkWarning { handle, body } => Texts::two(handle, body),
-        Response::Error { code, text } => Texts::two(code, text),
+        Response::Noop | Response::NoJob => Texts::of(&[]),
+        Response::JobCreated { handle } | Response::WorkFail { handle } => Texts::of(&[handle]),
+        Response::EchoRes { body } => Texts::of(&[body]),
+        Response::OptionRes { name } => Texts::of(&[name]),
+        Response::WorkComplete { handle, body }
+        | Response::WorkException { handle, body }
+        | Response::WorkData { handle, body }
+        | Response::WorkWarning { handle, body } => Texts::of(&[handle, body]),
+        Response::Error { code, text } => Texts::of(&[code, text]),
         Response::JobAssign {
             handle,
             function,
             body,
-        } => Texts::three(handle, function, body),
+        } => Texts::of(&[handle, function, body]),
         Response::WorkStatus {
             handle,
             numerator,
             denominator,
-        } => { Texts::three(handle, numerator, denominator) }
+        } => { Texts::of(&[handle, numerator, denominator]) }
         Response::JobAssignUniq {
             handle,
             function,
             unique,
             body,
-        } => { Texts::four(handle, function, unique, body) }
+        } => { Texts::of(&[handle, function, unique, body]) }
         Response::StatusRes {
             handle,
             known,
             running,
             numerator,
             denominator,
-        } => { Texts::five(handle, flag(*known), flag(*running), numerator, denominator) }
+        } => { Texts::of(&[handle, flag(*known), flag(*running), numerator, denominator]) }
     }
 }
 

@@ -1,6 +1,6 @@
 //! The arguments of any packet: none has more than five.
 
-ghost use Rattle.std.specs.Prelude.{◌≡◌, ◌≤◌, [], ◌∷◌, map};
+ghost use Rattle.std.specs.Prelude.{◌≡◌, ◌<◌, ◌≤◌, Some, length, map, slice_get};
 
 /// Up to five arguments, in order.
 #[derive(Clone, Copy)]
@@ -10,72 +10,31 @@ pub(crate) struct Texts<'a> {
     ghost within: { count ≤ 5 },
 }
 
+/// The argument at an index, or no bytes where there is none.
+#[inline(always)]
+fn text_at<'a>(texts: &[&'a [u8]], i: usize) -> &'a [u8]
+    ensures { i < length texts.now → slice_get texts.now i ≡ Some result }
+{
+    if i < texts.len() { texts[i] } else { b"" }
+}
+
 impl<'a> Texts<'a> {
     ghost use Rattle.gm_packet.specs.Texts.{texts_of};
 
     #[inline(always)]
-    pub(crate) fn zero() -> Self
-        ensures { texts_of result ≡ [] }
+    pub(crate) fn of(texts: &[&'a [u8]]) -> Self
+        requires { length texts.now ≤ 5 }
+        ensures { texts_of result ≡ map (λ text. text.now) texts.now }
     {
         Texts {
-            all: [b"", b"", b"", b"", b""],
-            count: 0,
-        }
-    }
-
-    #[inline(always)]
-    pub(crate) fn one(first: &'a [u8]) -> Self
-        ensures { texts_of result ≡ first.now ∷ [] }
-    {
-        Texts {
-            all: [first, b"", b"", b"", b""],
-            count: 1,
-        }
-    }
-
-    #[inline(always)]
-    pub(crate) fn two(first: &'a [u8], second: &'a [u8]) -> Self
-        ensures { texts_of result ≡ first.now ∷ second.now ∷ [] }
-    {
-        Texts {
-            all: [first, second, b"", b"", b""],
-            count: 2,
-        }
-    }
-
-    #[inline(always)]
-    pub(crate) fn three(first: &'a [u8], second: &'a [u8], third: &'a [u8]) -> Self
-        ensures { texts_of result ≡ first.now ∷ second.now ∷ third.now ∷ [] }
-    {
-        Texts {
-            all: [first, second, third, b"", b""],
-            count: 3,
-        }
-    }
-
-    #[inline(always)]
-    pub(crate) fn four(first: &'a [u8], second: &'a [u8], third: &'a [u8], fourth: &'a [u8]) -> Self
-        ensures { texts_of result ≡ first.now ∷ second.now ∷ third.now ∷ fourth.now ∷ [] }
-    {
-        Texts {
-            all: [first, second, third, fourth, b""],
-            count: 4,
-        }
-    }
-
-    #[inline(always)]
-    pub(crate) fn five(
-        first: &'a [u8],
-        second: &'a [u8],
-        third: &'a [u8],
-        fourth: &'a [u8],
-        fifth: &'a [u8],
-    ) -> Self
-        ensures { texts_of result ≡ first.now ∷ second.now ∷ third.now ∷ fourth.now ∷ fifth.now ∷ [] }
-    {
-        Texts {
-            all: [first, second, third, fourth, fifth],
-            count: 5,
+            all: [
+                text_at(texts, 0),
+                text_at(texts, 1),
+                text_at(texts, 2),
+                text_at(texts, 3),
+                text_at(texts, 4),
+            ],
+            count: texts.len(),
         }
     }
 

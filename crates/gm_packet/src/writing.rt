@@ -106,8 +106,7 @@ fn put_data(out: &mut Vec<u8>, texts: &[&[u8]])
 }
 
 /// Appends the packet of this type with these arguments, or leaves `out` as it was where there is no room
-/// for all of it and no memory for more. It is inlined wherever the number of arguments is known, and then
-/// no loop is left of it.
+/// for all of it and no memory for more.
 #[inline(always)]
 fn put_packet(
     out: &mut Vec<u8>,
@@ -125,91 +124,7 @@ fn put_packet(
     Ok(())
 }
 
-/// As `put_packet`, with no argument.
-#[inline(never)]
-fn put_zero(out: &mut Vec<u8>, magic: &[u8; 4], kind: u32) -> Result<(), AllocError>
-    ensures { AppendsPacket magic.now kind [] result out.old out.new }
-{
-    put_packet(out, magic, kind, &[])
-}
-
-/// As `put_packet`, with one argument.
-#[inline(never)]
-fn put_one(out: &mut Vec<u8>, magic: &[u8; 4], kind: u32, first: &[u8]) -> Result<(), AllocError>
-    requires { length (join_with_byte 0 (first.now ∷ [])) < 2 ^ 32 }
-    ensures { AppendsPacket magic.now kind (first.now ∷ []) result out.old out.new }
-{
-    put_packet(out, magic, kind, &[first])
-}
-
-/// As `put_packet`, with two arguments.
-#[inline(never)]
-pub(crate) fn put_two(
-    out: &mut Vec<u8>,
-    magic: &[u8; 4],
-    kind: u32,
-    first: &[u8],
-    second: &[u8],
-) -> Result<(), AllocError>
-    requires { length (join_with_byte 0 (first.now ∷ second.now ∷ [])) < 2 ^ 32 }
-    ensures { AppendsPacket magic.now kind (first.now ∷ second.now ∷ []) result out.old out.new }
-{
-    put_packet(out, magic, kind, &[first, second])
-}
-
-/// As `put_packet`, with three arguments.
-#[inline(never)]
-fn put_three(
-    out: &mut Vec<u8>,
-    magic: &[u8; 4],
-    kind: u32,
-    first: &[u8],
-    second: &[u8],
-    third: &[u8],
-) -> Result<(), AllocError>
-    requires { length (join_with_byte 0 (first.now ∷ second.now ∷ third.now ∷ [])) < 2 ^ 32 }
-    ensures { AppendsPacket magic.now kind (first.now ∷ second.now ∷ third.now ∷ []) result out.old out.new }
-{
-    put_packet(out, magic, kind, &[first, second, third])
-}
-
-/// As `put_packet`, with four arguments.
-#[inline(never)]
-fn put_four(
-    out: &mut Vec<u8>,
-    magic: &[u8; 4],
-    kind: u32,
-    first: &[u8],
-    second: &[u8],
-    third: &[u8],
-    fourth: &[u8],
-) -> Result<(), AllocError>
-    requires { length (join_with_byte 0 (first.now ∷ second.now ∷ third.now ∷ fourth.now ∷ [])) < 2 ^ 32 }
-    ensures { AppendsPacket magic.now kind (first.now ∷ second.now ∷ third.now ∷ fourth.now ∷ []) result out.old out.new }
-{
-    put_packet(out, magic, kind, &[first, second, third, fourth])
-}
-
-/// As `put_packet`, with five arguments.
-#[inline(never)]
-fn put_five(
-    out: &mut Vec<u8>,
-    magic: &[u8; 4],
-    kind: u32,
-    first: &[u8],
-    second: &[u8],
-    third: &[u8],
-    fourth: &[u8],
-    fifth: &[u8],
-) -> Result<(), AllocError>
-    requires { length (join_with_byte 0 (first.now ∷ second.now ∷ third.now ∷ fourth.now ∷ fifth.now ∷ [])) < 2 ^ 32 }
-    ensures { AppendsPacket magic.now kind (first.now ∷ second.now ∷ third.now ∷ fourth.now ∷ fifth.now ∷ []) result out.old out.new }
-{
-    put_packet(out, magic, kind, &[first, second, third, fourth, fifth])
-}
-
-/// As `put_packet`, by the function for the number of arguments. Where it is inlined behind a `match` that
-/// makes the arguments, the number is known in each arm.
+/// As `put_packet`, in which the number of arguments is then known: no loop is left of it.
 #[inline(always)]
 pub(crate) fn put_texts(
     out: &mut Vec<u8>,
@@ -221,16 +136,12 @@ pub(crate) fn put_texts(
     ensures { AppendsPacket magic.now kind (map (λ text. text.now) texts.now) result out.old out.new }
 {
     match *texts {
-        [] => put_zero(out, magic, kind),
-        [first] => put_one(out, magic, kind, first),
-        [first, second] => put_two(out, magic, kind, first, second),
-        [first, second, third] => put_three(out, magic, kind, first, second, third),
-        [first, second, third, fourth] => {
-            put_four(out, magic, kind, first, second, third, fourth)
-        }
-        [first, second, third, fourth, fifth] => {
-            put_five(out, magic, kind, first, second, third, fourth, fifth)
-        }
+        [] => put_packet(out, magic, kind, &[]),
+        [a] => put_packet(out, magic, kind, &[a]),
+        [a, b] => put_packet(out, magic, kind, &[a, b]),
+        [a, b, c] => put_packet(out, magic, kind, &[a, b, c]),
+        [a, b, c, d] => put_packet(out, magic, kind, &[a, b, c, d]),
+        [a, b, c, d, e] => put_packet(out, magic, kind, &[a, b, c, d, e]),
         _ => put_packet(out, magic, kind, texts),
     }
 }
