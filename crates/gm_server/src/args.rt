@@ -3,6 +3,7 @@
 ghost use Rattle.std.specs.Prelude.{◌≤◌, IfOk};
 
 use clap::{Command, Error};
+use gm_admin::VERSION;
 use gm_options::{ServerOptions, flag, number, server_options, text, with_server_options};
 use std::alloc::{AllocError, Global};
 use std::convert::AsStr;
@@ -57,7 +58,7 @@ fn with_flags<'a>(alloc: Global, command: Command<'a>) -> Result<Command<'a>, Al
 /// The program's command: its options, with the range and the default of each.
 fn command<'a>(alloc: Global) -> Result<Command<'a>, AllocError> {
     let command = Command::new(alloc, "gmd")
-        .version("1.0.0")
+        .version(VERSION)
         .about("A Gearman job server");
     let command = with_name(alloc, with_address(alloc, command)?)?;
     let command = with_server_options(alloc, command)?;
