@@ -2,7 +2,8 @@
 
 ghost use Rattle.std.specs.Prelude.{◌≤◌, IfOk};
 
-use clap::{Command, Error};
+use clap::parser::ValueSource;
+use clap::{ArgMatches, Command, Error};
 use gm_admin::VERSION;
 use gm_options::{ServerOptions, flag, number, server_options, text, with_server_options};
 use std::alloc::{AllocError, Global};
@@ -13,6 +14,8 @@ use std::convert::AsStr;
 pub(crate) struct Args<'a> {
     pub(crate) port: u16,
     pub(crate) listen: &'a str,
+    /// Whether the port or the address was given.
+    pub(crate) has_address: bool,
     pub(crate) name: &'a str,
     pub(crate) server: ServerOptions,
     pub(crate) check: bool,
@@ -65,12 +68,18 @@ fn command<'a>(alloc: Global) -> Result<Command<'a>, AllocError> {
     with_flags(alloc, command)
 }
 
+/// Whether this option was given.
+fn is_given(matches: &ArgMatches<'_>, option: &str) -> bool {
+    matches.value_source(option) == Some(ValueSource::CommandLine)
+}
+
 /// What the arguments ask for, of which the first is the program's name.
 pub(crate) fn parse_args<'a, S: AsStr>(alloc: Global, args: &'a [S]) -> Result<Args<'a>, Error> {
     let matches = command(alloc)?.try_get_matches_from(args)?;
     Ok(Args {
         port: matches.get_one::<u16>("port").unwrap_or(4730),
         listen: matches.get_str("listen").unwrap_or("0.0.0.0"),
+        has_address: is_given(&matches, "port") || is_given(&matches, "listen"),
         name: matches.get_str("name").unwrap_or("gmd"),
         server: server_options(&matches),
         check: matches.get_flag("check"),
