@@ -26,6 +26,9 @@ serve_error_status errors.Listen = 3
 abbrev pub run_status : RunError → ℕ
 run_status errors_of_run.Arguments = 2
 run_status errors_of_run.Name = 2
+run_status errors_of_run.AddressBesideSocket = 2
+run_status errors_of_run.SocketCount = 2
+run_status (errors_of_run.Socket error) = 3
 run_status (errors_of_run.Listen address error) = 3
 run_status errors_of_run.Seed = 3
 run_status errors_of_run.Output = 3

@@ -2,7 +2,9 @@
 
 ghost use Rattle.std.specs.Prelude.{◌≤◌, IfOk};
 
-use clap::{Command, Error};
+use clap::parser::ValueSource;
+use clap::{ArgMatches, Command, Error};
+use gm_admin::VERSION;
 use gm_options::{ServerOptions, flag, number, server_options, text, with_server_options};
 use std::alloc::{AllocError, Global};
 use std::convert::AsStr;
@@ -12,6 +14,8 @@ use std::convert::AsStr;
 pub(crate) struct Args<'a> {
     pub(crate) port: u16,
     pub(crate) listen: &'a str,
+    /// Whether the port or the address was given.
+    pub(crate) has_address: bool,
     pub(crate) name: &'a str,
     pub(crate) server: ServerOptions,
     pub(crate) check: bool,
@@ -57,11 +61,16 @@ fn with_flags<'a>(alloc: Global, command: Command<'a>) -> Result<Command<'a>, Al
 /// The program's command: its options, with the range and the default of each.
 fn command<'a>(alloc: Global) -> Result<Command<'a>, AllocError> {
     let command = Command::new(alloc, "gmd")
-        .version("1.0.0")
+        .version(VERSION)
         .about("A Gearman job server");
     let command = with_name(alloc, with_address(alloc, command)?)?;
     let command = with_server_options(alloc, command)?;
     with_flags(alloc, command)
+}
+
+/// Whether this option was given.
+fn is_given(matches: &ArgMatches<'_>, option: &str) -> bool {
+    matches.value_source(option) == Some(ValueSource::CommandLine)
 }
 
 /// What the arguments ask for, of which the first is the program's name.
@@ -70,6 +79,7 @@ pub(crate) fn parse_args<'a, S: AsStr>(alloc: Global, args: &'a [S]) -> Result<A
     Ok(Args {
         port: matches.get_one::<u16>("port").unwrap_or(4730),
         listen: matches.get_str("listen").unwrap_or("0.0.0.0"),
+        has_address: is_given(&matches, "port") || is_given(&matches, "listen"),
         name: matches.get_str("name").unwrap_or("gmd"),
         server: server_options(&matches),
         check: matches.get_flag("check"),

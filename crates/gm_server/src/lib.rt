@@ -25,6 +25,7 @@ mod server;
 mod session;
 mod settings;
 mod state;
+mod systemd;
 
 pub use error::{ControlError, ServeError};
 pub use gate::{Gate, OpenGate};

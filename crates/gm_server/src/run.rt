@@ -1,6 +1,6 @@
 //! Runs the program on its arguments.
 
-ghost use Rattle.std.specs.Prelude.{◌≡◌, None, IfOk, IsOk, IsErr, OnOk, OnErr};
+ghost use Rattle.std.specs.Prelude.{◌≡◌, ◌↔◌, None, false, true, IfOk, IsOk, IsErr, OnOk, OnErr};
 ghost use Rattle.std.specs.Result.{IsErrOf};
 ghost use Rattle.gm_notes.specs.Settings.{config_fault};
 ghost use Rattle.gm_server.specs.Arguments.{asked_settings};
@@ -12,9 +12,11 @@ use crate::gate::OpenGate;
 use crate::ready::Ready;
 use crate::server::serve_announced;
 use crate::settings::{Served, Settings};
+use crate::systemd::{first_socket, handed_sockets, notify_ready};
 use clap::error::ErrorKind;
 use gm_notes::Config;
 use std::alloc::{AllocError, Global};
+use std::env::Env;
 use std::hash::RandomState;
 use std::io;
 use std::io::Write;
@@ -34,6 +36,15 @@ enum RunError {
     /// The name can't stand in a job handle.
     #[error("invalid --name: use 1 to 40 letters, digits, dots and hyphens")]
     Name,
+    /// A port or an address is given, and a socket is handed over.
+    #[error("invalid arguments: a socket from systemd has its own address, so leave out --port and --listen")]
+    AddressBesideSocket,
+    /// Several sockets are handed over, or the environment gives no number of them.
+    #[error("invalid LISTEN_FDS: gmd takes one socket from systemd")]
+    SocketCount,
+    /// It can't listen on the socket that is handed over.
+    #[error("can't listen on the socket from systemd: {0}")]
+    Socket(io::Error),
     /// It can't listen.
     #[error("can't listen on {0}: {1}")]
     Listen(String, io::Error),
@@ -54,9 +65,16 @@ impl RunError {
         ensures { result ≡ run_status self.now }
     {
         match self {
-            RunError::Arguments | RunError::Name => 2,
+            RunError::Arguments
+            | RunError::Name
+            | RunError::AddressBesideSocket
+            | RunError::SocketCount => 2,
             RunError::Serve(ServeError::Differs) => 4,
-            RunError::Listen(..) | RunError::Seed | RunError::Output | RunError::Serve(_) => 3,
+            RunError::Socket(_)
+            | RunError::Listen(..)
+            | RunError::Seed
+            | RunError::Output
+            | RunError::Serve(_) => 3,
         }
     }
 }
@@ -145,22 +163,61 @@ fn print_listening<W: Write>(w: &mut W) -> io::Result<()> {
 
 /// Where it is said that the server listens, and whether that could be said.
 #[derive(Drop)]
-struct Listening<'w, W> {
+struct Listening<'w, R, W> {
+    rt: &'w R,
     output: &'w mut W,
     told: io::Result<()>,
 }
 
-impl<'w, W: Write> Ready for Listening<'w, W> {
+impl<'w, R: Env + Eprint, W: Write> Ready for Listening<'w, R, W> {
     fn tell(&mut self) -> bool {
         self.told = print_listening(self.output);
-        self.told.is_ok()
+        if self.told.is_err() {
+            return false;
+        }
+        if let Err(error) = notify_ready(self.rt) {
+            // It can serve without. Where systemd waits for the message, the start fails, and this says why.
+            let _ = eprintln!(self.rt; "gmd: can't tell systemd that it is ready: {error}");
+        }
+        true
     }
 }
 
-/// That it can't listen, and why.
-fn cannot_listen(alloc: Global, args: Args<'_>, error: io::Error) -> Result<RunError, AllocError> {
+/// Whether it takes a socket that is handed over, where this many are. If not, it makes one at its own address.
+fn takes_socket(sockets: Option<u32>, has_address: bool) -> Result<bool, RunError>
+    ensures own { (result ≡ Ok false) ↔ (sockets ≡ Some 0) }
+    ensures taken { (result ≡ Ok true) ↔ ((sockets ≡ Some 1) × (has_address ≡ false)) }
+    ensures address { IsErrOf result RunError.AddressBesideSocket ↔ ((sockets ≡ Some 1) × (has_address ≡ true)) }
+    ensures count { (sockets ≡ Some 0 → ⊥) → (sockets ≡ Some 1 → ⊥) → IsErrOf result RunError.SocketCount }
+{
+    match sockets {
+        Some(0) => Ok(false),
+        Some(1) if has_address => Err(RunError::AddressBesideSocket),
+        Some(1) => Ok(true),
+        _ => Err(RunError::SocketCount),
+    }
+}
+
+/// What takes the connections: the socket that is handed over, or one at the address of the arguments.
+fn open_listener<R: Net<Listener = TcpListener, Stream = TcpStream> + Env + AllocGlobal>(
+    rt: &R,
+    args: Args<'_>,
+) -> Result<TcpListener, RunError> {
     let Args { port, listen, .. } = args;
-    Ok(RunError::Listen(format!(in alloc; "{listen}:{port}")?, error))
+    if takes_socket(handed_sockets(rt), args.has_address)? {
+        return match first_socket() {
+            Ok(listener) => Ok(listener),
+            Err(error) => Err(RunError::Socket(error)),
+        };
+    }
+    match TcpListener::bind(rt, (listen, port)) {
+        Ok(listener) => Ok(listener),
+        Err(error) => {
+            let alloc = rt.alloc();
+            let address = format!(in alloc; "{listen}:{port}")?;
+            Err(RunError::Listen(address, error))
+        }
+    }
 }
 
 /// Serves as the arguments ask.
@@ -170,6 +227,7 @@ fn serve_on<
         + Clock
         + RandomSource
         + Net<Listener = TcpListener, Stream = TcpStream>
+        + Env
         + Eprint
         + AllocGlobal
         + Sync,
@@ -178,11 +236,9 @@ fn serve_on<
     let Ok(seed) = RandomState::new(rt) else {
         return Err(RunError::Seed);
     };
-    let listener = match TcpListener::bind(rt, (args.listen, args.port)) {
-        Ok(listener) => listener,
-        Err(error) => return Err(cannot_listen(rt.alloc(), args, error)?),
-    };
+    let listener = open_listener(rt, args)?;
     let mut listening = Listening {
+        rt,
         output: w,
         told: Ok(()),
     };
@@ -210,6 +266,7 @@ fn run<
         + Clock
         + RandomSource
         + Net<Listener = TcpListener, Stream = TcpStream>
+        + Env
         + Eprint
         + AllocGlobal
         + Sync,
@@ -264,10 +321,10 @@ fn report<R: Eprint>(rt: &R, ended: &Result<Option<Served>, RunError>) {
 }
 
 /// Runs the program on its arguments, of which the first is its name, with this standard output. It answers the status
-/// that the program is to end with: 0 after a shutdown, a check, the help or the version; 2 for invalid arguments; 3
-/// where it can't listen, the system gives no random seed, standard output can't be written, or memory ran out at the
-/// start or, with a tape, at the end of a connection or of the server; 4 where the tape differs from what the connections
-/// were told.
+/// that the program is to end with: 0 after a shutdown, a check, the help or the version; 2 for invalid arguments, also
+/// for an address beside a socket from systemd, and where it is handed other than one; 3 where it can't listen, the system
+/// gives no random seed, standard output can't be written, or memory ran out at the start or, with a tape, at the end of a
+/// connection or of the server; 4 where the tape differs from what the connections were told.
 ///
 /// The options are those of gearmand(8) of the same names, `--tape` and `--check`.
 pub fn run_words<
@@ -276,6 +333,7 @@ pub fn run_words<
         + Clock
         + RandomSource
         + Net<Listener = TcpListener, Stream = TcpStream>
+        + Env
         + Eprint
         + AllocGlobal
         + Sync,

@@ -2,6 +2,7 @@
 
 use crate::checks::same;
 use gm_server::run_words;
+use std::env::Env;
 use std::net::{Net, TcpListener, TcpStream};
 use std::process::Abort;
 use std::random::RandomSource;
@@ -17,6 +18,7 @@ fn assert_words<
         + Clock
         + RandomSource
         + Net<Listener = TcpListener, Stream = TcpStream>
+        + Env
         + Eprint
         + AllocGlobal
         + Abort
