@@ -62,30 +62,3 @@ pub trait Notify<R> {
     /// Tells what came of some units, with the book's lock let go.
     fn notify(&self, rt: &R, effects: &Effects);
 }
-
-/// A session that is served alone: nobody is told, and nobody waits.
-#[derive(Drop)]
-pub struct Alone {
-    long_piece_lock: Mutex<()>,
-}
-
-impl Alone {
-    /// For one session. Its lock for long pieces is free.
-    pub fn new() -> Alone {
-        Alone {
-            long_piece_lock: Mutex::new(()),
-        }
-    }
-}
-
-impl<R> Notify<R> for Alone {
-    fn long_piece_lock(&self) -> &Mutex<()> {
-        &self.long_piece_lock
-    }
-
-    fn is_time(&self, _rt: &R, _begun: &mut Option<Instant>) -> bool {
-        false
-    }
-
-    fn notify(&self, _rt: &R, _effects: &Effects) {}
-}

@@ -5,13 +5,3 @@ pub trait Ready {
     /// Tells so, and says whether it could. Where not, the server ends at once.
     fn tell(&mut self) -> bool;
 }
-
-/// Nobody is told.
-#[derive(Clone, Copy)]
-pub struct Unannounced;
-
-impl Ready for Unannounced {
-    fn tell(&mut self) -> bool {
-        true
-    }
-}

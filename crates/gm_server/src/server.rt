@@ -10,7 +10,7 @@ use crate::ending::settle_state;
 use crate::error::{ControlError, ServeError};
 use crate::gate::Gate;
 use crate::own_desk::OwnDesk;
-use crate::ready::{Ready, Unannounced};
+use crate::ready::Ready;
 use crate::settings::{Served, Settings};
 use crate::state::ServerState;
 use gm_feeder::Limits;
@@ -109,27 +109,6 @@ fn served(connections: u64, book: &Result<Settled, SettleError>) -> Result<Serve
             SettleError::Differs(_) => Err(ServeError::Differs),
         },
     }
-}
-
-/// Serves the connections that a listener takes, until one of them asks for a shutdown (the Gearman PROTOCOL document,
-/// "Administrative Protocol") and all are closed. Names and ids come from strangers, so the book's tables hash with this
-/// seed. Each unit passes the gate. Where the settings ask for a tape, every accepted call is kept on it, and in the end
-/// it is compared with what each connection's desk and pen were told.
-///
-/// `Memory` comes if there is no memory for the book or for its end, and with a tape if there is none to enter the end
-/// of a connection, which stops the server; `Differs` where the tape differs from what was told; `Listen`
-/// where the listener fails. With a tape it answers `Ok` exactly where the two agree.
-pub fn serve<R: Threads + Wait + Clock + Eprint + Sync, G: Gate>(
-    rt: &R,
-    alloc: Global,
-    seed: RandomState,
-    listener: TcpListener,
-    settings: Settings,
-    gate: &G,
-) -> Result<Served, ServeError>
-    ensures { EndsSo settings.config settings.tape result }
-{
-    serve_announced(rt, alloc, seed, listener, settings, gate, &mut Unannounced)
 }
 
 /// The same (`serve`). Once the book stands, and before a connection is taken, `ready` tells so; where it can't, the

@@ -7,7 +7,7 @@ ghost use Rattle.gm_notes.specs.Steps.{Packet};
 ghost use Rattle.gm_server.specs.Effects.{IsNothing, Keeps};
 ghost use Rattle.gm_server.specs.Sessions.{IsPiece, Applies, TakesNext, Unloads, Reads};
 
-use crate::effects::{Alone, Effects, Notify};
+use crate::effects::{Effects, Notify};
 use crate::gate::Gate;
 use gm_bytes::{Data, LONG, SharedBytes};
 use gm_conns::SlotSet;
@@ -335,27 +335,6 @@ fn read_piece<I: Read>(feeder: &mut Feeder, reader: &mut I) -> Result<usize, Ses
             _ => Err(SessionEnd::ReadFault),
         },
     }
-}
-
-/// Reads a connection's stream to its end, cuts it into units and applies each at the slot, in order; where no
-/// continuation of what came can be read, it applies that fault and ends. Each unit passes the gate first. The desk is the
-/// slot's. With a tape the desk is told of these events and of no others.
-pub fn read_session<'s, K: BookName, R: Wait, I: Read, G: Gate>(
-    rt: &'s R,
-    alloc: Global,
-    reader: &mut I,
-    shared: &'s Shared<K>,
-    desk: &'s mut Desk<K>,
-    slot: u32,
-    limits: Limits,
-    gate: &'s G,
-) -> SessionEnd
-    ensures ended { result ≡ SessionEnd.Ended → IsAtEnd (I.remaining reader.new) }
-    ensures reads { Reads K.settings K.taped desk.old.number slot limits (I.remaining reader.old) (I.remaining reader.new) result desk.old.share.items desk.new.share.items }
-    ensures number { desk.new.number ≡ desk.old.number }
-{
-    let alone = Alone::new();
-    read_and_notify(rt, alloc, reader, shared, desk, slot, limits, gate, &alone)
 }
 
 /// The same (`read_session`), and the server is told what came of each piece, or of some of its units.
