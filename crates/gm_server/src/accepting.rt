@@ -7,7 +7,7 @@ use crate::keepalive::set_keepalive;
 use crate::own_desk::OwnDesk;
 use crate::state::ServerState;
 use gm_shared::BookName;
-use libc::EMFILE;
+use libc::{EBADF, EINVAL, EMFILE, ENOTSOCK};
 use std::alloc::AllocError;
 use std::io::ErrorKind;
 use std::net::{SocketAddr, TcpListener, TcpStream};
@@ -37,8 +37,11 @@ fn prepare(stream: &TcpStream) -> io::Result<()> {
 
 /// Whether this error says that the listener itself failed. Other errors of `accept` come from one connection, or from
 /// others that are open, and pass.
-fn is_over(error: &io::Error) -> bool {
-    error.kind() == ErrorKind::InvalidInput
+fn is_fatal(error: &io::Error) -> bool {
+    matches!(
+        error.raw_os_error(),
+        Some(EINVAL) | Some(EBADF) | Some(ENOTSOCK)
+    )
 }
 
 /// Whether no connection came, or the one that did is gone.
@@ -50,6 +53,16 @@ fn is_usual(error: &io::Error) -> bool {
             | ErrorKind::Interrupted
             | ErrorKind::ConnectionAborted
     )
+}
+
+/// Waits until each connection has ended. One that has just arrived needs its writer until then.
+fn wait_for_ends<K: BookName>(rt: &(impl Wait + Clock), state: &ServerState<K>) {
+    for _ in rt.forever() {
+        if !state.has_connections() {
+            return;
+        }
+        thread::sleep(rt, Duration::from_millis(ACCEPT_TIMEOUT));
+    }
 }
 
 /// What the control thread works with.
@@ -149,7 +162,7 @@ impl<'s, K: BookName + Send + Sync> Control<'s, K> {
                     let _ = self.admit(scope, rt, gate, stream, peer);
                 }
                 Err(error) if is_usual(&error) => {}
-                Err(error) if is_over(&error) => return Err(ControlError::Listen),
+                Err(error) if is_fatal(&error) => return Err(ControlError::Listen),
                 Err(error) => self.hold_on(rt, &error),
             }
             if self.state.is_over() {
@@ -180,6 +193,7 @@ impl<'s, K: BookName + Send + Sync> Control<'s, K> {
         } = self;
         if outcome.is_err() {
             state.stop();
+            wait_for_ends(rt, state);
         }
         state.dismiss(rt);
         match outcome {

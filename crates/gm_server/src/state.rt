@@ -148,8 +148,12 @@ impl<K: BookName> ServerState<K> {
 
     /// Whether the server takes no new connections, and has none; or it ran out of memory at the end of one.
     pub(crate) fn is_over(&self) -> bool {
-        self.out_of_memory()
-            || self.is_ending.load(Ordering::SeqCst) && self.connections.load(Ordering::SeqCst) == 0
+        self.out_of_memory() || self.is_ending.load(Ordering::SeqCst) && !self.has_connections()
+    }
+
+    /// Whether a connection is open, or about to start.
+    pub(crate) fn has_connections(&self) -> bool {
+        self.connections.load(Ordering::SeqCst) > 0
     }
 
     /// Whether it ran out of memory at a connection's end.
