@@ -2,7 +2,8 @@
  *
  * The variable FAIL is KIND:N, or KIND:N.. for the Nth and all that follow. KIND is growth (malloc, calloc and realloc),
  * read (read and recv), write (write and writev), or send (send and sendmsg). Where a call failed, a byte is written to the
- * descriptor of the variable FAIL_TOLD.
+ * descriptor of the variable FAIL_TOLD. Where KIND is accept, each accept after the Nth connection fails as that of a
+ * listener that failed.
  *
  * A test asks for it itself: a growth to 2^47 + N bytes, which succeeds nowhere else, has the Nth growth after it refused, and
  * one to 2^47 bytes ends that, and succeeds where one was refused. */
@@ -16,9 +17,9 @@ extern long syscall(long, ...);
 extern char *getenv(const char *);
 extern int *__errno_location(void);
 
-enum { NONE, GROWTH, READ, WRITE, SEND };
-enum { SYS_READ = 0, SYS_WRITE = 1, SYS_WRITEV = 20, SYS_SENDTO = 44, SYS_RECVFROM = 45, SYS_SENDMSG = 46 };
-enum { EIO = 5, ENOMEM = 12 };
+enum { NONE, GROWTH, READ, WRITE, SEND, ACCEPT };
+enum { SYS_READ = 0, SYS_WRITE = 1, SYS_WRITEV = 20, SYS_SENDTO = 44, SYS_RECVFROM = 45, SYS_SENDMSG = 46, SYS_ACCEPT4 = 288 };
+enum { EIO = 5, ENOMEM = 12, EINVAL = 22 };
 
 static const size_t ASKED = 1ul << 47;
 
@@ -43,11 +44,11 @@ static const char *after(const char *text, const char *word) {
 }
 
 __attribute__((constructor)) static void read_settings(void) {
-    static const char *const KINDS[] = {"", "growth:", "read:", "write:", "send:"};
+    static const char *const KINDS[] = {"", "growth:", "read:", "write:", "send:", "accept:"};
     const char *text = getenv("FAIL"), *number;
     if (getenv("FAIL_TOLD"))
         told = number_at(getenv("FAIL_TOLD"));
-    for (int at = GROWTH; text && at <= SEND; at++)
+    for (int at = GROWTH; text && at <= ACCEPT; at++)
         if ((number = after(text, KINDS[at]))) {
             left = number_at(number);
             for (; *number; number++)
@@ -119,4 +120,18 @@ long send(int fd, const void *bytes, size_t size, int flags) {
 
 long sendmsg(int fd, const void *message, int flags) {
     return fails(SEND, EIO) ? -1 : syscall(SYS_SENDMSG, fd, message, flags);
+}
+
+int accept4(int fd, void *address, void *size, int flags) {
+    if (kind == ACCEPT && left <= 0) {
+        *__errno_location() = EINVAL;
+        return -1;
+    }
+    long taken = syscall(SYS_ACCEPT4, fd, address, size, flags);
+    left -= taken >= 0;
+    return taken;
+}
+
+int accept(int fd, void *address, void *size) {
+    return accept4(fd, address, size, 0);
 }

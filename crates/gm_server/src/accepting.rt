@@ -38,10 +38,10 @@ fn prepare(stream: &TcpStream) -> io::Result<()> {
 /// Whether this error says that the listener itself failed. Other errors of `accept` come from one connection, or from
 /// others that are open, and pass.
 fn is_fatal(error: &io::Error) -> bool {
-    matches!(
-        error.raw_os_error(),
-        Some(EINVAL) | Some(EBADF) | Some(ENOTSOCK)
-    )
+    match error.raw_os_error() {
+        Some(code) => code == EINVAL || code == EBADF || code == ENOTSOCK,
+        None => false,
+    }
 }
 
 /// Whether no connection came, or the one that did is gone.
