@@ -145,7 +145,7 @@ class Player:
         """Opens a connection. One that is refused is closed without a byte."""
         try:
             peer = Peer(self.server.port, address)
-        except ConnectionRefusedError:
+        except (ConnectionRefusedError, ConnectionResetError):  # reset, where the program ends as the connection comes
             if printed != ["refused 13"] or not self.is_over:
                 raise Wrong("it doesn't listen") from None
             return
