@@ -2,11 +2,14 @@
 //!
 //! A large packet is moved and shared, and not copied: the body of a job is the end of the buffer in which its
 //! submission came. `SharedBytes` is such an end of a buffer. Its owners may be in different threads, and the buffer
-//! is freed with the last of them.
+//! is freed with the last of them. `ByteQueue` is what waits for a connection, and what is being sent to one.
 #![tactic(auto)]
 
+mod byte_queue;
 mod data;
+mod run;
 mod shared_bytes;
 
+pub use byte_queue::{ByteQueue, SHARED_ROOM};
 pub use data::{Data, LONG};
 pub use shared_bytes::SharedBytes;
