@@ -15,7 +15,7 @@ struct Job {
     listeners: Vec<u32>,
 }
 
-/// Live jobs by number and by unique id, who listens to what, what runs where, and what is due when.
+/// Live jobs by number and by unique id, and which slots listen, where jobs run, and when they are due.
 #[derive(Default)]
 struct Jobs {
     next: u64,

@@ -43,7 +43,7 @@ def with_ticks(dice):
 
 def without_ticks(dice, most, length):
     """A script of this length in which no time limit is reached and slot 0 stays open: at first there is half of the connections
-    that may be, now and then a body is long, and who breaks the protocol is closed."""
+    that may be, now and then a body is long, and a connection that breaks the protocol is closed."""
     bodies = [b"", b"x", b"yz"] * 20 + [bytes([65 + n]) * size for n, size in enumerate((65_535, 65_536, 70_000))]
     words = {**WORDS, "b": bodies, "n": [b"0", b"4294967295"]}
     lines = ["open 127.0.0.1"] * max(2, most // 2)

@@ -35,7 +35,7 @@ def joined(script):
 
 
 class Peer(Client):
-    """A connection, and what it is to read. NOOPs come in a lane of their own: they may come before or behind what else comes
+    """A connection, and what it is to read. NOOPs are kept apart: they may come before or behind what else comes
     of a line, and are counted."""
 
     def __init__(self, port, source):
@@ -105,7 +105,7 @@ class Peer(Client):
 
 
 def noops_of(units, noops):
-    """The least and the most NOOPs that come of what a slot sends, where so many come if they are taken at the end of it: a grab
+    """The least and the most NOOPs that come of what a slot sends, where this many come if they are taken at the end of it: a grab
     withdraws one that isn't taken yet, and a slot can sleep again after one that is."""
     kinds = [kind_of(unit) for unit in units]
     has_grab = GRAB_JOB in kinds or GRAB_JOB_UNIQ in kinds

@@ -112,7 +112,7 @@ class Client:
     """A connection to the server."""
 
     def __init__(self, port, source="127.0.0.1", room=None):
-        """With room, the system keeps at most so many bytes, or a little more, that weren't read yet."""
+        """With room, the system keeps at most this many unread bytes, or a little more."""
         self.socket = socket.socket()
         self.socket.settimeout(PATIENCE)
         if room:

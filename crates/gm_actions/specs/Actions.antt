@@ -38,7 +38,7 @@ submission_of s =
 abbrev pub job_of : JobView → Job
 job_of job = record { function = job.function.now; priority = job.priority; unique = job.unique.now; body = job.body.now }
 
--- what a worker is told of a job, whatever text stands for its handle
+-- the answer to a worker with a job, whatever text is given as its handle
 abbrev pub assigned : Bool → List ℕ → Job → Answer
 assigned true text job = job_assign_uniq text job.function job.unique job.body
 assigned false text job = job_assign text job.function job.body
@@ -106,7 +106,7 @@ abbrev pub ReportFits : Option (List ℕ × List ℕ) → Type 0
 ReportFits None = Unit {0}
 ReportFits (Some numbers) = AreNumbers numbers.0 numbers.1
 
--- it can be passed on, and its report can be told again
+-- it can be passed on, and its report can be answered again
 pub record SaidFits (said : Said) : Type 0 where
   pub response : Fits (answer_of said.response).arguments
   pub report : ReportFits (said_report said.report)

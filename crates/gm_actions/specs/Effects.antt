@@ -26,11 +26,11 @@ pub record Agrees {A : Type 0} (settings_of : A → Settings) (keeps : A → Pas
 
 -- ---- the answers to GET_STATUS
 
--- what is told of a live job
+-- the answer about a live job
 abbrev pub known_told : ℕ → List ℕ → ℕ → Past → Past
 known_told c text n past =
     give c (status_res text true (is_running (job_state n past.notes)) (report n past.notes).0 (report n past.notes).1) past
 
--- what is told of any other
+-- the answer about any other
 abbrev pub unknown_told : ℕ → List ℕ → Past → Past
 unknown_told c text past = give c (status_res text false false (codes "0") (codes "0")) past

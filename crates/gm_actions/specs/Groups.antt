@@ -25,7 +25,7 @@ background_by (SubmitJobHighBg function unique body) = Some (submission High tru
 background_by (SubmitJobLowBg function unique body) = Some (submission Low true (function.now ∷ unique.now ∷ body.now ∷ []))
 background_by request = None
 
--- what is said of the job that a handle names
+-- the report on the job that a handle names
 pub record SaidOf : Type 0 where
   pub handle : List ℕ
   pub work : Work

@@ -32,7 +32,7 @@ pub struct Report<'a> {
     pub denominator: &'a [u8],
 }
 
-/// What a worker says of its job: the packet that is passed on, whether only to those who want exceptions,
+/// A worker's report on its job: the packet that is passed on, whether only to listeners with the exceptions option,
 /// how far the job is, if it says so, and whether the job ends with it.
 #[derive(Clone, Copy)]
 pub struct Said<'a> {
@@ -41,7 +41,7 @@ pub struct Said<'a> {
     /// Its last argument, if that is a body.
     pub body: Option<Data<'a>>,
     ghost body_ends: { ForSome body (λ body. EndsWith body.bytes.now (answer_of response)) },
-    /// Whether only those hear it who want exceptions.
+    /// Whether it goes only to listeners with the exceptions option.
     pub exceptions_only: bool,
     /// How far the job is, if that is said.
     pub report: Option<Report<'a>>,

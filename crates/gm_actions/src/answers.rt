@@ -28,7 +28,7 @@ pub struct JobView<'a> {
     pub body: &'a [u8],
 }
 
-/// What a worker is told of the job that it gets, with its unique id if it asked for that (the Gearman PROTOCOL document,
+/// The answer to a worker with the job that it gets, with its unique id if it asked for that (the Gearman PROTOCOL document,
 /// "JOB_ASSIGN" and "JOB_ASSIGN_UNIQ").
 pub fn assignment<'a>(text: &'a [u8], job: &JobView<'a>, with_unique: bool) -> Response<'a>
     ensures exact { answer_of result ≡ assigned with_unique text.now (job_of job.now) }
@@ -52,7 +52,7 @@ pub fn assignment<'a>(text: &'a [u8], job: &JobView<'a>, with_unique: bool) -> R
     }
 }
 
-/// What is told of a live job (the Gearman PROTOCOL document, "STATUS_RES").
+/// The answer about a live job (the Gearman PROTOCOL document, "STATUS_RES").
 pub fn known_status<'a>(handle: &'a [u8], running: bool, report: Report<'a>) -> Response<'a>
     ensures { answer_of result ≡ status_res handle.now true running report.entry.numerator.now report.entry.denominator.now }
 {
@@ -65,7 +65,7 @@ pub fn known_status<'a>(handle: &'a [u8], running: bool, report: Report<'a>) -> 
     }
 }
 
-/// What is told of a job that isn't live, or that nobody made.
+/// The answer about a job that isn't live, or was never made.
 pub fn unknown_status(handle: &[u8]) -> Response<'_>
     ensures { answer_of result ≡ status_res handle.now false false (codes "0") (codes "0") }
 {

@@ -10,7 +10,7 @@ use gm_notes::UnitFault;
 use gm_packet::{Response, write_response};
 use std::alloc::AllocError;
 
-/// Appends an ERROR packet; want of memory leaves the bytes as they were.
+/// Appends an ERROR packet; out of memory, the bytes stay as they were.
 fn append_error(code: &[u8], text: &[u8], out: &mut Vec<u8>) -> Result<(), AllocError>
     requires { Fits (code.now ∷ text.now ∷ []) }
     ensures ok { OnOk result (out.new.items ≡ out.old.items ++ answer_packet (error code.now text.now)) }
@@ -19,7 +19,7 @@ fn append_error(code: &[u8], text: &[u8], out: &mut Vec<u8>) -> Result<(), Alloc
     write_response(&Response::Error { code, text }, out)
 }
 
-/// Appends what a fault prints; want of memory leaves the bytes as they were.
+/// Appends what a fault prints; out of memory, the bytes stay as they were.
 pub fn append_fault(fault: UnitFault, out: &mut Vec<u8>) -> Result<(), AllocError>
     ensures ok { OnOk result (out.new.items ≡ out.old.items ++ fault_text fault) }
     ensures err { OnErr result (out.new.items ≡ out.old.items) }

@@ -24,7 +24,7 @@ pub fn handle(alloc: Global, config: &Config, job: u64) -> Result<Vec<u8>, Alloc
     Ok(text)
 }
 
-/// What of a text stands behind this front, if it begins so.
+/// What follows this head of a text, if it begins so.
 fn behind<'a>(text: &'a [u8], front: &[u8]) -> Option<&'a [u8]>
     ensures { MatchOption result ((rest : List ℕ) → text.now ≢ front.now ++ rest) (λ rest. text.now ≡ front.now ++ rest.now) }
 {

@@ -27,7 +27,7 @@ pub(crate) fn outcome_since(
     }
 }
 
-/// The second of the numbers of a text, which stand between spaces.
+/// The second of a text's numbers, which are separated by spaces.
 fn second(text: &[u8]) -> u64 {
     let mut index: u64 = 0;
     let mut number: u64 = 0;

@@ -9,13 +9,13 @@ pub(crate) enum Event {
     Grab,
     /// It has done them, in an order unlike that of their numbers.
     Complete,
-    /// It goes, and they come back.
+    /// It disconnects, and they come back.
     Return,
-    /// A client that listened many times to one job goes, beside jobs that wait.
+    /// A client that listened many times to one job disconnects, beside jobs that wait.
     LeaveOne,
-    /// A client that listens to many running jobs goes.
+    /// A client that listens to many running jobs disconnects.
     LeaveEach,
-    /// A client goes, and its jobs, which wait, are discarded, below running jobs.
+    /// A client disconnects, and its waiting jobs are discarded, below running jobs.
     Discard,
 }
 

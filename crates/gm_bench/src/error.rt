@@ -23,7 +23,7 @@ pub enum BenchError {
     Resident,
     /// Standard output can't be written.
     Output,
-    /// What is measured refused what a measurement stands on.
+    /// What is measured refused what a measurement needs.
     Refused,
 }
 

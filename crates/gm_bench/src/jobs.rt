@@ -20,7 +20,7 @@ pub(crate) enum Round {
     AssignReturn,
     /// A slot listens to a job, and leaves.
     ListenLeave,
-    /// A job is made for one listener, who leaves; it is found, and ends.
+    /// A job is made for one listener, which leaves; it is found, and ends.
     Orphan,
     /// Looks for a job whose deadline is reached, where none is.
     DueNothing,

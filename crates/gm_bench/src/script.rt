@@ -42,7 +42,7 @@ pub(crate) enum Round {
     Foreground,
     /// A connection comes.
     Open,
-    /// The connection that came last goes.
+    /// The connection that came last closes.
     Close,
     /// A second passes.
     Tick,
@@ -65,9 +65,9 @@ pub(crate) enum Round {
     /// The worker has done one of the jobs that were submitted last, as many as there are rounds, in an order unlike that of
     /// their numbers.
     Complete,
-    /// The worker goes.
+    /// The worker disconnects.
     CloseWorker,
-    /// The client goes.
+    /// The client disconnects.
     CloseClient,
 }
 
@@ -82,7 +82,7 @@ pub(crate) enum Order {
     Drain(u32),
     /// A connection's NOOP is taken.
     Take(u32),
-    /// A connection goes.
+    /// A connection closes.
     Close(u32),
     /// The clock shows this second.
     Tick(u64),

@@ -70,7 +70,7 @@ drained conn = record conn { waiting = []; room = 0 }
 abbrev pub timeout_of : ℕ → Connection → Option ℕ
 timeout_of f conn = lookup (nat_eq f) conn.abilities
 
--- where the ability for a function stands
+-- the position of the ability for a function
 abbrev pub index_of : ℕ → Connection → Option ℕ
 index_of f conn = position (nat_eq f) (keys_of conn.abilities)
 

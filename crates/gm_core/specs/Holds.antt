@@ -188,11 +188,11 @@ CoreAgrees core k steps = Agrees config_of Keeps core k steps
 abbrev pub wake_if_waiting : ℕ → List ℕ → Past → Past
 wake_if_waiting c f past = wake_if (is_asleep (phase c past.notes) && not (is_empty (waiting_for f past.notes))) c past
 
--- a job is made, which somebody wants
+-- a job is made, which is wanted
 abbrev pub add_job : ℕ → Submission → ℕ → Past → Past
 add_job c s n past = keep_or_listen c s n (with_note (Made n s.function s.priority s.unique s.body) past)
 
--- who listens to a job from the start: nobody, if it was submitted in the background
+-- the listeners of a job from the start: none, if it was submitted in the background
 abbrev pub first_listener : Bool → ℕ → Option ℕ
 first_listener true c = None
 first_listener false c = Some c

@@ -1,4 +1,4 @@
--- What is told to several connections at once.
+-- What is queued to several connections at once.
 use Rattle.std.specs.Prelude.{◌≡◌, ℕ, ◌+◌, ◌≤◌, Bool, not, ◌&&◌, ◌||◌, ◌==◌, if◌then◌else◌, List, [], ◌∷◌, ◌++◌, length, false}
 use Rattle.std.specs.Prelude.{Option, Some, None}
 use Rattle.gm_notes.specs.declared.note.Note.{Note}
@@ -8,11 +8,11 @@ use Rattle.gm_jobs.specs.Live.{Live, waits}
 use Rattle.gm_conns.specs.ConnTables.{Table, conn, is_touched}
 use Rattle.gm_core.specs.Holds.{AllTouched}
 
--- whether slot c hears: it is open, and wants exceptions where only those who do hear
+-- whether slot c gets it: it is open, and has the exceptions option where that is needed
 abbrev pub hears : Table → Bool → ℕ → Bool
 hears table exceptions_only c = (conn table c).is_open && (not exceptions_only || (conn table c).has_option)
 
--- the bytes that wait, after this text came for each of these slots, once for each time that it stands there
+-- the bytes that wait, after this text came for each of these slots, once for each time that it is in the list
 abbrev pub poured : List ℕ → List ℕ → (ℕ → List ℕ) → ℕ → List ℕ
 poured text [] bytes = bytes
 poured text (c ∷ slots) bytes = poured text slots (λ d. if d == c then bytes d ++ text else bytes d)

@@ -15,7 +15,7 @@ AreLate k now live after [] = IsLast (is_due now) after live
 AreLate k now live after (late ∷ rest) =
     IsNext (is_due now) after live late.job × (late.text ≡ answer_packet (work_fail (handle k late.job))) × AreLate k now live late.job rest
 
--- the bytes that slot c is told of them, if it hears
+-- the bytes that slot c gets of them, if it is to
 abbrev pub late_bytes : (ℕ → Bool) → Table → ℕ → List Late → ℕ
 late_bytes hears table c [] = 0
 late_bytes hears table c (late ∷ rest) =

@@ -66,7 +66,7 @@ GivesNext old (Ok (Some unit)) new = GivesUnit old (item_of unit) new
 GivesNext old (Ok None) new = GivesNone old new
 GivesNext old (Err fault) new = GivesFault old fault new
 
--- what befalls a feeder: a piece is fed, or a unit that says this is given
+-- what happens to a feeder: a piece is fed, or a unit that says this is given
 pub data Event : Type 0 where
   Fed : List ℕ → Event
   Gave : Item → Event

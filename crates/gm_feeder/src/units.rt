@@ -6,7 +6,7 @@ use std::io;
 
 /// How large a unit may be.
 ///
-/// The ghost field bounds `max_bytes` by a gigabyte: whoever makes the limits shows that, once.
+/// The ghost field bounds `max_bytes` by a gigabyte: the code that makes the limits shows that, once.
 #[derive(Clone, Copy, Debug, PartialEq, Eq)]
 pub struct Limits {
     /// The most bytes of data that a packet may have, at most 1,073,741,824. Its header isn't counted.
@@ -58,7 +58,7 @@ pub enum Unit<'a> {
     Line { bytes: &'a [u8] },
 }
 
-/// A packet with the memory in which it came, for whoever keeps its data without a copy.
+/// A packet with the memory in which it came, for a caller that keeps its data without a copy.
 #[derive(Drop)]
 pub struct OwnedPacket {
     /// The packet type.

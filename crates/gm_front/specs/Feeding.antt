@@ -19,7 +19,7 @@ AgreesAfter agrees change created old new =
 abbrev pub Lacks : {S : Type 0} → (S → Settings → List Step → Type 0) → Step → S → S → Type 0
 Lacks agrees s old new = (k : Settings) (steps : List Step) → agrees old k steps → agrees new k steps × (refusal k s (run k steps) ≡ None)
 
--- The units that stand in the feeder are taken; the rest stays, and the fault that stands there.
+-- The units in the feeder are taken; the rest stays, and its fault.
 pub record Unloads {S : Type 0} (agrees : S → Settings → List Step → Type 0) (c : ℕ) (server : S) (old : Stream) (unloaded : Unloaded) (server' : S) (new : Stream) : Type 0 where
   pub items : List Item
   pub count : length items ≡ unloaded.units
@@ -29,7 +29,7 @@ pub record Unloads {S : Type 0} (agrees : S → Settings → List Step → Type 
   pub sound : unloaded.fault ≡ None → new.fault ≡ None
   pub after : AgreesAfter agrees (λ k steps. with_units k c items steps) unloaded.created server server'
 
--- So many units stand at the head of the bytes; they were taken, and slot c would have taken more.
+-- This many units are at the head of the bytes; they were taken, and slot c would have taken more.
 pub record CutsShort {S : Type 0} (agrees : S → Settings → List Step → Type 0) (c : ℕ) (server : S) (old : Stream) (units : ℕ) (server' : S) : Type 0 where
   pub items : List Item
   pub count : length items ≡ units

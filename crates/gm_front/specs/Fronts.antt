@@ -60,7 +60,7 @@ pub record IsTaken {S : Type 0} (agrees : S → Settings → List Step → Type 
   pub drained : stepped.drained.items ≡ drained_by k input old
   pub held : IsHeld agrees k limits new front
 
--- the refusal is the one that stands; an opening and a tick that would otherwise be taken may answer Memory
+-- the refusal is the definitions'; an opening and a tick that would otherwise be taken may answer Memory
 abbrev pub Refuses : Input → ApplyError → Option ApplyError → Type 0
 Refuses (Opens addr) refused stands = IsRefusal refused stands
 Refuses (Gives c piece) refused stands = stands ≡ Some refused

@@ -20,8 +20,8 @@ use Rattle.gm_front.specs.declared.input.Input.TheVariants as handed
 pub data Input : Type 0 where
   Opens : List ℕ → Input  -- a connection, from this address
   Gives : ℕ → List ℕ → Input  -- this slot gives this piece
-  Cuts : ℕ → List ℕ → ℕ → Input  -- it gives this piece, but memory was wanting after so many of its units
-  Closes : ℕ → Input  -- the connection in this slot goes
+  Cuts : ℕ → List ℕ → ℕ → Input  -- it gives this piece, but memory ran out after this many of its units
+  Closes : ℕ → Input  -- the connection in this slot closes
   Ticks : ℕ → Input  -- it is this moment
   Takes : ℕ → Input  -- the NOOP of this slot is taken
   Withdraws : ℕ → Input  -- the NOOP of this slot is withdrawn
@@ -87,14 +87,14 @@ abbrev pub kept_if : Bool → List ℕ → List ℕ
 kept_if true rest = rest
 kept_if false rest = []
 
--- the units of slot c were handed in, and the fault that stands at the rest, if one does
+-- the units of slot c were handed in, and the fault at the rest, if there is one
 abbrev pub given : Settings → ℕ → List Item → List ℕ → Option UnitFault → Reading → Reading
 given k c items rest fault old =
     let steps = with_fault k c fault (with_units k c items old.steps) in
     record { steps = steps; rests = with_rest c (kept_if (takes_units c (run k steps).notes) rest) old.rests }
 
 -- A piece of slot c: the rest and the piece spell units and a new rest; the units are handed in, and then the fault
--- that stands at the new rest, if one does.
+-- at the new rest, if there is one.
 pub record GivesPiece (k : Settings) (limits : Limits) (c : ℕ) (piece : List ℕ) (old new : Reading) : Type 0 where
   pub items : List Item
   pub rest : List ℕ

@@ -1,4 +1,4 @@
--- What a connection's bytes spell for its slot: units, and the fault that stands behind them.
+-- What a connection's bytes spell for its slot: units, and the fault behind them.
 use Rattle.std.specs.Prelude.{◌≡◌, ℕ, List, [], ◌∷◌, ◌++◌, map, Option, Some, None}
 use Rattle.gm_feeder.specs.declared.units.Limits.{Limits}
 use Rattle.gm_feeder.specs.declared.units.FeedFault.{FeedFault}
@@ -26,25 +26,25 @@ fault_steps c (Some fault) = Fault c fault ∷ []
 abbrev pub steps_of : ℕ → List Item → Option UnitFault → List Step
 steps_of c items fault = map (step_of_unit c) items ++ fault_steps c fault
 
--- the fault of a feeder as the server's; want of memory is none
+-- the fault of a feeder as the server's; Memory is none
 abbrev pub unit_fault : FeedFault → Option UnitFault
 unit_fault feeds.BadMagic = Some faults.BadMagic
 unit_fault feeds.PacketTooLarge = Some faults.PacketTooLarge
 unit_fault feeds.LineTooLong = Some faults.LineTooLong
 unit_fault feeds.Memory = None
 
--- a fault stands at the rest of a stream, and this is its name for the server
+-- there is a fault at the rest of a stream, and this is its name for the server
 pub record IsFaultAt (limits : Limits) (rest : List ℕ) (fault : UnitFault) : Type 0 where
   pub fed : FeedFault
   pub named : unit_fault fed ≡ Some fault
   pub stands : IsFaultOf limits rest fed
 
--- what stands at the rest of a stream: this fault, or none and more bytes are waited for
+-- what is at the rest of a stream: this fault, or none and more bytes are waited for
 abbrev pub Stands : Limits → List ℕ → Option UnitFault → Type 0
 Stands limits rest None = Waits limits rest
 Stands limits rest (Some fault) = IsFaultAt limits rest fault
 
--- these units stand at the head of the bytes, one after another, and then comes this rest
+-- these units are at the head of the bytes, one after another, and then comes this rest
 abbrev pub BeginsWith : Limits → List ℕ → List Item → List ℕ → Type 0
 BeginsWith limits bytes [] rest = bytes ≡ rest
 BeginsWith limits bytes (item ∷ items) rest = (after : List ℕ) × IsUnitThen limits bytes item after × BeginsWith limits after items rest
@@ -69,7 +69,7 @@ pub record GivesFaultAs (old : Stream) (fault : UnitFault) (new : Stream) : Type
   pub named : unit_fault fed ≡ Some fault
   pub gives : GivesFault old fed new
 
--- what stands next, and what is left of the stream
+-- what comes next, and what is left of the stream
 abbrev pub GivesNext : ℕ → Stream → Next → Stream → Type 0
 GivesNext c old (nexts.Unit event) new = GivesEvent c old (step_of event) new
 GivesNext c old nexts.Wait new = GivesNone old new

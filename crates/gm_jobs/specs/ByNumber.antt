@@ -1,4 +1,4 @@
--- How the live jobs stand in a slab, under keys that their numbers lead to.
+-- How the live jobs are kept in a slab, under keys that their numbers lead to.
 use Rattle.std.specs.Prelude.{◌≡◌, ◌≢◌, ℕ, nat_eq, List, [], ◌∷◌, Option, Some, None}
 use Rattle.std.specs.List.{IsDistinct}
 use Rattle.std.specs.Map.{lookup, keys_of}
@@ -22,7 +22,7 @@ abbrev pub jobs_of : List (ℕ × ℕ) → (ℕ → Option (ℕ × Live)) → Li
 jobs_of [] at = []
 jobs_of (p ∷ ps) at = with_job p.0 (at p.1) (jobs_of ps at)
 
--- A number leads to the key at which it stands, and no number stands twice.
+-- A number leads to the key at which it is, and no number is there twice.
 pub record IsIndexed (keys : List (ℕ × ℕ)) (at : ℕ → Option (ℕ × Live)) : Type 0 where
   pub leads : (n k : ℕ) → lookup (nat_eq n) keys ≡ Some k → (live : Live) × (at k ≡ Some (n, live))
   pub stands : (k n : ℕ) (live : Live) → at k ≡ Some (n, live) → lookup (nat_eq n) keys ≡ Some k

@@ -18,7 +18,7 @@ pub record Beside : Type 0 where
   pub listening : Lists
   pub deadlines : DeadlineTable
 
--- Each table knows a live job: its number was given out, its unique id leads to it if it names it, whoever listens to it is
+-- Each table knows a live job: its number was given out, its unique id leads to it if it names it, each of its listeners is
 -- known to listen, and its deadline is listed.
 pub record IsKnown (b : Beside) (n : ℕ) (live : Live) : Type 0 where
   pub made : b.first ≤ n

@@ -1,4 +1,4 @@
--- The lists in which jobs stand in the order of their numbers.
+-- The lists of jobs in the order of their numbers.
 use Rattle.std.specs.Prelude.{◌≡◌, ℕ, ◌<◌, ◌%◌, nat_eq, Bool, true, false, if◌then◌else◌, List, slice_index_or, Option, Some, None, IsSome}
 use Rattle.slab.specs.Slab.{Slab, get, slab_len}
 use Rattle.gm_jobs.specs.declared.lists.Entry.{Entry}
@@ -17,11 +17,11 @@ list_at Waiting true = Some 1024
 list_at Waiting false = None
 list_at Lost orphan = None
 
--- the list in which a job stands: one for the slot where it runs, or the one of the orphans
+-- the list in which a job is: one for the slot where it runs, or the one of the orphans
 abbrev pub stands_in : Live → Option ℕ
 stands_in live = list_at live.stage (is_orphan live)
 
--- ---- keys, and what stands there
+-- ---- keys, and what is there
 
 abbrev pub card : Option Entry → Option (ℕ × Live)
 card None = None
@@ -31,11 +31,11 @@ card (Some entry) = Some (entry.number, entry.job)
 abbrev pub held : Slab Entry → ℕ → Option (ℕ × Live)
 held slab k = card (get slab k)
 
--- the same, but for one key, at which nothing stands
+-- the same, but for one key, at which nothing is
 abbrev pub without : ℕ → (ℕ → Option (ℕ × Live)) → ℕ → Option (ℕ × Live)
 without key at k = if nat_eq key k then None else at k
 
--- The job of this number stands at the key, in the list.
+-- The job of this number is at the key, in the list.
 pub record Stands (at : ℕ → Option (ℕ × Live)) (list k n : ℕ) : Type 0 where
   pub live : Live
   pub there : at k ≡ Some (n, live)
@@ -137,7 +137,7 @@ pub record Sets (way : Way) (from : Spot) (to : Option ℕ) (old new : Way → S
   pub here : new way from ≡ to
   pub others : (w : Way) (s : Spot) → (w ≡ way → s ≡ from → ⊥) → new w s ≡ old w s
 
--- The same jobs stand at the same keys.
+-- The same jobs are at the same keys.
 pub record KeepsJobs (old new : Slab Entry) : Type 0 where
   pub same : (k : ℕ) → held new k ≡ held old k
   pub len : slab_len new ≡ slab_len old

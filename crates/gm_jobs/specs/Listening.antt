@@ -1,4 +1,4 @@
--- What is kept of who listens to what.
+-- What is kept of which slots listen to which jobs.
 use Rattle.std.specs.Prelude.{◌≡◌, ℕ, List, [], Contains, slice_index_or, Option, Some, ◌⊎◌}
 
 -- for each slot the numbers of the jobs that it listens to, among others; and a slot and a job that aren't in

@@ -11,8 +11,8 @@ use Rattle.gm_jobs.specs.declared.job.Body.{Body}
 use Rattle.gm_jobs.specs.declared.job.Body.TheVariants.{Own, Shared}
 
 -- Its function, priority, unique id and body; whether a background submission keeps it; whether it waits or runs, how
--- often it came back where that is counted, and the moment at which it fails; how far it is, once that was told; and who
--- listens, in the order in which they came, once for each time.
+-- often it came back where that is counted, and the moment at which it fails; how far it is, once that was reported; and its
+-- listeners, in the order in which they came, once for each time.
 pub record Live : Type 0 where
   pub function : ℕ
   pub priority : Priority
@@ -66,7 +66,7 @@ reported numerator denominator live = record live { report = Some (numerator, de
 abbrev pub with_listener : ℕ → Live → Live
 with_listener slot live = record live { listeners = live.listeners ++ slot ∷ [] }
 
--- the slot listens no more, however often it did
+-- the slot doesn't listen any more, however often it did
 abbrev pub without_listener : ℕ → Live → Live
 without_listener slot live = record live { listeners = filter (λ c. not (c == slot)) live.listeners }
 

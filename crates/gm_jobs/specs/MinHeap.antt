@@ -18,7 +18,7 @@ later x y = ordering_then (nat_cmp y.0.0 x.0.0) (nat_cmp y.0.1 x.0.1)
 abbrev pub Has : List Pair → ℕ → ℕ → Type 0
 Has heap a b = Contains heap (pair a b)
 
--- the one that stands first
+-- the first one
 abbrev pub first_of : List Pair → Option (ℕ × ℕ)
 first_of [] = None
 first_of (x ∷ xs) = Some x.0

@@ -34,7 +34,7 @@ find_job live n = lookup (nat_eq n) live
 abbrev pub job : Table → ℕ → Option Live
 job table n = find_job table.live n
 
--- who listens to a job; nobody, where it isn't live
+-- a job's listeners; none, where it isn't live
 abbrev pub listeners_of : Option Live → List ℕ
 listeners_of None = []
 listeners_of (Some live) = live.listeners
@@ -94,7 +94,7 @@ pub record Changes (n : ℕ) (change : Live → Live) (old new : Table) : Type 0
   pub room : new.room ≡ old.room
   pub jobs : (m : ℕ) → job new m ≡ (if n == m then option_map change (job old m) else job old m)
 
--- The job is live no more, and nothing else changed.
+-- The job isn't live any more, and nothing else changed.
 pub record Ends (n : ℕ) (old new : Table) : Type 0 where
   pub first : new.first ≡ old.first
   pub next : new.next ≡ old.next

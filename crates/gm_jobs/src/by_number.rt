@@ -45,7 +45,7 @@ impl BuildHasher for NumberHash {
     }
 }
 
-/// The live jobs. Each stands in a slab, under a key that its number leads to, and in a list if it runs or nobody wants
+/// The live jobs. Each is in a slab, under a key that its number leads to, and in a list if it runs or nobody wants
 /// it.
 #[derive(Drop)]
 pub(crate) struct JobMap {
@@ -88,7 +88,7 @@ fn change_job(
     }
 }
 
-// Changes the job of a number, which stands at this key. It goes from its list to another where that is so.
+// Changes the job of a number, which is at this key. It goes from its list to another where that is so.
 fn change_at(
     alloc: Global,
     slab: &mut Slab<Entry>,
@@ -225,7 +225,7 @@ impl JobMap {
         let _removed = self.slab.try_remove(key);
     }
 
-    /// The least number above `after` of a live job that is what is asked for. Each that is stands in this list.
+    /// The least number above `after` of a live job that is what is asked for. All of these are in this list.
     pub(crate) fn next(&self, list: usize, query: Query, after: u64) -> Option<u64>
         requires small { list < 1025 }
         requires listed { (live : Live) → meets query live ≡ true → stands_in live ≡ Some list }

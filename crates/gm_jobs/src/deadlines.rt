@@ -14,7 +14,7 @@ use std::marker::Model;
 
 /// The deadlines of the jobs that run, among others that no job has any more.
 ///
-/// What stands here is compared with its job, so a deadline that no job has any more does no harm. Where it was reached, it
+/// Each deadline here is compared with its job, so a deadline that no job has any more does no harm. Where it was reached, it
 /// goes when no further job is due; where it wasn't, it goes when it is reached, or when there is no room for one more: then
 /// all deadlines are taken from the jobs again.
 #[derive(Drop)]

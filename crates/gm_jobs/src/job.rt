@@ -15,10 +15,10 @@ use gm_notes::{Place, Priority};
 use std::alloc::{AllocError, Global};
 use std::marker::Model;
 
-/// The list in which the orphans stand, after those of the jobs that run.
+/// The list of the orphans, after those of the jobs that run.
 pub(crate) const ORPHANS: usize = 1024;
 
-/// A job to be made: its function by number, and who listens to it from the start, if anybody does.
+/// A job to be made: its function by number, and its first listener, if there is one.
 #[derive(Clone, Copy)]
 pub struct NewJob<'a> {
     pub f: u32,
@@ -100,7 +100,7 @@ pub(crate) enum Change<'a> {
     Keep,
     /// The slot listens, once more.
     Listen(u32),
-    /// The slot listens no more.
+    /// The slot doesn't listen any more.
     Leave(u32),
     /// It is so far: a numerator and a denominator.
     Report(&'a [u8], &'a [u8]),
@@ -212,7 +212,7 @@ impl Job {
         }
     }
 
-    /// How far it is, once that was told: a numerator and a denominator.
+    /// How far it is, once that was reported: a numerator and a denominator.
     pub fn report(&self) -> Option<(&[u8], &[u8])>
         ensures { option_map (λ r. (r.0.now, r.1.now)) result ≡ self.now.report }
     {
@@ -222,7 +222,7 @@ impl Job {
         }
     }
 
-    /// Who listens to it, in the order in which they came.
+    /// Its listeners, in the order in which they came.
     pub(crate) fn listeners(&self) -> &[u32]
         ensures { result.now ≡ self.now.listeners }
     {
@@ -254,7 +254,7 @@ impl Job {
         self.stage.waits() && !self.kept && self.listeners.is_empty()
     }
 
-    /// The list in which it stands, if there is one: of the lists for the slots, which some slots share, or that of the
+    /// The list in which it is, if there is one: of the lists for the slots, which some slots share, or that of the
     /// orphans.
     pub(crate) fn list(&self) -> Option<usize>
         ensures list { result ≡ stands_in self.now }
@@ -332,7 +332,7 @@ impl Job {
         Ok(())
     }
 
-    // The slot listens no more.
+    // The slot doesn't listen any more.
     fn leave(&mut self, slot: u32)
         ensures { self.new ≡ without_listener slot self.old }
     {

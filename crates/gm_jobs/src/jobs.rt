@@ -90,7 +90,7 @@ impl Model for Jobs {
     ghost invariant = { λ t. IsKept (record { seed = t.seed; first = t.first; next = unwrap_or t.next (2 ^ 64); left = is_some t.next; uniques = t.uniques; listening = t.listening; deadlines = t.deadlines }) t.reservation t.jobs.room t.jobs.entries };
 }
 
-// The slot listens no more to these jobs.
+// The slot doesn't listen to these jobs any more.
 fn leave_all(jobs: &mut JobMap, numbers: &[u64], slot: u32)
     ensures left { LeavesSome slot jobs.old.entries jobs.new.entries }
     ensures these { (n : ℕ) → Contains numbers.now n → LeavesOne slot n jobs.old.entries jobs.new.entries }
@@ -101,7 +101,7 @@ fn leave_all(jobs: &mut JobMap, numbers: &[u64], slot: u32)
     }
 }
 
-// The slot listens no more to this job, if there is one.
+// The slot doesn't listen to this job any more, if there is one.
 fn leave_maybe(jobs: &mut JobMap, number: Option<u64>, slot: u32)
     ensures left { LeavesSome slot jobs.old.entries jobs.new.entries }
     ensures this { (n : ℕ) → number ≡ Some n → LeavesOne slot n jobs.old.entries jobs.new.entries }
@@ -274,7 +274,7 @@ impl Jobs {
         }
     }
 
-    /// The job waits again, or is lost if that was its last try: where a job is given to at most so many workers
+    /// The job waits again, or is lost if that was its last try: where a job is given to at most this many workers
     /// and it came back from all but one of them before. A limit of 0 is none.
     pub fn give_back(&mut self, n: u64, limit: u32) -> Back
         ensures back { result ≡ back limit (job self.old n) }
@@ -290,7 +290,7 @@ impl Jobs {
         }
     }
 
-    /// The job is live no more.
+    /// The job isn't live any more.
     pub fn end(&mut self, n: u64)
         ensures { Ends n self.old self.new }
     {
@@ -313,7 +313,7 @@ impl Jobs {
         self.jobs.change(n, Change::Report(numerator, denominator))
     }
 
-    /// Who listens to the job, in the order in which they came.
+    /// The job's listeners, in the order in which they came.
     pub fn listeners(&self, n: u64) -> &[u32]
         ensures { result.now ≡ listeners_of (job self.now n) }
     {

@@ -1,4 +1,4 @@
-//! Who listens to what.
+//! Which slots listen to which jobs.
 
 ghost use Rattle.std.specs.Prelude.{◌≡◌, ◌≢◌, ℕ, ◌<◌, ◌⊎◌, [], Contains, length, IsSome, Some, None, OnOk, slice_index_or, IfSome};
 ghost use Rattle.std.specs.Vec.{vec_len};

@@ -1,4 +1,4 @@
-//! The lists in which jobs stand, in the order of their numbers: those that run at a slot, and those that nobody wants.
+//! The lists of jobs, in the order of their numbers: those that run at a slot, and those that nobody wants.
 
 ghost use Rattle.std.specs.Prelude.{◌≡◌, ◌≢◌, ℕ, ◌<◌, ◌^◌, ◌==◌, ◌&&◌, nat_lt, true, false, Option, slice_index_or, slice_set, IfSome, IfNone, IsSome, Some, None};
 ghost use Rattle.std.specs.Vec.{vec_len};
@@ -11,7 +11,7 @@ ghost use Rattle.gm_jobs.specs.Links.{stands_in, held, without, Stands, back, Be
 use crate::job::{Job, Query};
 use slab::Slab;
 
-/// A live job with its number, and the keys of its neighbours in the list in which it stands.
+/// A live job with its number, and the keys of its neighbours in the list in which it is.
 #[derive(Drop)]
 pub(crate) struct Entry {
     pub(crate) number: u64,
@@ -59,7 +59,7 @@ impl Ends {
 }
 
 impl Entry {
-    /// A job that stands in no list.
+    /// A job that is in no list.
     pub(crate) fn new(number: u64, job: Job) -> Entry
         ensures { result ≡ record { number = number; job = job; before = None; after = None } }
     {
@@ -82,7 +82,7 @@ fn spot_of(list: usize, key: Option<usize>) -> Spot
     }
 }
 
-/// The list in which the job at a key stands.
+/// The list in which the job at a key is.
 pub(crate) fn list_at(slab: &Slab<Entry>, key: usize) -> Option<usize>
     ensures list { (n : ℕ) (live : Live) → held slab.now key ≡ Some (n, live) → result ≡ stands_in live }
     ensures stands { IfSome result (λ l. (n : ℕ) × Stands (held slab.now) l key n) }
@@ -160,7 +160,7 @@ fn comes_before(slab: &Slab<Entry>, way: Way, key: usize, number: u64) -> bool
     }
 }
 
-// The jobs of the list between which a number stands, looked for from a job that comes before it: the one that comes
+// The jobs of the list between which a number belongs, looked for from a job that comes before it: the one that comes
 // last before it, and the first after it, if there is one.
 fn walk(
     slab: &Slab<Entry>,
@@ -186,7 +186,7 @@ fn walk(
     (at, None)
 }
 
-// Whether a job stands at this key, in the list.
+// Whether a job is at this key, in the list.
 fn is_in(slab: &Slab<Entry>, list: usize, key: usize) -> bool
     ensures { result ≡ true → (n : ℕ) × Stands (held slab.now) list key n }
 {

@@ -134,7 +134,7 @@ impl Uniques {
         }
     }
 
-    // The digest leads to this number no more.
+    // The digest doesn't lead to this number any more.
     fn take(&mut self, digest: u64, number: u64)
         ensures kept { (d n : ℕ) → n ≢ number → LeadsTo self.old d n → LeadsTo self.new d n }
         ensures room { self.old.room ≤ self.new.room }

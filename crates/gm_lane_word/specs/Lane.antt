@@ -18,7 +18,7 @@ entered zero = fresh_view
 entered (suc zero) = fresh_view
 entered (suc (suc word)) = with_touch Free fresh_view
 
--- who touches an idle lane has it
+-- a thread that touches an idle lane has it
 abbrev pub hold_touched : ℕ → Hold → Hold
 hold_touched zero hold = Owes
 hold_touched (suc word) hold = hold
@@ -40,14 +40,14 @@ taken_over word = with_touch (hold_taken_over word) record fresh_view { take_ove
 abbrev pub looked : ℕ → View → View
 looked unanswered view = record view { looks = view.looks + 1; answers = view.answers + unanswered; hold = Looks }
 
--- who ends a look gives up a lane that is busy, and owes another look where it was touched since
+-- a thread that ends a look gives up a busy lane, and owes another look where it was touched since
 abbrev pub finished : ℕ → ℕ
 finished word = if word == 1 then 0 else word
 
 abbrev pub after_finish : ℕ → View → View
 after_finish word view = record view { hold = if word == 1 then Free else Owes }
 
--- who hands the lane over has it no more
+-- a thread that hands the lane over doesn't have it any more
 abbrev pub handed_over : View → View
 handed_over view = record view { hand_overs = view.hand_overs + 1; hold = Free }
 
@@ -63,7 +63,7 @@ owes Free = 0
 owes Owes = 1
 owes Looks = 0
 
--- 1 where the word says that somebody has the lane
+-- 1 where the word says that a thread has the lane
 abbrev pub taken : ℕ → ℕ
 taken zero = 0
 taken (suc zero) = 1

@@ -5,7 +5,7 @@ use Rattle.atomic_table.specs.declared.shared.Seat.{Seat}
 use Rattle.gm_lane_word.specs.declared.view.Hold.{Hold}
 use Rattle.gm_lane_word.specs.declared.view.View.{View}
 
--- what somebody did at a lane: touches, those among them that were take-overs, looks that were begun, and hand-overs
+-- what a thread did at a lane: touches, those among them that were take-overs, looks that were begun, and hand-overs
 pub record Count : Type 0 where
   pub lane : TableId
   pub touches : ℕ

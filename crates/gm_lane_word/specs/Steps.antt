@@ -16,13 +16,13 @@ pub data Step (word : ℕ) (views : List View) : ℕ → List View → Type 0 wh
   touches : (seat : ℕ) (view : View) → get_elem? views seat ≡ some view → Step word views (max word 2) (slice_set views seat (touched word view))
   -- a new seat, the writer's, touches the lane, and takes it over where it is late
   takes_over : Step word views 2 (views ++ taken_over word ∷ [])
-  -- who has the lane and owes a look begins one: it follows all touches so far
+  -- the thread that has the lane and owes a look begins one: it follows all touches so far
   looks : (seat : ℕ) (view : View) → get_elem? views seat ≡ some view → view.hold ≡ Owes
       → Step word views 1 (slice_set views seat (looked (touches_of views - answers_of views) view))
-  -- who began a look gives the lane up, unless it was touched since
+  -- the thread that began a look gives the lane up, unless it was touched since
   finishes : (seat : ℕ) (view : View) → get_elem? views seat ≡ some view → view.hold ≡ Looks
       → Step word views (finished word) (slice_set views seat (after_finish word view))
-  -- who has the lane leaves it to the writer
+  -- the thread that has the lane leaves it to the writer
   hands_over : (seat : ℕ) (view : View) → get_elem? views seat ≡ some view → view.hold ≢ Free
       → Step word views 3 (slice_set views seat (handed_over view))
 
@@ -46,7 +46,7 @@ pub record Keeps (word : ℕ) (views : List View) : Type 0 where
   pub answered : answers_of views ≤ touches_of views
   pub all_answered : word < 2 → touches_of views ≡ answers_of views
 
--- Somebody owes the lane a look: who has it and is yet to begin one, or the writer.
+-- A thread owes the lane a look: the one that has it and is yet to begin one, or the writer.
 pub data IsOwed (word : ℕ) (views : List View) : Type 0 where
   by_owner : (seat : ℕ) (view : View) → get_elem? views seat ≡ some view → view.hold ≢ Free → word ≡ 2 → IsOwed word views
   by_writer : word ≡ 3 → IsOwed word views

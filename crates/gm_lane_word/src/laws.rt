@@ -15,8 +15,8 @@ pub fn word_rule()
     ensures reached { (word : ℕ) (views : List View) → Reached word views → Keeps word views }
 {}
 
-/// No delivery is forgotten: at any moment each touch so far was followed by a look that began after it, or somebody
-/// owes one, the one who has the lane or the writer, as the word says. Where the lane is idle nobody has it, and no touch
+/// No delivery is forgotten: at any moment each touch so far was followed by a look that began after it, or a thread
+/// owes one: the thread that has the lane or the writer, as the word says. An idle lane has no owner, and no touch of it
 /// is without a look. At most one has the lane. Nothing but a look follows touches, and it follows all that came before it.
 pub fn no_touch_is_forgotten()
     ensures followed { (word : ℕ) (views : List View) → Reached word views

@@ -1,21 +1,22 @@
-//! The word of a lane: who looks what is to be delivered to a connection, so that no delivery is forgotten.
+//! The word of a lane: which thread delivers to a connection, and when, so that no delivery is forgotten.
 //!
-//! Whoever queued something for a connection then touches its lane. If nobody has the lane, who touched it has it now, and
-//! owes it a look, which takes what is queued. If somebody has it, that one looks again before the lane is given up. Who
-//! finds the peer slow hands the lane over to the connection's writer, which may wait for the peer. One atomic word for
-//! each lane says who is to look:
+//! A thread that queued something for a connection then touches its lane. If no thread has the lane, this one has it now,
+//! and owes it a look, which takes what is queued. If another thread has it, that one looks again before it gives the lane
+//! up. A thread that finds the peer slow hands the lane over to the connection's writer, which may wait for the peer. One
+//! atomic word for each lane says which thread is to look:
 //!
-//! - 0 idle: nobody has the lane, and no touch is without a look.
-//! - 1 busy: somebody has the lane, and began a look after the last touch.
-//! - 2 owed: somebody has the lane, and is to begin a look.
+//! - 0 idle: no thread has the lane, and no touch is without a look.
+//! - 1 busy: a thread has the lane, and began a look after the last touch.
+//! - 2 owed: a thread has the lane, and is to begin a look.
 //! - 3 late: the writer is to take the lane over, and to look.
 //!
 //! Whatever the threads do, in whatever order, each touch was followed by a look that began after it, or the word says
-//! who owes one (`laws`). Not said is that a thread which owes a look also runs, and what a look takes: that is the
-//! caller's closure, which runs once in each look.
+//! which thread owes one (`laws`). Not said is that a thread which owes a look also runs, and what a look takes: that is
+//! the caller's closure, which runs once in each look.
 //!
-//! Who has the lane holds an `Owed` or a `Looking`. Neither can be dropped, so the lane is given up through its word
-//! alone. A call is one atomic step, but for `touch`, which is a load and at most one more. None waits or tries again.
+//! The thread that has the lane holds an `Owed` or a `Looking`. Neither can be dropped, so the lane is given up only
+//! through its word. A call is one atomic step, but for `touch`, which is a load and at most one more. None waits or
+//! tries again.
 #![tactic(auto)]
 
 pub mod laws;

@@ -1,4 +1,4 @@
-//! Who has the lane, and has begun a look.
+//! Held by the thread that has the lane and has begun a look.
 
 ghost use Rattle.std.specs.Prelude.{◌≡◌};
 ghost use Rattle.std.specs.Fn.{FnOnceReturnsAt, FnOnceTakesAt};

@@ -36,21 +36,21 @@ impl Play<(), View> for TakeOver {
     ghost then = { TellsTakeOver };
 }
 
-/// Who has the lane begins a look.
+/// The thread that has the lane begins a look.
 pub(crate) struct Look;
 
 impl Play<(), View> for Look {
     ghost then = { TellsLook };
 }
 
-/// Who has the lane gives it up, unless it was touched since the look began.
+/// The thread that has the lane gives it up, unless it was touched since the look began.
 pub(crate) struct Finish;
 
 impl Play<(), View> for Finish {
     ghost then = { TellsFinish };
 }
 
-/// Who has the lane leaves it to the writer.
+/// The thread that has the lane leaves it to the writer.
 pub(crate) struct HandOver;
 
 impl Play<(), View> for HandOver {

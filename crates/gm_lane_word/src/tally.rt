@@ -1,10 +1,10 @@
-//! Who doesn't have the lane.
+//! Held by a thread that doesn't have the lane.
 
 use crate::view::View;
 use atomic_table::Seat;
 use std::marker::Model;
 
-/// What was done at a lane by somebody who doesn't have it any more, or never had it.
+/// What was done at a lane by a thread that doesn't have it any more, or never had it.
 ///
 /// Contracts see which lane, and what was done at it.
 #[derive(Drop)]

@@ -50,8 +50,8 @@ impl LaneWord {
         Ok(LaneWord { table })
     }
 
-    /// Touches the lane, after something was queued for its connection. Where nobody had the lane, the caller has it now,
-    /// and owes it a look. An error means that somebody else looks, after this touch.
+    /// Touches the lane, after something was queued for its connection. Where no thread had the lane, the caller has it now,
+    /// and owes it a look. An error means that another thread looks, after this touch.
     pub fn touch<'a>(&'a self) -> Result<Owed<'a>, Tally>
         ensures { MatchResult result (λ owed. owed ≡ one_touch self.now) (λ tally. tally ≡ one_touch self.now) }
     {
@@ -67,9 +67,9 @@ impl LaneWord {
         }
     }
 
-    /// Touches the lane as the connection's writer, which has it now where nobody had it or it was late: when the writer
+    /// Touches the lane as the connection's writer, which has it now where no thread had it or it was late: when the writer
     /// starts, since the last connection may have left the lane late, and whenever it is woken. An error means that
-    /// somebody else looks, after this touch.
+    /// another thread looks, after this touch.
     pub fn take_over<'a>(&'a self) -> Result<Owed<'a>, Tally>
         ensures { MatchResult result (λ owed. owed ≡ one_take_over self.now) (λ tally. tally ≡ one_take_over self.now) }
     {

@@ -12,7 +12,7 @@ abbrev pub AllOpen : List ℕ → List Note → Type 0
 AllOpen [] notes = Unit {0}
 AllOpen (c ∷ slots) notes = (is_open c notes ≡ true) × AllOpen slots notes
 
--- who listens to a job is open
+-- a slot that listens to a job is open
 abbrev pub ListenersAreOpen : Settings → List Note → Type 0
 ListenersAreOpen k notes = (n : ℕ) → AllOpen (listeners n notes) notes
 
@@ -20,15 +20,15 @@ ListenersAreOpen k notes = (n : ℕ) → AllOpen (listeners n notes) notes
 abbrev pub RunnersAreOpen : Settings → List Note → Type 0
 RunnersAreOpen k notes = (n c : ℕ) → job_state n notes ≡ states.Running c → is_open c notes ≡ true
 
--- who sleeps, or is owed a NOOP, is open: a slot that isn't open is awake
+-- a slot that sleeps, or is owed a NOOP, is open: a slot that isn't open is awake
 abbrev pub SleepersAreOpen : Type 0
 SleepersAreOpen = (k : Settings) (steps : List Step) (c : ℕ) → is_open c (run k steps).notes ≡ false → phase c (run k steps).notes ≡ Awake
 
--- each waiting job is wanted: a background submission keeps it, or somebody listens to it
+-- each waiting job is wanted: a background submission keeps it, or a slot listens to it
 abbrev pub NoWaitingJobIsOrphaned : Settings → List Note → Type 0
 NoWaitingJobIsOrphaned k notes = (n : ℕ) → job_state n notes ≡ states.Waiting → is_wanted n notes ≡ true
 
--- who sleeps can do none of the jobs that wait
+-- a worker that sleeps can do none of the jobs that wait
 abbrev pub NoOneSleepsBesideWork : Settings → List Note → Type 0
 NoOneSleepsBesideWork k notes = (c n : ℕ) (what : Job) →
     is_asleep (phase c notes) ≡ true → job_state n notes ≡ states.Waiting → job n notes ≡ Some what → is_able c what.function notes ≡ false

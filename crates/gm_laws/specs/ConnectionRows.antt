@@ -20,7 +20,7 @@ LeastSlot =
     × Answers four_slots (
     connect ∷ connect ∷ connect ∷ Close 1 ∷ Close 0 ∷ connect ∷ connect ∷ []) (connect) (opened 3)
 
--- a submission answers the job that it made, and none where it joined one or was refused
+-- A submission's receipt names the job that it made, and none if it joined one or was refused
 abbrev pub MadeJobs : Type 0
 MadeJobs =
     Answers four_slots (
@@ -32,7 +32,7 @@ MadeJobs =
     × Answers four_slots (
     connect ∷ submit_job 0 "f" "a" "1" ∷ []) (submit_job_bg 0 "f" "" "2") (made 2)
 
--- where every slot is open there is none
+-- when every slot is open, another opening is refused
 abbrev pub SlotsSpent : Type 0
 SlotsSpent =
     let steps =
@@ -41,7 +41,7 @@ SlotsSpent =
     × Refuses two_slots steps (Close 5) NotOpen
     × Refuses two_slots steps (Took 1) NotOwed
 
--- steps of slots that aren't open are refused, but for ticks and drains
+-- steps at a slot that isn't open are refused, apart from drains; ticks are taken
 abbrev pub ClosedSlots : Type 0
 ClosedSlots =
     let steps =
@@ -62,7 +62,7 @@ NothingInherited =
     page 0 ("0 127.0.0.1 - :" ∷ "1 10.0.0.1 y : f" ∷ "." ∷ []) ∷ page 0 ("0 127.0.0.1 - :" ∷ "." ∷ [])
     ∷ page 0 ("0 127.0.0.1 - :" ∷ "1 10.0.0.2 - :" ∷ "." ∷ []) ∷ created 0 "H:gmd:1" ∷ no_job 1 ∷ [])
 
--- nor does it want exceptions
+-- the next connection of a slot doesn't have the exceptions option
 abbrev pub OptionNotInherited : Type 0
 OptionNotInherited =
     Plays four_slots (
@@ -70,7 +70,7 @@ OptionNotInherited =
     ∷ grab_job 2 ∷ work_exception 2 "H:gmd:1" "boom" ∷ work_fail 2 "H:gmd:1" ∷ []) (
     option_set 1 "exceptions" ∷ created 1 "H:gmd:1" ∷ assigned 2 "H:gmd:1" "f" "1" ∷ failed 1 "H:gmd:1" ∷ [])
 
--- nor does it sleep, or is it owed a NOOP
+-- the next connection of a slot is awake and owed no NOOP
 abbrev pub SleepNotInherited : Type 0
 SleepNotInherited =
     let steps =
@@ -79,7 +79,7 @@ SleepNotInherited =
     × Owes four_slots (steps ++ pre_sleep 1 ∷ []) (1 ∷ [])
     × Owes four_slots (steps ++ pre_sleep 1 ∷ Close 1 ∷ connect ∷ []) []
 
--- nor is it shut
+-- the next connection of a slot isn't shut
 abbrev pub ShutNotInherited : Type 0
 ShutNotInherited =
     let steps =
@@ -95,7 +95,7 @@ ShutNotInherited =
     × Takes four_slots later (says 1 "version")
     × Takes four_slots later (Fault 1 BadMagic)
 
--- nor does it hear of the jobs of the one before it
+-- the next connection of a slot gets no results of jobs that the one before it submitted
 abbrev pub ListenerNotInherited : Type 0
 ListenerNotInherited =
     Plays four_slots (
@@ -103,7 +103,7 @@ ListenerNotInherited =
     ∷ grab_job 2 ∷ work_complete 2 "H:gmd:1" "x" ∷ []) (
     created 1 "H:gmd:1" ∷ created 0 "H:gmd:1" ∷ assigned 2 "H:gmd:1" "f" "1" ∷ completed 0 "H:gmd:1" "x" ∷ [])
 
--- nor does it run their jobs, or get their bytes
+-- the next connection of a slot doesn't run the jobs of the one before it, or get its bytes
 abbrev pub WorkNotInherited : Type 0
 WorkNotInherited =
     let steps =
@@ -112,7 +112,7 @@ WorkNotInherited =
     created 0 "H:gmd:1" ∷ assigned 1 "H:gmd:1" "f" "1" ∷ error 1 "job_not_found" "job not found" ∷ [])
     × Waits four_slots steps 1 ((error 1 "job_not_found" "job not found").1)
 
--- what waits for a connection is what was queued since it was drained, and goes with it
+-- what waits for a connection is what was queued since its last drain; a closing drops it
 abbrev pub BytesWait : Type 0
 BytesWait =
     let steps =
@@ -131,7 +131,7 @@ BytesSent =
     IsSent four_slots (
     connect ∷ connect ∷ says 1 "foo" ∷ Close 1 ∷ connect ∷ says 1 "version" ∷ Drain 1 ∷ echo_req 0 "x" ∷ echo_req 1 "x" ∷ []) 1 ((line 1 "OK 1.0.0").1 ++ (echoed 1 "x").1)
 
--- a closed slot is given to the next, and its jobs go
+-- A job that only the closed connection wanted is gone
 abbrev pub TwoSlots : Type 0
 TwoSlots =
     Plays two_slots (
@@ -139,7 +139,7 @@ TwoSlots =
     ∷ can_do 1 "f" ∷ grab_job 1 ∷ []) (
     created 0 "H:gmd:1" ∷ assigned 0 "H:gmd:1" "f" "1" ∷ status 1 "H:gmd:1" false false "0" "0" ∷ no_job 1 ∷ [])
 
--- a job whose worker goes waits again, behind the others
+-- A job whose worker disconnects waits again, behind the others
 abbrev pub ReturnedJob : Type 0
 ReturnedJob =
     Plays defaults (
@@ -148,8 +148,7 @@ ReturnedJob =
     created 0 "H:gmd:1" ∷ created 0 "H:gmd:2" ∷ assigned 1 "H:gmd:1" "f" "1" ∷ assigned 1 "H:gmd:2" "f" "2"
     ∷ created 0 "H:gmd:3" ∷ assigned 1 "H:gmd:3" "f" "3" ∷ assigned 1 "H:gmd:1" "f" "1" ∷ assigned 1 "H:gmd:2" "f" "2" ∷ [])
 
--- with a limit on retries, a job waits again until its last worker goes: then it is lost, counts as running, and fails with the
--- next tick
+-- A job whose last allowed worker disconnects fails in the next tick
 abbrev pub JobRetries : Type 0
 JobRetries =
     let lost =
@@ -167,7 +166,7 @@ JobRetries =
     × Stands (given_to 3) lost 1 places.Waiting
     × Stands defaults lost 1 places.Waiting
 
--- a lost job can be joined, and stays when its listeners go: it fails with the next tick, for those who listen then
+-- A lost job can be joined, stays when a listener leaves, and fails in the next tick
 abbrev pub LostJob : Type 0
 LostJob =
     let lost =
@@ -181,7 +180,7 @@ LostJob =
     × Stands (given_to 1) (lost ++ Close 2 ∷ []) 1 places.Lost
     × Stands (given_to 1) (lost ++ Close 2 ∷ Tick 5 ∷ []) 1 places.Gone
 
--- the jobs of a worker that goes wait again, and who sleeps and can do them is woken, and no other
+-- the jobs of a worker that disconnects wait again, and wake only sleeping workers that can do them
 abbrev pub WokenByReturn : Type 0
 WokenByReturn =
     let steps =
@@ -190,7 +189,7 @@ WokenByReturn =
     Owes four_slots steps []
     × Owes four_slots (steps ++ Close 1 ∷ []) (2 ∷ [])
 
--- who goes isn't woken for its own job, nor is the next one in its slot
+-- A worker that disconnects isn't woken for its own job, and neither is the next connection of its slot
 abbrev pub NotItself : Type 0
 NotItself =
     let steps =
@@ -198,14 +197,14 @@ NotItself =
     Owes four_slots steps []
     × Owes four_slots (steps ++ connect ∷ []) []
 
--- a job that nobody waits for is discarded
+-- A job that nobody wants is discarded
 abbrev pub OrphanedJob : Type 0
 OrphanedJob =
     Plays defaults (
     connect ∷ connect ∷ submit_job 0 "f" "x" "a" ∷ Close 0 ∷ can_do 1 "f" ∷ grab_job 1 ∷ []) (
     created 0 "H:gmd:1" ∷ no_job 1 ∷ [])
 
--- a background submission keeps the job that it joins
+-- A background submission keeps the job that it joins
 abbrev pub KeptJob : Type 0
 KeptJob =
     Plays defaults (
@@ -213,7 +212,7 @@ KeptJob =
     ∷ grab_job 2 ∷ []) (
     created 0 "H:gmd:1" ∷ created 1 "H:gmd:1" ∷ assigned 2 "H:gmd:1" "f" "a" ∷ [])
 
--- a closing discards the waiting jobs that nobody else wants, and no others
+-- A closing discards the waiting jobs that nobody else wants, and no others
 abbrev pub OnlyUnwanted : Type 0
 OnlyUnwanted =
     Plays four_slots (
@@ -223,7 +222,7 @@ OnlyUnwanted =
     created 0 "H:gmd:1" ∷ created 0 "H:gmd:2" ∷ created 1 "H:gmd:2" ∷ created 0 "H:gmd:3" ∷ created 1 "H:gmd:4"
     ∷ assigned 2 "H:gmd:2" "f" "2" ∷ assigned 2 "H:gmd:3" "f" "4" ∷ assigned 2 "H:gmd:4" "f" "5" ∷ no_job 2 ∷ [])
 
--- a job that runs goes on when its listeners go, and is discarded when its worker goes too
+-- A running job goes on when its listeners disconnect, and is discarded when its worker disconnects too
 abbrev pub RunsOn : Type 0
 RunsOn =
     Plays four_slots (
@@ -234,7 +233,7 @@ RunsOn =
     ∷ status 2 "H:gmd:1" true true "0" "0" ∷ status 2 "H:gmd:1" false false "0" "0" ∷ status 2 "H:gmd:2" true true "0" "0"
     ∷ status 2 "H:gmd:2" false false "0" "0" ∷ no_job 2 ∷ [])
 
--- with a worker go its own jobs, and those of others run on; a kept job waits again, before those of lower priority
+-- only the jobs of the worker that disconnects stop running; a kept one waits again, before those of lower priority
 abbrev pub OnlyItsJobs : Type 0
 OnlyItsJobs =
     Plays four_slots (

@@ -1,5 +1,5 @@
--- Worked rows of jobs: what the definitions give for whole runs. Each is a statement that stands proved on a function
--- of the same name.
+-- Worked rows of jobs: what the definitions give for whole runs. Each is a statement, which a function of the same name in
+-- src/rows.rt proves.
 use Rattle.std.specs.Prelude.{true, false, [], ◌∷◌, ◌++◌, replicate, codes}
 use Rattle.gm_notes.specs.Steps.{Close}
 use Rattle.gm_packet.specs.Answers.{job_assign_uniq}
@@ -11,7 +11,7 @@ use Rattle.gm_laws.specs.RowWords.{work_data, work_warning, grab_job_uniq, submi
 use Rattle.gm_laws.specs.RowWords.{submit_job_low_bg, to, line, counts, created, no_job, assigned, assigned_uniq, status_was}
 use Rattle.gm_laws.specs.RowWords.{completed, failed, raised, data_was, warned, status, option_set, error, Plays, Owes, Stands}
 
--- high before normal before low
+-- high priority goes before normal, and normal before low
 abbrev pub Priorities : Type 0
 Priorities =
     Plays defaults (
@@ -31,7 +31,7 @@ SixPriorities =
     ∷ created 0 "H:gmd:6" ∷ assigned 1 "H:gmd:3" "f" "hb" ∷ assigned 1 "H:gmd:6" "f" "h" ∷ assigned 1 "H:gmd:2" "f" "nb"
     ∷ assigned 1 "H:gmd:5" "f" "n" ∷ assigned 1 "H:gmd:1" "f" "lb" ∷ assigned 1 "H:gmd:4" "f" "l" ∷ no_job 1 ∷ [])
 
--- the six kinds of submission: what the background keeps stays when its client goes
+-- the six kinds of submission: only background jobs stay when their client disconnects
 abbrev pub SixKeepings : Type 0
 SixKeepings =
     Plays defaults (
@@ -42,7 +42,7 @@ SixKeepings =
     ∷ created 0 "H:gmd:6" ∷ assigned 1 "H:gmd:3" "f" "hb" ∷ assigned 1 "H:gmd:2" "f" "nb" ∷ assigned 1 "H:gmd:1" "f" "lb"
     ∷ no_job 1 ∷ [])
 
--- the six kinds of submission: who submits in the foreground hears of it, the background doesn't
+-- the six kinds of submission: a foreground client gets the outcome, a background client doesn't
 abbrev pub SixHearings : Type 0
 SixHearings =
     Plays defaults (
@@ -55,7 +55,7 @@ SixHearings =
     ∷ assigned 1 "H:gmd:5" "f" "" ∷ assigned 1 "H:gmd:1" "f" "" ∷ assigned 1 "H:gmd:4" "f" "" ∷ failed 0 "H:gmd:4"
     ∷ failed 0 "H:gmd:5" ∷ failed 0 "H:gmd:6" ∷ [])
 
--- who submits a job twice hears of it twice
+-- A client that submits a job twice gets its answers twice
 abbrev pub JoinedListeners : Type 0
 JoinedListeners =
     Plays defaults (
@@ -64,7 +64,7 @@ JoinedListeners =
     created 0 "H:gmd:1" ∷ created 0 "H:gmd:1" ∷ assigned 1 "H:gmd:1" "f" "a" ∷ completed 0 "H:gmd:1" "ok"
     ∷ completed 0 "H:gmd:1" "ok" ∷ [])
 
--- joining keeps the job as it was made, and adds who hears of it
+-- joining keeps the job as it was made; only a foreground submission adds a listener
 abbrev pub JoinedJob : Type 0
 JoinedJob =
     Plays defaults (
@@ -73,7 +73,7 @@ JoinedJob =
     created 0 "H:gmd:1" ∷ created 0 "H:gmd:1" ∷ created 0 "H:gmd:2" ∷ created 1 "H:gmd:2" ∷ assigned 1 "H:gmd:2" "f" "3"
     ∷ assigned_uniq 1 "H:gmd:1" "f" "a" "1" ∷ completed 0 "H:gmd:2" "x" ∷ [])
 
--- a dash, no id, and another function join nothing
+-- the id `-`, an empty id, and another function join nothing
 abbrev pub JoiningKeys : Type 0
 JoiningKeys =
     Plays defaults (
@@ -81,7 +81,7 @@ JoiningKeys =
     ∷ submit_job 0 "g" "x" "e" ∷ []) (
     created 0 "H:gmd:1" ∷ created 0 "H:gmd:2" ∷ created 0 "H:gmd:3" ∷ created 0 "H:gmd:4" ∷ created 0 "H:gmd:5" ∷ [])
 
--- a running job is joined too, and wakes nobody
+-- A running job can be joined too, and that wakes no worker
 abbrev pub JoinsRunning : Type 0
 JoinsRunning =
     let steps =
@@ -92,7 +92,7 @@ JoinsRunning =
     ∷ completed 3 "H:gmd:1" "x" ∷ [])
     × Owes four_slots steps []
 
--- WORK_COMPLETE and WORK_FAIL end a job: it is done once, isn't known any more, and isn't joined
+-- WORK_COMPLETE and WORK_FAIL end a job: it ends once, is unknown afterwards, and can't be joined
 abbrev pub EndedJobs : Type 0
 EndedJobs =
     Plays defaults (
@@ -105,7 +105,7 @@ EndedJobs =
     ∷ failed 0 "H:gmd:2" ∷ error 1 "job_not_found" "job not found" ∷ status 0 "H:gmd:2" false false "0" "0" ∷ created 0 "H:gmd:3"
     ∷ status 0 "H:gmd:3" true false "0" "0" ∷ assigned 1 "H:gmd:3" "f" "3" ∷ no_job 1 ∷ [])
 
--- what is said of a job that runs elsewhere, or waits, or whose handle was never printed, is refused
+-- reports by another worker, on a waiting job, or with a handle that was never printed, are refused
 abbrev pub OnlyItsWorker : Type 0
 OnlyItsWorker =
     Plays defaults (
@@ -119,7 +119,7 @@ OnlyItsWorker =
     ∷ error 1 "job_not_found" "job not found" ∷ error 1 "job_not_found" "job not found" ∷ error 1 "job_not_found" "job not found"
     ∷ status 0 "H:gmd:01" false false "0" "0" ∷ status 0 "H:gmd:1" true true "0" "0" ∷ [])
 
--- what a worker says goes to the listeners, and the last numbers are kept
+-- A worker's reports go to the listeners, and GET_STATUS has the last numbers
 abbrev pub Progress : Type 0
 Progress =
     Plays defaults (
@@ -129,7 +129,7 @@ Progress =
     ∷ status 0 "H:gmd:1" true true "03" "100" ∷ error 0 "job_not_found" "job not found" ∷ data_was 0 "H:gmd:1" "z"
     ∷ warned 0 "H:gmd:1" "" ∷ [])
 
--- the last numbers of a job stay while it waits again
+-- the last WORK_STATUS numbers of a job stay while it waits again
 abbrev pub ReportKept : Type 0
 ReportKept =
     Plays defaults (
@@ -140,7 +140,7 @@ ReportKept =
     ∷ assigned 2 "H:gmd:1" "f" "1" ∷ status 0 "H:gmd:1" true true "1" "2" ∷ status_was 0 "H:gmd:1" "3" "4"
     ∷ status 0 "H:gmd:1" true true "3" "4" ∷ created 0 "H:gmd:2" ∷ status 0 "H:gmd:2" true false "0" "0" ∷ [])
 
--- exceptions go to those who want them, and end nothing
+-- exceptions go to the listeners with that option, and end no job
 abbrev pub ExceptionsOption : Type 0
 ExceptionsOption =
     Plays defaults (
@@ -150,7 +150,7 @@ ExceptionsOption =
     ∷ created 2 "H:gmd:1" ∷ assigned 1 "H:gmd:1" "f" "1" ∷ raised 0 "H:gmd:1" "boom" ∷ failed 0 "H:gmd:1"
     ∷ failed 2 "H:gmd:1" ∷ [])
 
--- a body may hold NUL
+-- A body may hold NUL
 abbrev pub DataWithNul : Type 0
 DataWithNul =
     Plays defaults (
@@ -159,7 +159,7 @@ DataWithNul =
     created 0 "H:gmd:1" ∷ to 1 (job_assign_uniq (codes "H:gmd:1") (codes "f") (codes "u") (97 ∷ 0 ∷ 98 ∷ []))
     ∷ [])
 
--- a limit refuses new jobs and lets submissions join
+-- `maxqueue` refuses new jobs and lets submissions join
 abbrev pub QueueLimit : Type 0
 QueueLimit =
     Plays defaults (
@@ -168,7 +168,7 @@ QueueLimit =
     line 0 "OK" ∷ created 0 "H:gmd:1" ∷ error 0 "queue_full" "queue full" ∷ created 0 "H:gmd:1" ∷ line 0 "OK"
     ∷ created 0 "H:gmd:2" ∷ counts 0 (("f", "2", "0", "0") ∷ []) ∷ [])
 
--- a limit counts the jobs of its function that wait or run; the last one said holds
+-- A limit of `maxqueue` counts the function's jobs that wait or run; the last one set holds
 abbrev pub LimitCounts : Type 0
 LimitCounts =
     Plays defaults (
@@ -179,7 +179,7 @@ LimitCounts =
     ∷ created 0 "H:gmd:2" ∷ created 0 "H:gmd:3" ∷ completed 0 "H:gmd:1" "x" ∷ created 0 "H:gmd:4" ∷ line 0 "OK"
     ∷ created 0 "H:gmd:5" ∷ error 0 "queue_full" "queue full" ∷ [])
 
--- no more functions than the settings allow
+-- functions over the limit are refused, and bad names before that
 abbrev pub FunctionLimit : Type 0
 FunctionLimit =
     Plays one_function (
@@ -188,14 +188,14 @@ FunctionLimit =
     error 0 "too_many_functions" "too many functions" ∷ error 0 "too_many_functions" "too many functions"
     ∷ line 0 "ERR too_many_functions" ∷ error 0 "bad_function" "bad function" ∷ error 0 "bad_arguments" "bad arguments" ∷ [])
 
--- after the last number only joining is left
+-- after the last job number a submission can only join
 abbrev pub LastNumber : Type 0
 LastNumber =
     Plays from_the_last (
     connect ∷ submit_job 0 "f" "a" "1" ∷ submit_job 0 "f" "b" "2" ∷ submit_job 0 "f" "a" "3" ∷ []) (
     created 0 "H:gmd:18446744073709551615" ∷ error 0 "no_numbers" "no numbers" ∷ created 0 "H:gmd:18446744073709551615" ∷ [])
 
--- a submission is refused for its function's name, then for the number of functions, for the limit, and for numbers
+-- A submission is refused for its function's name, then for the number of functions, for the limit, and for job numbers
 abbrev pub RefusalOrder : Type 0
 RefusalOrder =
     Plays (settings 18446744073709551615 4 1) (
@@ -205,7 +205,7 @@ RefusalOrder =
     ∷ error 0 "too_many_functions" "too many functions" ∷ error 0 "queue_full" "queue full" ∷ line 0 "OK"
     ∷ error 0 "no_numbers" "no numbers" ∷ created 0 "H:gmd:18446744073709551615" ∷ [])
 
--- a function's name has 1 to 512 bytes
+-- A function's name has 1 to 512 bytes
 abbrev pub FunctionNames : Type 0
 FunctionNames =
     Plays defaults (
@@ -215,7 +215,7 @@ FunctionNames =
     error 0 "bad_function" "bad function" ∷ error 0 "bad_function" "bad function" ∷ error 0 "bad_function" "bad function"
     ∷ error 0 "bad_function" "bad function" ∷ error 0 "bad_function" "bad function" ∷ line 0 "." ∷ created 0 "H:gmd:1" ∷ [])
 
--- a handle is the name and the number
+-- A handle has the server's name and the job's number
 abbrev pub Handles : Type 0
 Handles =
     Plays (record (settings 41 4 9) { name = codes "a.b-1" }) (

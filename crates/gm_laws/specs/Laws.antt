@@ -156,8 +156,8 @@ abbrev pub AllGoAlike : Settings → List Step → List Step → List Step → T
 AllGoAlike k [] these those = Unit {0}
 AllGoAlike k (s ∷ newer) these those = GoesAlike k s (run k (newer ++ these)) (run k (newer ++ those)) × AllGoAlike k newer these those
 
--- what a server is asked of either past it answers alike: who is owed a NOOP, who is shut, whether it goes on, where jobs are,
--- and which bytes wait
+-- what a server is asked of either past it answers alike: which slots are owed a NOOP, which are shut, whether it goes on,
+-- where jobs are, and which bytes wait
 abbrev pub TellAlike : Past → Past → Type 0
 TellAlike a b =
     ((c : ℕ) → owes c a ≡ owes c b) × ((c : ℕ) → has_shut c a ≡ has_shut c b) × (mode a.notes ≡ mode b.notes)

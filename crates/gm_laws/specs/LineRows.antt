@@ -17,7 +17,7 @@ use Rattle.gm_laws.specs.RowWords.{echoed, error, Plays, Refuses, Takes}
 abbrev pub named : List ℕ → Settings
 named name = record (settings 1 4 9) { name = name }
 
--- the answers of requests that touch no job: an echo, nothing, a type that there isn't, and data that spell nothing
+-- requests that touch no job: an echo, nothing, an unknown type, and malformed data
 abbrev pub PlainAnswers : Type 0
 PlainAnswers =
     Plays four_slots (
@@ -27,7 +27,7 @@ PlainAnswers =
     ∷ error 0 "unknown_command" "unknown command" ∷ error 0 "bad_arguments" "bad arguments"
     ∷ error 0 "bad_arguments" "bad arguments" ∷ error 0 "bad_arguments" "bad arguments" ∷ [])
 
--- one NUL at the end is dropped, and no second
+-- one NUL at the end is dropped, and a second is refused
 abbrev pub TrailingNul : Type 0
 TrailingNul =
     Plays defaults (
@@ -38,7 +38,7 @@ TrailingNul =
     ∷ counts 0 (("f", "1", "1", "1") ∷ []) ∷ error 0 "bad_arguments" "bad arguments"
     ∷ error 0 "bad_arguments" "bad arguments" ∷ [])
 
--- a fault is answered, and shuts its connection, which stays open
+-- A fault is answered, and shuts its connection, which stays open
 abbrev pub Faults : Type 0
 Faults =
     let steps =
@@ -52,7 +52,7 @@ Faults =
     × Takes four_slots steps (Close 2)
     × Refuses four_slots steps (connect) NoSlot
 
--- the list of connections
+-- the answer to `workers`; a function that is added again keeps its position
 abbrev pub WorkersText : Type 0
 WorkersText =
     Plays defaults (
@@ -62,14 +62,14 @@ WorkersText =
     ∷ page 0 ("0 127.0.0.1 - :" ∷ "1 10.0.0.2 w?1 : a" ∷ "." ∷ [])
     ∷ page 0 ("0 127.0.0.1 - :" ∷ "1 10.0.0.2 w?1 :" ∷ "." ∷ []) ∷ [])
 
--- the connections that are open, by slot, also those that are shut
+-- `workers` lists the open connections by slot, shut ones too
 abbrev pub OpenConnections : Type 0
 OpenConnections =
     Plays four_slots (
     connect_from "a" ∷ connect_from "b" ∷ connect_from "c" ∷ Close 1 ∷ Fault 2 BadMagic ∷ says 0 "workers" ∷ []) (
     error 2 "bad_magic" "bad magic" ∷ page 0 ("0 a - :" ∷ "2 c - :" ∷ "." ∷ []) ∷ [])
 
--- the functions in the order in which they were mentioned, with what waits or runs, what runs, and who can do them
+-- `status` lists functions in the order of mention, with their jobs, running jobs and workers
 abbrev pub StatusText : Type 0
 StatusText =
     Plays four_slots (
@@ -81,7 +81,7 @@ StatusText =
     ∷ counts 0 (("g", "0", "0", "1") ∷ ("f", "2", "0", "1") ∷ []) ∷ line 0 "OK"
     ∷ counts 0 (("g", "0", "0", "1") ∷ ("f", "2", "0", "1") ∷ ("k", "0", "0", "0") ∷ []) ∷ [])
 
--- lines that are refused
+-- invalid lines get an ERR line each
 abbrev pub AdminLines : Type 0
 AdminLines =
     Plays defaults (
@@ -110,7 +110,7 @@ ShutdownLines =
     ∷ says 0 "version" ∷ []) (
     line 0 "OK" ∷ echoed 1 "x" ∷ line 1 "OK" ∷ line 1 "OK" ∷ [])
 
--- a graceful shutdown refuses new connections, and lets those that are open go on
+-- after `shutdown graceful` no connection is accepted, and open ones go on
 abbrev pub Shutdowns : Type 0
 Shutdowns =
     let steps =
@@ -119,7 +119,7 @@ Shutdowns =
     × Takes defaults steps (echo_req 1 "x")
     × Takes defaults steps (says 1 "shutdown")
 
--- after a shutdown no slot takes units, and closing works
+-- after `shutdown` no slot takes units, and closings are taken
 abbrev pub ShutDown : Type 0
 ShutDown =
     let steps =
@@ -129,7 +129,7 @@ ShutDown =
     × Takes defaults steps (Close 1)
     × Refuses defaults steps (connect) Refusing
 
--- the server runs on, takes no new connections, or ends; a refused line changes nothing of that
+-- the mode is Running, Graceful or Stopped; a refused line doesn't change it
 abbrev pub Modes : Type 0
 Modes =
     GoesOn four_slots (connect ∷ connect ∷ says 0 "shutdown now" ∷ []) modes.Running
@@ -137,7 +137,7 @@ Modes =
     × GoesOn four_slots (connect ∷ connect ∷ says 0 "shutdown graceful" ∷ says 1 "shutdown" ∷ []) modes.Stopped
     × GoesOn four_slots (connect ∷ connect ∷ says 1 "shutdown" ∷ says 0 "shutdown graceful" ∷ []) modes.Stopped
 
--- who is open and takes no more units: after its fault, or a shutdown, until it is closed
+-- A slot is shut after its fault or a `shutdown`, until it is closed
 abbrev pub ShutSlots : Type 0
 ShutSlots =
     let steps = connect ∷ connect ∷ connect ∷ Fault 1 BadMagic ∷ [] in
@@ -153,7 +153,8 @@ RefusalNumbers =
     × (map unit_fault_number (BadMagic ∷ PacketTooLarge ∷ LineTooLong ∷ []) ≡ 3 ∷ 4 ∷ 5 ∷ [])
     × (map config_error_number (BadName ∷ BadNumber ∷ BadSlots ∷ BadFunctions ∷ []) ≡ 17 ∷ 18 ∷ 19 ∷ 20 ∷ [])
 
--- the settings: a name of 1 to 40 letters, digits, dots and dashes, a first number, 1 to 1,024 slots and 1 to 65,536 functions
+-- valid settings: a name of 1 to 40 letters, digits, dots and hyphens, a first number from 1, 1 to 1,024 slots, 1 to 65,536
+-- functions
 abbrev pub SettingsInRange : Type 0
 SettingsInRange =
     (config_fault (settings 1 1024 65536) ≡ None)

@@ -1,4 +1,4 @@
--- What those who listen to a job are told of it.
+-- What a job's listeners get.
 use Rattle.std.specs.Prelude.{◌≡◌, ℕ, ◌<◌, true, not, ◌==◌, ◌⊎◌, if◌then◌else◌, List, [], ◌∷◌, ◌++◌, length, filter, replicate}
 use Rattle.std.specs.Prelude.{Option, Some, None, Ok}
 use Rattle.std.specs.List.{concat, list_all}
@@ -50,7 +50,7 @@ copies bytes queued = length (filter (bytes_eq bytes) queued)
 abbrev pub listens : ℕ → ℕ → List Note → ℕ
 listens c n notes = length (filter (λ d. c == d) (listeners n notes))
 
--- what the worker of job n asks to be passed on to those who listen
+-- what the worker of job n asks to be passed on to its listeners
 abbrev pub passed_on : Settings → ℕ → Kind → List (List ℕ) → Option Answer
 passed_on k n WorkStatus a = Some (work_status (handle k n) (second a) (third a))
 passed_on k n WorkData a = Some (work_data (handle k n) (second a))
@@ -60,12 +60,12 @@ passed_on k n WorkComplete a = Some (work_complete (handle k n) (second a))
 passed_on k n WorkFail a = Some (work_fail (handle k n))
 passed_on k n kind a = None
 
--- how often slot c is told of it: as often as it listens, but of a WORK_EXCEPTION only with the exceptions option
+-- how often slot c gets it: as often as it listens, but of a WORK_EXCEPTION only with the exceptions option
 abbrev pub hears : ℕ → ℕ → Kind → List Note → ℕ
 hears c n WorkException notes = if has_option c notes then listens c n notes else 0
 hears c n kind notes = listens c n notes
 
--- What the slot where a job runs says of it is passed on to each slot as often as that hears it, and nothing else is queued.
+-- Reports by the slot where a job runs are passed on to each slot as often as that is to get it, and nothing else is queued.
 abbrev pub WhatWorkersSayIsPassedOn : Type 0
 WhatWorkersSayIsPassedOn = (k : Settings) (steps : List Step) (worker n number : ℕ) (bytes : List ℕ) (asked : Asked) (answer : Answer) →
     let before = run k steps in

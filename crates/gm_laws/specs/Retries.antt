@@ -47,7 +47,7 @@ abbrev pub NoneIsLostWithoutALimit : Settings → List Note → Type 0
 NoneIsLostWithoutALimit k notes = k.retries ≡ 0 → (n : ℕ) → times (loses n) notes ≡ 0
 
 -- when job n was lost, after these notes: it ran at a slot, it had been handed out as often as the limit says and had come
--- back each time but the last, and somebody wanted it
+-- back each time but the last, and it was wanted
 abbrev pub IsLostSo : Settings → List Note → ℕ → Type 0
 IsLostSo k older n =
     (0 < k.retries) × (runs_at_a_slot (job_state n older) ≡ true) × (times (hands_out n) older ≡ k.retries)

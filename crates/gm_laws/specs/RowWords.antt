@@ -200,7 +200,7 @@ option_set c name = to c (writing.option_res (codes name))
 abbrev pub error : ℕ → String → String → Told
 error c code text = to c (writing.error (codes code) (codes text))
 
--- ---- what rows say; steps stand with the first first
+-- ---- what rows say; steps are in order, the first one first
 
 abbrev pub after : Settings → List Step → Past
 after k steps = run k (reverse steps)
@@ -212,11 +212,11 @@ told (Began c ∷ older) = told older
 told (Drained c ∷ older) = told older
 told (Emptied c ∷ older) = told older
 
--- what these steps queue, the first first
+-- what these steps queue, in order
 abbrev pub Plays : Settings → List Step → List Told → Type 0
 Plays k steps answers = told (after k steps).flow ≡ answers
 
--- who is owed a NOOP after them
+-- which slots are owed a NOOP after them
 abbrev pub Owes : Settings → List Step → List ℕ → Type 0
 Owes k steps slots = filter (λ c. owes c (after k steps)) (slots_from 0 k.slots) ≡ slots
 

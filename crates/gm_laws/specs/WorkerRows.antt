@@ -7,7 +7,7 @@ use Rattle.gm_laws.specs.RowWords.{submit_job, grab_job, work_complete, get_stat
 use Rattle.gm_laws.specs.RowWords.{can_do_timeout, grab_job_uniq, line, created, no_job, assigned, assigned_uniq, completed}
 use Rattle.gm_laws.specs.RowWords.{failed, status, error, Plays, Owes, Refuses}
 
--- a grab goes through the functions in the order in which they were added; adding one again moves nothing
+-- A grab tries the functions in the order in which they were added; adding one again doesn't move it
 abbrev pub AbilityOrder : Type 0
 AbilityOrder =
     Plays defaults (
@@ -17,7 +17,7 @@ AbilityOrder =
     created 0 "H:gmd:1" ∷ created 0 "H:gmd:2" ∷ created 0 "H:gmd:3" ∷ created 0 "H:gmd:4" ∷ assigned 1 "H:gmd:2" "g" "2"
     ∷ assigned 1 "H:gmd:1" "f" "1" ∷ assigned 1 "H:gmd:3" "f" "3" ∷ assigned 1 "H:gmd:4" "g" "4" ∷ [])
 
--- with round-robin on, a grab goes on behind the function of the last job; without it, it begins with the first
+-- with `--round-robin` a worker's functions take turns
 abbrev pub RoundRobin : Type 0
 RoundRobin =
     let steps =
@@ -28,7 +28,7 @@ RoundRobin =
     Plays in_turn steps (accepted ++ assigned 1 "H:gmd:1" "a" "1" ∷ assigned 1 "H:gmd:3" "b" "3" ∷ assigned 1 "H:gmd:2" "a" "2" ∷ [])
     × Plays defaults steps (accepted ++ assigned 1 "H:gmd:1" "a" "1" ∷ assigned 1 "H:gmd:2" "a" "2" ∷ assigned 1 "H:gmd:3" "b" "3" ∷ [])
 
--- a new connection begins with its first function, whatever its slot was given before
+-- A new connection begins with its first function, whatever its slot was given before
 abbrev pub RoundRobinAnew : Type 0
 RoundRobinAnew =
     Plays in_turn (
@@ -38,7 +38,7 @@ RoundRobinAnew =
     created 0 "H:gmd:1" ∷ created 0 "H:gmd:2" ∷ created 0 "H:gmd:3" ∷ assigned 1 "H:gmd:1" "a" "1"
     ∷ assigned 1 "H:gmd:3" "a" "3" ∷ [])
 
--- a grab gets only what the worker can do: not what it can't do any more, nor what another can
+-- A grab gets only jobs of functions that this worker can do now
 abbrev pub OnlyItsFunctions : Type 0
 OnlyItsFunctions =
     Plays defaults (
@@ -46,7 +46,7 @@ OnlyItsFunctions =
     ∷ cant_do 1 "f" ∷ grab_job 1 ∷ can_do 1 "f" ∷ reset_abilities 1 ∷ grab_job 1 ∷ grab_job 2 ∷ []) (
     created 0 "H:gmd:1" ∷ no_job 1 ∷ no_job 1 ∷ no_job 1 ∷ assigned 2 "H:gmd:1" "f" "1" ∷ [])
 
--- the jobs of one function and priority go out in the order in which they came
+-- the jobs of one function and priority are given out in the order in which they came
 abbrev pub QueueOrder : Type 0
 QueueOrder =
     Plays defaults (
@@ -55,7 +55,7 @@ QueueOrder =
     created 0 "H:gmd:1" ∷ created 0 "H:gmd:2" ∷ created 0 "H:gmd:3" ∷ assigned 1 "H:gmd:1" "f" "1"
     ∷ assigned_uniq 1 "H:gmd:2" "f" "b" "2" ∷ assigned 1 "H:gmd:3" "f" "3" ∷ no_job 1 ∷ [])
 
--- a worker is woken once
+-- A worker is woken once
 abbrev pub OneWake : Type 0
 OneWake =
     let steps =
@@ -63,7 +63,7 @@ OneWake =
     Plays defaults steps (created 0 "H:gmd:1" ∷ [])
     × Owes defaults steps (1 ∷ [])
 
--- a worker that was woken and is awake isn't woken again
+-- A worker that was woken and is awake isn't woken again
 abbrev pub OneWakeThen : Type 0
 OneWakeThen =
     let steps =
@@ -72,21 +72,21 @@ OneWakeThen =
     created 0 "H:gmd:1" ∷ created 0 "H:gmd:2" ∷ [])
     × Owes defaults steps []
 
--- every sleeper that can do the work is woken
+-- every sleeping worker that can do the function is woken
 abbrev pub AllWake : Type 0
 AllWake =
     Owes defaults (
     connect ∷ connect ∷ connect ∷ connect ∷ can_do 1 "f" ∷ pre_sleep 1 ∷ can_do 2 "g" ∷ pre_sleep 2 ∷ can_do 3 "f"
     ∷ pre_sleep 3 ∷ submit_job_bg 0 "f" "a" "1" ∷ []) (1 ∷ 3 ∷ [])
 
--- who can't do the function any more isn't woken; who submits may be
+-- A worker that can no longer do the function isn't woken; a submitter that can do it is
 abbrev pub OnlyAbleWake : Type 0
 OnlyAbleWake =
     Owes four_slots (
     connect ∷ connect ∷ connect ∷ can_do 1 "f" ∷ pre_sleep 1 ∷ cant_do 1 "f" ∷ can_do 2 "f" ∷ pre_sleep 2 ∷ reset_abilities 2
     ∷ can_do 0 "f" ∷ pre_sleep 0 ∷ submit_job 0 "f" "a" "1" ∷ []) (0 ∷ [])
 
--- who wants to sleep beside work is woken at once
+-- A worker that goes to sleep beside work is woken at once
 abbrev pub WorkBeforeSleep : Type 0
 WorkBeforeSleep =
     let steps =
@@ -94,7 +94,7 @@ WorkBeforeSleep =
     Plays defaults steps (created 0 "H:gmd:1" ∷ [])
     × Owes defaults steps (1 ∷ [])
 
--- who sleeps and can do what waits is woken
+-- A sleeping worker that adds a function with a waiting job is woken
 abbrev pub WorkBeforeAbility : Type 0
 WorkBeforeAbility =
     let steps =
@@ -102,7 +102,7 @@ WorkBeforeAbility =
     Plays defaults steps (created 0 "H:gmd:1" ∷ [])
     × Owes defaults steps (2 ∷ [])
 
--- a new ability wakes only who sleeps, and only where a job waits for it
+-- A new ability wakes only a sleeping worker, and only if a job of that function waits
 abbrev pub OnlyItsWork : Type 0
 OnlyItsWork =
     let steps =
@@ -110,7 +110,7 @@ OnlyItsWork =
     Owes four_slots steps []
     × Owes four_slots (steps ++ can_do 1 "f" ∷ []) (1 ∷ [])
 
--- a grab of who is owed a NOOP leaves it owed
+-- A grab by a worker that is owed a NOOP leaves it owed
 abbrev pub WorkBeforeGrab : Type 0
 WorkBeforeGrab =
     let steps =
@@ -119,7 +119,7 @@ WorkBeforeGrab =
     created 0 "H:gmd:1" ∷ assigned 1 "H:gmd:1" "f" "1" ∷ [])
     × Owes defaults steps (1 ∷ [])
 
--- who grabs while it sleeps is awake
+-- A sleeping worker that grabs is awake again, and the next job doesn't wake it
 abbrev pub GrabStirs : Type 0
 GrabStirs =
     let steps =
@@ -128,7 +128,7 @@ GrabStirs =
     no_job 1 ∷ created 0 "H:gmd:1" ∷ [])
     × Owes four_slots steps []
 
--- a NOOP for a job that another took doesn't keep the worker awake
+-- A worker whose job another took sleeps again, and the next job wakes it
 abbrev pub StaleNoop : Type 0
 StaleNoop =
     let steps =
@@ -138,14 +138,14 @@ StaleNoop =
     created 0 "H:gmd:1" ∷ assigned 2 "H:gmd:1" "f" "1" ∷ created 0 "H:gmd:2" ∷ [])
     × Owes defaults steps (1 ∷ [])
 
--- who is owed a NOOP stays owed it, also where nothing waits any more and it would sleep again
+-- A worker that is owed a NOOP stays owed it, also when no job waits any more and it goes to sleep again
 abbrev pub StillOwed : Type 0
 StillOwed =
     Owes four_slots (
     connect ∷ connect ∷ connect ∷ can_do 1 "f" ∷ pre_sleep 1 ∷ can_do 2 "f" ∷ submit_job_bg 0 "f" "a" "1" ∷ grab_job 2
     ∷ pre_sleep 1 ∷ []) (1 ∷ [])
 
--- a NOOP that is withdrawn is owed no more; its worker is awake, and is woken again beside work
+-- after its NOOP is withdrawn a worker is awake and owed none, and is woken if it goes to sleep beside work
 abbrev pub WithdrawnNoop : Type 0
 WithdrawnNoop =
     let steps =
@@ -155,7 +155,7 @@ WithdrawnNoop =
     × Refuses four_slots steps (Withdrew 1) NotOwed
     × Owes four_slots (steps ++ pre_sleep 1 ∷ []) (1 ∷ [])
 
--- a NOOP is taken once; none is owed to who sleeps, and none to a slot that isn't open
+-- A NOOP is taken once; none is owed to a worker that sleeps, or to a slot that isn't open
 abbrev pub TakenNoop : Type 0
 TakenNoop =
     let steps =
@@ -167,7 +167,7 @@ TakenNoop =
     × Refuses four_slots steps (Took 3) NotOpen
     × Refuses four_slots steps (Withdrew 3) NotOpen
 
--- a job fails when its time is over
+-- A job fails in the tick that reaches its deadline, and its worker gets nothing
 abbrev pub Deadline : Type 0
 Deadline =
     Plays defaults (
@@ -176,7 +176,7 @@ Deadline =
     created 0 "H:gmd:1" ∷ assigned 1 "H:gmd:1" "f" "1" ∷ failed 0 "H:gmd:1" ∷ error 1 "job_not_found" "job not found"
     ∷ status 0 "H:gmd:1" false false "0" "0" ∷ [])
 
--- a job without a time limit outlives every tick
+-- A job without a time limit outlives every tick
 abbrev pub NoDeadline : Type 0
 NoDeadline =
     Plays defaults (
@@ -184,7 +184,7 @@ NoDeadline =
     ∷ work_complete 1 "H:gmd:1" "x" ∷ []) (
     created 0 "H:gmd:1" ∷ assigned 1 "H:gmd:1" "f" "1" ∷ completed 0 "H:gmd:1" "x" ∷ [])
 
--- each function has its own time limit, the last one said; CAN_DO has none
+-- each function has its own time limit, the last one set; CAN_DO removes it
 abbrev pub TimeLimits : Type 0
 TimeLimits =
     Plays defaults (
@@ -194,7 +194,7 @@ TimeLimits =
     created 0 "H:gmd:1" ∷ created 0 "H:gmd:2" ∷ assigned 1 "H:gmd:1" "f" "1" ∷ assigned 1 "H:gmd:2" "g" "2" ∷ failed 0 "H:gmd:2"
     ∷ completed 0 "H:gmd:1" "x" ∷ [])
 
--- time never goes back
+-- the clock never goes back
 abbrev pub TimeStands : Type 0
 TimeStands =
     Plays defaults (
@@ -202,7 +202,7 @@ TimeStands =
     ∷ says 1 "version" ∷ Tick 15 ∷ []) (
     created 0 "H:gmd:1" ∷ assigned 1 "H:gmd:1" "f" "1" ∷ line 1 "OK 1.0.0" ∷ failed 0 "H:gmd:1" ∷ [])
 
--- before the first tick it is 0; a deadline is at most the greatest number of 64 bits, and the tick that reaches it expires
+-- before the first tick the clock is at 0; a deadline is below 2^64, and the tick that reaches it fails the job
 abbrev pub EdgesOfTime : Type 0
 EdgesOfTime =
     Plays defaults (
@@ -211,7 +211,7 @@ EdgesOfTime =
     created 0 "H:gmd:1" ∷ assigned 1 "H:gmd:1" "f" "1" ∷ line 1 "OK 1.0.0" ∷ failed 0 "H:gmd:1" ∷ created 0 "H:gmd:2"
     ∷ assigned 1 "H:gmd:2" "f" "2" ∷ line 1 "OK 1.0.0" ∷ failed 0 "H:gmd:2" ∷ [])
 
--- a tick fails every job whose deadline is reached, in the order of their numbers, and tells all who listen
+-- A tick fails every job whose deadline is reached, in number order, and each listener gets WORK_FAIL
 abbrev pub ExpiredTogether : Type 0
 ExpiredTogether =
     Plays defaults (
@@ -223,7 +223,7 @@ ExpiredTogether =
     ∷ status 0 "H:gmd:1" false false "0" "0" ∷ status 0 "H:gmd:2" false false "0" "0" ∷ status 0 "H:gmd:3" true false "0" "0"
     ∷ assigned 1 "H:gmd:3" "f" "4" ∷ [])
 
--- a job that waits again has no deadline, nor has it one of its last worker later
+-- A job that waits again has no deadline, and its next worker doesn't inherit the last one's
 abbrev pub DeadlineForgotten : Type 0
 DeadlineForgotten =
     Plays defaults (

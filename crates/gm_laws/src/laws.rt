@@ -26,7 +26,7 @@ pub fn numbers_are_consecutive()
     ensures { AfterAnySteps (λ k notes. AreNumbers k (made notes)) }
 {}
 
-/// Who is open has a slot below the number of slots.
+/// An open connection has a slot below the number of slots.
 pub fn open_slots_are_in_range()
     ensures { AfterAnySteps AreSlots }
 {}
@@ -41,7 +41,7 @@ pub fn one_live_job()
     ensures { AfterAnySteps AreOne }
 {}
 
-/// Who sleeps, or is owed a NOOP, is open: a slot that isn't open is awake.
+/// A slot that sleeps, or is owed a NOOP, is open: a slot that isn't open is awake.
 pub fn sleepers_are_open()
     ensures { SleepersAreOpen }
 {}
@@ -88,9 +88,9 @@ pub fn ends_with_its_worker()
     ensures { InEachStep EndsWithItsWorker }
 {}
 
-/// In the step that ends a job, each slot is told of it exactly as often as it listened to the job before that step: by the
-/// WORK_COMPLETE or WORK_FAIL that its worker said, with the job's handle, or by WORK_FAIL where a tick ends it, since its
-/// deadline is reached or its last worker went.
+/// In the step that ends a job, each slot gets its end exactly as often as it listened to the job before that step: the
+/// WORK_COMPLETE or WORK_FAIL of its worker, with the job's handle, or WORK_FAIL where a tick ends it, since its deadline is
+/// reached or its last worker disconnected.
 pub fn each_listener_is_told()
     ensures { InEachStep EachListenerIsTold }
 {}
@@ -112,8 +112,8 @@ pub fn who_stays_is_told()
     ensures { WhoStaysIsTold }
 {}
 
-/// What a worker says of the job that it runs is passed on, with the job's handle, exactly as often to each slot as that
-/// listens to the job, and nothing else is queued. WORK_EXCEPTION goes to those alone that have the exceptions option.
+/// A worker's report on the job that it runs is passed on, with the job's handle, exactly as often to each slot as that
+/// listens to the job, and nothing else is queued. WORK_EXCEPTION goes only to slots with the exceptions option.
 pub fn what_workers_say_is_passed_on()
     ensures { WhatWorkersSayIsPassedOn }
 {}
@@ -142,7 +142,7 @@ pub fn no_job_is_handed_out_more_often()
 {}
 
 /// A job is lost only where there is a limit and its worker went: it had been handed out as often as the limit says,
-/// it had come back each time before, and somebody wanted it.
+/// it had come back each time before, and was wanted.
 pub fn only_the_last_try_loses()
     ensures { AfterAnySteps OnlyTheLastTryLoses }
 {}
@@ -167,7 +167,7 @@ pub fn says_no_job_where_none_is()
     ensures { InEachStep SaysNoJobWhereNoneIs }
 {}
 
-/// Who listens to a job is open.
+/// A slot that listens to a job is open.
 pub fn listeners_are_open()
     ensures { AfterAnySteps ListenersAreOpen }
 {}
@@ -177,12 +177,12 @@ pub fn runners_are_open()
     ensures { AfterAnySteps RunnersAreOpen }
 {}
 
-/// Each waiting job is wanted: a background submission keeps it, or somebody listens to it.
+/// Each waiting job is wanted: a background submission keeps it, or a slot listens to it.
 pub fn no_waiting_job_is_orphaned()
     ensures { AfterAnySteps NoWaitingJobIsOrphaned }
 {}
 
-/// Who sleeps can do none of the jobs that wait.
+/// A worker that sleeps can do none of the jobs that wait.
 pub fn no_one_sleeps_beside_work()
     ensures { AfterAnySteps NoOneSleepsBesideWork }
 {}

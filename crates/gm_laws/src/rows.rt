@@ -21,7 +21,7 @@ ghost use Rattle.gm_laws.specs.LineRows.{RefusalNumbers};
 
 // ---- jobs
 
-/// High before normal before low.
+/// High priority goes before normal, and normal before low.
 pub fn priorities()
     ensures { Priorities }
 {}
@@ -31,57 +31,57 @@ pub fn six_priorities()
     ensures { SixPriorities }
 {}
 
-/// The six kinds of submission: what the background keeps stays when its client goes.
+/// The six kinds of submission: only background jobs stay when their client disconnects.
 pub fn six_keepings()
     ensures { SixKeepings }
 {}
 
-/// The six kinds of submission: who submits in the foreground hears of it, the background doesn't.
+/// The six kinds of submission: a foreground client gets the outcome, a background client doesn't.
 pub fn six_hearings()
     ensures { SixHearings }
 {}
 
-/// Who submits a job twice hears of it twice.
+/// A client that submits a job twice gets its answers twice.
 pub fn joined_listeners()
     ensures { JoinedListeners }
 {}
 
-/// Joining keeps the job as it was made, and adds who hears of it.
+/// Joining keeps the job as it was made; only a foreground submission adds a listener.
 pub fn joined_job()
     ensures { JoinedJob }
 {}
 
-/// A dash, no id, and another function join nothing.
+/// The id `-`, an empty id, and another function join nothing.
 pub fn joining_keys()
     ensures { JoiningKeys }
 {}
 
-/// A running job is joined too, and wakes nobody.
+/// A running job can be joined too, and that wakes no worker.
 pub fn joins_running()
     ensures { JoinsRunning }
 {}
 
-/// WORK_COMPLETE and WORK_FAIL end a job: it is done once, isn't known any more, and isn't joined.
+/// WORK_COMPLETE and WORK_FAIL end a job: it ends once, is unknown afterwards, and can't be joined.
 pub fn ended_jobs()
     ensures { EndedJobs }
 {}
 
-/// What is said of a job that runs elsewhere, or waits, or whose handle was never printed, is refused.
+/// Reports by another worker, on a waiting job, or with a handle that was never printed, are refused.
 pub fn only_its_worker()
     ensures { OnlyItsWorker }
 {}
 
-/// What a worker says goes to the listeners, and the last numbers are kept.
+/// A worker's reports go to the listeners, and GET_STATUS has the last numbers.
 pub fn progress()
     ensures { Progress }
 {}
 
-/// The last numbers of a job stay while it waits again.
+/// The last WORK_STATUS numbers of a job stay while it waits again.
 pub fn report_kept()
     ensures { ReportKept }
 {}
 
-/// Exceptions go to those who want them, and end nothing.
+/// Exceptions go to the listeners with that option, and end no job.
 pub fn exceptions_option()
     ensures { ExceptionsOption }
 {}
@@ -91,28 +91,27 @@ pub fn data_with_nul()
     ensures { DataWithNul }
 {}
 
-/// A limit refuses new jobs and lets submissions join.
+/// `maxqueue` refuses new jobs and lets submissions join.
 pub fn queue_limit()
     ensures { QueueLimit }
 {}
 
-/// A limit counts the jobs of its function that wait or run; the last one said holds.
+/// A limit of `maxqueue` counts the function's jobs that wait or run; the last one set holds.
 pub fn limit_counts()
     ensures { LimitCounts }
 {}
 
-/// No more functions than the settings allow.
+/// Functions over the limit are refused, and bad names before that.
 pub fn function_limit()
     ensures { FunctionLimit }
 {}
 
-/// After the last number only joining is left.
+/// After the last job number a submission can only join.
 pub fn last_number()
     ensures { LastNumber }
 {}
 
-/// A submission is refused for its function's name, then for the number of functions, for the limit,
-/// and for numbers.
+/// A submission is refused for its function's name, then for the number of functions, for the limit, and for job numbers.
 pub fn refusal_order()
     ensures { RefusalOrder }
 {}
@@ -122,7 +121,7 @@ pub fn function_names()
     ensures { FunctionNames }
 {}
 
-/// A handle is the name and the number.
+/// A handle has the server's name and the job's number.
 pub fn handles()
     ensures { Handles }
 {}
@@ -134,14 +133,12 @@ pub fn places()
 
 // ---- workers
 
-/// A grab goes through the functions in the order in which they were added; adding one again moves
-/// nothing.
+/// A grab tries the functions in the order in which they were added; adding one again doesn't move it.
 pub fn ability_order()
     ensures { AbilityOrder }
 {}
 
-/// With round-robin on, a grab goes on behind the function of the last job; without it, it begins with the
-/// first.
+/// With `--round-robin` a worker's functions take turns.
 pub fn round_robin()
     ensures { RoundRobin }
 {}
@@ -151,12 +148,12 @@ pub fn round_robin_anew()
     ensures { RoundRobinAnew }
 {}
 
-/// A grab gets only what the worker can do: not what it can't do any more, nor what another can.
+/// A grab gets only jobs of functions that this worker can do now.
 pub fn only_its_functions()
     ensures { OnlyItsFunctions }
 {}
 
-/// The jobs of one function and priority go out in the order in which they came.
+/// The jobs of one function and priority are given out in the order in which they came.
 pub fn queue_order()
     ensures { QueueOrder }
 {}
@@ -171,62 +168,62 @@ pub fn one_wake_then()
     ensures { OneWakeThen }
 {}
 
-/// Every sleeper that can do the work is woken.
+/// Every sleeping worker that can do the function is woken.
 pub fn all_wake()
     ensures { AllWake }
 {}
 
-/// Who can't do the function any more isn't woken; who submits may be.
+/// A worker that can no longer do the function isn't woken; a submitter that can do it is.
 pub fn only_able_wake()
     ensures { OnlyAbleWake }
 {}
 
-/// Who wants to sleep beside work is woken at once.
+/// A worker that goes to sleep beside work is woken at once.
 pub fn work_before_sleep()
     ensures { WorkBeforeSleep }
 {}
 
-/// Who sleeps and can do what waits is woken.
+/// A sleeping worker that adds a function with a waiting job is woken.
 pub fn work_before_ability()
     ensures { WorkBeforeAbility }
 {}
 
-/// A new ability wakes only who sleeps, and only where a job waits for it.
+/// A new ability wakes only a sleeping worker, and only if a job of that function waits.
 pub fn only_its_work()
     ensures { OnlyItsWork }
 {}
 
-/// A grab of who is owed a NOOP leaves it owed.
+/// A grab by a worker that is owed a NOOP leaves it owed.
 pub fn work_before_grab()
     ensures { WorkBeforeGrab }
 {}
 
-/// Who grabs while it sleeps is awake.
+/// A sleeping worker that grabs is awake again, and the next job doesn't wake it.
 pub fn grab_stirs()
     ensures { GrabStirs }
 {}
 
-/// A NOOP for a job that another took doesn't keep the worker awake.
+/// A worker whose job another took sleeps again, and the next job wakes it.
 pub fn stale_noop()
     ensures { StaleNoop }
 {}
 
-/// Who is owed a NOOP stays owed it, also where nothing waits any more and it would sleep again.
+/// A worker that is owed a NOOP stays owed it, also when no job waits any more and it goes to sleep again.
 pub fn still_owed()
     ensures { StillOwed }
 {}
 
-/// A NOOP that is withdrawn is owed no more; its worker is awake, and is woken again beside work.
+/// After its NOOP is withdrawn a worker is awake and owed none, and is woken if it goes to sleep beside work.
 pub fn withdrawn_noop()
     ensures { WithdrawnNoop }
 {}
 
-/// A NOOP is taken once; none is owed to who sleeps, and none to a slot that isn't open.
+/// A NOOP is taken once; none is owed to a worker that sleeps, or to a slot that isn't open.
 pub fn taken_noop()
     ensures { TakenNoop }
 {}
 
-/// A job fails when its time is over.
+/// A job fails in the tick that reaches its deadline, and its worker gets nothing.
 pub fn deadline()
     ensures { Deadline }
 {}
@@ -236,29 +233,27 @@ pub fn no_deadline()
     ensures { NoDeadline }
 {}
 
-/// Each function has its own time limit, the last one said; CAN_DO has none.
+/// Each function has its own time limit, the last one set; CAN_DO removes it.
 pub fn time_limits()
     ensures { TimeLimits }
 {}
 
-/// Time never goes back.
+/// The clock never goes back.
 pub fn time_stands()
     ensures { TimeStands }
 {}
 
-/// Before the first tick it is 0; a deadline is at most the greatest number of 64 bits, and the tick
-/// that reaches it expires.
+/// Before the first tick the clock is at 0; a deadline is below 2^64, and the tick that reaches it fails the job.
 pub fn edges_of_time()
     ensures { EdgesOfTime }
 {}
 
-/// A tick fails every job whose deadline is reached, in the order of their numbers, and tells all who
-/// listen.
+/// A tick fails every job whose deadline is reached, in number order, and each listener gets WORK_FAIL.
 pub fn expired_together()
     ensures { ExpiredTogether }
 {}
 
-/// A job that waits again has no deadline, nor has it one of its last worker later.
+/// A job that waits again has no deadline, and its next worker doesn't inherit the last one's.
 pub fn deadline_forgotten()
     ensures { DeadlineForgotten }
 {}
@@ -270,17 +265,17 @@ pub fn least_slot()
     ensures { LeastSlot }
 {}
 
-/// A submission answers the job that it made, and none where it joined one or was refused.
+/// A submission's receipt names the job that it made, and none if it joined one or was refused.
 pub fn made_jobs()
     ensures { MadeJobs }
 {}
 
-/// Where every slot is open there is none.
+/// When every slot is open, another opening is refused.
 pub fn slots_spent()
     ensures { SlotsSpent }
 {}
 
-/// Steps of slots that aren't open are refused, but for ticks and drains.
+/// Steps at a slot that isn't open are refused, apart from drains; ticks are taken.
 pub fn closed_slots()
     ensures { ClosedSlots }
 {}
@@ -290,32 +285,32 @@ pub fn nothing_inherited()
     ensures { NothingInherited }
 {}
 
-/// Nor does it want exceptions.
+/// The next connection of a slot doesn't have the exceptions option.
 pub fn option_not_inherited()
     ensures { OptionNotInherited }
 {}
 
-/// Nor does it sleep, or is it owed a NOOP.
+/// The next connection of a slot is awake and owed no NOOP.
 pub fn sleep_not_inherited()
     ensures { SleepNotInherited }
 {}
 
-/// Nor is it shut.
+/// The next connection of a slot isn't shut.
 pub fn shut_not_inherited()
     ensures { ShutNotInherited }
 {}
 
-/// Nor does it hear of the jobs of the one before it.
+/// The next connection of a slot gets no results of jobs that the one before it submitted.
 pub fn listener_not_inherited()
     ensures { ListenerNotInherited }
 {}
 
-/// Nor does it run their jobs, or get their bytes.
+/// The next connection of a slot doesn't run the jobs of the one before it, or get its bytes.
 pub fn work_not_inherited()
     ensures { WorkNotInherited }
 {}
 
-/// What waits for a connection is what was queued since it was drained, and goes with it.
+/// What waits for a connection is what was queued since its last drain; a closing drops it.
 pub fn bytes_wait()
     ensures { BytesWait }
 {}
@@ -325,39 +320,37 @@ pub fn bytes_sent()
     ensures { BytesSent }
 {}
 
-/// A closed slot is given to the next, and its jobs go.
+/// A job that only the closed connection wanted is gone.
 pub fn two_slots()
     ensures { TwoSlots }
 {}
 
-/// A job whose worker goes waits again, behind the others.
+/// A job whose worker disconnects waits again, behind the others.
 pub fn returned_job()
     ensures { ReturnedJob }
 {}
 
-/// With a limit on retries, a job waits again until its last worker goes: then it is lost, counts as running, and
-/// fails with the next tick.
+/// A job whose last allowed worker disconnects fails in the next tick.
 pub fn job_retries()
     ensures { JobRetries }
 {}
 
-/// A lost job can be joined, and stays when its listeners go: it fails with the next tick, for those who listen
-/// then.
+/// A lost job can be joined, stays when a listener leaves, and fails in the next tick.
 pub fn lost_job()
     ensures { LostJob }
 {}
 
-/// The jobs of a worker that goes wait again, and who sleeps and can do them is woken, and no other.
+/// The jobs of a worker that disconnects wait again, and wake only sleeping workers that can do them.
 pub fn woken_by_return()
     ensures { WokenByReturn }
 {}
 
-/// Who goes isn't woken for its own job, nor is the next one in its slot.
+/// A worker that disconnects isn't woken for its own job, and neither is the next connection of its slot.
 pub fn not_itself()
     ensures { NotItself }
 {}
 
-/// A job that nobody waits for is discarded.
+/// A job that nobody wants is discarded.
 pub fn orphaned_job()
     ensures { OrphanedJob }
 {}
@@ -372,26 +365,24 @@ pub fn only_unwanted()
     ensures { OnlyUnwanted }
 {}
 
-/// A job that runs goes on when its listeners go, and is discarded when its worker goes too.
+/// A running job goes on when its listeners disconnect, and is discarded when its worker disconnects too.
 pub fn runs_on()
     ensures { RunsOn }
 {}
 
-/// With a worker go its own jobs, and those of others run on; a kept job waits again, before those of
-/// lower priority.
+/// Only the jobs of the worker that disconnects stop running; a kept one waits again, before those of lower priority.
 pub fn only_its_jobs()
     ensures { OnlyItsJobs }
 {}
 
 // ---- lines
 
-/// The answers of requests that touch no job: an echo, nothing, a type that there isn't, and data that
-/// spell nothing.
+/// Requests that touch no job: an echo, nothing, an unknown type, and malformed data.
 pub fn plain_answers()
     ensures { PlainAnswers }
 {}
 
-/// One NUL at the end is dropped, and no second.
+/// One NUL at the end is dropped, and a second is refused.
 pub fn trailing_nul()
     ensures { TrailingNul }
 {}
@@ -401,23 +392,22 @@ pub fn faults()
     ensures { Faults }
 {}
 
-/// The list of connections.
+/// The answer to `workers`; a function that is added again keeps its position.
 pub fn workers_text()
     ensures { WorkersText }
 {}
 
-/// The connections that are open, by slot, also those that are shut.
+/// `workers` lists the open connections by slot, shut ones too.
 pub fn open_connections()
     ensures { OpenConnections }
 {}
 
-/// The functions in the order in which they were mentioned, with what waits or runs, what runs, and who
-/// can do them.
+/// `status` lists functions in the order of mention, with their jobs, running jobs and workers.
 pub fn status_text()
     ensures { StatusText }
 {}
 
-/// Lines that are refused.
+/// Invalid lines get an ERR line each.
 pub fn admin_lines()
     ensures { AdminLines }
 {}
@@ -432,22 +422,22 @@ pub fn shutdown_lines()
     ensures { ShutdownLines }
 {}
 
-/// A graceful shutdown refuses new connections, and lets those that are open go on.
+/// After `shutdown graceful` no connection is accepted, and open ones go on.
 pub fn shutdowns()
     ensures { Shutdowns }
 {}
 
-/// After a shutdown no slot takes units, and closing works.
+/// After `shutdown` no slot takes units, and closings are taken.
 pub fn shut_down()
     ensures { ShutDown }
 {}
 
-/// The server runs on, takes no new connections, or ends; a refused line changes nothing of that.
+/// The mode is Running, Graceful or Stopped; a refused line doesn't change it.
 pub fn modes()
     ensures { Modes }
 {}
 
-/// Who is open and takes no more units: after its fault, or a shutdown, until it is closed.
+/// A slot is shut after its fault or a `shutdown`, until it is closed.
 pub fn shut_slots()
     ensures { ShutSlots }
 {}
@@ -457,8 +447,8 @@ pub fn refusal_numbers()
     ensures { RefusalNumbers }
 {}
 
-/// The settings: a name of 1 to 40 letters, digits, dots and dashes, a first number, 1 to 1,024 slots
-/// and 1 to 65,536 functions.
+/// Valid settings: a name of 1 to 40 letters, digits, dots and hyphens, a first number from 1, 1 to 1,024 slots, 1 to 65,536
+/// functions.
 pub fn settings_in_range()
     ensures { SettingsInRange }
 {}

@@ -29,7 +29,7 @@ abbrev pub return_or_lose : Settings → ℕ → Past → Past
 return_or_lose k n past =
     if is_last_try k n past.notes then with_note (Lost n) past else wake_for k (job n past.notes) (with_note (Returned n) past)
 
--- a job that ran at slot c is given back if somebody wants it, and is discarded if not
+-- a job that ran at slot c is given back if it is wanted, and is discarded if not
 abbrev pub give_back_one : Settings → ℕ → ℕ → Past → Past
 give_back_one k c n past =
     if is_running_at c (job_state n past.notes)
@@ -40,7 +40,7 @@ abbrev pub give_back_each : Settings → ℕ → List ℕ → Past → Past
 give_back_each k c [] past = past
 give_back_each k c (n ∷ jobs) past = give_back_each k c jobs (give_back_one k c n past)
 
--- the connection in slot c goes, with what waited for it
+-- the connection in slot c closes, and what waited for it is dropped
 abbrev pub disconnect : ℕ → Past → Past
 disconnect c past = with_flow (Emptied c) (with_note (Closed c) (wake_itself c past))
 
@@ -57,7 +57,7 @@ abbrev pub is_reached : Option ℕ → ℕ → Bool
 is_reached None now = false
 is_reached (Some late) now = nat_le late now
 
--- a running job whose deadline is reached has failed; its worker isn't told
+-- a running job whose deadline is reached has failed; its worker gets nothing
 abbrev pub expire_one : Settings → ℕ → Past → Past
 expire_one k n past =
     if is_running (job_state n past.notes) && is_reached (deadline n past.notes) (moment past.notes)

@@ -1,4 +1,4 @@
--- What a `Config` stands for.
+-- What a `Config` means.
 use Rattle.std.specs.Prelude.{◌≡◌, None}
 use Rattle.gm_notes.specs.declared.config.Config.TheInside.{Inside}
 use Rattle.gm_notes.specs.Settings.{Settings, config_fault}

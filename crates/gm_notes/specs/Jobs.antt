@@ -60,7 +60,7 @@ says_kept n note = None
 abbrev pub is_kept : ℕ → List Note → Bool
 is_kept n notes = last_said (says_kept n) false notes
 
--- who hears of it, in the order in which they came to listen, once for each time
+-- its listeners, in the order in which they came to listen, once for each time
 abbrev pub listeners : ℕ → List Note → List ℕ
 listeners n [] = []
 listeners n (Made m f p u body ∷ older) = if n == m then [] else listeners n older
@@ -68,7 +68,7 @@ listeners n (Listens m c ∷ older) = if n == m then listeners n older ++ c ∷ 
 listeners n (Closed c ∷ older) = filter (λ d. not (d == c)) (listeners n older)
 listeners n (note ∷ older) = listeners n older
 
--- somebody wants it
+-- it is wanted
 abbrev pub is_wanted : ℕ → List Note → Bool
 is_wanted n notes = is_kept n notes || not (length (listeners n notes) == 0)
 
@@ -130,7 +130,7 @@ pub record Ability : Type 0 where
 abbrev pub is_of : List ℕ → Ability → Bool
 is_of f ability = bytes_eq ability.function f
 
--- an ability that stands keeps its place and takes the new timeout; another goes to the end
+-- an ability that is there already keeps its position and takes the new timeout; another goes to the end
 abbrev pub put : List ℕ → ℕ → List Ability → List Ability
 put f t [] = record { function = f; timeout = t } ∷ []
 put f t (ability ∷ abilities) = if is_of f ability then record { function = f; timeout = t } ∷ abilities else ability ∷ put f t abilities
@@ -217,7 +217,7 @@ abbrev pub up_to : List ℕ → List Ability → List Ability
 up_to f [] = []
 up_to f (ability ∷ abilities) = if is_of f ability then ability ∷ [] else ability ∷ up_to f abilities
 
--- in turn: those behind the one for f, and then the others up to it; as they stand, where none is for f
+-- in turn: those behind the one for f, and then the others up to it; as they are, where none is for f
 abbrev pub turned : Option (List ℕ) → List Ability → List Ability
 turned None abilities = abilities
 turned (Some f) abilities = behind f abilities ++ up_to f abilities

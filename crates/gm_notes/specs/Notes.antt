@@ -66,7 +66,7 @@ says_option c note = None
 abbrev pub has_option : ℕ → List Note → Bool
 has_option c notes = last_said (says_option c) false notes
 
--- Asleep after Slept, Owed after Woken, else Awake
+-- Asleep after Slept, Owed after Woken, otherwise Awake
 abbrev pub says_phase : ℕ → Note → Option Phase
 says_phase c (Opened d addr) = said_of c d Awake
 says_phase c (Closed d) = said_of c d Awake

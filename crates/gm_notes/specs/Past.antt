@@ -35,7 +35,7 @@ give c answer past = with_output c (answer_packet answer) past
 abbrev pub refuse : ℕ → List ℕ → Past → Past
 refuse c code past = give c (error_of code) past
 
--- the answer is queued to each of these slots, in order, once for each time it stands there
+-- the answer is queued to each of these slots, in order, once for each time it is in the list
 abbrev pub tell_all : Answer → List ℕ → Past → Past
 tell_all answer [] past = past
 tell_all answer (c ∷ slots) past = tell_all answer slots (give c answer past)

@@ -20,7 +20,7 @@ step_of (events.Fault slot fault) = Fault slot fault
 step_of (events.Close slot) = Close slot
 step_of (events.Tick now) = Tick now
 
--- what who hands in an event sees to: a packet has at most 1,073,741,824 bytes of data
+-- what the caller that hands in an event has to ensure: a packet has at most 1,073,741,824 bytes of data
 abbrev pub IsSized : Event → Type 0
 IsSized (events.Open addr) = Unit {0}
 IsSized (events.Packet slot kind bytes) = length bytes.bytes.now ≤ 1073741824
@@ -29,7 +29,7 @@ IsSized (events.Fault slot fault) = Unit {0}
 IsSized (events.Close slot) = Unit {0}
 IsSized (events.Tick now) = Unit {0}
 
--- A refusal is the one that stands, but that Memory comes only for a step that would otherwise be taken.
+-- A refusal is the definitions', but that Memory comes only for a step that would otherwise be taken.
 abbrev pub IsRefusal : ApplyError → Option ApplyError → Type 0
 IsRefusal Memory stands = stands ≡ None
 IsRefusal NotOpen stands = stands ≡ Some NotOpen
@@ -64,7 +64,7 @@ is_closing c past = is_open c past.notes && is_shut c past.notes
 abbrev pub owes : ℕ → Past → Bool
 owes c past = is_open c past.notes && is_owed (phase c past.notes)
 
--- what the taking or the withdrawal of a NOOP answers after these steps; want of memory is none of the answers
+-- what the taking or the withdrawal of a NOOP answers after these steps; never Memory
 abbrev pub AnswersAt : Settings → List Step → Step → Result (Unit {0}) ApplyError → Type 0
 AnswersAt k steps s (Ok answer) = refusal k s (run k steps) ≡ None
 AnswersAt k steps s (Err refused) = refusal k s (run k steps) ≡ Some refused

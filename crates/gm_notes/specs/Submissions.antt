@@ -24,7 +24,7 @@ is_bad_name f = length f == 0 || nat_lt 512 (length f)
 abbrev pub is_one_too_many : Settings → List ℕ → List Note → Bool
 is_one_too_many k f notes = not (is_mentioned f notes) && nat_le k.max_functions (length (functions notes))
 
--- no more jobs of the function may be there
+-- the function has as many jobs as its limit allows
 abbrev pub is_full : List ℕ → List Note → Bool
 is_full f notes = not (limit f notes == 0) && nat_le (limit f notes) (total f notes)
 

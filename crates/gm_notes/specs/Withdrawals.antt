@@ -1,4 +1,4 @@
--- When a NOOP that is owed is withdrawn: who asks for a job, or goes, needs it no more.
+-- When a NOOP that is owed is withdrawn: a connection that grabs a job, or closes, needs it no more.
 use Rattle.std.specs.Prelude.{Bool, true, false, not, ◌&&◌, Result, Ok, Err}
 use Rattle.gm_packet.specs.Requests.{Asked, request_of}
 use Rattle.gm_packet.specs.declared.kind.Kind.{Kind}

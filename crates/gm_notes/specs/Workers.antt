@@ -49,7 +49,7 @@ wake_itself c past = if is_asleep (phase c past.notes) then with_note (Stirred c
 abbrev pub deadline_after : ℕ → ℕ → Option ℕ
 deadline_after now timeout = if timeout == 0 then None else Some (min (now + timeout) (2 ^ 64 - 1))
 
--- what is told of a job that is given out, with its unique id if the worker asked for it
+-- the answer with a job that is given out, with its unique id if the worker asked for it
 abbrev pub assignment : Settings → Bool → ℕ → Job → Answer
 assignment k true n job = job_assign_uniq (handle k n) job.function job.unique job.body
 assignment k false n job = job_assign (handle k n) job.function job.body
@@ -69,7 +69,7 @@ grab k c uniq past = give_out k c uniq (pick k c past.notes) (wake_itself c past
 
 -- ---- work
 
--- what a worker says of its job: the packet to be passed on, whether only to those who want exceptions,
+-- a worker's report on its job: the packet to be passed on, whether only to listeners with the exceptions option,
 -- the report that it holds, and whether the job ends with it
 pub record Work : Type 0 where
   pub answer : Answer
@@ -85,7 +85,7 @@ abbrev pub end_if : Bool → ℕ → Past → Past
 end_if true n past = with_note (Ended n) past
 end_if false n past = past
 
--- who hears of it
+-- which slots get it
 abbrev pub hearers : Bool → List ℕ → List Note → List ℕ
 hearers true slots notes = filter (λ c. is_open c notes && has_option c notes) slots
 hearers false slots notes = slots

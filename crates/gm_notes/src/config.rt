@@ -57,7 +57,7 @@ impl Model for Config {
     ghost invariant = { IsValid };
 }
 
-/// Whether each byte may stand in a name.
+/// Whether each byte may be part of a name.
 fn are_name_bytes(name: &[u8]) -> bool
     ensures { result ≡ list_all is_name_byte name.now }
 {
@@ -65,7 +65,7 @@ fn are_name_bytes(name: &[u8]) -> bool
         .all(|b| b.is_ascii_alphanumeric() || *b == b'.' || *b == b'-')
 }
 
-/// Whether a name may stand in job handles.
+/// Whether a name may be part of job handles.
 fn is_name(name: &[u8]) -> bool
     ensures { result ≡ is_name name.now }
 {
@@ -124,7 +124,7 @@ impl Config {
     }
 
     /// The same settings, but that a job may be given to `r` workers at most; 0 is no limit. When the last of them
-    /// goes with the job in hand, the job isn't given out again and fails with the next tick. It takes no memory.
+    /// disconnects before it has finished, the job isn't given out again and fails with the next tick. It takes no memory.
     pub fn with_retries(self, r: u32) -> Config
         ensures { result ≡ record self { retries = r } }
     {

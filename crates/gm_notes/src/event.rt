@@ -1,4 +1,4 @@
-//! What befalls a server, and what it answers.
+//! What is handed to a server, and what it answers.
 
 ghost use Rattle.std.specs.Prelude.{◌≡◌};
 ghost use Rattle.gm_notes.specs.declared.event.ApplyError.TheVariants.{Memory};
@@ -34,7 +34,7 @@ impl UnitFault {
 pub enum ApplyError {
     /// There was no memory for it.
     Memory = 6,
-    /// The slot isn't open, or is shut and takes no more units.
+    /// The slot isn't open, or is shut and takes no further units.
     NotOpen = 10,
     /// Every slot is open.
     NoSlot = 11,
@@ -71,7 +71,7 @@ impl<T: Drop> From<AllocFailed<T>> for ApplyError {
     }
 }
 
-/// What befalls a server. A slot is the small number that stands for a connection while it is open.
+/// What is handed to a server. A slot is the small number of a connection while it is open.
 #[derive(Clone, Copy, Debug)]
 pub enum Event<'a> {
     /// A connection is opened, from this address.

@@ -11,7 +11,7 @@ pub enum Note {
         slot: u32,
         addr: Text,
     },
-    /// The slot takes no more units.
+    /// The slot takes no further units.
     Shut {
         slot: u32,
     },
@@ -75,7 +75,7 @@ pub enum Note {
     Kept {
         job: u64,
     },
-    /// The connection hears of the job.
+    /// The connection listens to the job.
     Listens {
         job: u64,
         slot: u32,
@@ -90,7 +90,7 @@ pub enum Note {
     Returned {
         job: u64,
     },
-    /// The job's last try is over: it waits no more, and fails with the next tick.
+    /// The job's last try is over: it doesn't wait again, and fails with the next tick.
     Lost {
         job: u64,
     },
@@ -98,11 +98,11 @@ pub enum Note {
     Ended {
         job: u64,
     },
-    /// The job is wanted by nobody.
+    /// The job was dropped, as nobody wants it.
     Discarded {
         job: u64,
     },
-    /// So far is the job.
+    /// The job's latest progress.
     Report {
         job: u64,
         numerator: Text,
@@ -117,11 +117,11 @@ pub enum Note {
         function: Text,
         size: u32,
     },
-    /// So late is it, in seconds.
+    /// The clock, in seconds.
     Now {
         moment: u64,
     },
-    /// So the server goes on.
+    /// The server's mode.
     Went {
         mode: Mode,
     },

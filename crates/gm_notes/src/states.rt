@@ -1,4 +1,4 @@
-//! Where jobs, connections and the server stand.
+//! The states of jobs, connections and the server.
 
 /// How soon a job is given out, among those of its function.
 #[derive(Clone, Copy, Debug, PartialEq, Eq)]

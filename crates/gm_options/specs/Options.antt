@@ -1,4 +1,4 @@
--- What clap is told of the options, and what is read of its matches.
+-- What clap gets to know of the options, and what is read of its matches.
 use Rattle.std.specs.Prelude.{◌≡◌, ◌^◌, ◌<◌, ℕ, ℤ, Bool, true, false, [], ◌∷◌, Option, Some, None, codes, pos}
 use Rattle.std.specs.Int.{int_max, int_min}
 use Rattle.std.specs.Str.Parse.{IsNumeral, digits_value, without_leading_plus}

@@ -30,7 +30,7 @@ pub enum RequestFault {
 }
 
 /// A request, its arguments borrowed from the data of its packet. The Gearman PROTOCOL document says under
-/// the same names what each asks for and who sends it.
+/// the same names what each asks for and which side sends it.
 #[derive(Clone, Copy, PartialEq, Eq)]
 pub enum Request<'a> {
     /// A worker can do jobs of this function.

@@ -12,7 +12,7 @@ use std::alloc::AllocError;
 use std::fmt::{self, Debug, Formatter, Write};
 
 /// A response, its arguments borrowed. The Gearman PROTOCOL document says under the same names what each
-/// tells, and whom.
+/// means, and which side gets it.
 #[derive(Clone, Copy, PartialEq, Eq)]
 pub enum Response<'a> {
     /// There is a job for a worker that went to sleep.

@@ -73,7 +73,7 @@ abilities_after c (Can d f t) abilities = if c == d then put f t abilities else 
 abilities_after c (Cant d f) abilities = if c == d then filter (λ ability. not (is_of f ability)) abilities else abilities
 abilities_after c note abilities = abilities
 
--- what the note changes of who hears of job n
+-- what the note changes of the listeners of job n
 abbrev pub listeners_after : ℕ → Note → List ℕ → List ℕ
 listeners_after n (Made m f p u body) slots = if n == m then [] else slots
 listeners_after n (Listens m c) slots = if n == m then slots ++ c ∷ [] else slots
@@ -86,7 +86,7 @@ returns_after n (Made m f p u body) count = if n == m then 0 else count
 returns_after n (Returned m) count = if n == m then suc count else count
 returns_after n note count = count
 
--- whether the connection in slot c hears of job n, where the note says so
+-- whether the connection in slot c listens to job n, where the note says so
 abbrev pub says_listening : ℕ → ℕ → Note → Option Bool
 says_listening n c (Made m f p u body) = said_of n m false
 says_listening n c (Listens m d) = if n == m && c == d then Some true else None

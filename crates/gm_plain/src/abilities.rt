@@ -89,7 +89,7 @@ fn position(abilities: &[Ability<'_>], function: &[u8]) -> Option<usize>
         .position(|ability| ability.function == function)
 }
 
-/// An ability that stands keeps its place and takes the new timeout; another goes to the end.
+/// An ability that is there already keeps its position and takes the new timeout; another goes to the end.
 fn put<'a>(abilities: &mut Vec<Ability<'a>>, ability: Ability<'a>) -> Result<(), AllocError>
     ensures { OnOk result (map ability_of abilities.new.items
         ≡ put ability.entry.function.now ability.entry.timeout (map ability_of abilities.old.items)) }

@@ -105,7 +105,7 @@ pub fn job(log: &Log, number: u64) -> Option<JobView<'_>>
     job_in(log.notes(), number)
 }
 
-/// What a note changes of who hears of a job.
+/// What a note changes of a job's listeners.
 fn update_listeners(slots: &mut Vec<u32>, note: &Note, job: u64) -> Result<(), AllocError>
     ensures { OnOk result (slots.new.items ≡ listeners_after job note.now slots.old.items) }
 {
@@ -118,7 +118,7 @@ fn update_listeners(slots: &mut Vec<u32>, note: &Note, job: u64) -> Result<(), A
     Ok(())
 }
 
-/// Who hears of a job, in the order in which they came to listen, once for each time.
+/// A job's listeners, in the order in which they came to listen, once for each time.
 pub fn listeners(alloc: Global, log: &Log, job: u64) -> Result<Vec<u32>, AllocError>
     ensures value { IfOk result (λ slots. slots.items ≡ listeners job log.now.notes) }
     ensures below { IfOk result (λ slots. All (λ c. c < log.now.slots) slots.items) }
@@ -142,14 +142,14 @@ fn says_listening(note: &Note, job: u64, slot: u32) -> Option<bool>
     }
 }
 
-/// Whether the connection in a slot hears of a job.
+/// Whether the connection in a slot listens to a job.
 fn is_listening(log: &Log, job: u64, slot: u32) -> bool
     ensures { result ≡ is_listening job slot log.now.notes }
 {
     log.last_said(false, |note| says_listening(note, job, slot))
 }
 
-/// Whether anybody hears of a job.
+/// Whether a job has a listener.
 fn is_heard(log: &Log, job: u64) -> bool
     ensures { result ≡ not (length (listeners job log.now.notes) == 0) }
 {
@@ -178,7 +178,7 @@ fn is_kept(log: &Log, job: u64) -> bool
     log.last_said(false, |note| says_kept(note, job))
 }
 
-/// Whether somebody wants a job.
+/// Whether a job is wanted.
 pub fn is_wanted(log: &Log, job: u64) -> bool
     ensures { result ≡ is_wanted job log.now.notes }
 {

@@ -32,7 +32,7 @@ use gm_packet::Response;
 use std::alloc::{AllocError, Global};
 
 /// The plain server: it keeps the list of all that has happened, and answers by searching it. It is for
-/// tests, and for those who want to see the definitions run.
+/// tests, and for readers who want to see the definitions run.
 #[derive(Drop)]
 pub struct PlainServer {
     config: Config,

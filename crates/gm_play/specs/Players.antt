@@ -1,4 +1,4 @@
--- What a player does: a front, and which slots were told to be shut.
+-- What a player does: a front, and which slots were printed as shut.
 use Rattle.std.specs.Prelude.{◌≡◌, ℕ, ◌<◌, Bool, false, List, ◌++◌, length, slice_index_or, Option}
 use Rattle.std.specs.Io.KnownBytes.{Appends}
 use Rattle.gm_feeder.specs.declared.units.Limits.{Limits}

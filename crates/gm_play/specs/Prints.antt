@@ -52,7 +52,7 @@ abbrev pub noop_if : Bool → List ℕ
 noop_if true = answer_packet noop
 noop_if false = []
 
--- what is told of slot c, which was shut before or wasn't: what waits for it and the NOOP that is owed to it, and whether
+-- what is printed of slot c, which was shut before or wasn't: what waits for it and the NOOP that is owed to it, and whether
 -- it became shut; nothing where it isn't open
 abbrev pub told_of : ℕ → Bool → Past → List ℕ
 told_of c shut now =
@@ -66,7 +66,7 @@ took_if false c steps = steps
 abbrev pub drain_of : Settings → ℕ → List Step → List Step
 drain_of k c steps = if is_open c (run k steps).notes then took_if (owes c (run k steps)) c (Drain c ∷ steps) else steps
 
--- what is told of the n slots from c on, one after another, since it was so before
+-- what is printed of the n slots from c on, one after another, since it was so before
 abbrev pub told : Settings → Past → ℕ → ℕ → List Step → List ℕ
 told k before c zero steps = []
 told k before c (suc n) steps = told_of c (is_closing c before) (run k steps) ++ told k before (suc c) n (drain_of k c steps)
@@ -76,7 +76,7 @@ abbrev pub drained : Settings → ℕ → ℕ → List Step → List Step
 drained k c zero steps = steps
 drained k c (suc n) steps = drained k (suc c) n (drain_of k c steps)
 
--- From old, a line led to mid and printed this at once; then each slot is told of and drained.
+-- From old, a line led to mid and printed this at once; then each slot is printed and drained.
 pub record Settles (k : Settings) (old mid : Reading) (said text : List ℕ) (new : Reading) : Type 0 where
   pub printed : text ≡ said ++ told k (run k old.steps) 0 k.slots mid.steps
   pub taken : new ≡ record mid { steps = drained k 0 k.slots mid.steps }
@@ -91,7 +91,7 @@ abbrev pub said_of : Option ℕ → List ℕ
 said_of None = []
 said_of (Some c) = open_text c
 
--- an input is refused, or taken: then each slot is told of
+-- an input is refused, or taken: then each slot is printed
 abbrev pub Handing : Settings → Limits → Input → Option ApplyError → Reading → List ℕ → Reading → Type 0
 Handing k limits input (Some refused) old text new = Only old (refused_text refused) text new
 Handing k limits input None old text new = (mid : Reading) × Adds k limits input old mid × Settles k old mid (said_of (opened_by k input old)) text new

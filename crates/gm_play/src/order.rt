@@ -20,7 +20,7 @@ pub enum Order<'a> {
     Open { addr: &'a [u8] },
     /// These bytes, to this slot.
     Bytes { slot: u32, piece: Vec<u8> },
-    /// The connection in this slot goes.
+    /// The connection in this slot closes.
     Close { slot: u32 },
     /// It is this moment.
     Tick { now: u64 },
@@ -34,7 +34,7 @@ enum Words<'a> {
     Other,
 }
 
-/// Where a byte stands first.
+/// Where a byte occurs first.
 fn place_of(bytes: &[u8], at: u8) -> Option<usize>
     ensures { result ≡ position (λ b. b == at) bytes.now }
 {

@@ -12,7 +12,7 @@ use std::marker::Model;
 
 /// The waiting jobs of one function and priority in their order, and the room that is reserved for jobs.
 ///
-/// A job that is forgotten leaves a cleared entry, which whoever wants the first job drops. The ring has capacity for
+/// A job that is forgotten leaves a cleared entry, which a search for the first job drops. The ring has capacity for
 /// all reserved room that no waiting job uses.
 #[derive(Drop)]
 pub(crate) struct Ring {

@@ -1,4 +1,4 @@
--- What came of events, for those who are to be told.
+-- What came of events, for the threads that are notified.
 use Rattle.std.specs.Prelude.{◌≡◌, ℕ, Bool, false, ◌||◌, List, Result, Ok, Err}
 use Rattle.gm_conns.specs.Slots.{has}
 use Rattle.gm_notes.specs.declared.states.Mode.{Mode}
@@ -22,7 +22,7 @@ pub record Collects (touched : List ℕ) (mode : Mode) (old new : Effects) : Typ
   pub slots : (c : ℕ) → has new.touched c ≡ (has old.touched c || has touched c)
   pub mode_is : new.mode ≡ mode
 
--- An event was applied with this receipt and touched these slots, of which nothing is lost to those who are to be told.
+-- An event was applied with this receipt and touched these slots, of which nothing is lost to the threads that are notified.
 pub record KeepsReceipt (k : Settings) (taped : Bool) (s : Step) (desk : ℕ) (share after : List Told) (old new : Effects) : Type 0 where
   pub receipt : Receipt
   pub touched : List ℕ

@@ -27,7 +27,7 @@ abbrev pub are_said_by : ℕ → List Step → Bool
 are_said_by n [] = true
 are_said_by n (s ∷ steps) = is_said_by n s && are_said_by n steps
 
--- an entry is its actor's own; takings and withdrawals of NOOPs stand at the desk in whose call they were found
+-- an entry is its actor's own; takings and withdrawals of NOOPs count with the desk in whose call they were found
 abbrev pub is_own : Actor → TapeStep → Bool
 is_own (Desk n) step = are_said_by n (if_event step [])
 is_own (Pen n) step = is_drain_of n step

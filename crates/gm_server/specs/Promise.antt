@@ -41,14 +41,14 @@ abbrev pub events_of : Actor → List Entry → List Step
 events_of actor [] = []
 events_of actor (e ∷ more) = if actor_is actor e.actor then if_event e.step (events_of actor more) else events_of actor more
 
--- What each desk and pen was told is what the tape has of it, entry for entry; so the events of a desk stand on the tape in the order
--- in which it handed them in.
+-- What each desk and pen was told is what the tape has of it, entry for entry; so the events of a desk are on the tape in
+-- the order in which it handed them in.
 abbrev pub ToldInOrder : Type 0
 ToldInOrder = (k : Settings) (settled : Settled) → AddsUp k true settled
     → All (λ share. (share.told.items ≡ share_from share.actor 0 settled.tape.items) × (events_told share.told.items ≡ events_of share.actor settled.tape.items)) settled.shares.items
 
--- A session that handed in the units of what it read, while its desk's share grew from this to that: they stand on the tape, in their
--- order, and nothing of the desk's between them.
+-- A session that handed in the units of what it read, while its desk's share grew from this to that: they are on the tape, in
+-- their order, and nothing of the desk's between them.
 abbrev pub SessionsAreOnTheTape : Type 0
 SessionsAreOnTheTape = (k : Settings) (settled : Settled) → AddsUp k true settled
     → (actor : Actor) (c : ℕ) (limits : Limits) (bytes rest : List ℕ) (fault : Option UnitFault) (before after more : List Told)
@@ -122,7 +122,7 @@ abbrev pub WaitingJobsAreWanted : Type 0
 WaitingJobsAreWanted = (k : Settings) (settled : Settled) → AddsUp k true settled → (rest older : List Entry) → reverse settled.tape.items ≡ rest ++ older
     → NoWaitingJobIsOrphaned k (run k (steps_of older)).notes
 
--- In the step that ends a job, each slot is told of it exactly as often as it listened to the job just before.
+-- In the step that ends a job, each slot gets it exactly as often as it listened to the job just before.
 abbrev pub ListenersAreTold : Type 0
 ListenersAreTold = (k : Settings) (settled : Settled) → AddsUp k true settled → (rest older : List Entry) (e : Entry) → reverse settled.tape.items ≡ rest ++ (e ∷ older)
     → EachListenerIsTold k (run k (steps_of older)) (step_in e.step) (run k (steps_of (e ∷ older)))

@@ -15,13 +15,13 @@ use Rattle.gm_server.specs.declared.settings.Served.{Served}
 abbrev pub HasEverybody : BookSettings → Settled → Type 0
 HasEverybody k settled = map (λ (share : Share). share.actor) settled.shares.items ≡ everybody k.slots
 
--- The shares add up, everybody's is there, and each tells of its own slot alone.
+-- The shares add up, none is missing, and each has entries only of its own slot.
 pub record IsWhole (k : BookSettings) (taped : Bool) (settled : Settled) : Type 0 where
   pub up : AddsUp k taped settled
   pub everybody : HasEverybody k settled
   pub own : All (λ (share : Share). is_own_share taped share.actor share.told.items ≡ true) settled.shares.items
 
--- The shares don't add up, or somebody's isn't there.
+-- The shares don't add up, or one is missing.
 abbrev pub IsNotWhole : BookSettings → Bool → Settled → Type 0
 IsNotWhole k taped settled = IsUnsettled k taped settled (map told_by settled.shares.items) ⊎ (HasEverybody k settled → ⊥)
 

@@ -28,7 +28,7 @@ abbrev pub Adds : Bool → List Step → List Told → List Told → Type 0
 Adds true steps share after = events_told after ≡ events_told share ++ steps
 Adds false steps share after = Unit {0}
 
--- The events that a share has more are the first units of these bytes, in order, and then the fault that stands behind
+-- The events that a share has more are the first units of these bytes, in order, and then the fault behind
 -- them, or none.
 pub record HandsIn (taped : Bool) (c : ℕ) (limits : Limits) (bytes rest : List ℕ) (fault : Option UnitFault) (share after : List Told) : Type 0 where
   pub items : List Item
@@ -53,12 +53,12 @@ pub record Refuses (k : Settings) (taped : Bool) (s : Step) (desk : ℕ) (after 
   pub applied : Applied k taped s desk (Err error) before after
   pub reason : error ≡ refusals.Memory → ⊥
 
--- this event of slot c stands next in the bytes
+-- this event of slot c comes next in the bytes
 pub data StandsNext (c : ℕ) (limits : Limits) (bytes : List ℕ) : Step → Type 0 where
   unit : (item : Item) (later : List ℕ) → IsUnitThen limits bytes item later → StandsNext c limits bytes (step_of_unit c item)
   broken : (fault : UnitFault) → IsFaultAt limits bytes fault → StandsNext c limits bytes (Fault c fault)
 
--- The fault that stands at the rest was handed in; or the book refused what stands there.
+-- The fault at the rest was handed in; or the book refused what comes there.
 abbrev pub IsShutBy : Settings → Bool → ℕ → ℕ → Limits → List ℕ → Option UnitFault → List Told → Type 0
 IsShutBy k taped desk c limits rest (Some fault) after = Unit {0}
 IsShutBy k taped desk c limits rest None after = (s : Step) × StandsNext c limits rest s × Refuses k taped s desk after
@@ -66,7 +66,7 @@ IsShutBy k taped desk c limits rest None after = (s : Step) × StandsNext c limi
 -- ---- a session
 
 -- What a session read of its input, and what it handed in of that: all units and no fault, where the input is used up,
--- the reader failed or it read as many pieces as it may; then no unit stands at the rest, and no fault. Where it
+-- the reader failed or it read as many pieces as it may; then there is no unit at the rest, and no fault. Where it
 -- found its slot shut, why.
 pub record Reads (k : Settings) (taped : Bool) (desk c : ℕ) (limits : Limits) (old new : Option (List ℕ)) (end : SessionEnd) (share after : List Told) : Type 0 where
   pub read : List ℕ
@@ -84,7 +84,7 @@ abbrev pub Applies : Settings → Bool → ℕ → Step → Result (Unit {0}) Se
 Applies k taped desk s (Ok done) share after = Adds taped (s ∷ []) share after
 Applies k taped desk s (Err end) share after = Adds taped [] share after × (IsWhole end → ⊥) × (end ≡ ends.Shut → Refuses k taped s desk after)
 
--- the fault that stands next was applied, or nothing was, and the session is over
+-- the fault that comes next was applied, or nothing was, and the session is over
 pub record Stops (k : Settings) (taped : Bool) (desk c : ℕ) (old : Stream) (end : SessionEnd) (share after : List Told) : Type 0 where
   pub fault : Option UnitFault
   pub stands : IfSome fault (λ fault. IsFaultAt old.limits old.pending fault)

@@ -14,8 +14,8 @@ noop_if false = []
 abbrev pub turn_of : Bool → List ℕ → List ℕ
 turn_of took drained = drained ++ noop_if took
 
--- A write took so many of the bytes, which are in order the next that the writer was given: all of them exactly where all is done, and
--- none where there is nobody to write to.
+-- A write took this many of the bytes, which are in order the next that the writer was given: all of them exactly where all is
+-- done, and none where there is no peer to write to.
 pub record Writes (old new : Option (List ℕ)) (bytes : List ℕ) (count : ℕ) (delivery : Delivery) : Type 0 where
   pub within : count ≤ length bytes
   pub written : Appends old new (take count bytes)

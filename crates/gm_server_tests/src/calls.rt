@@ -123,7 +123,7 @@ macro_rules! call {
     };
 }
 
-/// A worker that was told to wake finds that another has the job, and sleeps again: the next job wakes it anew.
+/// A worker that was told to wake finds that another has the job, and sleeps again: the next job wakes it again.
 static STALE_NOOP: [Call; 14] = [
     call!(open 0),
     call!(open 1),
@@ -174,7 +174,7 @@ static GRABS_WITH_ID: [Call; 3] = [
     call!(drain 1 => b"\0RES\0\0\0\x1f\0\0\0\x0dH:gmd:1\0f\0-\0d", false),
 ];
 
-/// It goes, and who comes to its slot next is owed nothing, until it sleeps beside the job.
+/// It disconnects, and the next connection in its slot is owed nothing, until it sleeps beside the job.
 static GOES: [Call; 9] = [
     call!(event 1, Given::Close { slot: 1 } => Running, [1]),
     call!(take 1 => false),
@@ -218,7 +218,7 @@ static REFUSALS: [Call; 24] = [
     call!(event 1, Given::Close { slot: 1 } => Stopped, [1]),
 ];
 
-/// A job whose second worker goes waits no more, and the next tick fails it.
+/// A job whose second worker disconnects doesn't wait again, and the next tick fails it.
 static JOB_RETRIES: [Call; 22] = [
     call!(open 0),
     call!(open 1),
@@ -280,7 +280,7 @@ static GRABS_OF_TWO: [Call; 2] = [
     call!(packet 3, 9, b"" => None, [3]),
 ];
 
-/// Each job runs, and each slot is told of its own ten.
+/// Each job runs, and each slot receives its own ten.
 static TEN_EACH: [Call; 5] = [
     call!(event 0, Given::Line { slot: 0, bytes: b"status" } => Running, [0]),
     call!(drain 0 => b"\0RES\0\0\0\x08\0\0\0\x07H:gmd:1\0RES\0\0\0\x08\0\0\0\x07H:gmd:3\
@@ -537,7 +537,7 @@ fn ten_each(rt: HostRuntime) -> Result<(), Fail> {
     play_both(&rt, 4, 0, &parts, 51)
 }
 
-/// The pen takes the NOOP before the worker asks for a job or goes, or it is withdrawn: all else is the same.
+/// The pen takes the NOOP before the worker asks for a job or disconnects, or it is withdrawn: the rest is the same.
 #[test]
 fn withdrawn_or_taken(rt: HostRuntime) -> Result<(), Fail> {
     assert_found(&rt, &[&OWED, &GRABS], false)?;

@@ -20,7 +20,7 @@ use std::thread::{Threads, map_vec};
 /// How often each thread does what it does.
 const TIMES: usize = 1000;
 
-/// One who works at a desk of its own, and the numbers of the jobs that its receipts tell.
+/// A participant with a desk of its own, and the numbers of the jobs that its receipts tell.
 #[derive(Drop)]
 struct Hand<K: BookName> {
     desk: Desk<K>,
@@ -51,7 +51,7 @@ impl<K: BookName> Hand<K> {
         Ok(())
     }
 
-    /// Does so often what it is there for. Who grabs can do the function first.
+    /// Does what it is there for this many times. One that grabs adds the function first.
     fn send_all<R: Wait + Abort>(&mut self, rt: &R, shared: &Shared<K>) -> Result<(), ApplyError> {
         let (kind, bytes) = (self.kind, self.bytes);
         if kind == 9 {
@@ -208,7 +208,7 @@ fn assert_created(
     Ok(())
 }
 
-/// The two who submitted are told that their own jobs were made.
+/// The two submitters learn that their own jobs were made.
 fn assert_all_created<K: BookName, R: Wait + Abort>(
     rt: &R,
     alloc: Global,
@@ -326,8 +326,8 @@ fn crowd_in<K: BookName + Send + Sync, R: Threads + Wait + Abort + Sync>(
     assert_places(rt, alloc, room, &running)
 }
 
-/// The same in a room of its own. What each desk and pen was told stands on the tape, if one is kept, and has so many
-/// entries.
+/// The same in a room of its own. What each desk and pen was told is on the tape, if one is kept, and has this
+/// many entries.
 fn crowd<K: BookName + Send + Sync, R: Threads + Wait + Abort + Sync>(
     rt: &R,
     alloc: Global,

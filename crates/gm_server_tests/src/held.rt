@@ -1,4 +1,4 @@
-//! Pieces that are held at a unit while others go on: who waits for whom.
+//! Pieces that are held at a unit while others go on: which of them wait for which.
 
 use crate::checks::same;
 use crate::client::{Client, joined};

@@ -21,7 +21,7 @@ use std::sync::Wait;
 use std::test::Fail;
 use std::thread::Threads;
 
-/// The settings of a server with this many slots, which gives a job to so many workers at most; 0 is no limit. All else is as
+/// The settings of a server with this many slots, which gives a job to at most this many workers; 0 is no limit. The rest is as
 /// it is where nothing else is asked for.
 pub fn config(alloc: Global, slots: u32, retries: u32) -> Result<Config, Fail> {
     Ok(Config::new(Vec::from_slice(alloc, b"gmd")?, 1, slots, 65536)?.with_retries(retries))

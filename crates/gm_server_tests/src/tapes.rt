@@ -80,7 +80,7 @@ fn assert_ends<R: RandomSource + Threads + Wait + Abort + AllocGlobal + Sync>(
     Ok(())
 }
 
-/// Each call is on the tape at the place that was told, and what isn't given back is missed.
+/// Each call is on the tape at the place that was answered, and what isn't given back is missed.
 #[test]
 fn tape_and_shares(rt: HostRuntime) -> Result<(), Fail> {
     let places = [Some(0), Some(1)];
@@ -93,7 +93,7 @@ fn tape_and_shares(rt: HostRuntime) -> Result<(), Fail> {
     Ok(())
 }
 
-/// A worker that is owed a NOOP goes. Where there is no memory for that, it goes the next time. Its desk's share has three
+/// A worker that is owed a NOOP disconnects. Without memory for that, it does so the next time. Its desk's share has three
 /// entries before, so that the closing finds no room for two more.
 #[derive(Clone, Copy)]
 struct Goes;

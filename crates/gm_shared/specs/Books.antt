@@ -94,7 +94,7 @@ AsksWord None past old new = Unit {0}
 AsksWord (Some c) past old new = owes c past ≡ true → (line_at c old).looks < (line_at c new).looks
 
 -- What a holding did: it asked the word of the event's slot, found this of the NOOP, and entered it; after that the event was taken, or was refused and changed
--- nothing. Both are entered on the tape, if one is kept, and the desk is told so.
+-- nothing. Both are entered on the tape, if one is kept, and in the desk's share.
 pub record Holding (k : Settings) (steps : List Step) (s : Step) (desk : ℕ) (noop : Noop) (result : Result Receipt ApplyError) (touched : List ℕ) (old new : Booked) (told : List Told) : Type 0 where
   pub asks : AsksWord (slot_of s) (run k steps) old.seat.lines new.seat.lines
   pub found : MayFind noop s (run k steps)

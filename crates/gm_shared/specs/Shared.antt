@@ -41,7 +41,7 @@ pub record IsGuarded (table : TableId) (k : Settings) (taped : Bool) (booked : B
   pub on : booked.tape.on ≡ taped
 
 -- The answer is that of one holding of a book that agreed with these settings and some list of steps, the event touched these
--- slots, and what the desk was told of the book's tape was added to the desk's share.
+-- slots, and what the desk learnt of the book's tape was added to the desk's share.
 pub record AppliedTo (k : Settings) (taped : Bool) (s : Step) (desk : ℕ) (result : Result Receipt ApplyError) (touched : List ℕ) (share after : List Told) : Type 0 where
   pub steps : List Step
   pub old : Booked
@@ -66,7 +66,7 @@ pub record Emptied (k : Settings) (taped : Bool) (pen slot : ℕ) (result : Resu
   pub drains : Drains k steps pen slot result old new told
   pub share_is : after ≡ share ++ told
 
--- With a tape a desk is told of each event that is taken, in order. Takings and withdrawals of NOOPs stand between them.
+-- With a tape a desk's share gets each event that is taken, in order. Takings and withdrawals of NOOPs are between them.
 abbrev pub AddsEvent : Bool → Step → Result Receipt ApplyError → List Told → List Told → Type 0
 AddsEvent taped s (Ok receipt) share after = events_told after ≡ (if taped then events_told share ++ s ∷ [] else events_told share)
 AddsEvent taped s (Err refused) share after = events_told after ≡ events_told share

@@ -89,7 +89,7 @@ fn assert_takes_out(rt: &impl Abort, conns: &mut Conns, chunks: &[&[u8]]) {
     same(rt, "what is left", &out.chunk(), &b"".as_slice());
 }
 
-// A tail is shared wherever it stands, and what comes before it or behind it is a chunk of its own.
+// A tail is shared wherever it is, and what comes before it or behind it is a chunk of its own.
 fn share(rt: &impl Abort, conns: &mut Conns, tail: &SharedBytes) -> Result<(), AllocError> {
     put_shared(rt, conns, b"head", tail)?;
     put_checked(rt, conns, 0, b"on")?;

@@ -9,7 +9,7 @@ use std::sync::atomic::{AtomicU64, Ordering};
 use std::test::Fail;
 use std::thread::join;
 
-// Whether somebody else has the lane. Otherwise it is left to the writer.
+// Whether another thread has the lane. Otherwise it is left to the writer.
 fn is_others(touch: Result<Owed<'_>, Tally>) -> bool {
     match touch {
         Ok(owed) => {
@@ -75,7 +75,7 @@ struct Line {
 }
 
 impl Line {
-    // Sends what is queued. Only who has the lane does so.
+    // Sends what is queued. Only the thread that has the lane does so.
     fn send(&self) {
         let queued = self.queued.swap(0, Ordering::SeqCst);
         let sent = self.sent.load(Ordering::SeqCst);
@@ -123,7 +123,7 @@ impl Line {
     }
 }
 
-// Two who queue, one who finds the peer slow, and the writer, each in a thread of its own. In the end all is sent.
+// Two threads that queue, one that finds the peer slow, and the writer, each in a thread of its own. In the end all is sent.
 #[test]
 fn lane_word_four(rt: HostRuntime) -> Result<(), Fail> {
     let line = Line {

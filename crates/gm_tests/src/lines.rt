@@ -253,7 +253,7 @@ fn writes_faults(rt: HostRuntime) -> Result<(), Fail> {
     Ok(())
 }
 
-/// A buffer with room is written without more memory, and each writer adds to what stands there.
+/// A buffer with room is written without more memory, and each writer adds to what is there.
 #[test]
 fn writes_where_there_is_room(rt: HostRuntime) -> Result<(), Fail> {
     let mut out = Vec::with_capacity(rt.alloc(), 64)?;

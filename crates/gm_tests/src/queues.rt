@@ -76,7 +76,7 @@ fn reserve_checked(
     functions.reserve_one(f, p)
 }
 
-// A table of at most so many functions, with these.
+// A table of at most this many functions, with these.
 fn functions_of(
     rt: &impl RandomSource,
     alloc: Global,

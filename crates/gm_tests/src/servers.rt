@@ -8,7 +8,7 @@ use std::alloc::Global;
 use std::process::Abort;
 use std::test::Fail;
 
-/// A server with 64 slots, of which so many are open.
+/// A server with 64 slots, of which this many are open.
 fn server(alloc: Global, open: u32) -> Result<PlainServer, Fail> {
     let config = Config::new(Vec::from_slice(alloc, b"gmd")?, 1, 64, 65536)?;
     let mut server = PlainServer::new(alloc, config)?;

@@ -174,7 +174,7 @@ impl<'a> Keeper<'a> {
         self
     }
 
-    // Goes round the slots, so many steps in all, those that a phase doesn't allow among them.
+    // Goes round the slots, this many steps in all, those that a phase doesn't allow among them.
     fn go_round(mut self, steps: u32) -> Keeper<'a> {
         for i in 0..steps {
             let step = match i / 4 % 7 {

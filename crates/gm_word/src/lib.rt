@@ -1,4 +1,4 @@
-//! The sleep words: who is owed a NOOP, and that it is taken once.
+//! The sleep words: which worker is owed a NOOP, and that it is taken once.
 //!
 //! A worker that sleeps (PRE_SLEEP) is woken by one NOOP packet. The book, which a lock guards, says when
 //! it is owed one; the thread that writes to the worker takes the NOOP, and doesn't hold the lock. So whether

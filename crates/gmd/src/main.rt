@@ -8,7 +8,7 @@ use std::os::fd::AsRawFd;
 use std::process::ExitCode;
 
 /// Opens the null device in place of each standard stream that is closed, until this is dropped. A connection would get the
-/// stream's number otherwise, and a client would read what is said on standard error.
+/// stream's number otherwise, and a client would read what is written to standard error.
 fn replace_closed_streams(rt: &HostRuntime) -> [Option<File>; 3] {
     let mut opened = [None, None, None];
     for place in &mut opened {

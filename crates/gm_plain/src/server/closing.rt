@@ -18,7 +18,7 @@ use crate::jobs::{count_made, is_last_try, is_running_at, is_waiting, is_wanted,
 use gm_notes::{ApplyError, Done, Note};
 
 impl PlainServer {
-    /// The connection in a slot goes, with what waited for it; its jobs wait again, are lost, or go too. It needs
+    /// The connection in a slot closes, and what waited for it is dropped; its jobs wait again, are lost, or go too. It needs
     /// no memory.
     pub(super) fn close(&mut self, slot: u32) -> Result<Done, ApplyError>
         ensures answers { (k : Settings) (steps : List Step) → PlainAgrees self.old k steps
@@ -34,7 +34,7 @@ impl PlainServer {
         Ok(Done::NONE)
     }
 
-    /// The connection in a slot goes, with what waited for it.
+    /// The connection in a slot closes, and what waited for it is dropped.
     fn leave(&mut self, slot: u32)
         requires slot { slot < self.old.config.slots }
         requires open { is_open slot self.old.log.notes ≡ true }
@@ -101,7 +101,7 @@ impl PlainServer {
         }
     }
 
-    /// A job that ran at a slot is given back if somebody wants it, and is discarded if not.
+    /// A job that ran at a slot is given back if it is wanted, and is discarded if not.
     fn give_back_one(&mut self, slot: u32, job: u64)
         ensures goes { Goes self.old self.new (give_back_one self.old.config slot job) }
         ensures made { made self.new.log.notes ≡ made self.old.log.notes }

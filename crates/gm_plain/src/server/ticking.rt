@@ -38,7 +38,7 @@ impl PlainServer {
         }
     }
 
-    /// A running job whose deadline is reached has failed; its listeners hear of it, and its worker doesn't.
+    /// A running job whose deadline is reached has failed; its listeners get WORK_FAIL, and its worker nothing.
     fn expire_one(&mut self, job: u64) -> Result<(), AllocError>
         ensures does { Does self.old result self.new (expire_one self.old.config job) }
         ensures made { made self.new.log.notes ≡ made self.old.log.notes }

@@ -49,7 +49,7 @@ fn who_want_exceptions(alloc: Global, log: &Log, slots: &[u32]) -> Result<Vec<u3
         .collect(alloc)
 }
 
-/// Who hears what a worker says of a job.
+/// Which slots get a worker's report on a job.
 fn hearers(
     alloc: Global,
     log: &Log,
