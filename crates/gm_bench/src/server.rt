@@ -46,7 +46,7 @@ fn obey(front: &mut Front<Core>, orders: &[Order]) -> Result<u64, BenchError> {
     for order in orders {
         match front.step(order.input()) {
             Ok(stepped) => {
-                sum = sum.wrapping_add(stepped.drained.len() as u64);
+                sum = sum.wrapping_add(stepped.drained.first().len() as u64);
                 sum = sum.wrapping_add(sum_of_done(stepped.done));
             }
             Err(_) => return Err(BenchError::Refused),

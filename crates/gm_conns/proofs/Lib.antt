@@ -1,4 +1,3 @@
 pub mod AbilityLemmas
 pub mod ConnTableLemmas
-pub mod RunLemmas
 pub mod SlotLemmas

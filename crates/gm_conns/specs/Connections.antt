@@ -1,5 +1,5 @@
 -- What a connection is.
-use Rattle.std.specs.Prelude.{ℕ, ◌-◌, Bool, true, false, not, ◌==◌, max, List, [], ◌++◌, length, filter, nat_eq, is_some, Option, Some, None}
+use Rattle.std.specs.Prelude.{ℕ, ◌-◌, Bool, true, false, not, ◌==◌, max, List, [], ◌++◌, filter, nat_eq, is_some, Option, Some, None}
 use Rattle.std.specs.List.{position}
 use Rattle.std.specs.Map.{lookup, keys_of}
 use Rattle.indexmap.specs.IndexMap.{insert_entry}
@@ -58,9 +58,9 @@ with_last f conn = record conn { last = Some f }
 abbrev pub with_room : ℕ → Connection → Connection
 with_room n conn = record conn { room = max conn.room n }
 
--- the bytes wait behind the others, in reserved room
-abbrev pub with_bytes : List ℕ → Connection → Connection
-with_bytes bytes conn = record conn { waiting = conn.waiting ++ bytes; room = conn.room - length bytes }
+-- the bytes wait behind the others, and take so much of the reserved room
+abbrev pub with_bytes : List ℕ → ℕ → Connection → Connection
+with_bytes bytes cost conn = record conn { waiting = conn.waiting ++ bytes; room = conn.room - cost }
 
 -- nothing waits, and no room is reserved
 abbrev pub drained : Connection → Connection

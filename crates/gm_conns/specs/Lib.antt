@@ -1,4 +1,3 @@
 pub mod ConnTables
 pub mod Connections
-pub mod Runs
 pub mod Slots

@@ -1,20 +1,14 @@
 //! What is known of one connection.
 
-ghost use Rattle.std.specs.Prelude.{◌≡◌, ℕ, ◌<◌, ◌≤◌, ◌==◌, not, ◌&&◌, ◌||◌, IsTrue, IfSome, IfNone, IfOk, OnOk, OnErr, [], ◌++◌, ◌+◌, All, length, slice_get};
-ghost use Rattle.std.specs.List.{concat};
-ghost use Rattle.std.specs.Vec.{vec_len, vec_capacity};
+ghost use Rattle.std.specs.Prelude.{◌≡◌, ℕ, ◌<◌, ◌≤◌, ◌==◌, not, ◌&&◌, ◌||◌, IsTrue, IfSome, IfNone, OnOk, OnErr, [], ◌++◌, ◌+◌, length, slice_get};
 ghost use Rattle.gm_conns.specs.Connections.{closed, opened, shut, with_option, with_phase, with_id, with_ability, without_ability};
 ghost use Rattle.gm_conns.specs.Connections.{with_last, with_room, with_bytes, drained, timeout_of, is_able, index_of};
 
-use crate::outgoing::Outgoing;
-use crate::waiting::Waiting;
-use gm_bytes::SharedBytes;
+use gm_bytes::{ByteQueue, SharedBytes};
 use gm_notes::Phase;
 use indexmap::IndexMap;
 use std::alloc::{AllocError, Global};
-use std::collections::VecDeque;
 use std::marker::Model;
-use std::mem;
 
 /// What is known of the connection in a slot. In a slot that isn't open all fields are as `new` makes them.
 #[derive(Drop)]
@@ -29,27 +23,16 @@ pub(crate) struct Conn {
     abilities: IndexMap<u32, u32>,
     // The function of its last job.
     last: Option<u32>,
-    // What waits in runs, some of them shared, and how many bytes these are.
-    runs: VecDeque<SharedBytes>,
-    runs_len: usize,
-    // What waits behind the runs. All that waits is counted in its allocation, so that it can be copied there.
-    waiting: Vec<u8>,
-    // How many bytes more there is room for, whatever the allocation has.
-    room: usize,
+    // What waits for it.
+    queue: ByteQueue,
 }
 
 impl Model for Conn {
-    ghost use Rattle.std.specs.Prelude.{◌≡◌, ◌+◌, ◌<◌, ◌≤◌, ◌++◌, All, length};
-    ghost use Rattle.std.specs.List.{concat};
-    ghost use Rattle.std.specs.Vec.{vec_len, vec_capacity};
     ghost use Rattle.gm_conns.specs.Connections.{Connection};
 
     ghost Value = { Connection };
 
-    ghost view = { λ c. record { is_open = c.open; is_shut = c.shut; has_option = c.option; phase = c.phase; addr = c.addr.items; id = c.id.items; abilities = c.abilities.entries; last = c.last; waiting = concat c.runs.items ++ c.waiting.items; room = c.room } };
-
-    ghost invariant = { λ c. (c.runs_len ≡ length (concat c.runs.items)) × All (λ run. 0 < length run) c.runs.items
-        × (vec_len c.waiting + c.runs_len + c.room ≤ vec_capacity c.waiting) };
+    ghost view = { λ c. record { is_open = c.open; is_shut = c.shut; has_option = c.option; phase = c.phase; addr = c.addr.items; id = c.id.items; abilities = c.abilities.entries; last = c.last; waiting = c.queue.bytes; room = c.queue.room } };
 }
 
 impl Conn {
@@ -66,10 +49,7 @@ impl Conn {
             id: Vec::new(alloc),
             abilities: IndexMap::new(alloc),
             last: None,
-            runs: VecDeque::new(alloc),
-            runs_len: 0,
-            waiting: Vec::new(alloc),
-            room: 0,
+            queue: ByteQueue::new(alloc),
         }
     }
 
@@ -238,161 +218,38 @@ impl Conn {
         ensures others { self.new ≡ record self.old { room = self.new.room } }
         ensures err { OnErr result (self.new ≡ self.old) }
     {
-        if n > self.room {
-            let more = n.checked_add(self.runs_len).ok_or(AllocError)?;
-            if self.runs.is_empty() {
-                self.waiting.reserve(more)?;
-            } else {
-                // Runs are of long packets, so what has come behind them is little and may move.
-                renew(&mut self.waiting, more)?;
-            }
-            self.room = n;
-        }
-        Ok(())
-    }
-
-    pub(crate) fn room(&self) -> usize
-        ensures { result ≡ self.now.room }
-    {
-        self.room
+        self.queue.reserve(n)
     }
 
     /// The bytes wait behind the others, in reserved room.
     pub(crate) fn put(&mut self, bytes: &[u8])
         requires { length bytes.now ≤ self.old.room }
-        ensures { self.new ≡ with_bytes bytes.now self.old }
+        ensures { self.new ≡ with_bytes bytes.now (length bytes.now) self.old }
     {
-        let _added = self.waiting.extend_from_slice(bytes);
-        self.room -= bytes.len();
+        self.queue.put(bytes);
     }
 
-    /// The head and the tail wait behind the others, in reserved room. The tail is shared and not copied, if it can be.
-    pub(crate) fn put_shared(&mut self, head: &[u8], tail: &SharedBytes)
-        requires { length head.now + length tail.now ≤ self.old.room }
-        ensures { self.new ≡ with_bytes (head.now ++ tail.now) self.old }
+    /// The head and the tail wait behind the others, in reserved room.
+    pub(crate) fn put_shared(&mut self, head: &[u8], tail: SharedBytes)
+        requires { length head.now + 512 ≤ self.old.room }
+        ensures { self.new ≡ with_bytes (head.now ++ tail) (length head.now + 512) self.old }
     {
-        self.put(head);
-        if self.share(tail).is_err() {
-            self.put(tail.as_slice());
-        }
+        self.queue.put_shared(head, tail);
     }
 
-    /// What waits behind the runs becomes a run, and the tail the next. There is none for no bytes.
-    fn share(&mut self, tail: &SharedBytes) -> Result<(), AllocError>
-        requires { length tail.now ≤ self.old.room }
-        ensures ok { OnOk result (self.new ≡ with_bytes tail.now self.old) }
-        ensures err { OnErr result (self.new ≡ self.old) }
+    /// What waits.
+    pub(crate) fn queue(&self) -> &ByteQueue
+        ensures bytes { result.now.bytes ≡ self.now.waiting }
+        ensures room { result.now.room ≡ self.now.room }
     {
-        let waiting_len = self.waiting.len();
-        let tail_len = tail.as_slice().len();
-        if waiting_len == 0 || tail_len == 0 {
-            return Err(AllocError);
-        }
-        let alloc = *self.waiting.allocator();
-        let bytes = Vec::from_slice(alloc, self.waiting.as_slice())?;
-        let written = SharedBytes::new(alloc, bytes)?;
-        let shared = tail.suffix(0)?;
-        self.runs.reserve(2)?;
-        self.runs_len += waiting_len + tail_len;
-        self.room -= tail_len;
-        self.waiting.clear();
-        self.runs.push_back_reserved(written);
-        self.runs.push_back_reserved(shared);
-        Ok(())
-    }
-
-    /// The bytes wait behind the others, in reserved room, and are taken out of `bytes`. Where nothing else waits they
-    /// aren't copied: what was reserved is given for them.
-    pub(crate) fn append(&mut self, bytes: &mut Vec<u8>)
-        requires { length bytes.old.items ≤ self.old.room }
-        ensures conn { self.new ≡ with_bytes bytes.old.items self.old }
-        ensures bytes { bytes.new.items ≡ [] }
-    {
-        if self.runs.is_empty() && self.waiting.is_empty() && self.room <= bytes.capacity() {
-            self.room -= bytes.len();
-            mem::swap(&mut self.waiting, bytes);
-        } else {
-            self.put(bytes.as_slice());
-            bytes.clear();
-        }
-    }
-
-    pub(crate) fn waiting(&self) -> Waiting<'_>
-        ensures { result ≡ self.now.waiting }
-    {
-        Waiting {
-            runs: &self.runs,
-            bytes: &self.waiting,
-        }
-    }
-
-    /// Whether bytes wait.
-    pub(crate) fn is_waiting(&self) -> bool
-        ensures { result ≡ not (length self.now.waiting == 0) }
-    {
-        !self.runs.is_empty() || !self.waiting.is_empty()
+        &self.queue
     }
 
     /// Takes out the bytes that wait.
-    pub(crate) fn take_out(&mut self, alloc: Global) -> Outgoing
-        ensures bytes { result ≡ self.old.waiting }
+    pub(crate) fn drain(&mut self) -> ByteQueue
+        ensures bytes { result.bytes ≡ self.old.waiting }
         ensures after { self.new ≡ drained self.old }
     {
-        let (runs, bytes) = self.take_waiting(alloc);
-        Outgoing::with_runs(runs, bytes)
+        self.queue.take()
     }
-
-    /// `take_out`, in one buffer. That takes no memory.
-    pub(crate) fn drain(&mut self, alloc: Global) -> Vec<u8>
-        ensures bytes { result.items ≡ self.old.waiting }
-        ensures after { self.new ≡ drained self.old }
-    {
-        let (runs, bytes) = self.take_waiting(alloc);
-        join(runs, bytes)
-    }
-
-    /// Takes out the runs, and the bytes behind them.
-    fn take_waiting(&mut self, alloc: Global) -> (VecDeque<SharedBytes>, Vec<u8>)
-        ensures bytes { concat result.0.items ++ result.1.items ≡ self.old.waiting }
-        ensures runs { All (λ run. 0 < length run) result.0.items }
-        ensures room { vec_len result.1 + length (concat result.0.items) ≤ vec_capacity result.1 }
-        ensures after { self.new ≡ drained self.old }
-    {
-        self.room = 0;
-        self.runs_len = 0;
-        let runs = mem::replace(&mut self.runs, VecDeque::new(alloc));
-        let bytes = mem::replace(&mut self.waiting, Vec::new(alloc));
-        (runs, bytes)
-    }
-}
-
-/// Gives the bytes a new buffer, with room for `more` behind them. Growing the old one would have all of its room moved, and
-/// not the bytes alone.
-fn renew(bytes: &mut Vec<u8>, more: usize) -> Result<(), AllocError>
-    ensures items { bytes.new.items ≡ bytes.old.items }
-    ensures len { vec_len bytes.new ≡ vec_len bytes.old }
-    ensures capacity { vec_capacity bytes.old ≤ vec_capacity bytes.new }
-    ensures ok { OnOk result (vec_len bytes.new + more ≤ vec_capacity bytes.new) }
-{
-    let needed = bytes.len().checked_add(more).ok_or(AllocError)?;
-    if needed > bytes.capacity() {
-        let doubled = bytes.capacity().checked_mul(2).ok_or(AllocError)?;
-        let mut grown = Vec::with_capacity(*bytes.allocator(), needed.max(doubled))?;
-        let _copied = grown.extend_from_slice(bytes.as_slice());
-        let _old = mem::replace(bytes, grown);
-    }
-    Ok(())
-}
-
-/// The runs and the bytes behind them, in the room of the bytes.
-fn join(mut runs: VecDeque<SharedBytes>, mut bytes: Vec<u8>) -> Vec<u8>
-    requires { vec_len bytes + length (concat runs.items) ≤ vec_capacity bytes }
-    ensures { result.items ≡ concat runs.items ++ bytes.items }
-{
-    let count = bytes.len();
-    while let Some(run) = runs.pop_front() {
-        let _copied = bytes.extend_from_slice(run.as_slice());
-    }
-    bytes.rotate_left(count);
-    bytes
 }

@@ -8,10 +8,8 @@ ghost use Rattle.gm_conns.specs.ConnTables.{conn, IsOpen, is_touched, able_count
 
 use crate::able::{AbleSet, cover};
 use crate::conn::Conn;
-use crate::outgoing::Outgoing;
 use crate::slot_set::SlotSet;
-use crate::waiting::Waiting;
-use gm_bytes::SharedBytes;
+use gm_bytes::{ByteQueue, SharedBytes};
 use gm_notes::{ApplyError, Phase};
 use std::alloc::{AllocError, Global};
 use std::marker::Model;
@@ -351,89 +349,47 @@ impl Conns {
         conn.reserve(n)
     }
 
-    /// For how many bytes there is room beyond those that wait.
-    pub fn room(&self, slot: u32) -> usize
-        requires { IsOpen self.now slot }
-        ensures { result ≡ (conn self.now slot).room }
-    {
-        let conn = &self.conns[slot as usize];
-        conn.room()
-    }
-
     /// The bytes wait for the connection, behind the others, in reserved room.
     pub fn put_out(&mut self, slot: u32, bytes: &[u8])
         requires open { IsOpen self.old slot }
         requires room { length bytes.now ≤ (conn self.old slot).room }
-        ensures { Changes slot (with_bytes bytes.now) true self.old self.new }
+        ensures { Changes slot (with_bytes bytes.now (length bytes.now)) true self.old self.new }
     {
         let conn = &mut self.conns[slot as usize];
         conn.put(bytes);
         self.touched.insert(slot);
     }
 
-    /// As `put_out`, and the bytes are taken out of `bytes`. Where nothing else waits they aren't copied: the two buffers
-    /// change places. It is for long texts, since a buffer may have much more room than bytes.
-    pub fn append_out(&mut self, slot: u32, bytes: &mut Vec<u8>)
+    /// The head and the tail wait for the connection, behind the others, in reserved room: the tail, which is shared, takes
+    /// `SHARED_ROOM` of it.
+    pub fn put_shared(&mut self, slot: u32, head: &[u8], tail: SharedBytes)
         requires open { IsOpen self.old slot }
-        requires room { length bytes.old.items ≤ (conn self.old slot).room }
-        ensures conns { Changes slot (with_bytes bytes.old.items) true self.old self.new }
-        ensures bytes { bytes.new.items ≡ [] }
-    {
-        let conn = &mut self.conns[slot as usize];
-        conn.append(bytes);
-        self.touched.insert(slot);
-    }
-
-    /// The head and the tail wait for the connection, behind the others, in reserved room. The tail is shared; where that
-    /// can't be, it is copied as well.
-    pub fn put_shared(&mut self, slot: u32, head: &[u8], tail: &SharedBytes)
-        requires open { IsOpen self.old slot }
-        requires room { length head.now + length tail.now ≤ (conn self.old slot).room }
-        ensures { Changes slot (with_bytes (head.now ++ tail.now)) true self.old self.new }
+        requires room { length head.now + 512 ≤ (conn self.old slot).room }
+        ensures { Changes slot (with_bytes (head.now ++ tail) (length head.now + 512)) true self.old self.new }
     {
         let conn = &mut self.conns[slot as usize];
         conn.put_shared(head, tail);
         self.touched.insert(slot);
     }
 
-    /// The bytes that wait for the connection.
-    pub fn waiting(&self, slot: u32) -> Waiting<'_>
+    /// What waits for the connection.
+    pub fn waiting(&self, slot: u32) -> &ByteQueue
         requires { IsOpen self.now slot }
-        ensures { result ≡ (conn self.now slot).waiting }
+        ensures bytes { result.now.bytes ≡ (conn self.now slot).waiting }
+        ensures room { result.now.room ≡ (conn self.now slot).room }
     {
         let conn = &self.conns[slot as usize];
-        conn.waiting()
-    }
-
-    /// Whether bytes wait for the connection.
-    pub fn is_waiting(&self, slot: u32) -> bool
-        requires { IsOpen self.now slot }
-        ensures { result ≡ not (length (conn self.now slot).waiting == 0) }
-    {
-        let conn = &self.conns[slot as usize];
-        conn.is_waiting()
+        conn.queue()
     }
 
     /// Takes out the bytes that wait. No room is reserved then.
-    pub fn take_out(&mut self, slot: u32) -> Outgoing
+    pub fn drain(&mut self, slot: u32) -> ByteQueue
         requires { IsOpen self.old slot }
-        ensures bytes { result ≡ (conn self.old slot).waiting }
+        ensures bytes { result.bytes ≡ (conn self.old slot).waiting }
         ensures rest { Changes slot drained true self.old self.new }
     {
         let conn = &mut self.conns[slot as usize];
-        let bytes = conn.take_out(self.alloc);
-        self.touched.insert(slot);
-        bytes
-    }
-
-    /// `take_out`, as one buffer. What is shared is copied.
-    pub fn drain(&mut self, slot: u32) -> Vec<u8>
-        requires { IsOpen self.old slot }
-        ensures bytes { result.items ≡ (conn self.old slot).waiting }
-        ensures rest { Changes slot drained true self.old self.new }
-    {
-        let conn = &mut self.conns[slot as usize];
-        let bytes = conn.drain(self.alloc);
+        let bytes = conn.drain();
         self.touched.insert(slot);
         bytes
     }

@@ -9,11 +9,7 @@
 mod able;
 mod conn;
 mod conns;
-mod outgoing;
 mod slot_set;
-mod waiting;
 
 pub use conns::Conns;
-pub use outgoing::Outgoing;
 pub use slot_set::{SlotIter, SlotSet};
-pub use waiting::Waiting;

@@ -26,8 +26,8 @@ mod waking;
 mod working;
 
 use crate::written::Written;
-use gm_bytes::{Data, SharedBytes};
-use gm_conns::{Conns, Outgoing};
+use gm_bytes::{ByteQueue, Data, SharedBytes};
+use gm_conns::Conns;
 use gm_jobs::Jobs;
 use gm_notes::{ApplyError, Config, Done, Event, JobServer, Mode, Phase, Place};
 use gm_queues::Functions;
@@ -126,18 +126,6 @@ impl Core {
             Event::Tick { now } => self.tick(now),
         }
     }
-
-    /// `drain`, which hands on what is shared as it is.
-    pub fn take_out(&mut self, slot: u32) -> Outgoing
-        ensures answers { (k : Settings) (steps : List Step) → CoreAgrees self.old k steps
-            → (result ≡ waiting slot (run k steps).flow) × CoreAgrees self.new k (Drain slot ∷ steps) }
-        ensures touched { AllTouched self.old.conns self.new.conns }
-    {
-        if !self.conns.is_open(slot) {
-            return Outgoing::new(Vec::new(self.alloc));
-        }
-        self.conns.take_out(slot)
-    }
 }
 
 impl JobServer for Core {
@@ -200,13 +188,13 @@ impl JobServer for Core {
         Ok(())
     }
 
-    fn drain(&mut self, slot: u32) -> Vec<u8>
+    fn drain(&mut self, slot: u32) -> ByteQueue
         ensures answers { (k : Settings) (steps : List Step) → CoreAgrees self.old k steps
-            → (result.items ≡ waiting slot (run k steps).flow) × CoreAgrees self.new k (Drain slot ∷ steps) }
+            → (result.bytes ≡ waiting slot (run k steps).flow) × CoreAgrees self.new k (Drain slot ∷ steps) }
         ensures touched { AllTouched self.old.conns self.new.conns }
     {
         if !self.conns.is_open(slot) {
-            return Vec::new(self.alloc);
+            return ByteQueue::new(self.alloc);
         }
         self.conns.drain(slot)
     }

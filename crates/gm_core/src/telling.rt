@@ -4,8 +4,9 @@ ghost use Rattle.std.specs.Prelude.{◌≡◌, ℕ, ◌+◌, ◌≤◌, List, fi
 ghost use Rattle.gm_notes.specs.Settings.{Settings};
 ghost use Rattle.gm_conns.specs.ConnTables.{IsOpen, conn};
 ghost use Rattle.gm_core.specs.Facts.{ConnFacts};
-ghost use Rattle.gm_core.specs.Holds.{HoldsConns, AllTouched};
+ghost use Rattle.gm_core.specs.Holds.{HoldsConns};
 ghost use Rattle.gm_core.specs.Telling.{hears, poured, needed, Roomed, Poured};
+ghost use Rattle.gm_core.specs.Writing.{IsFor};
 
 use crate::written::Written;
 use gm_conns::Conns;
@@ -32,7 +33,11 @@ fn reserve_one(
     if !can_hear(conns, slot, exceptions_only) {
         return Ok(());
     }
-    let room = conns.room(slot).checked_add(count).ok_or(AllocError)?;
+    let room = conns
+        .waiting(slot)
+        .room()
+        .checked_add(count)
+        .ok_or(AllocError)?;
     conns.reserve_out(slot, room)
 }
 
@@ -53,51 +58,16 @@ pub(crate) fn reserve_each(
 }
 
 /// Queues a text to each of these slots that hears, where there is room.
-pub(crate) fn put_each(conns: &mut Conns, slots: &[u32], exceptions_only: bool, text: &Written)
-    requires { (c : ℕ) → needed (length text.now) c (filter (hears conns.old exceptions_only) slots.now) ≤ (conn conns.old c).room }
-    ensures poured { Poured (length text.now) (filter (hears conns.old exceptions_only) slots.now) conns.old conns.new }
+pub(crate) fn put_each(conns: &mut Conns, slots: &[u32], exceptions_only: bool, text: &mut Written)
+    requires room { (c : ℕ) → needed text.old.cost c (filter (hears conns.old exceptions_only) slots.now) ≤ (conn conns.old c).room }
+    requires owned { IsFor (length slots.now) text.old }
+    ensures poured { Poured text.old.cost (filter (hears conns.old exceptions_only) slots.now) conns.old conns.new }
     ensures holds { (k : Settings) (names : List (List ℕ)) (facts : ConnFacts) (bytes : ℕ → List ℕ) → HoldsConns k conns.old names facts bytes
-        → HoldsConns k conns.new names facts (poured text.now (filter (hears conns.old exceptions_only) slots.now) bytes) }
+        → HoldsConns k conns.new names facts (poured text.old.bytes (filter (hears conns.old exceptions_only) slots.now) bytes) }
 {
     for slot in slots {
         if can_hear(conns, *slot, exceptions_only) {
             text.put(conns, *slot);
         }
-    }
-}
-
-/// As `put_each`, for a long text, which is used up: the last of the slots may take it over, and then it is copied for the
-/// others alone.
-fn append_each(conns: &mut Conns, slots: &[u32], exceptions_only: bool, text: &mut Written)
-    requires { (c : ℕ) → needed (length text.old) c (filter (hears conns.old exceptions_only) slots.now) ≤ (conn conns.old c).room }
-    ensures touched { AllTouched conns.old conns.new }
-    ensures holds { (k : Settings) (names : List (List ℕ)) (facts : ConnFacts) (bytes : ℕ → List ℕ) → HoldsConns k conns.old names facts bytes
-        → HoldsConns k conns.new names facts (poured text.old (filter (hears conns.old exceptions_only) slots.now) bytes) }
-{
-    let Some((last, others)) = slots.split_last() else {
-        return;
-    };
-    put_each(conns, others, exceptions_only, text);
-    if can_hear(conns, *last, exceptions_only) {
-        text.append(conns, *last);
-    }
-}
-
-/// Queues a text to each of these slots that hears, where there is room. It is used up.
-pub(crate) fn queue_each(
-    conns: &mut Conns,
-    slots: &[u32],
-    exceptions_only: bool,
-    text: &mut Written,
-)
-    requires { (c : ℕ) → needed (length text.old) c (filter (hears conns.old exceptions_only) slots.now) ≤ (conn conns.old c).room }
-    ensures touched { AllTouched conns.old conns.new }
-    ensures holds { (k : Settings) (names : List (List ℕ)) (facts : ConnFacts) (bytes : ℕ → List ℕ) → HoldsConns k conns.old names facts bytes
-        → HoldsConns k conns.new names facts (poured text.old (filter (hears conns.old exceptions_only) slots.now) bytes) }
-{
-    if text.is_short() {
-        put_each(conns, slots, exceptions_only, text);
-    } else {
-        append_each(conns, slots, exceptions_only, text);
     }
 }

@@ -7,35 +7,38 @@ ghost use Rattle.gm_packet.specs.Packets.{Fits};
 ghost use Rattle.gm_conns.specs.Connections.{with_bytes};
 ghost use Rattle.gm_conns.specs.ConnTables.{IsOpen, conn, Changes};
 ghost use Rattle.gm_actions.specs.Bodies.{EndsWith};
-ghost use Rattle.gm_core.specs.Writing.{bare_answer};
+ghost use Rattle.gm_core.specs.Writing.{bare_answer, copied_text, IsFor};
 
-use gm_bytes::{Data, SharedBytes};
+use gm_bytes::{Data, SHARED_ROOM, SharedBytes};
 use gm_conns::Conns;
 use gm_packet::{Response, response_fits, write_response};
 use std::alloc::{AllocError, Global};
 use std::marker::Model;
 
-/// The fewest bytes of a text that is moved to where it waits; a shorter one is copied.
-const LEAST_MOVED: usize = 4_096;
-
 /// The most room that is kept for the next text.
 const MOST_KEPT: usize = 65_536;
 
-/// A packet or a text that is to be queued: bytes, and behind them perhaps a body that others own as well, so that it
-/// isn't copied. Contracts see one text.
+/// A packet or a text that is to be queued: bytes that are copied to each queue, and behind them perhaps a body that the queues
+/// share. Contracts see the text, what it costs of a queue's room, and whether it is shared, with how many owners it has for
+/// the queues.
 #[derive(Drop)]
 pub(crate) struct Written {
-    bytes: Vec<u8>,
+    copied: Vec<u8>,
     body: Option<SharedBytes>,
+    // One for each queue that it is still put to.
+    owners: Vec<SharedBytes>,
 }
 
 impl Model for Written {
-    ghost use Rattle.std.specs.Prelude.{ℕ, ◌++◌, List, []};
+    ghost use Rattle.std.specs.Prelude.{◌≡◌, ◌+◌, ◌++◌, List, [], Option, is_some, IsTrue, All, length, if◌then◌else◌};
     ghost use Rattle.std.specs.Option.{unwrap_or};
+    ghost use Rattle.gm_core.specs.Writing.{Text, shared_room};
 
-    ghost Value = { List ℕ };
+    ghost Value = { Text };
 
-    ghost view = { λ w. w.bytes.items ++ unwrap_or w.body [] };
+    ghost view = { λ w. record { bytes = w.copied.items ++ unwrap_or w.body []; cost = length w.copied.items + shared_room w.body; is_shared = is_some w.body; owners = length w.owners.items } };
+
+    ghost invariant = { λ w. All (λ owner. w.body ≡ Some owner) w.owners.items };
 }
 
 /// A response that ends in a body, with an empty body.
@@ -90,29 +93,45 @@ fn lengthen(packet: &mut Vec<u8>, count: usize) -> Result<(), AllocError>
 impl Written {
     /// Nothing.
     pub(crate) fn new(alloc: Global) -> Written
-        ensures { result ≡ [] }
+        ensures { result ≡ copied_text [] }
     {
         Written::of(Vec::new(alloc))
     }
 
     /// This text.
-    pub(crate) fn of(bytes: Vec<u8>) -> Written
-        ensures { result ≡ bytes.items }
+    pub(crate) fn of(text: Vec<u8>) -> Written
+        ensures { result ≡ copied_text text.items }
     {
-        Written { bytes, body: None }
+        Written {
+            owners: Vec::new(*text.allocator()),
+            copied: text,
+            body: None,
+        }
     }
 
-    /// How many bytes it has.
-    pub(crate) fn len(&self) -> Result<usize, AllocError>
-        ensures { IfOk result (λ count. count ≡ length self.now) }
+    /// Forgets what it was. What is copied keeps its room.
+    fn clear(&mut self)
+        ensures { self.new ≡ copied_text [] }
     {
-        match &self.body {
-            Some(body) => {
-                let count = body.as_slice().len();
-                self.bytes.len().checked_add(count).ok_or(AllocError)
-            }
-            None => Ok(self.bytes.len()),
-        }
+        self.copied.clear();
+        self.body = None;
+        self.owners.clear();
+    }
+
+    /// Writes a text.
+    pub(crate) fn set(&mut self, text: &[u8]) -> Result<(), AllocError>
+        ensures { OnOk result (self.new ≡ copied_text text.now) }
+    {
+        self.clear();
+        self.copied.extend_from_slice(text)
+    }
+
+    /// How much of a queue's room it takes.
+    pub(crate) fn cost(&self) -> Result<usize, AllocError>
+        ensures { IfOk result (λ cost. cost ≡ self.now.cost) }
+    {
+        let shared = if self.body.is_some() { SHARED_ROOM } else { 0 };
+        self.copied.len().checked_add(shared).ok_or(AllocError)
     }
 
     /// Writes the packet of a response. Its last argument may be this body; one that can be shared isn't copied.
@@ -123,68 +142,68 @@ impl Written {
     ) -> Result<(), AllocError>
         requires fits { Fits (answer_of response.now).arguments }
         requires ends { IfSome body (λ body. EndsWith body.now.bytes.now (answer_of response.now)) }
-        ensures { OnOk result (self.new ≡ answer_packet (answer_of response.now)) }
+        ensures { OnOk result (self.new.bytes ≡ answer_packet (answer_of response.now)) }
     {
+        self.clear();
         if let Some(body) = body
             && let Some(shared) = body.share()
             && let Some(bare) = without_body(response)
         {
             return self.write_over(&bare, shared);
         }
-        self.body = None;
-        self.bytes.clear();
-        write_response(response, &mut self.bytes)
+        write_response(response, &mut self.copied)
     }
 
     /// Writes a packet whose last argument is empty, and puts a body in its place.
     fn write_over(&mut self, bare: &Response<'_>, body: SharedBytes) -> Result<(), AllocError>
-        ensures { OnOk result ((answer : Answer) → answer_of bare.now ≡ bare_answer answer → EndsWith body answer → self.new ≡ answer_packet answer) }
+        requires { self.old ≡ copied_text [] }
+        ensures { OnOk result ((answer : Answer) → answer_of bare.now ≡ bare_answer answer → EndsWith body answer → self.new.bytes ≡ answer_packet answer) }
     {
-        self.bytes.clear();
         if !response_fits(bare) {
             return Err(AllocError);
         }
-        write_response(bare, &mut self.bytes)?;
-        lengthen(&mut self.bytes, body.as_slice().len())?;
+        write_response(bare, &mut self.copied)?;
+        lengthen(&mut self.copied, body.as_slice().len())?;
         self.body = Some(body);
         Ok(())
     }
 
-    /// Whether it is copied to where it waits, and not moved.
-    pub(crate) fn is_short(&self) -> bool {
-        self.bytes.len() < LEAST_MOVED
+    /// Makes it ready to be put to so many queues.
+    pub(crate) fn own(&mut self, count: usize) -> Result<(), AllocError>
+        ensures ok { OnOk result (IsFor count self.new) }
+        ensures bytes { self.new.bytes ≡ self.old.bytes }
+        ensures cost { self.new.cost ≡ self.old.cost }
+    {
+        let Some(body) = &self.body else {
+            return Ok(());
+        };
+        while self.owners.len() < count {
+            let owner = body.suffix(0)?;
+            self.owners.push(owner)?;
+        }
+        Ok(())
     }
 
     /// Queues it to a slot, where there is room.
-    pub(crate) fn put(&self, conns: &mut Conns, slot: u32)
+    pub(crate) fn put(&mut self, conns: &mut Conns, slot: u32)
         requires open { IsOpen conns.old slot }
-        requires room { length self.now ≤ (conn conns.old slot).room }
-        ensures { Changes slot (with_bytes self.now) true conns.old conns.new }
+        requires room { self.old.cost ≤ (conn conns.old slot).room }
+        requires owned { IsFor 1 self.old }
+        ensures conns { Changes slot (with_bytes self.old.bytes self.old.cost) true conns.old conns.new }
+        ensures text { self.new ≡ record self.old { owners = self.old.owners - 1 } }
     {
-        match &self.body {
-            Some(body) => conns.put_shared(slot, self.bytes.as_slice(), body),
-            None => conns.put_out(slot, self.bytes.as_slice()),
-        }
-    }
-
-    /// As `put`, for the last slot to which it is queued: it is moved there, where nothing else waits, and then it is empty.
-    pub(crate) fn append(&mut self, conns: &mut Conns, slot: u32)
-        requires open { IsOpen conns.old slot }
-        requires room { length self.old ≤ (conn conns.old slot).room }
-        ensures { Changes slot (with_bytes self.old) true conns.old conns.new }
-    {
-        if self.body.is_some() {
-            self.put(conns, slot);
-        } else {
-            conns.append_out(slot, &mut self.bytes);
+        match self.owners.pop() {
+            Some(owner) => conns.put_shared(slot, self.copied.as_slice(), owner),
+            None => conns.put_out(slot, self.copied.as_slice()),
         }
     }
 
     /// Gives large memory back, once it is queued.
     pub(crate) fn let_go(&mut self) {
         self.body = None;
-        if self.bytes.capacity() > MOST_KEPT {
-            self.bytes = Vec::new(*self.bytes.allocator());
+        self.owners.clear();
+        if self.copied.capacity() > MOST_KEPT {
+            self.copied = Vec::new(*self.copied.allocator());
         }
     }
 }

@@ -52,7 +52,7 @@ done_is k s steps answer taken e =
 
 pub ticks : {S : Type 0} (agrees : S → Settings → List Step → Type 0) (k : Settings) (limits : Limits) (reading : Reading) (now : ℕ) (answer : Done) (stepped : Stepped) (front front' : Front S)
     → IsHeld agrees k limits reading front → ((refusal k (Tick now) (run k reading.steps) ≡ None) × (answer ≡ done k (Tick now) (run k reading.steps))) × agrees front'.server k (Tick now ∷ reading.steps)
-    → front'.feeders.items ≡ front.feeders.items → front'.limits ≡ front.limits → stepped.done ≡ answer → stepped.drained.items ≡ []
+    → front'.feeders.items ≡ front.feeders.items → front'.limits ≡ front.limits → stepped.done ≡ answer → stepped.drained.bytes ≡ []
     → IsTaken agrees k limits (Ticks now) reading stepped front'
 ticks agrees k limits reading now answer stepped front front' h a feeders same_limits says drains =
     record {
@@ -82,7 +82,7 @@ no_rest limits c l rest (Some feeder) e p = absurd (let wrong : true ≡ false =
 pub opens : {S : Type 0} (agrees : S → Settings → List Step → Type 0) (k : Settings) (limits : Limits) (reading : Reading) (addr : List ℕ) (c : ℕ) (answer : Done) (stepped : Stepped) (front front' : Front S) (server : S) (feeder : Stream)
     → IsHeld agrees k limits reading front → ((refusal k (Open addr) (run k reading.steps) ≡ None) × (answer ≡ done k (Open addr) (run k reading.steps))) × agrees server k (Open addr ∷ reading.steps)
     → answer.opened ≡ Some c → feeder.limits ≡ front.limits → feeder.pending ≡ [] → feeder.fault ≡ None
-    → front'.feeders.items ≡ set front.feeders.items c (Some feeder) → front'.server ≡ server → front'.limits ≡ front.limits → stepped.done ≡ answer → stepped.drained.items ≡ []
+    → front'.feeders.items ≡ set front.feeders.items c (Some feeder) → front'.server ≡ server → front'.limits ≡ front.limits → stepped.done ≡ answer → stepped.drained.bytes ≡ []
     → IsTaken agrees k limits (Opens addr) reading stepped front'
 opens {S} agrees k limits reading addr c answer stepped front front' server feeder h a slot limited empty sound feeders same_server same_limits says drains =
     let old : List Note = (run k reading.steps).notes in
@@ -159,7 +159,7 @@ closed_feeders k limits c steps rests feeders lt opened others =
 
 pub closes : {S : Type 0} (agrees : S → Settings → List Step → Type 0) (k : Settings) (limits : Limits) (reading : Reading) (c : ℕ) (answer : Done) (stepped : Stepped) (front front' : Front S) (server : S)
     → IsHeld agrees k limits reading front → ((refusal k (Close c) (run k reading.steps) ≡ None) × (answer ≡ done k (Close c) (run k reading.steps))) × agrees server k (Close c ∷ reading.steps)
-    → front'.feeders.items ≡ set front.feeders.items c None → front'.server ≡ server → front'.limits ≡ front.limits → stepped.done ≡ answer → stepped.drained.items ≡ []
+    → front'.feeders.items ≡ set front.feeders.items c None → front'.server ≡ server → front'.limits ≡ front.limits → stepped.done ≡ answer → stepped.drained.bytes ≡ []
     → IsTaken agrees k limits (Closes c) reading stepped front'
 closes {S} agrees k limits reading c answer stepped front front' server h a feeders same_server same_limits says drains =
     let l : List Note = (run k reading.steps).notes in
@@ -213,7 +213,7 @@ feeder_of agrees k limits reading c front feeder h is =
 pub gives : {S : Type 0} (agrees : S → Settings → List Step → Type 0) (k : Settings) (limits : Limits) (reading : Reading) (c : ℕ) (piece : List ℕ) (created : Option ℕ) (stepped : Stepped) (front front' : Front S) (old new : Stream)
     → IsHeld agrees k limits reading front → c < length front.feeders.items → get_or front.feeders.items c None ≡ Some old → is_closing c (run k reading.steps) ≡ false
     → TakesPiece agrees c piece created front.server old front'.server new
-    → front'.feeders.items ≡ set front.feeders.items c (Some new) → front'.limits ≡ front.limits → stepped.done ≡ record { opened = None; created = created } → stepped.drained.items ≡ []
+    → front'.feeders.items ≡ set front.feeders.items c (Some new) → front'.limits ≡ front.limits → stepped.done ≡ record { opened = None; created = created } → stepped.drained.bytes ≡ []
     → IsTaken agrees k limits (Gives c piece) reading stepped front'
 gives agrees k limits reading c piece created stepped front front' old new h lt is closing t feeders same_limits says drains =
     let past : Past = run k reading.steps in

@@ -57,7 +57,7 @@ pub record IsTaken {S : Type 0} (agrees : S → Settings → List Step → Type 
   pub stands : refusal_of k input old ≡ None
   pub adds : Adds k limits input old new
   pub done : stepped.done ≡ done_by k input old new
-  pub drained : stepped.drained.items ≡ drained_by k input old
+  pub drained : stepped.drained.bytes ≡ drained_by k input old
   pub held : IsHeld agrees k limits new front
 
 -- the refusal is the definitions'; an opening and a tick that would otherwise be taken may answer Memory

@@ -11,12 +11,13 @@ ghost use Rattle.gm_notes.specs.JobStates.{place_of};
 
 use crate::feeding::take_piece;
 use crate::input::{Input, StepError, Stepped};
+use gm_bytes::ByteQueue;
 use gm_feeder::{Feeder, Limits};
-use gm_notes::{ApplyError, Done, Event, JobServer, Place};
+use gm_notes::{ApplyError, Done, Event, JobServer, MAX_SLOTS, Place};
 use std::alloc::{AllocError, Global};
 
 /// How many slots there is room for.
-const MOST_SLOTS: usize = 1024;
+const MOST_SLOTS: usize = MAX_SLOTS as usize;
 
 /// A job server behind its front: bytes come in pieces of any length, and the server takes the steps that they spell.
 ///
@@ -207,11 +208,11 @@ impl<S: JobServer> Front<S> {
     // The answer of an input that drains nothing.
     fn stepped(&self, done: Done) -> Stepped
         ensures done { result.done ≡ done }
-        ensures drained { result.drained.items ≡ [] }
+        ensures drained { result.drained.bytes ≡ [] }
     {
         Stepped {
             done,
-            drained: Vec::new(self.alloc),
+            drained: ByteQueue::new(self.alloc),
         }
     }
 }

@@ -3,6 +3,7 @@
 ghost use Rattle.std.specs.Prelude.{◌≡◌};
 ghost use Rattle.gm_front.specs.declared.input.StepError.TheVariants.{Refused};
 
+use gm_bytes::ByteQueue;
 use gm_notes::{ApplyError, Done};
 
 /// What comes from outside. A slot is the small number that stands for a connection while it is open.
@@ -25,12 +26,12 @@ pub enum Input<'a> {
 }
 
 /// What an input that was taken answers.
-#[derive(Debug, Drop)]
+#[derive(Drop)]
 pub struct Stepped {
     /// The slot that an opening was given, and the number of the last job that a piece made.
     pub done: Done,
     /// The bytes that were drained.
-    pub drained: Vec<u8>,
+    pub drained: ByteQueue,
 }
 
 /// Why an input isn't taken, or not whole.

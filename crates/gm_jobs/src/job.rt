@@ -11,12 +11,12 @@ ghost use Rattle.gm_jobs.specs.Changes.{changed, takes_memory};
 ghost use Rattle.gm_jobs.specs.Links.{stands_in};
 
 use gm_bytes::{Data, SharedBytes};
-use gm_notes::{Place, Priority};
+use gm_notes::{MAX_SLOTS, Place, Priority};
 use std::alloc::{AllocError, Global};
 use std::marker::Model;
 
 /// The list of the orphans, after those of the jobs that run.
-pub(crate) const ORPHANS: usize = 1024;
+pub(crate) const ORPHANS: usize = MAX_SLOTS as usize;
 
 /// A job to be made: its function by number, and its first listener, if there is one.
 #[derive(Clone, Copy)]

@@ -8,6 +8,12 @@ ghost use Rattle.gm_notes.specs.Settings.{Settings, config_fault, is_name, is_na
 use crate::text::Text;
 use std::marker::Model;
 
+/// The most slots that a server has: the most connections that may be open at once.
+pub const MAX_SLOTS: u32 = 1_024;
+
+/// The most functions that a server knows.
+pub const MAX_FUNCTIONS: u32 = 65_536;
+
 /// Why settings are refused.
 #[derive(Clone, Copy, Debug, PartialEq, Eq)]
 pub enum ConfigError {
@@ -91,10 +97,10 @@ impl Config {
         if first_job == 0 {
             return Err(ConfigError::BadNumber);
         }
-        if slots == 0 || slots > 1024 {
+        if slots == 0 || slots > MAX_SLOTS {
             return Err(ConfigError::BadSlots);
         }
-        if max_functions == 0 || max_functions > 65536 {
+        if max_functions == 0 || max_functions > MAX_FUNCTIONS {
             return Err(ConfigError::BadFunctions);
         }
         Ok(Config {

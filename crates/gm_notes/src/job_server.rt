@@ -14,6 +14,7 @@ ghost use Rattle.gm_notes.specs.JobStates.{place_of};
 
 use crate::event::{ApplyError, Done, Event};
 use crate::states::{Mode, Place};
+use gm_bytes::ByteQueue;
 
 /// A job server, however it keeps what it knows.
 ///
@@ -68,7 +69,7 @@ pub trait JobServer {
 
     /// Takes the bytes that wait for the slot, which wait no more; none where it isn't open. It needs no
     /// memory.
-    fn drain(&mut self, slot: u32) -> Vec<u8>
+    fn drain(&mut self, slot: u32) -> ByteQueue
         ensures { (k : Settings) (steps : List Step) → agrees self.old k steps
-            → (result.items ≡ waiting slot (run k steps).flow) × agrees self.new k (Drain slot ∷ steps) };
+            → (result.bytes ≡ waiting slot (run k steps).flow) × agrees self.new k (Drain slot ∷ steps) };
 }

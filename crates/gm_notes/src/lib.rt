@@ -8,7 +8,7 @@ mod note;
 mod states;
 mod text;
 
-pub use config::{Config, ConfigError};
+pub use config::{Config, ConfigError, MAX_FUNCTIONS, MAX_SLOTS};
 pub use event::{ApplyError, Done, Event, UnitFault};
 pub use job_server::JobServer;
 pub use note::Note;

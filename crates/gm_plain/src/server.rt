@@ -27,6 +27,7 @@ use crate::jobs::place;
 use crate::log::Log;
 use crate::outboxes::Outboxes;
 use gm_actions::Refusal;
+use gm_bytes::ByteQueue;
 use gm_notes::{ApplyError, Config, Done, Event, JobServer, Mode, Note, Place, UnitFault};
 use gm_packet::Response;
 use std::alloc::{AllocError, Global};
@@ -195,11 +196,11 @@ impl JobServer for PlainServer {
         Ok(())
     }
 
-    fn drain(&mut self, slot: u32) -> Vec<u8> {
+    fn drain(&mut self, slot: u32) -> ByteQueue {
         if slot < self.log.slots() {
-            self.outboxes.take(slot)
+            ByteQueue::from_vec(self.outboxes.take(slot))
         } else {
-            Vec::new(self.alloc)
+            ByteQueue::new(self.alloc)
         }
     }
 }

@@ -1,6 +1,7 @@
 //! The arguments of `gm_play`.
 
 use clap::{Arg, Command, Error};
+use gm_notes::MAX_FUNCTIONS;
 use gm_options::{ServerOptions, flag, number, server_options, with_server_options};
 use std::alloc::{AllocError, Global};
 use std::convert::AsStr;
@@ -38,7 +39,7 @@ fn command<'a>(alloc: Global) -> Result<Command<'a>, AllocError> {
             alloc,
             "functions",
             1,
-            65_536,
+            MAX_FUNCTIONS,
             "65536",
             "The most functions that the server knows",
         ))?;
@@ -51,7 +52,7 @@ pub(crate) fn parse_args<S: AsStr>(alloc: Global, args: &[S]) -> Result<Args, Er
     Ok(Args {
         plain: matches.get_flag("plain"),
         first_job: matches.get_one::<u64>("first-job").unwrap_or(1),
-        functions: matches.get_one::<u32>("functions").unwrap_or(65_536),
+        functions: matches.get_one::<u32>("functions").unwrap_or(MAX_FUNCTIONS),
         server: server_options(&matches),
     })
 }

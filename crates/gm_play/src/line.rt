@@ -45,11 +45,12 @@ fn tell_one<S: JobServer>(
 {
     let shut = front.shut(slot);
     if front.is_open(slot) {
-        let Ok(mut stepped) = front.step(Input::Drain(slot)) else {
+        let Ok(stepped) = front.step(Input::Drain(slot)) else {
             return Err(AllocError);
         };
-        take_noop(front, slot, &mut stepped.drained)?;
-        put_bytes(out, slot, &stepped.drained)?;
+        let mut bytes = stepped.drained.to_vec()?;
+        take_noop(front, slot, &mut bytes)?;
+        put_bytes(out, slot, &bytes)?;
         put_shut(out, slot, shut && !*told)?;
     }
     *told = shut;

@@ -14,7 +14,7 @@ use crate::server::serve_announced;
 use crate::settings::{Served, Settings};
 use crate::systemd::{first_socket, handed_sockets, notify_ready};
 use clap::error::ErrorKind;
-use gm_notes::Config;
+use gm_notes::{Config, MAX_FUNCTIONS};
 use std::alloc::{AllocError, Global};
 use std::env::Env;
 use std::hash::RandomState;
@@ -122,7 +122,7 @@ fn settings_of(alloc: Global, args: Args<'_>) -> Result<Settings, RunError>
     ensures tape { IfOk result (λ settings. settings.tape ≡ args.entry.tape) }
 {
     let name = Vec::from_slice(alloc, args.name.as_bytes())?;
-    let Ok(config) = Config::new(name, 1, args.server.slots, 65_536) else {
+    let Ok(config) = Config::new(name, 1, args.server.slots, MAX_FUNCTIONS) else {
         return Err(RunError::Name);
     };
     Ok(Settings {

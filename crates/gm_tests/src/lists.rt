@@ -41,7 +41,7 @@ fn answer(server: &mut PlainServer, line: &[u8]) -> Result<Vec<u8>, Fail> {
         slot: 0,
         bytes: line,
     })?;
-    Ok(server.drain(0))
+    Ok(server.drain(0).to_vec()?)
 }
 
 /// A row for each function: no jobs, and one worker.

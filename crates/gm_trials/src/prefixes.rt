@@ -4,7 +4,7 @@ ghost use Rattle.std.specs.Prelude.{◌<◌};
 
 use crate::error::TrialError;
 use crate::script::Order;
-use crate::seen::{Taker, same, see};
+use crate::seen::{Taker, same, see, see_answer};
 use crate::settings::{LIMITS, Settings};
 use gm_feeder::{FeedFault, Feeder};
 use gm_front::Input;
@@ -61,7 +61,7 @@ fn play<T: Taker>(
 ) -> Result<(), TrialError> {
     for input in [Input::Open(b"a"), Input::Piece(0, stream), Input::Close(0)] {
         let stepped = front.take(input)?;
-        writeln!(seen, "{stepped:?}")?;
+        see_answer(&Ok(stepped), seen)?;
         see(front, first_job, seen)?;
     }
     Ok(())

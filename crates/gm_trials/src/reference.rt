@@ -3,6 +3,7 @@
 use crate::error::TrialError;
 use crate::seen::Taker;
 use crate::settings::{LIMITS, Settings};
+use gm_bytes::ByteQueue;
 use gm_feeder::Feeder;
 use gm_front::{Input, Next, StepError, Stepped, next_event};
 use gm_notes::{ApplyError, Done, Event, JobServer};
@@ -79,7 +80,7 @@ impl Taker for Reference {
     type Server = PlainServer;
 
     fn take(&mut self, input: Input<'_>) -> Result<Stepped, StepError> {
-        let mut drained = Vec::new(self.alloc);
+        let mut drained = ByteQueue::new(self.alloc);
         let mut done = Done::NONE;
         match input {
             Input::Open(addr) => done = self.open(addr)?,

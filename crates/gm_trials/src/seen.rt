@@ -32,13 +32,28 @@ impl<S: JobServer> Taker for Front<S> {
     }
 }
 
+/// Writes what an input is answered.
+pub fn see_answer(
+    answer: &Result<Stepped, StepError>,
+    seen: &mut String,
+) -> Result<(), TrialError> {
+    match answer {
+        Ok(stepped) => {
+            let drained = stepped.drained.to_vec()?;
+            writeln!(seen, "{:?} {drained:?}", stepped.done)?;
+        }
+        Err(error) => writeln!(seen, "{error:?}")?,
+    }
+    Ok(())
+}
+
 /// Writes what each slot is owed and whether it is shut, and what it is given: what waits for it and its NOOP.
 fn see_slots<T: Taker>(taker: &mut T, seen: &mut String) -> Result<(), TrialError> {
     for slot in 0..SLOTS {
         let (owed, shut) = (taker.asked().owed(slot), taker.asked().shut(slot));
-        let drained = taker.take(Input::Drain(slot));
-        let took = taker.take(Input::Took(slot));
-        writeln!(seen, "slot {slot}: {owed} {shut} {drained:?} {took:?}")?;
+        writeln!(seen, "slot {slot}: {owed} {shut}")?;
+        see_answer(&taker.take(Input::Drain(slot)), seen)?;
+        see_answer(&taker.take(Input::Took(slot)), seen)?;
     }
     Ok(())
 }
@@ -72,7 +87,7 @@ pub fn hand_in<T: Taker>(
     if let Err(StepError::Cut { units }) = answer {
         return Ok(Some(units));
     }
-    writeln!(seen, "{answer:?}")?;
+    see_answer(&answer, seen)?;
     Ok(None)
 }
 

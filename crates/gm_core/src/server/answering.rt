@@ -7,6 +7,7 @@ ghost use Rattle.gm_conns.specs.ConnTables.{IsOpen, conn, Changes};
 ghost use Rattle.gm_notes.specs.Past.{with_output, give, refuse};
 ghost use Rattle.gm_actions.specs.Bodies.{EndsWith};
 ghost use Rattle.gm_actions.specs.Refusals.{code_of};
+ghost use Rattle.gm_core.specs.Writing.{copied_text, IsFor};
 
 use super::Core;
 use crate::written::Written;
@@ -27,49 +28,47 @@ pub(super) fn prepare(
 ) -> Result<(), AllocError>
     requires open { IsOpen conns.old slot }
     requires ends { IfSome body (λ body. EndsWith body.now.bytes.now (answer_of response.now)) }
-    ensures text { OnOk result (text.new ≡ answer_packet (answer_of response.now)) }
-    ensures conns { OnOk result (Changes slot (with_room (length text.new)) false conns.old conns.new) }
+    ensures text { OnOk result (text.new.bytes ≡ answer_packet (answer_of response.now)) }
+    ensures owned { OnOk result (IsFor 1 text.new) }
+    ensures conns { OnOk result (Changes slot (with_room text.new.cost) false conns.old conns.new) }
     ensures err { OnErr result (conns.new ≡ conns.old) }
 {
     if !response_fits(response) {
         return Err(AllocError);
     }
     text.write(response, body)?;
-    let len = text.len()?;
-    conns.reserve_out(slot, len)
+    text.own(1)?;
+    let cost = text.cost()?;
+    conns.reserve_out(slot, cost)
 }
 
 impl Core {
     ghost use Rattle.gm_core.specs.Holds.{Goes, Does};
 
-    /// Takes over a text, and makes room for it at a slot.
-    pub(super) fn prepare_text(&mut self, slot: u32, text: Vec<u8>) -> Result<(), AllocError>
+    /// Writes a text, and makes room for it at a slot.
+    pub(super) fn prepare_text(&mut self, slot: u32, text: &[u8]) -> Result<(), AllocError>
         requires { IsOpen self.old.conns slot }
         ensures goes { Goes self.old self.new (λ past. past) }
         ensures open { IsOpen self.new.conns slot }
-        ensures text { OnOk result (self.new.text ≡ text.items) }
-        ensures room { OnOk result (length self.new.text ≤ (conn self.new.conns slot).room) }
+        ensures text { OnOk result (self.new.text ≡ copied_text text.now) }
+        ensures room { OnOk result (length text.now ≤ (conn self.new.conns slot).room) }
     {
-        self.text = Written::of(text);
-        let len = self.text.len()?;
-        self.conns.reserve_out(slot, len)
+        self.text.set(text)?;
+        self.conns.reserve_out(slot, text.len())
     }
 
     /// Queues the packet that was written to a slot, where there is room for it.
     pub(super) fn send(&mut self, slot: u32)
         requires open { IsOpen self.old.conns slot }
-        requires room { length self.old.text ≤ (conn self.old.conns slot).room }
-        ensures goes { Goes self.old self.new (with_output slot self.old.text) }
+        requires room { self.old.text.cost ≤ (conn self.old.conns slot).room }
+        requires owned { IsFor 1 self.old.text }
+        ensures goes { Goes self.old self.new (with_output slot self.old.text.bytes) }
         ensures open { IsOpen self.new.conns slot }
         ensures functions { self.new.functions ≡ self.old.functions }
         ensures jobs { self.new.jobs ≡ self.old.jobs }
         ensures moment { self.new.moment ≡ self.old.moment }
     {
-        if self.text.is_short() {
-            self.text.put(&mut self.conns, slot);
-        } else {
-            self.text.append(&mut self.conns, slot);
-        }
+        self.text.put(&mut self.conns, slot);
         self.text.let_go();
     }
 
@@ -104,8 +103,8 @@ impl Core {
         ensures does { Does self.old result self.new (with_output slot text.items) }
         ensures open { IsOpen self.new.conns slot }
     {
-        self.prepare_text(slot, text)?;
-        self.send(slot);
+        self.conns.reserve_out(slot, text.len())?;
+        self.conns.put_out(slot, text.as_slice());
         Ok(())
     }
 }

@@ -79,12 +79,12 @@ impl Core {
         requires { IsOpen self.old.conns slot }
         ensures goes { Goes self.old self.new (λ past. past) }
         ensures open { IsOpen self.new.conns slot }
-        ensures text { OnOk result (self.new.text ≡ ok_text) }
-        ensures room { OnOk result (length self.new.text ≤ (conn self.new.conns slot).room) }
+        ensures text { OnOk result (self.new.text ≡ copied_text ok_text) }
+        ensures room { OnOk result (self.new.text.cost ≤ (conn self.new.conns slot).room) }
     {
         let mut text = Vec::new(self.alloc);
         write_ok(&mut text)?;
-        self.prepare_text(slot, text)
+        self.prepare_text(slot, text.as_slice())
     }
 
     /// Tells a slot that its command was done.

@@ -35,7 +35,8 @@ impl Core {
         requires within { found.function < length self.old.functions.names }
         ensures goes { Goes self.old self.new (λ past. past) }
         ensures open { IsOpen self.new.conns slot }
-        ensures room { OnOk result (length self.new.text ≤ (conn self.new.conns slot).room) }
+        ensures room { OnOk result (self.new.text.cost ≤ (conn self.new.conns slot).room) }
+        ensures owned { OnOk result (IsFor 1 self.new.text) }
         ensures priority { IfOk result (λ p. option_map (λ live. live.priority) (jobs.job self.old.jobs found.pick.job) ≡ Some p) }
         ensures text { OnOk result ((live : Live) → jobs.job self.old.jobs found.pick.job ≡ Some live
             → self.new.text ≡ answer_packet (assignment self.old.config with_unique found.pick.job

@@ -284,7 +284,8 @@ impl Core {
         ensures goes { Goes self.old self.new (λ past. past) }
         ensures open { IsOpen self.new.conns slot }
         ensures text { OnOk result (self.new.text ≡ answer_packet (job_created (handle self.old.config job))) }
-        ensures room { OnOk result (length self.new.text ≤ (conn self.new.conns slot).room) }
+        ensures room { OnOk result (self.new.text.cost ≤ (conn self.new.conns slot).room) }
+        ensures owned { OnOk result (IsFor 1 self.new.text) }
         ensures functions { self.new.functions ≡ self.old.functions }
         ensures jobs { self.new.jobs ≡ self.old.jobs }
     {

@@ -12,6 +12,7 @@ ghost use Rattle.gm_notes.specs.Settings.{Settings};
 ghost use Rattle.gm_notes.specs.Steps.{Step, Tick};
 ghost use Rattle.gm_core.specs.Telling.{hears, needed, Roomed, Poured};
 ghost use Rattle.gm_core.specs.Ticks.{AreLate, late_bytes, OthersStay};
+ghost use Rattle.gm_core.specs.Writing.{copied_text};
 
 use super::Core;
 use crate::telling::{put_each, reserve_each};
@@ -20,6 +21,7 @@ use gm_actions::handle;
 use gm_notes::{ApplyError, Done};
 use gm_packet::{Response, write_response};
 use std::alloc::AllocError;
+use std::collections::VecDeque;
 
 /// A job whose deadline is reached, and the packet that tells of its failure.
 #[derive(Drop)]
@@ -40,8 +42,8 @@ impl Core {
         ensures moment { self.new.moment ≡ self.old.moment }
         ensures roomed { Roomed self.old.conns self.new.conns }
         ensures job { IfOk result (λ late. late.job ≡ job) }
-        ensures text { IfOk result (λ late. late.text ≡ answer_packet (work_fail (handle self.old.config job))) }
-        ensures room { IfOk result (λ late. (c : ℕ) → (conn self.old.conns c).room + needed (length late.text) c (filter (hears self.old.conns false) (listeners_of (job_of self.old.jobs job))) ≤ (conn self.new.conns c).room) }
+        ensures text { IfOk result (λ late. late.text ≡ copied_text (answer_packet (work_fail (handle self.old.config job)))) }
+        ensures room { IfOk result (λ late. (c : ℕ) → (conn self.old.conns c).room + needed late.text.cost c (filter (hears self.old.conns false) (listeners_of (job_of self.old.jobs job))) ≤ (conn self.new.conns c).room) }
     {
         let handle = handle(self.alloc, &self.config, job)?;
         let mut text = Vec::new(self.alloc);
@@ -53,7 +55,7 @@ impl Core {
     }
 
     /// The jobs whose deadlines are reached, in the order of their numbers, with room for all that is told of them.
-    fn prepare_due(&mut self, now: u64) -> Result<Vec<Late>, AllocError>
+    fn prepare_due(&mut self, now: u64) -> Result<VecDeque<Late>, AllocError>
         ensures goes { Goes self.old self.new (λ past. past) }
         ensures config { self.new.config ≡ self.old.config }
         ensures jobs { self.new.jobs ≡ self.old.jobs }
@@ -62,11 +64,11 @@ impl Core {
         ensures room { IfOk result (λ lates. (c : ℕ) → late_bytes (hears self.new.conns false) self.old.jobs c lates.items ≤ (conn self.new.conns c).room) }
         ensures none { IsLast (is_due now) 0 self.old.jobs.live → OnErr result ⊥ }
     {
-        let mut lates = Vec::new(self.alloc);
+        let mut lates = VecDeque::new(self.alloc);
         let mut after = 0;
         while let Some(job) = self.jobs.due(now, after) {
             let late = self.prepare_late(job)?;
-            lates.push(late)?;
+            lates.push_back(late)?;
             after = job;
         }
         Ok(lates)
@@ -74,27 +76,27 @@ impl Core {
 
     /// A running job whose deadline is reached has failed: its listeners hear of it, and its worker doesn't. It needs
     /// no memory.
-    fn expire(&mut self, late: &Late)
-        requires due { passes (is_due self.old.moment) (job_of self.old.jobs late.now.job) ≡ true }
-        requires text { late.now.text ≡ answer_packet (work_fail (handle self.old.config late.now.job)) }
-        requires room { (c : ℕ) → needed (length late.now.text) c (filter (hears self.old.conns false) (listeners_of (job_of self.old.jobs late.now.job))) ≤ (conn self.old.conns c).room }
-        ensures goes { Goes self.old self.new (expire_one self.old.config late.now.job) }
+    fn expire(&mut self, mut late: Late)
+        requires due { passes (is_due self.old.moment) (job_of self.old.jobs late.job) ≡ true }
+        requires text { late.text ≡ copied_text (answer_packet (work_fail (handle self.old.config late.job))) }
+        requires room { (c : ℕ) → needed late.text.cost c (filter (hears self.old.conns false) (listeners_of (job_of self.old.jobs late.job))) ≤ (conn self.old.conns c).room }
+        ensures goes { Goes self.old self.new (expire_one self.old.config late.job) }
         ensures moment { self.new.moment ≡ self.old.moment }
-        ensures jobs { OthersStay late.now.job self.old.jobs self.new.jobs }
-        ensures poured { Poured (length late.now.text) (filter (hears self.old.conns false) (listeners_of (job_of self.old.jobs late.now.job))) self.old.conns self.new.conns }
+        ensures jobs { OthersStay late.job self.old.jobs self.new.jobs }
+        ensures poured { Poured late.text.cost (filter (hears self.old.conns false) (listeners_of (job_of self.old.jobs late.job))) self.old.conns self.new.conns }
     {
         let slots = self.jobs.listeners(late.job);
-        put_each(&mut self.conns, slots, false, &late.text);
+        put_each(&mut self.conns, slots, false, &mut late.text);
         self.end(late.job);
     }
 
     /// These jobs, whose deadlines are reached, have failed. It needs no memory.
-    fn expire_each(&mut self, lates: &[Late])
-        requires late { AreLate self.old.config self.old.moment self.old.jobs.live 0 lates.now }
-        requires room { (c : ℕ) → late_bytes (hears self.old.conns false) self.old.jobs c lates.now ≤ (conn self.old.conns c).room }
+    fn expire_each(&mut self, mut lates: VecDeque<Late>)
+        requires late { AreLate self.old.config self.old.moment self.old.jobs.live 0 lates.items }
+        requires room { (c : ℕ) → late_bytes (hears self.old.conns false) self.old.jobs c lates.items ≤ (conn self.old.conns c).room }
         ensures { Goes self.old self.new (λ past. expire_each self.old.config (rising past) past) }
     {
-        for late in lates {
+        while let Some(late) = lates.pop_front() {
             self.expire(late);
         }
     }
@@ -110,7 +112,7 @@ impl Core {
         let moment = now.max(self.moment);
         let lates = self.prepare_due(moment)?;
         self.moment = moment;
-        self.expire_each(lates.as_slice());
+        self.expire_each(lates);
         Ok(Done::NONE)
     }
 }

@@ -14,9 +14,10 @@ ghost use Rattle.gm_notes.specs.Workers.{hearers, keep_report, end_if, tell_work
 ghost use Rattle.gm_actions.specs.Actions.{said_report, work_of};
 ghost use Rattle.gm_core.specs.Ticks.{OthersStay};
 ghost use Rattle.gm_core.specs.Telling.{hears, needed, IsRunning, running_there};
+ghost use Rattle.gm_core.specs.Writing.{IsFor};
 
 use super::Core;
-use crate::telling::{queue_each, reserve_each};
+use crate::telling::{put_each, reserve_each};
 use gm_actions::{Refusal, Report, Said};
 use gm_bytes::SharedBytes;
 use gm_notes::Priority;
@@ -59,17 +60,19 @@ impl Core {
     /// Writes what is said of a job, and makes room for it at each connection that hears it.
     fn prepare_each(&mut self, job: u64, said: &Said<'_>) -> Result<(), AllocError>
         ensures goes { Goes self.old self.new (λ past. past) }
-        ensures text { OnOk result (self.new.text ≡ answer_packet (answer_of said.now.response)) }
-        ensures room { OnOk result ((c : ℕ) → needed (length self.new.text) c (filter (hears self.new.conns said.now.exceptions_only) (listeners_of (job_of self.new.jobs job))) ≤ (conn self.new.conns c).room) }
+        ensures text { OnOk result (self.new.text.bytes ≡ answer_packet (answer_of said.now.response)) }
+        ensures owned { OnOk result (IsFor (length (listeners_of (job_of self.new.jobs job))) self.new.text) }
+        ensures room { OnOk result ((c : ℕ) → needed self.new.text.cost c (filter (hears self.new.conns said.now.exceptions_only) (listeners_of (job_of self.new.jobs job))) ≤ (conn self.new.conns c).room) }
         ensures jobs { self.new.jobs ≡ self.old.jobs }
     {
         if !response_fits(&said.response) {
             return Err(AllocError);
         }
         self.text.write(&said.response, said.body.as_ref())?;
-        let len = self.text.len()?;
+        let cost = self.text.cost()?;
         let slots = self.jobs.listeners(job);
-        reserve_each(&mut self.conns, slots, said.exceptions_only, len)
+        self.text.own(slots.len())?;
+        reserve_each(&mut self.conns, slots, said.exceptions_only, cost)
     }
 
     /// How far the job is is kept, if it is said.
@@ -89,13 +92,14 @@ impl Core {
     /// The packet that was written is queued to each connection that hears of a live job, where there is room.
     fn tell_each(&mut self, job: u64, exceptions_only: bool)
         requires runs { IsRunning (job_of self.old.jobs job) }
-        requires room { (c : ℕ) → needed (length self.old.text) c (filter (hears self.old.conns exceptions_only) (listeners_of (job_of self.old.jobs job))) ≤ (conn self.old.conns c).room }
-        ensures goes { (answer : Answer) → self.old.text ≡ answer_packet answer
+        requires owned { IsFor (length (listeners_of (job_of self.old.jobs job))) self.old.text }
+        requires room { (c : ℕ) → needed self.old.text.cost c (filter (hears self.old.conns exceptions_only) (listeners_of (job_of self.old.jobs job))) ≤ (conn self.old.conns c).room }
+        ensures goes { (answer : Answer) → self.old.text.bytes ≡ answer_packet answer
             → Goes self.old self.new (λ past. tell_all answer (hearers exceptions_only (listeners job past.notes) past.notes) past) }
         ensures jobs { self.new.jobs ≡ self.old.jobs }
     {
         let slots = self.jobs.listeners(job);
-        queue_each(&mut self.conns, slots, exceptions_only, &mut self.text);
+        put_each(&mut self.conns, slots, exceptions_only, &mut self.text);
         self.text.let_go();
     }
 

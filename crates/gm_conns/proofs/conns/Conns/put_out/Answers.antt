@@ -1,4 +1,4 @@
-use Rattle.std.proofs.Common.{true, refl}
+use Rattle.std.proofs.Common.{length, true, refl}
 use Rattle.gm_conns.specs.Connections.{with_bytes}
 use Rattle.gm_conns.proofs.ConnTableLemmas.{keeps_same, changes_slot}
 use Rattle.gm_conns.proofs.conns.Conns.put_out.Goals as goal
@@ -8,5 +8,5 @@ invariant_of-self c = keeps_same c.self.inside c.self.invariant c.self.view_is c
 
 pub returns : goal.returns
 returns c =
-    changes_slot c.self.inside c.self.invariant c.self.view_is c.args.slot c.requires.open (with_bytes c.args.bytes.now) true
+    changes_slot c.self.inside c.self.invariant c.self.view_is c.args.slot c.requires.open (with_bytes c.args.bytes.now (length c.args.bytes.now)) true
     c.put.ensures c.index_mut-conn.ensures.value c.insert.ensures

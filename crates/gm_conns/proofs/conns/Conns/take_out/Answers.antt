@@ -1,6 +1,0 @@
-use Rattle.std.proofs.Common.{refl}
-use Rattle.gm_conns.proofs.ConnTableLemmas.{keeps_same}
-use Rattle.gm_conns.proofs.conns.Conns.take_out.Goals as goal
-
-pub invariant_of-self : goal.invariant_of-self
-invariant_of-self c = keeps_same c.self.inside c.self.invariant c.self.view_is c.args.slot c.requires c.take_out-bytes.ensures.after c.index_mut-conn.ensures.value refl refl (λ f. refl)
