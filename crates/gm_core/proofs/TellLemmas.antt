@@ -125,52 +125,52 @@ reserve_step first mid new e count slots i lt before step grows so_far d =
 
 -- ---- queueing
 
-module _ {told : Bool} (old new : Table) (c : ℕ) (text : List ℕ) (changes : Changes c (with_bytes text) told old new) where
+module _ {told : Bool} (old new : Table) (c : ℕ) (text : List ℕ) (cost : ℕ) (changes : Changes c (with_bytes text cost) told old new) where
   pub put_hears : (e : Bool) (d : ℕ) → hears new e d ≡ hears old e d
   put_hears e d = ap (λ (x : Connection). x.is_open && (not e || x.has_option)) (changes.conns d) ∙ by (d == c)
     where
-      by : (t : Bool) → ((if t then with_bytes text (conn old d) else conn old d).is_open && (not e || (if t then with_bytes text (conn old d) else conn old d).has_option))
+      by : (t : Bool) → ((if t then with_bytes text cost (conn old d) else conn old d).is_open && (not e || (if t then with_bytes text cost (conn old d) else conn old d).has_option))
           ≡ ((conn old d).is_open && (not e || (conn old d).has_option))
       by true = refl
       by false = refl
 
   -- the room that is left serves those that are left
-  pub put_room : (rest : List ℕ) → ((d : ℕ) → needed (length text) d (c ∷ rest) ≤ (conn old d).room) → (d : ℕ) → needed (length text) d rest ≤ (conn new d).room
+  pub put_room : (rest : List ℕ) → ((d : ℕ) → needed cost d (c ∷ rest) ≤ (conn old d).room) → (d : ℕ) → needed cost d rest ≤ (conn new d).room
   put_room rest room d = by (d == c) refl (room d) (ap (λ (x : Connection). x.room) (changes.conns d))
     where
-      by : (t : Bool) → (d == c) ≡ t → (if c == d then length text + needed (length text) d rest else needed (length text) d rest) ≤ (conn old d).room
-          → (conn new d).room ≡ (if t then with_bytes text (conn old d) else conn old d).room → needed (length text) d rest ≤ (conn new d).room
+      by : (t : Bool) → (d == c) ≡ t → (if c == d then cost + needed cost d rest else needed cost d rest) ≤ (conn old d).room
+          → (conn new d).room ≡ (if t then with_bytes text cost (conn old d) else conn old d).room → needed cost d rest ≤ (conn new d).room
       by true e fits is =
           let turned : (c == d) ≡ true = grind (arith, nat_tests) in
-          let more : length text + needed (length text) d rest ≤ (conn old d).room = rw turned at fits in
+          let more : cost + needed cost d rest ≤ (conn old d).room = rw turned at fits in
           omega (arith, more, is)
       by false e fits is =
           let turned : (c == d) ≡ false = grind (arith, nat_tests) in
-          let same : needed (length text) d rest ≤ (conn old d).room = rw turned at fits in
+          let same : needed cost d rest ≤ (conn old d).room = rw turned at fits in
           omega (arith, same, is)
 
   -- what is used of the room is what came
-  pub put_left : (rest : List ℕ) (first all : ℕ → ℕ) → ((d : ℕ) → needed (length text) d (c ∷ rest) ≤ (conn old d).room)
-      → ((d : ℕ) → first d + needed (length text) d (c ∷ rest) ≤ (conn old d).room + all d) → (d : ℕ) → first d + needed (length text) d rest ≤ (conn new d).room + all d
+  pub put_left : (rest : List ℕ) (first all : ℕ → ℕ) → ((d : ℕ) → needed cost d (c ∷ rest) ≤ (conn old d).room)
+      → ((d : ℕ) → first d + needed cost d (c ∷ rest) ≤ (conn old d).room + all d) → (d : ℕ) → first d + needed cost d rest ≤ (conn new d).room + all d
   put_left rest first all room left d = by (d == c) refl (room d) (left d) (ap (λ (x : Connection). x.room) (changes.conns d))
     where
-      by : (t : Bool) → (d == c) ≡ t → (if c == d then length text + needed (length text) d rest else needed (length text) d rest) ≤ (conn old d).room
-          → first d + (if c == d then length text + needed (length text) d rest else needed (length text) d rest) ≤ (conn old d).room + all d
-          → (conn new d).room ≡ (if t then with_bytes text (conn old d) else conn old d).room → first d + needed (length text) d rest ≤ (conn new d).room + all d
+      by : (t : Bool) → (d == c) ≡ t → (if c == d then cost + needed cost d rest else needed cost d rest) ≤ (conn old d).room
+          → first d + (if c == d then cost + needed cost d rest else needed cost d rest) ≤ (conn old d).room + all d
+          → (conn new d).room ≡ (if t then with_bytes text cost (conn old d) else conn old d).room → first d + needed cost d rest ≤ (conn new d).room + all d
       by true e fits was is =
           let turned : (c == d) ≡ true = grind (arith, nat_tests) in
-          let more : length text + needed (length text) d rest ≤ (conn old d).room = rw turned at fits in
-          let so : first d + (length text + needed (length text) d rest) ≤ (conn old d).room + all d = rw turned at was in
+          let more : cost + needed cost d rest ≤ (conn old d).room = rw turned at fits in
+          let so : first d + (cost + needed cost d rest) ≤ (conn old d).room + all d = rw turned at was in
           omega (arith, more, so, is)
       by false e fits was is =
           let turned : (c == d) ≡ false = grind (arith, nat_tests) in
-          let so : first d + needed (length text) d rest ≤ (conn old d).room + all d = rw turned at was in
+          let so : first d + needed cost d rest ≤ (conn old d).room + all d = rw turned at was in
           omega (arith, so, is)
 
   pub put_holds : {k : Settings} {names : List (List ℕ)} {facts : ConnFacts} {w : ℕ → List ℕ} → HoldsConns k old names facts w
       → HoldsConns k new names facts (λ d. if d == c then w d ++ text else w d)
   put_holds {k} {names} {facts} {w} holds =
-      conn_changes c (with_bytes text) (λ s. s) (λ bytes. bytes ++ text) changes (λ x. refl) (λ x able. refl) (λ x. refl) (λ x able. able) (λ d. refl) (λ d. same_here (d == c) (facts.seen d)) (λ d. refl) holds
+      conn_changes c (with_bytes text cost) (λ s. s) (λ bytes. bytes ++ text) changes (λ x. refl) (λ x able. refl) (λ x. refl) (λ x able. able) (λ d. refl) (λ d. same_here (d == c) (facts.seen d)) (λ d. refl) holds
 
 -- there is room for the first that hears
 pub first_room : (count c : ℕ) (rest : List ℕ) (room : ℕ) → needed count c (c ∷ rest) ≤ room → count ≤ room
@@ -187,17 +187,3 @@ pub unheard_next : (P : ℕ → Bool) (slots : List ℕ) (i : ℕ) → i < lengt
 unheard_next P slots i lt deaf =
     ap (filter P) (drop-cons slots i 0 lt)
     ∙ rw deaf (ap (λ (j : ℕ). filter P (drop j slots)) (sym (add-one i)))
-
--- ---- the last that hears
-
-pub heard_last : (P : ℕ → Bool) (slots others : List ℕ) (last : ℕ) → slots ≡ others ++ last ∷ [] → filter P slots ≡ filter P others ++ (if P last then last ∷ [] else [])
-heard_last P slots others last is = ap (filter P) is ∙ filter-append P others (last ∷ [])
-
-pub needed_others : (count c : ℕ) (P : ℕ → Bool) (slots others : List ℕ) (last : ℕ) → slots ≡ others ++ last ∷ []
-    → needed count c (filter P slots) ≡ needed count c (filter P others) + needed count c (if P last then last ∷ [] else [])
-needed_others count c P slots others last is = ap (needed count c) (heard_last P slots others last is) ∙ needed_last count c last (P last) (filter P others)
-
-pub poured_last : (text slots : List ℕ) (last : ℕ) (bytes : ℕ → List ℕ)
-    → poured text (slots ++ last ∷ []) bytes ≡ (λ d. if d == last then poured text slots bytes d ++ text else poured text slots bytes d)
-poured_last text [] last bytes = refl
-poured_last text (c ∷ slots) last bytes = poured_last text slots last (λ d. if d == c then bytes d ++ text else bytes d)

@@ -22,6 +22,7 @@ use Rattle.gm_core.specs.declared.server.Core.{Core}
 use Rattle.gm_core.specs.declared.server.ticking.Late.{Late}
 use Rattle.gm_core.specs.Holds.{Keeps, AllTouched, Goes}
 use Rattle.gm_core.specs.Telling.{hears, needed, IsRunning, Roomed, Poured}
+use Rattle.gm_core.specs.Writing.{copied_text}
 use Rattle.gm_core.specs.Ticks.{AreLate, late_bytes, OthersStay}
 use Rattle.gm_actions.proofs.JobsMade.{expired_made}
 use Rattle.gm_core.proofs.ConnLemmas.{touched_same, touched_then}
@@ -98,13 +99,13 @@ pub bytes_moved : (who : ℕ → Bool) (c : ℕ) (k : Settings) (now n after : �
 bytes_moved who c k now n after [] old new le stays late = refl
 bytes_moved who c k now n after (late ∷ rest) old new le stays (next, text, more) =
     let above = next.above in
-    let first : needed (length late.text) c (filter who (listeners_of (job new late.job))) ≡ needed (length late.text) c (filter who (listeners_of (job old late.job))) =
-    ap (λ (o : Option Live). needed (length late.text) c (filter who (listeners_of o))) (stays late.job (other n after late.job le next.above)) in
+    let first : needed late.text.cost c (filter who (listeners_of (job new late.job))) ≡ needed late.text.cost c (filter who (listeners_of (job old late.job))) =
+    ap (λ (o : Option Live). needed late.text.cost c (filter who (listeners_of o))) (stays late.job (other n after late.job le next.above)) in
     let others = bytes_moved who c k now n late.job rest old new (omega (arith, le, above)) stays more in
     (λ i. first i + others i)
 
 pub bytes_last : (who : ℕ → Bool) (table : Table) (c : ℕ) (lates : List Late) (late : Late)
-    → late_bytes who table c (lates ++ late ∷ []) ≡ late_bytes who table c lates + needed (length late.text) c (filter who (listeners_of (job table late.job)))
+    → late_bytes who table c (lates ++ late ∷ []) ≡ late_bytes who table c lates + needed late.text.cost c (filter who (listeners_of (job table late.job)))
 bytes_last who table c [] late = omega arith
 bytes_last who table c (first ∷ lates) late = let more = bytes_last who table c lates late in omega (arith, more)
 
@@ -150,14 +151,14 @@ module _ (first : Core) where
     pub late_now : passes (is_due self.moment) (job self.jobs late.job) ≡ true
     late_now = subst (λ now. passes (is_due now) (job self.jobs late.job) ≡ true) (sym t.moment) t.late.0.found
 
-    pub late_text : late.text ≡ answer_packet (work_fail (handle self.config late.job))
-    late_text = subst (λ k. late.text ≡ answer_packet (work_fail (handle k late.job))) (sym t.config) t.late.1
+    pub late_text : late.text ≡ copied_text (answer_packet (work_fail (handle self.config late.job)))
+    late_text = subst (λ k. late.text ≡ copied_text (answer_packet (work_fail (handle k late.job)))) (sym t.config) t.late.1
 
-    pub late_room : (c : ℕ) → needed (length late.text) c (filter (hears self.conns false) (listeners_of (job self.jobs late.job))) ≤ (conn self.conns c).room
+    pub late_room : (c : ℕ) → needed late.text.cost c (filter (hears self.conns false) (listeners_of (job self.jobs late.job))) ≤ (conn self.conns c).room
     late_room c = let all = t.room c in omega (arith, all)
 
     pub expiring_on : Goes self new (expire_one self.config late.job) → new.moment ≡ self.moment → OthersStay late.job self.jobs new.jobs
-        → Poured (length late.text) (filter (hears self.conns false) (listeners_of (job self.jobs late.job))) self.conns new.conns → Expiring first new rest
+        → Poured late.text.cost (filter (hears self.conns false) (listeners_of (job self.jobs late.job))) self.conns new.conns → Expiring first new rest
     expiring_on goes moment stays poured = record {
       after = late.job;
       config = goes.config ∙ t.config;
@@ -195,14 +196,14 @@ module _ (first : Core) where
 module _ (k : Settings) (now : ℕ) (table : Table) (self new : conns.Table) (lates : List Late) (after : ℕ) (late : Late)
     (next : IsNext (is_due now) after table.live late.job) where
   -- one more is found
-  pub late_next : late.text ≡ answer_packet (work_fail (handle k late.job))
+  pub late_next : late.text ≡ copied_text (answer_packet (work_fail (handle k late.job)))
       → ((rest : List Late) → AreLate k now table.live after rest → AreLate k now table.live 0 (lates ++ rest))
       → (rest : List Late) → AreLate k now table.live late.job rest → AreLate k now table.live 0 ((lates ++ late ∷ []) ++ rest)
   late_next text leads rest more = subst (AreLate k now table.live 0) (sym (append_assoc lates (late ∷ []) rest)) (leads (late ∷ rest) (next, text, more))
 
   pub room_next : Roomed self new
       → ((c : ℕ) → late_bytes (hears self false) table c lates ≤ (conn self c).room)
-      → ((c : ℕ) → (conn self c).room + needed (length late.text) c (filter (hears self false) (listeners_of (job table late.job))) ≤ (conn new c).room)
+      → ((c : ℕ) → (conn self c).room + needed late.text.cost c (filter (hears self false) (listeners_of (job table late.job))) ≤ (conn new c).room)
       → (c : ℕ) → late_bytes (hears new false) table c (lates ++ late ∷ []) ≤ (conn new c).room
   room_next roomed room more c =
       let was = room c in

@@ -109,20 +109,13 @@ impl Written {
         }
     }
 
-    /// Forgets what it was. What is copied keeps its room.
-    fn clear(&mut self)
-        ensures { self.new ≡ copied_text [] }
-    {
-        self.copied.clear();
-        self.body = None;
-        self.owners.clear();
-    }
-
     /// Writes a text.
     pub(crate) fn set(&mut self, text: &[u8]) -> Result<(), AllocError>
         ensures { OnOk result (self.new ≡ copied_text text.now) }
     {
-        self.clear();
+        self.body = None;
+        self.owners.clear();
+        self.copied.clear();
         self.copied.extend_from_slice(text)
     }
 
@@ -144,21 +137,24 @@ impl Written {
         requires ends { IfSome body (λ body. EndsWith body.now.bytes.now (answer_of response.now)) }
         ensures { OnOk result (self.new.bytes ≡ answer_packet (answer_of response.now)) }
     {
-        self.clear();
         if let Some(body) = body
             && let Some(shared) = body.share()
             && let Some(bare) = without_body(response)
         {
             return self.write_over(&bare, shared);
         }
+        self.body = None;
+        self.owners.clear();
+        self.copied.clear();
         write_response(response, &mut self.copied)
     }
 
     /// Writes a packet whose last argument is empty, and puts a body in its place.
     fn write_over(&mut self, bare: &Response<'_>, body: SharedBytes) -> Result<(), AllocError>
-        requires { self.old ≡ copied_text [] }
         ensures { OnOk result ((answer : Answer) → answer_of bare.now ≡ bare_answer answer → EndsWith body answer → self.new.bytes ≡ answer_packet answer) }
     {
+        self.owners.clear();
+        self.copied.clear();
         if !response_fits(bare) {
             return Err(AllocError);
         }

@@ -13,7 +13,7 @@ use Rattle.gm_server.specs.Turns.{turn_of}
 
 -- what isn't sent yet of a message
 abbrev pub unsent : Message → List ℕ
-unsent message = message.bytes ++ message.noop.now
+unsent message = message.bytes.bytes ++ message.noop.now
 
 abbrev pub left_in : Option Message → List ℕ
 left_in None = []
@@ -48,7 +48,7 @@ pub record Sends (ended : Type 0) (delivery : Delivery) (old new : Option (List 
 pub data Gives (k : Settings) (taped : Bool) (slot takes takes_after : ℕ) (share after : List Told) : Bool → Bool → List ℕ → Bool → Type 0 where
   unasked : takes_after ≡ takes → after ≡ share → Gives k taped slot takes takes_after share after false false [] false
   given : (took : Bool) (drained : Drained) → MatchBool took (takes_after ≡ takes + 1) (takes_after ≡ takes)
-      → Emptied k taped slot slot (Ok drained) share after → Gives k taped slot takes takes_after share after true took drained.bytes drained.shut
+      → Emptied k taped slot slot (Ok drained) share after → Gives k taped slot takes takes_after share after true took drained.bytes.bytes drained.shut
   refused : (took : Bool) (error : ApplyError) → MatchBool took (takes_after ≡ takes + 1) (takes_after ≡ takes)
       → Emptied k taped slot slot (Err error) share after → Gives k taped slot takes takes_after share after false took [] true
 

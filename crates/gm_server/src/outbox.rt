@@ -3,7 +3,7 @@
 ghost use Rattle.std.specs.Prelude.{◌≡◌, []};
 
 use crate::message::{Delivery, noop_if, write_once};
-use gm_conns::Outgoing;
+use gm_bytes::ByteQueue;
 use gm_shared::{BookName, Drained, Pen, Shared};
 use std::io::Write;
 use std::sync::Wait;
@@ -12,7 +12,7 @@ use std::sync::Wait;
 #[derive(Drop)]
 pub struct Message {
     /// The bytes that aren't sent yet.
-    bytes: Outgoing,
+    bytes: ByteQueue,
     /// What isn't sent yet of the NOOP.
     noop: &'static [u8],
 }
@@ -22,8 +22,8 @@ impl Message {
     ghost use Rattle.gm_server.specs.Deliveries.{unsent, SendsFront};
 
     /// These bytes, and a NOOP where one was taken.
-    pub fn new(bytes: Outgoing, took: bool) -> Message
-        ensures { unsent result ≡ turn_of took bytes }
+    pub fn new(bytes: ByteQueue, took: bool) -> Message
+        ensures { unsent result ≡ turn_of took bytes.bytes }
     {
         Message {
             bytes,
@@ -36,7 +36,7 @@ impl Message {
         ensures { SendsFront result (W.contents w.old) (W.contents w.new) (unsent self.old) (unsent self.new) }
     {
         loop {
-            let chunk = self.bytes.chunk();
+            let chunk = self.bytes.first();
             if chunk.is_empty() {
                 return self.send_noop(w);
             }

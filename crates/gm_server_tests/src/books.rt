@@ -26,7 +26,7 @@ fn is_opening(rt: &impl Abort, receipt: &Receipt) {
 fn is_echo(rt: &impl Abort, drained: Drained) {
     let wanted = b"\0RES\0\0\0\x11\0\0\0\x02hi".as_slice();
     same(rt, "shut", &drained.shut, &false);
-    same(rt, "the echo", &drained.bytes.chunk(), &wanted);
+    same(rt, "the echo", &drained.bytes.first(), &wanted);
 }
 
 /// Each call of a new book is answered. It has the book by reference, as the proof of a function that owns a book spells out

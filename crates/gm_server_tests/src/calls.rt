@@ -344,7 +344,7 @@ fn assert_drained(
         (Ok(drained), Ok(answer)) => same(
             rt,
             slot,
-            &(drained.bytes.chunk(), drained.shut),
+            &(drained.bytes.first(), drained.shut),
             &answer,
         ),
         (got, answer) => same(rt, slot, &got.err(), &answer.err()),

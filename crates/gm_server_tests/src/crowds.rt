@@ -180,7 +180,7 @@ fn assigned_jobs<K: BookName, R: Wait + Abort>(
     let mut jobs = Vec::new(alloc);
     for slot in 2..room.pens.len() {
         let drained = room.drain(rt, slot)?;
-        add_assigned(rt, drained.bytes.chunk(), &mut jobs)?;
+        add_assigned(rt, drained.bytes.first(), &mut jobs)?;
     }
     jobs.sort()?;
     let mut last = 0;
@@ -218,7 +218,7 @@ fn assert_all_created<K: BookName, R: Wait + Abort>(
     for (slot, numbers) in told.iter().take(2).enumerate() {
         same(rt, slot, &numbers.len(), &TIMES);
         let drained = room.drain(rt, slot)?;
-        assert_created(rt, alloc, drained.bytes.chunk(), numbers)?;
+        assert_created(rt, alloc, drained.bytes.first(), numbers)?;
     }
     Ok(())
 }
@@ -231,7 +231,7 @@ fn answer<K: BookName, R: Wait + Abort>(
 ) -> Result<Vec<u8>, Fail> {
     room.apply(rt, 0, event)?;
     let drained = room.drain(rt, 0)?;
-    Ok(Vec::from_slice(room.alloc, drained.bytes.chunk())?)
+    Ok(Vec::from_slice(room.alloc, drained.bytes.first())?)
 }
 
 /// Slot 0 is answered this, and nothing else.

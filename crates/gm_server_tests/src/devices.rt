@@ -1,7 +1,7 @@
 //! A reader and a writer that fail at a call of one's choice, and what is written to such a writer.
 
 use crate::checks::same;
-use gm_conns::Outgoing;
+use gm_bytes::ByteQueue;
 use gm_server::{Delivery, Message, WriteFault, write_turn};
 use std::alloc::Global;
 use std::io::{Error, ErrorKind, Read, Result, Write};
@@ -79,7 +79,7 @@ fn sent(
         room,
         taken: Vec::new(alloc),
     };
-    let mut message = Message::new(Outgoing::new(Vec::from_slice(alloc, drained)?), took);
+    let mut message = Message::new(ByteQueue::from_vec(Vec::from_slice(alloc, drained)?), took);
     for _ in 0..100 {
         let outcome = match message.send(&mut writer) {
             Delivery::Late => continue,

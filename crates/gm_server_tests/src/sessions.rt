@@ -50,7 +50,7 @@ impl<'a> Scene for OneSession<'a> {
             &OpenGate,
         );
         if let Ok(drained) = room.drain(rt, 0) {
-            self.waiting = Vec::from_slice(self.alloc, drained.bytes.chunk())?;
+            self.waiting = Vec::from_slice(self.alloc, drained.bytes.first())?;
         }
         Ok(())
     }

@@ -41,7 +41,7 @@ fn echo_once<K: BookName, R: Wait + Abort>(
     let echo = room.apply(rt, 0, event)?;
     let drained = room.drain(rt, 0)?;
     let wanted = b"\0RES\0\0\0\x11\0\0\0\x02hi".as_slice();
-    same(rt, "the echo", &drained.bytes.chunk(), &wanted);
+    same(rt, "the echo", &drained.bytes.first(), &wanted);
     Ok([(opening.at, opening.mode), (echo.at, echo.mode)])
 }
 

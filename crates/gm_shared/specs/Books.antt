@@ -121,10 +121,10 @@ NeedsNoMemory on other = ⊥
 -- what the drain of a slot did
 pub record IsDrained (k : Settings) (steps : List Step) (pen slot : ℕ) (drained : Drained) (old new : Booked) (told : List Told) : Type 0 where
   pub opened : is_open slot (run k steps).notes ≡ true
-  pub bytes_are : drained.bytes ≡ waiting slot (run k steps).flow
+  pub bytes_are : drained.bytes.bytes ≡ waiting slot (run k steps).flow
   pub shut_is : drained.shut ≡ is_closing slot (run k steps)
   pub agrees : BookedAgrees new k (Drain slot ∷ steps)
-  pub tape : Grows (drain_entry pen slot drained.bytes ∷ []) old.tape new.tape told
+  pub tape : Grows (drain_entry pen slot drained.bytes.bytes ∷ []) old.tape new.tape told
 
 -- a drain is refused where the slot isn't open; for memory only with a tape
 abbrev pub IsDrainRefusal : ApplyError → ℕ → Past → Bool → Type 0

@@ -131,7 +131,7 @@ impl Booked {
         }
         let copies = self.tape.room_for_bytes(share, conns, slot)?;
         let shut = self.core.shut(slot);
-        let bytes = self.core.take_out(slot);
+        let bytes = self.core.drain(slot);
         // The drain touched its slot, for which no writer has anything to do.
         let _slot = self.core.take_touched();
         self.tape.enter_drain(share, pen, slot, copies);
@@ -239,7 +239,7 @@ impl Booked {
         conns.is_open(slot)
             && !conns.phase(slot).is_owed()
             && !conns.is_shut(slot)
-            && !conns.is_waiting(slot)
+            && conns.waiting(slot).is_empty()
     }
 
     /// Takes the event's own slot out of those that it touched, if nothing is to be delivered there: a worker that goes to

@@ -1,7 +1,6 @@
 //! The table of connections.
 
 use crate::checks::{must, next_random, same};
-use gm_bytes::SharedBytes;
 use gm_conns::Conns;
 use gm_notes::{ApplyError, Phase};
 use std::alloc::{AllocError, Global};
@@ -18,14 +17,14 @@ fn put_checked(
     must(rt, conns.is_open(slot));
     conns.reserve_out(slot, bytes.len())?;
     must(rt, conns.is_open(slot));
-    assert!(rt; conns.room(slot) >= bytes.len());
+    assert!(rt; conns.waiting(slot).room() >= bytes.len());
     conns.put_out(slot, bytes);
     Ok(())
 }
 
 fn assert_drains(rt: &impl Abort, conns: &mut Conns, slot: u32, bytes: &[u8]) {
     must(rt, conns.is_open(slot));
-    same(rt, "what waits", &conns.drain(slot).as_slice(), &bytes);
+    same(rt, "what waits", &conns.drain(slot).first(), &bytes);
 }
 
 fn assert_able(rt: &impl Abort, conns: &Conns, slot: u32, i: usize, ability: Option<(u32, u32)>) {
@@ -60,60 +59,6 @@ fn end(rt: &impl Abort, conns: &mut Conns) -> Result<(), AllocError> {
     must(rt, conns.is_open(0));
     conns.close(0);
     must(rt, !conns.is_open(0));
-    Ok(())
-}
-
-// Puts a head and a tail into room that is reserved for them.
-fn put_shared(
-    rt: &impl Abort,
-    conns: &mut Conns,
-    head: &[u8],
-    tail: &SharedBytes,
-) -> Result<(), AllocError> {
-    must(rt, conns.is_open(0));
-    conns.reserve_out(0, 16)?;
-    must(rt, conns.is_open(0));
-    assert!(rt; head.len() <= 8 && tail.as_slice().len() <= 8 && conns.room(0) >= 16);
-    conns.put_shared(0, head, tail);
-    Ok(())
-}
-
-fn assert_takes_out(rt: &impl Abort, conns: &mut Conns, chunks: &[&[u8]]) {
-    must(rt, conns.is_open(0));
-    let mut out = conns.take_out(0);
-    for chunk in chunks {
-        same(rt, "a chunk", &out.chunk(), chunk);
-        let len = out.chunk().len();
-        out.advance(len);
-    }
-    same(rt, "what is left", &out.chunk(), &b"".as_slice());
-}
-
-// A tail is shared wherever it is, and what comes before it or behind it is a chunk of its own.
-fn share(rt: &impl Abort, conns: &mut Conns, tail: &SharedBytes) -> Result<(), AllocError> {
-    put_shared(rt, conns, b"head", tail)?;
-    put_checked(rt, conns, 0, b"on")?;
-    assert_drains(rt, conns, 0, b"headtailon");
-    put_shared(rt, conns, b"up to", tail)?;
-    put_shared(rt, conns, b"and", tail)?;
-    put_checked(rt, conns, 0, b"on")?;
-    assert_takes_out(rt, conns, &[b"up to", b"tail", b"and", b"tail", b"on"]);
-    put_shared(rt, conns, b"to", tail)?;
-    put_shared(rt, conns, b"and", tail)?;
-    assert_drains(rt, conns, 0, b"totailandtail");
-    must(rt, conns.is_open(0));
-    same(rt, "whether bytes wait", &conns.is_waiting(0), &false);
-    Ok(())
-}
-
-#[test]
-fn conns_shared(rt: HostRuntime) -> Result<(), Fail> {
-    let whole = SharedBytes::new(rt.alloc(), Vec::from_slice(rt.alloc(), b"a tail")?)?;
-    assert!(&rt; whole.as_slice().len() == 6);
-    let tail = whole.suffix(2)?;
-    let mut conns = Conns::new(rt.alloc(), 1)?;
-    same(&rt, "an opening", &conns.open(b"a"), &Ok(0));
-    share(&rt, &mut conns, &tail)?;
     Ok(())
 }
 

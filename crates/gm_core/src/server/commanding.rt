@@ -14,6 +14,7 @@ ghost use Rattle.gm_notes.specs.Past.{with_output, with_note, with_mention};
 ghost use Rattle.gm_notes.specs.Lines.{refuse_line, is_bad_word, maxqueue, go_graceful, shut_one, shut_each, shutdown, command};
 ghost use Rattle.gm_notes.specs.declared.note.Note.TheVariants.{Limit};
 ghost use Rattle.gm_actions.specs.Lines.{NamesFunction};
+ghost use Rattle.gm_core.specs.Writing.{copied_text};
 
 use super::Core;
 use gm_actions::read_line;

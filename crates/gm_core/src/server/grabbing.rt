@@ -8,6 +8,7 @@ ghost use Rattle.gm_queues.specs.FunctionTables.{waiting_for};
 ghost use Rattle.gm_jobs.specs.Live.{Live};
 ghost use Rattle.gm_jobs.specs.Tables as jobs;
 ghost use Rattle.gm_core.specs.Holds.{name_at};
+ghost use Rattle.gm_core.specs.Writing.{IsFor};
 ghost use Rattle.gm_notes.specs.declared.note.Note.TheVariants.{Assigned};
 ghost use Rattle.gm_notes.specs.Jobs.{handle};
 ghost use Rattle.gm_notes.specs.Past.{with_note};
@@ -39,7 +40,7 @@ impl Core {
         ensures owned { OnOk result (IsFor 1 self.new.text) }
         ensures priority { IfOk result (λ p. option_map (λ live. live.priority) (jobs.job self.old.jobs found.pick.job) ≡ Some p) }
         ensures text { OnOk result ((live : Live) → jobs.job self.old.jobs found.pick.job ≡ Some live
-            → self.new.text ≡ answer_packet (assignment self.old.config with_unique found.pick.job
+            → self.new.text.bytes ≡ answer_packet (assignment self.old.config with_unique found.pick.job
             (record { function = name_at self.old.functions.names found.function; priority = live.priority; unique = live.unique; body = live.body }))) }
         ensures functions { self.new.functions ≡ self.old.functions }
         ensures jobs { self.new.jobs ≡ self.old.jobs }

@@ -7,6 +7,7 @@ ghost use Rattle.gm_conns.specs.ConnTables.{IsOpen, conn};
 ghost use Rattle.gm_queues.specs.FunctionTables.{number_of};
 ghost use Rattle.gm_jobs.specs.Tables.{IsNamed};
 ghost use Rattle.gm_core.specs.Holds.{IsAlone, add_job, first_listener};
+ghost use Rattle.gm_core.specs.Writing.{IsFor};
 ghost use Rattle.gm_notes.specs.Jobs.{handle, joined};
 ghost use Rattle.gm_notes.specs.declared.note.Note.TheVariants.{Mention};
 ghost use Rattle.gm_notes.specs.Past.{Past, with_note};
@@ -283,7 +284,7 @@ impl Core {
         requires open { IsOpen self.old.conns slot }
         ensures goes { Goes self.old self.new (λ past. past) }
         ensures open { IsOpen self.new.conns slot }
-        ensures text { OnOk result (self.new.text ≡ answer_packet (job_created (handle self.old.config job))) }
+        ensures text { OnOk result (self.new.text.bytes ≡ answer_packet (job_created (handle self.old.config job))) }
         ensures room { OnOk result (self.new.text.cost ≤ (conn self.new.conns slot).room) }
         ensures owned { OnOk result (IsFor 1 self.new.text) }
         ensures functions { self.new.functions ≡ self.old.functions }

@@ -17,8 +17,8 @@ returns-clause-abilities c =
       id = c.self.inside.id.items;
       abilities = abilities;
       last = c.self.inside.last;
-      waiting = concat c.self.inside.runs.items ++ c.self.inside.waiting.items;
-      room = c.self.inside.room;
+      waiting = c.self.inside.queue.bytes;
+      room = c.self.inside.queue.room;
     })
     (c.shift_remove-timeout.ensures.entries ∙ remove_entry-once c.args.f c.self.inside.abilities.entries gone)
     ∙ ap (without_ability c.args.f) c.self.view_is

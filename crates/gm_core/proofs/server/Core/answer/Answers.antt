@@ -8,6 +8,6 @@ pub returns-clause-does : goal.returns-clause-does
 returns-clause-does c =
     goes_as (give c.args.slot (answer_of c.args.response.now))
     (goes_then
-    (goes_room {old = c.args.self.now} {new = record c.args.self.now { conns = c.prepare.new.conns; text = c.prepare.new.text }} c.args.slot (record { config = refl; functions = refl; jobs = refl; moment = refl; mode = refl }) (length c.prepare.new.text) c.in_ok-prepare.ensures.conns)
+    (goes_room {old = c.args.self.now} {new = record c.args.self.now { conns = c.prepare.new.conns; text = c.prepare.new.text }} c.args.slot (record { config = refl; functions = refl; jobs = refl; moment = refl; mode = refl }) c.prepare.new.text.cost c.in_ok-prepare.ensures.conns)
     c.send.ensures.goes)
     (λ p keeps. ap (λ (t : List ℕ). with_output c.args.slot t p) c.in_ok-prepare.ensures.text)

@@ -16,6 +16,6 @@ returns c =
     (λ p keeps.
     let it = given old.config old.functions old.jobs (conn_facts p.notes).is_open p.notes (function_facts p.notes) keeps.functions keeps.jobs c.args.found.function c.args.found.pick.job c.requires.within c.requires.first in
     let is = keeps.jobs.live c.args.found.pick.job it.live it.at in
-    told_first old.config c.args.slot c.args.with_unique c.args.found.pick.job c.args.found.pick.timeout c.wake_itself.new.self.moment c.prepare_assigned.new.self.text (described old.functions.names it.live) p
+    told_first old.config c.args.slot c.args.with_unique c.args.found.pick.job c.args.found.pick.timeout c.wake_itself.new.self.moment c.prepare_assigned.new.self.text.bytes (described old.functions.names it.live) p
     (time ∙ keeps.moment) is.job (c.in_ok-priority.ensures.text it.live it.at
     ∙ ap (λ (g : ℕ). answer_packet (assignment old.config c.args.with_unique c.args.found.pick.job (record (described old.functions.names it.live) { function = name_at old.functions.names g }))) (sym it.function)))

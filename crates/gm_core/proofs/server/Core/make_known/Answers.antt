@@ -6,6 +6,7 @@ use Rattle.gm_jobs.specs.Tables as jobs
 use Rattle.gm_actions.specs.Actions.{submission_of}
 use Rattle.gm_core.specs.Holds.{name_at, add_job}
 use Rattle.gm_core.proofs.FunctionLemmas.{known, number_is}
+use Rattle.gm_core.specs.Writing.{Text}
 use Rattle.gm_core.proofs.CoreLemmas.{goes_as, goes_then}
 use Rattle.gm_core.proofs.server.Core.make_known.Goals as goal
 
@@ -14,7 +15,7 @@ returns c =
     let old = c.args.self.now in
     let s = submission_of c.args.asked.now in
     let before = goes_then (goes_then c.in_ok-prepare_created.ensures.goes c.in_ok-add.ensures.does) c.send.ensures.goes in
-    let text = c.in_ok-add.ensures.text ∙ c.in_ok-prepare_created.ensures.text in
+    let text = ap (λ (t : Text). t.bytes) c.in_ok-add.ensures.text ∙ c.in_ok-prepare_created.ensures.text in
     let next : c.prepare_created.new.self.jobs.next ≡ c.args.job = ap (λ (t : jobs.Table). t.next) c.in_ok-prepare_created.ensures.jobs ∙ sym c.requires.number in
     let names = ap (λ (t : queues.Table). t.names) c.send.ensures.functions ∙ (c.in_ok-add.ensures.names ∙ ap (λ (t : queues.Table). t.names) c.in_ok-prepare_created.ensures.functions) in
     let name = ap (λ (l : List (List ℕ)). name_at l c.args.f) names ∙ number_is s.function old.functions c.args.f c.requires.found in

@@ -7,6 +7,7 @@ use Rattle.gm_jobs.specs.Tables as jobs
 use Rattle.gm_actions.specs.Actions.{submission_of}
 use Rattle.gm_core.specs.Holds.{name_at, add_job}
 use Rattle.gm_core.proofs.FunctionLemmas.{anew, number_is}
+use Rattle.gm_core.specs.Writing.{Text}
 use Rattle.gm_core.proofs.CoreLemmas.{goes_as, goes_then}
 use Rattle.gm_core.proofs.server.Core.make_with_new_function.Goals as goal
 
@@ -15,7 +16,7 @@ returns c =
     let old = c.args.self.now in
     let s = submission_of c.args.asked.now in
     let before = goes_then (goes_then c.in_ok-prepare_created.ensures.goes c.in_ok-f.ensures.goes) c.send.ensures.goes in
-    let text = c.in_ok-f.ensures.text ∙ c.in_ok-prepare_created.ensures.text in
+    let text = ap (λ (t : Text). t.bytes) c.in_ok-f.ensures.text ∙ c.in_ok-prepare_created.ensures.text in
     let next : c.prepare_created.new.self.jobs.next ≡ c.args.job = ap (λ (t : jobs.Table). t.next) c.in_ok-prepare_created.ensures.jobs ∙ sym c.requires.number in
     let name =
     ap (λ (t : queues.Table). name_at t.names c.in_ok-f.f) c.send.ensures.functions ∙ number_is s.function c.add_with_new_function.new.self.functions c.in_ok-f.f c.in_ok-f.ensures.found in

@@ -10,7 +10,7 @@ use Rattle.gm_core.proofs.server.Core.prepare_assigned.Goals as goal
 pub returns-clause-goes : goal.returns-clause-goes
 returns-clause-goes c =
     goes_room {old = c.args.self.now} {new = record c.args.self.now { conns = c.prepare.new.conns; text = c.prepare.new.text }} c.args.slot
-    (record { config = refl; functions = refl; jobs = refl; moment = refl; mode = refl }) (length c.prepare.new.text) c.in_ok-prepare.ensures.conns
+    (record { config = refl; functions = refl; jobs = refl; moment = refl; mode = refl }) c.prepare.new.text.cost c.in_ok-prepare.ensures.conns
 
 pub returns-clause-text : goal.returns-clause-text
 returns-clause-text c live at =

@@ -6,8 +6,8 @@ use Rattle.gm_core.proofs.server.Core.tell_each.Goals as goal
 pub returns-clause-goes : goal.returns-clause-goes
 returns-clause-goes c answer text =
     let old = c.args.self.now in
-    let told = record old { conns = c.queue_each.new.conns } in
+    let told = record old { conns = c.put_each.new.conns } in
     goes_then {a = old} {b = told}
-    (told_goes old c.queue_each.new.conns c.args.job c.args.exceptions_only old.text c.listeners-slots.result.now c.requires.runs c.listeners-slots.ensures
-    c.queue_each.ensures.touched c.queue_each.ensures.holds answer text)
+    (told_goes old c.put_each.new.conns c.args.job c.args.exceptions_only old.text.bytes c.listeners-slots.result.now c.requires.runs c.listeners-slots.ensures
+    c.put_each.ensures.poured.touched c.put_each.ensures.holds answer text)
     (goes_nothing {a = told} {b = record told { text = c.let_go.new.self }} refl refl refl refl refl refl)

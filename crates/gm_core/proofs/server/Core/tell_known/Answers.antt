@@ -14,7 +14,7 @@ pub returns : goal.returns
 returns c =
     goes_as (known_told c.args.slot c.args.handle.now c.args.job)
     (goes_then
-    (goes_room {old = c.args.self.now} {new = record c.args.self.now { conns = c.prepare.new.conns; text = c.prepare.new.text }} c.args.slot (record { config = refl; functions = refl; jobs = refl; moment = refl; mode = refl }) (length c.prepare.new.text) c.in_ok-prepare.ensures.conns)
+    (goes_room {old = c.args.self.now} {new = record c.args.self.now { conns = c.prepare.new.conns; text = c.prepare.new.text }} c.args.slot (record { config = refl; functions = refl; jobs = refl; moment = refl; mode = refl }) c.prepare.new.text.cost c.in_ok-prepare.ensures.conns)
     c.send.ensures.goes)
     (λ p keeps.
     let is = keeps.jobs.live c.args.job c.in-Some.found.now (sym c.in-Some.ensures) in
