@@ -72,14 +72,14 @@ module _ (k : Settings) (taped : Bool) (slot takes takes_after : ℕ) (share aft
       };
     }
 
-    module _ (drained : Drained) (emptied : Emptied k taped slot slot (Ok drained) share after) (new : Option (List ℕ)) (due left_after : List ℕ) (is_due : due ≡ turn_of took drained.bytes) where
+    module _ (drained : Drained) (emptied : Emptied k taped slot slot (Ok drained) share after) (new : Option (List ℕ)) (due left_after : List ℕ) (is_due : due ≡ turn_of took drained.bytes.bytes) where
       -- it gave, and that was sent as far as the peer took it
       delivers_given : (delivery : Delivery) → (delivery ≡ Done → drained.shut ≡ false) → Sends (drained.shut ≡ true) delivery mid new due left_after
           → Delivers k taped delivery slot takes takes_after share after old new left left_after
       delivers_given delivery goes_on more = record {
         asked = true;
         took = took;
-        gave = drained.bytes;
+        gave = drained.bytes.bytes;
         ended = drained.shut;
         gives = given took drained takes_so emptied;
         done = λ is. (refl, goes_on is);
@@ -87,7 +87,7 @@ module _ (k : Settings) (taped : Bool) (slot takes takes_after : ℕ) (share aft
           sent = sends.sent ++ more.sent;
           rest = more.rest;
           written = Appends-trans old mid new sends.sent more.sent sends.written more.written;
-          whole = ap (λ front. front ++ turn_of took drained.bytes) all_sent ∙ (ap (λ bytes. sends.sent ++ bytes) (sym is_due ∙ more.whole) ∙ sym (append_assoc sends.sent more.sent more.rest));
+          whole = ap (λ front. front ++ turn_of took drained.bytes.bytes) all_sent ∙ (ap (λ bytes. sends.sent ++ bytes) (sym is_due ∙ more.whole) ∙ sym (append_assoc sends.sent more.sent more.rest));
           leaves = more.leaves;
           over = more.over;
         };

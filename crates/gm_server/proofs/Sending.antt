@@ -4,7 +4,7 @@ use Rattle.std.proofs.lemmas.List.{append_assoc, take-append-drop, take-append-l
 use Rattle.std.proofs.KnownBytes.{Appends-nil, Appends-trans}
 use Rattle.std.specs.Io.KnownBytes.{Appends}
 use Rattle.gm_server.specs.declared.message.Delivery.{Delivery}
-use Rattle.gm_server.specs.declared.message.Delivery.TheVariants.{Done}
+use Rattle.gm_server.specs.declared.message.Delivery.TheVariants.{Done, Late}
 use Rattle.gm_server.specs.Deliveries.{SendsFront}
 use Rattle.gm_server.specs.Turns.{Writes}
 
@@ -27,6 +27,10 @@ module _ (old now new : Option (List ℕ)) (due left after : List ℕ) (so_far :
     written = Appends-trans old now new so_far.sent sent so_far.written written;
     whole = joined sent whole;
   }
+
+  -- some is left
+  pub sending_late : (left ≡ [] → ⊥) → SendsFront Late old now due left
+  sending_late some = record { sent = so_far.sent; written = so_far.written; whole = so_far.whole; done = λ is. absurd cc; undone = λ is. absurd (some is) }
 
   -- the last write
   pub sending_last : (delivery : Delivery) → SendsFront delivery now new left after → SendsFront delivery old new due after

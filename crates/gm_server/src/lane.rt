@@ -21,7 +21,8 @@ const WRITE_TIMEOUT: u64 = 1;
 /// How long a write of the writer waits at a time, in milliseconds.
 const WRITER_TIMEOUT: u64 = 250;
 
-/// How long a connection that is to end has for what it is still to be sent, in milliseconds.
+/// How long a connection that is to end has for what it is still to be sent, in milliseconds from when its writer first found it
+/// late.
 const ENDING_TIME: u64 = 2_000;
 
 /// How often one who isn't the writer looks in a row, where the lane is touched again and again.

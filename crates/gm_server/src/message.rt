@@ -13,7 +13,7 @@ const NOOP: &[u8] = b"\0RES\0\0\0\x06\0\0\0\0";
 pub enum Delivery {
     /// All was sent.
     Done,
-    /// The peer takes no more at present; what is left waits in the lane.
+    /// The peer takes no more at present, or was sent as much as it is at a time; what is left waits in the lane.
     Late,
     /// There is no connection to send to.
     Over,

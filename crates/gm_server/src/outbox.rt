@@ -1,12 +1,18 @@
 //! What is to be sent to a connection, and how it is sent.
 
-ghost use Rattle.std.specs.Prelude.{◌≡◌, []};
+ghost use Rattle.std.specs.Prelude.{◌≡◌, ◌<◌, ℕ, List, [], ◌++◌, length};
 
 use crate::message::{Delivery, noop_if, write_once};
 use gm_bytes::ByteQueue;
 use gm_shared::{BookName, Drained, Pen, Shared};
 use std::io::Write;
 use std::sync::Wait;
+
+/// The most bytes that are handed to the socket in one write: so long a write may wait while its peer reads slowly.
+const MOST_WRITTEN: usize = 262_144;
+
+/// The most writes of a message in a row, so that whoever sends sees in between whether the connection is to end.
+const MOST_WRITES: u32 = 8;
 
 /// What is being sent: drained bytes, and then a NOOP where one was taken.
 #[derive(Drop)]
@@ -31,15 +37,29 @@ impl Message {
         }
     }
 
-    /// Sends what isn't sent yet: the bytes in as many writes as the places that they lie in, and then the NOOP.
+    /// The next bytes to write: those that lie in one place, and no more than one write may take.
+    fn next_chunk(&self) -> &[u8]
+        ensures first { (rest : List ℕ) × (self.now.bytes.bytes ≡ result.now ++ rest) }
+        ensures some { 0 < length self.now.bytes.bytes → 0 < length result.now }
+    {
+        let first = self.bytes.first();
+        &first[..first.len().min(MOST_WRITTEN)]
+    }
+
+    /// Sends what isn't sent yet, the bytes in as many writes as it takes, and then the NOOP. After `MOST_WRITES` it is late.
     pub fn send<W: Write>(&mut self, w: &mut W) -> Delivery
         ensures { SendsFront result (W.contents w.old) (W.contents w.new) (unsent self.old) (unsent self.new) }
     {
+        let mut writes = 0;
         loop {
-            let chunk = self.bytes.first();
+            let chunk = self.next_chunk();
             if chunk.is_empty() {
                 return self.send_noop(w);
             }
+            if writes == MOST_WRITES {
+                return Delivery::Late;
+            }
+            writes += 1;
             let (count, delivery) = write_once(chunk, w);
             self.bytes.advance(count);
             match delivery {
@@ -52,7 +72,7 @@ impl Message {
 
     /// Sends what isn't sent yet of the NOOP, where all of the bytes are.
     fn send_noop<W: Write>(&mut self, w: &mut W) -> Delivery
-        requires { self.old.bytes ≡ [] }
+        requires { self.old.bytes.bytes ≡ [] }
         ensures { SendsFront result (W.contents w.old) (W.contents w.new) (unsent self.old) (unsent self.new) }
     {
         let (count, delivery) = write_once(self.noop, w);
