@@ -285,6 +285,7 @@ fn texts<'a>(request: &Request<'a>) -> Texts<'a>
 }
 
 /// The kind and the arguments.
+// By hand: the derived one's proof cost more than any other function's.
 impl Debug for Request<'_> {
     fn fmt<W: Write>(&self, f: &mut Formatter<W>) -> fmt::Result {
         match timed(self) {
