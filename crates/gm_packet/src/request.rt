@@ -284,8 +284,8 @@ fn texts<'a>(request: &Request<'a>) -> Texts<'a>
     }
 }
 
-/// The kind and the arguments.
 // By hand: the derived one's proof cost more than any other function's.
+/// The kind and the arguments.
 impl Debug for Request<'_> {
     fn fmt<W: Write>(&self, f: &mut Formatter<W>) -> fmt::Result {
         match timed(self) {

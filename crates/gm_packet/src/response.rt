@@ -160,8 +160,8 @@ fn texts<'a>(response: &Response<'a>) -> Texts<'a>
     }
 }
 
-/// The packet type and the arguments.
 // By hand: the derived one's proof cost more than any other function's.
+/// The packet type and the arguments.
 impl Debug for Response<'_> {
     fn fmt<W: Write>(&self, f: &mut Formatter<W>) -> fmt::Result {
         write!(f, "Response {}{:?}", kind_of(self), texts(self).as_slice())
