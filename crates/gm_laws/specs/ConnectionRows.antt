@@ -20,7 +20,7 @@ LeastSlot =
     × Answers four_slots (
     connect ∷ connect ∷ connect ∷ Close 1 ∷ Close 0 ∷ connect ∷ connect ∷ []) (connect) (opened 3)
 
--- A submission's receipt names the job that it made, and none if it joined one or was refused
+-- a submission's receipt names the job that it made, if it made one
 abbrev pub MadeJobs : Type 0
 MadeJobs =
     Answers four_slots (
@@ -41,7 +41,7 @@ SlotsSpent =
     × Refuses two_slots steps (Close 5) NotOpen
     × Refuses two_slots steps (Took 1) NotOwed
 
--- steps at a slot that isn't open are refused, apart from drains; ticks are taken
+-- steps at a slot that isn't open are refused, but for drains; ticks are taken
 abbrev pub ClosedSlots : Type 0
 ClosedSlots =
     let steps =
@@ -53,7 +53,7 @@ ClosedSlots =
     × Takes four_slots steps (Drain 1)
     × Takes four_slots steps (Tick 0)
 
--- the next connection of a slot has its own address, no id and no functions
+-- a slot's next connection has its own address, no id and no functions
 abbrev pub NothingInherited : Type 0
 NothingInherited =
     Plays four_slots (
@@ -62,7 +62,7 @@ NothingInherited =
     page 0 ("0 127.0.0.1 - :" ∷ "1 10.0.0.1 y : f" ∷ "." ∷ []) ∷ page 0 ("0 127.0.0.1 - :" ∷ "." ∷ [])
     ∷ page 0 ("0 127.0.0.1 - :" ∷ "1 10.0.0.2 - :" ∷ "." ∷ []) ∷ created 0 "H:gmd:1" ∷ no_job 1 ∷ [])
 
--- the next connection of a slot doesn't have the exceptions option
+-- a slot's next connection doesn't have the exceptions option
 abbrev pub OptionNotInherited : Type 0
 OptionNotInherited =
     Plays four_slots (
@@ -70,7 +70,7 @@ OptionNotInherited =
     ∷ grab_job 2 ∷ work_exception 2 "H:gmd:1" "boom" ∷ work_fail 2 "H:gmd:1" ∷ []) (
     option_set 1 "exceptions" ∷ created 1 "H:gmd:1" ∷ assigned 2 "H:gmd:1" "f" "1" ∷ failed 1 "H:gmd:1" ∷ [])
 
--- the next connection of a slot is awake and owed no NOOP
+-- a slot's next connection is awake and owed no NOOP
 abbrev pub SleepNotInherited : Type 0
 SleepNotInherited =
     let steps =
@@ -79,7 +79,7 @@ SleepNotInherited =
     × Owes four_slots (steps ++ pre_sleep 1 ∷ []) (1 ∷ [])
     × Owes four_slots (steps ++ pre_sleep 1 ∷ Close 1 ∷ connect ∷ []) []
 
--- the next connection of a slot isn't shut
+-- a slot's next connection isn't shut
 abbrev pub ShutNotInherited : Type 0
 ShutNotInherited =
     let steps =
@@ -95,7 +95,7 @@ ShutNotInherited =
     × Takes four_slots later (says 1 "version")
     × Takes four_slots later (Fault 1 BadMagic)
 
--- the next connection of a slot gets no results of jobs that the one before it submitted
+-- a slot's next connection gets no results of the last one's jobs
 abbrev pub ListenerNotInherited : Type 0
 ListenerNotInherited =
     Plays four_slots (
@@ -103,7 +103,7 @@ ListenerNotInherited =
     ∷ grab_job 2 ∷ work_complete 2 "H:gmd:1" "x" ∷ []) (
     created 1 "H:gmd:1" ∷ created 0 "H:gmd:1" ∷ assigned 2 "H:gmd:1" "f" "1" ∷ completed 0 "H:gmd:1" "x" ∷ [])
 
--- the next connection of a slot doesn't run the jobs of the one before it, or get its bytes
+-- a slot's next connection doesn't run the last one's jobs, or get its bytes
 abbrev pub WorkNotInherited : Type 0
 WorkNotInherited =
     let steps =
@@ -112,7 +112,7 @@ WorkNotInherited =
     created 0 "H:gmd:1" ∷ assigned 1 "H:gmd:1" "f" "1" ∷ error 1 "job_not_found" "job not found" ∷ [])
     × Waits four_slots steps 1 ((error 1 "job_not_found" "job not found").1)
 
--- what waits for a connection is what was queued since its last drain; a closing drops it
+-- what waits is what was queued since the last drain; a closing drops it
 abbrev pub BytesWait : Type 0
 BytesWait =
     let steps =
@@ -125,7 +125,7 @@ BytesWait =
     × Waits four_slots (steps ++ Close 1 ∷ []) 1 []
     × Waits four_slots (steps ++ Close 1 ∷ []) 0 ((echoed 0 "x").1)
 
--- what was sent to a connection is all that was queued since it was opened, drained or not
+-- what was sent to a connection is all that was queued since its opening, drained or not
 abbrev pub BytesSent : Type 0
 BytesSent =
     IsSent four_slots (
@@ -180,7 +180,7 @@ LostJob =
     × Stands (given_to 1) (lost ++ Close 2 ∷ []) 1 places.Lost
     × Stands (given_to 1) (lost ++ Close 2 ∷ Tick 5 ∷ []) 1 places.Gone
 
--- the jobs of a worker that disconnects wait again, and wake only sleeping workers that can do them
+-- a disconnected worker's jobs wait again, and wake only sleeping workers that can do them
 abbrev pub WokenByReturn : Type 0
 WokenByReturn =
     let steps =
@@ -189,7 +189,7 @@ WokenByReturn =
     Owes four_slots steps []
     × Owes four_slots (steps ++ Close 1 ∷ []) (2 ∷ [])
 
--- A worker that disconnects isn't woken for its own job, and neither is the next connection of its slot
+-- a worker that disconnects isn't woken for its own job, nor is its slot's next connection
 abbrev pub NotItself : Type 0
 NotItself =
     let steps =
@@ -212,7 +212,7 @@ KeptJob =
     ∷ grab_job 2 ∷ []) (
     created 0 "H:gmd:1" ∷ created 1 "H:gmd:1" ∷ assigned 2 "H:gmd:1" "f" "a" ∷ [])
 
--- A closing discards the waiting jobs that nobody else wants, and no others
+-- a closing discards exactly the waiting jobs that are unwanted after it
 abbrev pub OnlyUnwanted : Type 0
 OnlyUnwanted =
     Plays four_slots (
@@ -222,7 +222,7 @@ OnlyUnwanted =
     created 0 "H:gmd:1" ∷ created 0 "H:gmd:2" ∷ created 1 "H:gmd:2" ∷ created 0 "H:gmd:3" ∷ created 1 "H:gmd:4"
     ∷ assigned 2 "H:gmd:2" "f" "2" ∷ assigned 2 "H:gmd:3" "f" "4" ∷ assigned 2 "H:gmd:4" "f" "5" ∷ no_job 2 ∷ [])
 
--- A running job goes on when its listeners disconnect, and is discarded when its worker disconnects too
+-- without listeners a running job goes on, and is discarded when its worker disconnects too
 abbrev pub RunsOn : Type 0
 RunsOn =
     Plays four_slots (
@@ -233,7 +233,7 @@ RunsOn =
     ∷ status 2 "H:gmd:1" true true "0" "0" ∷ status 2 "H:gmd:1" false false "0" "0" ∷ status 2 "H:gmd:2" true true "0" "0"
     ∷ status 2 "H:gmd:2" false false "0" "0" ∷ no_job 2 ∷ [])
 
--- only the jobs of the worker that disconnects stop running; a kept one waits again, before those of lower priority
+-- only the disconnected worker's jobs stop running; a kept one waits again, before lower priorities
 abbrev pub OnlyItsJobs : Type 0
 OnlyItsJobs =
     Plays four_slots (

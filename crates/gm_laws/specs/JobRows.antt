@@ -20,7 +20,7 @@ Priorities =
     created 0 "H:gmd:1" ∷ created 0 "H:gmd:2" ∷ created 0 "H:gmd:3" ∷ assigned 1 "H:gmd:3" "f" "h"
     ∷ assigned 1 "H:gmd:2" "f" "n" ∷ assigned 1 "H:gmd:1" "f" "l" ∷ no_job 1 ∷ [])
 
--- the six kinds of submission: high before normal before low, in the background too
+-- in the background too, high goes before normal before low
 abbrev pub SixPriorities : Type 0
 SixPriorities =
     Plays defaults (
@@ -31,7 +31,7 @@ SixPriorities =
     ∷ created 0 "H:gmd:6" ∷ assigned 1 "H:gmd:3" "f" "hb" ∷ assigned 1 "H:gmd:6" "f" "h" ∷ assigned 1 "H:gmd:2" "f" "nb"
     ∷ assigned 1 "H:gmd:5" "f" "n" ∷ assigned 1 "H:gmd:1" "f" "lb" ∷ assigned 1 "H:gmd:4" "f" "l" ∷ no_job 1 ∷ [])
 
--- the six kinds of submission: only background jobs stay when their client disconnects
+-- only background jobs stay when their client disconnects, at each priority
 abbrev pub SixKeepings : Type 0
 SixKeepings =
     Plays defaults (
@@ -42,7 +42,7 @@ SixKeepings =
     ∷ created 0 "H:gmd:6" ∷ assigned 1 "H:gmd:3" "f" "hb" ∷ assigned 1 "H:gmd:2" "f" "nb" ∷ assigned 1 "H:gmd:1" "f" "lb"
     ∷ no_job 1 ∷ [])
 
--- the six kinds of submission: a foreground client gets the outcome, a background client doesn't
+-- at each priority a foreground client gets the outcome, a background client doesn't
 abbrev pub SixHearings : Type 0
 SixHearings =
     Plays defaults (
@@ -64,7 +64,7 @@ JoinedListeners =
     created 0 "H:gmd:1" ∷ created 0 "H:gmd:1" ∷ assigned 1 "H:gmd:1" "f" "a" ∷ completed 0 "H:gmd:1" "ok"
     ∷ completed 0 "H:gmd:1" "ok" ∷ [])
 
--- joining keeps the job as it was made; only a foreground submission adds a listener
+-- joining keeps the job as made; only a foreground submission adds a listener
 abbrev pub JoinedJob : Type 0
 JoinedJob =
     Plays defaults (
@@ -81,7 +81,7 @@ JoiningKeys =
     ∷ submit_job 0 "g" "x" "e" ∷ []) (
     created 0 "H:gmd:1" ∷ created 0 "H:gmd:2" ∷ created 0 "H:gmd:3" ∷ created 0 "H:gmd:4" ∷ created 0 "H:gmd:5" ∷ [])
 
--- A running job can be joined too, and that wakes no worker
+-- a running job can be joined, which wakes no worker
 abbrev pub JoinsRunning : Type 0
 JoinsRunning =
     let steps =
@@ -92,7 +92,7 @@ JoinsRunning =
     ∷ completed 3 "H:gmd:1" "x" ∷ [])
     × Owes four_slots steps []
 
--- WORK_COMPLETE and WORK_FAIL end a job: it ends once, is unknown afterwards, and can't be joined
+-- WORK_COMPLETE and WORK_FAIL end a job once; then it is unknown, and can't be joined
 abbrev pub EndedJobs : Type 0
 EndedJobs =
     Plays defaults (
@@ -105,7 +105,7 @@ EndedJobs =
     ∷ failed 0 "H:gmd:2" ∷ error 1 "job_not_found" "job not found" ∷ status 0 "H:gmd:2" false false "0" "0" ∷ created 0 "H:gmd:3"
     ∷ status 0 "H:gmd:3" true false "0" "0" ∷ assigned 1 "H:gmd:3" "f" "3" ∷ no_job 1 ∷ [])
 
--- reports by another worker, on a waiting job, or with a handle that was never printed, are refused
+-- reports by another worker, on a waiting job, or with a handle never printed are refused
 abbrev pub OnlyItsWorker : Type 0
 OnlyItsWorker =
     Plays defaults (
@@ -129,7 +129,7 @@ Progress =
     ∷ status 0 "H:gmd:1" true true "03" "100" ∷ error 0 "job_not_found" "job not found" ∷ data_was 0 "H:gmd:1" "z"
     ∷ warned 0 "H:gmd:1" "" ∷ [])
 
--- the last WORK_STATUS numbers of a job stay while it waits again
+-- a job's last WORK_STATUS numbers stay while it waits again
 abbrev pub ReportKept : Type 0
 ReportKept =
     Plays defaults (
@@ -168,7 +168,7 @@ QueueLimit =
     line 0 "OK" ∷ created 0 "H:gmd:1" ∷ error 0 "queue_full" "queue full" ∷ created 0 "H:gmd:1" ∷ line 0 "OK"
     ∷ created 0 "H:gmd:2" ∷ counts 0 (("f", "2", "0", "0") ∷ []) ∷ [])
 
--- A limit of `maxqueue` counts the function's jobs that wait or run; the last one set holds
+-- `maxqueue` counts a function's jobs that wait or run; the last limit holds
 abbrev pub LimitCounts : Type 0
 LimitCounts =
     Plays defaults (
@@ -195,7 +195,7 @@ LastNumber =
     connect ∷ submit_job 0 "f" "a" "1" ∷ submit_job 0 "f" "b" "2" ∷ submit_job 0 "f" "a" "3" ∷ []) (
     created 0 "H:gmd:18446744073709551615" ∷ error 0 "no_numbers" "no numbers" ∷ created 0 "H:gmd:18446744073709551615" ∷ [])
 
--- A submission is refused for its function's name, then for the number of functions, for the limit, and for job numbers
+-- a submission is refused for its function's name, then the number of functions, the limit, and job numbers
 abbrev pub RefusalOrder : Type 0
 RefusalOrder =
     Plays (settings 18446744073709551615 4 1) (

@@ -17,7 +17,7 @@ use Rattle.gm_laws.specs.RowWords.{echoed, error, Plays, Refuses, Takes}
 abbrev pub named : List ℕ → Settings
 named name = record (settings 1 4 9) { name = name }
 
--- requests that touch no job: an echo, nothing, an unknown type, and malformed data
+-- requests without a job: an echo, nothing, an unknown type, malformed data
 abbrev pub PlainAnswers : Type 0
 PlainAnswers =
     Plays four_slots (
@@ -52,7 +52,7 @@ Faults =
     × Takes four_slots steps (Close 2)
     × Refuses four_slots steps (connect) NoSlot
 
--- the answer to `workers`; a function that is added again keeps its position
+-- the answer to `workers`; adding a function again doesn't move it
 abbrev pub WorkersText : Type 0
 WorkersText =
     Plays defaults (
@@ -69,7 +69,7 @@ OpenConnections =
     connect_from "a" ∷ connect_from "b" ∷ connect_from "c" ∷ Close 1 ∷ Fault 2 BadMagic ∷ says 0 "workers" ∷ []) (
     error 2 "bad_magic" "bad magic" ∷ page 0 ("0 a - :" ∷ "2 c - :" ∷ "." ∷ []) ∷ [])
 
--- `status` lists functions in the order of mention, with their jobs, running jobs and workers
+-- `status` lists functions in order of mention, with jobs, running jobs and workers
 abbrev pub StatusText : Type 0
 StatusText =
     Plays four_slots (
@@ -137,7 +137,7 @@ Modes =
     × GoesOn four_slots (connect ∷ connect ∷ says 0 "shutdown graceful" ∷ says 1 "shutdown" ∷ []) modes.Stopped
     × GoesOn four_slots (connect ∷ connect ∷ says 1 "shutdown" ∷ says 0 "shutdown graceful" ∷ []) modes.Stopped
 
--- A slot is shut after its fault or a `shutdown`, until it is closed
+-- a slot is shut after a fault or `shutdown`, until it is closed
 abbrev pub ShutSlots : Type 0
 ShutSlots =
     let steps = connect ∷ connect ∷ connect ∷ Fault 1 BadMagic ∷ [] in
@@ -153,7 +153,7 @@ RefusalNumbers =
     × (map unit_fault_number (BadMagic ∷ PacketTooLarge ∷ LineTooLong ∷ []) ≡ 3 ∷ 4 ∷ 5 ∷ [])
     × (map config_error_number (BadName ∷ BadNumber ∷ BadSlots ∷ BadFunctions ∷ []) ≡ 17 ∷ 18 ∷ 19 ∷ 20 ∷ [])
 
--- valid settings: a name of 1 to 40 letters, digits, dots and hyphens, a first number from 1, 1 to 1,024 slots, 1 to 65,536
+-- valid settings: names of 1 to 40 letters, digits, dots and hyphens; first numbers from 1; 1 to 1,024 slots; 1 to 65,536
 -- functions
 abbrev pub SettingsInRange : Type 0
 SettingsInRange =

@@ -7,7 +7,7 @@ use Rattle.gm_laws.specs.RowWords.{submit_job, grab_job, work_complete, get_stat
 use Rattle.gm_laws.specs.RowWords.{can_do_timeout, grab_job_uniq, line, created, no_job, assigned, assigned_uniq, completed}
 use Rattle.gm_laws.specs.RowWords.{failed, status, error, Plays, Owes, Refuses}
 
--- A grab tries the functions in the order in which they were added; adding one again doesn't move it
+-- a grab tries functions in the order in which they were added; adding one again doesn't move it
 abbrev pub AbilityOrder : Type 0
 AbilityOrder =
     Plays defaults (
@@ -28,7 +28,7 @@ RoundRobin =
     Plays in_turn steps (accepted ++ assigned 1 "H:gmd:1" "a" "1" ∷ assigned 1 "H:gmd:3" "b" "3" ∷ assigned 1 "H:gmd:2" "a" "2" ∷ [])
     × Plays defaults steps (accepted ++ assigned 1 "H:gmd:1" "a" "1" ∷ assigned 1 "H:gmd:2" "a" "2" ∷ assigned 1 "H:gmd:3" "b" "3" ∷ [])
 
--- A new connection begins with its first function, whatever its slot was given before
+-- a new connection begins with its first function, whatever its slot did before
 abbrev pub RoundRobinAnew : Type 0
 RoundRobinAnew =
     Plays in_turn (
@@ -38,7 +38,7 @@ RoundRobinAnew =
     created 0 "H:gmd:1" ∷ created 0 "H:gmd:2" ∷ created 0 "H:gmd:3" ∷ assigned 1 "H:gmd:1" "a" "1"
     ∷ assigned 1 "H:gmd:3" "a" "3" ∷ [])
 
--- A grab gets only jobs of functions that this worker can do now
+-- a grab gets only jobs of functions that the worker can do now
 abbrev pub OnlyItsFunctions : Type 0
 OnlyItsFunctions =
     Plays defaults (
@@ -46,7 +46,7 @@ OnlyItsFunctions =
     ∷ cant_do 1 "f" ∷ grab_job 1 ∷ can_do 1 "f" ∷ reset_abilities 1 ∷ grab_job 1 ∷ grab_job 2 ∷ []) (
     created 0 "H:gmd:1" ∷ no_job 1 ∷ no_job 1 ∷ no_job 1 ∷ assigned 2 "H:gmd:1" "f" "1" ∷ [])
 
--- the jobs of one function and priority are given out in the order in which they came
+-- jobs of one function and priority are given out in the order in which they came
 abbrev pub QueueOrder : Type 0
 QueueOrder =
     Plays defaults (
@@ -63,7 +63,7 @@ OneWake =
     Plays defaults steps (created 0 "H:gmd:1" ∷ [])
     × Owes defaults steps (1 ∷ [])
 
--- A worker that was woken and is awake isn't woken again
+-- a worker that was woken isn't woken again while it is awake
 abbrev pub OneWakeThen : Type 0
 OneWakeThen =
     let steps =
@@ -79,7 +79,7 @@ AllWake =
     connect ∷ connect ∷ connect ∷ connect ∷ can_do 1 "f" ∷ pre_sleep 1 ∷ can_do 2 "g" ∷ pre_sleep 2 ∷ can_do 3 "f"
     ∷ pre_sleep 3 ∷ submit_job_bg 0 "f" "a" "1" ∷ []) (1 ∷ 3 ∷ [])
 
--- A worker that can no longer do the function isn't woken; a submitter that can do it is
+-- a worker that can no longer do the function isn't woken; a submitter that can is
 abbrev pub OnlyAbleWake : Type 0
 OnlyAbleWake =
     Owes four_slots (
@@ -102,7 +102,7 @@ WorkBeforeAbility =
     Plays defaults steps (created 0 "H:gmd:1" ∷ [])
     × Owes defaults steps (2 ∷ [])
 
--- A new ability wakes only a sleeping worker, and only if a job of that function waits
+-- a new ability wakes only a sleeping worker, and only if a job waits for it
 abbrev pub OnlyItsWork : Type 0
 OnlyItsWork =
     let steps =
@@ -119,7 +119,7 @@ WorkBeforeGrab =
     created 0 "H:gmd:1" ∷ assigned 1 "H:gmd:1" "f" "1" ∷ [])
     × Owes defaults steps (1 ∷ [])
 
--- A sleeping worker that grabs is awake again, and the next job doesn't wake it
+-- a sleeping worker that grabs is awake, and the next job doesn't wake it
 abbrev pub GrabStirs : Type 0
 GrabStirs =
     let steps =
@@ -138,14 +138,14 @@ StaleNoop =
     created 0 "H:gmd:1" ∷ assigned 2 "H:gmd:1" "f" "1" ∷ created 0 "H:gmd:2" ∷ [])
     × Owes defaults steps (1 ∷ [])
 
--- A worker that is owed a NOOP stays owed it, also when no job waits any more and it goes to sleep again
+-- an owed NOOP stays owed, even if no job waits any more and the worker goes to sleep again
 abbrev pub StillOwed : Type 0
 StillOwed =
     Owes four_slots (
     connect ∷ connect ∷ connect ∷ can_do 1 "f" ∷ pre_sleep 1 ∷ can_do 2 "f" ∷ submit_job_bg 0 "f" "a" "1" ∷ grab_job 2
     ∷ pre_sleep 1 ∷ []) (1 ∷ [])
 
--- after its NOOP is withdrawn a worker is awake and owed none, and is woken if it goes to sleep beside work
+-- after its NOOP is withdrawn a worker is awake and owed none, until it goes to sleep beside work
 abbrev pub WithdrawnNoop : Type 0
 WithdrawnNoop =
     let steps =
@@ -155,7 +155,7 @@ WithdrawnNoop =
     × Refuses four_slots steps (Withdrew 1) NotOwed
     × Owes four_slots (steps ++ pre_sleep 1 ∷ []) (1 ∷ [])
 
--- A NOOP is taken once; none is owed to a worker that sleeps, or to a slot that isn't open
+-- a NOOP is taken once; no sleeping worker is owed one, and no slot that isn't open
 abbrev pub TakenNoop : Type 0
 TakenNoop =
     let steps =
@@ -202,7 +202,7 @@ TimeStands =
     ∷ says 1 "version" ∷ Tick 15 ∷ []) (
     created 0 "H:gmd:1" ∷ assigned 1 "H:gmd:1" "f" "1" ∷ line 1 "OK 1.0.0" ∷ failed 0 "H:gmd:1" ∷ [])
 
--- before the first tick the clock is at 0; a deadline is below 2^64, and the tick that reaches it fails the job
+-- the clock begins at 0; a deadline is below 2^64, and the tick that reaches it fails the job
 abbrev pub EdgesOfTime : Type 0
 EdgesOfTime =
     Plays defaults (
@@ -223,7 +223,7 @@ ExpiredTogether =
     ∷ status 0 "H:gmd:1" false false "0" "0" ∷ status 0 "H:gmd:2" false false "0" "0" ∷ status 0 "H:gmd:3" true false "0" "0"
     ∷ assigned 1 "H:gmd:3" "f" "4" ∷ [])
 
--- A job that waits again has no deadline, and its next worker doesn't inherit the last one's
+-- a job that waits again has no deadline, and its next worker doesn't inherit one
 abbrev pub DeadlineForgotten : Type 0
 DeadlineForgotten =
     Plays defaults (

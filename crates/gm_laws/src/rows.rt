@@ -26,17 +26,17 @@ pub fn priorities()
     ensures { Priorities }
 {}
 
-/// The six kinds of submission: high before normal before low, in the background too.
+/// In the background too, high goes before normal before low.
 pub fn six_priorities()
     ensures { SixPriorities }
 {}
 
-/// The six kinds of submission: only background jobs stay when their client disconnects.
+/// Only background jobs stay when their client disconnects, at each priority.
 pub fn six_keepings()
     ensures { SixKeepings }
 {}
 
-/// The six kinds of submission: a foreground client gets the outcome, a background client doesn't.
+/// At each priority a foreground client gets the outcome, a background client doesn't.
 pub fn six_hearings()
     ensures { SixHearings }
 {}
@@ -46,7 +46,7 @@ pub fn joined_listeners()
     ensures { JoinedListeners }
 {}
 
-/// Joining keeps the job as it was made; only a foreground submission adds a listener.
+/// Joining keeps the job as made; only a foreground submission adds a listener.
 pub fn joined_job()
     ensures { JoinedJob }
 {}
@@ -56,17 +56,17 @@ pub fn joining_keys()
     ensures { JoiningKeys }
 {}
 
-/// A running job can be joined too, and that wakes no worker.
+/// A running job can be joined, which wakes no worker.
 pub fn joins_running()
     ensures { JoinsRunning }
 {}
 
-/// WORK_COMPLETE and WORK_FAIL end a job: it ends once, is unknown afterwards, and can't be joined.
+/// WORK_COMPLETE and WORK_FAIL end a job once; then it is unknown, and can't be joined.
 pub fn ended_jobs()
     ensures { EndedJobs }
 {}
 
-/// Reports by another worker, on a waiting job, or with a handle that was never printed, are refused.
+/// Reports by another worker, on a waiting job, or with a handle never printed are refused.
 pub fn only_its_worker()
     ensures { OnlyItsWorker }
 {}
@@ -76,7 +76,7 @@ pub fn progress()
     ensures { Progress }
 {}
 
-/// The last WORK_STATUS numbers of a job stay while it waits again.
+/// A job's last WORK_STATUS numbers stay while it waits again.
 pub fn report_kept()
     ensures { ReportKept }
 {}
@@ -96,7 +96,7 @@ pub fn queue_limit()
     ensures { QueueLimit }
 {}
 
-/// A limit of `maxqueue` counts the function's jobs that wait or run; the last one set holds.
+/// `maxqueue` counts a function's jobs that wait or run; the last limit holds.
 pub fn limit_counts()
     ensures { LimitCounts }
 {}
@@ -111,7 +111,7 @@ pub fn last_number()
     ensures { LastNumber }
 {}
 
-/// A submission is refused for its function's name, then for the number of functions, for the limit, and for job numbers.
+/// A submission is refused for its function's name, then the number of functions, the limit, and job numbers.
 pub fn refusal_order()
     ensures { RefusalOrder }
 {}
@@ -133,7 +133,7 @@ pub fn places()
 
 // ---- workers
 
-/// A grab tries the functions in the order in which they were added; adding one again doesn't move it.
+/// A grab tries functions in the order in which they were added; adding one again doesn't move it.
 pub fn ability_order()
     ensures { AbilityOrder }
 {}
@@ -143,17 +143,17 @@ pub fn round_robin()
     ensures { RoundRobin }
 {}
 
-/// A new connection begins with its first function, whatever its slot was given before.
+/// A new connection begins with its first function, whatever its slot did before.
 pub fn round_robin_anew()
     ensures { RoundRobinAnew }
 {}
 
-/// A grab gets only jobs of functions that this worker can do now.
+/// A grab gets only jobs of functions that the worker can do now.
 pub fn only_its_functions()
     ensures { OnlyItsFunctions }
 {}
 
-/// The jobs of one function and priority are given out in the order in which they came.
+/// Jobs of one function and priority are given out in the order in which they came.
 pub fn queue_order()
     ensures { QueueOrder }
 {}
@@ -163,7 +163,7 @@ pub fn one_wake()
     ensures { OneWake }
 {}
 
-/// A worker that was woken and is awake isn't woken again.
+/// A worker that was woken isn't woken again while it is awake.
 pub fn one_wake_then()
     ensures { OneWakeThen }
 {}
@@ -173,7 +173,7 @@ pub fn all_wake()
     ensures { AllWake }
 {}
 
-/// A worker that can no longer do the function isn't woken; a submitter that can do it is.
+/// A worker that can no longer do the function isn't woken; a submitter that can is.
 pub fn only_able_wake()
     ensures { OnlyAbleWake }
 {}
@@ -188,7 +188,7 @@ pub fn work_before_ability()
     ensures { WorkBeforeAbility }
 {}
 
-/// A new ability wakes only a sleeping worker, and only if a job of that function waits.
+/// A new ability wakes only a sleeping worker, and only if a job waits for it.
 pub fn only_its_work()
     ensures { OnlyItsWork }
 {}
@@ -198,7 +198,7 @@ pub fn work_before_grab()
     ensures { WorkBeforeGrab }
 {}
 
-/// A sleeping worker that grabs is awake again, and the next job doesn't wake it.
+/// A sleeping worker that grabs is awake, and the next job doesn't wake it.
 pub fn grab_stirs()
     ensures { GrabStirs }
 {}
@@ -208,17 +208,17 @@ pub fn stale_noop()
     ensures { StaleNoop }
 {}
 
-/// A worker that is owed a NOOP stays owed it, also when no job waits any more and it goes to sleep again.
+/// An owed NOOP stays owed, even if no job waits any more and the worker goes to sleep again.
 pub fn still_owed()
     ensures { StillOwed }
 {}
 
-/// After its NOOP is withdrawn a worker is awake and owed none, and is woken if it goes to sleep beside work.
+/// After its NOOP is withdrawn a worker is awake and owed none, until it goes to sleep beside work.
 pub fn withdrawn_noop()
     ensures { WithdrawnNoop }
 {}
 
-/// A NOOP is taken once; none is owed to a worker that sleeps, or to a slot that isn't open.
+/// A NOOP is taken once; no sleeping worker is owed one, and no slot that isn't open.
 pub fn taken_noop()
     ensures { TakenNoop }
 {}
@@ -243,7 +243,7 @@ pub fn time_stands()
     ensures { TimeStands }
 {}
 
-/// Before the first tick the clock is at 0; a deadline is below 2^64, and the tick that reaches it fails the job.
+/// The clock begins at 0; a deadline is below 2^64, and the tick that reaches it fails the job.
 pub fn edges_of_time()
     ensures { EdgesOfTime }
 {}
@@ -253,7 +253,7 @@ pub fn expired_together()
     ensures { ExpiredTogether }
 {}
 
-/// A job that waits again has no deadline, and its next worker doesn't inherit the last one's.
+/// A job that waits again has no deadline, and its next worker doesn't inherit one.
 pub fn deadline_forgotten()
     ensures { DeadlineForgotten }
 {}
@@ -265,7 +265,7 @@ pub fn least_slot()
     ensures { LeastSlot }
 {}
 
-/// A submission's receipt names the job that it made, and none if it joined one or was refused.
+/// A submission's receipt names the job that it made, if it made one.
 pub fn made_jobs()
     ensures { MadeJobs }
 {}
@@ -275,47 +275,47 @@ pub fn slots_spent()
     ensures { SlotsSpent }
 {}
 
-/// Steps at a slot that isn't open are refused, apart from drains; ticks are taken.
+/// Steps at a slot that isn't open are refused, but for drains; ticks are taken.
 pub fn closed_slots()
     ensures { ClosedSlots }
 {}
 
-/// The next connection of a slot has its own address, no id and no functions.
+/// A slot's next connection has its own address, no id and no functions.
 pub fn nothing_inherited()
     ensures { NothingInherited }
 {}
 
-/// The next connection of a slot doesn't have the exceptions option.
+/// A slot's next connection doesn't have the exceptions option.
 pub fn option_not_inherited()
     ensures { OptionNotInherited }
 {}
 
-/// The next connection of a slot is awake and owed no NOOP.
+/// A slot's next connection is awake and owed no NOOP.
 pub fn sleep_not_inherited()
     ensures { SleepNotInherited }
 {}
 
-/// The next connection of a slot isn't shut.
+/// A slot's next connection isn't shut.
 pub fn shut_not_inherited()
     ensures { ShutNotInherited }
 {}
 
-/// The next connection of a slot gets no results of jobs that the one before it submitted.
+/// A slot's next connection gets no results of the last one's jobs.
 pub fn listener_not_inherited()
     ensures { ListenerNotInherited }
 {}
 
-/// The next connection of a slot doesn't run the jobs of the one before it, or get its bytes.
+/// A slot's next connection doesn't run the last one's jobs, or get its bytes.
 pub fn work_not_inherited()
     ensures { WorkNotInherited }
 {}
 
-/// What waits for a connection is what was queued since its last drain; a closing drops it.
+/// What waits is what was queued since the last drain; a closing drops it.
 pub fn bytes_wait()
     ensures { BytesWait }
 {}
 
-/// What was sent to a connection is all that was queued since it was opened, drained or not.
+/// What was sent to a connection is all that was queued since its opening, drained or not.
 pub fn bytes_sent()
     ensures { BytesSent }
 {}
@@ -340,12 +340,12 @@ pub fn lost_job()
     ensures { LostJob }
 {}
 
-/// The jobs of a worker that disconnects wait again, and wake only sleeping workers that can do them.
+/// A disconnected worker's jobs wait again, and wake only sleeping workers that can do them.
 pub fn woken_by_return()
     ensures { WokenByReturn }
 {}
 
-/// A worker that disconnects isn't woken for its own job, and neither is the next connection of its slot.
+/// A worker that disconnects isn't woken for its own job, nor is its slot's next connection.
 pub fn not_itself()
     ensures { NotItself }
 {}
@@ -360,24 +360,24 @@ pub fn kept_job()
     ensures { KeptJob }
 {}
 
-/// A closing discards the waiting jobs that nobody else wants, and no others.
+/// A closing discards exactly the waiting jobs that are unwanted after it.
 pub fn only_unwanted()
     ensures { OnlyUnwanted }
 {}
 
-/// A running job goes on when its listeners disconnect, and is discarded when its worker disconnects too.
+/// Without listeners a running job goes on, and is discarded when its worker disconnects too.
 pub fn runs_on()
     ensures { RunsOn }
 {}
 
-/// Only the jobs of the worker that disconnects stop running; a kept one waits again, before those of lower priority.
+/// Only the disconnected worker's jobs stop running; a kept one waits again, before lower priorities.
 pub fn only_its_jobs()
     ensures { OnlyItsJobs }
 {}
 
 // ---- lines
 
-/// Requests that touch no job: an echo, nothing, an unknown type, and malformed data.
+/// Requests without a job: an echo, nothing, an unknown type, malformed data.
 pub fn plain_answers()
     ensures { PlainAnswers }
 {}
@@ -392,7 +392,7 @@ pub fn faults()
     ensures { Faults }
 {}
 
-/// The answer to `workers`; a function that is added again keeps its position.
+/// The answer to `workers`; adding a function again doesn't move it.
 pub fn workers_text()
     ensures { WorkersText }
 {}
@@ -402,7 +402,7 @@ pub fn open_connections()
     ensures { OpenConnections }
 {}
 
-/// `status` lists functions in the order of mention, with their jobs, running jobs and workers.
+/// `status` lists functions in order of mention, with jobs, running jobs and workers.
 pub fn status_text()
     ensures { StatusText }
 {}
@@ -437,7 +437,7 @@ pub fn modes()
     ensures { Modes }
 {}
 
-/// A slot is shut after its fault or a `shutdown`, until it is closed.
+/// A slot is shut after a fault or `shutdown`, until it is closed.
 pub fn shut_slots()
     ensures { ShutSlots }
 {}
@@ -447,7 +447,7 @@ pub fn refusal_numbers()
     ensures { RefusalNumbers }
 {}
 
-/// Valid settings: a name of 1 to 40 letters, digits, dots and hyphens, a first number from 1, 1 to 1,024 slots, 1 to 65,536
+/// Valid settings: names of 1 to 40 letters, digits, dots and hyphens; first numbers from 1; 1 to 1,024 slots; 1 to 65,536
 /// functions.
 pub fn settings_in_range()
     ensures { SettingsInRange }

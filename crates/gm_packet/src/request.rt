@@ -284,6 +284,7 @@ fn texts<'a>(request: &Request<'a>) -> Texts<'a>
     }
 }
 
+// By hand: the derived one's proof cost more than any other function's.
 /// The kind and the arguments.
 impl Debug for Request<'_> {
     fn fmt<W: Write>(&self, f: &mut Formatter<W>) -> fmt::Result {

@@ -160,6 +160,7 @@ fn texts<'a>(response: &Response<'a>) -> Texts<'a>
     }
 }
 
+// By hand: the derived one's proof cost more than any other function's.
 /// The packet type and the arguments.
 impl Debug for Response<'_> {
     fn fmt<W: Write>(&self, f: &mut Formatter<W>) -> fmt::Result {
