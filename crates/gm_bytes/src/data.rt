@@ -1,4 +1,4 @@
-//! The data of a packet, whoever owns them.
+//! The data of a packet, and their owners.
 
 ghost use Rattle.std.specs.Prelude.{◌≡◌, IfSome};
 ghost use Rattle.std.specs.Option.{ForSome, unwrap_or};
@@ -12,8 +12,8 @@ use std::fmt::{Debug, Formatter, Write};
 /// The fewest bytes of data that are shared, and not copied each time that they are kept or passed on.
 pub const LONG: usize = 65_536;
 
-/// Bytes that are lent: the data of a packet, or the end of them. Where they lie in a buffer with several owners, whoever
-/// keeps them or passes them on can own it as well, and copies no byte. Contracts see the bytes.
+/// Bytes that are lent: the data of a packet, or the end of them. Where they lie in a buffer with several owners, code
+/// that keeps them or passes them on can own it as well, and copies no byte. Contracts see the bytes.
 #[derive(Clone, Copy)]
 pub struct Data<'a> {
     bytes: &'a [u8],
@@ -66,7 +66,7 @@ impl<'a> Data<'a> {
         whole.suffix(from).ok()
     }
 
-    /// For who keeps them: one owner more of the buffer in which they lie, or else the bytes that are to be copied.
+    /// To keep them: one owner more of the buffer in which they lie, or the bytes that are to be copied.
     pub fn keep(&self) -> (Option<SharedBytes>, &'a [u8])
         ensures { unwrap_or result.0 result.1.now ≡ self.now.bytes.now }
     {

@@ -191,7 +191,7 @@ impl Conn {
         self.timeout_of(f).is_some()
     }
 
-    /// Where the ability for a function stands.
+    /// The position of the ability for a function.
     pub(crate) fn index_of(&self, f: u32) -> Option<usize>
         ensures value { result ≡ index_of f self.now }
         ensures within { IfSome result (λ i. i < length self.now.abilities) }

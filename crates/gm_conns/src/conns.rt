@@ -218,7 +218,7 @@ impl Conns {
         conn.timeout_of(f)
     }
 
-    /// Where the ability for the function stands, in the order added.
+    /// The position of the ability for the function, in the order added.
     pub fn index_of(&self, slot: u32, f: u32) -> Option<usize>
         requires { IsOpen self.now slot }
         ensures value { result ≡ index_of f (conn self.now slot) }

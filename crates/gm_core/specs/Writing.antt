@@ -13,7 +13,7 @@ pub record Text : Type 0 where
 abbrev pub copied_text : List ℕ → Text
 copied_text bytes = record { bytes = bytes; cost = length bytes; is_shared = false; owners = 0 }
 
--- it can be put to so many queues
+-- it can be put to this number of queues
 abbrev pub IsFor : ℕ → Text → Type 0
 IsFor count text = IsTrue text.is_shared → count ≤ text.owners
 

@@ -103,7 +103,7 @@ impl Core {
         self.conns.take_touched()
     }
 
-    /// As `apply`, for who holds a lock: where a job ends whose body is shared, `freed` becomes an owner of it, so that it
+    /// As `apply`, for a caller with a lock: where a job ends whose body is shared, `freed` becomes an owner of it, so that it
     /// can be freed later, as it may be long.
     pub fn apply_locked(
         &mut self,

@@ -12,7 +12,7 @@ use crate::written::Written;
 use gm_conns::Conns;
 use std::alloc::AllocError;
 
-/// Whether a slot hears: it is open, and wants exceptions where only those who do hear.
+/// Whether a slot gets it: it is open, and has the exceptions option where that is needed.
 fn can_hear(conns: &Conns, slot: u32, exceptions_only: bool) -> bool
     ensures value { result ≡ hears conns.now exceptions_only slot }
     ensures open { IsTrue result → IsOpen conns.now slot }

@@ -77,7 +77,7 @@ fn without_body<'a>(response: &Response<'a>) -> Option<Response<'a>>
     }
 }
 
-/// Says in the header of a packet that so many bytes follow behind it, which belong to it.
+/// Says in the header of a packet that this many bytes follow behind it, which belong to it.
 fn lengthen(packet: &mut Vec<u8>, count: usize) -> Result<(), AllocError>
     requires { 12 ≤ length packet.old.items }
     ensures { OnOk result (packet.new.items ≡ take 8 packet.old.items ++ to_be_bytes w32 ((length packet.old.items - 12) + count) ++ drop 12 packet.old.items) }
@@ -164,7 +164,7 @@ impl Written {
         Ok(())
     }
 
-    /// Makes it ready to be put to so many queues.
+    /// Makes it ready to be put to this number of queues.
     pub(crate) fn own(&mut self, count: usize) -> Result<(), AllocError>
         ensures ok { OnOk result (IsFor count self.new) }
         ensures bytes { self.new.bytes ≡ self.old.bytes }

@@ -18,7 +18,7 @@ struct Unloaded {
     units: u64,
     /// The last job that they made.
     created: Option<u64>,
-    /// The fault that stands after them.
+    /// The fault after them.
     fault: Option<UnitFault>,
 }
 

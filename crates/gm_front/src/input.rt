@@ -6,7 +6,7 @@ ghost use Rattle.gm_front.specs.declared.input.StepError.TheVariants.{Refused};
 use gm_bytes::ByteQueue;
 use gm_notes::{ApplyError, Done};
 
-/// What comes from outside. A slot is the small number that stands for a connection while it is open.
+/// What comes from outside. A slot is the small number of a connection while it is open.
 #[derive(Clone, Copy, Debug)]
 pub enum Input<'a> {
     /// A connection is opened, from this address.

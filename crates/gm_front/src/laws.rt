@@ -25,7 +25,7 @@ pub fn any_cut()
         → Reads k limits (after ++ Gives c back ∷ Gives c front ∷ before) parts → whole ≡ parts }
 {}
 
-/// A closing forgets the rest: who isn't open has none, and who is opened begins without one.
+/// A closing forgets the rest: a slot that isn't open has none, and a connection begins without one.
 pub fn closing_forgets()
     ensures forgets { (k : Settings) (limits : Limits) (inputs : List Input) (reading : Reading) (c : ℕ)
         → Reads k limits inputs reading → is_open c (run k reading.steps).notes ≡ false → reading.rests c ≡ [] }

@@ -10,7 +10,7 @@ use gm_bytes::Data;
 use gm_feeder::{FeedFault, Feeder, Unit};
 use gm_notes::{Event, UnitFault};
 
-/// What stands next in a connection's bytes.
+/// What comes next in a connection's bytes.
 #[derive(Clone, Copy, Debug)]
 pub enum Next<'f> {
     /// A unit, as an event of the slot.
@@ -21,7 +21,7 @@ pub enum Next<'f> {
     Fault(UnitFault),
 }
 
-/// Takes the next unit out of a feeder, as an event of the connection's slot, or says what stands there instead.
+/// Takes the next unit out of a feeder, as an event of the connection's slot, or says what comes there instead.
 /// A fault stays: it is answered again.
 pub fn next_event(feeder: &mut Feeder, slot: u32) -> Next<'_>
     ensures sized { IsSizedNext result }

@@ -75,7 +75,7 @@ pub(crate) struct Control<'s, K: BookName> {
     begun: Option<Instant>,
     /// The last second that was told.
     second: u64,
-    /// Whether it was said that connections are refused for want of descriptors.
+    /// Whether it was said that connections wait because descriptors ran out.
     has_warned: bool,
 }
 

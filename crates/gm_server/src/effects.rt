@@ -1,4 +1,4 @@
-//! What came of events, for those who are to be told.
+//! What came of events, for the threads that are notified.
 
 ghost use Rattle.std.specs.Prelude.{◌≡◌, ℕ, false, Some, IfSome, IfNone, IsTrue};
 ghost use Rattle.gm_conns.specs.Slots.{has};

@@ -25,7 +25,7 @@ const WRITER_TIMEOUT: u64 = 250;
 /// late.
 const ENDING_TIME: u64 = 2_000;
 
-/// How often one who isn't the writer looks in a row, where the lane is touched again and again.
+/// How often a thread that isn't the writer looks in a row, where the lane is touched again and again.
 const MOST_LOOKS: u32 = 16;
 
 /// Whether `time` milliseconds have passed since this was first asked; `begun` keeps when that was. If the clock can't be
@@ -91,7 +91,7 @@ impl<K: BookName> Outgoing<K> {
         }
     }
 
-    /// Sends what there is to send, and ends the connection where it is over. It is done in a look at the lane alone.
+    /// Sends what there is to send, and ends the connection where it is over. It is done only in a look at the lane.
     fn deliver(&mut self, rt: &impl Wait, shared: &Shared<K>, _looking: &Looking<'_>) -> Delivery
         ensures delivers { IfSome self.old.stream (λ stream. (old new : Option (List ℕ)) × Delivers K.settings K.taped result self.old.outbox.pen.slot
             self.old.outbox.pen.seat.takes self.new.outbox.pen.seat.takes self.old.outbox.pen.share.items self.new.outbox.pen.share.items old new
@@ -126,7 +126,7 @@ struct Crew {
 }
 
 /// What a slot has of its own. The desk is the reader's while a connection has the slot, and the parker the writer's. What
-/// is to be sent is with whoever the word says has the lane, so its lock is waited for only where a connection comes or goes.
+/// is to be sent is with the thread that has the lane, so its lock is waited for only where a connection comes or goes.
 #[derive(Drop)]
 pub(crate) struct Lane<K: BookName> {
     pub(crate) desk: Mutex<OwnDesk<K>>,
@@ -221,7 +221,7 @@ impl<K: BookName> Lane<K> {
         self.wake_writer();
     }
 
-    /// Takes a connection, as its reader. The last one left the lane late, so somebody has to look before touches count.
+    /// Takes a connection, as its reader. The last one left the lane late, so a thread has to look before touches count.
     pub(crate) fn begin(&self, rt: &impl Wait, shared: &Shared<K>, stream: Arc<TcpStream, Global>) {
         self.outgoing.lock(rt).begin(stream);
         if let Ok(owed) = self.word.take_over() {
@@ -260,15 +260,15 @@ impl<K: BookName> Lane<K> {
         drop(outgoing);
     }
 
-    /// Tells the lane that there may be something to send, which is left to the writer, or to who looks anyway.
+    /// Tells the lane that there may be something to send, which is left to the writer, or to the thread that looks anyway.
     pub(crate) fn touch_for_writer(&self) {
-        // An error means that somebody else looks after this touch.
+        // An error means that another thread looks after this touch.
         if let Ok(owed) = self.word.touch() {
             let _tally = owed.hand_over(|_| self.wake_writer());
         }
     }
 
-    /// Tells the lane that there may be something to send, and sends it, unless somebody else has the lane and so looks after
+    /// Tells the lane that there may be something to send, and sends it, unless another thread has the lane and so looks after
     /// this. It says whether it found the peer slow.
     pub(crate) fn touch(&self, rt: &impl Wait, shared: &Shared<K>) -> bool {
         match self.word.touch() {
@@ -283,7 +283,7 @@ impl<K: BookName> Lane<K> {
         let mut owed = owed;
         for _ in 0..MOST_LOOKS {
             let (looking, (is_ending, delivery)) = owed.look(|looking| {
-                // Read first: who asks for the end wakes the writer, who touches the lane after that.
+                // Read first: the thread that asks for the end wakes the writer, which touches the lane after that.
                 let is_ending = self.is_ending.load(Ordering::SeqCst);
                 let delivery = self.outgoing.lock(rt).deliver(rt, shared, looking);
                 (is_ending, delivery)
@@ -364,7 +364,7 @@ impl<K: BookName> Lane<K> {
                     break;
                 }
             } else if let Ok(owed) = self.word.take_over() {
-                // An error means that somebody else looks after this, and hands the lane over where the connection is to end.
+                // An error means that another thread looks after this, and hands the lane over where the connection is to end.
                 if self.write_owed(rt, shared, owed) {
                     self.release(rt);
                     continue;

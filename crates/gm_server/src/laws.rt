@@ -34,7 +34,7 @@ pub fn a_job_ends_once()
     ensures { JobsEndOnce }
 {}
 
-/// In the step of the tape that ends a job, each connection is told of it exactly as often as it listened to the job just before.
+/// In the step of the tape that ends a job, each connection gets it exactly as often as it listened to the job just before.
 pub fn listeners_are_told()
     ensures { ListenersAreTold }
 {}
@@ -50,7 +50,7 @@ pub fn no_worker_sleeps_beside_its_work()
     ensures { NoWorkerSleepsBesideItsWork }
 {}
 
-/// At each moment of the tape each job that waits is wanted: a background submission keeps it, or somebody listens to it.
+/// At each moment of the tape each job that waits is wanted: a background submission keeps it, or a slot listens to it.
 pub fn waiting_jobs_are_wanted()
     ensures { WaitingJobsAreWanted }
 {}

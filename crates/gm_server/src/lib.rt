@@ -2,8 +2,8 @@
 //! program `gmd` is given.
 //!
 //! A connection has two threads. Its reader cuts what it reads into units and hands them to the book; its writer
-//! waits until something is to be sent that nobody else sends. Whoever queued something for a connection touches its lane,
-//! and sends it, unless somebody else has the lane, who then looks again; a slow peer is left to the writer.
+//! waits until something is to be sent that no other thread sends. A thread that queued something for a connection touches its
+//! lane, and sends it, unless another thread has the lane, which then looks again; a slow peer is left to the writer.
 #![tactic(auto)]
 
 mod accepting;

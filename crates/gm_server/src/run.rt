@@ -33,7 +33,7 @@ enum RunError {
     /// The arguments are invalid, and that was said.
     #[error("invalid arguments")]
     Arguments,
-    /// The name can't stand in a job handle.
+    /// The name can't be part of a job handle.
     #[error("invalid --name: use 1 to 40 letters, digits, dots and hyphens")]
     Name,
     /// A port or an address is given, and a socket is handed over.

@@ -58,7 +58,7 @@ pub struct Ended {
 }
 
 /// Serves the connections that a listener takes, with a book that has a name, and settles the book in the end: `serve`,
-/// which hands back the tape, and what each desk and pen was told of it.
+/// which hands back the tape, and the share of each desk and pen.
 pub fn serve_book<
     K: BookName + Send + Sync,
     R: Threads + Wait + Clock + Eprint + Sync,
@@ -94,7 +94,7 @@ pub fn serve_book<
     })
 }
 
-/// What is told of a server that ended so.
+/// What is answered of a server that ended so.
 fn served(connections: u64, book: &Result<Settled, SettleError>) -> Result<Served, ServeError>
     ensures ends { (k : BookSettings) (taped : Bool) → SettledSo k taped book.now → EndsSo k taped result }
     ensures connections { IfOk result (λ served. served.connections ≡ connections) }
@@ -111,7 +111,7 @@ fn served(connections: u64, book: &Result<Settled, SettleError>) -> Result<Serve
     }
 }
 
-/// The same (`serve`). Once the book stands, and before a connection is taken, `ready` tells so; where it can't, the
+/// The same (`serve`). Once the book is open, and before a connection is taken, `ready` says so; where it can't, the
 /// server ends at once.
 pub(crate) fn serve_announced<R: Threads + Wait + Clock + Eprint + Sync, G: Gate, T: Ready>(
     rt: &R,

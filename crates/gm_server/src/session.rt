@@ -208,7 +208,7 @@ impl<'s, K: BookName, R: Wait, G: Gate, N: Notify<R>> Session<'s, K, R, G, N> {
         }
     }
 
-    /// Takes the next unit that stands in the feeder, or the fault that stands there. A long packet is taken with its
+    /// Takes the next unit in the feeder, or the fault there. A long packet is taken with its
     /// memory, so that its data are shared and not copied. Where the session is over, it says why.
     fn take_unit(&mut self, turn: &mut Turn<'s>) -> Result<Taken, SessionEnd>
         ensures takes { TakesNext K.settings K.taped self.old.applier.desk.now.number self.old.applier.slot self.old.feeder result self.old.applier.desk.now.share.items self.new.applier.desk.now.share.items self.new.feeder }
@@ -256,7 +256,7 @@ impl<'s, K: BookName, R: Wait, G: Gate, N: Notify<R>> Session<'s, K, R, G, N> {
         self.applier.apply_unit(Event::Packet { slot, kind, bytes })
     }
 
-    /// Takes each unit that stands in the feeder, and the fault after them. Where the session is over, it says why. Where
+    /// Takes each unit in the feeder, and the fault after them. Where the session is over, it says why. Where
     /// its turn is over, it tells what came of it, and others have theirs.
     fn unload(&mut self, length: usize) -> Result<(), SessionEnd>
         ensures unloads { Unloads K.settings K.taped self.old.applier.desk.now.number self.old.applier.slot self.old.feeder result self.old.applier.desk.now.share.items self.new.applier.desk.now.share.items self.new.feeder }
@@ -283,7 +283,7 @@ impl<'s, K: BookName, R: Wait, G: Gate, N: Notify<R>> Session<'s, K, R, G, N> {
         }
     }
 
-    /// Takes what stands in the feeder since a piece of this length came, and tells what came of it. Where the session is
+    /// Takes what is in the feeder since a piece of this length came, and notifies of what came of it. Where the session is
     /// over, it says why.
     fn take_piece(&mut self, len: usize) -> Result<(), SessionEnd>
         ensures told { IsNothing self.new.applier.effects }

@@ -18,7 +18,7 @@ use std::sync::atomic::{AtomicBool, AtomicU64, Ordering};
 use std::sync::{Arc, Mutex, Wait};
 use std::time::{Clock, Instant};
 
-/// How long one who isn't the writer goes on writing to others, in milliseconds. The writers do the rest.
+/// How long a thread that isn't the writer goes on writing to others, in milliseconds. The writers do the rest.
 const DELIVERING_TIME: u64 = 10;
 
 /// How long a session goes on before others are told what came of it, in milliseconds.
@@ -46,7 +46,7 @@ pub(crate) struct ServerState<K: BookName> {
     ghost sized: { slots ≡ K.settings.slots },
 }
 
-/// How far somebody is who delivers to others.
+/// How far a thread is that delivers to others.
 #[derive(Drop)]
 struct Round {
     has_begun: bool,
@@ -196,7 +196,7 @@ impl<K: BookName> ServerState<K> {
     }
 
     /// Touches the lane of each of the slots, and delivers where nobody else does, until a peer is found slow or the time
-    /// is over; then it has the writers do so. Who made the events is answered first: there may be a thousand others.
+    /// is over; then it has the writers do so. One's own connection is answered first: there may be a thousand others.
     fn deliver<R: Wait + Clock>(&self, rt: &R, effects: &Effects) {
         let mut round = Round::new();
         let own = effects.own_touched();
@@ -233,7 +233,7 @@ impl<K: BookName> ServerState<K> {
         receipt.done.opened
     }
 
-    /// Tells the book which second it is. If there is no memory for that, the book hears of the next second.
+    /// Tells the book which second it is. If there is no memory for that, the book gets the next second.
     pub(crate) fn tick<R: Wait + Clock>(&self, rt: &R, desk: &mut OwnDesk<K>, now: u64)
         ensures asks { Asks K.settings K.taped (Tick now) desk.old.desk.number desk.old.desk.share.items desk.new.desk.share.items }
         ensures number { desk.new.desk.number ≡ desk.old.desk.number }

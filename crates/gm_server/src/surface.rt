@@ -56,7 +56,7 @@ pub fn serve<R: Threads + Wait + Clock + Eprint + Sync, G: Gate>(
     serve_announced(rt, alloc, seed, listener, settings, gate, &mut Unannounced)
 }
 
-/// A session that is served alone: nobody is told, and nobody waits.
+/// A session that is served alone: it notifies no other, and waits for none.
 #[derive(Drop)]
 pub struct Alone {
     long_piece_lock: Mutex<()>,
@@ -85,7 +85,7 @@ impl<R> Notify<R> for Alone {
 
 /// Reads a connection's stream to its end, cuts it into units and applies each at the slot, in order; where no
 /// continuation of what came can be read, it applies that fault and ends. Each unit passes the gate first. The desk is the
-/// slot's. With a tape the desk is told of these events and of no others.
+/// slot's. With a tape the desk's share has these events and no others.
 pub fn read_session<'s, K: BookName, R: Wait, I: Read, G: Gate>(
     rt: &'s R,
     alloc: Global,

@@ -74,7 +74,7 @@ impl Booked {
         Ok((booked, table, pens))
     }
 
-    /// `apply`, which adds what the desk is told of the tape to its share.
+    /// `apply`, which adds to the desk's share what it entered on the tape.
     ///
     /// `touched` becomes the slots whose waiting bytes, phase or shut changed and to which something is to be delivered,
     /// and perhaps more: it is for them that a writer may have something to do. Where the event is refused there are none.
@@ -113,7 +113,7 @@ impl Booked {
         })
     }
 
-    /// `drain`, which adds what the pen is told of the tape to its share.
+    /// `drain`, which adds to the pen's share what it entered on the tape.
     pub(crate) fn drain_into(
         &mut self,
         pen: u32,

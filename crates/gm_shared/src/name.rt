@@ -8,7 +8,7 @@ use std::marker::Brand;
 
 /// Names the table of sleep words to which a book, its desks and its pens belong, so that none of them is used with
 /// another book's; and says under which settings the book serves, and whether it keeps a tape. It has no calls and costs
-/// nothing: whoever makes a `Blank` hands it to a function that is generic in its name, and calls that with `Brand`.
+/// nothing: a caller that makes a `Blank` hands it to a function that is generic in its name, and calls that with `Brand`.
 pub trait BookName {
     ghost table: { TableId };
 

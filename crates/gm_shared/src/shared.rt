@@ -31,7 +31,7 @@ pub struct Shared<K: BookName> {
 }
 
 /// Where one thread hands in events. Desks have numbers: one for each slot, and that of the control desk is the
-/// number of slots. Where a tape is kept, a desk remembers what it was told of it: its share.
+/// number of slots. Where a tape is kept, a desk keeps its part of it: its share.
 #[derive(Drop)]
 pub struct Desk<K: BookName> {
     pub(crate) number: u32,
@@ -40,7 +40,7 @@ pub struct Desk<K: BookName> {
 }
 
 /// What takes out of the book what waits for one slot: its NOOP, and its bytes. Its number on the tape is its slot's;
-/// it has a share as a desk has, which tells of drains of its slot alone.
+/// it has a share as a desk has, which has only drains of its slot.
 #[derive(Drop)]
 pub struct Pen<K: BookName> {
     pub(crate) slot: u32,
@@ -149,7 +149,7 @@ impl<K: BookName> Pen<K> {
 
     /// Takes the bytes that wait for the slot, which wait no more, and tells whether it is shut. `NotOpen` comes where
     /// the slot isn't open; it changes nothing. It may wait for the lock. Without a tape it needs no memory; with one
-    /// the pen is told of the drain, and `Memory` comes where there is none for that, and changes nothing.
+    /// the drain is in the pen's share, and `Memory` comes where there is none for that, and changes nothing.
     pub fn drain(&mut self, rt: &impl Wait, shared: &Shared<K>) -> Result<Drained, ApplyError>
         ensures emptied { Emptied K.settings K.taped self.old.slot self.old.slot result self.old.share.items self.new.share.items }
         ensures slot { self.new.slot ≡ self.old.slot }

@@ -64,8 +64,8 @@ impl Booked {
 
 impl<K: BookName> Desk<K> {
     /// Hands in an event, which takes effect in one holding of the lock, as `Booked::apply` says. It may wait for the
-    /// lock. Without a tape a closing never wants memory. With one the desk is told of the event and its place, after
-    /// what was found of a NOOP. It is for callers who tell nobody what the event touched.
+    /// lock. Without a tape a closing never lacks memory. With one the event and its place are in the desk's share, after
+    /// what was found of a NOOP. It is for callers that notify nobody of what the event touched.
     pub fn apply(
         &mut self,
         rt: &impl Wait,

@@ -30,7 +30,7 @@ impl Core {
             return;
         };
         let (f, p) = (found.f(), found.p());
-        // A job that waits stands in its queue.
+        // A job that waits is in its queue.
         if f >= self.functions.len() {
             return;
         }
@@ -70,7 +70,7 @@ impl Core {
         }
     }
 
-    /// Whether somebody wants a live job.
+    /// Whether a live job is wanted.
     fn is_wanted(&self, job: u64) -> bool
         ensures { result ≡ option_map_or (λ live. live.kept || not (length live.listeners == 0)) (jobs.job self.now.jobs job) false }
     {
@@ -80,7 +80,7 @@ impl Core {
         }
     }
 
-    /// A job that runs at a slot is given back if somebody wants it, and is discarded if not.
+    /// A job that runs at a slot is given back if it is wanted, and is discarded if not.
     fn give_back_one(&mut self, slot: u32, job: u64)
         requires { passes (is_run_by slot) (jobs.job self.old.jobs job) ≡ true }
         ensures { Goes self.old self.new (give_back_one self.old.config slot job) }

@@ -147,7 +147,7 @@ impl Core {
         Ok(text)
     }
 
-    /// Every function is listed, with its jobs and who can do it.
+    /// Every function is listed, with its jobs and workers.
     pub(super) fn list_functions(&mut self, slot: u32) -> Result<(), AllocError>
         requires { IsOpen self.old.conns slot }
         ensures { Does self.old result self.new (λ past. with_output slot (status_text (status_rows self.old.config past.notes)) past) }

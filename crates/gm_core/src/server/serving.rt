@@ -19,7 +19,7 @@ use gm_notes::{ApplyError, Done};
 use gm_packet::Response;
 use std::alloc::AllocError;
 
-/// Whether two next numbers are the same; none stands after the greatest of 64 bits.
+/// Whether two next numbers are the same; none comes after the greatest of 64 bits.
 fn is_same(one: Option<u64>, other: Option<u64>) -> bool
     ensures { (result ≡ true) ↔ (unwrap_or one (2 ^ 64) ≡ unwrap_or other (2 ^ 64)) }
 {

@@ -22,7 +22,7 @@ use gm_packet::Response;
 use gm_queues::Counts;
 use std::alloc::AllocError;
 
-/// Who listens to a job from the start: nobody, if it was submitted in the background.
+/// A job's first listener: none, if it was submitted in the background.
 fn first_listener(background: bool, slot: u32) -> Option<u32>
     ensures { result ≡ first_listener background slot }
 {

@@ -54,7 +54,7 @@ impl Core {
         Ok(Late { job, text })
     }
 
-    /// The jobs whose deadlines are reached, in the order of their numbers, with room for all that is told of them.
+    /// The jobs whose deadlines are reached, in the order of their numbers, with room for all that is queued of them.
     fn prepare_due(&mut self, now: u64) -> Result<VecDeque<Late>, AllocError>
         ensures goes { Goes self.old self.new (λ past. past) }
         ensures config { self.new.config ≡ self.old.config }
@@ -74,7 +74,7 @@ impl Core {
         Ok(lates)
     }
 
-    /// A running job whose deadline is reached has failed: its listeners hear of it, and its worker doesn't. It needs
+    /// A running job whose deadline is reached has failed: its listeners get WORK_FAIL, and its worker nothing. It needs
     /// no memory.
     fn expire(&mut self, mut late: Late)
         requires due { passes (is_due self.old.moment) (job_of self.old.jobs late.job) ≡ true }
@@ -101,7 +101,7 @@ impl Core {
         }
     }
 
-    /// So many seconds it is now; a clock that goes back counts as standing still. The jobs whose deadlines are reached
+    /// It is now this many seconds; a clock that goes back counts as standing still. The jobs whose deadlines are reached
     /// have failed.
     pub(super) fn tick(&mut self, now: u64) -> Result<Done, ApplyError>
         ensures answers { (k : Settings) (steps : List Step) → CoreAgrees self.old k steps

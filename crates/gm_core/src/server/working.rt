@@ -89,7 +89,7 @@ impl Core {
         }
     }
 
-    /// The packet that was written is queued to each connection that hears of a live job, where there is room.
+    /// The packet that was written is queued to each connection that listens to a live job, where there is room.
     fn tell_each(&mut self, job: u64, exceptions_only: bool)
         requires runs { IsRunning (job_of self.old.jobs job) }
         requires owned { IsFor (length (listeners_of (job_of self.old.jobs job))) self.old.text }
@@ -120,7 +120,7 @@ impl Core {
         Ok(())
     }
 
-    /// A running job ends, if so. It needs no memory. Whoever frees its body later owns it too.
+    /// A running job ends, if so. It needs no memory. The caller that frees its body later owns it too.
     fn end_if(&mut self, job: u64, ends: bool, freed: &mut Option<SharedBytes>)
         requires { IsRunning (job_of self.old.jobs job) }
         ensures { Goes self.old self.new (end_if ends job) }
