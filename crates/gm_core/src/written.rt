@@ -30,7 +30,7 @@ pub(crate) struct Written {
 }
 
 impl Model for Written {
-    ghost use Rattle.std.specs.Prelude.{◌≡◌, ◌+◌, ◌++◌, List, [], Option, is_some, IsTrue, All, length, if◌then◌else◌};
+    ghost use Rattle.std.specs.Prelude.{◌≡◌, ◌+◌, ◌++◌, [], Some, is_some, All, length};
     ghost use Rattle.std.specs.Option.{unwrap_or};
     ghost use Rattle.gm_core.specs.Writing.{Text, shared_room};
 

@@ -2,8 +2,6 @@
 use Rattle.std.specs.Prelude.{◌≡◌, ◌⊎◌, ℕ, ◌+◌, ◌<◌, Bool, true, false, ◌==◌, if◌then◌else◌, List, [], ◌∷◌, Option, Some, None, Result, Ok, Err}
 use Rattle.gm_notes.specs.declared.event.ApplyError.{ApplyError}
 use Rattle.gm_notes.specs.declared.event.ApplyError.TheVariants.{Memory, NotOpen}
-use Rattle.gm_notes.specs.declared.states.Phase.{Phase}
-use Rattle.gm_notes.specs.declared.states.Phase.TheVariants.{Owed}
 use Rattle.gm_notes.specs.Settings.{Settings}
 use Rattle.gm_notes.specs.Notes.{is_open, phase, mode}
 use Rattle.gm_notes.specs.Flow.{waiting}
@@ -59,25 +57,14 @@ pub record BookedAgrees (booked : Booked) (k : Settings) (steps : List Step) : T
 
 -- ---- one holding
 
--- nothing is to be delivered there: no bytes wait, no NOOP is owed, and it isn't shut
-abbrev pub IsIdle : List ℕ × Phase × Bool → Type 0
-IsIdle (bytes, goes, is_shut) = (bytes ≡ []) × (goes ≡ Owed → ⊥) × (is_shut ≡ false)
-
--- the event's own slot is in none of these, if it is open and nothing is to be delivered there
-abbrev pub IsLeftOut : Step → List ℕ → Booked → Type 0
-IsLeftOut s touched booked = (c : ℕ) → slot_of s ≡ Some c → c < booked.slots → (conn booked.core.conns c).is_open ≡ true
-    → IsIdle (outbox (conn booked.core.conns c)) → has touched c ≡ false
-
 -- The event was taken after these steps, as the receipt tells, and touched these slots.
 pub record IsTaken (k : Settings) (steps : List Step) (s : Step) (receipt : Receipt) (touched : List ℕ) (old new : Booked) : Type 0 where
   pub taken : refusal k s (run k steps) ≡ None
   pub done_is : receipt.done ≡ done k s (run k steps)
   pub mode_is : receipt.mode ≡ mode (run k (s ∷ steps)).notes
   pub agrees : BookedAgrees new k (s ∷ steps)
-  -- whose waiting bytes, phase or shut changed is among the touched slots, unless nothing is to be delivered there
-  pub missed : (c : ℕ) → has touched c ≡ false
-      → (outbox (conn new.core.conns c) ≡ outbox (conn old.core.conns c)) ⊎ IsIdle (outbox (conn new.core.conns c))
-  pub left_out : IsLeftOut s touched new
+  -- whose waiting bytes, phase or shut changed is among the touched slots
+  pub missed : (c : ℕ) → has touched c ≡ false → outbox (conn new.core.conns c) ≡ outbox (conn old.core.conns c)
 
 abbrev pub IsDone : Settings → List Step → Step → Result Receipt ApplyError → List ℕ → Booked → Booked → Type 0
 IsDone k steps s (Ok receipt) touched old new = IsTaken k steps s receipt touched old new

@@ -38,7 +38,7 @@ pub struct Booked {
 }
 
 impl Booked {
-    ghost use Rattle.gm_shared.specs.Books.{Holds, BookedAgrees, Held, NeedsNoMemory, Drains, AsksWord, FollowsAt, FollowsCore, IsIdle, IsLeftOut};
+    ghost use Rattle.gm_shared.specs.Books.{Holds, BookedAgrees, Held, NeedsNoMemory, Drains, AsksWord, FollowsAt, FollowsCore};
     ghost use Rattle.gm_shared.specs.Events.{slot_of, MayFind, entered};
     ghost use Rattle.gm_notes.specs.Withdrawals.{withdraws_noop};
     ghost use Rattle.gm_shared.specs.Tapes.{is_on};
@@ -76,8 +76,8 @@ impl Booked {
 
     /// `apply`, which adds to the desk's share what it entered on the tape.
     ///
-    /// `touched` becomes the slots whose waiting bytes, phase or shut changed and to which something is to be delivered,
-    /// and perhaps more: it is for them that a writer may have something to do. Where the event is refused there are none.
+    /// `touched` becomes the slots whose waiting bytes, phase or shut changed, and perhaps more: it is for them that a writer
+    /// may have something to do. Where the event is refused there are none.
     /// The set is the caller's, and not a part of the receipt, because a receipt is moved at each return. `freed` becomes what
     /// is to be freed once no lock is held: the body of a job that ended.
     pub(crate) fn hold(
@@ -105,7 +105,6 @@ impl Booked {
         let done = self.core.apply_locked(event, freed)?;
         let at = self.tape.enter_event(share, desk, copies, done);
         self.follow(table, event, touched);
-        self.leave_out_idle(event, touched);
         Ok(Receipt {
             at,
             done,
@@ -227,32 +226,6 @@ impl Booked {
             let phase = self.core.phase(slot);
             sync_word(&mut self.seat, table, slot, phase);
             touched.insert(slot);
-        }
-    }
-
-    /// Whether a slot is open, and nothing is to be delivered there.
-    fn is_idle(&self, slot: u32) -> bool
-        ensures idle { result ≡ true → IsIdle (outbox (conn self.now.core.conns slot)) }
-        ensures busy { result ≡ false → (conn self.now.core.conns slot).is_open ≡ true → IsIdle (outbox (conn self.now.core.conns slot)) → ⊥ }
-    {
-        let (conns, _, _) = self.core.parts();
-        conns.is_open(slot)
-            && !conns.phase(slot).is_owed()
-            && !conns.is_shut(slot)
-            && conns.waiting(slot).is_empty()
-    }
-
-    /// Takes the event's own slot out of those that it touched, if nothing is to be delivered there: a worker that goes to
-    /// sleep.
-    fn leave_out_idle(&self, event: &Event<'_>, touched: &mut SlotSet)
-        ensures others { (c : ℕ) → has touched.new c ≡ false → (has touched.old c ≡ false) ⊎ IsIdle (outbox (conn self.now.core.conns c)) }
-        ensures own { IsLeftOut (step_of event.now) touched.new self.now }
-    {
-        if let Some(slot) = slot_of(event)
-            && slot < self.slots
-            && self.is_idle(slot)
-        {
-            touched.remove(slot);
         }
     }
 }

@@ -86,8 +86,7 @@ returns-clause-holding c = λ k steps h.
             holds = agrees_after k event before c.resolve_noop-noop.new.self _ c.follow.new.self c.follow.new.touched found.1 refl refl answer.1 c.in_ok-done.ensures.touched c.follow.ensures.follows calm;
             tape = all_kept;
           };
-          missed = λ d left. elim (c.leave_out_idle.ensures.others d left) [ inr idle ↦ inr idle | inl was ↦ inl (lanes_after k event before c.resolve_noop-noop.new.self _ c.follow.new.self c.follow.new.touched found.1 refl refl answer.1 c.in_ok-done.ensures.touched c.follow.ensures.follows calm c.args.self.now steps h.holds.core c.resolve_noop-noop.ensures.touched d was) ];
-          left_out = c.leave_out_idle.ensures.own;
+          missed = λ d left. lanes_after k event before c.resolve_noop-noop.new.self _ c.follow.new.self c.follow.new.touched found.1 refl refl answer.1 c.in_ok-done.ensures.touched c.follow.ensures.follows calm c.args.self.now steps h.holds.core c.resolve_noop-noop.ensures.touched d left;
         };
         tape = grows_twice (noop_entries desk noop) _ old then_ new _ _ noop_all last;
         place = c.enter_event-at.ensures.place (tape_step (step_of event)) copies ∙ place_after _ old then_ _ noop_all;
