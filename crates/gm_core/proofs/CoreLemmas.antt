@@ -145,8 +145,8 @@ module _ {old new : Core} (c : ℕ) (only : OnlyConns old new) where
       goes_conn c unseen unpoured (λ past. past) only changes (touched_apart c (λ x. refl) changes) (λ p keeps. record { opens = λ x. refl; shown = λ x able. refl; waiting = λ x. refl; able = λ x able. able })
       (record { opens = λ p. refl; seen = λ p d. same_here (d == c) (seen d p.notes); waiting = λ p d. same_here (d == c) (waiting d p.flow); functions = λ p. refl; jobs = λ p. refl; moment = λ p. refl; mode = λ p. refl })
 
-  pub goes_printed : {cost : ℕ} (bytes : List ℕ) → Changes c (conns.with_bytes bytes cost) true old.conns new.conns → Goes old new (with_output c bytes)
-  goes_printed bytes changes =
+  pub goes_printed : (bytes : List ℕ) (cost : ℕ) → Changes c (conns.with_bytes bytes cost) true old.conns new.conns → Goes old new (with_output c bytes)
+  goes_printed bytes cost changes =
       goes_conn c unseen (λ w. w ++ bytes) (with_output c bytes) only changes (touched_told c changes) (λ p keeps. record { opens = λ x. refl; shown = λ x able. refl; waiting = λ x. refl; able = λ x able. able })
       (record { opens = λ p. refl; seen = λ p d. same_here (d == c) (seen d p.notes); waiting = λ p d. refl; functions = λ p. refl; jobs = λ p. refl; moment = λ p. refl; mode = λ p. refl })
 

@@ -1,6 +1,6 @@
 //! A packet or a text that is to be queued.
 
-ghost use Rattle.std.specs.Prelude.{◌≡◌, ◌+◌, ◌-◌, ◌≤◌, ◌++◌, [], true, IfSome, IfOk, OnOk, length, take, drop};
+ghost use Rattle.std.specs.Prelude.{◌≡◌, ◌+◌, ◌-◌, ◌≤◌, ◌++◌, [], true, Some, IfSome, IfOk, OnOk, All, length, take, drop};
 ghost use Rattle.std.specs.Int.{w32, to_be_bytes};
 ghost use Rattle.gm_packet.specs.Answers.{Answer, answer_of, answer_packet};
 ghost use Rattle.gm_packet.specs.Packets.{Fits};
@@ -90,6 +90,22 @@ fn lengthen(packet: &mut Vec<u8>, count: usize) -> Result<(), AllocError>
     Ok(())
 }
 
+/// Adds owners of the body until there are this many.
+fn share_each(
+    body: &SharedBytes,
+    owners: &mut Vec<SharedBytes>,
+    count: usize,
+) -> Result<(), AllocError>
+    ensures ok { OnOk result (count ≤ length owners.new.items) }
+    ensures all { All (λ owner. Some body.now ≡ Some owner) owners.old.items → All (λ owner. Some body.now ≡ Some owner) owners.new.items }
+{
+    while owners.len() < count {
+        let owner = body.suffix(0)?;
+        owners.push(owner)?;
+    }
+    Ok(())
+}
+
 impl Written {
     /// Nothing.
     pub(crate) fn new(alloc: Global) -> Written
@@ -170,14 +186,10 @@ impl Written {
         ensures bytes { self.new.bytes ≡ self.old.bytes }
         ensures cost { self.new.cost ≡ self.old.cost }
     {
-        let Some(body) = &self.body else {
-            return Ok(());
-        };
-        while self.owners.len() < count {
-            let owner = body.suffix(0)?;
-            self.owners.push(owner)?;
+        match &self.body {
+            Some(body) => share_each(body, &mut self.owners, count),
+            None => Ok(()),
         }
-        Ok(())
     }
 
     /// Queues it to a slot, where there is room.

@@ -1,6 +1,6 @@
 //! The book.
 
-ghost use Rattle.std.specs.Prelude.{◌≡◌, ◌⊎◌, ◌<◌, ◌≤◌, ◌++◌, ℕ, [], List, IfOk, IfErr, true, false, length, None};
+ghost use Rattle.std.specs.Prelude.{◌≡◌, ◌<◌, ◌≤◌, ◌++◌, ℕ, [], List, IfOk, IfErr, true, false, length, None};
 ghost use Rattle.gm_conns.specs.Slots.{has};
 ghost use Rattle.gm_conns.specs.ConnTables.{conn, is_touched};
 ghost use Rattle.gm_word.specs.Seats.{fresh_pens};

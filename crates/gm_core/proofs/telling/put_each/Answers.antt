@@ -7,7 +7,7 @@ use Rattle.gm_core.specs.Holds.{HoldsConns}
 use Rattle.gm_core.specs.Telling.{hears, poured, needed}
 use Rattle.gm_core.specs.Writing.{Text, IsFor}
 use Rattle.gm_core.proofs.ConnLemmas.{touched_then, touched_told}
-use Rattle.gm_core.proofs.TellLemmas.{put_hears, put_room, put_left, put_holds, heard_next, unheard_next}
+use Rattle.gm_core.proofs.TellLemmas.{text_put, owned_put, text_same, owned_same, put_hears, put_room, put_left, put_holds, heard_next, unheard_next}
 use Rattle.gm_core.proofs.telling.put_each.Goals as goal
 use Rattle.gm_core.proofs.telling.put_each.Goals.{then-can_hear, else-can_hear}
 
@@ -31,8 +31,8 @@ loop-slot-preserved c =
             hear = λ b d. put_hears c.loop-slot.conns w.put.new.conns x text cost put b d ∙ c.loop-slot.invariant.hear b d;
             room = put_room c.loop-slot.conns w.put.new.conns x text cost put (filter P (drop (i + 1) slots))
                 (λ d. subst (λ (l : List ℕ). needed cost d l ≤ (conn c.loop-slot.conns d).room) next (c.loop-slot.invariant.room d));
-            text = ?;
-            owned = ?;
+            text = text_put c.args.text.now c.loop-slot.text c.if-can_hear.text c.loop-slot.invariant.text slots i c.loop-slot.invariant.owned c.loop-slot-test.true (w.text-is ∙ w.put.ensures.text);
+            owned = owned_put c.args.text.now c.loop-slot.text c.if-can_hear.text c.loop-slot.invariant.text slots i c.loop-slot.invariant.owned c.loop-slot-test.true (w.text-is ∙ w.put.ensures.text);
             touched = touched_then c.loop-slot.invariant.touched (touched_told x put);
             left = put_left c.loop-slot.conns w.put.new.conns x text cost put (filter P (drop (i + 1) slots)) (λ d. (conn c.args.conns.now d).room) (λ d. needed cost d (filter P slots))
                 (λ d. subst (λ (l : List ℕ). needed cost d l ≤ (conn c.loop-slot.conns d).room) next (c.loop-slot.invariant.room d))
@@ -51,8 +51,8 @@ loop-slot-preserved c =
           rw w.conns-is (record {
             hear = c.loop-slot.invariant.hear;
             room = λ d. subst (λ (l : List ℕ). needed cost d l ≤ (conn c.loop-slot.conns d).room) next (c.loop-slot.invariant.room d);
-            text = ?;
-            owned = ?;
+            text = text_same c.args.text.now c.loop-slot.text c.if-can_hear.text c.loop-slot.invariant.text slots i c.loop-slot.invariant.owned c.loop-slot-test.true w.text-is;
+            owned = owned_same c.args.text.now c.loop-slot.text c.if-can_hear.text c.loop-slot.invariant.text slots i c.loop-slot.invariant.owned c.loop-slot-test.true w.text-is;
             touched = c.loop-slot.invariant.touched;
             left = λ d. subst (λ (l : List ℕ). (conn c.args.conns.now d).room + needed cost d l ≤ (conn c.loop-slot.conns d).room + needed cost d (filter P slots)) next (c.loop-slot.invariant.left d);
             holds = λ k names facts bytes held.

@@ -1,4 +1,5 @@
-use Rattle.std.proofs.Common.{◌≡◌, ◌∷◌, List, subst}
+use Rattle.std.proofs.Common.{◌≡◌, ◌∷◌, length, subst, arith}
+use Rattle.std.proofs.lemmas.List.{nil_from_length}
 use Rattle.gm_core.proofs.TickLemmas.{Expiring, expiring_begins, expiring_on, expiring_done, late_now, late_text, late_room}
 use Rattle.gm_core.proofs.server.Core.expire_each.Goals as goal
 
@@ -23,4 +24,6 @@ loop-late-preserved c =
     c.expire.ensures.goes c.expire.ensures.moment c.expire.ensures.jobs c.expire.ensures.poured
 
 pub returns : goal.returns
-returns c = ?
+returns c =
+    let none = nil_from_length c.loop-late.lates.items (omega (arith, c.loop-late.lates.ok.0, c.in_default.ensures.cases.0)) in
+    expiring_done c.args.self.now c.loop-late.self (subst (Expiring c.args.self.now c.loop-late.self) none c.loop-late.invariant)

@@ -45,3 +45,7 @@ pub returns-clause-late : goal.returns-clause-late
 returns-clause-late c =
     subst (AreLate c.args.self.now.config c.args.now c.args.self.now.jobs.live 0) (append-nil c.loop-job.lates.items)
     (c.loop-job.invariant.late [] (subst (λ (t : Table). IsLast (is_due c.args.now) c.loop-job.after t.live) c.loop-job.invariant.jobs c.in_default.ensures.last))
+
+pub returns-in_err-push_back-clause-goes : goal.returns-in_err-push_back-clause-goes
+returns-in_err-push_back-clause-goes c =
+    goes_then (goes_then c.loop-job.invariant.goes (goes_nothing refl refl refl c.in-Some.ensures.kept refl refl)) c.in_ok-late.ensures.goes

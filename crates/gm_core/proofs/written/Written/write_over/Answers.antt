@@ -10,14 +10,14 @@ use Rattle.gm_core.proofs.written.Written.write_over.Goals as goal
 pub lengthen-requires : goal.lengthen-requires
 lengthen-requires c =
     let items : c.write_response.new.out.items ≡ answer_packet (answer_of c.args.bare.now) =
-    c.in_ok-write_response.ensures.ok ∙ ap (λ (l : List ℕ). l ++ answer_packet (answer_of c.args.bare.now)) c.clear.ensures.items in
+    c.in_ok-write_response.ensures.ok ∙ ap (λ (l : List ℕ). l ++ answer_packet (answer_of c.args.bare.now)) c.clear-2.ensures.items in
     omega (arith, ap length items, length-packet response_magic (answer_of c.args.bare.now).kind (join_with_byte 0 (answer_of c.args.bare.now).arguments) refl)
 
 pub returns : goal.returns
 returns c answer same ends =
     let short = answer_of c.args.bare.now in
     let items : c.write_response.new.out.items ≡ answer_packet short =
-    c.in_ok-write_response.ensures.ok ∙ ap (λ (l : List ℕ). l ++ answer_packet short) c.clear.ensures.items in
+    c.in_ok-write_response.ensures.ok ∙ ap (λ (l : List ℕ). l ++ answer_packet short) c.clear-2.ensures.items in
     let count : length c.as_slice.result.now ≡ length c.args.body = ap length c.as_slice.ensures in
     written_over answer short c.args.body c.lengthen.new.packet.items same ends
     (c.in_ok-lengthen.ensures
