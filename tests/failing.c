@@ -150,7 +150,8 @@ int accept4(int fd, void *address, void *size, int flags) {
         return -1;
     }
     long taken = syscall(SYS_ACCEPT4, fd, address, size, flags);
-    left -= taken >= 0;
+    if (kind == ACCEPT)
+        left -= taken >= 0;
     return taken;
 }
 
