@@ -3,7 +3,8 @@
  * The variable FAIL is KIND:N, or KIND:N.. for the Nth and all that follow. KIND is growth (malloc, calloc and realloc),
  * read (read and recv), write (write and writev), or send (send and sendmsg). Where a call failed, a byte is written to the
  * descriptor of the variable FAIL_TOLD. Where KIND is accept, each accept after the Nth connection fails as that of a
- * listener that failed.
+ * listener that failed. Where FAIL is options, no call fails: before each send that descriptor gets five numbers, to which
+ * the socket's options are set (OPTION_NAMES).
  *
  * A test asks for it itself: a growth to 2^47 + N bytes, which succeeds nowhere else, has the Nth growth after it refused, and
  * one to 2^47 bytes ends that, and succeeds where one was refused. */
@@ -17,11 +18,16 @@ extern long syscall(long, ...);
 extern char *getenv(const char *);
 extern int *__errno_location(void);
 
-enum { NONE, GROWTH, READ, WRITE, SEND, ACCEPT };
-enum { SYS_READ = 0, SYS_WRITE = 1, SYS_WRITEV = 20, SYS_SENDTO = 44, SYS_RECVFROM = 45, SYS_SENDMSG = 46, SYS_ACCEPT4 = 288 };
+enum { NONE, GROWTH, READ, WRITE, SEND, ACCEPT, OPTIONS };
+enum { SYS_READ = 0, SYS_WRITE = 1, SYS_WRITEV = 20, SYS_SENDTO = 44, SYS_RECVFROM = 45, SYS_SENDMSG = 46, SYS_GETSOCKOPT = 55,
+       SYS_ACCEPT4 = 288 };
+enum { SOL_SOCKET = 1, SO_KEEPALIVE = 9, IPPROTO_TCP = 6, TCP_NODELAY = 1, TCP_KEEPIDLE = 4, TCP_KEEPINTVL = 5, TCP_KEEPCNT = 6 };
 enum { EIO = 5, ENOMEM = 12, EINVAL = 22 };
 
 static const size_t ASKED = 1ul << 47;
+
+static const int OPTION_NAMES[][2] = {{SOL_SOCKET, SO_KEEPALIVE}, {IPPROTO_TCP, TCP_KEEPIDLE}, {IPPROTO_TCP, TCP_KEEPINTVL},
+                                      {IPPROTO_TCP, TCP_KEEPCNT}, {IPPROTO_TCP, TCP_NODELAY}};
 
 static int kind;     /* which calls are counted */
 static int forever;  /* whether all fail from the Nth on */
@@ -44,11 +50,11 @@ static const char *after(const char *text, const char *word) {
 }
 
 __attribute__((constructor)) static void read_settings(void) {
-    static const char *const KINDS[] = {"", "growth:", "read:", "write:", "send:", "accept:"};
+    static const char *const KINDS[] = {"", "growth:", "read:", "write:", "send:", "accept:", "options"};
     const char *text = getenv("FAIL"), *number;
     if (getenv("FAIL_TOLD"))
         told = number_at(getenv("FAIL_TOLD"));
-    for (int at = GROWTH; text && at <= ACCEPT; at++)
+    for (int at = GROWTH; text && at <= OPTIONS; at++)
         if ((number = after(text, KINDS[at]))) {
             left = number_at(number);
             for (; *number; number++)
@@ -68,6 +74,18 @@ static int fails(int of, int error) {
         syscall(SYS_WRITE, told, "x", 1);
     *__errno_location() = error;
     return 1;
+}
+
+/* Tells what a socket's options are set to. */
+static void tell_options(int fd) {
+    enum { COUNT = sizeof OPTION_NAMES / sizeof *OPTION_NAMES };
+    int values[COUNT];
+    for (int at = 0; at < COUNT; at++) {
+        unsigned size = sizeof *values;
+        values[at] = -1;
+        syscall(SYS_GETSOCKOPT, fd, OPTION_NAMES[at][0], OPTION_NAMES[at][1], &values[at], &size);
+    }
+    syscall(SYS_WRITE, told, values, sizeof values);
 }
 
 /* A test asks. */
@@ -115,10 +133,14 @@ long writev(int fd, const void *parts, int count) {
 }
 
 long send(int fd, const void *bytes, size_t size, int flags) {
+    if (kind == OPTIONS)
+        tell_options(fd);
     return fails(SEND, EIO) ? -1 : syscall(SYS_SENDTO, fd, bytes, size, flags, 0, 0);
 }
 
 long sendmsg(int fd, const void *message, int flags) {
+    if (kind == OPTIONS)
+        tell_options(fd);
     return fails(SEND, EIO) ? -1 : syscall(SYS_SENDMSG, fd, message, flags);
 }
 
@@ -128,7 +150,8 @@ int accept4(int fd, void *address, void *size, int flags) {
         return -1;
     }
     long taken = syscall(SYS_ACCEPT4, fd, address, size, flags);
-    left -= taken >= 0;
+    if (kind == ACCEPT)
+        left -= taken >= 0;
     return taken;
 }
 
