@@ -45,7 +45,12 @@ fn bytes_shared(rt: HostRuntime) -> Result<(), Fail> {
     assert!(&rt; queue.room() >= 2);
     queue.put(b"on");
     let copy = queue.to_vec()?;
-    same(&rt, "a copy", &copy.as_slice(), &b"up totailtailandtailon".as_slice());
+    same(
+        &rt,
+        "a copy",
+        &copy.as_slice(),
+        &b"up totailtailandtailon".as_slice(),
+    );
     let chunks: [&[u8]; 6] = [b"up to", b"tail", b"tail", b"and", b"tail", b"on"];
     assert_takes(&rt, &mut queue, &chunks);
     Ok(())
