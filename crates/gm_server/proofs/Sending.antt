@@ -17,6 +17,10 @@ pub record Sending (old now : Option (List ℕ)) (due left : List ℕ) : Type 0 
 pub sending_none : (old : Option (List ℕ)) (due : List ℕ) → Sending old old due due
 sending_none old due = record { sent = []; written = Appends-nil old; whole = refl }
 
+-- some is left
+pub sending_late : (old now : Option (List ℕ)) (due left : List ℕ) → Sending old now due left → (left ≡ [] → ⊥) → SendsFront Late old now due left
+sending_late old now due left so_far some = record { sent = so_far.sent; written = so_far.written; whole = so_far.whole; done = λ is. absurd cc; undone = λ is. absurd (some is) }
+
 module _ (old now new : Option (List ℕ)) (due left after : List ℕ) (so_far : Sending old now due left) where
   joined : (sent : List ℕ) → left ≡ sent ++ after → due ≡ (so_far.sent ++ sent) ++ after
   joined sent whole = so_far.whole ∙ (ap (λ l. so_far.sent ++ l) whole ∙ sym (append_assoc so_far.sent sent after))
@@ -27,10 +31,6 @@ module _ (old now new : Option (List ℕ)) (due left after : List ℕ) (so_far :
     written = Appends-trans old now new so_far.sent sent so_far.written written;
     whole = joined sent whole;
   }
-
-  -- some is left
-  pub sending_late : (left ≡ [] → ⊥) → SendsFront Late old now due left
-  sending_late some = record { sent = so_far.sent; written = so_far.written; whole = so_far.whole; done = λ is. absurd cc; undone = λ is. absurd (some is) }
 
   -- the last write
   pub sending_last : (delivery : Delivery) → SendsFront delivery now new left after → SendsFront delivery old new due after

@@ -50,16 +50,16 @@ impl Message {
     pub fn send<W: Write>(&mut self, w: &mut W) -> Delivery
         ensures { SendsFront result (W.contents w.old) (W.contents w.new) (unsent self.old) (unsent self.new) }
     {
-        let mut writes = 0;
+        let mut writes_left = MOST_WRITES;
         loop {
             let chunk = self.next_chunk();
             if chunk.is_empty() {
                 return self.send_noop(w);
             }
-            if writes == MOST_WRITES {
+            if writes_left == 0 {
                 return Delivery::Late;
             }
-            writes += 1;
+            writes_left -= 1;
             let (count, delivery) = write_once(chunk, w);
             self.bytes.advance(count);
             match delivery {
@@ -89,7 +89,7 @@ pub(crate) struct Outbox<K: BookName> {
 }
 
 impl<K: BookName> Outbox<K> {
-    ghost use Rattle.gm_server.specs.Deliveries.{left_in, Sends, Delivers};
+    ghost use Rattle.gm_server.specs.Deliveries.{left_in, unsent, Sends, Delivers};
 
     pub(crate) fn new(pen: Pen<K>) -> Outbox<K>
         ensures pen { result.pen ≡ pen }
@@ -127,6 +127,19 @@ impl<K: BookName> Outbox<K> {
         delivery
     }
 
+    /// Sends a message, where nothing is left of the last one, and keeps what the peer is late to take.
+    fn send_next<W: Write>(&mut self, mut message: Message, w: &mut W) -> Delivery
+        requires { left_in self.old.left ≡ [] }
+        ensures sends { Sends ⊥ result (W.contents w.old) (W.contents w.new) (unsent message) (left_in self.new.left) }
+        ensures pen { self.new.pen ≡ self.old.pen }
+    {
+        let delivery = message.send(w);
+        if delivery == Delivery::Late {
+            self.left = Some(message);
+        }
+        delivery
+    }
+
     /// Sends what was left, and then what waits in the book: the bytes, and a NOOP where one is owed. Where the slot
     /// is shut and all is sent, the connection is over.
     pub(crate) fn deliver<W: Write>(
@@ -150,8 +163,7 @@ impl<K: BookName> Outbox<K> {
             Err(_) => return Delivery::Over,
         };
         let Drained { bytes, shut } = drained;
-        self.left = Some(Message::new(bytes, took));
-        match self.send_left(w) {
+        match self.send_next(Message::new(bytes, took), w) {
             Delivery::Done => { if shut { Delivery::Over } else { Delivery::Done } }
             Delivery::Late => Delivery::Late,
             Delivery::Over => Delivery::Over,

@@ -24,7 +24,7 @@ pub returns-then-shut-clause-delivers : goal.returns-then-shut-clause-delivers
 returns-then-shut-clause-delivers g c =
     let pen = c.in-Done.ensures.pen in
     let asked = c.take-took.ensures in
-    let sent = c.in-Done-send_left.ensures in
+    let sent = c.in-Done-send_next.ensures in
     delivers_last _ _ _ _ _ _ _ _ _ _ _ c.in-Done.ensures.sends c.take-took.result
     (takes_as _ _ _ _ _ (ap (λ p. p.seat.takes) pen) (ap (λ s. s.takes) (sym c.in-Ok.ensures.seat) ∙ ap (λ p. p.seat.takes) (sym sent.pen)) asked.takes)
     c.in-Ok.drained (emptied_as _ _ _ _ _ _ _ _ _ (asked.slot ∙ ap (λ p. p.slot) pen) (ap (λ s. s.items) asked.share ∙ ap (λ p. p.share.items) pen) (ap (λ p. p.share.items) (sym sent.pen)) c.in-Ok.ensures.emptied)
@@ -34,27 +34,27 @@ pub returns-else-shut-clause-delivers : goal.returns-else-shut-clause-delivers
 returns-else-shut-clause-delivers g c =
     let pen = c.in-Done.ensures.pen in
     let asked = c.take-took.ensures in
-    let sent = c.in-Done-send_left.ensures in
+    let sent = c.in-Done-send_next.ensures in
     delivers_more _ _ _ _ _ _ _ _ _ _ _ c.in-Done.ensures.sends c.take-took.result
     (takes_as _ _ _ _ _ (ap (λ p. p.seat.takes) pen) (ap (λ s. s.takes) (sym c.in-Ok.ensures.seat) ∙ ap (λ p. p.seat.takes) (sym sent.pen)) asked.takes)
     c.in-Ok.drained (emptied_as _ _ _ _ _ _ _ _ _ (asked.slot ∙ ap (λ p. p.slot) pen) (ap (λ s. s.items) asked.share ∙ ap (λ p. p.share.items) pen) (ap (λ p. p.share.items) (sym sent.pen)) c.in-Ok.ensures.emptied)
     _ _ _ c.new.ensures _ (λ is. c.if-shut.false) sent.sends
 
-pub returns-in-Late-send_left-clause-delivers : goal.returns-in-Late-send_left-clause-delivers
-returns-in-Late-send_left-clause-delivers g c =
+pub returns-in-Late-send_next-clause-delivers : goal.returns-in-Late-send_next-clause-delivers
+returns-in-Late-send_next-clause-delivers g c =
     let pen = c.in-Done.ensures.pen in
     let asked = c.take-took.ensures in
-    let sent = c.in-Late-send_left.ensures in
+    let sent = c.in-Late-send_next.ensures in
     delivers_more _ _ _ _ _ _ _ _ _ _ _ c.in-Done.ensures.sends c.take-took.result
     (takes_as _ _ _ _ _ (ap (λ p. p.seat.takes) pen) (ap (λ s. s.takes) (sym c.in-Ok.ensures.seat) ∙ ap (λ p. p.seat.takes) (sym sent.pen)) asked.takes)
     c.in-Ok.drained (emptied_as _ _ _ _ _ _ _ _ _ (asked.slot ∙ ap (λ p. p.slot) pen) (ap (λ s. s.items) asked.share ∙ ap (λ p. p.share.items) pen) (ap (λ p. p.share.items) (sym sent.pen)) c.in-Ok.ensures.emptied)
     _ _ _ c.new.ensures _ (λ is. absurd cc) sent.sends
 
-pub returns-in-Over-send_left-clause-delivers : goal.returns-in-Over-send_left-clause-delivers
-returns-in-Over-send_left-clause-delivers g c =
+pub returns-in-Over-send_next-clause-delivers : goal.returns-in-Over-send_next-clause-delivers
+returns-in-Over-send_next-clause-delivers g c =
     let pen = c.in-Done.ensures.pen in
     let asked = c.take-took.ensures in
-    let sent = c.in-Over-send_left.ensures in
+    let sent = c.in-Over-send_next.ensures in
     delivers_more _ _ _ _ _ _ _ _ _ _ _ c.in-Done.ensures.sends c.take-took.result
     (takes_as _ _ _ _ _ (ap (λ p. p.seat.takes) pen) (ap (λ s. s.takes) (sym c.in-Ok.ensures.seat) ∙ ap (λ p. p.seat.takes) (sym sent.pen)) asked.takes)
     c.in-Ok.drained (emptied_as _ _ _ _ _ _ _ _ _ (asked.slot ∙ ap (λ p. p.slot) pen) (ap (λ s. s.items) asked.share ∙ ap (λ p. p.share.items) pen) (ap (λ p. p.share.items) (sym sent.pen)) c.in-Ok.ensures.emptied)
