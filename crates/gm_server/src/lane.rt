@@ -21,9 +21,12 @@ const WRITE_TIMEOUT: u64 = 1;
 /// How long a write of the writer waits at a time, in milliseconds.
 const WRITER_TIMEOUT: u64 = 250;
 
-/// How long a connection that is to end has for what it is still to be sent, in milliseconds from when its writer first found it
-/// late.
+/// How long a connection that is to end has for what it is still to be sent, in milliseconds: while its peer takes nothing, or
+/// the server ends, from when its writer first found it late.
 const ENDING_TIME: u64 = 2_000;
+
+/// The same where its peer takes some.
+const MOST_ENDING_TIME: u64 = 30_000;
 
 /// How often a thread that isn't the writer looks in a row, where the lane is touched again and again.
 const MOST_LOOKS: u32 = 16;
@@ -44,6 +47,15 @@ pub(crate) fn is_over(rt: &impl Clock, begun: &mut Option<Instant>, time: u64) -
             begun.is_none()
         }
     }
+}
+
+/// How long a connection's end has taken.
+#[derive(Drop)]
+struct End {
+    /// When it was first looked at.
+    begun: Option<Instant>,
+    /// When the peer was first seen to take nothing, since it last took some.
+    stalled: Option<Instant>,
 }
 
 /// What is to be sent to a connection, and where.
@@ -141,6 +153,8 @@ pub(crate) struct Lane<K: BookName> {
     arrived: Condvar,
     // The connection is to end.
     is_ending: AtomicBool,
+    // So is the server.
+    is_stopping: AtomicBool,
 }
 
 impl<K: BookName> Lane<K> {
@@ -166,6 +180,7 @@ impl<K: BookName> Lane<K> {
             }),
             arrived: Condvar::new(),
             is_ending: AtomicBool::new(false),
+            is_stopping: AtomicBool::new(false),
         })
     }
 
@@ -249,6 +264,12 @@ impl<K: BookName> Lane<K> {
         self.wake_writer();
     }
 
+    /// As `request_close`, since the server ends.
+    pub(crate) fn stop(&self) {
+        self.is_stopping.store(true, Ordering::SeqCst);
+        self.request_close();
+    }
+
     /// Has the writer send what there is, and waits until it has let go of the connection.
     pub(crate) fn end(&self, rt: &impl Wait) {
         self.request_close();
@@ -301,7 +322,20 @@ impl<K: BookName> Lane<K> {
         false
     }
 
-    /// Delivers, and waits for a slow peer; where the connection is to end, not for long, however the peer takes it.
+    /// Whether a connection that is to end has had its time: a peer that takes some has more, unless the server ends.
+    fn is_end_over(&self, rt: &impl Clock, has_taken: bool, end: &mut End) -> bool {
+        if has_taken {
+            end.stalled = None;
+        }
+        let time = if self.is_stopping.load(Ordering::SeqCst) {
+            ENDING_TIME
+        } else {
+            MOST_ENDING_TIME
+        };
+        is_over(rt, &mut end.begun, time) || is_over(rt, &mut end.stalled, ENDING_TIME)
+    }
+
+    /// Delivers, and waits for a slow peer; where the connection is to end, not for long.
     fn deliver_patiently<R: Wait + Clock>(
         &self,
         rt: &R,
@@ -313,13 +347,18 @@ impl<K: BookName> Lane<K> {
             return;
         }
         outgoing.set_write_timeout(WRITER_TIMEOUT);
-        let mut end_seen = None;
+        let mut end = End {
+            begun: None,
+            stalled: None,
+        };
         for _ in rt.forever() {
+            let sent = outgoing.outbox.sent();
             if outgoing.deliver(rt, shared, looking) != Delivery::Late {
                 break;
             }
+            let has_taken = outgoing.outbox.sent() != sent;
             let is_ending = self.is_ending.load(Ordering::SeqCst);
-            if is_ending && is_over(rt, &mut end_seen, ENDING_TIME) {
+            if is_ending && self.is_end_over(rt, has_taken, &mut end) {
                 outgoing.hang_up();
                 break;
             }

@@ -177,7 +177,7 @@ impl<K: BookName> ServerState<K> {
             return;
         }
         for lane in &self.lanes {
-            lane.request_close();
+            lane.stop();
         }
     }
 
