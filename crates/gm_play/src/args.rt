@@ -39,7 +39,7 @@ fn command<'a>(alloc: Global) -> Result<Command<'a>, AllocError> {
             alloc,
             "functions",
             1,
-            MAX_FUNCTIONS,
+            i64::from(MAX_FUNCTIONS),
             "65536",
             "The most functions that the server knows",
         ))?;
