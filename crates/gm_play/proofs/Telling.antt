@@ -64,7 +64,7 @@ takes_not agrees k limits reading c out (Cut units) front a = absurd a
 -- an open slot is drained, and told of
 pub tells : {S : Type 0} (agrees : S → Settings → List Step → Type 0) (k : Settings) (limits : Limits) (reading : Reading) (c : ℕ) (shut shut' : Bool) (out out' out'' drained' : List ℕ) (stepped : Stepped) (mid front : Front S)
     → is_open c (run k reading.steps).notes ≡ true → shut' ≡ is_closing c (run k reading.steps) → IsTaken agrees k limits (Drains c) reading stepped mid
-    → ((reading : Reading) → IsHeld agrees k limits reading mid → TakesNoop agrees k limits reading c stepped.drained.items front drained')
+    → ((reading : Reading) → IsHeld agrees k limits reading mid → TakesNoop agrees k limits reading c stepped.drained.bytes front drained')
     → out' ≡ out ++ bytes_text c drained' → out'' ≡ out' ++ shut_text c (shut' && not shut) → TellsOne agrees k limits reading c shut out front shut' out''
 tells agrees k limits reading c shut shut' out out' out'' drained' stepped mid front opened closing t takes said told =
     let past : Past = run k reading.steps in
