@@ -129,12 +129,12 @@ static STALE_NOOP: [Call; 14] = [
     call!(open 1),
     call!(open 2),
     call!(packet 1, 1, b"f" => None, []),
-    call!(packet 1, 4, b"" => None, []),
+    call!(packet 1, 4, b"" => None, [1]),
     call!(packet 0, 18, b"f\0a\x001" => Some(1), [0, 1]),
     call!(take 1 => true),
     call!(packet 2, 1, b"f" => None, []),
     call!(packet 2, 9, b"" => None, [2]),
-    call!(packet 1, 4, b"" => None, []),
+    call!(packet 1, 4, b"" => None, [1]),
     call!(packet 0, 18, b"f\0b\x002" => Some(2), [0, 1]),
     call!(take 1 => true),
     call!(drain 0 => b"\0RES\0\0\0\x08\0\0\0\x07H:gmd:1\0RES\0\0\0\x08\0\0\0\x07H:gmd:2", false),
@@ -146,7 +146,7 @@ pub static OWED: [Call; 5] = [
     call!(open 0),
     call!(open 1),
     call!(packet 1, 1, b"f" => None, []),
-    call!(packet 1, 4, b"" => None, []),
+    call!(packet 1, 4, b"" => None, [1]),
     call!(packet 0, 18, b"f\0-\0d" => Some(1), [0, 1]),
 ];
 
