@@ -62,17 +62,18 @@ fn make(jobs: &mut Jobs, number: u64, listener: Option<u32>) -> Result<u64, Benc
     if jobs.reserve(0, 16, 16).is_err() {
         return Err(BenchError::Memory);
     }
-    if jobs.by_unique(0, &unique).is_some() {
+    let Err(vacancy) = jobs.find(0, &unique) else {
         return Err(BenchError::Refused);
-    }
-    Ok(jobs.insert_reserved(NewJob {
+    };
+    let new = NewJob {
         f: 0,
         p: Priority::Normal,
         unique: &unique,
         body: BODY.as_slice(),
         kept: listener.is_none(),
         listener,
-    }))
+    };
+    Ok(jobs.insert(new, None, vacancy))
 }
 
 /// This many jobs come to wait, from number 1 on.
@@ -104,9 +105,9 @@ fn body_len(jobs: &Jobs, number: u64) -> u64 {
 }
 
 fn find(jobs: &Jobs, number: u64) -> u64 {
-    match jobs.by_unique(0, &id_of(number)) {
-        Some(found) => body_len(jobs, found),
-        None => 0,
+    match jobs.find(0, &id_of(number)) {
+        Ok(found) => body_len(jobs, found),
+        Err(_) => 0,
     }
 }
 

@@ -14,16 +14,16 @@ use Rattle.gm_notes.specs.declared.note.Note.{Note}
 use Rattle.gm_notes.specs.declared.states.Priority.{Priority}
 use Rattle.gm_notes.specs.declared.states.Priority.TheVariants.{High, Normal, Low}
 use Rattle.gm_notes.specs.Settings.{Settings}
-use Rattle.gm_notes.specs.Jobs.{Ability, first_of, pick_from, queue, is_of, put, waiting_for, is_mentioned, is_empty, functions}
+use Rattle.gm_notes.specs.Jobs.{Ability, first_of, pick_from, queue, is_of, put, waiting_for, is_mentioned, is_empty, functions, limit}
 use Rattle.gm_notes.specs.declared.states.Pick.{Pick}
-use Rattle.gm_notes.specs.Submissions.{is_one_too_many}
+use Rattle.gm_notes.specs.Submissions.{is_one_too_many, is_full}
 use Rattle.gm_queues.proofs.NameLemmas.{bytes_eq-turned}
 use Rattle.gm_queues.proofs.PositionLemmas.{list_any-missed, list_any-found}
 use Rattle.gm_queues.specs.FunctionTables.{Table, number_of}
 use Rattle.gm_queues.specs.FunctionTables as queues
 use Rattle.gm_jobs.specs.Tables as jobs
 use Rattle.gm_core.specs.Facts.{FunctionFacts, function_facts, job_facts}
-use Rattle.gm_core.specs.Holds.{name_at, ability_named, AreFunctions, HoldsFunctions, HoldsJobs, jobs_named}
+use Rattle.gm_core.specs.Holds.{name_at, ability_named, AreFunctions, HoldsFunctions, HoldsJobs, jobs_named, limit_named}
 
 -- what stands at an index
 pub stands : {A : Type 0} (xs : List A) (i : ℕ) (d : A) → i < length xs → slice_get xs i ≡ Some (get_or xs i d)
@@ -161,6 +161,9 @@ module _ (k : Settings) (table : Table) (notes : List Note) (holds : HoldsFuncti
   many_is none =
       let fresh = anew k table notes holds name none in
       rw fresh (ap (nat_le k.max_functions) (sym full_is))
+
+  pub never_full : number_of name table ≡ None → is_full name notes ≡ false
+  never_full none = let unlimited : limit name notes ≡ 0 = sym (holds.limits name) ∙ ap (λ o. limit_named o table) none in rw unlimited refl
 
   pub not_yet_many : length table.names ≢ table.most → is_one_too_many k name notes ≡ false
   not_yet_many room = by (not (is_mentioned name notes)) (let e = full_is in let m = holds.most in let few = holds.few in grind (arith, nat_tests))

@@ -12,7 +12,7 @@ use Rattle.gm_notes.specs.declared.note.Note.{Note}
 use Rattle.gm_notes.specs.declared.note.Note.TheVariants.{Kept, Listens}
 use Rattle.gm_notes.specs.declared.states.Priority.{Priority}
 use Rattle.gm_notes.specs.Settings.{Settings}
-use Rattle.gm_notes.specs.Jobs.{is_live_named, joins, joined, made, job_state, is_kept, listeners}
+use Rattle.gm_notes.specs.Jobs.{is_live_named, joins, joined, made, next_number, job_state, is_kept, listeners}
 use Rattle.gm_notes.specs.JobStates.{JobState, is_waiting, is_running, is_live, place_of}
 use Rattle.gm_notes.specs.JobStates as states
 use Rattle.gm_queues.specs.FunctionTables.{number_of}
@@ -218,6 +218,20 @@ module _ (k : Settings) (functions : queues.Table) (table : Table) (notes : List
       by : (t : Bool) → (let o : Option ℕ = None in o) ≡ (if t then find (is_live_named name unique notes) (made notes) else None)
       by true = sym (find_none (is_live_named name unique notes) (made notes) (λ m. named_none name unique m (job table m) number refl))
       by false = refl
+
+  -- the number that the next job gets, and that none is left
+  pub numbered : (n : ℕ) → n ≡ table.next → n < 2 ^ 64 → next_number k notes ≡ Some n
+  numbered n is fits =
+      let next = holds.next in
+      let same : k.first_job + length (made notes) ≡ n = omega (arith, is, next) in
+      let low : nat_lt (k.first_job + length (made notes)) (2 ^ 64) ≡ true = grind (arith, nat_tests) in
+      rw low (ap (λ i. Some i) same)
+
+  pub spent : table.next ≡ 2 ^ 64 → next_number k notes ≡ None
+  spent none =
+      let next = holds.next in
+      let high : k.first_job + length (made notes) ≡ 2 ^ 64 = omega (arith, next, none) in
+      rw high refl
 
 -- ---- jobs that are kept, and listened to
 

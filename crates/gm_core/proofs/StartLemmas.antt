@@ -2,6 +2,7 @@
 use Rattle.std.proofs.Common.{◌≡◌, ℕ, ◌<◌, ◌≤◌, ◌^◌, Bool, true, false, Some, None, ◌&&◌, not, ◌==◌, if◌then◌else◌, nat_le}
 use Rattle.std.proofs.Common.{nat_lt, [], length, refl, sym, ap, subst, arith}
 use Rattle.std.proofs.lemmas.Bool.Decides.{nat_tests}
+use Rattle.std.specs.declared.hash.RandomState.{RandomState}
 use Rattle.gm_notes.specs.declared.states.Mode.TheVariants.{Running}
 use Rattle.gm_notes.specs.declared.config.ConfigError.TheVariants.{BadName, BadNumber, BadSlots, BadFunctions}
 use Rattle.gm_notes.specs.Settings.{Settings, config_fault, is_name, is_within}
@@ -15,9 +16,9 @@ use Rattle.gm_core.specs.Holds.{NamesFunctions, Holds}
 none_made : (first n : ℕ) → (nat_le first n && nat_lt n first) ≡ false
 none_made first n = grind (arith, nat_tests)
 
-pub holds_nothing : (k : Settings) (table : Table) → length table.conns ≡ k.slots → ((c : ℕ) → conn table c ≡ closed) → k.first_job ≤ 2 ^ 64 → 0 < k.first_job
-    → Holds k table (no_functions k.max_functions) (no_jobs k.first_job) 0 Running nothing
-holds_nothing k table slots ends fits positive = record {
+pub holds_nothing : (k : Settings) (seed : RandomState) (table : Table) → length table.conns ≡ k.slots → ((c : ℕ) → conn table c ≡ closed) → k.first_job ≤ 2 ^ 64 → 0 < k.first_job
+    → Holds k table (no_functions k.max_functions) (no_jobs seed k.first_job) 0 Running nothing
+holds_nothing k seed table slots ends fits positive = record {
   conns = record {
     slots = slots;
     opens = λ c. ap (λ (x : Connection). x.is_open) (ends c);

@@ -23,7 +23,7 @@ use Rattle.gm_queues.specs.FunctionTables as queues
 use Rattle.gm_jobs.specs.declared.job.Stage.{Stage}
 use Rattle.gm_jobs.specs.declared.job.Stage.TheVariants.{Waiting, Running, Lost}
 use Rattle.gm_jobs.specs.Live.{Live}
-use Rattle.gm_jobs.specs.Tables.{job, place, is_made, IsNamed}
+use Rattle.gm_jobs.specs.Tables.{job, place, is_made}
 use Rattle.gm_jobs.specs.Tables as jobs
 use Rattle.gm_core.specs.declared.server.Core.{Core}
 use Rattle.gm_actions.specs.Effects.{Changes, Agrees, if_done}
@@ -196,7 +196,3 @@ add_job c s n past = keep_or_listen c s n (with_note (Made n s.function s.priori
 abbrev pub first_listener : Bool → ℕ → Option ℕ
 first_listener true c = None
 first_listener false c = Some c
-
--- no live job of this function has this unique id, if that joins
-abbrev pub IsAlone : List ℕ → List ℕ → queues.Table → jobs.Table → Type 0
-IsAlone f unique mentioned live = (g : ℕ) → number_of f mentioned ≡ Some g → (n : ℕ) → IsNamed g unique live n → ⊥

@@ -3,12 +3,15 @@ use Rattle.std.specs.Prelude.{◌≡◌, ℕ, ◌+◌, ◌<◌, ◌≤◌, Bool,
 use Rattle.std.specs.Prelude.{nat_eq, Option, Some, None, IsSomeAnd}
 use Rattle.std.specs.Option.{option_map, option_map_or}
 use Rattle.std.specs.Map.{lookup}
+use Rattle.std.specs.declared.hash.RandomState.{RandomState}
 use Rattle.gm_notes.specs.declared.states.Place.{Place}
 use Rattle.gm_notes.specs.declared.states.Place.TheVariants.{Unmade, Gone}
 use Rattle.gm_notes.specs.Jobs.{joins}
 use Rattle.gm_jobs.specs.declared.jobs.Back.{Back}
 use Rattle.gm_jobs.specs.declared.jobs.Back.TheVariants as backs
+use Rattle.gm_jobs.specs.declared.uniques.Vacancy.{Vacancy}
 use Rattle.gm_jobs.specs.Live.{Live, place_at, is_named, without_listener, is_last_try}
+use Rattle.gm_jobs.specs.Uniques.{digest_of}
 
 -- room for one job more: of this function, with texts of these lengths at most
 pub record Room : Type 0 where
@@ -16,16 +19,17 @@ pub record Room : Type 0 where
   pub unique_len : ℕ
   pub body_len : ℕ
 
--- The number of the first job, and of the next one, which is 2 ^ 64 once all are spent; the room that is
--- reserved; and the live jobs, each with its number.
+-- The seed with which it hashes; the number of the first job, and of the next one, which is 2 ^ 64 once all are spent; the
+-- room that is reserved; and the live jobs, each with its number.
 pub record Table : Type 0 where
+  pub seed : RandomState
   pub first : ℕ
   pub next : ℕ
   pub room : Option Room
   pub live : List (ℕ × Live)
 
-abbrev pub no_jobs : ℕ → Table
-no_jobs first = record { first = first; next = first; room = None; live = [] }
+abbrev pub no_jobs : RandomState → ℕ → Table
+no_jobs seed first = record { seed = seed; first = first; next = first; room = None; live = [] }
 
 -- the live job of a number
 abbrev pub find_job : List (ℕ × Live) → ℕ → Option Live
@@ -67,6 +71,11 @@ pub record IsNamed (f : ℕ) (unique : List ℕ) (table : Table) (n : ℕ) : Typ
   pub joins : joins unique ≡ true
   pub named : passes (is_named f unique) (job table n) ≡ true
 
+-- No live job has this name, and the vacancy has its digest.
+pub record IsVacant (f : ℕ) (unique : List ℕ) (table : Table) (vacancy : Vacancy) : Type 0 where
+  pub digest : joins unique ≡ true → vacancy.digest ≡ digest_of table.seed f unique
+  pub none : (n : ℕ) → IsNamed f unique table n → ⊥
+
 -- There is room for a job of this function, with texts of these lengths.
 pub record IsRoomFor (f unique_len body_len : ℕ) (room : Room) : Type 0 where
   pub function : room.function ≡ f
@@ -82,6 +91,7 @@ with_room f unique_len body_len table = record table { room = Some (record { fun
 
 -- The next job was made, which uses up the room; no other job changed.
 pub record Makes (made : Live) (old new : Table) : Type 0 where
+  pub seed : new.seed ≡ old.seed
   pub first : new.first ≡ old.first
   pub next : new.next ≡ old.next + 1
   pub room : new.room ≡ None
@@ -89,6 +99,7 @@ pub record Makes (made : Live) (old new : Table) : Type 0 where
 
 -- The job, if it is live, is what the change makes of it, and nothing else changed.
 pub record Changes (n : ℕ) (change : Live → Live) (old new : Table) : Type 0 where
+  pub seed : new.seed ≡ old.seed
   pub first : new.first ≡ old.first
   pub next : new.next ≡ old.next
   pub room : new.room ≡ old.room
@@ -96,6 +107,7 @@ pub record Changes (n : ℕ) (change : Live → Live) (old new : Table) : Type 0
 
 -- The job isn't live any more, and nothing else changed.
 pub record Ends (n : ℕ) (old new : Table) : Type 0 where
+  pub seed : new.seed ≡ old.seed
   pub first : new.first ≡ old.first
   pub next : new.next ≡ old.next
   pub room : new.room ≡ old.room
@@ -103,6 +115,7 @@ pub record Ends (n : ℕ) (old new : Table) : Type 0 where
 
 -- The slot listens to no job any more, and nothing else changed.
 pub record Leaves (slot : ℕ) (old new : Table) : Type 0 where
+  pub seed : new.seed ≡ old.seed
   pub first : new.first ≡ old.first
   pub next : new.next ≡ old.next
   pub room : new.room ≡ old.room

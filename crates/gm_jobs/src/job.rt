@@ -134,6 +134,8 @@ pub struct Job {
     p: Priority,
     kept: bool,
     stage: Stage,
+    // The digest under which its number is found, if its unique id names it.
+    digest: u64,
     // How often it came back. Without a limit that isn't counted.
     returns: u32,
     deadline: Option<u64>,
@@ -177,6 +179,11 @@ impl Job {
         ensures { result.now ≡ self.now.unique }
     {
         self.unique.as_slice()
+    }
+
+    /// The digest under which its number is found, if its unique id names it.
+    pub(crate) fn digest(&self) -> u64 {
+        self.digest
     }
 
     pub fn body(&self) -> &[u8]
@@ -416,7 +423,13 @@ impl Reservation {
     }
 
     /// The job, in this memory. A shared body takes the place of the one that it says.
-    pub(crate) fn fill(self, alloc: Global, new: NewJob<'_>, shared: Option<SharedBytes>) -> Job
+    pub(crate) fn fill(
+        self,
+        alloc: Global,
+        new: NewJob<'_>,
+        shared: Option<SharedBytes>,
+        digest: u64,
+    ) -> Job
         requires unique { length new.unique.now ≤ self.unique_len }
         requires body { length new.body.now ≤ self.body_len }
         ensures { result ≡ fresh new.entry.f new.entry.p new.entry.unique.now (unwrap_or shared new.entry.body.now) new.entry.kept new.entry.listener }
@@ -440,6 +453,7 @@ impl Reservation {
             p: new.p,
             kept: new.kept,
             stage: Stage::Waiting,
+            digest,
             returns: 0,
             deadline: None,
             unique,

@@ -1,9 +1,9 @@
 //! The table of jobs.
 
-ghost use Rattle.std.specs.Prelude.{◌≡◌, ℕ, ◌+◌, ◌<◌, ◌≤◌, ◌^◌, ◌↔◌, Some, None, IsSome, IfSome, IfNone, IfOk, OnOk, OnErr, Err, Contains, length};
+ghost use Rattle.std.specs.Prelude.{◌≡◌, ℕ, ◌+◌, ◌<◌, ◌≤◌, ◌^◌, ◌↔◌, Some, None, IsSome, IfSome, IfNone, IfOk, IfErr, OnOk, OnErr, Err, Contains, length};
 ghost use Rattle.std.specs.Option.{option_copied, unwrap_or};
 ghost use Rattle.gm_jobs.specs.Live.{fresh, assigned, given_back, kept, reported, with_listener, is_run_by, is_orphan, is_due, is_last_try};
-ghost use Rattle.gm_jobs.specs.Tables.{no_jobs, job, find_job, is_made, place, back, listeners_of, passes, IsNamed, HasRoom, with_room, Makes, Changes, Ends, Leaves, IsNext, IsLast};
+ghost use Rattle.gm_jobs.specs.Tables.{no_jobs, job, find_job, is_made, place, back, listeners_of, passes, IsNamed, IsVacant, HasRoom, with_room, Makes, Changes, Ends, Leaves, IsNext, IsLast};
 ghost use Rattle.gm_jobs.specs.Deadlines.{AllListed};
 ghost use Rattle.gm_jobs.specs.Listening.{Heard};
 ghost use Rattle.gm_jobs.specs.Changes.{LeavesOne, LeavesSome};
@@ -13,7 +13,7 @@ use crate::by_number::JobMap;
 use crate::deadlines::Deadlines;
 use crate::job::{Change, Job, NewJob, ORPHANS, Query, Reservation, is_joining};
 use crate::listening::Listening;
-use crate::uniques::{Uniques, digest};
+use crate::uniques::{Uniques, Vacancy, digest};
 use gm_bytes::SharedBytes;
 use gm_notes::Place;
 use std::alloc::{AllocError, Global};
@@ -27,17 +27,6 @@ pub enum JobError {
     Memory = 6,
     /// The last number was given out.
     NumbersSpent = 15,
-}
-
-impl JobError {
-    ghost use Rattle.gm_jobs.specs.Numbers.{job_error_number};
-
-    /// The number of this refusal.
-    pub fn number(self) -> u8
-        ensures { result ≡ job_error_number self }
-    {
-        self as u8
-    }
 }
 
 impl From<AllocError> for JobError {
@@ -85,7 +74,7 @@ impl Model for Jobs {
 
     ghost Value = { Table };
 
-    ghost view = { λ t. record { first = t.first; next = unwrap_or t.next (2 ^ 64); room = t.reservation; live = t.jobs.entries } };
+    ghost view = { λ t. record { seed = t.seed; first = t.first; next = unwrap_or t.next (2 ^ 64); room = t.reservation; live = t.jobs.entries } };
 
     ghost invariant = { λ t. IsKept (record { seed = t.seed; first = t.first; next = unwrap_or t.next (2 ^ 64); left = is_some t.next; uniques = t.uniques; listening = t.listening; deadlines = t.deadlines }) t.reservation t.jobs.room t.jobs.entries };
 }
@@ -138,7 +127,7 @@ impl Jobs {
     /// No jobs. The first to be made gets this number. Unique ids come from strangers, so the tables hash with
     /// this seed.
     pub fn new(alloc: Global, seed: RandomState, first_job: u64) -> Result<Jobs, AllocError>
-        ensures { IfOk result (λ table. table ≡ no_jobs first_job) }
+        ensures { IfOk result (λ table. table ≡ no_jobs seed first_job) }
     {
         Ok(Jobs {
             alloc,
@@ -175,31 +164,21 @@ impl Jobs {
     }
 
     /// Makes a job in the room that is reserved, and gives its number. A shared body takes the place of the one that the
-    /// job says. No live job of its function has its unique id, unless that is empty or a dash.
-    pub fn insert(&mut self, new: NewJob<'_>, shared: Option<SharedBytes>) -> u64
+    /// job says. The vacancy is that of its function and unique id.
+    pub fn insert(&mut self, new: NewJob<'_>, shared: Option<SharedBytes>, vacancy: Vacancy) -> u64
         requires room { HasRoom new.f (length new.unique.now) (length new.body.now) self.old }
-        requires single { (n : ℕ) → IsNamed new.f new.unique.now self.old n → ⊥ }
+        requires vacant { IsVacant new.f new.unique.now self.old vacancy }
         ensures number { result ≡ self.old.next }
         ensures makes { Makes (fresh new.entry.f new.entry.p new.entry.unique.now (unwrap_or shared new.entry.body.now) new.entry.kept new.entry.listener) self.old self.new }
     {
         let reservation = self.reservation.take().unwrap();
         let number = self.next.unwrap();
         self.next = number.checked_add(1);
-        let job = reservation.fill(self.alloc, new, shared);
+        let job = reservation.fill(self.alloc, new, shared, vacancy.digest);
         self.jobs.insert(number, job);
-        self.uniques.insert(&self.seed, new.f, new.unique, number);
+        self.uniques.insert(new.unique, vacancy.digest, number);
         self.listening.begin(new.listener, number);
         number
-    }
-
-    /// `insert`, with a body that is copied.
-    pub fn insert_reserved(&mut self, new: NewJob<'_>) -> u64
-        requires room { HasRoom new.f (length new.unique.now) (length new.body.now) self.old }
-        requires single { (n : ℕ) → IsNamed new.f new.unique.now self.old n → ⊥ }
-        ensures number { result ≡ self.old.next }
-        ensures makes { Makes (fresh new.entry.f new.entry.p new.entry.unique.now new.entry.body.now new.entry.kept new.entry.listener) self.old self.new }
-    {
-        self.insert(new, None)
     }
 
     /// The live job of a number.
@@ -209,17 +188,21 @@ impl Jobs {
         self.jobs.get(n)
     }
 
-    /// The live job of this function with this unique id; none where the id is empty or a dash.
-    pub fn by_unique(&self, f: u32, unique: &[u8]) -> Option<u64>
-        ensures found { IfSome result (IsNamed f unique.now self.now) }
-        ensures only { IfSome result (λ n. (m : ℕ) → IsNamed f unique.now self.now m → m ≡ n) }
-        ensures none { IfNone result ((n : ℕ) → IsNamed f unique.now self.now n → ⊥) }
+    /// The live job of this function with this unique id, and otherwise that there is none, which `insert` takes. There is none
+    /// where the id is empty or a dash.
+    pub fn find(&self, f: u32, unique: &[u8]) -> Result<u64, Vacancy>
+        ensures found { IfOk result (IsNamed f unique.now self.now) }
+        ensures only { IfOk result (λ n. (m : ℕ) → IsNamed f unique.now self.now m → m ≡ n) }
+        ensures vacant { IfErr result (IsVacant f unique.now self.now) }
     {
         if !is_joining(unique) {
-            return None;
+            return Err(Vacancy { digest: 0 });
         }
-        self.uniques
-            .find(&self.jobs, digest(&self.seed, f, unique), f, unique)
+        let digest = digest(&self.seed, f, unique);
+        match self.uniques.find(&self.jobs, digest, f, unique) {
+            Some(number) => Ok(number),
+            None => Err(Vacancy { digest }),
+        }
     }
 
     /// The number that the next job gets; none once the last was given out.
@@ -294,7 +277,7 @@ impl Jobs {
     pub fn end(&mut self, n: u64)
         ensures { Ends n self.old self.new }
     {
-        self.uniques.remove(&self.seed, &self.jobs, n);
+        self.uniques.remove(&self.jobs, n);
         self.jobs.remove(n);
     }
 

@@ -14,7 +14,9 @@ mod jobs;
 mod listening;
 mod lists;
 mod min_heap;
+mod surface;
 mod uniques;
 
 pub use job::{Job, NewJob};
 pub use jobs::{Back, JobError, Jobs};
+pub use uniques::Vacancy;

@@ -14,6 +14,13 @@ use std::alloc::{AllocError, Global};
 use std::hash::{BuildHasher, Hasher, RandomState};
 use std::marker::Model;
 
+/// That no live job has a function and a unique id. `Jobs::insert` takes it, so that it needn't hash them again.
+#[derive(Clone, Copy)]
+pub struct Vacancy {
+    // Their digest, if the id names a job.
+    pub(crate) digest: u64,
+}
+
 /// The numbers of the jobs whose unique ids name them, by the digests of their functions and ids. What is found is
 /// compared with the job.
 #[derive(Drop)]
@@ -123,14 +130,14 @@ impl Uniques {
         }
     }
 
-    /// The number of a job that is made now, which is found from now on if its unique id names it.
-    pub(crate) fn insert(&mut self, seed: &RandomState, f: u32, unique: &[u8], number: u64)
+    /// The number of a job that is made now, which is found by this digest from now on if its unique id names it.
+    pub(crate) fn insert(&mut self, unique: &[u8], digest: u64, number: u64)
         requires { 0 < self.old.room }
-        ensures stands { joins unique.now ≡ true → LeadsTo self.new (digest_of seed.now f unique.now) number }
+        ensures stands { joins unique.now ≡ true → LeadsTo self.new digest number }
         ensures kept { (d n : ℕ) → LeadsTo self.old d n → LeadsTo self.new d n }
     {
         if is_joining(unique) {
-            self.put(digest(seed, f, unique), number);
+            self.put(digest, number);
         }
     }
 
@@ -147,13 +154,13 @@ impl Uniques {
     }
 
     /// The job of a number ends: what is kept of it goes.
-    pub(crate) fn remove(&mut self, seed: &RandomState, jobs: &JobMap, number: u64)
+    pub(crate) fn remove(&mut self, jobs: &JobMap, number: u64)
         ensures kept { (d n : ℕ) → n ≢ number → LeadsTo self.old d n → LeadsTo self.new d n }
         ensures room { self.old.room ≤ self.new.room }
     {
         if let Some(job) = jobs.get(number) {
             if is_joining(job.unique()) {
-                self.take(digest(seed, job.f(), job.unique()), number);
+                self.take(job.digest(), number);
             }
         }
     }

@@ -30,17 +30,6 @@ pub enum MentionError {
     TooManyFunctions = 14,
 }
 
-impl MentionError {
-    ghost use Rattle.gm_queues.specs.Numbers.{mention_error_number};
-
-    /// The number of this refusal.
-    pub fn number(self) -> u8
-        ensures { result ≡ mention_error_number self }
-    {
-        self as u8
-    }
-}
-
 impl From<AllocError> for MentionError {
     ghost use Rattle.gm_queues.specs.declared.functions.MentionError.TheVariants.{Memory};
 
@@ -151,13 +140,6 @@ impl Functions {
         ensures most { result ≤ self.now.most }
     {
         self.names.len() as u32
-    }
-
-    /// Whether there are no functions.
-    pub fn is_empty(&self) -> bool
-        ensures { IsTrue result ↔ (length self.now.names ≡ 0) }
-    {
-        self.len() == 0
     }
 
     /// The function of this name.

@@ -10,5 +10,6 @@ mod functions;
 mod hints;
 mod name_hash;
 mod ring;
+mod surface;
 
 pub use functions::{Counts, Functions, MentionError};

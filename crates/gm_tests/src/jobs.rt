@@ -141,9 +141,9 @@ fn jobs_ample(rt: HostRuntime) -> Result<(), Fail> {
 // Makes a job whose body is shared.
 fn make_shared(jobs: &mut Jobs, body: SharedBytes) -> Result<Option<u64>, JobError> {
     jobs.reserve(0, 0, 0)?;
-    if jobs.by_unique(0, b"").is_some() {
+    let Err(vacancy) = jobs.find(0, b"") else {
         return Ok(None);
-    }
+    };
     let new = NewJob {
         f: 0,
         p: Priority::Low,
@@ -152,7 +152,7 @@ fn make_shared(jobs: &mut Jobs, body: SharedBytes) -> Result<Option<u64>, JobErr
         kept: false,
         listener: None,
     };
-    Ok(Some(jobs.insert(new, Some(body))))
+    Ok(Some(jobs.insert(new, Some(body), vacancy)))
 }
 
 fn assert_shared(rt: &impl Abort, jobs: &Jobs) {

@@ -1,23 +1,23 @@
 //! Submissions.
 
-ghost use Rattle.std.specs.Prelude.{◌≡◌, ◌<◌, ◌≤◌, false, None, IfNone, ◌+◌, ◌==◌, ◌&&◌, not, nat_le, ℕ, Some, IfSome, List};
+ghost use Rattle.std.specs.Prelude.{◌≡◌, ◌<◌, ◌≤◌, false, None, ◌+◌, ◌==◌, ◌&&◌, not, nat_le, ℕ, Some, List};
 ghost use Rattle.std.specs.Prelude.{OnOk, OnErr, IfOk, length};
 ghost use Rattle.gm_packet.specs.Answers.{job_created, answer_packet};
 ghost use Rattle.gm_conns.specs.ConnTables.{IsOpen, conn};
 ghost use Rattle.gm_queues.specs.FunctionTables.{number_of};
-ghost use Rattle.gm_jobs.specs.Tables.{IsNamed};
-ghost use Rattle.gm_core.specs.Holds.{IsAlone, add_job, first_listener};
+ghost use Rattle.gm_jobs.specs.Tables.{IsVacant};
+ghost use Rattle.gm_core.specs.Holds.{add_job, first_listener};
 ghost use Rattle.gm_core.specs.Writing.{IsFor};
-ghost use Rattle.gm_notes.specs.Jobs.{handle, joined};
+ghost use Rattle.gm_notes.specs.Jobs.{handle};
 ghost use Rattle.gm_notes.specs.declared.note.Note.TheVariants.{Mention};
 ghost use Rattle.gm_notes.specs.Past.{Past, with_note};
 ghost use Rattle.gm_actions.specs.Actions.{submission_of};
-ghost use Rattle.gm_notes.specs.Submissions.{is_bad_name, is_one_too_many, is_full, keep_or_listen, make, join_or_make, submit};
+ghost use Rattle.gm_notes.specs.Submissions.{is_bad_name, is_full, is_one_too_many, keep_or_listen, make, join_or_make, submit};
 
 use super::Core;
 use super::answering::prepare;
 use gm_actions::{Refusal, Submission, handle};
-use gm_jobs::NewJob;
+use gm_jobs::{NewJob, Vacancy};
 use gm_packet::Response;
 use gm_queues::Counts;
 use std::alloc::AllocError;
@@ -46,56 +46,62 @@ impl Core {
         requires named { is_bad_name asked.now.function.now ≡ false }
         ensures { Does self.old result self.new (submit self.old.config slot (submission_of asked.now)) }
     {
-        let found = self.functions.find(asked.function);
-        match self.joined(found, asked.unique) {
-            Some(job) => self.join(slot, asked, job),
-            None => self.make_new(slot, asked, found),
+        match self.functions.find(asked.function) {
+            Some(f) => self.submit_known(slot, asked, f),
+            None => self.submit_first(slot, asked),
         }
     }
 
-    /// A job is made, unless a limit refuses it.
-    fn make_new(
+    /// Joins a job of a function that was mentioned, or makes one.
+    fn submit_known(&mut self, slot: u32, asked: &Submission<'_>, f: u32) -> Result<(), AllocError>
+        requires open { IsOpen self.old.conns slot }
+        requires named { is_bad_name asked.now.function.now ≡ false }
+        requires found { number_of asked.now.function.now self.old.functions ≡ Some f }
+        requires within { f < length self.old.functions.names }
+        ensures { Does self.old result self.new (submit self.old.config slot (submission_of asked.now)) }
+    {
+        match self.jobs.find(f, asked.unique) {
+            Ok(job) => self.join(slot, asked, job),
+            Err(vacancy) => self.make_unless_full(slot, asked, f, vacancy),
+        }
+    }
+
+    /// A job is made, of a function that was mentioned, unless a limit refuses it.
+    fn make_unless_full(
         &mut self,
         slot: u32,
         asked: &Submission<'_>,
-        found: Option<u32>,
+        f: u32,
+        vacancy: Vacancy,
     ) -> Result<(), AllocError>
         requires open { IsOpen self.old.conns slot }
-        requires found { number_of asked.now.function.now self.old.functions ≡ found }
-        requires within { IfSome found (λ f. f < length self.old.functions.names) }
-        requires alone { IsAlone asked.now.function.now asked.now.unique.now self.old.functions self.old.jobs }
+        requires found { number_of asked.now.function.now self.old.functions ≡ Some f }
+        requires within { f < length self.old.functions.names }
+        requires vacant { IsVacant f asked.now.unique.now self.old.jobs vacancy }
         ensures { Does self.old result self.new (join_or_make self.old.config slot (submission_of asked.now) None) }
     {
-        if self.has_no_place(found) {
-            return self.refuse(slot, Refusal::TooManyFunctions);
-        }
-        if self.is_full(found) {
+        if self.is_full(f) {
             return self.refuse(slot, Refusal::QueueFull);
         }
         match self.jobs.next_number() {
-            Some(job) => self.make(slot, asked, found, job),
+            Some(job) => self.make_known(slot, asked, f, vacancy, job),
             None => self.refuse(slot, Refusal::NoNumbers),
         }
     }
 
-    /// A job is made under the next number.
-    fn make(
-        &mut self,
-        slot: u32,
-        asked: &Submission<'_>,
-        found: Option<u32>,
-        job: u64,
-    ) -> Result<(), AllocError>
+    /// The first submission to a function: a job is made, unless a limit refuses it.
+    fn submit_first(&mut self, slot: u32, asked: &Submission<'_>) -> Result<(), AllocError>
         requires open { IsOpen self.old.conns slot }
-        requires found { number_of asked.now.function.now self.old.functions ≡ found }
-        requires within { IfSome found (λ f. f < length self.old.functions.names) }
-        requires alone { IsAlone asked.now.function.now asked.now.unique.now self.old.functions self.old.jobs }
-        requires number { job ≡ self.old.jobs.next }
-        ensures { Does self.old result self.new (make self.old.config slot (submission_of asked.now) (Some job)) }
+        requires named { is_bad_name asked.now.function.now ≡ false }
+        requires new { number_of asked.now.function.now self.old.functions ≡ None }
+        ensures { Does self.old result self.new (submit self.old.config slot (submission_of asked.now)) }
     {
-        match found {
-            Some(f) => self.make_known(slot, asked, f, job),
-            None => self.make_with_new_function(slot, asked, job),
+        if self.is_one_too_many(asked.function) {
+            return self.refuse(slot, Refusal::TooManyFunctions);
+        }
+        match self.jobs.next_number() {
+            Some(job) => self.make_with_new_function(slot, asked, job),
+            None => self.refuse(slot, Refusal::NoNumbers),
         }
     }
 
@@ -105,59 +111,39 @@ impl Core {
         slot: u32,
         asked: &Submission<'_>,
         f: u32,
+        vacancy: Vacancy,
         job: u64,
     ) -> Result<(), AllocError>
         requires open { IsOpen self.old.conns slot }
         requires found { number_of asked.now.function.now self.old.functions ≡ Some f }
         requires within { f < length self.old.functions.names }
-        requires alone { (n : ℕ) → IsNamed f asked.now.unique.now self.old.jobs n → ⊥ }
+        requires vacant { IsVacant f asked.now.unique.now self.old.jobs vacancy }
         requires number { job ≡ self.old.jobs.next }
         ensures { Does self.old result self.new (make self.old.config slot (submission_of asked.now) (Some job)) }
     {
         self.prepare_created(slot, job)?;
-        self.add(slot, asked, f)?;
+        self.add(slot, asked, f, vacancy)?;
         self.send(slot);
         self.wake(f);
         Ok(())
-    }
-
-    /// The live job of a function with a unique id that joins, if the function has this number.
-    fn joined(&self, found: Option<u32>, unique: &[u8]) -> Option<u64>
-        ensures value { (function : List ℕ) (past : Past) → number_of function self.now.functions ≡ found → Keeps self.now past → result ≡ joined function unique.now past.notes }
-        ensures alone { IfNone result ((function : List ℕ) → number_of function self.now.functions ≡ found → IsAlone function unique.now self.now.functions self.now.jobs) }
-    {
-        match found {
-            Some(f) => self.jobs.by_unique(f, unique),
-            None => None,
-        }
     }
 
     /// Whether no function more can be known.
     pub(super) fn is_one_too_many(&self, function: &[u8]) -> bool
         ensures { (past : Past) → Keeps self.now past → result ≡ is_one_too_many self.now.config function.now past.notes }
     {
-        self.has_no_place(self.functions.find(function))
-    }
-
-    /// Whether no function more can be known, where one has this number.
-    fn has_no_place(&self, found: Option<u32>) -> bool
-        ensures { (function : List ℕ) (past : Past) → number_of function self.now.functions ≡ found → Keeps self.now past → result ≡ is_one_too_many self.now.config function past.notes }
-    {
-        match found {
+        match self.functions.find(function) {
             Some(_) => false,
             None => self.functions.len() >= self.config.max_functions(),
         }
     }
 
-    /// Whether no more jobs of the function with this number may be there.
-    fn is_full(&self, found: Option<u32>) -> bool
-        requires { IfSome found (λ f. f < length self.now.functions.names) }
-        ensures { (function : List ℕ) (past : Past) → number_of function self.now.functions ≡ found → Keeps self.now past → result ≡ is_full function past.notes }
+    /// Whether no more jobs of the function may be there.
+    fn is_full(&self, f: u32) -> bool
+        requires { f < length self.now.functions.names }
+        ensures { (function : List ℕ) (past : Past) → number_of function self.now.functions ≡ Some f → Keeps self.now past → result ≡ is_full function past.notes }
     {
-        match found {
-            Some(f) => is_limit_reached(self.functions.limit(f), self.functions.counts(f)),
-            None => false,
-        }
+        is_limit_reached(self.functions.limit(f), self.functions.counts(f))
     }
 
     /// Joins a job: in the background it is kept, otherwise listened to.
@@ -233,11 +219,11 @@ impl Core {
             return Err(AllocError);
         };
         // No job is of a function that wasn't known, so this finds none.
-        if self.jobs.by_unique(f, asked.unique).is_some() {
+        let Err(vacancy) = self.jobs.find(f, asked.unique) else {
             self.functions.unmention();
             return Err(AllocError);
-        }
-        match self.add(slot, asked, f) {
+        };
+        match self.add(slot, asked, f, vacancy) {
             Ok(()) => Ok(f),
             Err(wanting) => {
                 self.functions.unmention();
@@ -246,11 +232,17 @@ impl Core {
         }
     }
 
-    /// A job comes to wait. No live job of the function has its unique id, if that joins.
-    fn add(&mut self, slot: u32, asked: &Submission<'_>, f: u32) -> Result<(), AllocError>
+    /// A job comes to wait. The vacancy is that of the function and its unique id.
+    fn add(
+        &mut self,
+        slot: u32,
+        asked: &Submission<'_>,
+        f: u32,
+        vacancy: Vacancy,
+    ) -> Result<(), AllocError>
         requires open { IsOpen self.old.conns slot }
         requires found { number_of asked.now.function.now self.old.functions ≡ Some f }
-        requires alone { (n : ℕ) → IsNamed f asked.now.unique.now self.old.jobs n → ⊥ }
+        requires vacant { IsVacant f asked.now.unique.now self.old.jobs vacancy }
         ensures does { Does self.old result self.new (add_job slot (submission_of asked.now) self.old.jobs.next) }
         ensures conns { self.new.conns ≡ self.old.conns }
         ensures text { self.new.text ≡ self.old.text }
@@ -274,7 +266,7 @@ impl Core {
             kept: asked.background,
             listener: first_listener(asked.background, slot),
         };
-        let job = self.jobs.insert(new, shared);
+        let job = self.jobs.insert(new, shared, vacancy);
         self.functions.push(f, asked.priority, job);
         Ok(())
     }

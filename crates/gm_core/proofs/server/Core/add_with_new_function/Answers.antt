@@ -12,15 +12,15 @@ unmention-requires-clause-free c =
     let none = is_none_of (number_of name c.args.self.now.functions) c.requires.new in
     freed c.args.self.now.functions c.mention.new.self name c.in-Ok.f c.requires.new (c.in-Ok.ensures.fresh none) c.in-Ok.ensures.found (c.in-Ok.ensures.free none)
 
-pub unmention-requires-in-Err-clause-free : goal.unmention-requires-in-Err-clause-free
-unmention-requires-in-Err-clause-free c =
+pub unmention-requires-in-Err-add-clause-free : goal.unmention-requires-in-Err-add-clause-free
+unmention-requires-in-Err-add-clause-free c =
     let name = c.args.asked.now.function.now in
     let none = is_none_of (number_of name c.args.self.now.functions) c.requires.new in
-    subst (λ (t : Table). IsFree (length t.names - 1) t) (sym c.in-Err.ensures.err)
+    subst (λ (t : Table). IsFree (length t.names - 1) t) (sym c.in-Err-add.ensures.err)
     (freed c.args.self.now.functions c.mention.new.self name c.in-Ok.f c.requires.new (c.in-Ok.ensures.fresh none) c.in-Ok.ensures.found (c.in-Ok.ensures.free none))
 
-pub returns-then-is_some-clause-wanting : goal.returns-then-is_some-clause-wanting
-returns-then-is_some-clause-wanting c =
+pub returns-in_default-find-clause-wanting : goal.returns-in_default-find-clause-wanting
+returns-in_default-find-clause-wanting c =
     let name = c.args.asked.now.function.now in
     let table = c.args.self.now.functions in
     goes_back c.args.self.now _ (record { config = refl; conns = refl; jobs = refl; moment = refl; mode = refl }) (taken_back table c.mention.new.self c.unmention.new.self name (c.in-Ok.ensures.fresh (is_none_of (number_of name table) c.requires.new)) c.unmention.ensures)
@@ -35,11 +35,11 @@ returns-in-Ok-add-clause-goes c =
     let free = subst (λ f. IsFree f c.mention.new.self) here (c.in-Ok.ensures.free none) in
     goes_then (goes_mention c.args.self.now (record c.args.self.now { functions = c.mention.new.self }) name (record { config = refl; conns = refl; jobs = refl; moment = refl; mode = refl }) c.requires.new (c.in-Ok.ensures.fresh none) free room) c.in-Ok-add.ensures.does
 
-pub returns-in-Err-clause-wanting : goal.returns-in-Err-clause-wanting
-returns-in-Err-clause-wanting c =
+pub returns-in-Err-add-clause-wanting : goal.returns-in-Err-add-clause-wanting
+returns-in-Err-add-clause-wanting c =
     let name = c.args.asked.now.function.now in
     let table = c.args.self.now.functions in
-    let back = subst (λ (t : Table). ChangesNames (take (length t.names - 1) t.names) t c.unmention-in-Err.new.self) c.in-Err.ensures.err c.unmention-in-Err.ensures in
-    goes_undone c.args.self.now _ c.in-Err.ensures.config c.in-Err.ensures.conns
-    (taken_back table c.mention.new.self c.unmention-in-Err.new.self name (c.in-Ok.ensures.fresh (is_none_of (number_of name table) c.requires.new)) back)
-    c.in-Err.ensures.roomed c.in-Err.ensures.moment c.in-Err.ensures.mode
+    let back = subst (λ (t : Table). ChangesNames (take (length t.names - 1) t.names) t c.unmention-in-Err-add.new.self) c.in-Err-add.ensures.err c.unmention-in-Err-add.ensures in
+    goes_undone c.args.self.now _ c.in-Err-add.ensures.config c.in-Err-add.ensures.conns
+    (taken_back table c.mention.new.self c.unmention-in-Err-add.new.self name (c.in-Ok.ensures.fresh (is_none_of (number_of name table) c.requires.new)) back)
+    c.in-Err-add.ensures.roomed c.in-Err-add.ensures.moment c.in-Err-add.ensures.mode

@@ -14,8 +14,8 @@ pub returns : goal.returns
 returns c =
     let k = c.args.config in
     let functions = c.in_ok-functions.ensures ∙ ap no_functions c.max_functions.ensures.value in
-    let live = c.in_ok-jobs.ensures ∙ ap no_jobs c.first_job.ensures.value in
-    let held = holds_nothing k c.in_ok-conns.conns (c.in_ok-conns.ensures.slots ∙ c.slots.ensures.value) c.in_ok-conns.ensures.closed (subst (λ n. n ≤ 2 ^ 64) c.first_job.ensures.value c.first_job.ensures.fits)
+    let live = c.in_ok-jobs.ensures ∙ ap (no_jobs c.args.seed) c.first_job.ensures.value in
+    let held = holds_nothing k c.args.seed c.in_ok-conns.conns (c.in_ok-conns.ensures.slots ∙ c.slots.ensures.value) c.in_ok-conns.ensures.closed (subst (λ n. n ≤ 2 ^ 64) c.first_job.ensures.value c.first_job.ensures.fits)
     (begins_above k (subst (λ (x : Settings). config_fault x ≡ None) c.config.view_is c.config.invariant)) in
     record {
       settings = refl;

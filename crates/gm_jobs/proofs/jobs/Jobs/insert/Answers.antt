@@ -32,8 +32,11 @@ adds c =
 made_led : (c : After-begin) → joins c.fill-job.result.unique ≡ true → LeadsTo c.insert-2.new.self (digest_of c.self.inside.seed c.fill-job.result.function c.fill-job.result.unique) (beside c.self.inside).next
 made_led c good =
     let unique = ap (λ (l : Live). l.unique) c.fill-job.ensures in
+    let named = ap joins (sym unique) ∙ good in
+    let digest = c.requires.vacant.digest named ∙ ap (λ (t : Table). digest_of t.seed c.args.new.f c.args.new.unique.now) (sym c.self.view_is) in
     leads_same c.insert-2.new.self c.self.inside.seed c.args.new.f c.fill-job.result.function c.unwrap-number.result (beside c.self.inside).next c.args.new.unique.now c.fill-job.result.unique
-    (sym (ap (λ (l : Live). l.function) c.fill-job.ensures)) (sym unique) (sym (number c)) (c.insert-2.ensures.stands (ap joins (sym unique) ∙ good))
+    (sym (ap (λ (l : Live). l.function) c.fill-job.ensures)) (sym unique) (sym (number c))
+    (subst (λ d. LeadsTo c.insert-2.new.self d c.unwrap-number.result) digest (c.insert-2.ensures.stands named))
 
 made_heard : (c : After-begin) (s : ℕ) → Contains c.fill-job.result.listeners s → Heard c.begin.new.self s (beside c.self.inside).next
 made_heard c s there =
@@ -42,7 +45,7 @@ made_heard c s there =
 
 made_single : (c : After-begin) (m : ℕ) (live : Live) → joins c.fill-job.result.unique ≡ true → find_job c.self.inside.jobs.entries m ≡ Some live → is_named c.fill-job.result.function c.fill-job.result.unique live ≡ true → ⊥
 made_single c m live good found named =
-    c.requires.single m (record {
+    c.requires.vacant.none m (record {
       joins = ap (λ (l : Live). joins l.unique) (sym c.fill-job.ensures) ∙ good;
       named = subst (λ (t : Table). passes (is_named c.args.new.f c.args.new.unique.now) (find_job t.live m) ≡ true) c.self.view_is
           (ap (passes (is_named c.args.new.f c.args.new.unique.now)) found ∙ ap (λ (l : Live). is_named l.function l.unique live) (sym c.fill-job.ensures) ∙ named);

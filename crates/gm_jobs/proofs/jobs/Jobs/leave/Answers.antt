@@ -32,6 +32,6 @@ invariant_of-self c =
 pub returns : goal.returns
 returns c =
     let d = (goal.at.returns c).After-leave_maybe in
-    let now : Table = record { first = c.self.inside.first; next = unwrap_or c.self.inside.next (2 ^ 64); room = c.self.inside.reservation; live = c.leave_maybe.new.jobs.entries } in
+    let now : Table = record { seed = c.self.inside.seed; first = c.self.inside.first; next = unwrap_or c.self.inside.next (2 ^ 64); room = c.self.inside.reservation; live = c.leave_maybe.new.jobs.entries } in
     subst (λ (t : Table). Leaves c.args.slot t now) c.self.view_is
-    (record { first = refl; next = refl; room = refl; jobs = left_all c.args.slot c.self.inside.jobs.entries c.leave_maybe.new.jobs.entries (some d) (all d) })
+    (record { seed = refl; first = refl; next = refl; room = refl; jobs = left_all c.args.slot c.self.inside.jobs.entries c.leave_maybe.new.jobs.entries (some d) (all d) })
