@@ -24,16 +24,14 @@ use std::thread;
 use std::thread::Threads;
 use std::time::Clock;
 
-/// Runs the control thread, and answers how many connections were opened. All other threads have ended then. The
-/// control desk comes back.
+/// Runs the control thread, and answers how many connections were opened. All other threads have ended then.
 fn run_control<'x, K: BookName + Send + Sync, R: Threads + Wait + Clock + Eprint + Sync, G: Gate>(
     rt: &'x R,
     state: &'x ServerState<K>,
-    desk: OwnDesk<K>,
     listener: &'x TcpListener,
     gate: &'x G,
-) -> (OwnDesk<K>, Result<u64, ControlError>) {
-    let control = Control::new(rt, state, desk);
+) -> Result<u64, ControlError> {
+    let control = Control::new(state);
     thread::scope(
         thread::scope_env(),
         rt,
@@ -80,17 +78,17 @@ pub fn serve_book<
 {
     let slots = blank.slots();
     let (shared, desks, pens, control) = Shared::<K>::open(alloc, blank)?;
-    let state = ServerState::new(alloc, shared, desks, pens, slots, limits)?;
-    let desk = OwnDesk::new(control);
-    let (desk, outcome) = if ready.tell() {
-        run_control(rt, &state, desk, listener, gate)
+    let control = OwnDesk::new(control);
+    let state = ServerState::new(rt, alloc, shared, desks, pens, control, slots, limits)?;
+    let outcome = if ready.tell() {
+        run_control(rt, &state, listener, gate)
     } else {
-        (desk, Ok(0))
+        Ok(0)
     };
     let connections = outcome?;
     Ok(Ended {
         connections,
-        book: settle_state(state, desk),
+        book: settle_state(state),
     })
 }
 
