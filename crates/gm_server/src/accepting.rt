@@ -3,7 +3,7 @@
 use crate::connection::start;
 use crate::error::ControlError;
 use crate::gate::Gate;
-use crate::keepalive::set_keepalive;
+use crate::keepalive::set_peer_timeout;
 use crate::state::ServerState;
 use gm_shared::BookName;
 use libc::{EBADF, EINVAL, EMFILE, ENOTSOCK};
@@ -28,9 +28,9 @@ pub(crate) fn set_accept_timeout(listener: &TcpListener) -> io::Result<()> {
 }
 
 /// Sets up an accepted socket, which has its listener's timeout at first.
-fn prepare(stream: &TcpStream) -> io::Result<()> {
+fn prepare(stream: &TcpStream, peer_timeout: u16) -> io::Result<()> {
     stream.set_read_timeout(None)?;
-    set_keepalive(stream);
+    set_peer_timeout(stream, peer_timeout);
     stream.set_nodelay(true)
 }
 
@@ -68,6 +68,8 @@ fn wait_for_ends<K: BookName>(rt: &(impl Wait + Clock), state: &ServerState<K>) 
 #[derive(Drop)]
 pub(crate) struct Control<'s, K: BookName> {
     state: &'s ServerState<K>,
+    /// After how many seconds a peer that vanished is found out.
+    peer_timeout: u16,
     /// How many connections were opened.
     opened: u64,
     /// Whether it was said that connections wait because descriptors ran out.
@@ -75,9 +77,10 @@ pub(crate) struct Control<'s, K: BookName> {
 }
 
 impl<'s, K: BookName + Send + Sync> Control<'s, K> {
-    pub(crate) fn new(state: &'s ServerState<K>) -> Control<'s, K> {
+    pub(crate) fn new(state: &'s ServerState<K>, peer_timeout: u16) -> Control<'s, K> {
         Control {
             state,
+            peer_timeout,
             opened: 0,
             has_warned: false,
         }
@@ -92,7 +95,7 @@ impl<'s, K: BookName + Send + Sync> Control<'s, K> {
         stream: TcpStream,
         peer: SocketAddr,
     ) -> Result<(), AllocError> {
-        let Ok(()) = prepare(&stream) else {
+        let Ok(()) = prepare(&stream, self.peer_timeout) else {
             return Ok(());
         };
         let alloc = self.state.alloc();

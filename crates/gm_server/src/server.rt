@@ -29,9 +29,10 @@ fn run_control<'x, K: BookName + Send + Sync, R: Threads + Wait + Clock + Eprint
     rt: &'x R,
     state: &'x ServerState<K>,
     listener: &'x TcpListener,
+    peer_timeout: u16,
     gate: &'x G,
 ) -> Result<u64, ControlError> {
-    let control = Control::new(state);
+    let control = Control::new(state, peer_timeout);
     thread::scope(
         thread::scope_env(),
         rt,
@@ -68,6 +69,7 @@ pub fn serve_book<
     blank: Blank,
     listener: &TcpListener,
     limits: Limits,
+    peer_timeout: u16,
     gate: &G,
     ready: &mut T,
 ) -> Result<Ended, ControlError>
@@ -81,7 +83,7 @@ pub fn serve_book<
     let control = OwnDesk::new(control);
     let state = ServerState::new(rt, alloc, shared, desks, pens, control, slots, limits)?;
     let outcome = if ready.tell() {
-        run_control(rt, &state, listener, gate)
+        run_control(rt, &state, listener, peer_timeout, gate)
     } else {
         Ok(0)
     };
@@ -125,6 +127,7 @@ pub(crate) fn serve_announced<R: Threads + Wait + Clock + Eprint + Sync, G: Gate
     let Settings {
         config,
         limits,
+        peer_timeout,
         tape,
     } = settings;
     let Ok(()) = set_accept_timeout(&listener) else {
@@ -132,7 +135,14 @@ pub(crate) fn serve_announced<R: Threads + Wait + Clock + Eprint + Sync, G: Gate
     };
     let blank = Blank::new(alloc, seed, config, mode(tape))?;
     let Ended { connections, book } = serve_book::<Brand, R, G, T>(
-        rt, alloc, blank, &listener, limits, gate, ready,
+        rt,
+        alloc,
+        blank,
+        &listener,
+        limits,
+        peer_timeout,
+        gate,
+        ready,
     )?;
     let told = served(connections, &book);
     drop(book);
