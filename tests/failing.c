@@ -3,7 +3,7 @@
  * The variable FAIL is KIND:N, or KIND:N.. for the Nth and all that follow. KIND is growth (malloc, calloc and realloc),
  * read (read and recv), write (write and writev), or send (send and sendmsg). Where a call failed, a byte is written to the
  * descriptor of the variable FAIL_TOLD. Where KIND is accept, each accept after the Nth connection fails as that of a
- * listener that failed. Where FAIL is options, no call fails: before each send that descriptor gets five numbers, to which
+ * listener that failed. Where FAIL is options, no call fails: before each send that descriptor gets six numbers, to which
  * the socket's options are set (OPTION_NAMES).
  *
  * A test asks for it itself: a growth to 2^47 + N bytes, which succeeds nowhere else, has the Nth growth after it refused, and
@@ -21,13 +21,14 @@ extern int *__errno_location(void);
 enum { NONE, GROWTH, READ, WRITE, SEND, ACCEPT, OPTIONS };
 enum { SYS_READ = 0, SYS_WRITE = 1, SYS_WRITEV = 20, SYS_SENDTO = 44, SYS_RECVFROM = 45, SYS_SENDMSG = 46, SYS_GETSOCKOPT = 55,
        SYS_ACCEPT4 = 288 };
-enum { SOL_SOCKET = 1, SO_KEEPALIVE = 9, IPPROTO_TCP = 6, TCP_NODELAY = 1, TCP_KEEPIDLE = 4, TCP_KEEPINTVL = 5, TCP_KEEPCNT = 6 };
+enum { SOL_SOCKET = 1, SO_KEEPALIVE = 9, IPPROTO_TCP = 6, TCP_NODELAY = 1, TCP_KEEPIDLE = 4, TCP_KEEPINTVL = 5, TCP_KEEPCNT = 6,
+       TCP_USER_TIMEOUT = 18 };
 enum { EIO = 5, ENOMEM = 12, EINVAL = 22 };
 
 static const size_t ASKED = 1ul << 47;
 
 static const int OPTION_NAMES[][2] = {{SOL_SOCKET, SO_KEEPALIVE}, {IPPROTO_TCP, TCP_KEEPIDLE}, {IPPROTO_TCP, TCP_KEEPINTVL},
-                                      {IPPROTO_TCP, TCP_KEEPCNT}, {IPPROTO_TCP, TCP_NODELAY}};
+                                      {IPPROTO_TCP, TCP_KEEPCNT}, {IPPROTO_TCP, TCP_USER_TIMEOUT}, {IPPROTO_TCP, TCP_NODELAY}};
 
 static int kind;     /* which calls are counted */
 static int forever;  /* whether all fail from the Nth on */

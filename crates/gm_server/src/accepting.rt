@@ -3,8 +3,7 @@
 use crate::connection::start;
 use crate::error::ControlError;
 use crate::gate::Gate;
-use crate::keepalive::set_keepalive;
-use crate::own_desk::OwnDesk;
+use crate::keepalive::set_peer_timeout;
 use crate::state::ServerState;
 use gm_shared::BookName;
 use libc::{EBADF, EINVAL, EMFILE, ENOTSOCK};
@@ -14,7 +13,7 @@ use std::net::{SocketAddr, TcpListener, TcpStream};
 use std::os::fd::OwnedFd;
 use std::sync::{Arc, Wait};
 use std::thread::{Scope, Threads};
-use std::time::{Clock, Duration, Instant};
+use std::time::{Clock, Duration};
 use std::{io, thread};
 
 /// How long the control thread waits for a connection, in milliseconds. A tick and the end may be late by this.
@@ -29,9 +28,9 @@ pub(crate) fn set_accept_timeout(listener: &TcpListener) -> io::Result<()> {
 }
 
 /// Sets up an accepted socket, which has its listener's timeout at first.
-fn prepare(stream: &TcpStream) -> io::Result<()> {
+fn prepare(stream: &TcpStream, peer_timeout: u16) -> io::Result<()> {
     stream.set_read_timeout(None)?;
-    set_keepalive(stream);
+    set_peer_timeout(stream, peer_timeout);
     stream.set_nodelay(true)
 }
 
@@ -69,44 +68,21 @@ fn wait_for_ends<K: BookName>(rt: &(impl Wait + Clock), state: &ServerState<K>) 
 #[derive(Drop)]
 pub(crate) struct Control<'s, K: BookName> {
     state: &'s ServerState<K>,
-    desk: OwnDesk<K>,
+    /// After how many seconds a peer that vanished is found out.
+    peer_timeout: u16,
     /// How many connections were opened.
     opened: u64,
-    begun: Option<Instant>,
-    /// The last second that was told.
-    second: u64,
     /// Whether it was said that connections wait because descriptors ran out.
     has_warned: bool,
 }
 
 impl<'s, K: BookName + Send + Sync> Control<'s, K> {
-    pub(crate) fn new(
-        rt: &impl Clock,
-        state: &'s ServerState<K>,
-        desk: OwnDesk<K>,
-    ) -> Control<'s, K> {
+    pub(crate) fn new(state: &'s ServerState<K>, peer_timeout: u16) -> Control<'s, K> {
         Control {
             state,
-            desk,
+            peer_timeout,
             opened: 0,
-            begun: Instant::now(rt).ok(),
-            second: 0,
             has_warned: false,
-        }
-    }
-
-    /// Tells the book the second, if it is another. A clock that can't be read tells nothing.
-    fn tick<R: Wait + Clock>(&mut self, rt: &R) {
-        let Some(begun) = &self.begun else {
-            return;
-        };
-        let Ok(elapsed) = begun.elapsed(rt) else {
-            return;
-        };
-        let now = elapsed.as_secs();
-        if now != self.second {
-            self.second = now;
-            self.state.tick(rt, &mut self.desk, now);
         }
     }
 
@@ -119,14 +95,17 @@ impl<'s, K: BookName + Send + Sync> Control<'s, K> {
         stream: TcpStream,
         peer: SocketAddr,
     ) -> Result<(), AllocError> {
-        let Ok(()) = prepare(&stream) else {
+        let Ok(()) = prepare(&stream, self.peer_timeout) else {
             return Ok(());
         };
         let alloc = self.state.alloc();
         let ip = peer.ip();
         let addr = format!(in alloc; "{ip}")?;
         let stream = Arc::new(alloc, stream)?;
-        let Some(slot) = self.state.open(rt, &mut self.desk, addr.as_bytes()) else {
+        let mut desk = self.state.control.lock(rt);
+        let opened = self.state.open(rt, &mut desk, addr.as_bytes());
+        drop(desk);
+        let Some(slot) = opened else {
             return Ok(());
         };
         self.opened = self.opened.saturating_add(1);
@@ -155,7 +134,7 @@ impl<'s, K: BookName + Send + Sync> Control<'s, K> {
         listener: &TcpListener,
     ) -> Result<(), ControlError> {
         for _ in rt.forever() {
-            self.tick(rt);
+            self.state.tell_time(rt);
             match listener.accept() {
                 Ok((stream, peer)) => {
                     // If out of memory, the connection is closed, and the server goes on.
@@ -175,30 +154,23 @@ impl<'s, K: BookName + Send + Sync> Control<'s, K> {
         Ok(())
     }
 
-    /// Takes connections and tells the time until the server is over, has each connection end that is left, and hands
-    /// back the desk. It answers how many connections were opened.
+    /// Takes connections and tells the time until the server is over, and has each connection end that is left. It answers
+    /// how many connections were opened.
     pub(crate) fn run<E, R: Threads + Wait + Clock + Eprint + Sync, G: Gate>(
         mut self,
         scope: &Scope<'s, E>,
         rt: &'s R,
         gate: &'s G,
         listener: &TcpListener,
-    ) -> (OwnDesk<K>, Result<u64, ControlError>) {
+    ) -> Result<u64, ControlError> {
         let outcome = self.take_all(scope, rt, gate, listener);
-        let Control {
-            state,
-            desk,
-            opened,
-            ..
-        } = self;
+        let Control { state, opened, .. } = self;
         if outcome.is_err() {
             state.stop();
             wait_for_ends(rt, state);
         }
         state.dismiss(rt);
-        match outcome {
-            Ok(()) => (desk, Ok(opened)),
-            Err(error) => (desk, Err(error)),
-        }
+        outcome?;
+        Ok(opened)
     }
 }

@@ -18,6 +18,9 @@ pub(crate) struct Args<'a> {
     pub(crate) has_address: bool,
     pub(crate) name: &'a str,
     pub(crate) server: ServerOptions,
+    /// After how many seconds a peer that vanished is found out; at 0 the system decides.
+    pub(crate) peer_timeout: u16,
+    pub(crate) has_peer_timeout: bool,
     pub(crate) check: bool,
     pub(crate) tape: bool,
 }
@@ -47,6 +50,19 @@ fn with_name<'a>(alloc: Global, command: Command<'a>) -> Result<Command<'a>, All
     ))
 }
 
+/// The command with the option of when a peer that vanished is found out.
+fn with_peer_timeout<'a>(alloc: Global, command: Command<'a>) -> Result<Command<'a>, AllocError> {
+    command.arg(number(
+        alloc,
+        "peer-timeout",
+        0,
+        32_767,
+        "120",
+        "Disconnects a peer that vanished, or leaves its bytes unread, after about this time; 0 leaves it to the system",
+    )
+    .value_name("SECONDS"))
+}
+
 /// The command with the options that take nothing.
 fn with_flags<'a>(alloc: Global, command: Command<'a>) -> Result<Command<'a>, AllocError> {
     command
@@ -64,7 +80,7 @@ fn command<'a>(alloc: Global) -> Result<Command<'a>, AllocError> {
         .version(VERSION)
         .about("A Gearman job server");
     let command = with_name(alloc, with_address(alloc, command)?)?;
-    let command = with_server_options(alloc, command)?;
+    let command = with_peer_timeout(alloc, with_server_options(alloc, command)?)?;
     with_flags(alloc, command)
 }
 
@@ -82,6 +98,8 @@ pub(crate) fn parse_args<'a, S: AsStr>(alloc: Global, args: &'a [S]) -> Result<A
         has_address: is_given(&matches, "port") || is_given(&matches, "listen"),
         name: matches.get_str("name").unwrap_or("gmd"),
         server: server_options(&matches),
+        peer_timeout: matches.get_one::<u16>("peer-timeout").unwrap_or(120),
+        has_peer_timeout: is_given(&matches, "peer-timeout"),
         check: matches.get_flag("check"),
         tape: matches.get_flag("tape"),
     })

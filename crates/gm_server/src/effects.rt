@@ -59,6 +59,9 @@ pub trait Notify<R> {
     /// Whether a session has had its time, and others are to be told what came of it. It keeps when it was first asked.
     fn is_time(&self, rt: &R, begun: &mut Option<Instant>) -> bool;
 
+    /// Tells the book the time. It is asked before each grab: a job's time limit counts from the last second that was told.
+    fn tell_time(&self, rt: &R);
+
     /// Tells what came of some units, with the book's lock let go.
     fn notify(&self, rt: &R, effects: &Effects);
 }

@@ -79,21 +79,19 @@ fn with_everybody(settled: Settled, actors: &[Actor]) -> Result<Settled, SettleE
 }
 
 /// Settles the book of a server, once no thread has any part of it.
-pub(crate) fn settle_state<K: BookName>(
-    state: ServerState<K>,
-    control: OwnDesk<K>,
-) -> Result<Settled, SettleError>
+pub(crate) fn settle_state<K: BookName>(state: ServerState<K>) -> Result<Settled, SettleError>
     ensures { SettledSo K.settings K.taped result }
 {
     let ServerState {
         alloc,
         shared,
         lanes,
+        control,
         slots,
         ..
     } = state;
     let actors = everybody(alloc, slots)?;
-    let (desks, pens) = all_parts(alloc, lanes, control)?;
+    let (desks, pens) = all_parts(alloc, lanes, control.into_inner())?;
     let settled = settle(alloc, shared, desks, pens)?;
     with_everybody(settled, actors.as_slice())
 }

@@ -10,6 +10,8 @@ use crossbeam_utils::sync::{Parker, Unparker};
 use gm_lane_word::{LaneWord, Looking, Owed};
 use gm_shared::{BookName, Pen, Shared};
 use std::alloc::{AllocError, Global};
+use std::io;
+use std::io::{ErrorKind, Write};
 use std::net::{Shutdown, TcpStream};
 use std::sync::atomic::{AtomicBool, Ordering};
 use std::sync::{Arc, Condvar, Mutex, Wait};
@@ -56,6 +58,60 @@ struct End {
     begun: Option<Instant>,
     /// When the peer was first seen to take nothing, since it last took some.
     stalled: Option<Instant>,
+    /// The connection has had its time.
+    is_over: bool,
+}
+
+impl End {
+    fn new() -> End {
+        End {
+            begun: None,
+            stalled: None,
+            is_over: false,
+        }
+    }
+
+    /// Looks at the time after a write: a peer that takes some has more, unless the server ends.
+    fn look(&mut self, rt: &impl Clock, has_taken: bool, is_stopping: bool) {
+        if has_taken {
+            self.stalled = None;
+        }
+        let time = if is_stopping {
+            ENDING_TIME
+        } else {
+            MOST_ENDING_TIME
+        };
+        self.is_over = is_over(rt, &mut self.begun, time)
+            || is_over(rt, &mut self.stalled, ENDING_TIME);
+    }
+}
+
+/// A connection's socket. Once the connection is to end and has had its time, it takes no more.
+#[derive(Drop)]
+struct Socket<'a, K: BookName, R> {
+    rt: &'a R,
+    lane: &'a Lane<K>,
+    stream: &'a TcpStream,
+    end: &'a mut End,
+}
+
+impl<'a, K: BookName, R: Clock> Write for Socket<'a, K, R> {
+    fn write(&mut self, bytes: &[u8]) -> io::Result<usize> {
+        if self.end.is_over {
+            return Err(io::Error::from(ErrorKind::TimedOut));
+        }
+        let outcome = self.stream.write(bytes);
+        if self.lane.is_ending.load(Ordering::SeqCst) {
+            let has_taken = matches!(outcome, Ok(count) if count > 0);
+            let is_stopping = self.lane.is_stopping.load(Ordering::SeqCst);
+            self.end.look(self.rt, has_taken, is_stopping);
+        }
+        outcome
+    }
+
+    fn flush(&mut self) -> io::Result<()> {
+        Ok(())
+    }
 }
 
 /// What is to be sent to a connection, and where.
@@ -65,6 +121,7 @@ pub(crate) struct Outgoing<K: BookName> {
     stream: Option<Arc<TcpStream, Global>>,
     /// A connection has the slot, and its writer hasn't let go of it.
     has_connection: bool,
+    end: End,
 }
 
 impl<K: BookName> Outgoing<K> {
@@ -78,6 +135,7 @@ impl<K: BookName> Outgoing<K> {
         Outbox::forget(&mut self.outbox);
         self.stream = Some(stream);
         self.has_connection = true;
+        self.end = End::new();
         self.set_write_timeout(WRITE_TIMEOUT);
     }
 
@@ -104,7 +162,13 @@ impl<K: BookName> Outgoing<K> {
     }
 
     /// Sends what there is to send, and ends the connection where it is over. It is done only in a look at the lane.
-    fn deliver(&mut self, rt: &impl Wait, shared: &Shared<K>, _looking: &Looking<'_>) -> Delivery
+    fn deliver<R: Wait + Clock>(
+        &mut self,
+        rt: &R,
+        shared: &Shared<K>,
+        lane: &Lane<K>,
+        _looking: &Looking<'_>,
+    ) -> Delivery
         ensures delivers { IfSome self.old.stream (λ stream. (old new : Option (List ℕ)) × Delivers K.settings K.taped result self.old.outbox.pen.slot
             self.old.outbox.pen.seat.takes self.new.outbox.pen.seat.takes self.old.outbox.pen.share.items self.new.outbox.pen.share.items old new
             (left_in self.old.outbox.left) (left_in self.new.outbox.left)) }
@@ -116,7 +180,12 @@ impl<K: BookName> Outgoing<K> {
         let Some(stream) = &self.stream else {
             return Delivery::Over;
         };
-        let mut socket: &TcpStream = stream;
+        let mut socket = Socket {
+            rt,
+            lane,
+            stream,
+            end: &mut self.end,
+        };
         let delivery = self.outbox.deliver(rt, shared, &mut socket);
         if delivery == Delivery::Over {
             self.hang_up();
@@ -168,6 +237,7 @@ impl<K: BookName> Lane<K> {
                 outbox: Outbox::new(pen),
                 stream: None,
                 has_connection: false,
+                end: End::new(),
             }),
             parker: Mutex::new(parker),
             unparker,
@@ -237,7 +307,12 @@ impl<K: BookName> Lane<K> {
     }
 
     /// Takes a connection, as its reader. The last one left the lane late, so a thread has to look before touches count.
-    pub(crate) fn begin(&self, rt: &impl Wait, shared: &Shared<K>, stream: Arc<TcpStream, Global>) {
+    pub(crate) fn begin<R: Wait + Clock>(
+        &self,
+        rt: &R,
+        shared: &Shared<K>,
+        stream: Arc<TcpStream, Global>,
+    ) {
         self.outgoing.lock(rt).begin(stream);
         if let Ok(owed) = self.word.take_over() {
             let _is_late = self.deliver_owed(rt, shared, owed);
@@ -291,7 +366,7 @@ impl<K: BookName> Lane<K> {
 
     /// Tells the lane that there may be something to send, and sends it, unless another thread has the lane and so looks after
     /// this. It says whether it found the peer slow.
-    pub(crate) fn touch(&self, rt: &impl Wait, shared: &Shared<K>) -> bool {
+    pub(crate) fn touch<R: Wait + Clock>(&self, rt: &R, shared: &Shared<K>) -> bool {
         match self.word.touch() {
             Ok(owed) => self.deliver_owed(rt, shared, owed),
             Err(_) => false,
@@ -300,13 +375,18 @@ impl<K: BookName> Lane<K> {
 
     /// Looks, and again where the lane was touched since. Where the peer is slow, or the connection is to end, or the lane
     /// is touched again and again, the writer does the rest.
-    fn deliver_owed<'a>(&'a self, rt: &impl Wait, shared: &Shared<K>, owed: Owed<'a>) -> bool {
+    fn deliver_owed<'a, R: Wait + Clock>(
+        &'a self,
+        rt: &R,
+        shared: &Shared<K>,
+        owed: Owed<'a>,
+    ) -> bool {
         let mut owed = owed;
         for _ in 0..MOST_LOOKS {
             let (looking, (is_ending, delivery)) = owed.look(|looking| {
                 // Read first: the thread that asks for the end wakes the writer, which touches the lane after that.
                 let is_ending = self.is_ending.load(Ordering::SeqCst);
-                let delivery = self.outgoing.lock(rt).deliver(rt, shared, looking);
+                let delivery = self.outgoing.lock(rt).deliver(rt, shared, self, looking);
                 (is_ending, delivery)
             });
             if is_ending || delivery == Delivery::Late {
@@ -322,19 +402,6 @@ impl<K: BookName> Lane<K> {
         false
     }
 
-    /// Whether a connection that is to end has had its time: a peer that takes some has more, unless the server ends.
-    fn is_end_over(&self, rt: &impl Clock, has_taken: bool, end: &mut End) -> bool {
-        if has_taken {
-            end.stalled = None;
-        }
-        let time = if self.is_stopping.load(Ordering::SeqCst) {
-            ENDING_TIME
-        } else {
-            MOST_ENDING_TIME
-        };
-        is_over(rt, &mut end.begun, time) || is_over(rt, &mut end.stalled, ENDING_TIME)
-    }
-
     /// Delivers, and waits for a slow peer; where the connection is to end, not for long.
     fn deliver_patiently<R: Wait + Clock>(
         &self,
@@ -343,22 +410,15 @@ impl<K: BookName> Lane<K> {
         looking: &Looking<'_>,
     ) {
         let mut outgoing = self.outgoing.lock(rt);
-        if outgoing.deliver(rt, shared, looking) != Delivery::Late {
+        if outgoing.deliver(rt, shared, self, looking) != Delivery::Late {
             return;
         }
         outgoing.set_write_timeout(WRITER_TIMEOUT);
-        let mut end = End {
-            begun: None,
-            stalled: None,
-        };
         for _ in rt.forever() {
-            let sent = outgoing.outbox.sent();
-            if outgoing.deliver(rt, shared, looking) != Delivery::Late {
+            if outgoing.deliver(rt, shared, self, looking) != Delivery::Late {
                 break;
             }
-            let has_taken = outgoing.outbox.sent() != sent;
-            let is_ending = self.is_ending.load(Ordering::SeqCst);
-            if is_ending && self.is_end_over(rt, has_taken, &mut end) {
+            if outgoing.end.is_over {
                 outgoing.hang_up();
                 break;
             }

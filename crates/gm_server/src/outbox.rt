@@ -21,8 +21,6 @@ pub struct Message {
     bytes: ByteQueue,
     /// What isn't sent yet of the NOOP.
     noop: &'static [u8],
-    /// How many bytes were sent.
-    sent: u64,
 }
 
 impl Message {
@@ -36,7 +34,6 @@ impl Message {
         Message {
             bytes,
             noop: noop_if(took),
-            sent: 0,
         }
     }
 
@@ -65,7 +62,6 @@ impl Message {
             writes_left -= 1;
             let (count, delivery) = write_once(chunk, w);
             self.bytes.advance(count);
-            self.sent = self.sent.wrapping_add(count as u64);
             match delivery {
                 Delivery::Done => {}
                 Delivery::Late => return Delivery::Late,
@@ -114,14 +110,6 @@ impl<K: BookName> Outbox<K> {
         ensures empty { left_in self.new.left ≡ [] }
     {
         self.left = None;
-    }
-
-    /// How many bytes of the present message were sent.
-    pub(crate) fn sent(&self) -> u64 {
-        match &self.left {
-            Some(message) => message.sent,
-            None => 0,
-        }
     }
 
     /// Sends what is left of the present message.

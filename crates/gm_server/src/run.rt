@@ -119,6 +119,7 @@ fn settings_of(alloc: Global, args: Args<'_>) -> Result<Settings, RunError>
     ensures config { IfOk result (λ settings. settings.config ≡ asked_settings args.entry) }
     ensures name { IsErrOf result RunError.Name → config_fault (asked_settings args.entry) ≡ None → ⊥ }
     ensures limits { IfOk result (λ settings. settings.limits ≡ args.entry.server.limits) }
+    ensures peer_timeout { IfOk result (λ settings. settings.peer_timeout ≡ args.entry.peer_timeout) }
     ensures tape { IfOk result (λ settings. settings.tape ≡ args.entry.tape) }
 {
     let name = Vec::from_slice(alloc, args.name.as_bytes())?;
@@ -130,16 +131,19 @@ fn settings_of(alloc: Global, args: Args<'_>) -> Result<Settings, RunError>
             .with_round_robin(args.server.round_robin)
             .with_retries(args.server.job_retries),
         limits: args.server.limits,
+        peer_timeout: args.peer_timeout,
         tape: args.tape,
     })
 }
 
-/// Prints the settings.
+/// Prints the settings on a line, and on a further one those that programs don't expect there, if they are given.
 fn print_settings<W: Write>(args: Args<'_>, w: &mut W) -> io::Result<()> {
     let Args {
         port,
         listen,
         name,
+        peer_timeout,
+        has_peer_timeout,
         tape,
         ..
     } = args;
@@ -152,6 +156,9 @@ fn print_settings<W: Write>(args: Args<'_>, w: &mut W) -> io::Result<()> {
         w,
         "port={port} listen={listen} slots={slots} name={name} max-data={max_data} tape={tape} round-robin={round_robin} job-retries={job_retries}"
     )?;
+    if has_peer_timeout {
+        writeln!(w, "peer-timeout={peer_timeout}")?;
+    }
     w.flush()
 }
 

@@ -24,16 +24,15 @@ use std::thread;
 use std::thread::Threads;
 use std::time::Clock;
 
-/// Runs the control thread, and answers how many connections were opened. All other threads have ended then. The
-/// control desk comes back.
+/// Runs the control thread, and answers how many connections were opened. All other threads have ended then.
 fn run_control<'x, K: BookName + Send + Sync, R: Threads + Wait + Clock + Eprint + Sync, G: Gate>(
     rt: &'x R,
     state: &'x ServerState<K>,
-    desk: OwnDesk<K>,
     listener: &'x TcpListener,
+    peer_timeout: u16,
     gate: &'x G,
-) -> (OwnDesk<K>, Result<u64, ControlError>) {
-    let control = Control::new(rt, state, desk);
+) -> Result<u64, ControlError> {
+    let control = Control::new(state, peer_timeout);
     thread::scope(
         thread::scope_env(),
         rt,
@@ -70,6 +69,7 @@ pub fn serve_book<
     blank: Blank,
     listener: &TcpListener,
     limits: Limits,
+    peer_timeout: u16,
     gate: &G,
     ready: &mut T,
 ) -> Result<Ended, ControlError>
@@ -80,17 +80,17 @@ pub fn serve_book<
 {
     let slots = blank.slots();
     let (shared, desks, pens, control) = Shared::<K>::open(alloc, blank)?;
-    let state = ServerState::new(alloc, shared, desks, pens, slots, limits)?;
-    let desk = OwnDesk::new(control);
-    let (desk, outcome) = if ready.tell() {
-        run_control(rt, &state, desk, listener, gate)
+    let control = OwnDesk::new(control);
+    let state = ServerState::new(rt, alloc, shared, desks, pens, control, slots, limits)?;
+    let outcome = if ready.tell() {
+        run_control(rt, &state, listener, peer_timeout, gate)
     } else {
-        (desk, Ok(0))
+        Ok(0)
     };
     let connections = outcome?;
     Ok(Ended {
         connections,
-        book: settle_state(state, desk),
+        book: settle_state(state),
     })
 }
 
@@ -127,6 +127,7 @@ pub(crate) fn serve_announced<R: Threads + Wait + Clock + Eprint + Sync, G: Gate
     let Settings {
         config,
         limits,
+        peer_timeout,
         tape,
     } = settings;
     let Ok(()) = set_accept_timeout(&listener) else {
@@ -134,7 +135,14 @@ pub(crate) fn serve_announced<R: Threads + Wait + Clock + Eprint + Sync, G: Gate
     };
     let blank = Blank::new(alloc, seed, config, mode(tape))?;
     let Ended { connections, book } = serve_book::<Brand, R, G, T>(
-        rt, alloc, blank, &listener, limits, gate, ready,
+        rt,
+        alloc,
+        blank,
+        &listener,
+        limits,
+        peer_timeout,
+        gate,
+        ready,
     )?;
     let told = served(connections, &book);
     drop(book);

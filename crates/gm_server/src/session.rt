@@ -14,6 +14,7 @@ use gm_conns::SlotSet;
 use gm_feeder::{Feeder, Limits, OwnedPacket, ReadError};
 use gm_front::{Next, next_event};
 use gm_notes::{ApplyError, Event};
+use gm_packet::Kind;
 use gm_shared::{BookName, Desk, Shared};
 use std::alloc::{AllocError, Global};
 use std::io::{ErrorKind, Read};
@@ -46,6 +47,16 @@ pub enum SessionEnd {
     Memory,
     /// It read 1,099,511,627,776 pieces.
     Turns,
+}
+
+/// Whether a worker asks for a job.
+fn is_grab(event: &Event<'_>) -> bool {
+    match event {
+        Event::Packet { kind, .. } => {
+            matches!(Kind::of(*kind), Some(Kind::GrabJob | Kind::GrabJobUniq))
+        }
+        _ => false,
+    }
 }
 
 /// Where a connection's events are applied: its desk, past the gate.
@@ -89,8 +100,8 @@ impl<'s, K: BookName, R: Wait, G: Gate> Applier<'s, K, R, G> {
         }
     }
 
-    /// Lets a unit pass the gate, and applies it.
-    fn apply_unit(&mut self, event: Event<'_>) -> Result<(), SessionEnd>
+    /// Lets a unit pass the gate, and applies it. Before a grab the server tells the time.
+    fn apply_unit<N: Notify<R>>(&mut self, server: &N, event: Event<'_>) -> Result<(), SessionEnd>
         requires { IsSized event }
         ensures applies { Applies K.settings K.taped self.old.desk.now.number (step_of event.entry) result self.old.desk.now.share.items self.new.desk.now.share.items }
         ensures keeps { Keeps K.settings K.taped (step_of event.entry) self.old.desk.now.number result self.old.desk.now.share.items self.new.desk.now.share.items
@@ -101,6 +112,9 @@ impl<'s, K: BookName, R: Wait, G: Gate> Applier<'s, K, R, G> {
     {
         self.gate.pass(self.rt, self.slot, self.index);
         self.index = self.index.saturating_add(1);
+        if is_grab(&event) {
+            server.tell_time(self.rt);
+        }
         self.apply(event)
     }
 }
@@ -226,7 +240,7 @@ impl<'s, K: BookName, R: Wait, G: Gate, N: Notify<R>> Session<'s, K, R, G, N> {
             Next::Unit(event) => {
                 let is_line = matches!(event, Event::Line { .. });
                 turn.admit(self.server, self.applier.rt);
-                self.applier.apply_unit(event)?;
+                self.applier.apply_unit(self.server, event)?;
                 Ok(Taken::Unit { is_line })
             }
             Next::Wait => Ok(Taken::Nothing),
@@ -253,7 +267,8 @@ impl<'s, K: BookName, R: Wait, G: Gate, N: Notify<R>> Session<'s, K, R, G, N> {
             return Err(SessionEnd::Memory);
         };
         let bytes = Data::shared(&data);
-        self.applier.apply_unit(Event::Packet { slot, kind, bytes })
+        self.applier
+            .apply_unit(self.server, Event::Packet { slot, kind, bytes })
     }
 
     /// Takes each unit in the feeder, and the fault after them. Where the session is over, it says why. Where

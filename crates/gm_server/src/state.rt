@@ -1,7 +1,7 @@
 //! What all threads of a server share.
 
 ghost use Rattle.std.specs.Prelude.{◌≡◌, ◌<◌, ◌≤◌, All, [], true, false, None, IfSome, IfNone, length};
-ghost use Rattle.gm_notes.specs.Steps.{Tick, Close};
+ghost use Rattle.gm_notes.specs.Steps.{Close};
 ghost use Rattle.gm_server.specs.Owners.{Asks, Opens};
 
 use crate::effects::{Effects, Notify};
@@ -30,9 +30,15 @@ pub(crate) struct ServerState<K: BookName> {
     pub(crate) alloc: Global,
     pub(crate) shared: Shared<K>,
     pub(crate) lanes: Vec<Lane<K>>,
+    // Where connections are opened, and the time is told.
+    pub(crate) control: Mutex<OwnDesk<K>>,
     // How many slots the book has.
     pub(crate) slots: u32,
     limits: Limits,
+    // When the server began, if the clock could be read.
+    begun: Option<Instant>,
+    // The last second since then that was told.
+    second: AtomicU64,
     // Long pieces pass it one after another.
     long_piece_lock: Mutex<()>,
     // How many connections are open.
@@ -102,10 +108,12 @@ fn new_lanes<K: BookName>(
 impl<K: BookName> ServerState<K> {
     /// What the threads of a new server share.
     pub(crate) fn new(
+        rt: &impl Clock,
         alloc: Global,
         shared: Shared<K>,
         desks: Vec<Desk<K>>,
         pens: Vec<Pen<K>>,
+        control: OwnDesk<K>,
         slots: u32,
         limits: Limits,
     ) -> Result<ServerState<K>, AllocError>
@@ -117,8 +125,11 @@ impl<K: BookName> ServerState<K> {
             alloc,
             shared,
             lanes,
+            control: Mutex::new(control),
             slots,
             limits,
+            begun: Instant::now(rt).ok(),
+            second: AtomicU64::new(0),
             long_piece_lock: Mutex::new(()),
             connections: AtomicU64::new(0),
             is_ending: AtomicBool::new(false),
@@ -233,13 +244,34 @@ impl<K: BookName> ServerState<K> {
         receipt.done.opened
     }
 
-    /// Tells the book which second it is. If there is no memory for that, the book gets the next second.
-    pub(crate) fn tick<R: Wait + Clock>(&self, rt: &R, desk: &mut OwnDesk<K>, now: u64)
-        ensures asks { Asks K.settings K.taped (Tick now) desk.old.desk.number desk.old.desk.share.items desk.new.desk.share.items }
-        ensures number { desk.new.desk.number ≡ desk.old.desk.number }
-    {
+    /// How many seconds the server has run, if the clock can be read.
+    fn seconds(&self, rt: &impl Clock) -> Option<u64> {
+        let elapsed = self.begun.as_ref()?.elapsed(rt).ok()?;
+        Some(elapsed.as_secs())
+    }
+
+    /// Tells the book the second, if it is later than the last that was told. A clock that can't be read tells nothing.
+    pub(crate) fn tell_time<R: Wait + Clock>(&self, rt: &R) {
+        if let Some(now) = self.seconds(rt) {
+            if self.second.load(Ordering::SeqCst) < now {
+                self.tick(rt, now);
+            }
+        }
+    }
+
+    /// Tells the book this second, unless another thread was first. If there is no memory for that, the book gets the next
+    /// second.
+    fn tick<R: Wait + Clock>(&self, rt: &R, now: u64) {
         let mut touched = SlotSet::new();
-        if let Ok(receipt) = desk.tick(rt, &self.shared, now, &mut touched) {
+        let mut desk = self.control.lock(rt);
+        if now <= self.second.load(Ordering::SeqCst) {
+            return;
+        }
+        let outcome = desk.tick(rt, &self.shared, now, &mut touched);
+        // Only now: a thread that reads it hands in a grab without a tick.
+        self.second.store(now, Ordering::SeqCst);
+        drop(desk);
+        if let Ok(receipt) = outcome {
             self.tell(rt, &touched, receipt.mode);
         }
     }
@@ -322,6 +354,10 @@ impl<K: BookName, R: Wait + Clock> Notify<R> for ServerState<K> {
 
     fn is_time(&self, rt: &R, begun: &mut Option<Instant>) -> bool {
         is_over(rt, begun, TURN_TIME)
+    }
+
+    fn tell_time(&self, rt: &R) {
+        ServerState::tell_time(self, rt);
     }
 
     fn notify(&self, rt: &R, effects: &Effects) {

@@ -80,6 +80,8 @@ impl<R> Notify<R> for Alone {
         false
     }
 
+    fn tell_time(&self, _rt: &R) {}
+
     fn notify(&self, _rt: &R, _effects: &Effects) {}
 }
 

@@ -32,6 +32,7 @@ fn served<R: Threads + Wait + Clock + RandomSource + Eprint + Sync>(
             max_bytes: 67_108_864,
             max_line: 1024,
         },
+        peer_timeout: 120,
         tape: false,
     };
     serve(rt, alloc, seed, listener, settings, hold).ok()

@@ -48,6 +48,13 @@ fn check_line(rt: HostRuntime) -> Result<(), Fail> {
 }
 
 #[test]
+fn second_check_line(rt: HostRuntime) -> Result<(), Fail> {
+    let lines =
+        "port=4730 listen=0.0.0.0 slots=64 name=gmd max-data=67108864 tape=0 round-robin=0 job-retries=0\npeer-timeout=30\n";
+    assert_words(&rt, &["gmd", "--check", "--peer-timeout", "30"], 0, lines)
+}
+
+#[test]
 fn wrong_words(rt: HostRuntime) -> Result<(), Fail> {
     for (option, value) in [("--slots", "0"), ("--port", "65536"), ("--name", "a:b")] {
         assert_words(&rt, &["gmd", option, value], 2, "")?;
