@@ -52,7 +52,7 @@ pub(crate) fn is_over(rt: &impl Clock, begun: &mut Option<Instant>, time: u64) -
 }
 
 /// How long a connection's end has taken.
-#[derive(Drop)]
+#[derive(Clone, Copy)]
 struct End {
     /// When it was first looked at.
     begun: Option<Instant>,
@@ -92,7 +92,7 @@ struct Socket<'a, K: BookName, R> {
     rt: &'a R,
     lane: &'a Lane<K>,
     stream: &'a TcpStream,
-    end: &'a mut End,
+    end: End,
 }
 
 impl<'a, K: BookName, R: Clock> Write for Socket<'a, K, R> {
@@ -184,9 +184,10 @@ impl<K: BookName> Outgoing<K> {
             rt,
             lane,
             stream,
-            end: &mut self.end,
+            end: self.end,
         };
         let delivery = self.outbox.deliver(rt, shared, &mut socket);
+        self.end = socket.end;
         if delivery == Delivery::Over {
             self.hang_up();
         }
