@@ -9,7 +9,8 @@ use Rattle.gm_shared.specs.declared.tape.Actor.TheVariants.{Desk, Pen}
 use Rattle.gm_shared.specs.declared.tape.TapeStep.{TapeStep}
 use Rattle.gm_shared.specs.declared.tape.Told.{Told}
 use Rattle.gm_shared.specs.Tapes.{if_event, events_told, is_drain_of, drains_alone}
-use Rattle.gm_shared.specs.Shared.{Applied, numbers_below}
+use Rattle.gm_shared.specs.Calls.{Account, Called}
+use Rattle.gm_shared.specs.Shared.{numbers_below}
 
 -- the desk of this number hands in what its own slot says, and openings and ticks, which no slot says
 abbrev pub is_said_by : ℕ → Step → Bool
@@ -42,8 +43,8 @@ abbrev pub is_own_share : Bool → Actor → List Told → Bool
 is_own_share taped actor told = if taped then tells_own actor told else true
 
 -- the event was handed in at the desk, whatever the book answered
-abbrev pub Asks : Settings → Bool → Step → ℕ → List Told → List Told → Type 0
-Asks k taped s desk share after = (answer : Result Receipt ApplyError) × Applied k taped s desk answer share after
+abbrev pub Asks : Settings → Bool → Step → ℕ → Account → Account → Type 0
+Asks k taped s desk before after = (answer : Result Receipt ApplyError) × Called k taped s desk answer before after
 
 -- the slot that was opened, if the opening was taken
 abbrev pub opened_by : Result Receipt ApplyError → Option ℕ
@@ -51,8 +52,8 @@ opened_by (Ok receipt) = receipt.done.opened
 opened_by (Err refused) = None
 
 -- an opening from this address was handed in at the desk, and the book opened this slot, or none
-abbrev pub Opens : Settings → Bool → ℕ → List ℕ → Option ℕ → List Told → List Told → Type 0
-Opens k taped desk addr slot share after = (answer : Result Receipt ApplyError) × Applied k taped (Open addr) desk answer share after × (slot ≡ opened_by answer)
+abbrev pub Opens : Settings → Bool → ℕ → List ℕ → Option ℕ → Account → Account → Type 0
+Opens k taped desk addr slot before after = (answer : Result Receipt ApplyError) × Called k taped (Open addr) desk answer before after × (slot ≡ opened_by answer)
 
 -- all that have a share in a book with this number of slots, in order: the desks, the control desk, the pens
 abbrev pub everybody : ℕ → List Actor

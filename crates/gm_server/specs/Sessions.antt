@@ -11,7 +11,7 @@ use Rattle.gm_notes.specs.Settings.{Settings}
 use Rattle.gm_notes.specs.Steps.{Step, Fault}
 use Rattle.gm_front.specs.Units.{step_of_unit, fault_steps, steps_of, IsFaultAt, BeginsWith}
 use Rattle.gm_shared.specs.declared.tape.Told.{Told}
-use Rattle.gm_shared.specs.Shared.{Applied}
+use Rattle.gm_shared.specs.Calls.{Account, Called}
 use Rattle.gm_shared.specs.Tapes.{events_told}
 use Rattle.gm_server.specs.declared.session.SessionEnd.{SessionEnd}
 use Rattle.gm_server.specs.declared.session.SessionEnd.TheVariants as ends
@@ -49,8 +49,10 @@ IsWhole ends.Turns = Unit {0}
 -- the event was handed in at this desk, and the book refused it for another reason than memory
 pub record Refuses (k : Settings) (taped : Bool) (s : Step) (desk : ℕ) (after : List Told) : Type 0 where
   pub error : ApplyError
-  pub before : List Told
-  pub applied : Applied k taped s desk (Err error) before after
+  pub before : Account
+  pub now : Account
+  pub called : Called k taped s desk (Err error) before now
+  pub share_is : now.share ≡ after
   pub reason : error ≡ refusals.Memory → ⊥
 
 -- this event of slot c comes next in the bytes

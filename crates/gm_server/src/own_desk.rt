@@ -6,7 +6,8 @@ ghost use Rattle.std.specs.Io.KnownBytes.{IsAtEnd};
 ghost use Rattle.gm_notes.specs.Servers.{step_of, IsSized};
 ghost use Rattle.gm_notes.specs.Steps.{Open, Close, Tick};
 ghost use Rattle.gm_shared.specs.Books.{NeedsNoMemory};
-ghost use Rattle.gm_shared.specs.Shared.{AppliedTo, AddsEvent};
+ghost use Rattle.gm_shared.specs.Calls.{DeskCalled, account};
+ghost use Rattle.gm_shared.specs.Shared.{AddsEvent};
 ghost use Rattle.gm_shared.specs.declared.tape.Actor.TheVariants as actors;
 ghost use Rattle.gm_server.specs.Owners.{is_said_by, is_own_share};
 ghost use Rattle.gm_server.specs.Sessions.{Reads};
@@ -56,7 +57,8 @@ impl<K: BookName> OwnDesk<K> {
     ) -> Result<Receipt, ApplyError>
         requires size { IsSized event }
         requires own { is_said_by self.old.desk.number (step_of event) ≡ true }
-        ensures applied { AppliedTo K.settings K.taped (step_of event.entry) self.old.desk.number result touched.new self.old.desk.share.items self.new.desk.share.items }
+        ensures called { DeskCalled K.settings K.taped (step_of event.entry) self.old.desk.number result touched.new
+            (account self.old.desk.share.items self.old.desk.front.seen) (account self.new.desk.share.items self.new.desk.front.seen) }
         ensures adds { AddsEvent K.taped (step_of event.entry) result self.old.desk.share.items self.new.desk.share.items }
         ensures memory { NeedsNoMemory K.taped (step_of event.entry) → IsErrOf result ApplyError.Memory → ⊥ }
         ensures number { self.new.desk.number ≡ self.old.desk.number }
@@ -72,7 +74,8 @@ impl<K: BookName> OwnDesk<K> {
         addr: &[u8],
         touched: &mut SlotSet,
     ) -> Result<Receipt, ApplyError>
-        ensures applied { AppliedTo K.settings K.taped (Open addr.now) self.old.desk.number result touched.new self.old.desk.share.items self.new.desk.share.items }
+        ensures called { DeskCalled K.settings K.taped (Open addr.now) self.old.desk.number result touched.new
+            (account self.old.desk.share.items self.old.desk.front.seen) (account self.new.desk.share.items self.new.desk.front.seen) }
         ensures number { self.new.desk.number ≡ self.old.desk.number }
     {
         self.apply(rt, shared, Event::Open { addr }, touched)
@@ -86,7 +89,8 @@ impl<K: BookName> OwnDesk<K> {
         now: u64,
         touched: &mut SlotSet,
     ) -> Result<Receipt, ApplyError>
-        ensures applied { AppliedTo K.settings K.taped (Tick now) self.old.desk.number result touched.new self.old.desk.share.items self.new.desk.share.items }
+        ensures called { DeskCalled K.settings K.taped (Tick now) self.old.desk.number result touched.new
+            (account self.old.desk.share.items self.old.desk.front.seen) (account self.new.desk.share.items self.new.desk.front.seen) }
         ensures number { self.new.desk.number ≡ self.old.desk.number }
     {
         self.apply(rt, shared, Event::Tick { now }, touched)
@@ -99,7 +103,8 @@ impl<K: BookName> OwnDesk<K> {
         shared: &Shared<K>,
         touched: &mut SlotSet,
     ) -> Result<Receipt, ApplyError>
-        ensures applied { AppliedTo K.settings K.taped (Close self.old.desk.number) self.old.desk.number result touched.new self.old.desk.share.items self.new.desk.share.items }
+        ensures called { DeskCalled K.settings K.taped (Close self.old.desk.number) self.old.desk.number result touched.new
+            (account self.old.desk.share.items self.old.desk.front.seen) (account self.new.desk.share.items self.new.desk.front.seen) }
         ensures memory { K.taped ≡ false → IsErrOf result ApplyError.Memory → ⊥ }
         ensures number { self.new.desk.number ≡ self.old.desk.number }
     {

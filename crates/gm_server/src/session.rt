@@ -4,6 +4,7 @@ ghost use Rattle.std.specs.Prelude.{◌≡◌, ◌+◌, ◌-◌, ◌%◌, ◌^�
 ghost use Rattle.std.specs.Io.KnownBytes.{IsAtEnd};
 ghost use Rattle.gm_notes.specs.Servers.{step_of, IsSized};
 ghost use Rattle.gm_notes.specs.Steps.{Packet};
+ghost use Rattle.gm_shared.specs.Calls.{account};
 ghost use Rattle.gm_server.specs.Effects.{IsNothing, Keeps};
 ghost use Rattle.gm_server.specs.Sessions.{IsPiece, Applies, TakesNext, Unloads, Reads};
 
@@ -70,8 +71,8 @@ impl<'s, K: BookName, R: Wait, G: Gate> Applier<'s, K, R, G> {
     fn apply(&mut self, event: Event<'_>) -> Result<(), SessionEnd>
         requires { IsSized event }
         ensures applies { Applies K.settings K.taped self.old.desk.now.number (step_of event.entry) result self.old.desk.now.share.items self.new.desk.now.share.items }
-        ensures keeps { Keeps K.settings K.taped (step_of event.entry) self.old.desk.now.number result self.old.desk.now.share.items self.new.desk.now.share.items
-            self.old.effects self.new.effects }
+        ensures keeps { Keeps K.settings K.taped (step_of event.entry) self.old.desk.now.number result
+            (account self.old.desk.now.share.items self.old.desk.now.front.seen) (account self.new.desk.now.share.items self.new.desk.now.front.seen) self.old.effects self.new.effects }
         ensures same_desk { self.new.desk.ghost_name ≡ self.old.desk.ghost_name }
         ensures number { self.new.desk.now.number ≡ self.old.desk.now.number }
         ensures slot { self.new.slot ≡ self.old.slot }
@@ -93,8 +94,8 @@ impl<'s, K: BookName, R: Wait, G: Gate> Applier<'s, K, R, G> {
     fn apply_unit(&mut self, event: Event<'_>) -> Result<(), SessionEnd>
         requires { IsSized event }
         ensures applies { Applies K.settings K.taped self.old.desk.now.number (step_of event.entry) result self.old.desk.now.share.items self.new.desk.now.share.items }
-        ensures keeps { Keeps K.settings K.taped (step_of event.entry) self.old.desk.now.number result self.old.desk.now.share.items self.new.desk.now.share.items
-            self.old.effects self.new.effects }
+        ensures keeps { Keeps K.settings K.taped (step_of event.entry) self.old.desk.now.number result
+            (account self.old.desk.now.share.items self.old.desk.now.front.seen) (account self.new.desk.now.share.items self.new.desk.now.front.seen) self.old.effects self.new.effects }
         ensures same_desk { self.new.desk.ghost_name ≡ self.old.desk.ghost_name }
         ensures number { self.new.desk.now.number ≡ self.old.desk.now.number }
         ensures slot { self.new.slot ≡ self.old.slot }

@@ -2,6 +2,7 @@
 
 ghost use Rattle.std.specs.Prelude.{◌≡◌, ◌<◌, ◌≤◌, All, [], true, false, None, IfSome, IfNone, length};
 ghost use Rattle.gm_notes.specs.Steps.{Tick, Close};
+ghost use Rattle.gm_shared.specs.Calls.{account};
 ghost use Rattle.gm_server.specs.Owners.{Asks, Opens};
 
 use crate::effects::{Effects, Notify};
@@ -224,7 +225,7 @@ impl<K: BookName> ServerState<K> {
         desk: &mut OwnDesk<K>,
         addr: &[u8],
     ) -> Option<u32>
-        ensures opens { Opens K.settings K.taped desk.old.desk.number addr.now result desk.old.desk.share.items desk.new.desk.share.items }
+        ensures opens { Opens K.settings K.taped desk.old.desk.number addr.now result (account desk.old.desk.share.items desk.old.desk.front.seen) (account desk.new.desk.share.items desk.new.desk.front.seen) }
         ensures number { desk.new.desk.number ≡ desk.old.desk.number }
     {
         let mut touched = SlotSet::new();
@@ -235,7 +236,7 @@ impl<K: BookName> ServerState<K> {
 
     /// Tells the book which second it is. If there is no memory for that, the book gets the next second.
     pub(crate) fn tick<R: Wait + Clock>(&self, rt: &R, desk: &mut OwnDesk<K>, now: u64)
-        ensures asks { Asks K.settings K.taped (Tick now) desk.old.desk.number desk.old.desk.share.items desk.new.desk.share.items }
+        ensures asks { Asks K.settings K.taped (Tick now) desk.old.desk.number (account desk.old.desk.share.items desk.old.desk.front.seen) (account desk.new.desk.share.items desk.new.desk.front.seen) }
         ensures number { desk.new.desk.number ≡ desk.old.desk.number }
     {
         let mut touched = SlotSet::new();
@@ -247,7 +248,7 @@ impl<K: BookName> ServerState<K> {
     /// Closes a desk's slot. With a tape there may be no memory for that. Then the slot stays open in the book, and the
     /// server ends.
     fn close<R: Wait + Clock>(&self, rt: &R, desk: &mut OwnDesk<K>)
-        ensures asks { Asks K.settings K.taped (Close desk.old.desk.number) desk.old.desk.number desk.old.desk.share.items desk.new.desk.share.items }
+        ensures asks { Asks K.settings K.taped (Close desk.old.desk.number) desk.old.desk.number (account desk.old.desk.share.items desk.old.desk.front.seen) (account desk.new.desk.share.items desk.new.desk.front.seen) }
         ensures number { desk.new.desk.number ≡ desk.old.desk.number }
     {
         let mut touched = SlotSet::new();

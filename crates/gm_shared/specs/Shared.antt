@@ -1,5 +1,5 @@
 -- What the lock keeps, and what callers of a shared book see.
-use Rattle.std.specs.Prelude.{◌≡◌, ◌⊎◌, ℕ, zero, suc, ◌+◌, Bool, true, if◌then◌else◌, List, [], ◌∷◌, ◌++◌, map, All, Result, Ok, Err}
+use Rattle.std.specs.Prelude.{◌≡◌, ◌⊎◌, ℕ, zero, suc, ◌+◌, Bool, true, if◌then◌else◌, List, [], ◌∷◌, ◌++◌, reverse, map, All, Result, Ok, Err}
 use Rattle.atomic_table.specs.Seated.{TableId}
 use Rattle.gm_notes.specs.declared.event.ApplyError.{ApplyError}
 use Rattle.gm_notes.specs.Settings.{Settings}
@@ -9,19 +9,21 @@ use Rattle.gm_core.specs.Holds.{CoreAgrees}
 use Rattle.gm_word.specs.Seats.{PenState, fresh_pens}
 use Rattle.gm_shared.specs.declared.book.Booked.{Booked}
 use Rattle.gm_shared.specs.declared.tape.Actor.{Actor}
+use Rattle.gm_shared.specs.declared.tape.Entry.{Entry}
 use Rattle.gm_shared.specs.declared.tape.Share.{Share}
 use Rattle.gm_shared.specs.declared.settling.Settled.{Settled}
 use Rattle.gm_shared.specs.declared.settling.SettleError.{SettleError}
 use Rattle.gm_shared.specs.declared.settling.SettleError.TheVariants.{Memory, Differs}
 use Rattle.gm_shared.specs.declared.tape.Told.{Told}
 use Rattle.gm_shared.specs.declared.receipt.Receipt.{Receipt}
-use Rattle.gm_shared.specs.declared.receipt.Drained.{Drained}
-use Rattle.gm_shared.specs.Tapes.{TapeIs, AddUp, events_told}
-use Rattle.gm_shared.specs.Books.{takings, BookedAgrees, Held, Drains}
+use Rattle.gm_shared.specs.Tapes.{TapeIs, AddUp, events_told, steps_of, Legal}
+use Rattle.gm_shared.specs.Books.{takings, BookedAgrees}
+use Rattle.gm_shared.specs.Tokens.{KeeperState}
 
 -- a book that nobody shares yet, the settings under which it serves, and whether it keeps a tape
 pub record BlankState : Type 0 where
   pub table : TableId
+  pub history : TableId
   pub settings : Settings
   pub taped : Bool
 
@@ -32,39 +34,28 @@ pub record IsBlank (table : TableId) (k : Settings) (slots : ℕ) (booked : Book
   pub table_is : booked.seat.table ≡ table
   pub seats_are : seats ≡ fresh_pens table slots
 
--- What the lock keeps: the book agrees with these settings and some list of steps, its words are in this table, and it keeps a
--- tape or not.
-pub record IsGuarded (table : TableId) (k : Settings) (taped : Bool) (booked : Booked) : Type 0 where
-  pub steps : List Step
-  pub agrees : BookedAgrees booked k steps
+-- a count of fronts were made of a history without an entry
+pub record HasMade (count : ℕ) (history : TableId) (keeper : KeeperState) : Type 0 where
+  pub history_is : keeper.table ≡ history
+  pub empty : keeper.log ≡ []
+  pub count_is : keeper.made ≡ count
+
+abbrev pub IsNew : TableId → KeeperState → Type 0
+IsNew history keeper = HasMade 0 history keeper
+
+-- What the lock keeps: the book agrees with the steps of the one history, which is legal under these settings and which the tape,
+-- if one is kept, is. Its words are in this table.
+pub record IsGuarded (table : TableId) (k : Settings) (taped : Bool) (booked : Booked) (log : List Entry) : Type 0 where
+  pub agrees : BookedAgrees booked k (steps_of log)
+  pub legal : Legal k log
+  pub recorded : booked.tape.entries.items ≡ (if taped then reverse log else [])
   pub table_is : booked.seat.table ≡ table
   pub on : booked.tape.on ≡ taped
 
--- The answer is that of one holding of a book that agreed with these settings and some list of steps, the event touched these
--- slots, and what the desk learnt of the book's tape was added to the desk's share.
-pub record AppliedTo (k : Settings) (taped : Bool) (s : Step) (desk : ℕ) (result : Result Receipt ApplyError) (touched : List ℕ) (share after : List Told) : Type 0 where
-  pub steps : List Step
-  pub old : Booked
-  pub new : Booked
-  pub on : old.tape.on ≡ taped
-  pub agrees : BookedAgrees old k steps
-  pub told : List Told
-  pub held : Held k steps s desk result touched old new told
-  pub share_is : after ≡ share ++ told
-
--- the same, whichever slots it touched
-abbrev pub Applied : Settings → Bool → Step → ℕ → Result Receipt ApplyError → List Told → List Told → Type 0
-Applied k taped s desk result share after = (touched : List ℕ) × AppliedTo k taped s desk result touched share after
-
-pub record Emptied (k : Settings) (taped : Bool) (pen slot : ℕ) (result : Result Drained ApplyError) (share after : List Told) : Type 0 where
-  pub steps : List Step
-  pub old : Booked
-  pub new : Booked
-  pub on : old.tape.on ≡ taped
-  pub agrees : BookedAgrees old k steps
-  pub told : List Told
-  pub drains : Drains k steps pen slot result old new told
-  pub share_is : after ≡ share ++ told
+-- and contracts see the book and the history
+pub record GuardedState : Type 0 where
+  pub booked : Booked
+  pub log : List Entry
 
 -- With a tape a desk's share gets each event that is taken, in order. Takings and withdrawals of NOOPs are between them.
 abbrev pub AddsEvent : Bool → Step → Result Receipt ApplyError → List Told → List Told → Type 0

@@ -1,0 +1,36 @@
+use Rattle.std.proofs.Common.{rules, ap, ◌∙◌, refl}
+use Rattle.gm_shared.proofs.Keeping.{all_left, next_left, numbers_grow, none_told, made_more}
+use Rattle.gm_shared.proofs.shared.new_owners.Goals as goal
+
+pub loop-seat-init : goal.loop-seat-init
+loop-seat-init g c = record {
+  desks_are = search rules;
+  pens_are = search rules;
+  desks_untold = search rules;
+  pens_untold = search rules;
+  desk_count = search rules;
+  pen_count = search rules;
+  room = search rules;
+  left = all_left _ _ _ (c.into_iter-seat-iterator.ensures.into_iter_gives.0 ∙ c.requires.seats);
+  made = search rules;
+}
+
+pub new-requires-in-loop-seat-clause-seat : goal.new-requires-in-loop-seat-clause-seat
+new-requires-in-loop-seat-clause-seat g c =
+    let next = next_left _ _ _ _ _ _ c.loop-seat.invariant.left c.in-Some.ensures.steps.0 in
+    (ap (λ p. p.table) next.pen_is, ap (λ p. p.slot) next.pen_is)
+
+pub loop-seat-preserved : goal.loop-seat-preserved
+loop-seat-preserved g c =
+    let next = next_left _ _ _ _ _ _ c.loop-seat.invariant.left c.in-Some.ensures.steps.0 in
+    record {
+      desks_are = numbers_grow (λ desk. desk.number) _ _ _ _ c.push_reserved.ensures.items c.loop-seat.invariant.desks_are c.new.ensures.number;
+      pens_are = numbers_grow (λ pen. pen.slot) _ _ _ _ c.push_reserved-in-loop-seat.ensures.items c.loop-seat.invariant.pens_are c.new-in-loop-seat.ensures.slot;
+      desks_untold = none_told (λ desk. desk.share.items) _ _ _ c.push_reserved.ensures.items c.loop-seat.invariant.desks_untold c.new.ensures.nothing_told;
+      pens_untold = none_told (λ pen. pen.share.items) _ _ _ c.push_reserved-in-loop-seat.ensures.items c.loop-seat.invariant.pens_untold c.new-in-loop-seat.ensures.nothing_told;
+      desk_count = search rules;
+      pen_count = search rules;
+      room = search rules;
+      left = next.left;
+      made = made_more _ _ _ _ _ c.loop-seat.invariant.made c.new_front.ensures.keeper c.new_front-in-loop-seat.ensures.keeper;
+    }
