@@ -6,8 +6,7 @@ use Rattle.std.proofs.KnownBytes.{Appends-trans}
 use Rattle.gm_notes.specs.Settings.{Settings}
 use Rattle.gm_notes.specs.declared.event.ApplyError.{ApplyError}
 use Rattle.gm_shared.specs.declared.receipt.Drained.{Drained}
-use Rattle.gm_shared.specs.declared.tape.Told.{Told}
-use Rattle.gm_shared.specs.Shared.{Emptied}
+use Rattle.gm_shared.specs.Calls.{Account, PenCalled}
 use Rattle.gm_server.specs.declared.message.Delivery.{Delivery}
 use Rattle.gm_server.specs.declared.message.Delivery.TheVariants.{Done, Over}
 use Rattle.gm_server.specs.Turns.{turn_of}
@@ -18,11 +17,11 @@ pub takes_as : (took : Bool) (a b c d : ℕ) → a ≡ c → b ≡ d → MatchBo
 takes_as true a b c d p q h = sym q ∙ (h ∙ ap (λ n. n + 1) p)
 takes_as false a b c d p q h = sym q ∙ (h ∙ p)
 
--- a drain, said of the same slot and shares
-pub emptied_as : (k : Settings) (taped : Bool) (slot same : ℕ) (result : Result Drained ApplyError) (share after from to : List Told) → same ≡ slot → from ≡ share → to ≡ after
-    → Emptied k taped same same result from to → Emptied k taped slot slot result share after
-emptied_as k taped slot same result share after from to e f g h =
-    subst (λ (c : ℕ). Emptied k taped c c result share after) e (subst (λ (s : List Told). Emptied k taped same same result s after) f (subst (λ (s : List Told). Emptied k taped same same result from s) g h))
+-- a drain, said of the same slot and accounts
+pub called_as : (k : Settings) (taped : Bool) (slot same : ℕ) (result : Result Drained ApplyError) (share after from to : Account) → same ≡ slot → from ≡ share → to ≡ after
+    → PenCalled k taped same same result from to → PenCalled k taped slot slot result share after
+called_as k taped slot same result share after from to e f g h =
+    subst (λ (c : ℕ). PenCalled k taped c c result share after) e (subst (λ (s : Account). PenCalled k taped same same result s after) f (subst (λ (s : Account). PenCalled k taped same same result from s) g h))
 
 -- without another reason to end it, nor with one
 sends_unless : {ended : Type 0} {delivery : Delivery} {old new : Option (List ℕ)} {due left : List ℕ} → Sends ⊥ delivery old new due left → Sends ended delivery old new due left
@@ -35,7 +34,7 @@ sends_unless sends = record {
   over = λ is none. absurd (sends.over is none);
 }
 
-module _ (k : Settings) (taped : Bool) (slot takes takes_after : ℕ) (share after : List Told) (old mid : Option (List ℕ)) (left between : List ℕ) where
+module _ (k : Settings) (taped : Bool) (slot takes takes_after : ℕ) (share after : Account) (old mid : Option (List ℕ)) (left between : List ℕ) where
   -- what was left couldn't all be sent
   pub delivers_left : (delivery : Delivery) → (delivery ≡ Done → ⊥) → takes_after ≡ takes → after ≡ share → Sends ⊥ delivery old mid left between
       → Delivers k taped delivery slot takes takes_after share after old mid left between
@@ -54,13 +53,13 @@ module _ (k : Settings) (taped : Bool) (slot takes takes_after : ℕ) (share aft
     all_sent = sends.whole ∙ (ap (λ rest. sends.sent ++ rest) sends.leaves.0 ∙ append-nil sends.sent)
 
     -- the pen was refused: the connection is over
-    pub delivers_none : (error : ApplyError) → Emptied k taped slot slot (Err error) share after → Delivers k taped Over slot takes takes_after share after old mid left between
-    delivers_none error emptied = record {
+    pub delivers_none : (error : ApplyError) → PenCalled k taped slot slot (Err error) share after → Delivers k taped Over slot takes takes_after share after old mid left between
+    delivers_none error called = record {
       asked = false;
       took = took;
       gave = [];
       ended = true;
-      gives = refused took error takes_so emptied;
+      gives = refused took error takes_so called;
       done = λ is. absurd cc;
       sends = record {
         sent = sends.sent;
@@ -72,7 +71,7 @@ module _ (k : Settings) (taped : Bool) (slot takes takes_after : ℕ) (share aft
       };
     }
 
-    module _ (drained : Drained) (emptied : Emptied k taped slot slot (Ok drained) share after) (new : Option (List ℕ)) (due left_after : List ℕ) (is_due : due ≡ turn_of took drained.bytes.bytes) where
+    module _ (drained : Drained) (called : PenCalled k taped slot slot (Ok drained) share after) (new : Option (List ℕ)) (due left_after : List ℕ) (is_due : due ≡ turn_of took drained.bytes.bytes) where
       -- it gave, and that was sent as far as the peer took it
       delivers_given : (delivery : Delivery) → (delivery ≡ Done → drained.shut ≡ false) → Sends (drained.shut ≡ true) delivery mid new due left_after
           → Delivers k taped delivery slot takes takes_after share after old new left left_after
@@ -81,7 +80,7 @@ module _ (k : Settings) (taped : Bool) (slot takes takes_after : ℕ) (share aft
         took = took;
         gave = drained.bytes.bytes;
         ended = drained.shut;
-        gives = given took drained takes_so emptied;
+        gives = given took drained takes_so called;
         done = λ is. (refl, goes_on is);
         sends = record {
           sent = sends.sent ++ more.sent;

@@ -1,9 +1,10 @@
--- Whose the entries of a tape are.
-use Rattle.std.proofs.Common.{◌≡◌, ℕ, zero, suc, ◌+◌, ◌≤◌, Bool, true, false, if◌then◌else◌, List, [], ◌∷◌, ◌++◌, length, map, All}
-use Rattle.std.proofs.Common.{Option, Some, None, Result, Ok, Err, refl, sym, ap, subst, ◌∙◌, arith, add-one, length-append}
-use Rattle.std.specs.Prelude.{◌==◌, ◌&&◌, ◌<◌, get_or, drop}
-use Rattle.std.proofs.lemmas.List.{map-append, append_assoc, append_cancel_left}
-use Rattle.std.proofs.lemmas.List.Elements.{All-push, All-append}
+-- Whose the entries of a history are.
+use Rattle.std.proofs.Common.{◌≡◌, ◌≢◌, ℕ, zero, suc, ◌+◌, ◌*◌, Bool, true, false, if◌then◌else◌, List, [], ◌∷◌, ◌++◌, length, map, All}
+use Rattle.std.proofs.Common.{Option, Some, None, Result, Ok, Err, refl, sym, ap, ap₂, subst, ◌∙◌, arith, add-one, length-append}
+use Rattle.std.specs.Prelude.{◌==◌, ◌&&◌, ◌<◌, get_or, drop, reverse}
+use Rattle.std.proofs.lemmas.List.{map-append, append_assoc, append_cancel_left, reverse-append}
+use Rattle.std.proofs.lemmas.List.Elements.{All-nil, All-cons, All-head, All-tail, All-push, All-append, All-from_recursion, recursion_from_All}
+use Rattle.std.specs.List.{AllByRecursion as ByRecursion}
 use Rattle.std.proofs.Math.Seq.{drop-cons, drop-append-add}
 use Rattle.std.proofs.lemmas.Bool.Decides.{nat_tests}
 use Rattle.gm_feeder.specs.Units.{Item, APacket, ALine}
@@ -14,7 +15,6 @@ use Rattle.gm_notes.specs.declared.event.UnitFault.{UnitFault}
 use Rattle.gm_notes.specs.Settings.{Settings}
 use Rattle.gm_notes.specs.Steps.{Step}
 use Rattle.gm_shared.specs.declared.receipt.Receipt.{Receipt}
-use Rattle.gm_shared.specs.declared.settling.Settled.{Settled}
 use Rattle.gm_shared.specs.declared.tape.Actor.{Actor}
 use Rattle.gm_shared.specs.declared.tape.Actor.TheVariants.{Desk, Pen}
 use Rattle.gm_shared.specs.declared.tape.TapeStep.{TapeStep}
@@ -23,20 +23,27 @@ use Rattle.gm_shared.specs.declared.tape.Entry.{Entry}
 use Rattle.gm_shared.specs.declared.tape.Share.{Share}
 use Rattle.gm_shared.specs.declared.tape.Told.{Told}
 use Rattle.gm_shared.specs.Events.{slot_of}
-use Rattle.gm_shared.specs.Tapes.{actor_is, if_event, step_in, steps_of, share_from, events_told, is_drain_of, drains_alone, AreShares, told_in_all}
-use Rattle.gm_shared.specs.Shared.{AddsEvent, told_by, numbers_below}
-use Rattle.gm_shared.proofs.Sharing.{and_more, itself}
+use Rattle.gm_shared.specs.Tapes.{actor_is, actor_code, if_event, step_in, steps_of, is_drain_of, drains_alone}
+use Rattle.gm_shared.specs.Histories.{Knows, AreBelow, calls_by}
+use Rattle.gm_shared.specs.Tokens.{FrontState}
+use Rattle.gm_shared.specs.Calls.{HandedIn, if_taken, events_in, events_of}
+use Rattle.gm_shared.specs.Shared.{told_by, actor_count, Accounts, numbers_below}
+use Rattle.gm_shared.proofs.Logs.{calls_known}
+use Rattle.gm_shared.proofs.Sharing.{and_more, itself, events_of_more}
 use Rattle.gm_server.specs.declared.session.SessionEnd.{SessionEnd}
-use Rattle.gm_server.specs.Sessions.{HandsIn, Reads}
-use Rattle.gm_server.specs.Owners.{is_said_by, are_said_by, is_own, tells_own, is_own_share, everybody}
-use Rattle.gm_server.specs.Served.{IsWhole}
-use Rattle.gm_server.specs.Promise.{events_of, says, said_at}
+use Rattle.gm_server.specs.Sessions.{Reads}
+use Rattle.gm_server.specs.Owners.{is_said_by, are_said_by, is_own, SaysOwn, AreOwn, everybody}
+use Rattle.gm_server.specs.Promise.{says, said_at}
 
 -- ---- tests
 
 and_first : (a b : Bool) → (a && b) ≡ true → a ≡ true
 and_first true b h = refl
 and_first false b h = absurd cc
+
+and_both : (a b : Bool) → a ≡ true → b ≡ true → (a && b) ≡ true
+and_both true b h k = k
+and_both false b h k = absurd cc
 
 and_second : (a b : Bool) → (a && b) ≡ true → b ≡ true
 and_second true b h = h
@@ -48,19 +55,29 @@ said_append : (n : ℕ) (xs ys : List Step) → are_said_by n (xs ++ ys) ≡ (ar
 said_append n [] ys = refl
 said_append n (s ∷ xs) ys = ap (λ b. is_said_by n s && b) (said_append n xs ys) ∙ and_more (is_said_by n s) (are_said_by n xs) (are_said_by n ys)
 
--- a share that has these events more
-more_own : (n : ℕ) (share after : List Told) (steps : List Step) → events_told after ≡ events_told share ++ steps → are_said_by n steps ≡ true
-    → tells_own (Desk n) share ≡ true → tells_own (Desk n) after ≡ true
-more_own n share after steps is own h =
-    ap (are_said_by n) is ∙ (said_append n (events_told share) steps ∙ (ap (λ b. b && are_said_by n steps) h ∙ own))
+pub said_reverse : (n : ℕ) (xs : List Step) → are_said_by n xs ≡ true → are_said_by n (reverse xs) ≡ true
+said_reverse n [] h = refl
+said_reverse n (s ∷ xs) h =
+    ap (are_said_by n) (reverse-append (s ∷ []) xs)
+    ∙ (said_append n (reverse xs) (s ∷ [])
+    ∙ and_both (are_said_by n (reverse xs)) (is_said_by n s && true) (said_reverse n xs (and_second (is_said_by n s) (are_said_by n xs) h)) (ap (λ b. b && true) (and_first (is_said_by n s) (are_said_by n xs) h)))
 
-pub own_event : (taped : Bool) (n m : ℕ) (s : Step) (result : Result Receipt ApplyError) (share after : List Told) → m ≡ n → is_said_by n s ≡ true
-    → AddsEvent taped s result share after → is_own_share taped (Desk n) share ≡ true → is_own_share taped (Desk m) after ≡ true
-own_event false n m s result share after same own adds h = refl
-own_event true n m s (Ok receipt) share after same own adds h =
-    ap (λ (i : ℕ). tells_own (Desk i) after) same ∙ more_own n share after (s ∷ []) adds (ap (λ b. b && true) own) h
-own_event true n m s (Err refused) share after same own adds h =
-    ap (λ (i : ℕ). tells_own (Desk i) after) same ∙ (ap (are_said_by n) adds ∙ h)
+-- a desk that handed in these events more
+more_own : (n : ℕ) (events : List Step) (seen after : List Entry) → HandedIn n events seen after → are_said_by n events ≡ true → SaysOwn n seen → SaysOwn n after
+more_own n events seen after h own before =
+    ap (λ l. are_said_by n (events_of n l)) h.goes_on
+    ∙ (ap (are_said_by n) (events_of_more n h.newer seen)
+    ∙ (said_append n (events_of n h.newer) (events_of n seen)
+    ∙ and_both (are_said_by n (events_of n h.newer)) (are_said_by n (events_of n seen)) (ap (are_said_by n) h.events_are ∙ own) before))
+
+taken_said : (n : ℕ) (s : Step) (result : Result Receipt ApplyError) → is_said_by n s ≡ true → are_said_by n (if_taken s result) ≡ true
+taken_said n s (Ok receipt) own = ap (λ b. b && true) own
+taken_said n s (Err refused) own = refl
+
+pub own_event : (n m : ℕ) (s : Step) (result : Result Receipt ApplyError) (seen after : List Entry) → m ≡ n → is_said_by n s ≡ true
+    → HandedIn n (if_taken s result) seen after → SaysOwn n seen → SaysOwn m after
+own_event n m s result seen after same own hands before =
+    ap (λ (i : ℕ). are_said_by i (events_of i after)) same ∙ more_own n (if_taken s result) seen after hands (taken_said n s result own) before
 
 units_said : (c : ℕ) (items : List Item) (fault : Option UnitFault) → are_said_by c (steps_of_units c items fault) ≡ true
 units_said c [] None = refl
@@ -68,18 +85,13 @@ units_said c [] (Some fault) = ap (λ b. b && true) (itself c)
 units_said c (APacket kind bytes ∷ items) fault = ap (λ b. b && are_said_by c (steps_of_units c items fault)) (itself c) ∙ units_said c items fault
 units_said c (ALine bytes ∷ items) fault = ap (λ b. b && are_said_by c (steps_of_units c items fault)) (itself c) ∙ units_said c items fault
 
-pub own_units : (taped : Bool) (c : ℕ) (limits : Limits) (bytes rest : List ℕ) (fault : Option UnitFault) (share after : List Told)
-    → HandsIn taped c limits bytes rest fault share after → is_own_share taped (Desk c) share ≡ true → is_own_share taped (Desk c) after ≡ true
-own_units true c limits bytes rest fault share after hands h =
-    more_own c share after (steps_of_units c hands.items fault) hands.adds (units_said c hands.items fault) h
-own_units false c limits bytes rest fault share after hands h = refl
-
 -- what a session reads is said at its desk
-pub own_reads : (k : Settings) (taped : Bool) (desk n m c : ℕ) (limits : Limits) (old new : Option (List ℕ)) (end : SessionEnd) (share after : List Told) → c ≡ n → m ≡ n
-    → Reads k taped desk c limits old new end share after → is_own_share taped (Desk n) share ≡ true → is_own_share taped (Desk m) after ≡ true
-own_reads k taped desk n m c limits old new end share after here same reads own =
-    ap (λ (i : ℕ). is_own_share taped (Desk i) after) (same ∙ sym here)
-    ∙ own_units taped c limits reads.read reads.rest reads.fault share after reads.hands (ap (λ (i : ℕ). is_own_share taped (Desk i) share) here ∙ own)
+pub own_reads : (k : Settings) (taped : Bool) (n m c : ℕ) (limits : Limits) (old new : Option (List ℕ)) (end : SessionEnd) (seen after : List Entry) → c ≡ n → m ≡ n
+    → Reads k taped n c limits old new end seen after → SaysOwn n seen → SaysOwn m after
+own_reads k taped n m c limits old new end seen after here same reads before =
+    let steps = steps_of_units c reads.hands.items reads.fault in
+    ap (λ (i : ℕ). are_said_by i (events_of i after)) same
+    ∙ more_own n (reverse steps) seen after reads.hands.adds (said_reverse n steps (subst (λ (i : ℕ). are_said_by i steps ≡ true) here (units_said c reads.hands.items reads.fault))) before
 
 -- ---- the entries of an actor
 
@@ -94,126 +106,39 @@ if_said n (tape.Took c) steps = refl
 if_said n (tape.Withdrew c) steps = refl
 if_said n (tape.Drain c) steps = refl
 
-first_own : (actor : Actor) (told : Told) (more : List Told) → tells_own actor (told ∷ more) ≡ true → (is_own actor told.step ≡ true) × (tells_own actor more ≡ true)
-first_own (Desk n) told more h =
-    let parts = sym (if_said n told.step (events_told more)) ∙ h in
-    (and_first (is_own (Desk n) told.step) (are_said_by n (events_told more)) parts, and_second (is_own (Desk n) told.step) (are_said_by n (events_told more)) parts)
-first_own (Pen n) told more h = (and_first (is_drain_of n told.step) (tells_own (Pen n) more) h, and_second (is_drain_of n told.step) (tells_own (Pen n) more) h)
+-- of the entries of a desk or a pen, each is its own
+abbrev pub IsOwnOf : List Entry → Actor → Type 0
+IsOwnOf log (Desk n) = SaysOwn n log
+IsOwnOf log (Pen n) = drains_alone n (calls_by (2 * n + 1) log) ≡ true
 
--- each entry of an actor whose share is its own
-abbrev Owned : Actor → Entry → Type 0
-Owned actor e = actor_is actor e.actor ≡ true → is_own actor e.step ≡ true
+-- what an actor has seen is its own; so is what the history has of it, if nothing newer is of it
+pub seen_own : (log seen : List Entry) (actor : Actor) → Knows log (actor_code actor) seen → IsOwnOf seen actor → IsOwnOf log actor
+seen_own log seen (Desk n) knows own = ap (λ l. are_said_by n (events_in l)) (calls_known log (2 * n) seen knows) ∙ own
+seen_own log seen (Pen n) knows own = ap (drains_alone n) (calls_known log (2 * n + 1) seen knows) ∙ own
 
-entries_own : (actor : Actor) (at : ℕ) (entries : List Entry) → tells_own actor (share_from actor at entries) ≡ true → All (Owned actor) entries
-entries_own actor at [] h = λ i none lt. absurd (omega (arith, lt))
-entries_own actor at (e ∷ more) h = by (actor_is actor e.actor) refl (entries_own actor (at + 1) more) h
-  where
-    by : (t : Bool) → actor_is actor e.actor ≡ t → (tells_own actor (share_from actor (at + 1) more) ≡ true → All (Owned actor) more)
-        → tells_own actor (if t then record { at = at; step = e.step; answer = e.answer } ∷ share_from actor (at + 1) more else share_from actor (at + 1) more) ≡ true
-        → All (Owned actor) (e ∷ more)
-    by true is rest h zero none lt = λ same. (first_own actor (record { at = at; step = e.step; answer = e.answer }) (share_from actor (at + 1) more) h).0
-    by true is rest h (suc i) none lt =
-        rest (first_own actor (record { at = at; step = e.step; answer = e.answer }) (share_from actor (at + 1) more) h).1 i none (omega (arith, lt))
-    by false is rest h zero none lt = λ same. absurd cc
-    by false is rest h (suc i) none lt = rest h i none (omega (arith, lt))
+first_own : (actor : Actor) (e : Entry) (older : List Entry) (t : Bool) → (actor_code actor == actor_code e.actor) ≡ t → IsOwnOf (e ∷ older) actor
+    → IsOwnOf older actor × (t ≡ true → is_own actor e.step ≡ true)
+first_own (Desk n) e older true is own =
+    let parts = sym (if_said n e.step (events_of n older)) ∙ (ap (λ t. are_said_by n (events_in (if t then e ∷ calls_by (2 * n) older else calls_by (2 * n) older))) (sym is) ∙ own) in
+    (and_second (is_own (Desk n) e.step) (are_said_by n (events_of n older)) parts, λ t. and_first (is_own (Desk n) e.step) (are_said_by n (events_of n older)) parts)
+first_own (Desk n) e older false is own =
+    (ap (λ t. are_said_by n (events_in (if t then e ∷ calls_by (2 * n) older else calls_by (2 * n) older))) (sym is) ∙ own, λ t. absurd cc)
+first_own (Pen n) e older true is own =
+    let parts = ap (λ t. drains_alone n (if t then e ∷ calls_by (2 * n + 1) older else calls_by (2 * n + 1) older)) (sym is) ∙ own in
+    (and_second (is_drain_of n e.step) (drains_alone n (calls_by (2 * n + 1) older)) parts, λ t. and_first (is_drain_of n e.step) (drains_alone n (calls_by (2 * n + 1) older)) parts)
+first_own (Pen n) e older false is own =
+    (ap (λ t. drains_alone n (if t then e ∷ calls_by (2 * n + 1) older else calls_by (2 * n + 1) older)) (sym is) ∙ own, λ t. absurd cc)
 
--- ---- everybody, once
+-- Where the entries of each actor are its own, and each is of an actor below this number, all are their actors' own.
+pub all_own : (made : ℕ) (log : List Entry) → AreBelow made log → ((actor : Actor) → actor_code actor < made → IsOwnOf log actor) → AreOwn log
+all_own made [] below each = All-nil (λ (e : Entry). is_own e.actor e.step ≡ true)
+all_own made (e ∷ older) below each =
+    let same : (actor_code e.actor == actor_code e.actor) ≡ true = itself (actor_code e.actor) in
+    All-cons (λ (e : Entry). is_own e.actor e.step ≡ true) e older
+    ((first_own e.actor e older true same (each e.actor below.0)).1 refl)
+    (all_own made older below.1 (λ actor less. (first_own actor e older (actor_code actor == actor_code e.actor) refl (each actor less)).0))
 
--- how often an actor stands among these
-abbrev hits : Actor → List Actor → ℕ
-hits actor [] = 0
-hits actor (other ∷ others) = (if actor_is other actor then 1 else 0) + hits actor others
-
-abbrev Once : List Actor → Type 0
-Once actors = (actor : Actor) → hits actor actors ≤ 1
-
-hits_append : (actor : Actor) (xs ys : List Actor) → hits actor (xs ++ ys) ≡ hits actor xs + hits actor ys
-hits_append actor [] ys = omega arith
-hits_append actor (x ∷ xs) ys = omega (arith, hits_append actor xs ys)
-
--- actors of one kind, by number
-module _ (of : ℕ → Actor) (tells : (n m : ℕ) → actor_is (of n) (of m) ≡ (n == m)) where
-  hits_next : (n m : ℕ) → hits (of m) (map of (numbers_below (suc n))) ≡ hits (of m) (map of (numbers_below n)) + ((if n == m then 1 else 0) + 0)
-  hits_next n m =
-      ap (hits (of m)) (map-append of (numbers_below n) (n ∷ []))
-      ∙ (hits_append (of m) (map of (numbers_below n)) (of n ∷ []) ∙ ap (λ t. hits (of m) (map of (numbers_below n)) + ((if t then 1 else 0) + 0)) (tells n m))
-
-  hits_none : (n m : ℕ) → n ≤ m → hits (of m) (map of (numbers_below n)) ≡ 0
-  hits_none zero m most = refl
-  hits_none (suc n) m most =
-      let other : (n == m) ≡ false = grind (arith, nat_tests) in
-      hits_next n m ∙ (ap (λ t. hits (of m) (map of (numbers_below n)) + ((if t then 1 else 0) + 0)) other ∙ omega (arith, hits_none n m (omega (arith, most))))
-
-  hits_once : (n m : ℕ) → hits (of m) (map of (numbers_below n)) ≤ 1
-  hits_once zero m = omega arith
-  hits_once (suc n) m = by (n == m) refl (hits_next n m) (hits_once n m)
-    where
-      by : (t : Bool) → (n == m) ≡ t → hits (of m) (map of (numbers_below (suc n))) ≡ hits (of m) (map of (numbers_below n)) + ((if t then 1 else 0) + 0)
-          → hits (of m) (map of (numbers_below n)) ≤ 1 → hits (of m) (map of (numbers_below (suc n))) ≤ 1
-      by true is next once = let same : n ≡ m = grind (arith, nat_tests) in omega (arith, next, hits_none n m (omega (arith, same)))
-      by false is next once = omega (arith, next, once)
-
-no_pen : (n : ℕ) (xs : List ℕ) → hits (Pen n) (map Desk xs) ≡ 0
-no_pen n [] = refl
-no_pen n (x ∷ xs) = omega (arith, no_pen n xs)
-
-no_desk : (n : ℕ) (xs : List ℕ) → hits (Desk n) (map Pen xs) ≡ 0
-no_desk n [] = refl
-no_desk n (x ∷ xs) = omega (arith, no_desk n xs)
-
-everybody_once : (slots : ℕ) → Once (everybody slots)
-everybody_once slots (Desk n) =
-    omega (
-      arith,
-      hits_append (Desk n) (map Desk (numbers_below slots)) (Desk slots ∷ map Pen (numbers_below slots)),
-      no_desk n (numbers_below slots),
-      hits_next Desk (λ i j. refl) slots n,
-      hits_once Desk (λ i j. refl) (suc slots) n,
-    )
-everybody_once slots (Pen n) =
-    omega (
-      arith,
-      hits_append (Pen n) (map Desk (numbers_below slots)) (Desk slots ∷ map Pen (numbers_below slots)),
-      no_pen n (numbers_below slots),
-      hits_once Pen (λ i j. refl) slots n,
-    )
-
--- ---- counting entries
-
--- how much the shares of these actors tell in all, of these entries
-abbrev parts : ℕ → List Entry → List Actor → ℕ
-parts at entries [] = 0
-parts at entries (actor ∷ actors) = length (share_from actor at entries) + parts at entries actors
-
-parts_none : (at : ℕ) (actors : List Actor) → parts at [] actors ≡ 0
-parts_none at [] = refl
-parts_none at (actor ∷ actors) = omega (arith, parts_none at actors)
-
-parts_next : (at : ℕ) (e : Entry) (more : List Entry) (actors : List Actor) → parts at (e ∷ more) actors ≡ hits e.actor actors + parts (at + 1) more actors
-parts_next at e more [] = omega arith
-parts_next at e more (actor ∷ actors) = by (actor_is actor e.actor) (parts_next at e more actors)
-  where
-    by : (t : Bool) → parts at (e ∷ more) actors ≡ hits e.actor actors + parts (at + 1) more actors
-        → length (if t then record { at = at; step = e.step; answer = e.answer } ∷ share_from actor (at + 1) more else share_from actor (at + 1) more) + parts at (e ∷ more) actors
-        ≡ ((if t then 1 else 0) + hits e.actor actors) + (length (share_from actor (at + 1) more) + parts (at + 1) more actors)
-    by true rest = omega (arith, rest)
-    by false rest = omega (arith, rest)
-
-module _ (actors : List Actor) (once : Once actors) where
-  parts_most : (at : ℕ) (entries : List Entry) → parts at entries actors ≤ length entries
-  parts_most at [] = omega (arith, parts_none at actors)
-  parts_most at (e ∷ more) = omega (arith, parts_next at e more actors, once e.actor, parts_most (at + 1) more)
-
-  -- Where they tell of as many entries as there are, each entry is of one of them.
-  all_hit : (at : ℕ) (entries : List Entry) → parts at entries actors ≡ length entries → All (λ (e : Entry). 1 ≤ hits e.actor actors) entries
-  all_hit at [] is i none lt = absurd (omega arith)
-  all_hit at (e ∷ more) is zero none lt = omega (arith, parts_next at e more actors, is, parts_most (at + 1) more)
-  all_hit at (e ∷ more) is (suc i) none lt =
-      all_hit (at + 1) more (omega (arith, parts_next at e more actors, is, once e.actor, parts_most (at + 1) more)) i none (omega (arith, lt))
-
-parts_told : (entries : List Entry) (shares : List Share) → AreShares entries (map told_by shares) → parts 0 entries (map (λ (share : Share). share.actor) shares) ≡ told_in_all (map told_by shares)
-parts_told entries [] are = refl
-parts_told entries (share ∷ shares) are = omega (arith, ap length are.0, parts_told entries shares are.1)
+-- ---- everybody
 
 is_actor : (a b : Actor) → actor_is a b ≡ true → a ≡ b
 is_actor (Desk n) (Desk m) same = let is : n ≡ m = grind (arith, nat_tests) in ap Desk is
@@ -225,31 +150,97 @@ self_is : (a : Actor) → actor_is a a ≡ true
 self_is (Desk n) = itself n
 self_is (Pen n) = itself n
 
--- what the tape has of an actor who is among these is its own
-hit_own : (entries : List Entry) (actor : Actor) (shares : List Share) → AreShares entries (map told_by shares)
-    → All (λ (share : Share). is_own_share true share.actor share.told.items ≡ true) shares → 1 ≤ hits actor (map (λ (share : Share). share.actor) shares)
-    → tells_own actor (share_from actor 0 entries) ≡ true
-hit_own entries actor [] are own hit = absurd (omega (arith, hit))
-hit_own entries actor (share ∷ shares) are own hit = by (actor_is share.actor actor) refl (hit_own entries actor shares are.1 (λ i none lt. own (suc i) none (omega (arith, lt)))) hit
+map_twice : {A B C : Type 0} (f : A → B) (g : B → C) (xs : List A) → map g (map f xs) ≡ map (λ x. g (f x)) xs
+map_twice f g [] = refl
+map_twice f g (x ∷ xs) = ap (λ ys. g (f x) ∷ ys) (map_twice f g xs)
+
+module _ {A : Type 0} (P : A → Type 0) where
+  left : (xs ys : List A) → ByRecursion P (xs ++ ys) → ByRecursion P xs
+  left [] ys h = tt
+  left (x ∷ xs) ys h = (h.0, left xs ys h.1)
+
+  right : (xs ys : List A) → ByRecursion P (xs ++ ys) → ByRecursion P ys
+  right [] ys h = h
+  right (x ∷ xs) ys h = right xs ys h.1
+
+unmapped : {A B : Type 0} (P : B → Type 0) (f : A → B) (xs : List A) → ByRecursion P (map f xs) → ByRecursion (λ x. P (f x)) xs
+unmapped P f [] h = tt
+unmapped P f (x ∷ xs) h = (h.0, unmapped P f xs h.1)
+
+numbered : (P : ℕ → Type 0) (slots : ℕ) → ByRecursion P (numbers_below slots) → (n : ℕ) → n < slots → P n
+numbered P zero h n less = absurd (omega (arith, less))
+numbered P (suc slots) h n less = by (n == slots) refl (λ lower. numbered P slots (left P (numbers_below slots) (slots ∷ []) h) n lower)
   where
-    by : (t : Bool) → actor_is share.actor actor ≡ t → (1 ≤ hits actor (map (λ (share : Share). share.actor) shares) → tells_own actor (share_from actor 0 entries) ≡ true)
-        → 1 ≤ (if t then 1 else 0) + hits actor (map (λ (share : Share). share.actor) shares) → tells_own actor (share_from actor 0 entries) ≡ true
-    by true is rest hit =
-        subst (λ (a : Actor). tells_own a (share_from a 0 entries) ≡ true) (is_actor share.actor actor is) (ap (tells_own share.actor) (sym are.0) ∙ own zero share (omega arith))
-    by false is rest hit = rest (omega (arith, hit))
+    by : (t : Bool) → (n == slots) ≡ t → (n < slots → P n) → P n
+    by true is lower = let same : slots ≡ n = grind (arith, nat_tests) in subst P same (right P (numbers_below slots) (slots ∷ []) h).0
+    by false is lower = let other : n ≢ slots = grind (arith, nat_tests) in lower (omega (arith, less, other))
 
--- ---- the tape
+-- what holds of everybody holds of each actor with a number below so many
+pub each_of : (P : Actor → Type 0) (slots : ℕ) → All P (everybody slots) → (actor : Actor) → actor_code actor < 2 * slots + 1 → P actor
+each_of P slots all actor less = by actor less
+  where
+    desks : List Actor
+    desks = map Desk (numbers_below slots)
 
-pub tape_own : (k : Settings) (settled : Settled) → IsWhole k true settled → All (λ (e : Entry). is_own e.actor e.step ≡ true) settled.tape.items
-tape_own k settled w i none lt =
-    let entries = settled.tape.items in
-    let shares = settled.shares.items in
-    let actors = map (λ (share : Share). share.actor) shares in
-    let once : Once actors = subst Once (sym w.everybody) (everybody_once k.slots) in
-    let up = w.up.is.up in
-    let hit = all_hit actors once 0 entries (parts_told entries shares up.0 ∙ up.1) i none lt in
-    let actor = (get_or entries i none).actor in
-    entries_own actor 0 entries (hit_own entries actor shares up.0 w.own hit) i none lt (self_is actor)
+    pens : List Actor
+    pens = map Pen (numbers_below slots)
+
+    h : ByRecursion P (everybody slots)
+    h = recursion_from_All P (everybody slots) all
+
+    by : (actor : Actor) → actor_code actor < 2 * slots + 1 → P actor
+    by (Desk n) less = control (n == slots) refl
+      where
+        control : (t : Bool) → (n == slots) ≡ t → P (Desk n)
+        control true is = let same : slots ≡ n = grind (arith, nat_tests) in subst (λ (i : ℕ). P (Desk i)) same (right P desks (Desk slots ∷ pens) h).0
+        control false is =
+            let other : n ≢ slots = grind (arith, nat_tests) in
+            numbered (λ i. P (Desk i)) slots (unmapped P Desk (numbers_below slots) (left P desks (Desk slots ∷ pens) h)) n (omega (arith, less, other))
+    by (Pen n) less = numbered (λ i. P (Pen i)) slots (unmapped P Pen (numbers_below slots) (right P desks (Desk slots ∷ pens) h).1) n (omega (arith, less))
+
+module _ {A B : Type 0} (number : A → ℕ) (desk_share : A → List Told) (desk_front : A → FrontState) (slot : B → ℕ) (pen_share : B → List Told) (pen_front : B → FrontState)
+    (slots : ℕ) (log : List Entry) where
+  -- what is known of a desk and of a pen that were given back
+  abbrev pub DeskOwn : A → Type 0
+  DeskOwn desk = ((desk_front desk).who ≡ 2 * number desk) × SaysOwn (number desk) (desk_front desk).seen
+
+  abbrev pub PenOwn : B → Type 0
+  PenOwn pen = ((pen_front pen).who ≡ 2 * slot pen + 1) × (drains_alone (slot pen) (calls_by (2 * slot pen + 1) (pen_front pen).seen) ≡ true)
+
+  abbrev Settles : Actor → Type 0
+  Settles actor = IsOwnOf log actor × AreBelow (actor_count slots) log
+
+  each_desk : (desks : List A) → ByRecursion (Accounts (actor_count slots) log) (map desk_front desks) → ByRecursion DeskOwn desks → ByRecursion Settles (map (λ desk. Desk (number desk)) desks)
+  each_desk [] accounts own = tt
+  each_desk (desk ∷ desks) accounts own = (
+    (seen_own log (desk_front desk).seen (Desk (number desk)) (subst (λ who. Knows log who (desk_front desk).seen) own.0.0 accounts.0.knows) own.0.1, accounts.0.whose),
+    each_desk desks accounts.1 own.1,
+  )
+
+  each_pen : (pens : List B) → ByRecursion (Accounts (actor_count slots) log) (map pen_front pens) → ByRecursion PenOwn pens → ByRecursion Settles (map (λ pen. Pen (slot pen)) pens)
+  each_pen [] accounts own = tt
+  each_pen (pen ∷ pens) accounts own = (
+    (seen_own log (pen_front pen).seen (Pen (slot pen)) (subst (λ who. Knows log who (pen_front pen).seen) own.0.0 accounts.0.knows) own.0.1, accounts.0.whose),
+    each_pen pens accounts.1 own.1,
+  )
+
+  -- Where everybody was given back, the whole history is its desks' and pens' own.
+  pub ended_own : (desks : List A) (pens : List B) (shares : List Share)
+      → map told_by shares ≡ map (λ desk. (Desk (number desk), desk_share desk)) desks ++ map (λ pen. (Pen (slot pen), pen_share pen)) pens
+      → All (Accounts (actor_count slots) log) (map desk_front desks ++ map pen_front pens) → All DeskOwn desks → All PenOwn pens
+      → map (λ (share : Share). share.actor) shares ≡ everybody slots → AreOwn log
+  ended_own desks pens shares are accounts desks_own pens_own all =
+      let known = recursion_from_All (Accounts (actor_count slots) log) (map desk_front desks ++ map pen_front pens) accounts in
+      let of_desks = each_desk desks (left (Accounts (actor_count slots) log) (map desk_front desks) (map pen_front pens) known) (recursion_from_All DeskOwn desks desks_own) in
+      let of_pens = each_pen pens (right (Accounts (actor_count slots) log) (map desk_front desks) (map pen_front pens) known) (recursion_from_All PenOwn pens pens_own) in
+      let first : Actor × List Told → Actor = λ pair. pair.0 in
+      let names = sym (map_twice told_by first shares) ∙ (ap (map first) are
+      ∙ (map-append first (map (λ desk. (Desk (number desk), desk_share desk)) desks) (map (λ pen. (Pen (slot pen), pen_share pen)) pens)
+      ∙ ap₂ (λ xs ys. xs ++ ys) (map_twice (λ desk. (Desk (number desk), desk_share desk)) first desks) (map_twice (λ pen. (Pen (slot pen), pen_share pen)) first pens))) in
+      let each = each_of Settles slots (subst (All Settles) (sym names ∙ all)
+      (All-append Settles (map (λ desk. Desk (number desk)) desks) (map (λ pen. Pen (slot pen)) pens)
+      (All-from_recursion Settles (map (λ desk. Desk (number desk)) desks) of_desks) (All-from_recursion Settles (map (λ pen. Pen (slot pen)) pens) of_pens))) in
+      all_own (actor_count slots) log (each (Desk slots) (omega arith)).1 (λ actor less. (each actor less).0)
 
 -- what a slot says stands at its desk, and nowhere else
 module _ (c : ℕ) (xs ys : List Step) (rest : said_at c xs ≡ said_at c ys) where
@@ -295,19 +286,25 @@ module _ (c : ℕ) (xs ys : List Step) (rest : said_at c xs ≡ said_at c ys) wh
   at_pen n (tape.Withdrew d) own = rest
   at_pen n (tape.Drain d) own = rest
 
-pub said_own : (c : ℕ) (entries : List Entry) → All (λ (e : Entry). is_own e.actor e.step ≡ true) entries → said_at c (steps_of entries) ≡ said_at c (events_of (Desk c) entries)
+pub said_own : (c : ℕ) (log : List Entry) → AreOwn log → said_at c (steps_of log) ≡ said_at c (events_of c log)
 said_own c [] own = refl
-said_own c (e ∷ more) own = by e.actor (own zero e (omega arith)) (said_own c more (λ i none lt. own (suc i) none (omega (arith, lt))))
+said_own c (e ∷ older) own =
+    by e.actor (All-head (λ (e : Entry). is_own e.actor e.step ≡ true) e older own) (said_own c older (All-tail (λ (e : Entry). is_own e.actor e.step ≡ true) e older own))
   where
-    desk : (n : ℕ) (t : Bool) → (c == n) ≡ t → is_own (Desk n) e.step ≡ true → said_at c (steps_of more) ≡ said_at c (events_of (Desk c) more)
-        → said_at c (step_in e.step ∷ steps_of more) ≡ said_at c (if t then if_event e.step (events_of (Desk c) more) else events_of (Desk c) more)
-    desk n true same is rest = at_desk c (steps_of more) (events_of (Desk c) more) rest e.step
-    desk n false other is rest = elsewhere c (steps_of more) (events_of (Desk c) more) rest n other e.step is
+    among : Bool → List Step
+    among t = events_in (if t then e ∷ calls_by (2 * c) older else calls_by (2 * c) older)
 
-    by : (actor : Actor) → is_own actor e.step ≡ true → said_at c (steps_of more) ≡ said_at c (events_of (Desk c) more)
-        → said_at c (step_in e.step ∷ steps_of more) ≡ said_at c (if actor_is (Desk c) actor then if_event e.step (events_of (Desk c) more) else events_of (Desk c) more)
-    by (Desk n) is rest = desk n (c == n) refl is rest
-    by (Pen n) is rest = at_pen c (steps_of more) (events_of (Desk c) more) rest n e.step is
+    desk : (n : ℕ) (t : Bool) → (c == n) ≡ t → (2 * c == 2 * n) ≡ t → is_own (Desk n) e.step ≡ true → said_at c (steps_of older) ≡ said_at c (events_of c older)
+        → said_at c (step_in e.step ∷ steps_of older) ≡ said_at c (among (2 * c == 2 * n))
+    desk n true same is own rest = at_desk c (steps_of older) (events_of c older) rest e.step ∙ ap (λ t. said_at c (among t)) (sym is)
+    desk n false other is own rest = elsewhere c (steps_of older) (events_of c older) rest n other e.step own ∙ ap (λ t. said_at c (among t)) (sym is)
+
+    by : (actor : Actor) → is_own actor e.step ≡ true → said_at c (steps_of older) ≡ said_at c (events_of c older)
+        → said_at c (step_in e.step ∷ steps_of older) ≡ said_at c (among (2 * c == actor_code actor))
+    by (Desk n) own rest = desk n (c == n) refl (grind (arith, nat_tests)) own rest
+    by (Pen n) own rest =
+        let apart : (2 * c == 2 * n + 1) ≡ false = grind (arith, nat_tests) in
+        at_pen c (steps_of older) (events_of c older) rest n e.step own ∙ ap (λ t. said_at c (among t)) (sym apart)
 
 pub drain_own : (c : ℕ) (actor : Actor) (step : TapeStep) → is_own actor step ≡ true → step ≡ tape.Drain c → actor ≡ Pen c
 drain_own c actor step own is = by actor (ap (is_own actor) (sym is) ∙ own)
@@ -362,20 +359,3 @@ pub last_of : {A : Type 0} (xs all : List A) (x : A) (n : ℕ) → all ≡ xs ++
 last_of xs all x n is long =
     let same : n ≡ length xs + 0 = omega (arith, long) in
     ap (drop n) is ∙ (ap (λ (i : ℕ). drop i (xs ++ x ∷ [])) same ∙ drop-append-add xs (x ∷ []) 0)
-
-abbrev OwnPair : Bool → Actor × List Told → Type 0
-OwnPair taped pair = is_own_share taped pair.0 pair.1 ≡ true
-
-pub pen_own : (taped : Bool) (n : ℕ) (told : List Told) → drains_alone n told ≡ true → is_own_share taped (Pen n) told ≡ true
-pen_own true n told own = own
-pen_own false n told own = refl
-
--- the shares that are handed back are those of these desks and pens
-pub shares_own : (taped : Bool) (shares : List Share) (desks pens : List (Actor × List Told)) → map told_by shares ≡ desks ++ pens
-    → All (OwnPair taped) desks → All (OwnPair taped) pens → All (λ (share : Share). is_own_share taped share.actor share.told.items ≡ true) shares
-shares_own taped shares desks pens are of_desks of_pens = apart shares (subst (All (OwnPair taped)) (sym are) (All-append (OwnPair taped) desks pens of_desks of_pens))
-  where
-    apart : (ss : List Share) → All (OwnPair taped) (map told_by ss) → All (λ (share : Share). is_own_share taped share.actor share.told.items ≡ true) ss
-    apart [] h i none lt = absurd (omega (arith, lt))
-    apart (s ∷ ss) h zero none lt = h zero (told_by s) (omega arith)
-    apart (s ∷ ss) h (suc i) none lt = apart ss (λ j other less. h (suc j) other (omega (arith, less))) i none (omega (arith, lt))

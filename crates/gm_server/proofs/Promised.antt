@@ -1,48 +1,27 @@
--- What the tape of a server that has ended says.
-use Rattle.std.proofs.Common.{◌≡◌, ℕ, zero, suc, ◌+◌, Bool, true, false, if◌then◌else◌, List, [], ◌∷◌, ◌++◌, map, All}
+-- What the history of a server says.
+use Rattle.std.proofs.Common.{◌≡◌, ℕ, Bool, true, false, if◌then◌else◌, List, [], ◌∷◌, ◌++◌}
 use Rattle.std.proofs.Common.{Option, Some, None, refl, sym, ap, ◌∙◌, arith}
-use Rattle.std.specs.Prelude.{◌==◌}
-use Rattle.std.proofs.lemmas.List.{append_assoc}
+use Rattle.std.specs.Prelude.{◌==◌, reverse}
 use Rattle.std.proofs.lemmas.Bool.Decides.{nat_tests}
 use Rattle.gm_notes.specs.Settings.{Settings}
 use Rattle.gm_notes.specs.Past.{Past}
-use Rattle.gm_notes.specs.Flow.{waiting}
+use Rattle.gm_notes.specs.Notes.{is_open}
+use Rattle.gm_notes.specs.Flow.{Flow, waiting}
 use Rattle.gm_notes.specs.Steps.{Step, Open, Packet, Line, Fault, Close, Tick, Took, Withdrew, Drain, refusal, unless, add, opening, free_slot, run}
-use Rattle.gm_laws.specs.Laws.{drained}
+use Rattle.gm_laws.specs.Laws.{drained, SentSo}
+use Rattle.gm_laws.proofs.ByteLaws.{run_sent}
 use Rattle.gm_laws.proofs.StepsKeep.{add_keeps, run_history}
-use Rattle.gm_shared.specs.declared.tape.Actor.{Actor}
 use Rattle.gm_shared.specs.declared.tape.TapeStep.{TapeStep}
 use Rattle.gm_shared.specs.declared.tape.TapeStep.TheVariants as tape
 use Rattle.gm_shared.specs.declared.tape.Entry.{Entry}
-use Rattle.gm_shared.specs.declared.tape.Share.{Share}
-use Rattle.gm_shared.specs.declared.tape.Told.{Told}
-use Rattle.gm_shared.specs.Tapes.{actor_is, if_event, steps_of, step_in, answer_to, Legal, share_from, events_told, AreShares}
-use Rattle.gm_shared.proofs.Sharing.{events_more}
+use Rattle.gm_shared.specs.Tapes.{steps_of, step_in, answer_to, Legal}
+use Rattle.gm_shared.specs.Calls.{events_of}
+use Rattle.gm_shared.proofs.Sharing.{events_of_more}
+use Rattle.gm_front.specs.Units.{steps_of as steps_of_units}
 use Rattle.gm_feeder.specs.declared.units.Limits.{Limits}
-use Rattle.gm_feeder.specs.Units.{Item}
-use Rattle.gm_front.specs.Units.{steps_of as steps_of_units, BeginsWith}
 use Rattle.gm_notes.specs.declared.event.UnitFault.{UnitFault}
 use Rattle.gm_server.specs.Sessions.{HandsIn}
-use Rattle.gm_shared.specs.Shared.{told_by}
-use Rattle.gm_server.specs.Promise.{events_of, if_opened, given_by, given}
-
--- ---- shares
-
--- the events told of what an actor has on the tape
-pub events_from : (actor : Actor) (at : ℕ) (entries : List Entry) → events_told (share_from actor at entries) ≡ events_of actor entries
-events_from actor at [] = refl
-events_from actor at (e ∷ more) = by (actor_is actor e.actor) (events_from actor (at + 1) more)
-  where
-    by : (t : Bool) → events_told (share_from actor (at + 1) more) ≡ events_of actor more → events_told (if t then record { at = at; step = e.step; answer = e.answer } ∷ share_from actor (at + 1) more else share_from actor (at + 1) more)
-        ≡ (if t then if_event e.step (events_of actor more) else events_of actor more)
-    by true rest = ap (if_event e.step) rest
-    by false rest = rest
-
-pub each_in_order : (entries : List Entry) (shares : List Share) → AreShares entries (map told_by shares)
-    → All (λ (share : Share). (share.told.items ≡ share_from share.actor 0 entries) × (events_told share.told.items ≡ events_of share.actor entries)) shares
-each_in_order entries [] h i none lt = absurd (omega arith)
-each_in_order entries (share ∷ shares) h zero none lt = (h.0, ap events_told h.0 ∙ events_from share.actor 0 entries)
-each_in_order entries (share ∷ shares) h (suc i) none lt = each_in_order entries shares h.1 i none (omega arith)
+use Rattle.gm_server.specs.Promise.{if_opened, given_by, given, GivenSo}
 
 -- ---- bytes
 
@@ -89,16 +68,22 @@ given_is_drained k c (e ∷ older) legal =
     by (tape.Withdrew d) taken = still (Withdrew d) (λ addr is. absurd cc) (λ e is. absurd cc) taken
     by (tape.Drain d) taken = drains d (c == d) refl
 
+given_so : (t : Bool) (gave : List ℕ) (c : ℕ) (flow : List Flow) → gave ≡ drained c flow → SentSo t c flow → GivenSo t gave c flow
+given_so true gave c flow is sent = sent ∙ ap (λ bytes. bytes ++ waiting c flow) (sym is)
+given_so false gave c flow is sent = (sent.0, (sent.1.0, sent.1.1 ∙ ap (λ bytes. bytes ++ sent.1.0) (sym is)))
+
+pub all_given : (k : Settings) (log : List Entry) → Legal k log → (c : ℕ) → GivenSo (is_open c (run k (steps_of log)).notes) (given c log) c (run k (steps_of log)).flow
+all_given k log legal c =
+    given_so (is_open c (run k (steps_of log)).notes) (given c log) c (run k (steps_of log)).flow (given_is_drained k c log legal) (run_sent k (steps_of log) c)
+
 -- ---- sessions
 
-pub session_on_tape : (actor : Actor) (entries : List Entry) (c : ℕ) (limits : Limits) (bytes rest : List ℕ) (fault : Option UnitFault) (before after more : List Told)
-    → share_from actor 0 entries ≡ after ++ more → HandsIn true c limits bytes rest fault before after
-    → (items : List Item) × BeginsWith limits bytes items rest × (events_of actor entries ≡ events_told before ++ (steps_of_units c items fault ++ events_told more))
-session_on_tape actor entries c limits bytes rest fault before after more are h = (
-  h.items,
-  h.begins,
-  sym (events_from actor 0 entries) ∙ (ap events_told are ∙ (events_more after more ∙ (ap (λ steps. steps ++ events_told more) h.adds ∙ append_assoc (events_told before) (steps_of_units c h.items fault) (events_told more)))),
-)
+-- the events that a session handed in, among those of its desk
+pub in_order : (desk c : ℕ) (limits : Limits) (bytes rest : List ℕ) (fault : Option UnitFault) (seen after newer : List Entry) (h : HandsIn desk c limits bytes rest fault seen after)
+    → events_of desk (newer ++ after) ≡ events_of desk newer ++ (reverse (steps_of_units c h.items fault) ++ events_of desk seen)
+in_order desk c limits bytes rest fault seen after newer h =
+    events_of_more desk newer after
+    ∙ ap (λ l. events_of desk newer ++ l) (ap (events_of desk) h.adds.goes_on ∙ (events_of_more desk h.adds.newer seen ∙ ap (λ l. l ++ events_of desk seen) h.adds.events_are))
 
 -- ---- moments
 

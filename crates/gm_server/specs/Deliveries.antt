@@ -4,8 +4,7 @@ use Rattle.std.specs.Io.KnownBytes.{Appends}
 use Rattle.gm_notes.specs.Settings.{Settings}
 use Rattle.gm_notes.specs.declared.event.ApplyError.{ApplyError}
 use Rattle.gm_shared.specs.declared.receipt.Drained.{Drained}
-use Rattle.gm_shared.specs.declared.tape.Told.{Told}
-use Rattle.gm_shared.specs.Shared.{Emptied}
+use Rattle.gm_shared.specs.Calls.{Account, PenCalled}
 use Rattle.gm_server.specs.declared.message.Delivery.{Delivery}
 use Rattle.gm_server.specs.declared.message.Delivery.TheVariants.{Done, Late, Over}
 use Rattle.gm_server.specs.declared.outbox.Message.{Message}
@@ -45,20 +44,20 @@ pub record Sends (ended : Type 0) (delivery : Delivery) (old new : Option (List 
 
 -- What a pen gave for a delivery: whether it was asked and gave at all, with a NOOP or without, the bytes, and whether the connection has
 -- ended by that, as its slot is shut or nothing was given.
-pub data Gives (k : Settings) (taped : Bool) (slot takes takes_after : ℕ) (share after : List Told) : Bool → Bool → List ℕ → Bool → Type 0 where
-  unasked : takes_after ≡ takes → after ≡ share → Gives k taped slot takes takes_after share after false false [] false
+pub data Gives (k : Settings) (taped : Bool) (slot takes takes_after : ℕ) (before after : Account) : Bool → Bool → List ℕ → Bool → Type 0 where
+  unasked : takes_after ≡ takes → after ≡ before → Gives k taped slot takes takes_after before after false false [] false
   given : (took : Bool) (drained : Drained) → MatchBool took (takes_after ≡ takes + 1) (takes_after ≡ takes)
-      → Emptied k taped slot slot (Ok drained) share after → Gives k taped slot takes takes_after share after true took drained.bytes.bytes drained.shut
+      → PenCalled k taped slot slot (Ok drained) before after → Gives k taped slot takes takes_after before after true took drained.bytes.bytes drained.shut
   refused : (took : Bool) (error : ApplyError) → MatchBool took (takes_after ≡ takes + 1) (takes_after ≡ takes)
-      → Emptied k taped slot slot (Err error) share after → Gives k taped slot takes takes_after share after false took [] true
+      → PenCalled k taped slot slot (Err error) before after → Gives k taped slot takes takes_after before after false took [] true
 
 -- A delivery sends what was left, and then what the pen gives, the NOOP behind the bytes that were drained with it: in this order,
 -- each byte once. All is done only where the pen gave, and the slot isn't shut; with all sent the connection is over only where it has ended.
-pub record Delivers (k : Settings) (taped : Bool) (delivery : Delivery) (slot takes takes_after : ℕ) (share after : List Told) (old new : Option (List ℕ)) (left left_after : List ℕ) : Type 0 where
+pub record Delivers (k : Settings) (taped : Bool) (delivery : Delivery) (slot takes takes_after : ℕ) (before after : Account) (old new : Option (List ℕ)) (left left_after : List ℕ) : Type 0 where
   pub asked : Bool
   pub took : Bool
   pub gave : List ℕ
   pub ended : Bool
-  pub gives : Gives k taped slot takes takes_after share after asked took gave ended
+  pub gives : Gives k taped slot takes takes_after before after asked took gave ended
   pub done : delivery ≡ Done → (asked ≡ true) × (ended ≡ false)
   pub sends : Sends (ended ≡ true) delivery old new (left ++ turn_of took gave) left_after

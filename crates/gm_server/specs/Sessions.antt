@@ -1,5 +1,5 @@
 -- What a session reads, and what it hands in of that.
-use Rattle.std.specs.Prelude.{◌≡◌, ℕ, Bool, true, false, List, [], ◌∷◌, ◌++◌, Option, Some, None, IfSome, Result, Ok, Err}
+use Rattle.std.specs.Prelude.{◌≡◌, ℕ, Bool, List, [], ◌∷◌, reverse, Option, Some, None, IfSome, Result, Ok, Err}
 use Rattle.std.specs.Io.KnownBytes.{Consumes}
 use Rattle.gm_feeder.specs.declared.units.Limits.{Limits}
 use Rattle.gm_feeder.specs.Units.{Item, IsUnitThen, Waits}
@@ -10,9 +10,8 @@ use Rattle.gm_notes.specs.declared.event.ApplyError.TheVariants as refusals
 use Rattle.gm_notes.specs.Settings.{Settings}
 use Rattle.gm_notes.specs.Steps.{Step, Fault}
 use Rattle.gm_front.specs.Units.{step_of_unit, fault_steps, steps_of, IsFaultAt, BeginsWith}
-use Rattle.gm_shared.specs.declared.tape.Told.{Told}
-use Rattle.gm_shared.specs.Shared.{Applied}
-use Rattle.gm_shared.specs.Tapes.{events_told}
+use Rattle.gm_shared.specs.declared.tape.Entry.{Entry}
+use Rattle.gm_shared.specs.Calls.{Account, Called, HandedIn}
 use Rattle.gm_server.specs.declared.session.SessionEnd.{SessionEnd}
 use Rattle.gm_server.specs.declared.session.SessionEnd.TheVariants as ends
 use Rattle.gm_server.specs.declared.session.Taken.{Taken}
@@ -23,18 +22,16 @@ abbrev pub IsPiece : Option (List ℕ) → Option (List ℕ) → Stream → Stre
 IsPiece input rest old new (Ok len) = TakesIn input rest old new len
 IsPiece input rest old new (Err end) = Consumes input rest [] × (end ≡ ends.Shut → ⊥)
 
--- with a tape the share has these events more
-abbrev pub Adds : Bool → List Step → List Told → List Told → Type 0
-Adds true steps share after = events_told after ≡ events_told share ++ steps
-Adds false steps share after = Unit {0}
+-- The history goes on from what a desk had seen, and meanwhile the desk handed in these events, in order.
+abbrev pub Adds : ℕ → List Step → List Entry → List Entry → Type 0
+Adds desk steps seen after = HandedIn desk (reverse steps) seen after
 
--- The events that a share has more are the first units of these bytes, in order, and then the fault behind
--- them, or none.
-pub record HandsIn (taped : Bool) (c : ℕ) (limits : Limits) (bytes rest : List ℕ) (fault : Option UnitFault) (share after : List Told) : Type 0 where
+-- The events that a desk handed in meanwhile are the first units of these bytes, in order, and then the fault behind them, or none.
+pub record HandsIn (desk c : ℕ) (limits : Limits) (bytes rest : List ℕ) (fault : Option UnitFault) (seen after : List Entry) : Type 0 where
   pub items : List Item
   pub begins : BeginsWith limits bytes items rest
   pub stands : IfSome fault (λ fault. IsFaultAt limits rest fault)
-  pub adds : Adds taped (steps_of c items fault) share after
+  pub adds : Adds desk (steps_of c items fault) seen after
 
 -- the input is used up, or the reader failed, or it read as many pieces as it may
 abbrev pub IsWhole : SessionEnd → Type 0
@@ -47,10 +44,12 @@ IsWhole ends.Turns = Unit {0}
 -- ---- why a session found its slot shut
 
 -- the event was handed in at this desk, and the book refused it for another reason than memory
-pub record Refuses (k : Settings) (taped : Bool) (s : Step) (desk : ℕ) (after : List Told) : Type 0 where
+pub record Refuses (k : Settings) (taped : Bool) (s : Step) (desk : ℕ) (after : List Entry) : Type 0 where
   pub error : ApplyError
-  pub before : List Told
-  pub applied : Applied k taped s desk (Err error) before after
+  pub before : Account
+  pub now : Account
+  pub called : Called k taped s desk (Err error) before now
+  pub seen_is : now.seen ≡ after
   pub reason : error ≡ refusals.Memory → ⊥
 
 -- this event of slot c comes next in the bytes
@@ -59,7 +58,7 @@ pub data StandsNext (c : ℕ) (limits : Limits) (bytes : List ℕ) : Step → Ty
   broken : (fault : UnitFault) → IsFaultAt limits bytes fault → StandsNext c limits bytes (Fault c fault)
 
 -- The fault at the rest was handed in; or the book refused what comes there.
-abbrev pub IsShutBy : Settings → Bool → ℕ → ℕ → Limits → List ℕ → Option UnitFault → List Told → Type 0
+abbrev pub IsShutBy : Settings → Bool → ℕ → ℕ → Limits → List ℕ → Option UnitFault → List Entry → Type 0
 IsShutBy k taped desk c limits rest (Some fault) after = Unit {0}
 IsShutBy k taped desk c limits rest None after = (s : Step) × StandsNext c limits rest s × Refuses k taped s desk after
 
@@ -68,54 +67,54 @@ IsShutBy k taped desk c limits rest None after = (s : Step) × StandsNext c limi
 -- What a session read of its input, and what it handed in of that: all units and no fault, where the input is used up,
 -- the reader failed or it read as many pieces as it may; then there is no unit at the rest, and no fault. Where it
 -- found its slot shut, why.
-pub record Reads (k : Settings) (taped : Bool) (desk c : ℕ) (limits : Limits) (old new : Option (List ℕ)) (end : SessionEnd) (share after : List Told) : Type 0 where
+pub record Reads (k : Settings) (taped : Bool) (desk c : ℕ) (limits : Limits) (old new : Option (List ℕ)) (end : SessionEnd) (seen after : List Entry) : Type 0 where
   pub read : List ℕ
   pub consumes : Consumes old new read
   pub rest : List ℕ
   pub fault : Option UnitFault
-  pub hands : HandsIn taped c limits read rest fault share after
+  pub hands : HandsIn desk c limits read rest fault seen after
   pub whole : IsWhole end → (fault ≡ None) × Waits limits rest
   pub shut : end ≡ ends.Shut → IsShutBy k taped desk c limits rest fault after
 
 -- ---- in small
 
 -- an event was applied, or nothing was and the session is over
-abbrev pub Applies : Settings → Bool → ℕ → Step → Result (Unit {0}) SessionEnd → List Told → List Told → Type 0
-Applies k taped desk s (Ok done) share after = Adds taped (s ∷ []) share after
-Applies k taped desk s (Err end) share after = Adds taped [] share after × (IsWhole end → ⊥) × (end ≡ ends.Shut → Refuses k taped s desk after)
+abbrev pub Applies : Settings → Bool → ℕ → Step → Result (Unit {0}) SessionEnd → List Entry → List Entry → Type 0
+Applies k taped desk s (Ok done) seen after = Adds desk (s ∷ []) seen after
+Applies k taped desk s (Err end) seen after = Adds desk [] seen after × (IsWhole end → ⊥) × (end ≡ ends.Shut → Refuses k taped s desk after)
 
 -- the fault that comes next was applied, or nothing was, and the session is over
-pub record Stops (k : Settings) (taped : Bool) (desk c : ℕ) (old : Stream) (end : SessionEnd) (share after : List Told) : Type 0 where
+pub record Stops (k : Settings) (taped : Bool) (desk c : ℕ) (old : Stream) (end : SessionEnd) (seen after : List Entry) : Type 0 where
   pub fault : Option UnitFault
   pub stands : IfSome fault (λ fault. IsFaultAt old.limits old.pending fault)
-  pub adds : Adds taped (fault_steps c fault) share after
+  pub adds : Adds desk (fault_steps c fault) seen after
   pub broken : IsWhole end → ⊥
   pub shut : end ≡ ends.Shut → IsShutBy k taped desk c old.limits old.pending fault after
 
 -- what becomes of the next unit: it was applied; or there is none, and more bytes are waited for; or the session is over
-abbrev pub TakesNext : Settings → Bool → ℕ → ℕ → Stream → Result Taken SessionEnd → List Told → List Told → Stream → Type 0
-TakesNext k taped desk c old (Ok (AUnit is_line)) share after new = (item : Item) × GivesUnit old item new × Adds taped (step_of_unit c item ∷ []) share after
-TakesNext k taped desk c old (Ok Nothing) share after new = GivesNone old new × (after ≡ share)
-TakesNext k taped desk c old (Err end) share after new = Stops k taped desk c old end share after
+abbrev pub TakesNext : Settings → Bool → ℕ → ℕ → Stream → Result Taken SessionEnd → List Entry → List Entry → Stream → Type 0
+TakesNext k taped desk c old (Ok (AUnit is_line)) seen after new = (item : Item) × GivesUnit old item new × Adds desk (step_of_unit c item ∷ []) seen after
+TakesNext k taped desk c old (Ok Nothing) seen after new = GivesNone old new × (after ≡ seen)
+TakesNext k taped desk c old (Err end) seen after new = Stops k taped desk c old end seen after
 
 -- after a piece more bytes are waited for
-pub record GoesOn (taped : Bool) (c : ℕ) (limits : Limits) (bytes : List ℕ) (share after : List Told) (new : Stream) : Type 0 where
-  pub hands : HandsIn taped c limits bytes new.pending None share after
+pub record GoesOn (desk c : ℕ) (limits : Limits) (bytes : List ℕ) (seen after : List Entry) (new : Stream) : Type 0 where
+  pub hands : HandsIn desk c limits bytes new.pending None seen after
   pub waits : Waits limits new.pending
   pub limited : new.limits ≡ limits
 
 -- after a piece the session is over
-pub record Breaks (k : Settings) (taped : Bool) (desk c : ℕ) (limits : Limits) (bytes : List ℕ) (end : SessionEnd) (share after : List Told) : Type 0 where
+pub record Breaks (k : Settings) (taped : Bool) (desk c : ℕ) (limits : Limits) (bytes : List ℕ) (end : SessionEnd) (seen after : List Entry) : Type 0 where
   pub rest : List ℕ
   pub fault : Option UnitFault
-  pub hands : HandsIn taped c limits bytes rest fault share after
+  pub hands : HandsIn desk c limits bytes rest fault seen after
   pub broken : IsWhole end → ⊥
   pub shut : end ≡ ends.Shut → IsShutBy k taped desk c limits rest fault after
 
 -- what becomes of these bytes
-abbrev pub Takes : Settings → Bool → ℕ → ℕ → Limits → List ℕ → Result (Unit {0}) SessionEnd → List Told → List Told → Stream → Type 0
-Takes k taped desk c limits bytes (Ok done) share after new = GoesOn taped c limits bytes share after new
-Takes k taped desk c limits bytes (Err end) share after new = Breaks k taped desk c limits bytes end share after
+abbrev pub Takes : Settings → Bool → ℕ → ℕ → Limits → List ℕ → Result (Unit {0}) SessionEnd → List Entry → List Entry → Stream → Type 0
+Takes k taped desk c limits bytes (Ok done) seen after new = GoesOn desk c limits bytes seen after new
+Takes k taped desk c limits bytes (Err end) seen after new = Breaks k taped desk c limits bytes end seen after
 
-abbrev pub Unloads : Settings → Bool → ℕ → ℕ → Stream → Result (Unit {0}) SessionEnd → List Told → List Told → Stream → Type 0
-Unloads k taped desk c old outcome share after new = Takes k taped desk c old.limits old.pending outcome share after new
+abbrev pub Unloads : Settings → Bool → ℕ → ℕ → Stream → Result (Unit {0}) SessionEnd → List Entry → List Entry → Stream → Type 0
+Unloads k taped desk c old outcome seen after new = Takes k taped desk c old.limits old.pending outcome seen after new

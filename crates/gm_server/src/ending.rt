@@ -2,10 +2,9 @@
 
 ghost use Rattle.std.specs.Prelude.{◌≡◌, Bool, [], ◌∷◌, IfOk, MatchBool, All, map, length, drop, true};
 ghost use Rattle.gm_notes.specs.Settings.{Settings as BookSettings};
-ghost use Rattle.gm_shared.specs.Shared.{AddsUp};
 ghost use Rattle.gm_shared.specs.declared.tape.Actor.TheVariants as actors;
-ghost use Rattle.gm_server.specs.Owners.{is_own_share, everybody};
-ghost use Rattle.gm_server.specs.Served.{SettledSo};
+ghost use Rattle.gm_server.specs.Owners.{SaysOwn, everybody};
+ghost use Rattle.gm_server.specs.Served.{HasEverybody, IsWhole, SettledSo};
 
 use crate::lane::Lane;
 use crate::own_desk::OwnDesk;
@@ -51,7 +50,7 @@ fn all_parts<K: BookName>(
     lanes: Vec<Lane<K>>,
     control: OwnDesk<K>,
 ) -> Result<(Vec<Desk<K>>, Vec<Pen<K>>), AllocError>
-    ensures own { IfOk result (λ parts. All (λ desk. is_own_share K.taped (actors.Desk desk.number) desk.share.items ≡ true) parts.0.items) }
+    ensures own { IfOk result (λ parts. All (λ desk. SaysOwn desk.number desk.front.seen) parts.0.items) }
     ensures desks { IfOk result (λ parts. drop (length lanes.items) parts.0.items ≡ control.desk ∷ []) }
     ensures pens { IfOk result (λ parts. length parts.1.items ≡ length lanes.items) }
 {
@@ -68,8 +67,7 @@ fn all_parts<K: BookName>(
 
 /// A book that is settled, if everybody's share is there.
 fn with_everybody(settled: Settled, actors: &[Actor]) -> Result<Settled, SettleError>
-    ensures { (k : BookSettings) (taped : Bool) → actors.now ≡ everybody k.slots → AddsUp k taped settled
-        → All (λ share. is_own_share taped share.actor share.told.items ≡ true) settled.shares.items → SettledSo k taped result }
+    ensures { (k : BookSettings) (taped : Bool) → actors.now ≡ everybody k.slots → (HasEverybody k settled → IsWhole k taped settled) → SettledSo k taped result }
 {
     if are_of(settled.shares.as_slice(), actors) {
         Ok(settled)

@@ -1,6 +1,7 @@
 //! What a slot has of its own: where its connection's events are handed in, and the way of its bytes to the socket.
 
 ghost use Rattle.std.specs.Prelude.{◌≡◌, ℕ, List, [], Option, true, Some, None, IfSome, IfNone, is_none};
+ghost use Rattle.gm_shared.specs.Calls.{account};
 ghost use Rattle.gm_server.specs.Deliveries.{left_in, Delivers};
 
 use crate::message::Delivery;
@@ -170,7 +171,7 @@ impl<K: BookName> Outgoing<K> {
         _looking: &Looking<'_>,
     ) -> Delivery
         ensures delivers { IfSome self.old.stream (λ stream. (old new : Option (List ℕ)) × Delivers K.settings K.taped result self.old.outbox.pen.slot
-            self.old.outbox.pen.seat.takes self.new.outbox.pen.seat.takes self.old.outbox.pen.share.items self.new.outbox.pen.share.items old new
+            self.old.outbox.pen.seat.takes self.new.outbox.pen.seat.takes (account self.old.outbox.pen.share.items self.old.outbox.pen.front.seen) (account self.new.outbox.pen.share.items self.new.outbox.pen.front.seen) old new
             (left_in self.old.outbox.left) (left_in self.new.outbox.left)) }
         ensures none { IfNone self.old.stream ((result ≡ Delivery.Over) × (self.new.outbox ≡ self.old.outbox)) }
         ensures slot { self.new.outbox.pen.slot ≡ self.old.outbox.pen.slot }

@@ -1,6 +1,7 @@
 //! What is to be sent to a connection, and how it is sent.
 
 ghost use Rattle.std.specs.Prelude.{◌≡◌, ◌<◌, ℕ, List, [], ◌++◌, length};
+ghost use Rattle.gm_shared.specs.Calls.{account};
 
 use crate::message::{Delivery, noop_if, write_once};
 use gm_bytes::ByteQueue;
@@ -149,7 +150,7 @@ impl<K: BookName> Outbox<K> {
         w: &mut W,
     ) -> Delivery
         ensures delivers { Delivers K.settings K.taped result self.old.pen.slot self.old.pen.seat.takes self.new.pen.seat.takes
-            self.old.pen.share.items self.new.pen.share.items (W.contents w.old) (W.contents w.new) (left_in self.old.left) (left_in self.new.left) }
+            (account self.old.pen.share.items self.old.pen.front.seen) (account self.new.pen.share.items self.new.pen.front.seen) (W.contents w.old) (W.contents w.new) (left_in self.old.left) (left_in self.new.left) }
         ensures slot { self.new.pen.slot ≡ self.old.pen.slot }
     {
         match self.send_left(w) {

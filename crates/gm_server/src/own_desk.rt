@@ -6,9 +6,8 @@ ghost use Rattle.std.specs.Io.KnownBytes.{IsAtEnd};
 ghost use Rattle.gm_notes.specs.Servers.{step_of, IsSized};
 ghost use Rattle.gm_notes.specs.Steps.{Open, Close, Tick};
 ghost use Rattle.gm_shared.specs.Books.{NeedsNoMemory};
-ghost use Rattle.gm_shared.specs.Shared.{AppliedTo, AddsEvent};
-ghost use Rattle.gm_shared.specs.declared.tape.Actor.TheVariants as actors;
-ghost use Rattle.gm_server.specs.Owners.{is_said_by, is_own_share};
+ghost use Rattle.gm_shared.specs.Calls.{DeskCalled, HandedIn, if_taken, account};
+ghost use Rattle.gm_server.specs.Owners.{is_said_by, SaysOwn};
 ghost use Rattle.gm_server.specs.Sessions.{Reads};
 
 use crate::effects::Notify;
@@ -26,13 +25,13 @@ use std::sync::Wait;
 #[derive(Drop)]
 pub(crate) struct OwnDesk<K: BookName> {
     desk: Desk<K>,
-    ghost own: { is_own_share K.taped (actors.Desk desk.number) desk.share.items ≡ true },
+    ghost own: { SaysOwn desk.number desk.front.seen },
 }
 
 impl<K: BookName> OwnDesk<K> {
-    /// A desk that was told nothing yet.
+    /// A desk that has seen nothing yet.
     pub(crate) fn new(desk: Desk<K>) -> OwnDesk<K>
-        requires { desk.share.items ≡ [] }
+        requires { desk.front.seen ≡ [] }
         ensures { result.desk ≡ desk }
     {
         OwnDesk { desk }
@@ -40,7 +39,7 @@ impl<K: BookName> OwnDesk<K> {
 
     pub(crate) fn into_desk(self) -> Desk<K>
         ensures desk { result ≡ self.desk }
-        ensures own { is_own_share K.taped (actors.Desk result.number) result.share.items ≡ true }
+        ensures own { SaysOwn result.number result.front.seen }
     {
         self.desk
     }
@@ -56,8 +55,9 @@ impl<K: BookName> OwnDesk<K> {
     ) -> Result<Receipt, ApplyError>
         requires size { IsSized event }
         requires own { is_said_by self.old.desk.number (step_of event) ≡ true }
-        ensures applied { AppliedTo K.settings K.taped (step_of event.entry) self.old.desk.number result touched.new self.old.desk.share.items self.new.desk.share.items }
-        ensures adds { AddsEvent K.taped (step_of event.entry) result self.old.desk.share.items self.new.desk.share.items }
+        ensures called { DeskCalled K.settings K.taped (step_of event.entry) self.old.desk.number result touched.new
+            (account self.old.desk.share.items self.old.desk.front.seen) (account self.new.desk.share.items self.new.desk.front.seen) }
+        ensures hands { HandedIn self.old.desk.number (if_taken (step_of event.entry) result) self.old.desk.front.seen self.new.desk.front.seen }
         ensures memory { NeedsNoMemory K.taped (step_of event.entry) → IsErrOf result ApplyError.Memory → ⊥ }
         ensures number { self.new.desk.number ≡ self.old.desk.number }
     {
@@ -72,7 +72,8 @@ impl<K: BookName> OwnDesk<K> {
         addr: &[u8],
         touched: &mut SlotSet,
     ) -> Result<Receipt, ApplyError>
-        ensures applied { AppliedTo K.settings K.taped (Open addr.now) self.old.desk.number result touched.new self.old.desk.share.items self.new.desk.share.items }
+        ensures called { DeskCalled K.settings K.taped (Open addr.now) self.old.desk.number result touched.new
+            (account self.old.desk.share.items self.old.desk.front.seen) (account self.new.desk.share.items self.new.desk.front.seen) }
         ensures number { self.new.desk.number ≡ self.old.desk.number }
     {
         self.apply(rt, shared, Event::Open { addr }, touched)
@@ -86,7 +87,8 @@ impl<K: BookName> OwnDesk<K> {
         now: u64,
         touched: &mut SlotSet,
     ) -> Result<Receipt, ApplyError>
-        ensures applied { AppliedTo K.settings K.taped (Tick now) self.old.desk.number result touched.new self.old.desk.share.items self.new.desk.share.items }
+        ensures called { DeskCalled K.settings K.taped (Tick now) self.old.desk.number result touched.new
+            (account self.old.desk.share.items self.old.desk.front.seen) (account self.new.desk.share.items self.new.desk.front.seen) }
         ensures number { self.new.desk.number ≡ self.old.desk.number }
     {
         self.apply(rt, shared, Event::Tick { now }, touched)
@@ -99,7 +101,8 @@ impl<K: BookName> OwnDesk<K> {
         shared: &Shared<K>,
         touched: &mut SlotSet,
     ) -> Result<Receipt, ApplyError>
-        ensures applied { AppliedTo K.settings K.taped (Close self.old.desk.number) self.old.desk.number result touched.new self.old.desk.share.items self.new.desk.share.items }
+        ensures called { DeskCalled K.settings K.taped (Close self.old.desk.number) self.old.desk.number result touched.new
+            (account self.old.desk.share.items self.old.desk.front.seen) (account self.new.desk.share.items self.new.desk.front.seen) }
         ensures memory { K.taped ≡ false → IsErrOf result ApplyError.Memory → ⊥ }
         ensures number { self.new.desk.number ≡ self.old.desk.number }
     {
@@ -119,7 +122,7 @@ impl<K: BookName> OwnDesk<K> {
         server: &N,
     ) -> SessionEnd
         ensures ended { result ≡ SessionEnd.Ended → IsAtEnd (I.remaining reader.new) }
-        ensures reads { Reads K.settings K.taped self.old.desk.number self.old.desk.number limits (I.remaining reader.old) (I.remaining reader.new) result self.old.desk.share.items self.new.desk.share.items }
+        ensures reads { Reads K.settings K.taped self.old.desk.number self.old.desk.number limits (I.remaining reader.old) (I.remaining reader.new) result self.old.desk.front.seen self.new.desk.front.seen }
         ensures number { self.new.desk.number ≡ self.old.desk.number }
     {
         let slot = self.desk.number();

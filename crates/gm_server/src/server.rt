@@ -74,6 +74,7 @@ pub fn serve_book<
     ready: &mut T,
 ) -> Result<Ended, ControlError>
     requires table { blank.table ≡ K.table }
+    requires history { blank.history ≡ K.history }
     requires settings { blank.settings ≡ K.settings }
     requires taped { blank.taped ≡ K.taped }
     ensures { IfOk result (λ ended. SettledSo K.settings K.taped ended.book) }

@@ -4,6 +4,7 @@ ghost use Rattle.std.specs.Prelude.{◌≡◌, ◌+◌, ◌-◌, ◌%◌, ◌^�
 ghost use Rattle.std.specs.Io.KnownBytes.{IsAtEnd};
 ghost use Rattle.gm_notes.specs.Servers.{step_of, IsSized};
 ghost use Rattle.gm_notes.specs.Steps.{Packet};
+ghost use Rattle.gm_shared.specs.Calls.{account};
 ghost use Rattle.gm_server.specs.Effects.{IsNothing, Keeps};
 ghost use Rattle.gm_server.specs.Sessions.{IsPiece, Applies, TakesNext, Unloads, Reads};
 
@@ -80,9 +81,9 @@ impl<'s, K: BookName, R: Wait, G: Gate> Applier<'s, K, R, G> {
     /// Applies an event. Where it is refused, the session is over.
     fn apply(&mut self, event: Event<'_>) -> Result<(), SessionEnd>
         requires { IsSized event }
-        ensures applies { Applies K.settings K.taped self.old.desk.now.number (step_of event.entry) result self.old.desk.now.share.items self.new.desk.now.share.items }
-        ensures keeps { Keeps K.settings K.taped (step_of event.entry) self.old.desk.now.number result self.old.desk.now.share.items self.new.desk.now.share.items
-            self.old.effects self.new.effects }
+        ensures applies { Applies K.settings K.taped self.old.desk.now.number (step_of event.entry) result self.old.desk.now.front.seen self.new.desk.now.front.seen }
+        ensures keeps { Keeps K.settings K.taped (step_of event.entry) self.old.desk.now.number result
+            (account self.old.desk.now.share.items self.old.desk.now.front.seen) (account self.new.desk.now.share.items self.new.desk.now.front.seen) self.old.effects self.new.effects }
         ensures same_desk { self.new.desk.ghost_name ≡ self.old.desk.ghost_name }
         ensures number { self.new.desk.now.number ≡ self.old.desk.now.number }
         ensures slot { self.new.slot ≡ self.old.slot }
@@ -103,9 +104,9 @@ impl<'s, K: BookName, R: Wait, G: Gate> Applier<'s, K, R, G> {
     /// Lets a unit pass the gate, and applies it. Before a grab the server tells the time.
     fn apply_unit<N: Notify<R>>(&mut self, server: &N, event: Event<'_>) -> Result<(), SessionEnd>
         requires { IsSized event }
-        ensures applies { Applies K.settings K.taped self.old.desk.now.number (step_of event.entry) result self.old.desk.now.share.items self.new.desk.now.share.items }
-        ensures keeps { Keeps K.settings K.taped (step_of event.entry) self.old.desk.now.number result self.old.desk.now.share.items self.new.desk.now.share.items
-            self.old.effects self.new.effects }
+        ensures applies { Applies K.settings K.taped self.old.desk.now.number (step_of event.entry) result self.old.desk.now.front.seen self.new.desk.now.front.seen }
+        ensures keeps { Keeps K.settings K.taped (step_of event.entry) self.old.desk.now.number result
+            (account self.old.desk.now.share.items self.old.desk.now.front.seen) (account self.new.desk.now.share.items self.new.desk.now.front.seen) self.old.effects self.new.effects }
         ensures same_desk { self.new.desk.ghost_name ≡ self.old.desk.ghost_name }
         ensures number { self.new.desk.now.number ≡ self.old.desk.now.number }
         ensures slot { self.new.slot ≡ self.old.slot }
@@ -225,7 +226,7 @@ impl<'s, K: BookName, R: Wait, G: Gate, N: Notify<R>> Session<'s, K, R, G, N> {
     /// Takes the next unit in the feeder, or the fault there. A long packet is taken with its
     /// memory, so that its data are shared and not copied. Where the session is over, it says why.
     fn take_unit(&mut self, turn: &mut Turn<'s>) -> Result<Taken, SessionEnd>
-        ensures takes { TakesNext K.settings K.taped self.old.applier.desk.now.number self.old.applier.slot self.old.feeder result self.old.applier.desk.now.share.items self.new.applier.desk.now.share.items self.new.feeder }
+        ensures takes { TakesNext K.settings K.taped self.old.applier.desk.now.number self.old.applier.slot self.old.feeder result self.old.applier.desk.now.front.seen self.new.applier.desk.now.front.seen self.new.feeder }
         ensures same_desk { self.new.applier.desk.ghost_name ≡ self.old.applier.desk.ghost_name }
         ensures number { self.new.applier.desk.now.number ≡ self.old.applier.desk.now.number }
         ensures slot { self.new.applier.slot ≡ self.old.applier.slot }
@@ -255,7 +256,7 @@ impl<'s, K: BookName, R: Wait, G: Gate, N: Notify<R>> Session<'s, K, R, G, N> {
     fn take_long(&mut self, packet: OwnedPacket) -> Result<(), SessionEnd>
         requires { length (drop packet.data_at packet.bytes.items) ≤ 1073741824 }
         ensures applies { Applies K.settings K.taped self.old.applier.desk.now.number (Packet self.old.applier.slot packet.kind (drop packet.data_at packet.bytes.items)) result
-            self.old.applier.desk.now.share.items self.new.applier.desk.now.share.items }
+            self.old.applier.desk.now.front.seen self.new.applier.desk.now.front.seen }
         ensures feeder { self.new.feeder ≡ self.old.feeder }
         ensures same_desk { self.new.applier.desk.ghost_name ≡ self.old.applier.desk.ghost_name }
         ensures number { self.new.applier.desk.now.number ≡ self.old.applier.desk.now.number }
@@ -274,7 +275,7 @@ impl<'s, K: BookName, R: Wait, G: Gate, N: Notify<R>> Session<'s, K, R, G, N> {
     /// Takes each unit in the feeder, and the fault after them. Where the session is over, it says why. Where
     /// its turn is over, it tells what came of it, and others have theirs.
     fn unload(&mut self, length: usize) -> Result<(), SessionEnd>
-        ensures unloads { Unloads K.settings K.taped self.old.applier.desk.now.number self.old.applier.slot self.old.feeder result self.old.applier.desk.now.share.items self.new.applier.desk.now.share.items self.new.feeder }
+        ensures unloads { Unloads K.settings K.taped self.old.applier.desk.now.number self.old.applier.slot self.old.feeder result self.old.applier.desk.now.front.seen self.new.applier.desk.now.front.seen self.new.feeder }
         ensures same_desk { self.new.applier.desk.ghost_name ≡ self.old.applier.desk.ghost_name }
         ensures number { self.new.applier.desk.now.number ≡ self.old.applier.desk.now.number }
         ensures slot { self.new.applier.slot ≡ self.old.applier.slot }
@@ -302,7 +303,7 @@ impl<'s, K: BookName, R: Wait, G: Gate, N: Notify<R>> Session<'s, K, R, G, N> {
     /// over, it says why.
     fn take_piece(&mut self, len: usize) -> Result<(), SessionEnd>
         ensures told { IsNothing self.new.applier.effects }
-        ensures unloads { Unloads K.settings K.taped self.old.applier.desk.now.number self.old.applier.slot self.old.feeder result self.old.applier.desk.now.share.items self.new.applier.desk.now.share.items self.new.feeder }
+        ensures unloads { Unloads K.settings K.taped self.old.applier.desk.now.number self.old.applier.slot self.old.feeder result self.old.applier.desk.now.front.seen self.new.applier.desk.now.front.seen self.new.feeder }
         ensures same_desk { self.new.applier.desk.ghost_name ≡ self.old.applier.desk.ghost_name }
         ensures number { self.new.applier.desk.now.number ≡ self.old.applier.desk.now.number }
         ensures slot { self.new.applier.slot ≡ self.old.applier.slot }
@@ -317,7 +318,7 @@ impl<'s, K: BookName, R: Wait, G: Gate, N: Notify<R>> Session<'s, K, R, G, N> {
         requires { self.old.feeder.pending ≡ [] }
         ensures ended { result ≡ SessionEnd.Ended → IsAtEnd (I.remaining reader.new) }
         ensures reads { Reads K.settings K.taped self.old.applier.desk.now.number self.old.applier.slot self.old.feeder.limits (I.remaining reader.old) (I.remaining reader.new) result
-            self.old.applier.desk.now.share.items self.new.applier.desk.now.share.items }
+            self.old.applier.desk.now.front.seen self.new.applier.desk.now.front.seen }
         ensures same_desk { self.new.applier.desk.ghost_name ≡ self.old.applier.desk.ghost_name }
         ensures number { self.new.applier.desk.now.number ≡ self.old.applier.desk.now.number }
     {
@@ -365,7 +366,7 @@ pub(crate) fn read_and_notify<'s, K: BookName, R: Wait, I: Read, G: Gate, N: Not
     server: &'s N,
 ) -> SessionEnd
     ensures ended { result ≡ SessionEnd.Ended → IsAtEnd (I.remaining reader.new) }
-    ensures reads { Reads K.settings K.taped desk.old.number slot limits (I.remaining reader.old) (I.remaining reader.new) result desk.old.share.items desk.new.share.items }
+    ensures reads { Reads K.settings K.taped desk.old.number slot limits (I.remaining reader.old) (I.remaining reader.new) result desk.old.front.seen desk.new.front.seen }
     ensures number { desk.new.number ≡ desk.old.number }
 {
     let mut session = Session {

@@ -2,6 +2,7 @@
 
 ghost use Rattle.std.specs.Prelude.{◌≡◌, ◌<◌, ◌≤◌, All, [], true, false, None, IfSome, IfNone, length};
 ghost use Rattle.gm_notes.specs.Steps.{Close};
+ghost use Rattle.gm_shared.specs.Calls.{account};
 ghost use Rattle.gm_server.specs.Owners.{Asks, Opens};
 
 use crate::effects::{Effects, Notify};
@@ -96,7 +97,7 @@ fn new_lanes<K: BookName>(
     desks: Vec<Desk<K>>,
     pens: Vec<Pen<K>>,
 ) -> Result<Vec<Lane<K>>, AllocError>
-    requires { All (λ desk. desk.share.items ≡ []) desks.items }
+    requires { All (λ desk. desk.front.seen ≡ []) desks.items }
 {
     let mut lanes = Vec::with_capacity(alloc, desks.len())?;
     for (desk, pen) in desks.into_iter().zip(pens) {
@@ -118,7 +119,7 @@ impl<K: BookName> ServerState<K> {
         limits: Limits,
     ) -> Result<ServerState<K>, AllocError>
         requires sized { slots ≡ K.settings.slots }
-        requires nothing_told { All (λ desk. desk.share.items ≡ []) desks.items }
+        requires nothing_seen { All (λ desk. desk.front.seen ≡ []) desks.items }
     {
         let lanes = new_lanes(alloc, desks, pens)?;
         Ok(ServerState {
@@ -235,7 +236,7 @@ impl<K: BookName> ServerState<K> {
         desk: &mut OwnDesk<K>,
         addr: &[u8],
     ) -> Option<u32>
-        ensures opens { Opens K.settings K.taped desk.old.desk.number addr.now result desk.old.desk.share.items desk.new.desk.share.items }
+        ensures opens { Opens K.settings K.taped desk.old.desk.number addr.now result (account desk.old.desk.share.items desk.old.desk.front.seen) (account desk.new.desk.share.items desk.new.desk.front.seen) }
         ensures number { desk.new.desk.number ≡ desk.old.desk.number }
     {
         let mut touched = SlotSet::new();
@@ -279,7 +280,7 @@ impl<K: BookName> ServerState<K> {
     /// Closes a desk's slot. With a tape there may be no memory for that. Then the slot stays open in the book, and the
     /// server ends.
     fn close<R: Wait + Clock>(&self, rt: &R, desk: &mut OwnDesk<K>)
-        ensures asks { Asks K.settings K.taped (Close desk.old.desk.number) desk.old.desk.number desk.old.desk.share.items desk.new.desk.share.items }
+        ensures asks { Asks K.settings K.taped (Close desk.old.desk.number) desk.old.desk.number (account desk.old.desk.share.items desk.old.desk.front.seen) (account desk.new.desk.share.items desk.new.desk.front.seen) }
         ensures number { desk.new.desk.number ≡ desk.old.desk.number }
     {
         let mut touched = SlotSet::new();

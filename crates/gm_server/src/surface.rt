@@ -99,7 +99,7 @@ pub fn read_session<'s, K: BookName, R: Wait, I: Read, G: Gate>(
     gate: &'s G,
 ) -> SessionEnd
     ensures ended { result ≡ SessionEnd.Ended → IsAtEnd (I.remaining reader.new) }
-    ensures reads { Reads K.settings K.taped desk.old.number slot limits (I.remaining reader.old) (I.remaining reader.new) result desk.old.share.items desk.new.share.items }
+    ensures reads { Reads K.settings K.taped desk.old.number slot limits (I.remaining reader.old) (I.remaining reader.new) result desk.old.front.seen desk.new.front.seen }
     ensures number { desk.new.number ≡ desk.old.number }
 {
     let alone = Alone::new();

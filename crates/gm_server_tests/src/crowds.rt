@@ -335,6 +335,7 @@ fn crowd<K: BookName + Send + Sync, R: Threads + Wait + Abort + Sync>(
     slots: u32,
 ) -> Result<usize, Fail>
     requires table { blank.table ≡ K.table }
+    requires history { blank.history ≡ K.history }
     requires settings { blank.settings ≡ K.settings }
     requires taped { blank.taped ≡ K.taped }
 {

@@ -77,6 +77,7 @@ pub fn apply<K: BookName, R: Wait + Abort>(
 impl<K: BookName> Room<K> {
     pub fn new(alloc: Global, blank: Blank) -> Result<Room<K>, AllocError>
         requires table { blank.table ≡ K.table }
+        requires history { blank.history ≡ K.history }
         requires settings { blank.settings ≡ K.settings }
         requires taped { blank.taped ≡ K.taped }
     {
@@ -196,6 +197,7 @@ fn play_at<K: BookName + Send + Sync, S: Scene, R: Threads + Wait + Abort + Sync
     growth: u32,
 ) -> Result<Result<Vec<Entry>, u8>, Fail>
     requires table { blank.table ≡ K.table }
+    requires history { blank.history ≡ K.history }
     requires settings { blank.settings ≡ K.settings }
     requires taped { blank.taped ≡ K.taped }
 {

@@ -1,40 +1,25 @@
 -- What the lock keeps after a holding, and the pens that it is opened with.
-use Rattle.std.proofs.Common.{◌≡◌, ℕ, Bool, zero, suc, ◌<◌, List, [], ◌∷◌, ◌++◌, ◌+◌, length, map, Result, Ok, Err, refl, sym}
+use Rattle.std.proofs.Common.{◌≡◌, ℕ, zero, suc, ◌<◌, List, [], ◌∷◌, ◌++◌, ◌+◌, ◌*◌, length, map, Result, refl, sym}
 use Rattle.std.proofs.Common.{ap, subst, ◌∙◌, arith, add-one, All}
 use Rattle.std.proofs.lemmas.List.Elements.{All-push}
 use Rattle.std.proofs.lemmas.List.{map-append}
 use Rattle.atomic_table.specs.Seated.{TableId}
 use Rattle.gm_notes.specs.declared.event.ApplyError.{ApplyError}
 use Rattle.gm_notes.specs.Settings.{Settings}
-use Rattle.gm_notes.specs.Steps.{Step, Drain}
+use Rattle.gm_notes.specs.Steps.{Step}
 use Rattle.gm_word.specs.Seats.{PenState, fresh_pen, fresh_pens}
 use Rattle.gm_shared.specs.declared.book.Booked.{Booked}
+use Rattle.gm_shared.specs.declared.events.Noop.{Noop}
 use Rattle.gm_shared.specs.declared.tape.Told.{Told}
+use Rattle.gm_shared.specs.declared.tape.Entry.{Entry}
 use Rattle.gm_shared.specs.declared.receipt.Receipt.{Receipt}
-use Rattle.gm_shared.specs.declared.receipt.Drained.{Drained}
-use Rattle.gm_shared.specs.Events.{entered}
-use Rattle.gm_shared.specs.Books.{Held, asked, unasked, Drains}
-use Rattle.gm_shared.specs.Shared.{IsGuarded, numbers_below}
+use Rattle.gm_shared.specs.Books.{Held}
+use Rattle.gm_shared.specs.Tokens.{KeeperState, one_front_more}
+use Rattle.gm_shared.specs.Shared.{HasMade, numbers_below}
 
-pub held_so : {k : Settings} {steps : List Step} {s : Step} {desk : ℕ} {result same : Result Receipt ApplyError} {touched : List ℕ} {old new : Booked} {told : List Told}
-    → result ≡ same → Held k steps s desk same touched old new told → Held k steps s desk result touched old new told
-held_so {k} {steps} {s} {desk} {result} {same} {touched} {old} {new} {told} e h = subst (λ r. Held k steps s desk r touched old new told) (sym e) h
-
-pub applied_keeps : (table : TableId) (taped : Bool) (k : Settings) (steps : List Step) (s : Step) (desk : ℕ) (result : Result Receipt ApplyError) (touched : List ℕ) (old new : Booked) (told : List Told)
-    → Held k steps s desk result touched old new told → new.seat.table ≡ table → old.tape.on ≡ taped → IsGuarded table k taped new
-applied_keeps table taped k steps s desk (Ok receipt) touched old new told (asked noop h) same on =
-    record { steps = s ∷ entered noop steps; agrees = h.event.agrees; table_is = same; on = h.tape.on ∙ on }
-applied_keeps table taped k steps s desk (Err refused) touched old new told (asked noop h) same on =
-    record { steps = entered noop steps; agrees = h.event.1; table_is = same; on = h.tape.on ∙ on }
-applied_keeps table taped k steps s desk result touched old new told (unasked h) same on =
-    record { steps = steps; agrees = h.agrees; table_is = same; on = h.tape.on ∙ on }
-
-pub drained_keeps : (table : TableId) (taped : Bool) (k : Settings) (steps : List Step) (pen slot : ℕ) (result : Result Drained ApplyError) (old new : Booked) (told : List Told)
-    → Drains k steps pen slot result old new told → new.seat.table ≡ table → old.tape.on ≡ taped → IsGuarded table k taped new
-drained_keeps table taped k steps pen slot (Ok drained) old new told h same on =
-    record { steps = Drain slot ∷ steps; agrees = h.agrees; table_is = same; on = h.tape.on ∙ on }
-drained_keeps table taped k steps pen slot (Err refused) old new told h same on =
-    record { steps = steps; agrees = h.1; table_is = same; on = h.2.on ∙ on }
+pub held_so : {k : Settings} {steps : List Step} {s : Step} {desk : ℕ} {noop : Noop} {result same : Result Receipt ApplyError} {touched : List ℕ} {old new : Booked} {told : List Told}
+    → result ≡ same → Held k steps s desk noop same touched old new told → Held k steps s desk noop result touched old new told
+held_so {k} {steps} {s} {desk} {noop} {result} {same} {touched} {old} {new} {told} e h = subst (λ r. Held k steps s desk noop r touched old new told) (sym e) h
 
 -- ---- the pens that a book is opened with
 
@@ -91,5 +76,13 @@ pub numbers_grow : {A : Type 0} (f : A → ℕ) (xs all : List A) (x : A) (n : �
 numbers_grow f xs all x n e h is =
     ap (map f) e ∙ (map-append f xs (x ∷ []) ∙ (ap (λ ys. ys ++ f x ∷ []) h ∙ (ap (λ (i : ℕ). numbers_below n ++ i ∷ []) is ∙ ap numbers_below (sym (add-one n)))))
 
-pub none_told : {A : Type 0} (f : A → List Told) (xs all : List A) (x : A) → all ≡ xs ++ x ∷ [] → All (λ a. f a ≡ []) xs → f x ≡ [] → All (λ a. f a ≡ []) all
-none_told f xs all x e h is = subst (λ l. All (λ a. f a ≡ []) l) (sym e) (All-push (λ a. f a ≡ []) xs x h is)
+pub none_seen : {A : Type 0} (f : A → List Entry) (xs all : List A) (x : A) → all ≡ xs ++ x ∷ [] → All (λ a. f a ≡ []) xs → f x ≡ [] → All (λ a. f a ≡ []) all
+none_seen f xs all x e h is = subst (λ l. All (λ a. f a ≡ []) l) (sym e) (All-push (λ a. f a ≡ []) xs x h is)
+
+-- two fronts more
+pub made_more : (history : TableId) (n : ℕ) (old mid new : KeeperState) → HasMade (2 * n) history old → mid ≡ one_front_more old → new ≡ one_front_more mid → HasMade (2 * (n + 1)) history new
+made_more history n old mid new h e f = record {
+  history_is = ap (λ k. k.table) f ∙ (ap (λ k. k.table) e ∙ h.history_is);
+  empty = ap (λ k. k.log) f ∙ (ap (λ k. k.log) e ∙ h.empty);
+  count_is = omega (arith, ap (λ (k : KeeperState). k.made) f, ap (λ (k : KeeperState). k.made) e, h.count_is);
+}

@@ -8,3 +8,8 @@ mod Comparing
 mod Places
 mod Ending
 mod Keeping
+pub mod Logs
+pub mod Moves
+pub mod Entering
+mod Entries
+mod Standing

@@ -2,6 +2,7 @@
 use Rattle.std.specs.Prelude.{◌≡◌, ℕ, ◌+◌, ◌<◌, Bool, true, false, ◌==◌, if◌then◌else◌, List, [], ◌∷◌, Option, Some, None, Result, Ok, Err}
 use Rattle.gm_notes.specs.declared.event.ApplyError.{ApplyError}
 use Rattle.gm_notes.specs.declared.event.ApplyError.TheVariants.{Memory, NotOpen}
+use Rattle.gm_notes.specs.declared.states.Phase.{Phase}
 use Rattle.gm_notes.specs.Settings.{Settings}
 use Rattle.gm_notes.specs.Notes.{is_open, phase, mode}
 use Rattle.gm_notes.specs.Flow.{waiting}
@@ -15,6 +16,7 @@ use Rattle.gm_word.specs.declared.view.Line.{Line as WordLine}
 use Rattle.gm_word.specs.Steps.{line_at}
 use Rattle.gm_shared.specs.declared.book.Booked.{Booked}
 use Rattle.gm_shared.specs.declared.events.Noop.{Noop}
+use Rattle.gm_shared.specs.declared.events.Noop.TheVariants.{Left}
 use Rattle.gm_shared.specs.declared.receipt.Receipt.{Receipt}
 use Rattle.gm_shared.specs.declared.receipt.Drained.{Drained}
 use Rattle.gm_shared.specs.Words.{worded, Follows}
@@ -57,18 +59,25 @@ pub record BookedAgrees (booked : Booked) (k : Settings) (steps : List Step) : T
 
 -- ---- one holding
 
+-- what a slot shows: the bytes that wait for it, its phase, and whether it is shut
+abbrev pub shown_at : ℕ → Past → List ℕ × Phase × Bool
+shown_at c past = (waiting c past.flow, phase c past.notes, is_closing c past)
+
+-- each slot that an event changed, with what was entered of a NOOP since the older steps, is among these
+abbrev pub AreTouched : Settings → List Step → List Step → List ℕ → Type 0
+AreTouched k older steps touched = (c : ℕ) → has touched c ≡ false → shown_at c (run k steps) ≡ shown_at c (run k older)
+
 -- The event was taken after these steps, as the receipt tells, and touched these slots.
-pub record IsTaken (k : Settings) (steps : List Step) (s : Step) (receipt : Receipt) (touched : List ℕ) (old new : Booked) : Type 0 where
+pub record IsTaken (k : Settings) (older steps : List Step) (s : Step) (receipt : Receipt) (touched : List ℕ) (new : Booked) : Type 0 where
   pub taken : refusal k s (run k steps) ≡ None
   pub done_is : receipt.done ≡ done k s (run k steps)
   pub mode_is : receipt.mode ≡ mode (run k (s ∷ steps)).notes
   pub agrees : BookedAgrees new k (s ∷ steps)
-  -- whose waiting bytes, phase or shut changed is among the touched slots
-  pub missed : (c : ℕ) → has touched c ≡ false → outbox (conn new.core.conns c) ≡ outbox (conn old.core.conns c)
+  pub touches : AreTouched k older (s ∷ steps) touched
 
-abbrev pub IsDone : Settings → List Step → Step → Result Receipt ApplyError → List ℕ → Booked → Booked → Type 0
-IsDone k steps s (Ok receipt) touched old new = IsTaken k steps s receipt touched old new
-IsDone k steps s (Err refused) touched old new = IsRefusal refused (refusal k s (run k steps)) × BookedAgrees new k steps
+abbrev pub IsDone : Settings → List Step → List Step → Step → Result Receipt ApplyError → List ℕ → Booked → Type 0
+IsDone k older steps s (Ok receipt) touched new = IsTaken k older steps s receipt touched new
+IsDone k older steps s (Err refused) touched new = IsRefusal refused (refusal k s (run k steps)) × BookedAgrees new k steps
 
 -- the receipt tells the event's place, behind what was entered of the NOOP
 abbrev pub TellsPlace : ℕ → Noop → Result Receipt ApplyError → Tape → Type 0
@@ -85,7 +94,7 @@ AsksWord (Some c) past old new = owes c past ≡ true → (line_at c old).looks 
 pub record Holding (k : Settings) (steps : List Step) (s : Step) (desk : ℕ) (noop : Noop) (result : Result Receipt ApplyError) (touched : List ℕ) (old new : Booked) (told : List Told) : Type 0 where
   pub asks : AsksWord (slot_of s) (run k steps) old.seat.lines new.seat.lines
   pub found : MayFind noop s (run k steps)
-  pub event : IsDone k (entered noop steps) s result touched old new
+  pub event : IsDone k steps (entered noop steps) s result touched new
   pub tape : Grows (holding_entries desk noop s result) old.tape new.tape told
   pub place : TellsPlace desk noop result old.tape
 
@@ -96,9 +105,9 @@ pub record NoRoom (k : Settings) (steps : List Step) (result : Result Receipt Ap
   pub agrees : BookedAgrees new k steps
   pub tape : Grows [] old.tape new.tape told
 
-pub data Held (k : Settings) (steps : List Step) (s : Step) (desk : ℕ) (result : Result Receipt ApplyError) (touched : List ℕ) (old new : Booked) (told : List Told) : Type 0 where
-  asked : (noop : Noop) → Holding k steps s desk noop result touched old new told → Held k steps s desk result touched old new told
-  unasked : NoRoom k steps result old new told → Held k steps s desk result touched old new told
+pub data Held (k : Settings) (steps : List Step) (s : Step) (desk : ℕ) (noop : Noop) (result : Result Receipt ApplyError) (touched : List ℕ) (old new : Booked) (told : List Told) : Type 0 where
+  asked : Holding k steps s desk noop result touched old new told → Held k steps s desk noop result touched old new told
+  unasked : noop ≡ Left → NoRoom k steps result old new told → Held k steps s desk noop result touched old new told
 
 -- a closing needs no memory, where no tape is kept
 abbrev pub NeedsNoMemory : Bool → Step → Type 0

@@ -2,4 +2,8 @@ pub mod Tapes
 pub mod Words
 pub mod Events
 pub mod Books
+pub mod Histories
+pub mod Tokens
+pub mod Calls
 pub mod Shared
+pub mod Laws

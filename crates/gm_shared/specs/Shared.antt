@@ -1,7 +1,6 @@
 -- What the lock keeps, and what callers of a shared book see.
-use Rattle.std.specs.Prelude.{◌≡◌, ◌⊎◌, ℕ, zero, suc, ◌+◌, Bool, true, if◌then◌else◌, List, [], ◌∷◌, ◌++◌, map, All, Result, Ok, Err}
+use Rattle.std.specs.Prelude.{◌≡◌, ◌⊎◌, ℕ, zero, suc, ◌+◌, ◌*◌, Bool, true, if◌then◌else◌, List, [], ◌∷◌, ◌++◌, reverse, map, All}
 use Rattle.atomic_table.specs.Seated.{TableId}
-use Rattle.gm_notes.specs.declared.event.ApplyError.{ApplyError}
 use Rattle.gm_notes.specs.Settings.{Settings}
 use Rattle.gm_notes.specs.Steps.{Step, run}
 use Rattle.gm_notes.specs.Servers.{owes}
@@ -9,19 +8,21 @@ use Rattle.gm_core.specs.Holds.{CoreAgrees}
 use Rattle.gm_word.specs.Seats.{PenState, fresh_pens}
 use Rattle.gm_shared.specs.declared.book.Booked.{Booked}
 use Rattle.gm_shared.specs.declared.tape.Actor.{Actor}
+use Rattle.gm_shared.specs.declared.tape.Entry.{Entry}
 use Rattle.gm_shared.specs.declared.tape.Share.{Share}
 use Rattle.gm_shared.specs.declared.settling.Settled.{Settled}
 use Rattle.gm_shared.specs.declared.settling.SettleError.{SettleError}
 use Rattle.gm_shared.specs.declared.settling.SettleError.TheVariants.{Memory, Differs}
 use Rattle.gm_shared.specs.declared.tape.Told.{Told}
-use Rattle.gm_shared.specs.declared.receipt.Receipt.{Receipt}
-use Rattle.gm_shared.specs.declared.receipt.Drained.{Drained}
-use Rattle.gm_shared.specs.Tapes.{TapeIs, AddUp, events_told}
-use Rattle.gm_shared.specs.Books.{takings, BookedAgrees, Held, Drains}
+use Rattle.gm_shared.specs.Tapes.{AddUp, steps_of, Legal}
+use Rattle.gm_shared.specs.Books.{takings, BookedAgrees}
+use Rattle.gm_shared.specs.Histories.{Knows, AreBelow}
+use Rattle.gm_shared.specs.Tokens.{KeeperState, FrontState}
 
 -- a book that nobody shares yet, the settings under which it serves, and whether it keeps a tape
 pub record BlankState : Type 0 where
   pub table : TableId
+  pub history : TableId
   pub settings : Settings
   pub taped : Bool
 
@@ -32,46 +33,39 @@ pub record IsBlank (table : TableId) (k : Settings) (slots : ℕ) (booked : Book
   pub table_is : booked.seat.table ≡ table
   pub seats_are : seats ≡ fresh_pens table slots
 
--- What the lock keeps: the book agrees with these settings and some list of steps, its words are in this table, and it keeps a
--- tape or not.
-pub record IsGuarded (table : TableId) (k : Settings) (taped : Bool) (booked : Booked) : Type 0 where
-  pub steps : List Step
-  pub agrees : BookedAgrees booked k steps
+-- a count of fronts were made of a history without an entry
+pub record HasMade (count : ℕ) (history : TableId) (keeper : KeeperState) : Type 0 where
+  pub history_is : keeper.table ≡ history
+  pub empty : keeper.log ≡ []
+  pub count_is : keeper.made ≡ count
+
+abbrev pub IsNew : TableId → KeeperState → Type 0
+IsNew history keeper = HasMade 0 history keeper
+
+-- What the lock keeps: the book agrees with the steps of the one history, which is legal under these settings and which the tape,
+-- if one is kept, is. Its words are in this table.
+pub record IsGuarded (table : TableId) (k : Settings) (taped : Bool) (booked : Booked) (log : List Entry) : Type 0 where
+  pub agrees : BookedAgrees booked k (steps_of log)
+  pub legal : Legal k log
+  pub recorded : booked.tape.entries.items ≡ (if taped then reverse log else [])
   pub table_is : booked.seat.table ≡ table
   pub on : booked.tape.on ≡ taped
 
--- The answer is that of one holding of a book that agreed with these settings and some list of steps, the event touched these
--- slots, and what the desk learnt of the book's tape was added to the desk's share.
-pub record AppliedTo (k : Settings) (taped : Bool) (s : Step) (desk : ℕ) (result : Result Receipt ApplyError) (touched : List ℕ) (share after : List Told) : Type 0 where
-  pub steps : List Step
-  pub old : Booked
-  pub new : Booked
-  pub on : old.tape.on ≡ taped
-  pub agrees : BookedAgrees old k steps
-  pub told : List Told
-  pub held : Held k steps s desk result touched old new told
-  pub share_is : after ≡ share ++ told
-
--- the same, whichever slots it touched
-abbrev pub Applied : Settings → Bool → Step → ℕ → Result Receipt ApplyError → List Told → List Told → Type 0
-Applied k taped s desk result share after = (touched : List ℕ) × AppliedTo k taped s desk result touched share after
-
-pub record Emptied (k : Settings) (taped : Bool) (pen slot : ℕ) (result : Result Drained ApplyError) (share after : List Told) : Type 0 where
-  pub steps : List Step
-  pub old : Booked
-  pub new : Booked
-  pub on : old.tape.on ≡ taped
-  pub agrees : BookedAgrees old k steps
-  pub told : List Told
-  pub drains : Drains k steps pen slot result old new told
-  pub share_is : after ≡ share ++ told
-
--- With a tape a desk's share gets each event that is taken, in order. Takings and withdrawals of NOOPs are between them.
-abbrev pub AddsEvent : Bool → Step → Result Receipt ApplyError → List Told → List Told → Type 0
-AddsEvent taped s (Ok receipt) share after = events_told after ≡ (if taped then events_told share ++ s ∷ [] else events_told share)
-AddsEvent taped s (Err refused) share after = events_told after ≡ events_told share
+-- and contracts see the book and the history
+pub record GuardedState : Type 0 where
+  pub booked : Booked
+  pub log : List Entry
 
 -- ---- the end
+
+-- how many actors share a book with this number of slots: a desk and a pen for each, and the control desk
+abbrev pub actor_count : ℕ → ℕ
+actor_count slots = 2 * slots + 1
+
+-- The history has nothing of a front's actor that it hasn't seen; and each entry is of an actor below this number.
+pub record Accounts (made : ℕ) (log : List Entry) (front : FrontState) : Type 0 where
+  pub knows : Knows log front.who front.seen
+  pub whose : AreBelow made log
 
 -- a pen took the NOOPs that were entered as taken, or one more, where its slot is said to be owed one still
 abbrev pub TookThose : Settings → List Step → PenState → Type 0
@@ -82,34 +76,30 @@ TookThose k steps pen =
 abbrev pub told_by : Share → Actor × List Told
 told_by share = (share.actor, share.told.items)
 
--- What a book was when it ended: the core agrees with these steps, of which the tape is the history, and these are the shares of its
--- desks and pens.
-pub record IsEnded (k : Settings) (taped : Bool) (steps : List Step) (settled : Settled) (shares : List (Actor × List Told)) : Type 0 where
-  pub agrees : CoreAgrees settled.core k steps
-  pub tape : TapeIs taped settled.tape.items k steps
+-- What a book was when it ended: this history is legal, the core agrees with its steps, and the tape, if one was kept, is it. These
+-- are the shares of the desks and pens that were given back, and these their fronts.
+pub record IsEnded (k : Settings) (taped : Bool) (settled : Settled) (shares : List (Actor × List Told)) (fronts : List FrontState) : Type 0 where
+  pub log : List Entry
+  pub legal : Legal k log
+  pub agrees : CoreAgrees settled.core k (steps_of log)
+  pub tape : settled.tape.items ≡ (if taped then reverse log else [])
   pub shares_are : map told_by settled.shares.items ≡ shares
+  pub accounts : All (Accounts (actor_count k.slots) log) fronts
 
 -- The shares add up, and the pens took what was entered.
-pub record IsSettled (k : Settings) (taped : Bool) (settled : Settled) (shares : List (Actor × List Told)) (pens : List PenState) : Type 0 where
-  pub steps : List Step
-  pub ended : IsEnded k taped steps settled shares
+pub record IsSettled (k : Settings) (taped : Bool) (settled : Settled) (shares : List (Actor × List Told)) (fronts : List FrontState) (pens : List PenState) : Type 0 where
+  pub ended : IsEnded k taped settled shares fronts
   pub up : AddUp settled.tape.items shares
-  pub takes : All (TookThose k steps) pens
-
--- The shares that were handed back add up with the tape that was handed back.
-pub record AddsUp (k : Settings) (taped : Bool) (settled : Settled) : Type 0 where
-  pub pens : List PenState
-  pub is : IsSettled k taped settled (map told_by settled.shares.items) pens
+  pub takes : All (TookThose k (steps_of ended.log)) pens
 
 -- The shares don't add up.
-pub record IsUnsettled (k : Settings) (taped : Bool) (settled : Settled) (shares : List (Actor × List Told)) : Type 0 where
-  pub steps : List Step
-  pub ended : IsEnded k taped steps settled shares
+pub record IsUnsettled (k : Settings) (taped : Bool) (settled : Settled) (shares : List (Actor × List Told)) (fronts : List FrontState) : Type 0 where
+  pub ended : IsEnded k taped settled shares fronts
   pub apart : AddUp settled.tape.items shares → ⊥
 
-abbrev pub WhySo : Settings → Bool → SettleError → List (Actor × List Told) → Type 0
-WhySo k taped Memory shares = Unit {0}
-WhySo k taped (Differs settled) shares = IsUnsettled k taped settled shares
+abbrev pub WhySo : Settings → Bool → SettleError → List (Actor × List Told) → List FrontState → Type 0
+WhySo k taped Memory shares fronts = Unit {0}
+WhySo k taped (Differs settled) shares fronts = IsUnsettled k taped settled shares fronts
 
 -- the numbers below a number, in their order
 abbrev pub numbers_below : ℕ → List ℕ

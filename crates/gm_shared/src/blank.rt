@@ -3,6 +3,7 @@
 ghost use Rattle.std.specs.Prelude.{◌≡◌, IfOk};
 
 use crate::book::Booked;
+use crate::history::{History, Keeper};
 use crate::tape::TapeMode;
 use gm_notes::Config;
 use gm_word::{PenSeat, SleepTable};
@@ -11,10 +12,12 @@ use std::hash::RandomState;
 use std::marker::Model;
 
 /// The book of a server to which nothing has happened, with its sleep words. `Shared::open` makes of it what threads
-/// share. Contracts see which table it has, its settings, and whether it keeps a tape.
+/// share. Contracts see which table and which history it has, its settings, and whether it keeps a tape.
 #[derive(Drop)]
 pub struct Blank {
     pub(crate) table: SleepTable,
+    pub(crate) history: History,
+    pub(crate) keeper: Keeper,
     pub(crate) booked: Booked,
     pub(crate) seats: Vec<PenSeat>,
     pub(crate) slots: u32,
@@ -22,13 +25,13 @@ pub struct Blank {
 
 impl Model for Blank {
     ghost use Rattle.gm_core.specs.Holds.{config_of};
-    ghost use Rattle.gm_shared.specs.Shared.{BlankState, IsBlank};
+    ghost use Rattle.gm_shared.specs.Shared.{BlankState, IsBlank, IsNew};
 
     ghost Value = { BlankState };
 
-    ghost view = { λ b. record { table = b.table; settings = config_of b.booked.core; taped = b.booked.tape.on } };
+    ghost view = { λ b. record { table = b.table; history = b.history; settings = config_of b.booked.core; taped = b.booked.tape.on } };
 
-    ghost invariant = { λ b. IsBlank b.table (config_of b.booked.core) b.slots b.booked b.seats.items };
+    ghost invariant = { λ b. IsBlank b.table (config_of b.booked.core) b.slots b.booked b.seats.items × IsNew b.history b.keeper };
 }
 
 impl Blank {
@@ -47,8 +50,11 @@ impl Blank {
     {
         let slots = config.slots();
         let (booked, table, seats) = Booked::new(alloc, seed, config, tape)?;
+        let (history, keeper) = History::new(alloc)?;
         Ok(Blank {
             table,
+            history,
+            keeper,
             booked,
             seats,
             slots,

@@ -79,7 +79,8 @@ impl Booked {
     /// `touched` becomes the slots whose waiting bytes, phase or shut changed, and perhaps more: it is for them that a writer
     /// may have something to do. Where the event is refused there are none.
     /// The set is the caller's, and not a part of the receipt, because a receipt is moved at each return. `freed` becomes what
-    /// is to be freed once no lock is held: the body of a job that ended.
+    /// is to be freed once no lock is held: the body of a job that ended. `found` becomes what was found of the slot's NOOP, also
+    /// where the event is refused.
     pub(crate) fn hold(
         &mut self,
         table: &SleepTable,
@@ -88,19 +89,22 @@ impl Booked {
         share: &mut Vec<Told>,
         touched: &mut SlotSet,
         freed: &mut Option<SharedBytes>,
+        found: &mut Noop,
     ) -> Result<Receipt, ApplyError>
         requires size { IsSized event.now }
         requires table { self.old.seat.table ≡ table.now }
         ensures holding { (k : Settings) (steps : List Step) → BookedAgrees self.old k steps
             → (told : List Told) × (share.new.items ≡ share.old.items ++ told)
-            × Held k steps (step_of event.now) desk result touched.new self.old self.new told }
+            × Held k steps (step_of event.now) desk found.new result touched.new self.old self.new told }
         ensures refused { IfErr result (λ _. (c : ℕ) → has touched.new c ≡ false) }
         ensures memory { NeedsNoMemory self.old.tape.on (step_of event.now) → IsErrOf result ApplyError.Memory → ⊥ }
         ensures table { self.new.seat.table ≡ self.old.seat.table }
     {
         *touched = SlotSet::new();
+        *found = Noop::Left;
         let copies = self.tape.room_for(self.alloc, share, event)?;
         let noop = self.resolve_noop(table, event);
+        *found = noop;
         self.tape.enter_noop(share, desk, noop);
         let done = self.core.apply_locked(event, freed)?;
         let at = self.tape.enter_event(share, desk, copies, done);

@@ -1,57 +1,79 @@
 //! What the lock guards.
 
-ghost use Rattle.std.specs.Prelude.{◌≡◌, ℕ, List, IfErr, false};
+ghost use Rattle.std.specs.Prelude.{◌≡◌, ◌+◌, ◌*◌, ℕ, List, [], IfErr, false};
 ghost use Rattle.gm_conns.specs.Slots.{has};
 ghost use Rattle.gm_notes.specs.Steps.{Step};
 ghost use Rattle.gm_notes.specs.Servers.{step_of, IsSized};
 ghost use Rattle.gm_shared.specs.Books.{BookedAgrees, Held, NeedsNoMemory, Drains};
-ghost use Rattle.gm_shared.specs.Shared.{IsGuarded, AppliedTo, Emptied};
+ghost use Rattle.gm_shared.specs.Tokens.{sees};
+ghost use Rattle.gm_shared.specs.Calls.{DeskCalled, PenCalled, account, done_in};
+ghost use Rattle.gm_shared.specs.Shared.{IsGuarded, Accounts, actor_count};
+ghost use Rattle.gm_shared.specs.declared.events.Noop.{Noop};
 ghost use Rattle.std.specs.Result.{IsErrOf};
 
 use crate::book::Booked;
+use crate::events::Noop;
+use crate::history::{Front, History, Keeper};
 use crate::name::BookName;
 use crate::receipt::{Drained, Receipt};
 use crate::tape::Told;
+use crate::what::What;
 use gm_bytes::SharedBytes;
 use gm_conns::SlotSet;
-use gm_notes::{ApplyError, Event};
+use gm_notes::{ApplyError, Done, Event};
 use gm_word::SleepTable;
 use std::marker::{Model, PhantomData};
 
-/// A book under its lock: it agrees with the settings that `K` names and some list of steps, and its words are in the
-/// table that `K` names.
+/// A book under its lock, with the keeper of the history that `K` names: it agrees with the settings that `K` names and the
+/// history's steps, and its words are in the table that `K` names.
 #[derive(Drop)]
 pub(crate) struct Guarded<K: BookName> {
     booked: Booked,
+    keeper: Keeper,
     of: PhantomData<K>,
 }
 
 impl<K: BookName> Model for Guarded<K> {
-    ghost use Rattle.gm_shared.specs.declared.book.Booked.{Booked};
-    ghost use Rattle.gm_shared.specs.Shared.{IsGuarded};
+    ghost use Rattle.std.specs.Prelude.{◌≡◌};
+    ghost use Rattle.gm_shared.specs.Shared.{GuardedState, IsGuarded, actor_count};
 
-    ghost Value = { Booked };
+    ghost Value = { GuardedState };
 
-    ghost view = { λ g. g.booked };
+    ghost view = { λ g. record { booked = g.booked; log = g.keeper.log } };
 
-    ghost invariant = { λ g. IsGuarded K.table K.settings K.taped g.booked };
+    ghost invariant = { λ g. IsGuarded K.table K.settings K.taped g.booked g.keeper.log × (g.keeper.table ≡ K.history) × (g.keeper.made ≡ actor_count K.settings.slots) };
+}
+
+// What an event that was taken made.
+fn done_in(answer: &Result<Receipt, ApplyError>) -> Option<Done>
+    ensures { result ≡ done_in answer.now }
+{
+    match answer {
+        Ok(receipt) => Some(receipt.done),
+        Err(_) => None,
+    }
 }
 
 impl<K: BookName> Guarded<K> {
-    pub(crate) fn new(booked: Booked) -> Guarded<K>
-        requires { IsGuarded K.table K.settings K.taped booked }
-        ensures { result ≡ booked }
+    pub(crate) fn new(booked: Booked, keeper: Keeper) -> Guarded<K>
+        requires guarded { IsGuarded K.table K.settings K.taped booked keeper.log }
+        requires history { keeper.table ≡ K.history }
+        requires made { keeper.made ≡ actor_count K.settings.slots }
+        ensures { (result.booked ≡ booked) × (result.log ≡ keeper.log) }
     {
         Guarded {
             booked,
+            keeper,
             of: PhantomData,
         }
     }
 
-    /// `Booked::hold`, in one holding of the lock.
+    /// `Booked::hold`, in one critical section, whose desk sees the history after it.
     pub(crate) fn apply(
         &mut self,
         table: &SleepTable,
+        history: &History,
+        front: &mut Front,
         desk: u32,
         event: &Event<'_>,
         share: &mut Vec<Told>,
@@ -60,33 +82,66 @@ impl<K: BookName> Guarded<K> {
     ) -> Result<Receipt, ApplyError>
         requires size { IsSized event.now }
         requires table { table.now ≡ K.table }
-        ensures applied { AppliedTo K.settings K.taped (step_of event.now) desk result touched.new share.old.items share.new.items }
-        ensures holding { (steps : List Step) → BookedAgrees self.old K.settings steps
-            → (told : List Told) × (new : Booked) × Held K.settings steps (step_of event.now) desk result touched.new self.old new told }
+        requires history { history.now ≡ K.history }
+        requires front { front.old.table ≡ K.history }
+        requires who { front.old.who ≡ 2 * desk }
+        ensures called { DeskCalled K.settings K.taped (step_of event.now) desk result touched.new (account share.old.items front.old.seen) (account share.new.items front.new.seen) }
+        ensures front { front.new ≡ sees self.new.log front.old }
+        ensures holding { (steps : List Step) → BookedAgrees self.old.booked K.settings steps
+            → (told : List Told) × (noop : Noop) × Held K.settings steps (step_of event.now) desk noop result touched.new self.old.booked self.new.booked told }
         ensures refused { IfErr result (λ _. (c : ℕ) → has touched.new c ≡ false) }
         ensures memory { NeedsNoMemory K.taped (step_of event.now) → IsErrOf result ApplyError.Memory → ⊥ }
     {
-        self.booked.hold(table, desk, event, share, touched, freed)
+        let mut noop = Noop::Left;
+        let result = self
+            .booked
+            .hold(table, desk, event, share, touched, freed, &mut noop);
+        let done = done_in(&result);
+        self.keeper
+            .enter(history, front, desk, What::Call(noop, *event, done));
+        result
     }
 
-    /// `Booked::drain`, in one holding of the lock.
+    /// `Booked::drain_into`, in one critical section, whose pen sees the history after it.
     pub(crate) fn drain(
         &mut self,
+        history: &History,
+        front: &mut Front,
         pen: u32,
         slot: u32,
         share: &mut Vec<Told>,
     ) -> Result<Drained, ApplyError>
-        ensures emptied { Emptied K.settings K.taped pen slot result share.old.items share.new.items }
-        ensures drains { (steps : List Step) → BookedAgrees self.old K.settings steps
-            → (told : List Told) × Drains K.settings steps pen slot result self.old self.new told }
+        requires history { history.now ≡ K.history }
+        requires front { front.old.table ≡ K.history }
+        requires who { front.old.who ≡ 2 * pen + 1 }
+        ensures called { PenCalled K.settings K.taped pen slot result (account share.old.items front.old.seen) (account share.new.items front.new.seen) }
+        ensures front { front.new ≡ sees self.new.log front.old }
+        ensures drains { (steps : List Step) → BookedAgrees self.old.booked K.settings steps
+            → (told : List Told) × Drains K.settings steps pen slot result self.old.booked self.new.booked told }
     {
-        self.booked.drain_into(pen, slot, share)
+        let result = self.booked.drain_into(pen, slot, share);
+        let what = match &result {
+            Ok(drained) => What::Drain(slot, &drained.bytes),
+            Err(_) => What::Nothing,
+        };
+        self.keeper.enter(history, front, pen, what);
+        result
+    }
+
+    /// The end of an actor that has this front: the history has nothing of it that is newer.
+    pub(crate) fn give_back(&mut self, history: &History, front: &mut Front)
+        requires history { history.now ≡ K.history }
+        requires front { front.old.table ≡ K.history }
+        ensures accounts { Accounts (actor_count K.settings.slots) self.old.log front.old }
+        ensures kept { self.new ≡ self.old }
+    {
+        self.keeper.enter(history, front, 0, What::Nothing);
     }
 
     /// The book, which is under no lock any more.
     pub(crate) fn into_book(self) -> Booked
-        ensures book { result ≡ self }
-        ensures guarded { IsGuarded K.table K.settings K.taped result }
+        ensures book { result ≡ self.booked }
+        ensures guarded { IsGuarded K.table K.settings K.taped result self.log }
     {
         self.booked
     }

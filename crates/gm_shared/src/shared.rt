@@ -1,17 +1,20 @@
 //! The book that threads share, and what each of them has of its own: desks, at which events are handed in, and pens,
 //! which take out what waits for a slot.
 
-ghost use Rattle.std.specs.Prelude.{◌≡◌, ◌+◌, ℕ, IfOk, IfErr, MatchBool, map, All, [], true, false};
+ghost use Rattle.std.specs.Prelude.{◌≡◌, ◌+◌, ◌*◌, ℕ, IfOk, IfErr, OnOk, MatchBool, map, All, [], true, false};
 ghost use Rattle.gm_notes.specs.Servers.{step_of, IsSized};
 ghost use Rattle.gm_conns.specs.Slots.{has};
 ghost use Rattle.gm_word.specs.Seats.{fresh_pens};
 ghost use Rattle.gm_shared.specs.Books.{NeedsNoMemory};
 ghost use Rattle.gm_shared.specs.Tapes.{drains_alone};
-ghost use Rattle.gm_shared.specs.Shared.{AppliedTo, AddsEvent, Emptied, numbers_below};
+ghost use Rattle.gm_shared.specs.Histories.{calls_by};
+ghost use Rattle.gm_shared.specs.Calls.{DeskCalled, PenCalled, HandedIn, if_taken, account};
+ghost use Rattle.gm_shared.specs.Shared.{IsNew, HasMade, numbers_below};
 ghost use Rattle.std.specs.Result.{IsErrOf};
 
 use crate::blank::Blank;
 use crate::guarded::Guarded;
+use crate::history::{Front, History, Keeper};
 use crate::name::BookName;
 use crate::receipt::{Drained, Receipt};
 use crate::tape::Told;
@@ -26,17 +29,22 @@ use std::sync::{Mutex, Wait};
 #[derive(Drop)]
 pub struct Shared<K: BookName> {
     pub(crate) table: SleepTable,
+    pub(crate) history: History,
     pub(crate) book: Mutex<Guarded<K>>,
     ghost named: { table ≡ K.table },
+    ghost historic: { history ≡ K.history },
 }
 
 /// Where one thread hands in events. Desks have numbers: one for each slot, and that of the control desk is the
-/// number of slots. Where a tape is kept, a desk keeps its part of it: its share.
+/// number of slots. A desk knows how much of the history there was at its last call. Where a tape is kept, it keeps its part
+/// of that: its share.
 #[derive(Drop)]
 pub struct Desk<K: BookName> {
     pub(crate) number: u32,
     pub(crate) share: Vec<Told>,
+    pub(crate) front: Front,
     of: PhantomData<K>,
+    ghost fronted: { (front.table ≡ K.history) × (front.who ≡ 2 * number) },
 }
 
 /// What takes out of the book what waits for one slot: its NOOP, and its bytes. Its number on the tape is its slot's;
@@ -46,10 +54,12 @@ pub struct Pen<K: BookName> {
     pub(crate) slot: u32,
     pub(crate) seat: PenSeat,
     pub(crate) share: Vec<Told>,
+    pub(crate) front: Front,
     of: PhantomData<K>,
+    ghost fronted: { (front.table ≡ K.history) × (front.who ≡ 2 * slot + 1) },
     ghost named: { seat.table ≡ K.table },
     ghost sits: { seat.slot ≡ slot },
-    ghost own: { drains_alone slot share.items ≡ true },
+    ghost own: { drains_alone slot (calls_by (2 * slot + 1) front.seen) ≡ true },
 }
 
 impl<K: BookName> Shared<K> {
@@ -59,40 +69,44 @@ impl<K: BookName> Shared<K> {
         blank: Blank,
     ) -> Result<(Shared<K>, Vec<Desk<K>>, Vec<Pen<K>>, Desk<K>), AllocError>
         requires table { blank.table ≡ K.table }
+        requires history { blank.history ≡ K.history }
         requires settings { blank.settings ≡ K.settings }
         requires taped { blank.taped ≡ K.taped }
         ensures desks { IfOk result (λ made. map (λ desk. desk.number) made.1.items ≡ numbers_below blank.settings.slots) }
         ensures pens { IfOk result (λ made. map (λ pen. pen.slot) made.2.items ≡ numbers_below blank.settings.slots) }
         ensures control { IfOk result (λ made. made.3.number ≡ blank.settings.slots) }
-        ensures nothing_told { IfOk result (λ made. All (λ desk. desk.share.items ≡ []) made.1.items × All (λ pen. pen.share.items ≡ []) made.2.items
-            × (made.3.share.items ≡ [])) }
+        ensures nothing_seen { IfOk result (λ made. All (λ desk. desk.front.seen ≡ []) made.1.items × All (λ pen. pen.front.seen ≡ []) made.2.items
+            × (made.3.front.seen ≡ [])) }
     {
-        let slots = blank.slots;
-        match new_owners(alloc, blank.seats, slots) {
-            Ok((desks, pens)) => {
-                let shared = Shared {
-                    table: blank.table,
-                    book: Mutex::new(Guarded::new(blank.booked)),
-                };
-                Ok((shared, desks, pens, Desk::new(alloc, slots)))
-            }
-            Err(error) => {
-                drop(blank.table);
-                drop(blank.booked);
-                Err(error)
-            }
-        }
+        let Blank {
+            table,
+            history,
+            mut keeper,
+            booked,
+            seats,
+            slots,
+        } = blank;
+        let (desks, pens) = new_owners(alloc, &history, &mut keeper, seats, slots)?;
+        let control = Desk::new(alloc, slots, keeper.new_front(&history));
+        let shared = Shared {
+            table,
+            history,
+            book: Mutex::new(Guarded::new(booked, keeper)),
+        };
+        Ok((shared, desks, pens, control))
     }
 }
 
 impl<K: BookName> Desk<K> {
-    fn new(alloc: Global, number: u32) -> Desk<K>
+    fn new(alloc: Global, number: u32, front: Front) -> Desk<K>
+        requires front { (front.table ≡ K.history) × (front.who ≡ 2 * number) }
         ensures number { result.number ≡ number }
-        ensures nothing_told { result.share.items ≡ [] }
+        ensures front { result.front ≡ front }
     {
         Desk {
             number,
             share: Vec::new(alloc),
+            front,
             of: PhantomData,
         }
     }
@@ -114,9 +128,10 @@ impl<K: BookName> Desk<K> {
         touched: &mut SlotSet,
     ) -> Result<Receipt, ApplyError>
         requires { IsSized event }
-        ensures applied { AppliedTo K.settings K.taped (step_of event.entry) self.old.number result touched.new self.old.share.items self.new.share.items }
+        ensures called { DeskCalled K.settings K.taped (step_of event.entry) self.old.number result touched.new
+            (account self.old.share.items self.old.front.seen) (account self.new.share.items self.new.front.seen) }
         ensures refused { IfErr result (λ _. (c : ℕ) → has touched.new c ≡ false) }
-        ensures adds { AddsEvent K.taped (step_of event.entry) result self.old.share.items self.new.share.items }
+        ensures hands { HandedIn self.old.number (if_taken (step_of event.entry) result) self.old.front.seen self.new.front.seen }
         ensures memory { NeedsNoMemory K.taped (step_of event.entry) → IsErrOf result ApplyError.Memory → ⊥ }
         ensures number { self.new.number ≡ self.old.number }
     {
@@ -124,6 +139,8 @@ impl<K: BookName> Desk<K> {
         let share = &mut self.share;
         let result = shared.book.lock(rt).apply(
             &shared.table,
+            &shared.history,
+            &mut self.front,
             self.number,
             &event,
             share,
@@ -136,11 +153,28 @@ impl<K: BookName> Desk<K> {
 }
 
 impl<K: BookName> Pen<K> {
+    fn new(alloc: Global, slot: u32, seat: PenSeat, front: Front) -> Pen<K>
+        requires seat { (seat.table ≡ K.table) × (seat.slot ≡ slot) }
+        requires front { (front.table ≡ K.history) × (front.who ≡ 2 * slot + 1) }
+        requires nothing_seen { front.seen ≡ [] }
+        ensures slot { result.slot ≡ slot }
+        ensures front { result.front ≡ front }
+    {
+        Pen {
+            slot,
+            seat,
+            share: Vec::new(alloc),
+            front,
+            of: PhantomData,
+        }
+    }
+
     /// Takes the NOOP that the slot is owed, and says whether it did. It tries once, and never waits. The book enters
     /// the taking when it next looks at the slot.
     pub fn take(&mut self, shared: &Shared<K>) -> bool
         ensures slot { self.new.slot ≡ self.old.slot }
         ensures share { self.new.share ≡ self.old.share }
+        ensures front { self.new.front ≡ self.old.front }
         ensures tries { self.new.seat.tries ≡ self.old.seat.tries + 1 }
         ensures takes { MatchBool result (self.new.seat.takes ≡ self.old.seat.takes + 1) (self.new.seat.takes ≡ self.old.seat.takes) }
     {
@@ -148,68 +182,48 @@ impl<K: BookName> Pen<K> {
     }
 
     /// Takes the bytes that wait for the slot, which wait no more, and tells whether it is shut. `NotOpen` comes where
-    /// the slot isn't open; it changes nothing. It may wait for the lock. Without a tape it needs no memory; with one
-    /// the drain is in the pen's share, and `Memory` comes where there is none for that, and changes nothing.
+    /// the slot isn't open; it changes nothing. The drain is the next entry of the history, behind all that the pen has seen
+    /// of it. It may wait for the lock. Without a tape it needs no memory; with one the drain is in the pen's share, and
+    /// `Memory` comes where there is none for that, and changes nothing.
     pub fn drain(&mut self, rt: &impl Wait, shared: &Shared<K>) -> Result<Drained, ApplyError>
-        ensures emptied { Emptied K.settings K.taped self.old.slot self.old.slot result self.old.share.items self.new.share.items }
+        ensures called { PenCalled K.settings K.taped self.old.slot self.old.slot result
+            (account self.old.share.items self.old.front.seen) (account self.new.share.items self.new.front.seen) }
         ensures slot { self.new.slot ≡ self.old.slot }
         ensures seat { self.new.seat ≡ self.old.seat }
     {
-        shared
-            .book
-            .lock(rt)
-            .drain(self.slot, self.slot, &mut self.share)
+        shared.book.lock(rt).drain(
+            &shared.history,
+            &mut self.front,
+            self.slot,
+            self.slot,
+            &mut self.share,
+        )
     }
 }
 
-// A desk for each slot and a pen for each seat, in their order.
+// A desk for each slot and a pen for each seat, in their order, of which none has seen anything.
 fn new_owners<K: BookName>(
     alloc: Global,
+    history: &History,
+    keeper: &mut Keeper,
     seats: Vec<PenSeat>,
     slots: u32,
 ) -> Result<(Vec<Desk<K>>, Vec<Pen<K>>), AllocError>
-    requires { seats.items ≡ fresh_pens K.table slots }
+    requires seats { seats.items ≡ fresh_pens K.table slots }
+    requires table { history.now ≡ K.history }
+    requires new { IsNew K.history keeper.old }
     ensures numbers { IfOk result (λ made. map (λ desk. desk.number) made.0.items ≡ numbers_below slots) }
     ensures slots { IfOk result (λ made. map (λ pen. pen.slot) made.1.items ≡ numbers_below slots) }
-    ensures nothing_told { IfOk result (λ made. All (λ desk. desk.share.items ≡ []) made.0.items × All (λ pen. pen.share.items ≡ []) made.1.items) }
-{
-    let desks = new_desks(alloc, slots)?;
-    let pens = new_pens(alloc, seats, slots)?;
-    Ok((desks, pens))
-}
-
-// A desk for each slot, in their order.
-fn new_desks<K: BookName>(alloc: Global, slots: u32) -> Result<Vec<Desk<K>>, AllocError>
-    ensures numbers { IfOk result (λ made. map (λ desk. desk.number) made.items ≡ numbers_below slots) }
-    ensures nothing_told { IfOk result (λ made. All (λ desk. desk.share.items ≡ []) made.items) }
+    ensures nothing_seen { IfOk result (λ made. All (λ desk. desk.front.seen ≡ []) made.0.items × All (λ pen. pen.front.seen ≡ []) made.1.items) }
+    ensures keeper { OnOk result (HasMade (2 * slots) K.history keeper.new) }
 {
     let mut desks = Vec::with_capacity(alloc, slots as usize)?;
-    for number in 0..slots {
-        desks.push_reserved(Desk::new(alloc, number));
-    }
-    Ok(desks)
-}
-
-// A pen for each seat, in their order.
-fn new_pens<K: BookName>(
-    alloc: Global,
-    seats: Vec<PenSeat>,
-    slots: u32,
-) -> Result<Vec<Pen<K>>, AllocError>
-    requires { seats.items ≡ fresh_pens K.table slots }
-    ensures slots { IfOk result (λ made. map (λ pen. pen.slot) made.items ≡ numbers_below slots) }
-    ensures nothing_told { IfOk result (λ made. All (λ pen. pen.share.items ≡ []) made.items) }
-{
     let mut pens = Vec::with_capacity(alloc, slots as usize)?;
     let mut slot = 0;
     for seat in seats {
-        pens.push_reserved(Pen {
-            slot,
-            seat,
-            share: Vec::new(alloc),
-            of: PhantomData,
-        });
+        desks.push_reserved(Desk::new(alloc, slot, keeper.new_front(history)));
+        pens.push_reserved(Pen::new(alloc, slot, seat, keeper.new_front(history)));
         slot += 1;
     }
-    Ok(pens)
+    Ok((desks, pens))
 }

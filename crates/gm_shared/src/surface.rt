@@ -7,10 +7,12 @@ ghost use Rattle.gm_notes.specs.Steps.{Step};
 ghost use Rattle.gm_notes.specs.Servers.{step_of, IsSized};
 ghost use Rattle.gm_shared.specs.Books.{BookedAgrees, Held, NeedsNoMemory, Drains};
 ghost use Rattle.gm_laws.specs.Laws.{MayBeTakenLater};
-ghost use Rattle.gm_shared.specs.Shared.{Applied, AddsEvent};
+ghost use Rattle.gm_shared.specs.Calls.{Called, HandedIn, if_taken, account};
+ghost use Rattle.gm_shared.specs.declared.events.Noop.{Noop};
 ghost use Rattle.gm_shared.specs.declared.tape.Told.{Told};
 
 use crate::book::Booked;
+use crate::events::Noop;
 use crate::name::BookName;
 use crate::receipt::{Drained, Receipt};
 use crate::shared::{Desk, Shared};
@@ -37,7 +39,7 @@ impl Booked {
         requires size { IsSized event.now }
         requires table { self.old.seat.table ≡ table.now }
         ensures holding { (k : Settings) (steps : List Step) → BookedAgrees self.old k steps
-            → (told : List Told) × (touched : List ℕ) × Held k steps (step_of event.now) desk result touched self.old self.new told }
+            → (told : List Told) × (touched : List ℕ) × (noop : Noop) × Held k steps (step_of event.now) desk noop result touched self.old self.new told }
         ensures memory { NeedsNoMemory self.old.tape.on (step_of event.now) → IsErrOf result ApplyError.Memory → ⊥ }
         ensures table { self.new.seat.table ≡ self.old.seat.table }
         // That a taking is entered only when the book next looks at the slot changes no other step.
@@ -46,7 +48,16 @@ impl Booked {
         may_be_taken_later();
         let mut share = Vec::new(self.alloc);
         let mut touched = SlotSet::new();
-        self.hold(table, desk, event, &mut share, &mut touched, &mut None)
+        let mut noop = Noop::Left;
+        self.hold(
+            table,
+            desk,
+            event,
+            &mut share,
+            &mut touched,
+            &mut None,
+            &mut noop,
+        )
     }
 
     /// Takes the bytes that wait for a slot, which wait no more. `NotOpen` comes where the slot isn't open; it
@@ -63,9 +74,10 @@ impl Booked {
 }
 
 impl<K: BookName> Desk<K> {
-    /// Hands in an event, which takes effect in one holding of the lock, as `Booked::apply` says. It may wait for the
-    /// lock. Without a tape a closing never lacks memory. With one the event and its place are in the desk's share, after
-    /// what was found of a NOOP. It is for callers that notify nobody of what the event touched.
+    /// Hands in an event, which takes effect in one critical section, as `Booked::apply` says: it is the next entry of the
+    /// history, behind all that the desk has seen of it. It may wait for the lock. Without a tape a closing never lacks
+    /// memory. With one the event and its place are in the desk's share, after what was found of a NOOP. It is for callers
+    /// that notify nobody of what the event touched.
     pub fn apply(
         &mut self,
         rt: &impl Wait,
@@ -73,8 +85,8 @@ impl<K: BookName> Desk<K> {
         event: Event<'_>,
     ) -> Result<Receipt, ApplyError>
         requires { IsSized event }
-        ensures applied { Applied K.settings K.taped (step_of event.entry) self.old.number result self.old.share.items self.new.share.items }
-        ensures adds { AddsEvent K.taped (step_of event.entry) result self.old.share.items self.new.share.items }
+        ensures called { Called K.settings K.taped (step_of event.entry) self.old.number result (account self.old.share.items self.old.front.seen) (account self.new.share.items self.new.front.seen) }
+        ensures hands { HandedIn self.old.number (if_taken (step_of event.entry) result) self.old.front.seen self.new.front.seen }
         ensures memory { NeedsNoMemory K.taped (step_of event.entry) → IsErrOf result ApplyError.Memory → ⊥ }
         ensures number { self.new.number ≡ self.old.number }
     {

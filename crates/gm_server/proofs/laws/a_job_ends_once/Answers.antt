@@ -7,5 +7,5 @@ use Rattle.gm_server.proofs.Promised.{steps_then}
 use Rattle.gm_server.proofs.laws.a_job_ends_once.Goals as goal
 
 pub returns : goal.returns
-returns c = λ k settled up rest later older is n gone.
+returns c = λ k later older legal n gone.
     subst (λ steps. job_state n (run k steps).notes ≡ job_state n (run k (steps_of older)).notes) (sym (steps_then later older)) (stay_gone k (steps_of later) (steps_of older) n gone)

@@ -10,7 +10,7 @@ use Rattle.gm_server.proofs.Promised.{steps_then}
 use Rattle.gm_server.proofs.laws.clients_are_told.Goals as goal
 
 pub returns : goal.returns
-returns c = λ k settled up rest later older e is slot text asked given stays.
+returns c = λ k later older e legal slot text asked given stays.
     subst (λ (steps : List Step). (n : ℕ) × (text ≡ handle k n)
     × ((is_live (job_state n (run k steps).notes) ≡ true) ⊎ One (Tells k slot n) (steps_of later) (steps_of (e ∷ older))))
     (sym (steps_then later (e ∷ older)))

@@ -3,4 +3,4 @@ use Rattle.gm_shared.specs.Tapes.{steps_of}
 use Rattle.gm_server.proofs.laws.no_worker_sleeps_beside_its_work.Goals as goal
 
 pub returns : goal.returns
-returns c = λ k settled up rest older is. none_sleeps k (steps_of older)
+returns c = λ k log legal. none_sleeps k (steps_of log)

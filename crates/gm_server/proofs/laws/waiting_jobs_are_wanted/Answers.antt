@@ -3,4 +3,4 @@ use Rattle.gm_shared.specs.Tapes.{steps_of}
 use Rattle.gm_server.proofs.laws.waiting_jobs_are_wanted.Goals as goal
 
 pub returns : goal.returns
-returns c = λ k settled up rest older is. none_orphaned k (steps_of older)
+returns c = λ k log legal. none_orphaned k (steps_of log)

@@ -2,4 +2,4 @@ use Rattle.gm_server_tests.proofs.room.play_to_the_end.Given as goal
 
 -- the table of the book that was just made, and whether it keeps a tape
 abbrev pub ghosts-play_at : goal.ghosts-play_at
-ghosts-play_at g a = record { table = a.blank.table; settings = a.blank.settings; taped = a.blank.taped }
+ghosts-play_at g a = record { table = a.blank.table; history = a.blank.history; settings = a.blank.settings; taped = a.blank.taped }

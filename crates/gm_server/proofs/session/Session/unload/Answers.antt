@@ -15,9 +15,11 @@ pub loop-turn-preserved : goal.loop-turn-preserved
 loop-turn-preserved g c =
     let t = rw c.in-Unit.is at c.in_ok-is_line.ensures.takes in
     record {
-      unloading = unloading_more g.K.BookName.settings _ c.loop-turn.self.applier.desk.now.number _ _ _ _ _ _ _ c.loop-turn.invariant.unloading c.in-Unit.is_line
-          (subst (λ slot. TakesNext g.K.BookName.settings g.K.BookName.taped c.loop-turn.self.applier.desk.now.number slot c.loop-turn.self.feeder (Ok (AUnit c.in-Unit.is_line)) c.loop-turn.self.applier.desk.now.share.items
-          c.take_unit.new.self.applier.desk.now.share.items c.take_unit.new.self.feeder) c.loop-turn.invariant.slot t);
+      unloading = unloading_more g.K.BookName.settings g.K.BookName.taped c.args.self.now.applier.desk.now.number _ _ _ _ _ _ _ c.loop-turn.invariant.unloading c.in-Unit.is_line
+          (subst (λ number. TakesNext g.K.BookName.settings g.K.BookName.taped number c.args.self.now.applier.slot c.loop-turn.self.feeder (Ok (AUnit c.in-Unit.is_line)) c.loop-turn.self.applier.desk.now.front.seen
+          c.take_unit.new.self.applier.desk.now.front.seen c.take_unit.new.self.feeder) c.loop-turn.invariant.number
+          (subst (λ slot. TakesNext g.K.BookName.settings g.K.BookName.taped c.loop-turn.self.applier.desk.now.number slot c.loop-turn.self.feeder (Ok (AUnit c.in-Unit.is_line)) c.loop-turn.self.applier.desk.now.front.seen
+          c.take_unit.new.self.applier.desk.now.front.seen c.take_unit.new.self.feeder) c.loop-turn.invariant.slot t));
       same_desk = c.in_ok-is_line.ensures.same_desk ∙ c.loop-turn.invariant.same_desk;
       number = c.in_ok-is_line.ensures.number ∙ c.loop-turn.invariant.number;
       slot = c.in_ok-is_line.ensures.slot ∙ c.loop-turn.invariant.slot;
@@ -32,9 +34,11 @@ pub loop-turn-preserved-then-is_over : goal.loop-turn-preserved-then-is_over
 loop-turn-preserved-then-is_over g c =
     let t = rw c.in-Unit.is at c.in_ok-is_line.ensures.takes in
     record {
-      unloading = unloading_more g.K.BookName.settings _ c.loop-turn.self.applier.desk.now.number _ _ _ _ _ _ _ c.loop-turn.invariant.unloading c.in-Unit.is_line
-          (subst (λ slot. TakesNext g.K.BookName.settings g.K.BookName.taped c.loop-turn.self.applier.desk.now.number slot c.loop-turn.self.feeder (Ok (AUnit c.in-Unit.is_line)) c.loop-turn.self.applier.desk.now.share.items
-          c.take_unit.new.self.applier.desk.now.share.items c.take_unit.new.self.feeder) c.loop-turn.invariant.slot t);
+      unloading = unloading_more g.K.BookName.settings g.K.BookName.taped c.args.self.now.applier.desk.now.number _ _ _ _ _ _ _ c.loop-turn.invariant.unloading c.in-Unit.is_line
+          (subst (λ number. TakesNext g.K.BookName.settings g.K.BookName.taped number c.args.self.now.applier.slot c.loop-turn.self.feeder (Ok (AUnit c.in-Unit.is_line)) c.loop-turn.self.applier.desk.now.front.seen
+          c.take_unit.new.self.applier.desk.now.front.seen c.take_unit.new.self.feeder) c.loop-turn.invariant.number
+          (subst (λ slot. TakesNext g.K.BookName.settings g.K.BookName.taped c.loop-turn.self.applier.desk.now.number slot c.loop-turn.self.feeder (Ok (AUnit c.in-Unit.is_line)) c.loop-turn.self.applier.desk.now.front.seen
+          c.take_unit.new.self.applier.desk.now.front.seen c.take_unit.new.self.feeder) c.loop-turn.invariant.slot t));
       same_desk = c.in_ok-is_line.ensures.same_desk ∙ c.loop-turn.invariant.same_desk;
       number = c.in_ok-is_line.ensures.number ∙ c.loop-turn.invariant.number;
       slot = c.in_ok-is_line.ensures.slot ∙ c.loop-turn.invariant.slot;
@@ -45,9 +49,9 @@ returns-in_err-is_line-clause-unloads g c =
     let e = err_from_is_err_and c.from_residual.result c.from_residual.ensures.1 in
     let end = c.in_err-is_line.field-0.0 in
     rw (e.1, e.2)
-    (unloads_stops g.K.BookName.settings g.K.BookName.taped c.args.self.now.applier.desk.now.number c.args.self.now.applier.slot c.args.self.now.feeder c.args.self.now.applier.desk.now.share.items c.loop-turn.self.applier.desk.now.share.items
-    c.take_unit.new.self.applier.desk.now.share.items c.loop-turn.self.feeder c.take_unit.new.self.feeder c.loop-turn.invariant.unloading end
-    (subst (λ number. Stops g.K.BookName.settings g.K.BookName.taped number c.args.self.now.applier.slot c.loop-turn.self.feeder end c.loop-turn.self.applier.desk.now.share.items
-    c.take_unit.new.self.applier.desk.now.share.items) c.loop-turn.invariant.number
-    (subst (λ slot. Stops g.K.BookName.settings g.K.BookName.taped c.loop-turn.self.applier.desk.now.number slot c.loop-turn.self.feeder end c.loop-turn.self.applier.desk.now.share.items
-    c.take_unit.new.self.applier.desk.now.share.items) c.loop-turn.invariant.slot c.in_err-is_line.ensures.takes)))
+    (unloads_stops g.K.BookName.settings g.K.BookName.taped c.args.self.now.applier.desk.now.number c.args.self.now.applier.slot c.args.self.now.feeder c.args.self.now.applier.desk.now.front.seen c.loop-turn.self.applier.desk.now.front.seen
+    c.take_unit.new.self.applier.desk.now.front.seen c.loop-turn.self.feeder c.take_unit.new.self.feeder c.loop-turn.invariant.unloading end
+    (subst (λ number. Stops g.K.BookName.settings g.K.BookName.taped number c.args.self.now.applier.slot c.loop-turn.self.feeder end c.loop-turn.self.applier.desk.now.front.seen
+    c.take_unit.new.self.applier.desk.now.front.seen) c.loop-turn.invariant.number
+    (subst (λ slot. Stops g.K.BookName.settings g.K.BookName.taped c.loop-turn.self.applier.desk.now.number slot c.loop-turn.self.feeder end c.loop-turn.self.applier.desk.now.front.seen
+    c.take_unit.new.self.applier.desk.now.front.seen) c.loop-turn.invariant.slot c.in_err-is_line.ensures.takes)))

@@ -4,7 +4,7 @@ use Rattle.gm_server.proofs.session.Session.unload.Given as goal
 
 abbrev pub invariant-loop-turn : goal.invariant-loop-turn
 invariant-loop-turn g l = record {
-  unloading : Unloading g.K.BookName.taped l.fn.self.applier.slot l.fn.self.feeder l.fn.self.applier.desk.now.share.items l.self.applier.desk.now.share.items l.self.feeder;
+  unloading : Unloading l.fn.self.applier.desk.now.number l.fn.self.applier.slot l.fn.self.feeder l.fn.self.applier.desk.now.front.seen l.self.applier.desk.now.front.seen l.self.feeder;
   same_desk : l.self.applier.desk.ghost_name ≡ l.fn.self.applier.desk.ghost_name;
   number : l.self.applier.desk.now.number ≡ l.fn.self.applier.desk.now.number;
   slot : l.self.applier.slot ≡ l.fn.self.applier.slot;

@@ -1,4 +1,4 @@
-use Rattle.std.proofs.Common.{inl, inr, [], ◌∷◌, ◌++◌, Err, refl, sym, ap, subst, ◌≡◌, ◌∙◌}
+use Rattle.std.proofs.Common.{[], ◌∷◌, ◌++◌, Err, refl, sym, ap, subst, ◌≡◌, ◌∙◌}
 use Rattle.std.proofs.lemmas.List.{append_assoc}
 use Rattle.std.proofs.lemmas.Result.{err_from_is_err_and}
 use Rattle.gm_notes.specs.Notes.{phase}
@@ -11,7 +11,7 @@ use Rattle.gm_shared.specs.Tapes.{AreCopies, tape_step, noop_entries, event_entr
 use Rattle.gm_shared.proofs.Taping.{grows_none, grows_same, grows_twice, place_after, tape_same, tape_after, noop_tape, event_tape}
 use Rattle.gm_shared.proofs.Keeping.{held_so}
 use Rattle.gm_shared.proofs.Noops.{asks_still}
-use Rattle.gm_shared.proofs.Applying.{closes_calm, asked_before, agrees_after, lanes_after}
+use Rattle.gm_shared.proofs.Applying.{closes_calm, asked_before, agrees_after, touches}
 use Rattle.gm_shared.proofs.book.Booked.hold.Goals as goal
 
 pub returns-in_err-done-clause-holding : goal.returns-in_err-done-clause-holding
@@ -31,7 +31,7 @@ returns-in_err-done-clause-holding c = λ k steps h.
       told_of mid (noop_entries desk noop),
       first.1 ∙ ap (λ ts. ts ++ told_of mid (noop_entries desk noop)) c.room_for.ensures.share,
       held_so (refused.1 ∙ ap (λ e. Err e) refused.2)
-          (asked noop (record {
+          (asked (record {
             asks = c.resolve_noop-noop.ensures.asks k steps (record { core = h.holds.core; slots = h.holds.slots; words = h.holds.words });
             found = found.0;
             event = (
@@ -73,7 +73,7 @@ returns-clause-holding c = λ k steps h.
     let all_kept = tape_after k (step_of event ∷ before) _ then_ new _ last (event_tape k event before desk done answer.0.0 answer.0.1 then_.on then_.entries.items noop_kept) in (
       told,
       second.1 ∙ (ap (λ ts. ts ++ told_of then_ (event_entry desk (tape_step (step_of event)) done ∷ [])) (first.1 ∙ ap (λ ts. ts ++ told_of mid (noop_entries desk noop)) c.room_for.ensures.share) ∙ append_assoc c.args.share.now.items _ _),
-      asked noop (record {
+      asked (record {
         asks = asks_still (slot_of (step_of event)) k steps c.args.self.now.seat.lines c.resolve_noop-noop.new.self.seat.lines c.follow.new.self.seat.lines
             (c.resolve_noop-noop.ensures.asks k steps (record { core = h.holds.core; slots = h.holds.slots; words = h.holds.words }))
             (asked_before k event before c.resolve_noop-noop.new.self _ c.follow.new.self c.follow.new.touched found.1 refl refl answer.1 c.in_ok-done.ensures.touched c.follow.ensures.follows calm);
@@ -86,7 +86,7 @@ returns-clause-holding c = λ k steps h.
             holds = agrees_after k event before c.resolve_noop-noop.new.self _ c.follow.new.self c.follow.new.touched found.1 refl refl answer.1 c.in_ok-done.ensures.touched c.follow.ensures.follows calm;
             tape = all_kept;
           };
-          missed = λ d left. lanes_after k event before c.resolve_noop-noop.new.self _ c.follow.new.self c.follow.new.touched found.1 refl refl answer.1 c.in_ok-done.ensures.touched c.follow.ensures.follows calm c.args.self.now steps h.holds.core c.resolve_noop-noop.ensures.touched d left;
+          touches = touches k event before c.resolve_noop-noop.new.self _ c.follow.new.self c.follow.new.touched found.1 refl refl answer.1 c.in_ok-done.ensures.touched c.follow.ensures.follows calm c.args.self.now steps noop refl h.holds.core c.resolve_noop-noop.ensures.touched;
         };
         tape = grows_twice (noop_entries desk noop) _ old then_ new _ _ noop_all last;
         place = c.enter_event-at.ensures.place (tape_step (step_of event)) copies ∙ place_after _ old then_ _ noop_all;

@@ -1,26 +1,66 @@
-use Rattle.std.proofs.Common.{◌∙◌, subst, List}
+use Rattle.std.proofs.Common.{ℕ, ◌∙◌, ◌++◌, ap, sym, subst, List}
 use Rattle.gm_notes.specs.Steps.{Step}
 use Rattle.gm_notes.specs.Servers.{step_of}
-use Rattle.gm_shared.specs.declared.book.Booked.{Booked}
+use Rattle.gm_shared.specs.declared.events.Noop.{Noop}
+use Rattle.gm_shared.specs.declared.tape.Entry.{Entry}
 use Rattle.gm_shared.specs.declared.tape.Told.{Told}
+use Rattle.gm_shared.specs.Tapes.{steps_of, Legal, noop_entries}
 use Rattle.gm_shared.specs.Books.{BookedAgrees, Held}
-use Rattle.gm_shared.proofs.Keeping.{applied_keeps}
+use Rattle.gm_shared.specs.Histories.{Knows, AreOf}
+use Rattle.gm_shared.specs.Tokens.{if_done}
+use Rattle.gm_shared.specs.Calls.{Calls}
+use Rattle.gm_shared.specs.Shared.{GuardedState, IsGuarded}
+use Rattle.gm_shared.proofs.Entries.{own_added, held_guarded, held_calls, held_shares}
 use Rattle.gm_shared.proofs.guarded.Guarded.apply.Goals as goal
+
+pub enter-requires : goal.enter-requires
+enter-requires g c =
+    let desk = c.args.desk in
+    let noop = c.hold-result.new.found in
+    let s = step_of c.args.event.now in
+    let is = ap (λ d. if_done desk s d (noop_entries desk noop)) c.done_in-done.ensures in
+    record {
+      keeper = c.self.invariant.1 ∙ sym c.requires.history;
+      front = c.requires.front ∙ sym c.requires.history;
+      own = subst (λ (z : ℕ × List Entry). AreOf z.0 z.1) (λ j. (sym c.requires.who j, sym is j)) (own_added desk s c.hold-result.result noop);
+    }
 
 pub invariant_of-self : goal.invariant_of-self
 invariant_of-self g c =
-    let i = c.self.invariant in
-    let h = c.hold.ensures.holding _ i.steps i.agrees in
-    applied_keeps _ _ _ i.steps _ _ _ _ _ _ h.0 h.2 (c.hold.ensures.table ∙ i.table_is) i.on
+    let i = c.self.invariant.0 in
+    let desk = c.args.desk in
+    let noop = c.hold-result.new.found in
+    let s = step_of c.args.event.now in
+    let log = c.self.inside.keeper.log in
+    let h = c.hold-result.ensures.holding _ (steps_of log) i.agrees in
+    let is = ap (λ k. k.log) c.enter.ensures.keeper ∙ ap (λ d. if_done desk s d (noop_entries desk noop) ++ log) c.done_in-done.ensures in (
+      subst (IsGuarded g.K.BookName.table g.K.BookName.settings g.K.BookName.taped c.hold-result.new.self) (sym is)
+          (held_guarded _ c.args.event.now desk noop _ _ _ _ log i.legal g.K.BookName.taped i.on i.recorded c.hold-result.result h.2 g.K.BookName.table (c.hold-result.ensures.table ∙ i.table_is)),
+      ap (λ k. k.table) c.enter.ensures.keeper ∙ c.self.invariant.1,
+      ap (λ k. k.made) c.enter.ensures.keeper ∙ c.self.invariant.2,
+    )
 
-pub returns-clause-applied : goal.returns-clause-applied
-returns-clause-applied g c =
-    let i = c.self.invariant in
-    let h = c.hold.ensures.holding _ i.steps i.agrees in
-    record { steps = i.steps; old = _; new = _; on = i.on; agrees = i.agrees; told = h.0; held = h.2; share_is = h.1 }
+pub returns-clause-called : goal.returns-clause-called
+returns-clause-called g c =
+    let i = c.self.invariant.0 in
+    let desk = c.args.desk in
+    let noop = c.hold-result.new.found in
+    let s = step_of c.args.event.now in
+    let log = c.self.inside.keeper.log in
+    let h = c.hold-result.ensures.holding _ (steps_of log) i.agrees in
+    let is = ap (λ f. f.seen) c.enter.ensures.front ∙ ap (λ d. if_done desk s d (noop_entries desk noop) ++ log) c.done_in-done.ensures in
+    record {
+      before = log;
+      knows = subst (λ who. Knows log who c.args.front.now.seen) c.requires.who c.enter.ensures.knows;
+      legal = subst (Legal g.K.BookName.settings) (sym is) (held_guarded _ c.args.event.now desk noop _ _ _ _ log i.legal g.K.BookName.taped i.on i.recorded c.hold-result.result h.2 _ (c.hold-result.ensures.table ∙ i.table_is)).legal;
+      noop = noop;
+      calls = subst (Calls g.K.BookName.settings g.K.BookName.taped s desk noop c.hold-result.result c.hold-result.new.touched log) (sym is)
+          (held_calls _ c.args.event.now desk noop _ _ _ _ log i.legal g.K.BookName.taped i.on i.recorded c.hold-result.result h.2);
+      share_is = held_shares _ c.args.event.now desk noop _ _ _ _ log i.legal g.K.BookName.taped i.on i.recorded c.hold-result.result h.2 _ _ h.1;
+    }
 
 pub returns-clause-holding : goal.returns-clause-holding
 returns-clause-holding g c =
-    subst (λ (b : Booked). (steps : List Step) → BookedAgrees b g.K.BookName.settings steps
-    → (told : List Told) × (new : Booked) × Held g.K.BookName.settings steps (step_of c.args.event.now) c.args.desk c.hold.result c.hold.new.touched b new told) c.self.view_is
-    (λ steps h. let done = c.hold.ensures.holding _ steps h in (done.0, _, done.2))
+    subst (λ (x : GuardedState). (steps : List Step) → BookedAgrees x.booked g.K.BookName.settings steps
+    → (told : List Told) × (noop : Noop) × Held g.K.BookName.settings steps (step_of c.args.event.now) c.args.desk noop c.hold-result.result c.hold-result.new.touched x.booked c.hold-result.new.self told) c.self.view_is
+    (λ steps h. let done = c.hold-result.ensures.holding _ steps h in (done.0, c.hold-result.new.found, done.2))

@@ -1,25 +1,58 @@
-use Rattle.std.proofs.Common.{◌∙◌, ap, subst, List}
+use Rattle.std.proofs.Common.{◌≡◌, ℕ, refl, ◌∙◌, ◌++◌, ap, sym, subst, List}
 use Rattle.gm_notes.specs.Steps.{Step}
-use Rattle.gm_shared.specs.declared.book.Booked.{Booked}
+use Rattle.gm_shared.specs.declared.tape.Entry.{Entry}
 use Rattle.gm_shared.specs.declared.tape.Told.{Told}
+use Rattle.gm_shared.specs.Tapes.{steps_of, Legal}
 use Rattle.gm_shared.specs.Books.{BookedAgrees, Drains}
-use Rattle.gm_shared.proofs.Keeping.{drained_keeps}
+use Rattle.gm_shared.specs.Histories.{Knows, AreOf}
+use Rattle.gm_shared.specs.Tokens.{entries_of}
+use Rattle.gm_shared.specs.Calls.{drained_entries}
+use Rattle.gm_shared.specs.Shared.{GuardedState, IsGuarded}
+use Rattle.gm_shared.proofs.Entries.{own_drained, drained_guarded, drained_gives, drained_shares}
+use Rattle.gm_shared.proofs.guarded.Guarded.drain.Goals.{in-Ok, in-Err}
 use Rattle.gm_shared.proofs.guarded.Guarded.drain.Goals as goal
+
+pub enter-requires : goal.enter-requires
+enter-requires g c =
+    let same : entries_of c.args.pen c.match-result.what ≡ drained_entries c.args.pen c.args.slot c.drain_into-result.result = elim c.match-result.branch [ in-Ok w ↦ rw (w.what-is, w.in-Ok.is) refl | in-Err w ↦ rw (w.what-is, w.in-Err.is) refl ] in
+    record {
+      keeper = c.self.invariant.1 ∙ sym c.requires.history;
+      front = c.requires.front ∙ sym c.requires.history;
+      own = subst (λ (z : ℕ × List Entry). AreOf z.0 z.1) (λ j. (sym c.requires.who j, sym same j)) (own_drained c.args.pen c.args.slot c.drain_into-result.result);
+    }
 
 pub invariant_of-self : goal.invariant_of-self
 invariant_of-self g c =
-    let i = c.self.invariant in
-    let h = c.drain_into.ensures.drains _ i.steps i.agrees in
-    drained_keeps _ _ _ i.steps _ _ _ _ _ h.0 h.2 (ap (λ s. s.table) c.drain_into.ensures.seat ∙ i.table_is) i.on
+    let i = c.self.invariant.0 in
+    let log = c.self.inside.keeper.log in
+    let h = c.drain_into-result.ensures.drains _ (steps_of log) i.agrees in
+    let same : entries_of c.args.pen c.match-result.what ≡ drained_entries c.args.pen c.args.slot c.drain_into-result.result = elim c.match-result.branch [ in-Ok w ↦ rw (w.what-is, w.in-Ok.is) refl | in-Err w ↦ rw (w.what-is, w.in-Err.is) refl ] in
+    let is = ap (λ k. k.log) c.enter.ensures.keeper ∙ ap (λ es. es ++ log) same in (
+      subst (IsGuarded g.K.BookName.table g.K.BookName.settings g.K.BookName.taped c.drain_into-result.new.self) (sym is)
+          (drained_guarded _ c.args.pen c.args.slot _ _ _ log i.legal g.K.BookName.taped i.on i.recorded c.drain_into-result.result h.2 g.K.BookName.table (ap (λ s. s.table) c.drain_into-result.ensures.seat ∙ i.table_is)),
+      ap (λ k. k.table) c.enter.ensures.keeper ∙ c.self.invariant.1,
+      ap (λ k. k.made) c.enter.ensures.keeper ∙ c.self.invariant.2,
+    )
 
-pub returns-clause-emptied : goal.returns-clause-emptied
-returns-clause-emptied g c =
-    let i = c.self.invariant in
-    let h = c.drain_into.ensures.drains _ i.steps i.agrees in
-    record { steps = i.steps; old = _; new = _; on = i.on; agrees = i.agrees; told = h.0; drains = h.2; share_is = h.1 }
+pub returns-clause-called : goal.returns-clause-called
+returns-clause-called g c =
+    let i = c.self.invariant.0 in
+    let log = c.self.inside.keeper.log in
+    let h = c.drain_into-result.ensures.drains _ (steps_of log) i.agrees in
+    let same : entries_of c.args.pen c.match-result.what ≡ drained_entries c.args.pen c.args.slot c.drain_into-result.result = elim c.match-result.branch [ in-Ok w ↦ rw (w.what-is, w.in-Ok.is) refl | in-Err w ↦ rw (w.what-is, w.in-Err.is) refl ] in
+    let is = ap (λ f. f.seen) c.enter.ensures.front ∙ ap (λ es. es ++ log) same in
+    record {
+      before = log;
+      knows = subst (λ who. Knows log who c.args.front.now.seen) c.requires.who c.enter.ensures.knows;
+      legal = subst (Legal g.K.BookName.settings) (sym is)
+          (drained_guarded _ c.args.pen c.args.slot _ _ _ log i.legal g.K.BookName.taped i.on i.recorded c.drain_into-result.result h.2 _ (ap (λ s. s.table) c.drain_into-result.ensures.seat ∙ i.table_is)).legal;
+      gives = drained_gives _ c.args.pen c.args.slot _ _ _ log i.legal g.K.BookName.taped i.on c.drain_into-result.result h.2;
+      after_is = is;
+      share_is = drained_shares _ c.args.pen c.args.slot _ _ _ log i.legal g.K.BookName.taped i.on i.recorded c.drain_into-result.result h.2 _ _ h.1;
+    }
 
 pub returns-clause-drains : goal.returns-clause-drains
 returns-clause-drains g c =
-    subst (λ (b : Booked). (steps : List Step) → BookedAgrees b g.K.BookName.settings steps
-    → (told : List Told) × Drains g.K.BookName.settings steps c.args.pen c.args.slot c.drain_into.result b c.drain_into.new.self told) c.self.view_is
-    (λ steps h. let done = c.drain_into.ensures.drains _ steps h in (done.0, done.2))
+    subst (λ (x : GuardedState). (steps : List Step) → BookedAgrees x.booked g.K.BookName.settings steps
+    → (told : List Told) × Drains g.K.BookName.settings steps c.args.pen c.args.slot c.drain_into-result.result x.booked c.drain_into-result.new.self told) c.self.view_is
+    (λ steps h. let done = c.drain_into-result.ensures.drains _ steps h in (done.0, done.2))

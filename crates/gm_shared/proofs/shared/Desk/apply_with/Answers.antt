@@ -1,5 +1,5 @@
-use Rattle.gm_shared.proofs.Sharing.{applied_adds}
+use Rattle.gm_shared.proofs.Sharing.{called_hands}
 use Rattle.gm_shared.proofs.shared.Desk.apply_with.Goals as goal
 
-pub returns-clause-adds : goal.returns-clause-adds
-returns-clause-adds g c = applied_adds _ _ c.args.event _ _ _ _ _ c.apply-result.ensures.applied
+pub returns-clause-hands : goal.returns-clause-hands
+returns-clause-hands g c = called_hands _ _ c.args.event _ _ _ _ _ c.apply-result.ensures.called

@@ -1,10 +1,11 @@
 use Rattle.std.proofs.Common.{rules}
-use Rattle.gm_shared.proofs.Sharing.{emptied_own}
+use Rattle.gm_shared.proofs.Sharing.{called_own}
 use Rattle.gm_shared.proofs.shared.Pen.drain.Goals as goal
 
 pub invariant_of-self : goal.invariant_of-self
 invariant_of-self g c = record {
   named = search rules;
   sits = search rules;
-  own = emptied_own _ _ _ _ _ _ c.drain.ensures.emptied c.args.self.now.own;
+  own = called_own _ _ _ _ _ _ c.drain.ensures.called c.args.self.now.own;
+  fronted = search rules;
 }

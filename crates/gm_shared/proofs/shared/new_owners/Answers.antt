@@ -1,0 +1,42 @@
+use Rattle.std.proofs.Common.{rules, ap, ◌∙◌}
+use Rattle.gm_shared.proofs.Keeping.{all_left, next_left, numbers_grow, none_seen, made_more}
+use Rattle.gm_shared.proofs.shared.new_owners.Goals as goal
+
+pub loop-seat-init : goal.loop-seat-init
+loop-seat-init g c = record {
+  desks_are = search rules;
+  pens_are = search rules;
+  desks_new = search rules;
+  pens_new = search rules;
+  desk_count = search rules;
+  pen_count = search rules;
+  room = search rules;
+  left = all_left _ _ _ (c.into_iter-seat-iterator.ensures.into_iter_gives.0 ∙ c.requires.seats);
+  made = search rules;
+}
+
+pub new-requires-in-loop-seat-clause-seat : goal.new-requires-in-loop-seat-clause-seat
+new-requires-in-loop-seat-clause-seat g c =
+    let next = next_left _ _ _ _ _ _ c.loop-seat.invariant.left c.in-Some.ensures.steps.0 in
+    (ap (λ p. p.table) next.pen_is, ap (λ p. p.slot) next.pen_is)
+
+pub new-requires-in-loop-seat-clause-nothing_seen : goal.new-requires-in-loop-seat-clause-nothing_seen
+new-requires-in-loop-seat-clause-nothing_seen g c =
+    ap (λ f. f.seen) c.new_front-in-loop-seat.ensures.front ∙ (ap (λ k. k.log) c.new_front.ensures.keeper ∙ c.loop-seat.invariant.made.empty)
+
+pub loop-seat-preserved : goal.loop-seat-preserved
+loop-seat-preserved g c =
+    let next = next_left _ _ _ _ _ _ c.loop-seat.invariant.left c.in-Some.ensures.steps.0 in
+    record {
+      desks_are = numbers_grow (λ desk. desk.number) _ _ _ _ c.push_reserved.ensures.items c.loop-seat.invariant.desks_are c.new.ensures.number;
+      pens_are = numbers_grow (λ pen. pen.slot) _ _ _ _ c.push_reserved-in-loop-seat.ensures.items c.loop-seat.invariant.pens_are c.new-in-loop-seat.ensures.slot;
+      desks_new = none_seen (λ desk. desk.front.seen) _ _ _ c.push_reserved.ensures.items c.loop-seat.invariant.desks_new
+          (ap (λ f. f.seen) c.new.ensures.front ∙ (ap (λ f. f.seen) c.new_front.ensures.front ∙ c.loop-seat.invariant.made.empty));
+      pens_new = none_seen (λ pen. pen.front.seen) _ _ _ c.push_reserved-in-loop-seat.ensures.items c.loop-seat.invariant.pens_new
+          (ap (λ f. f.seen) c.new-in-loop-seat.ensures.front ∙ (ap (λ f. f.seen) c.new_front-in-loop-seat.ensures.front ∙ (ap (λ k. k.log) c.new_front.ensures.keeper ∙ c.loop-seat.invariant.made.empty)));
+      desk_count = search rules;
+      pen_count = search rules;
+      room = search rules;
+      left = next.left;
+      made = made_more _ _ _ _ _ c.loop-seat.invariant.made c.new_front.ensures.keeper c.new_front-in-loop-seat.ensures.keeper;
+    }

@@ -1,0 +1,137 @@
+//! The one history, which exists in proofs alone.
+
+ghost use Rattle.std.specs.Prelude.{◌≡◌, ◌+◌, ◌++◌, [], IfOk};
+ghost use Rattle.gm_shared.specs.Histories.{Knows, AreBelow, AreOf};
+ghost use Rattle.gm_shared.specs.Tokens.{entries_of, kept_more, sees, next_front, one_front_more};
+
+use crate::rule::{Enter, Entered, Hands, HistoryRule, Makes};
+use crate::view::View;
+use crate::what::What;
+use atomic_table::{Badge, Seat, Table};
+use std::alloc::{AllocError, Global};
+use std::marker::{Brand, Model};
+use std::mem;
+
+/// The word at which the steps of the history are made. Nobody writes it. Contracts see which table it is.
+#[derive(Drop)]
+pub struct History {
+    words: Table<(), View, (), HistoryRule, Global>,
+}
+
+impl Model for History {
+    ghost use Rattle.std.specs.Prelude.{◌≡◌};
+    ghost use Rattle.atomic_table.specs.Seated.{TableId, table_id_coded};
+
+    ghost Value = { TableId };
+
+    ghost coded = { table_id_coded };
+
+    ghost view = { λ h. h.words.shared.table_id };
+
+    ghost invariant = { λ h. (h.words.shared.table_id.words ≡ 1) × (h.words.shared.table_id.slots ≡ 0) };
+}
+
+/// Its owner knows the whole history, and only its owner adds to it. It has no bytes.
+#[derive(Drop)]
+pub struct Keeper {
+    seat: Seat<(), View>,
+}
+
+impl Model for Keeper {
+    ghost use Rattle.gm_shared.specs.Tokens.{KeeperState, keeper_state, SitsAtKeeper};
+
+    ghost Value = { KeeperState };
+
+    ghost view = { λ k. keeper_state k.seat.table_id k.seat.me.0 };
+
+    ghost invariant = { λ k. SitsAtKeeper k.seat };
+}
+
+/// What one actor, a desk or a pen, has seen of the history. It has no bytes. There is one for each actor.
+#[derive(Drop)]
+pub struct Front {
+    badge: Badge<View>,
+}
+
+impl Model for Front {
+    ghost use Rattle.gm_shared.specs.Tokens.{FrontState, front_state, HasNote};
+
+    ghost Value = { FrontState };
+
+    ghost view = { λ f. front_state f.badge.table_id f.badge.views };
+
+    ghost invariant = { λ f. HasNote f.badge.views };
+}
+
+impl History {
+    /// An empty history, and its keeper.
+    pub fn new(alloc: Global) -> Result<(History, Keeper), AllocError>
+        ensures table { IfOk result (λ made. made.1.table ≡ made.0) }
+        ensures empty { IfOk result (λ made. (made.1.log ≡ []) × (made.1.made ≡ 0)) }
+    {
+        let zero = [0];
+        let (words, seat) = Table::of_words(alloc, &zero, &())?;
+        Ok((History { words }, Keeper { seat }))
+    }
+}
+
+impl Keeper {
+    /// The next actor, which has seen what there is.
+    pub(crate) fn new_front(&mut self, history: &History) -> Front
+        requires { self.old.table ≡ history.now }
+        ensures front { result ≡ next_front self.old }
+        ensures keeper { self.new ≡ one_front_more self.old }
+    {
+        Front {
+            badge: history
+                .words
+                .shared
+                .split_seat::<Makes>(&mut self.seat)
+                .into_badge(),
+        }
+    }
+
+    // Adds these entries, and lets the actor see them. What was entered is for the proof alone.
+    fn enter_as<E: Entered>(
+        &mut self,
+        history: &History,
+        front: &mut Front,
+        _number: u32,
+        _what: What<'_>,
+    )
+        requires keeper { self.old.table ≡ history.now }
+        requires front { front.old.table ≡ history.now }
+        requires entries { E.entries ≡ entries_of _number _what }
+        requires own { AreOf front.old.who (entries_of _number _what) }
+        ensures knows { Knows self.old.log front.old.who front.old.seen }
+        ensures whose { AreBelow self.old.made self.old.log }
+        ensures keeper { self.new ≡ kept_more (entries_of _number _what.entry) self.old }
+        ensures front { front.new ≡ sees (entries_of _number _what.entry ++ self.old.log) front.old }
+    {
+        let table = &history.words.shared;
+        let badge = mem::replace(&mut front.badge, Badge::blank());
+        table.join_seat::<Hands>(&mut self.seat, badge.into_seat());
+        let _zero = table.load::<Enter<E>>(&mut self.seat, 0);
+        front.badge = table.split_seat::<Hands>(&mut self.seat).into_badge();
+    }
+
+    /// Adds what the actor did, and lets it see the history, which goes on from what it had seen, with nothing of the actor
+    /// between.
+    pub(crate) fn enter(
+        &mut self,
+        history: &History,
+        front: &mut Front,
+        number: u32,
+        what: What<'_>,
+    )
+        requires keeper { self.old.table ≡ history.now }
+        requires front { front.old.table ≡ history.now }
+        requires own { AreOf front.old.who (entries_of number what) }
+        ensures knows { Knows self.old.log front.old.who front.old.seen }
+        ensures whose { AreBelow self.old.made self.old.log }
+        ensures keeper { self.new ≡ kept_more (entries_of number what.entry) self.old }
+        ensures front { front.new ≡ sees (entries_of number what.entry ++ self.old.log) front.old }
+    {
+        self.enter_as::<Brand>(history, front, number, what)
+    }
+}

@@ -1,0 +1,19 @@
+//! Laws of the one history of all calls, which exists in proofs alone. Each function is a law: its body does nothing, and its
+//! contract is the law.
+
+ghost use Rattle.gm_shared.specs.Laws.{OneBeginsTheOther, SeenIsOlder, OwnAreWhole};
+
+/// Of two views of the history one begins the other.
+pub fn one_begins_the_other()
+    ensures { OneBeginsTheOther }
+{}
+
+/// What a desk or a pen adds to the history comes behind all that it has seen of it.
+pub fn what_was_seen_is_older()
+    ensures { SeenIsOlder }
+{}
+
+/// Of a desk or a pen the history has what its calls added, in their order, each once.
+pub fn own_calls_are_whole()
+    ensures { OwnAreWhole }
+{}
