@@ -1,6 +1,3 @@
-mod Delivering
-mod Handing
 mod Owning
 mod Promised
 mod Serving
-mod Sending

@@ -7,14 +7,7 @@ use Rattle.std.proofs.lemmas.List.Elements.{All-nil, All-cons, All-head, All-tai
 use Rattle.std.specs.List.{AllByRecursion as ByRecursion}
 use Rattle.std.proofs.Math.Seq.{drop-cons, drop-append-add}
 use Rattle.std.proofs.lemmas.Bool.Decides.{nat_tests}
-use Rattle.gm_feeder.specs.Units.{Item, APacket, ALine}
-use Rattle.gm_feeder.specs.declared.units.Limits.{Limits}
-use Rattle.gm_front.specs.Units.{steps_of as steps_of_units}
-use Rattle.gm_notes.specs.declared.event.ApplyError.{ApplyError}
-use Rattle.gm_notes.specs.declared.event.UnitFault.{UnitFault}
-use Rattle.gm_notes.specs.Settings.{Settings}
 use Rattle.gm_notes.specs.Steps.{Step}
-use Rattle.gm_shared.specs.declared.receipt.Receipt.{Receipt}
 use Rattle.gm_shared.specs.declared.tape.Actor.{Actor}
 use Rattle.gm_shared.specs.declared.tape.Actor.TheVariants.{Desk, Pen}
 use Rattle.gm_shared.specs.declared.tape.TapeStep.{TapeStep}
@@ -26,72 +19,14 @@ use Rattle.gm_shared.specs.Events.{slot_of}
 use Rattle.gm_shared.specs.Tapes.{actor_is, actor_code, if_event, step_in, steps_of, is_drain_of, drains_alone}
 use Rattle.gm_shared.specs.Histories.{Knows, AreBelow, calls_by}
 use Rattle.gm_shared.specs.Tokens.{FrontState}
-use Rattle.gm_shared.specs.Calls.{HandedIn, if_taken, events_in, events_of}
+use Rattle.gm_shared.specs.Calls.{events_in, events_of}
 use Rattle.gm_shared.specs.Shared.{told_by, actor_count, Accounts, numbers_below}
 use Rattle.gm_shared.proofs.Logs.{calls_known}
-use Rattle.gm_shared.proofs.Sharing.{and_more, itself, events_of_more}
-use Rattle.gm_server.specs.declared.session.SessionEnd.{SessionEnd}
-use Rattle.gm_server.specs.Sessions.{Reads}
-use Rattle.gm_server.specs.Owners.{is_said_by, are_said_by, is_own, SaysOwn, AreOwn, everybody}
+use Rattle.gm_shared.proofs.Sharing.{and_more, itself}
+use Rattle.gm_session.specs.Owners.{are_said_by, SaysOwn}
+use Rattle.gm_session.proofs.Owning.{and_first, and_second}
+use Rattle.gm_server.specs.Owners.{is_own, AreOwn, everybody}
 use Rattle.gm_server.specs.Promise.{says, said_at}
-
--- ---- tests
-
-and_first : (a b : Bool) → (a && b) ≡ true → a ≡ true
-and_first true b h = refl
-and_first false b h = absurd cc
-
-and_both : (a b : Bool) → a ≡ true → b ≡ true → (a && b) ≡ true
-and_both true b h k = k
-and_both false b h k = absurd cc
-
-and_second : (a b : Bool) → (a && b) ≡ true → b ≡ true
-and_second true b h = h
-and_second false b h = absurd cc
-
--- ---- what is handed in at a desk
-
-said_append : (n : ℕ) (xs ys : List Step) → are_said_by n (xs ++ ys) ≡ (are_said_by n xs && are_said_by n ys)
-said_append n [] ys = refl
-said_append n (s ∷ xs) ys = ap (λ b. is_said_by n s && b) (said_append n xs ys) ∙ and_more (is_said_by n s) (are_said_by n xs) (are_said_by n ys)
-
-pub said_reverse : (n : ℕ) (xs : List Step) → are_said_by n xs ≡ true → are_said_by n (reverse xs) ≡ true
-said_reverse n [] h = refl
-said_reverse n (s ∷ xs) h =
-    ap (are_said_by n) (reverse-append (s ∷ []) xs)
-    ∙ (said_append n (reverse xs) (s ∷ [])
-    ∙ and_both (are_said_by n (reverse xs)) (is_said_by n s && true) (said_reverse n xs (and_second (is_said_by n s) (are_said_by n xs) h)) (ap (λ b. b && true) (and_first (is_said_by n s) (are_said_by n xs) h)))
-
--- a desk that handed in these events more
-more_own : (n : ℕ) (events : List Step) (seen after : List Entry) → HandedIn n events seen after → are_said_by n events ≡ true → SaysOwn n seen → SaysOwn n after
-more_own n events seen after h own before =
-    ap (λ l. are_said_by n (events_of n l)) h.goes_on
-    ∙ (ap (are_said_by n) (events_of_more n h.newer seen)
-    ∙ (said_append n (events_of n h.newer) (events_of n seen)
-    ∙ and_both (are_said_by n (events_of n h.newer)) (are_said_by n (events_of n seen)) (ap (are_said_by n) h.events_are ∙ own) before))
-
-taken_said : (n : ℕ) (s : Step) (result : Result Receipt ApplyError) → is_said_by n s ≡ true → are_said_by n (if_taken s result) ≡ true
-taken_said n s (Ok receipt) own = ap (λ b. b && true) own
-taken_said n s (Err refused) own = refl
-
-pub own_event : (n m : ℕ) (s : Step) (result : Result Receipt ApplyError) (seen after : List Entry) → m ≡ n → is_said_by n s ≡ true
-    → HandedIn n (if_taken s result) seen after → SaysOwn n seen → SaysOwn m after
-own_event n m s result seen after same own hands before =
-    ap (λ (i : ℕ). are_said_by i (events_of i after)) same ∙ more_own n (if_taken s result) seen after hands (taken_said n s result own) before
-
-units_said : (c : ℕ) (items : List Item) (fault : Option UnitFault) → are_said_by c (steps_of_units c items fault) ≡ true
-units_said c [] None = refl
-units_said c [] (Some fault) = ap (λ b. b && true) (itself c)
-units_said c (APacket kind bytes ∷ items) fault = ap (λ b. b && are_said_by c (steps_of_units c items fault)) (itself c) ∙ units_said c items fault
-units_said c (ALine bytes ∷ items) fault = ap (λ b. b && are_said_by c (steps_of_units c items fault)) (itself c) ∙ units_said c items fault
-
--- what a session reads is said at its desk
-pub own_reads : (k : Settings) (taped : Bool) (n m c : ℕ) (limits : Limits) (old new : Option (List ℕ)) (end : SessionEnd) (seen after : List Entry) → c ≡ n → m ≡ n
-    → Reads k taped n c limits old new end seen after → SaysOwn n seen → SaysOwn m after
-own_reads k taped n m c limits old new end seen after here same reads before =
-    let steps = steps_of_units c reads.hands.items reads.fault in
-    ap (λ (i : ℕ). are_said_by i (events_of i after)) same
-    ∙ more_own n (reverse steps) seen after reads.hands.adds (said_reverse n steps (subst (λ (i : ℕ). are_said_by i steps ≡ true) here (units_said c reads.hands.items reads.fault))) before
 
 -- ---- the entries of an actor
 

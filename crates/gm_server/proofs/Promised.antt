@@ -20,7 +20,7 @@ use Rattle.gm_shared.proofs.Sharing.{events_of_more}
 use Rattle.gm_front.specs.Units.{steps_of as steps_of_units}
 use Rattle.gm_feeder.specs.declared.units.Limits.{Limits}
 use Rattle.gm_notes.specs.declared.event.UnitFault.{UnitFault}
-use Rattle.gm_server.specs.Sessions.{HandsIn}
+use Rattle.gm_session.specs.Sessions.{HandsIn}
 use Rattle.gm_server.specs.Promise.{if_opened, given_by, given, GivenSo}
 
 -- ---- bytes

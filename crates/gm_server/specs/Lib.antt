@@ -1,9 +1,5 @@
 pub mod Arguments
-pub mod Deliveries
-pub mod Effects
 pub mod Owners
 pub mod Promise
 pub mod Served
-pub mod Sessions
 pub mod Statuses
-pub mod Turns

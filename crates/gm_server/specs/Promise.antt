@@ -27,7 +27,7 @@ use Rattle.gm_shared.specs.declared.tape.Entry.{Entry}
 use Rattle.gm_shared.specs.Events.{slot_of}
 use Rattle.gm_shared.specs.Tapes.{step_in, steps_of, Legal}
 use Rattle.gm_shared.specs.Calls.{events_of, past_of}
-use Rattle.gm_server.specs.Sessions.{HandsIn}
+use Rattle.gm_session.specs.Sessions.{HandsIn}
 use Rattle.gm_server.specs.Owners.{AreOwn}
 
 -- ---- what was handed in

@@ -1,10 +1,10 @@
-//! The control thread: it takes connections, and tells the time.
+//! The control thread: it takes connections, and hands in ticks.
 
 use crate::connection::start;
 use crate::error::ControlError;
-use crate::gate::Gate;
 use crate::keepalive::set_peer_timeout;
 use crate::state::ServerState;
+use gm_session::Gate;
 use gm_shared::BookName;
 use libc::{EBADF, EINVAL, EMFILE, ENOTSOCK};
 use std::alloc::AllocError;
@@ -16,14 +16,14 @@ use std::thread::{Scope, Threads};
 use std::time::{Clock, Duration};
 use std::{io, thread};
 
-/// How long the control thread waits for a connection, in milliseconds. A tick and the end may be late by this.
-const ACCEPT_TIMEOUT: u64 = 50;
+/// How long the control thread waits for a connection. A tick and the end may be late by this.
+const ACCEPT_TIMEOUT_MS: u64 = 50;
 
 /// Has `accept` return where no connection comes for a while.
 pub(crate) fn set_accept_timeout(listener: &TcpListener) -> io::Result<()> {
     let same = listener.try_clone()?;
     TcpStream::from(OwnedFd::from(same)).set_read_timeout(Some(Duration::from_millis(
-        ACCEPT_TIMEOUT,
+        ACCEPT_TIMEOUT_MS,
     )))
 }
 
@@ -60,7 +60,7 @@ fn wait_for_ends<K: BookName>(rt: &(impl Wait + Clock), state: &ServerState<K>) 
         if !state.has_connections() {
             return;
         }
-        thread::sleep(rt, Duration::from_millis(ACCEPT_TIMEOUT));
+        thread::sleep(rt, Duration::from_millis(ACCEPT_TIMEOUT_MS));
     }
 }
 
@@ -122,10 +122,10 @@ impl<'s, K: BookName + Send + Sync> Control<'s, K> {
             self.has_warned = true;
             let _ = eprintln!(rt; "gmd: out of file descriptors, connections wait: {error}");
         }
-        thread::sleep(rt, Duration::from_millis(ACCEPT_TIMEOUT));
+        thread::sleep(rt, Duration::from_millis(ACCEPT_TIMEOUT_MS));
     }
 
-    /// Takes connections and tells the time until the server is over.
+    /// Takes connections and hands in ticks until the server has ended.
     fn take_all<E, R: Threads + Wait + Clock + Eprint + Sync, G: Gate>(
         &mut self,
         scope: &Scope<'s, E>,
@@ -134,7 +134,7 @@ impl<'s, K: BookName + Send + Sync> Control<'s, K> {
         listener: &TcpListener,
     ) -> Result<(), ControlError> {
         for _ in rt.forever() {
-            self.state.tell_time(rt);
+            self.state.update_time(rt);
             match listener.accept() {
                 Ok((stream, peer)) => {
                     // If out of memory, the connection is closed, and the server goes on.
@@ -144,7 +144,7 @@ impl<'s, K: BookName + Send + Sync> Control<'s, K> {
                 Err(error) if is_fatal(&error) => return Err(ControlError::Listen),
                 Err(error) => self.hold_on(rt, &error),
             }
-            if self.state.is_over() {
+            if self.state.has_ended() {
                 break;
             }
         }
@@ -154,7 +154,7 @@ impl<'s, K: BookName + Send + Sync> Control<'s, K> {
         Ok(())
     }
 
-    /// Takes connections and tells the time until the server is over, and has each connection end that is left. It answers
+    /// Takes connections and hands in ticks until the server has ended, and has each connection end that is left. It answers
     /// how many connections were opened.
     pub(crate) fn run<E, R: Threads + Wait + Clock + Eprint + Sync, G: Gate>(
         mut self,

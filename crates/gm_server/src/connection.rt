@@ -1,7 +1,7 @@
 //! The threads of a connection.
 
-use crate::gate::Gate;
 use crate::state::ServerState;
+use gm_session::Gate;
 use gm_shared::BookName;
 use std::alloc::Global;
 use std::net::TcpStream;
@@ -9,18 +9,19 @@ use std::sync::{Arc, Wait};
 use std::thread::{Scope, Threads};
 use std::time::Clock;
 
-/// Gives a connection to its slot's reader, and says whether it could. A slot's threads are made with its first connection.
+/// Gives a connection to the reader of the slot with this number, and says whether it could. A slot's threads are made with its first connection.
 pub(crate) fn start<'s, E, K: BookName + Send + Sync, G: Gate, R: Threads + Wait + Clock + Sync>(
     scope: &Scope<'s, E>,
     rt: &'s R,
     state: &'s ServerState<K>,
     gate: &'s G,
-    slot: u32,
+    number: u32,
     stream: Arc<TcpStream, Global>,
 ) -> bool {
-    let Some(lane) = state.lane(slot) else {
+    let Some(slot) = state.slot(number) else {
         return false;
     };
+    let lane = &slot.lane;
     if !lane.has_writer(rt) {
         if scope
             .spawn(move || lane.run_writer(rt, state.shared()))

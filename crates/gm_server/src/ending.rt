@@ -3,12 +3,13 @@
 ghost use Rattle.std.specs.Prelude.{◌≡◌, Bool, [], ◌∷◌, IfOk, MatchBool, All, map, length, drop, true};
 ghost use Rattle.gm_notes.specs.Settings.{Settings as BookSettings};
 ghost use Rattle.gm_shared.specs.declared.tape.Actor.TheVariants as actors;
-ghost use Rattle.gm_server.specs.Owners.{SaysOwn, everybody};
+ghost use Rattle.gm_session.specs.Owners.{SaysOwn};
+ghost use Rattle.gm_server.specs.Owners.{everybody};
 ghost use Rattle.gm_server.specs.Served.{HasEverybody, IsWhole, SettledSo};
 
-use crate::lane::Lane;
-use crate::own_desk::OwnDesk;
+use crate::slot::Slot;
 use crate::state::ServerState;
+use gm_session::OwnDesk;
 use gm_shared::{Actor, BookName, Desk, Pen, SettleError, Settled, Share, settle};
 use std::alloc::{AllocError, Global};
 
@@ -44,20 +45,20 @@ fn are_of(shares: &[Share], actors: &[Actor]) -> bool
     rest.is_empty()
 }
 
-/// Takes out of lanes what each slot was given, and adds the control desk to the desks.
+/// Takes out of slots what each was given, and adds the control desk to the desks.
 fn all_parts<K: BookName>(
     alloc: Global,
-    lanes: Vec<Lane<K>>,
+    slots: Vec<Slot<K>>,
     control: OwnDesk<K>,
 ) -> Result<(Vec<Desk<K>>, Vec<Pen<K>>), AllocError>
     ensures own { IfOk result (λ parts. All (λ desk. SaysOwn desk.number desk.front.seen) parts.0.items) }
-    ensures desks { IfOk result (λ parts. drop (length lanes.items) parts.0.items ≡ control.desk ∷ []) }
-    ensures pens { IfOk result (λ parts. length parts.1.items ≡ length lanes.items) }
+    ensures desks { IfOk result (λ parts. drop (length slots.items) parts.0.items ≡ control.desk ∷ []) }
+    ensures pens { IfOk result (λ parts. length parts.1.items ≡ length slots.items) }
 {
-    let mut desks = Vec::with_capacity(alloc, lanes.len())?;
-    let mut pens = Vec::with_capacity(alloc, lanes.len())?;
-    for lane in lanes {
-        let (desk, pen) = lane.into_parts();
+    let mut desks = Vec::with_capacity(alloc, slots.len())?;
+    let mut pens = Vec::with_capacity(alloc, slots.len())?;
+    for slot in slots {
+        let (desk, pen) = slot.into_parts();
         desks.push(desk.into_desk())?;
         pens.push(pen)?;
     }
@@ -83,13 +84,13 @@ pub(crate) fn settle_state<K: BookName>(state: ServerState<K>) -> Result<Settled
     let ServerState {
         alloc,
         shared,
-        lanes,
-        control,
         slots,
+        slot_count,
+        control,
         ..
     } = state;
-    let actors = everybody(alloc, slots)?;
-    let (desks, pens) = all_parts(alloc, lanes, control.into_inner())?;
+    let actors = everybody(alloc, slot_count)?;
+    let (desks, pens) = all_parts(alloc, slots, control.into_inner())?;
     let settled = settle(alloc, shared, desks, pens)?;
     with_everybody(settled, actors.as_slice())
 }

@@ -1,7 +1,7 @@
-//! What is told before a server takes connections.
+//! What a server does before it takes connections.
 
-/// What a server notifies that its book is open, and that it is about to take connections.
+/// Whom a server notifies that its book is open, and that it is about to take connections.
 pub trait Ready {
-    /// Tells so, and says whether it could. Where not, the server ends at once.
-    fn tell(&mut self) -> bool;
+    /// Announces that, and says whether it could. Where not, the server ends at once.
+    fn announce(&mut self) -> bool;
 }

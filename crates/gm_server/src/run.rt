@@ -8,13 +8,13 @@ ghost use Rattle.gm_server.specs.Statuses.{run_status, ended_status, IsStatus};
 
 use crate::args::{Args, parse_args};
 use crate::error::ServeError;
-use crate::gate::OpenGate;
 use crate::ready::Ready;
 use crate::server::serve_announced;
 use crate::settings::{Served, Settings};
 use crate::systemd::{first_socket, handed_sockets, notify_ready};
 use clap::error::ErrorKind;
 use gm_notes::{Config, MAX_FUNCTIONS};
+use gm_session::OpenGate;
 use std::alloc::{AllocError, Global};
 use std::env::Env;
 use std::hash::RandomState;
@@ -26,6 +26,29 @@ use std::sync::Wait;
 use std::thread::Threads;
 use std::time::Clock;
 use thiserror::Error;
+
+/// What the program needs of the system: threads, time, random bytes, sockets, the environment, standard error and memory.
+pub trait System: Threads
+    + Wait
+    + Clock
+    + RandomSource
+    + Net<Listener = TcpListener, Stream = TcpStream>
+    + Env
+    + Eprint
+    + AllocGlobal
+    + Sync {}
+
+impl<
+    R: Threads
+        + Wait
+        + Clock
+        + RandomSource
+        + Net<Listener = TcpListener, Stream = TcpStream>
+        + Env
+        + Eprint
+        + AllocGlobal
+        + Sync,
+> System for R {}
 
 /// Why the program ends early.
 #[derive(Debug, Drop, Error)]
@@ -102,7 +125,11 @@ fn written(outcome: io::Result<()>) -> Result<(), RunError>
 }
 
 /// Says what is wrong with the arguments, or prints the help or the version that they ask for.
-fn tell<W: Write>(rt: &impl Eprint, error: &clap::Error, w: &mut W) -> Result<(), RunError> {
+fn print_help_or_error<W: Write>(
+    rt: &impl Eprint,
+    error: &clap::Error,
+    w: &mut W,
+) -> Result<(), RunError> {
     if error.kind() == ErrorKind::OutOfMemory {
         return Err(RunError::Serve(ServeError::Memory));
     }
@@ -177,7 +204,7 @@ struct Listening<'w, R, W> {
 }
 
 impl<'w, R: Env + Eprint, W: Write> Ready for Listening<'w, R, W> {
-    fn tell(&mut self) -> bool {
+    fn announce(&mut self) -> bool {
         self.told = print_listening(self.output);
         if self.told.is_err() {
             return false;
@@ -228,18 +255,12 @@ fn open_listener<R: Net<Listener = TcpListener, Stream = TcpStream> + Env + Allo
 }
 
 /// Serves as the arguments ask.
-fn serve_on<
-    R: Threads
-        + Wait
-        + Clock
-        + RandomSource
-        + Net<Listener = TcpListener, Stream = TcpStream>
-        + Env
-        + Eprint
-        + AllocGlobal
-        + Sync,
-    W: Write,
->(rt: &R, args: Args<'_>, settings: Settings, w: &mut W) -> Result<Served, RunError> {
+fn serve_on<R: System, W: Write>(
+    rt: &R,
+    args: Args<'_>,
+    settings: Settings,
+    w: &mut W,
+) -> Result<Served, RunError> {
     let Ok(seed) = RandomState::new(rt) else {
         return Err(RunError::Seed);
     };
@@ -267,22 +288,15 @@ fn serve_on<
 }
 
 /// Does what the arguments ask for. It answers what was served, if anything was.
-fn run<
-    R: Threads
-        + Wait
-        + Clock
-        + RandomSource
-        + Net<Listener = TcpListener, Stream = TcpStream>
-        + Env
-        + Eprint
-        + AllocGlobal
-        + Sync,
-    W: Write,
->(rt: &R, words: &[String], w: &mut W) -> Result<Option<Served>, RunError> {
+fn run<R: System, W: Write>(
+    rt: &R,
+    words: &[String],
+    w: &mut W,
+) -> Result<Option<Served>, RunError> {
     let args = match parse_args(rt.alloc(), words) {
         Ok(args) => args,
         Err(error) => {
-            tell(rt, &error, w)?;
+            print_help_or_error(rt, &error, w)?;
             return Ok(None);
         }
     };
@@ -334,18 +348,7 @@ fn report<R: Eprint>(rt: &R, ended: &Result<Option<Served>, RunError>) {
 /// connection or of the server; 4 where the tape differs from what the connections were told.
 ///
 /// The options are those of gearmand(8) of the same names, `--tape` and `--check`.
-pub fn run_words<
-    R: Threads
-        + Wait
-        + Clock
-        + RandomSource
-        + Net<Listener = TcpListener, Stream = TcpStream>
-        + Env
-        + Eprint
-        + AllocGlobal
-        + Sync,
-    W: Write,
->(rt: &R, words: &[String], w: &mut W) -> u8
+pub fn run_words<R: System, W: Write>(rt: &R, words: &[String], w: &mut W) -> u8
     ensures { IsStatus result }
 {
     let ended = run(rt, words, w);

@@ -8,12 +8,11 @@ ghost use Rattle.gm_server.specs.Served.{SettledSo, EndsSo};
 use crate::accepting::{Control, set_accept_timeout};
 use crate::ending::settle_state;
 use crate::error::{ControlError, ServeError};
-use crate::gate::Gate;
-use crate::own_desk::OwnDesk;
 use crate::ready::Ready;
 use crate::settings::{Served, Settings};
 use crate::state::ServerState;
 use gm_feeder::Limits;
+use gm_session::{Gate, OwnDesk};
 use gm_shared::{Blank, BookName, SettleError, Settled, Shared, TapeMode};
 use std::alloc::Global;
 use std::hash::RandomState;
@@ -79,11 +78,11 @@ pub fn serve_book<
     requires taped { blank.taped ≡ K.taped }
     ensures { IfOk result (λ ended. SettledSo K.settings K.taped ended.book) }
 {
-    let slots = blank.slots();
+    let slot_count = blank.slots();
     let (shared, desks, pens, control) = Shared::<K>::open(alloc, blank)?;
     let control = OwnDesk::new(control);
-    let state = ServerState::new(rt, alloc, shared, desks, pens, control, slots, limits)?;
-    let outcome = if ready.tell() {
+    let state = ServerState::new(rt, alloc, shared, desks, pens, control, slot_count, limits)?;
+    let outcome = if ready.announce() {
         run_control(rt, &state, listener, peer_timeout, gate)
     } else {
         Ok(0)
@@ -110,6 +109,37 @@ fn served(connections: u64, book: &Result<Settled, SettleError>) -> Result<Serve
             SettleError::Differs(_) => Err(ServeError::Differs),
         },
     }
+}
+
+/// Nobody is notified.
+#[derive(Clone, Copy)]
+struct Unannounced;
+
+impl Ready for Unannounced {
+    fn announce(&mut self) -> bool {
+        true
+    }
+}
+
+/// Serves the connections that a listener takes, until one of them asks for a shutdown (the Gearman PROTOCOL document,
+/// "Administrative Protocol") and all are closed. Names and ids come from strangers, so the book's tables hash with this
+/// seed. Each unit passes the gate. Where the settings ask for a tape, every accepted call is kept on it, and in the end
+/// it is compared with what each connection's desk and pen were told.
+///
+/// `Memory` comes if there is no memory for the book or for its end, and with a tape if there is none to enter the end
+/// of a connection, which stops the server; `Differs` where the tape differs from what was told; `Listen`
+/// where the listener fails. With a tape it answers `Ok` exactly where the two agree.
+pub fn serve<R: Threads + Wait + Clock + Eprint + Sync, G: Gate>(
+    rt: &R,
+    alloc: Global,
+    seed: RandomState,
+    listener: TcpListener,
+    settings: Settings,
+    gate: &G,
+) -> Result<Served, ServeError>
+    ensures { EndsSo settings.config settings.tape result }
+{
+    serve_announced(rt, alloc, seed, listener, settings, gate, &mut Unannounced)
 }
 
 /// The same (`serve`). Once the book is open, and before a connection is taken, `ready` says so; where it can't, the

@@ -3,15 +3,14 @@
 ghost use Rattle.std.specs.Prelude.{◌≡◌, ◌<◌, ◌≤◌, All, [], true, false, None, IfSome, IfNone, length};
 ghost use Rattle.gm_notes.specs.Steps.{Close};
 ghost use Rattle.gm_shared.specs.Calls.{account};
-ghost use Rattle.gm_server.specs.Owners.{Asks, Opens};
+ghost use Rattle.gm_session.specs.Owners.{Asks, Opens};
 
-use crate::effects::{Effects, Notify};
-use crate::gate::Gate;
-use crate::lane::{Lane, is_over};
-use crate::own_desk::OwnDesk;
+use crate::slot::Slot;
 use gm_conns::SlotSet;
+use gm_delivery::{Lane, has_passed};
 use gm_feeder::Limits;
 use gm_notes::{ApplyError, Mode};
+use gm_session::{Effects, Gate, Notify, OwnDesk};
 use gm_shared::{BookName, Desk, Pen, Shared};
 use std::alloc::{AllocError, Global};
 use std::net::TcpStream;
@@ -19,26 +18,26 @@ use std::sync::atomic::{AtomicBool, AtomicU64, Ordering};
 use std::sync::{Arc, Mutex, Wait};
 use std::time::{Clock, Instant};
 
-/// How long a thread that isn't the writer goes on writing to others, in milliseconds. The writers do the rest.
-const DELIVERING_TIME: u64 = 10;
+/// How long a thread that isn't the writer goes on writing to others. The writers do the rest.
+const DELIVERING_TIME_MS: u64 = 10;
 
-/// How long a session goes on before others are told what came of it, in milliseconds.
-const TURN_TIME: u64 = 1;
+/// How long a session goes on before others are notified of what came of it.
+const BATCH_TIME_MS: u64 = 1;
 
 /// What all threads of a server share.
 #[derive(Drop)]
 pub(crate) struct ServerState<K: BookName> {
     pub(crate) alloc: Global,
     pub(crate) shared: Shared<K>,
-    pub(crate) lanes: Vec<Lane<K>>,
-    // Where connections are opened, and the time is told.
-    pub(crate) control: Mutex<OwnDesk<K>>,
+    pub(crate) slots: Vec<Slot<K>>,
     // How many slots the book has.
-    pub(crate) slots: u32,
+    pub(crate) slot_count: u32,
+    // Where connections are opened, and ticks handed in.
+    pub(crate) control: Mutex<OwnDesk<K>>,
     limits: Limits,
     // When the server began, if the clock could be read.
     begun: Option<Instant>,
-    // The last second since then that was told.
+    // The last second since then that was handed in.
     second: AtomicU64,
     // Long pieces pass it one after another.
     long_piece_lock: Mutex<()>,
@@ -46,11 +45,11 @@ pub(crate) struct ServerState<K: BookName> {
     connections: AtomicU64,
     // The server takes no new connections, and ends once there are none.
     is_ending: AtomicBool,
-    // Each connection was told to end.
+    // Each connection was asked to end.
     is_stopped: AtomicBool,
     // There was no memory to enter a connection's end on the tape, so the book still has its slot open.
     out_of_memory: AtomicBool,
-    ghost sized: { slots ≡ K.settings.slots },
+    ghost sized: { slot_count ≡ K.settings.slots },
 }
 
 /// How far a thread is that delivers to others.
@@ -77,33 +76,36 @@ impl Round {
     }
 
     /// Whether the rest is for the writers. It is asked before each slot.
-    fn is_over(&mut self, rt: &impl Clock) -> bool
+    fn leaves_the_rest(&mut self, rt: &impl Clock) -> bool
         ensures begun { self.new.has_begun ≡ true }
         ensures says { self.new.is_late ≡ result }
         ensures first { self.old.has_begun ≡ false → result ≡ self.old.is_late }
         ensures stays { self.old.is_late ≡ true → result ≡ true }
     {
         if self.has_begun && !self.is_late {
-            self.is_late = is_over(rt, &mut self.begun, DELIVERING_TIME);
+            self.is_late = has_passed(rt, &mut self.begun, DELIVERING_TIME_MS);
         }
         self.has_begun = true;
         self.is_late
     }
 }
 
-/// A lane for each slot, in their order.
-fn new_lanes<K: BookName>(
+/// What each slot has of its own, in their order.
+fn new_slots<K: BookName>(
     alloc: Global,
     desks: Vec<Desk<K>>,
     pens: Vec<Pen<K>>,
-) -> Result<Vec<Lane<K>>, AllocError>
+) -> Result<Vec<Slot<K>>, AllocError>
     requires { All (λ desk. desk.front.seen ≡ []) desks.items }
 {
-    let mut lanes = Vec::with_capacity(alloc, desks.len())?;
+    let mut slots = Vec::with_capacity(alloc, desks.len())?;
     for (desk, pen) in desks.into_iter().zip(pens) {
-        lanes.push(Lane::new(alloc, OwnDesk::new(desk), pen)?)?;
+        slots.push(Slot {
+            desk: Mutex::new(OwnDesk::new(desk)),
+            lane: Lane::new(alloc, pen)?,
+        })?;
     }
-    Ok(lanes)
+    Ok(slots)
 }
 
 impl<K: BookName> ServerState<K> {
@@ -115,19 +117,19 @@ impl<K: BookName> ServerState<K> {
         desks: Vec<Desk<K>>,
         pens: Vec<Pen<K>>,
         control: OwnDesk<K>,
-        slots: u32,
+        slot_count: u32,
         limits: Limits,
     ) -> Result<ServerState<K>, AllocError>
-        requires sized { slots ≡ K.settings.slots }
+        requires sized { slot_count ≡ K.settings.slots }
         requires nothing_seen { All (λ desk. desk.front.seen ≡ []) desks.items }
     {
-        let lanes = new_lanes(alloc, desks, pens)?;
+        let slots = new_slots(alloc, desks, pens)?;
         Ok(ServerState {
             alloc,
             shared,
-            lanes,
-            control: Mutex::new(control),
             slots,
+            slot_count,
+            control: Mutex::new(control),
             limits,
             begun: Instant::now(rt).ok(),
             second: AtomicU64::new(0),
@@ -151,15 +153,15 @@ impl<K: BookName> ServerState<K> {
         &self.shared
     }
 
-    pub(crate) fn lane(&self, slot: u32) -> Option<&Lane<K>>
-        ensures some { IfSome result (λ _. slot < length self.now.lanes.items) }
-        ensures none { IfNone result (length self.now.lanes.items ≤ slot) }
+    pub(crate) fn slot(&self, number: u32) -> Option<&Slot<K>>
+        ensures some { IfSome result (λ _. number < length self.now.slots.items) }
+        ensures none { IfNone result (length self.now.slots.items ≤ number) }
     {
-        self.lanes.get(slot as usize)
+        self.slots.get(number as usize)
     }
 
     /// Whether the server takes no new connections, and has none; or it ran out of memory at the end of one.
-    pub(crate) fn is_over(&self) -> bool {
+    pub(crate) fn has_ended(&self) -> bool {
         self.out_of_memory() || self.is_ending.load(Ordering::SeqCst) && !self.has_connections()
     }
 
@@ -188,22 +190,22 @@ impl<K: BookName> ServerState<K> {
         if self.is_stopped.swap(true, Ordering::SeqCst) {
             return;
         }
-        for lane in &self.lanes {
-            lane.stop();
+        for slot in &self.slots {
+            slot.lane.stop();
         }
     }
 
     /// Touches the lane of a slot, and delivers where nobody else does; or has its writer do so, where the round is over.
-    fn touch<R: Wait + Clock>(&self, rt: &R, slot: u32, round: &mut Round)
+    fn touch<R: Wait + Clock>(&self, rt: &R, number: u32, round: &mut Round)
         ensures { round.old.is_late ≡ true → round.new.is_late ≡ true }
     {
-        let Some(lane) = self.lane(slot) else {
+        let Some(slot) = self.slot(number) else {
             return;
         };
-        if round.is_over(rt) {
-            lane.touch_for_writer();
+        if round.leaves_the_rest(rt) {
+            slot.lane.touch_for_writer();
         } else {
-            round.is_late = lane.touch(rt, &self.shared);
+            round.is_late = slot.lane.touch(rt, &self.shared);
         }
     }
 
@@ -222,8 +224,8 @@ impl<K: BookName> ServerState<K> {
         }
     }
 
-    /// Tells what came of an event.
-    fn tell<R: Wait + Clock>(&self, rt: &R, touched: &SlotSet, mode: Mode) {
+    /// Notifies others of what came of an event.
+    fn notify_of<R: Wait + Clock>(&self, rt: &R, touched: &SlotSet, mode: Mode) {
         let mut effects = Effects::new(None);
         effects.add(touched, mode);
         self.notify(rt, &effects);
@@ -241,7 +243,7 @@ impl<K: BookName> ServerState<K> {
     {
         let mut touched = SlotSet::new();
         let receipt = desk.open(rt, &self.shared, addr, &mut touched).ok()?;
-        self.tell(rt, &touched, receipt.mode);
+        self.notify_of(rt, &touched, receipt.mode);
         receipt.done.opened
     }
 
@@ -251,8 +253,8 @@ impl<K: BookName> ServerState<K> {
         Some(elapsed.as_secs())
     }
 
-    /// Tells the book the second, if it is later than the last that was told. A clock that can't be read tells nothing.
-    pub(crate) fn tell_time<R: Wait + Clock>(&self, rt: &R) {
+    /// Hands in the present second, if it is later than the last that was. Where the clock can't be read, there is no tick.
+    pub(crate) fn update_time<R: Wait + Clock>(&self, rt: &R) {
         if let Some(now) = self.seconds(rt) {
             if self.second.load(Ordering::SeqCst) < now {
                 self.tick(rt, now);
@@ -260,7 +262,7 @@ impl<K: BookName> ServerState<K> {
         }
     }
 
-    /// Tells the book this second, unless another thread was first. If there is no memory for that, the book gets the next
+    /// Hands in this second, unless another thread was first. If there is no memory for that, the book gets the next
     /// second.
     fn tick<R: Wait + Clock>(&self, rt: &R, now: u64) {
         let mut touched = SlotSet::new();
@@ -273,7 +275,7 @@ impl<K: BookName> ServerState<K> {
         self.second.store(now, Ordering::SeqCst);
         drop(desk);
         if let Ok(receipt) = outcome {
-            self.tell(rt, &touched, receipt.mode);
+            self.notify_of(rt, &touched, receipt.mode);
         }
     }
 
@@ -285,16 +287,16 @@ impl<K: BookName> ServerState<K> {
     {
         let mut touched = SlotSet::new();
         match desk.close(rt, &self.shared, &mut touched) {
-            Ok(receipt) => self.tell(rt, &touched, receipt.mode),
+            Ok(receipt) => self.notify_of(rt, &touched, receipt.mode),
             Err(ApplyError::Memory) => self.out_of_memory.store(true, Ordering::SeqCst),
             Err(_) => {}
         }
     }
 
     /// Closes a slot whose connection couldn't start.
-    pub(crate) fn close_slot<R: Wait + Clock>(&self, rt: &R, slot: u32) {
-        if let Some(lane) = self.lane(slot) {
-            let mut desk = lane.desk.lock(rt);
+    pub(crate) fn close_slot<R: Wait + Clock>(&self, rt: &R, number: u32) {
+        if let Some(slot) = self.slot(number) {
+            let mut desk = slot.desk.lock(rt);
             self.close(rt, &mut desk);
         }
     }
@@ -304,12 +306,12 @@ impl<K: BookName> ServerState<K> {
         &self,
         rt: &R,
         gate: &G,
-        lane: &Lane<K>,
+        slot: &Slot<K>,
         stream: &Arc<TcpStream, Global>,
     ) {
-        let mut desk = lane.desk.lock(rt);
+        let mut desk = slot.desk.lock(rt);
         if let Ok(sending) = Arc::try_clone(stream) {
-            lane.begin(rt, &self.shared, sending);
+            slot.lane.begin(rt, &self.shared, sending);
             let mut reader: &TcpStream = stream;
             desk.read(
                 &*rt,
@@ -320,21 +322,18 @@ impl<K: BookName> ServerState<K> {
                 &*gate,
                 &*self,
             );
-            lane.end(rt);
+            slot.lane.end(rt);
         }
         self.close(rt, &mut desk);
     }
 
     /// Runs a slot's reader, connection after connection, until none comes any more.
-    pub(crate) fn run_reader<R: Wait + Clock, G: Gate>(&self, rt: &R, gate: &G, slot: u32) {
-        let Some(lane) = self.lane(slot) else {
-            return;
-        };
+    pub(crate) fn run_reader<R: Wait + Clock, G: Gate>(&self, rt: &R, gate: &G, slot: &Slot<K>) {
         for _ in rt.forever() {
-            let Some(stream) = lane.next_stream(rt) else {
+            let Some(stream) = slot.lane.next_stream(rt) else {
                 break;
             };
-            self.read(rt, gate, lane, &stream);
+            self.read(rt, gate, slot, &stream);
             drop(stream);
             self.end();
         }
@@ -342,8 +341,8 @@ impl<K: BookName> ServerState<K> {
 
     /// Has the threads of each slot end, once they have no connection.
     pub(crate) fn dismiss(&self, rt: &impl Wait) {
-        for lane in &self.lanes {
-            lane.dismiss(rt);
+        for slot in &self.slots {
+            slot.lane.dismiss(rt);
         }
     }
 }
@@ -354,11 +353,11 @@ impl<K: BookName, R: Wait + Clock> Notify<R> for ServerState<K> {
     }
 
     fn is_time(&self, rt: &R, begun: &mut Option<Instant>) -> bool {
-        is_over(rt, begun, TURN_TIME)
+        has_passed(rt, begun, BATCH_TIME_MS)
     }
 
-    fn tell_time(&self, rt: &R) {
-        ServerState::tell_time(self, rt);
+    fn update_time(&self, rt: &R) {
+        ServerState::update_time(self, rt);
     }
 
     fn notify(&self, rt: &R, effects: &Effects) {

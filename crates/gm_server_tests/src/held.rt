@@ -62,16 +62,16 @@ impl Hold {
 }
 
 impl Gate for Hold {
-    fn pass<R: Wait>(&self, _rt: &R, slot: u32, turn: u64) {
+    fn pass<R: Wait>(&self, _rt: &R, slot: u32, index: u64) {
         if slot != 0 {
             return;
         }
-        if turn == self.from / 2 {
+        if index == self.from / 2 {
             for _ in 0..20_000u32 {
                 thread::yield_now();
             }
         }
-        if turn < self.from {
+        if index < self.from {
             return;
         }
         for _ in 0..1_000_000u32 {

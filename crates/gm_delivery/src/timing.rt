@@ -1,0 +1,23 @@
+//! How long something has gone on.
+
+ghost use Rattle.std.specs.Prelude.{◌≡◌, Some, None, IfSome, is_none};
+
+use std::time::{Clock, Duration, Instant};
+
+/// Whether this many milliseconds have passed since this was first asked; `begun` keeps when that was. If the clock can't be
+/// read, they have.
+pub fn has_passed(rt: &impl Clock, begun: &mut Option<Instant>, time_ms: u64) -> bool
+    ensures keeps { IfSome begun.old (λ first. begun.new ≡ Some first) }
+    ensures first { begun.old ≡ None → result ≡ is_none begun.new }
+{
+    match begun {
+        Some(begun) => match begun.elapsed(rt) {
+            Ok(elapsed) => elapsed >= Duration::from_millis(time_ms),
+            Err(_) => true,
+        },
+        None => {
+            *begun = Instant::now(rt).ok();
+            begun.is_none()
+        }
+    }
+}

@@ -1,5 +1,0 @@
-use Rattle.gm_server.proofs.Owning.{own_event}
-use Rattle.gm_server.proofs.own_desk.OwnDesk.apply.Goals as goal
-
-pub invariant_of-self : goal.invariant_of-self
-invariant_of-self g c = record { own = own_event _ _ _ _ _ _ c.apply_with.ensures.number c.requires.own c.apply_with.ensures.hands c.args.self.now.own }

@@ -1,0 +1,233 @@
+-- What a session hands in, unit after unit and piece after piece.
+use Rattle.std.proofs.Common.{◌≡◌, ℕ, Bool, List, [], ◌∷◌, ◌++◌, map, Option, Some, None, Ok, Err, length}
+use Rattle.std.proofs.Common.{refl, sym, ap, ap₂, subst, ◌∙◌, arith, length-append}
+use Rattle.std.specs.Prelude.{IfSome}
+use Rattle.std.proofs.lemmas.List.{append-nil, append_assoc, map-append, reverse-append}
+use Rattle.std.specs.Io.KnownBytes.{Consumes}
+use Rattle.gm_feeder.specs.declared.units.Limits.{Limits}
+use Rattle.gm_feeder.specs.Units.{Item, IsUnitThen, Waits}
+use Rattle.gm_feeder.specs.Streams.{Stream, GivesUnit, GivesNone, TakesIn, with_bytes}
+use Rattle.gm_feeder.proofs.HeadLemmas.{empty_goes_on}
+use Rattle.gm_feeder.proofs.StreamLemmas.{unit_not_empty}
+use Rattle.gm_notes.specs.declared.event.UnitFault.{UnitFault}
+use Rattle.gm_notes.specs.Settings.{Settings}
+use Rattle.gm_notes.specs.Steps.{Step, Fault}
+use Rattle.gm_front.specs.Units.{step_of_unit, steps_of, IsFaultAt, BeginsWith, GivesEvent, GivesFaultAs}
+use Rattle.gm_front.proofs.Heads.{begins_then, begins_stay, begins_more}
+use Rattle.gm_shared.specs.declared.tape.Entry.{Entry}
+use Rattle.gm_shared.proofs.Sharing.{events_of_more}
+use Rattle.gm_session.specs.declared.session.SessionEnd.{SessionEnd}
+use Rattle.gm_session.specs.declared.session.SessionEnd.TheVariants as ends
+use Rattle.gm_session.specs.declared.session.Taken.TheVariants.{Unit as AUnit, Nothing}
+use Rattle.gm_session.specs.Sessions.{Adds, HandsIn, Reads, Applies, Stops, TakesNext, Unloads, Breaks, IsShutBy, StandsNext, unit, broken}
+
+-- ---- events handed in, one after another
+
+pub adds_none : (desk : ℕ) (seen : List Entry) → Adds desk [] seen seen
+adds_none desk seen = record { newer = []; goes_on = refl; events_are = refl }
+
+adds_then : (desk : ℕ) (xs ys : List Step) (seen mid after : List Entry) → Adds desk xs seen mid → Adds desk ys mid after → Adds desk (xs ++ ys) seen after
+adds_then desk xs ys seen mid after a b = record {
+  newer = b.newer ++ a.newer;
+  goes_on = b.goes_on ∙ (ap (λ l. b.newer ++ l) a.goes_on ∙ sym (append_assoc b.newer a.newer seen));
+  events_are = events_of_more desk b.newer a.newer ∙ (ap₂ (λ l m. l ++ m) b.events_are a.events_are ∙ sym (reverse-append xs ys));
+}
+
+adds_same : (desk : ℕ) (xs ys : List Step) (seen after : List Entry) → xs ≡ ys → Adds desk xs seen after → Adds desk ys seen after
+adds_same desk xs ys seen after e a = subst (λ zs. Adds desk zs seen after) e a
+
+-- the steps of units, and then more
+steps_then : (c : ℕ) (items more : List Item) (fault : Option UnitFault) → map (step_of_unit c) items ++ steps_of c more fault ≡ steps_of c (items ++ more) fault
+steps_then c [] more fault = refl
+steps_then c (item ∷ items) more fault = ap (λ steps. step_of_unit c item ∷ steps) (steps_then c items more fault)
+
+-- ---- a feeder that is emptied
+
+-- these units were handed in
+pub record Handed (desk c : ℕ) (limits : Limits) (bytes rest : List ℕ) (seen after : List Entry) : Type 0 where
+  pub items : List Item
+  pub begins : BeginsWith limits bytes items rest
+  pub adds : Adds desk (map (step_of_unit c) items) seen after
+
+pub handed_none : (desk c : ℕ) (limits : Limits) (bytes : List ℕ) (seen : List Entry) → Handed desk c limits bytes bytes seen seen
+handed_none desk c limits bytes seen = record { items = []; begins = refl; adds = adds_none desk seen }
+
+-- what was handed in, with the fault that stands behind it or without
+hands : (desk c : ℕ) (limits : Limits) (bytes rest : List ℕ) (fault : Option UnitFault) (seen mid after : List Entry) → Handed desk c limits bytes rest seen mid
+    → IfSome fault (λ fault. IsFaultAt limits rest fault) → Adds desk (steps_of c [] fault) mid after → HandsIn desk c limits bytes rest fault seen after
+hands desk c limits bytes rest fault seen mid after h stands adds = record {
+  items = h.items;
+  begins = h.begins;
+  stands = stands;
+  adds = adds_then desk (map (step_of_unit c) h.items) (steps_of c [] fault) seen mid after h.adds adds;
+}
+
+-- some units of the feeder were handed in, and the rest stands there still
+pub record Unloading (desk c : ℕ) (old : Stream) (seen after : List Entry) (new : Stream) : Type 0 where
+  pub handed : Handed desk c old.limits old.pending new.pending seen after
+  pub limited : new.limits ≡ old.limits
+
+pub unloading_none : (desk c : ℕ) (old : Stream) (seen : List Entry) → Unloading desk c old seen seen old
+unloading_none desk c old seen = record { handed = handed_none desk c old.limits old.pending seen; limited = refl }
+
+module _ (k : Settings) (taped : Bool) (desk c : ℕ) (old : Stream) (seen mid_seen after : List Entry) (mid new : Stream) (u : Unloading desk c old seen mid_seen mid) where
+  pub unloading_more : (is_line : Bool) → TakesNext k taped desk c mid (Ok (AUnit is_line)) mid_seen after new → Unloading desk c old seen after new
+  unloading_more is_line t = record {
+    handed = record {
+      items = u.handed.items ++ t.0 ∷ [];
+      begins = begins_more old.limits old.pending u.handed.items t.0 mid new u.limited u.handed.begins t.1;
+      adds = adds_same desk (map (step_of_unit c) u.handed.items ++ step_of_unit c t.0 ∷ []) (map (step_of_unit c) (u.handed.items ++ t.0 ∷ [])) seen after
+          (sym (map-append (step_of_unit c) u.handed.items (t.0 ∷ [])))
+          (adds_then desk (map (step_of_unit c) u.handed.items) (step_of_unit c t.0 ∷ []) seen mid_seen after u.handed.adds t.2);
+    };
+    limited = ap (λ (s : Stream). s.limits) t.1.kept ∙ u.limited;
+  }
+
+  pub unloads_all : TakesNext k taped desk c mid (Ok Nothing) mid_seen after new → Unloads k taped desk c old (Ok tt) seen after new
+  unloads_all t = record {
+    hands = hands desk c old.limits old.pending new.pending None seen mid_seen after
+        (subst (λ (s : Stream). Handed desk c old.limits old.pending s.pending seen mid_seen) (sym t.0.kept) u.handed) tt
+        (subst (λ (l : List Entry). Adds desk [] mid_seen l) (sym t.1) (adds_none desk mid_seen));
+    waits = subst (λ (s : Stream). Waits old.limits s.pending) (sym t.0.kept) (subst (λ (l : Limits). Waits l mid.pending) u.limited t.0.waits);
+    limited = ap (λ (s : Stream). s.limits) t.0.kept ∙ u.limited;
+  }
+
+  -- the unit that stands there was refused, or the fault was applied
+  pub unloads_stops : (end : SessionEnd) → Stops k taped desk c mid end mid_seen after → Unloads k taped desk c old (Err end) seen after new
+  unloads_stops end t = record {
+    rest = mid.pending;
+    fault = t.fault;
+    hands = hands desk c old.limits old.pending mid.pending t.fault seen mid_seen after u.handed
+        (subst (λ (l : Limits). IfSome t.fault (λ fault. IsFaultAt l mid.pending fault)) u.limited t.stands) t.adds;
+    broken = t.broken;
+    shut = λ is. subst (λ (l : Limits). IsShutBy k taped desk c l mid.pending t.fault after) u.limited (t.shut is);
+  }
+
+-- ---- the next unit
+
+module _ (k : Settings) (taped : Bool) (desk c : ℕ) (old mid new : Stream) (seen after : List Entry) (same : mid ≡ old) where
+  pub next_unit : (s : Step) (is_line : Bool) → GivesEvent c mid s new → Applies k taped desk s (Ok tt) seen after → TakesNext k taped desk c old (Ok (AUnit is_line)) seen after new
+  next_unit s is_line g applies =
+      (g.item, subst (λ (m : Stream). GivesUnit m g.item new) same g.gives, adds_same desk (s ∷ []) (step_of_unit c g.item ∷ []) seen after (ap (λ (x : Step). x ∷ []) g.is_step) applies)
+
+  pub next_none : GivesNone mid new → after ≡ seen → TakesNext k taped desk c old (Ok Nothing) seen after new
+  next_none g left = (subst (λ (m : Stream). GivesNone m new) same g, left)
+
+  fault_stands : (fault : UnitFault) → GivesFaultAs mid fault new → IsFaultAt old.limits old.pending fault
+  fault_stands fault g = subst (λ (m : Stream). IsFaultAt m.limits m.pending fault) same (record { fed = g.fed; named = g.named; stands = g.gives.stands })
+
+  pub next_fault : (fault : UnitFault) → GivesFaultAs mid fault new → Applies k taped desk (Fault c fault) (Ok tt) seen after → Stops k taped desk c old ends.Shut seen after
+  next_fault fault g applies = record {
+    fault = Some fault;
+    stands = fault_stands fault g;
+    adds = applies;
+    broken = λ whole. whole;
+    shut = λ is. tt;
+  }
+
+  -- a unit or a fault that was refused
+  stops : (s : Step) (end : SessionEnd) → StandsNext c old.limits old.pending s → Applies k taped desk s (Err end) seen after → Stops k taped desk c old end seen after
+  stops s end stands applies = record { fault = None; stands = tt; adds = applies.0; broken = applies.1; shut = λ is. (s, stands, applies.2 is) }
+
+  pub unit_stops : (s : Step) (end : SessionEnd) → GivesEvent c mid s new → Applies k taped desk s (Err end) seen after → Stops k taped desk c old end seen after
+  unit_stops s end g applies =
+      stops s end (subst (λ (x : Step). StandsNext c old.limits old.pending x) (sym g.is_step)
+      (unit g.item new.pending (subst (λ (m : Stream). IsUnitThen m.limits m.pending g.item new.pending) same g.gives.unit))) applies
+
+  pub fault_stops : (fault : UnitFault) (end : SessionEnd) → GivesFaultAs mid fault new → Applies k taped desk (Fault c fault) (Err end) seen after → Stops k taped desk c old end seen after
+  fault_stops fault end g applies = stops (Fault c fault) end (broken fault (fault_stands fault g)) applies
+
+-- a packet that was taken with its memory was refused
+pub packet_stops : (k : Settings) (taped : Bool) (desk c : ℕ) (old new : Stream) (item : Item) (s : Step) (end : SessionEnd) (seen after : List Entry) → s ≡ step_of_unit c item → GivesUnit old item new
+    → Applies k taped desk s (Err end) seen after → Stops k taped desk c old end seen after
+packet_stops k taped desk c old new item s end seen after is g applies =
+    unit_stops k taped desk c old old new seen after refl s end (record { item = item; is_step = is; gives = g }) applies
+
+-- ---- a session
+
+consumes_then : (a b c : Option (List ℕ)) (xs ys : List ℕ) → Consumes a b xs → Consumes b c ys → Consumes a c (xs ++ ys)
+consumes_then None b c xs ys f s = tt
+consumes_then (Some xa) None c xs ys f s = absurd f
+consumes_then (Some xa) (Some xb) None xs ys f s = absurd s
+consumes_then (Some xa) (Some xb) (Some xc) xs ys f s = f ∙ (ap (λ zs. xs ++ zs) s ∙ sym (append_assoc xs ys xc))
+
+pub consumes_none : (a : Option (List ℕ)) → Consumes a a []
+consumes_none None = tt
+consumes_none (Some xa) = refl
+
+-- so much was read, and all of it that is a unit was handed in
+pub record Reading (desk c : ℕ) (limits : Limits) (old now : Option (List ℕ)) (seen after : List Entry) (feeder : Stream) : Type 0 where
+  pub read : List ℕ
+  pub consumes : Consumes old now read
+  pub limited : feeder.limits ≡ limits
+  pub handed : Handed desk c limits read feeder.pending seen after
+  pub waits : Waits limits feeder.pending
+
+-- nothing stands at the end of no bytes
+waits_none : (limits : Limits) → Waits limits []
+waits_none limits = record {
+  no_unit = λ item after u. let some = unit_not_empty limits u.whole item u.unit in omega (arith, some, ap length u.joined, length-append u.whole after);
+  goes_on = empty_goes_on limits [] (omega arith) refl;
+}
+
+pub reading_none : (desk c : ℕ) (old : Option (List ℕ)) (seen : List Entry) (feeder : Stream) → feeder.pending ≡ [] → Reading desk c feeder.limits old old seen seen feeder
+reading_none desk c old seen feeder empty = record {
+  read = [];
+  consumes = consumes_none old;
+  limited = refl;
+  handed = subst (λ rest. Handed desk c feeder.limits [] rest seen seen) (sym empty) (handed_none desk c feeder.limits [] seen);
+  waits = subst (λ rest. Waits feeder.limits rest) (sym empty) (waits_none feeder.limits);
+}
+
+module _ (k : Settings) (taped : Bool) (desk c : ℕ) (limits : Limits) (old now new : Option (List ℕ)) (seen mid after : List Entry) (feeder : Stream) (r : Reading desk c limits old now seen mid feeder) where
+  -- more units, and the fault behind them, after those that were handed in
+  hands_more : (piece rest : List ℕ) (fault : Option UnitFault) → HandsIn desk c feeder.limits (feeder.pending ++ piece) rest fault mid after → HandsIn desk c limits (r.read ++ piece) rest fault seen after
+  hands_more piece rest fault h =
+      let begins = subst (λ (l : Limits). BeginsWith l (feeder.pending ++ piece) h.items rest) r.limited h.begins in
+      record {
+        items = r.handed.items ++ h.items;
+        begins = begins_then limits (r.read ++ piece) (feeder.pending ++ piece) rest r.handed.items h.items (begins_stay limits r.read feeder.pending piece r.handed.items r.handed.begins) begins;
+        stands = subst (λ (l : Limits). IfSome fault (λ fault. IsFaultAt l rest fault)) r.limited h.stands;
+        adds = adds_same desk (map (step_of_unit c) r.handed.items ++ steps_of c h.items fault) (steps_of c (r.handed.items ++ h.items) fault) seen after
+            (steps_then c r.handed.items h.items fault) (adds_then desk (map (step_of_unit c) r.handed.items) (steps_of c h.items fault) seen mid after r.handed.adds h.adds);
+      }
+
+  pub reading_more : (n d : ℕ) → n ≡ desk → d ≡ c → (len : ℕ) (fed next : Stream) → TakesIn now new feeder fed len → Unloads k taped n d fed (Ok tt) mid after next → Reading desk c limits old new seen after next
+  reading_more n d same here len fed next came taken =
+      let t = subst (λ (slot : ℕ). Unloads k taped desk slot (with_bytes feeder came.piece) (Ok tt) mid after next) here
+      (subst (λ (i : ℕ). Unloads k taped i d (with_bytes feeder came.piece) (Ok tt) mid after next) same (subst (λ (s : Stream). Unloads k taped n d s (Ok tt) mid after next) came.kept taken)) in
+      let more = hands_more came.piece next.pending None t.hands in
+      record {
+        read = r.read ++ came.piece;
+        consumes = consumes_then old now new r.read came.piece r.consumes came.consumes;
+        limited = t.limited ∙ r.limited;
+        handed = record { items = more.items; begins = more.begins; adds = adds_same desk (steps_of c more.items None) (map (step_of_unit c) more.items) seen after (append-nil (map (step_of_unit c) more.items)) more.adds };
+        waits = subst (λ (l : Limits). Waits l next.pending) r.limited t.waits;
+      }
+
+  pub reading_ends : (end : SessionEnd) → Consumes now new [] × (end ≡ ends.Shut → ⊥) → Reads k taped desk c limits old new end seen mid
+  reading_ends end kept = record {
+    read = r.read ++ [];
+    consumes = consumes_then old now new r.read [] r.consumes kept.0;
+    rest = feeder.pending;
+    fault = None;
+    hands = hands desk c limits (r.read ++ []) feeder.pending None seen mid mid
+        (subst (λ bytes. Handed desk c limits bytes feeder.pending seen mid) (sym (append-nil r.read)) r.handed) tt (adds_none desk mid);
+    whole = λ w. (refl, r.waits);
+    shut = λ is. absurd (kept.1 is);
+  }
+
+  pub reading_breaks : (n d : ℕ) → n ≡ desk → d ≡ c → (len : ℕ) (fed next : Stream) (end : SessionEnd) → TakesIn now new feeder fed len → Unloads k taped n d fed (Err end) mid after next
+      → Reads k taped desk c limits old new end seen after
+  reading_breaks n d same here len fed next end came taken =
+      let t = subst (λ (slot : ℕ). Breaks k taped desk slot feeder.limits (feeder.pending ++ came.piece) end mid after) here
+      (subst (λ (i : ℕ). Breaks k taped i d feeder.limits (feeder.pending ++ came.piece) end mid after) same (subst (λ (s : Stream). Unloads k taped n d s (Err end) mid after next) came.kept taken)) in
+      record {
+        read = r.read ++ came.piece;
+        consumes = consumes_then old now new r.read came.piece r.consumes came.consumes;
+        rest = t.rest;
+        fault = t.fault;
+        hands = hands_more came.piece t.rest t.fault t.hands;
+        whole = λ w. absurd (t.broken w);
+        shut = λ is. subst (λ (l : Limits). IsShutBy k taped desk c l t.rest t.fault after) r.limited (t.shut is);
+      }

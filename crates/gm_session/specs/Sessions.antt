@@ -1,0 +1,120 @@
+-- What a session reads, and what it hands in of that.
+use Rattle.std.specs.Prelude.{◌≡◌, ℕ, Bool, List, [], ◌∷◌, reverse, Option, Some, None, IfSome, Result, Ok, Err}
+use Rattle.std.specs.Io.KnownBytes.{Consumes}
+use Rattle.gm_feeder.specs.declared.units.Limits.{Limits}
+use Rattle.gm_feeder.specs.Units.{Item, IsUnitThen, Waits}
+use Rattle.gm_feeder.specs.Streams.{Stream, TakesIn, GivesUnit, GivesNone}
+use Rattle.gm_notes.specs.declared.event.UnitFault.{UnitFault}
+use Rattle.gm_notes.specs.declared.event.ApplyError.{ApplyError}
+use Rattle.gm_notes.specs.declared.event.ApplyError.TheVariants as refusals
+use Rattle.gm_notes.specs.Settings.{Settings}
+use Rattle.gm_notes.specs.Steps.{Step, Fault}
+use Rattle.gm_front.specs.Units.{step_of_unit, fault_steps, steps_of, IsFaultAt, BeginsWith}
+use Rattle.gm_shared.specs.declared.tape.Entry.{Entry}
+use Rattle.gm_shared.specs.Calls.{Account, Called, HandedIn}
+use Rattle.gm_session.specs.declared.session.SessionEnd.{SessionEnd}
+use Rattle.gm_session.specs.declared.session.SessionEnd.TheVariants as ends
+use Rattle.gm_session.specs.declared.session.Taken.{Taken}
+use Rattle.gm_session.specs.declared.session.Taken.TheVariants.{Unit as AUnit, Nothing}
+
+-- a read took this count of bytes of the input into the feeder, or none
+abbrev pub IsPiece : Option (List ℕ) → Option (List ℕ) → Stream → Stream → Result ℕ SessionEnd → Type 0
+IsPiece input rest old new (Ok len) = TakesIn input rest old new len
+IsPiece input rest old new (Err end) = Consumes input rest [] × (end ≡ ends.Shut → ⊥)
+
+-- The history goes on from what a desk had seen, and meanwhile the desk handed in these events, in order.
+abbrev pub Adds : ℕ → List Step → List Entry → List Entry → Type 0
+Adds desk steps seen after = HandedIn desk (reverse steps) seen after
+
+-- The events that a desk handed in meanwhile are the first units of these bytes, in order, and then the fault behind them, or none.
+pub record HandsIn (desk c : ℕ) (limits : Limits) (bytes rest : List ℕ) (fault : Option UnitFault) (seen after : List Entry) : Type 0 where
+  pub items : List Item
+  pub begins : BeginsWith limits bytes items rest
+  pub stands : IfSome fault (λ fault. IsFaultAt limits rest fault)
+  pub adds : Adds desk (steps_of c items fault) seen after
+
+-- the input is used up, or the reader failed, or it read as many pieces as it may
+abbrev pub IsWhole : SessionEnd → Type 0
+IsWhole ends.Ended = Unit {0}
+IsWhole ends.ReadFault = Unit {0}
+IsWhole ends.Shut = ⊥
+IsWhole ends.Memory = ⊥
+IsWhole ends.Turns = Unit {0}
+
+-- ---- why a session found its slot shut
+
+-- the event was handed in at this desk, and the book refused it for another reason than memory
+pub record Refuses (k : Settings) (taped : Bool) (s : Step) (desk : ℕ) (after : List Entry) : Type 0 where
+  pub error : ApplyError
+  pub before : Account
+  pub now : Account
+  pub called : Called k taped s desk (Err error) before now
+  pub seen_is : now.seen ≡ after
+  pub reason : error ≡ refusals.Memory → ⊥
+
+-- this event of slot c comes next in the bytes
+pub data StandsNext (c : ℕ) (limits : Limits) (bytes : List ℕ) : Step → Type 0 where
+  unit : (item : Item) (later : List ℕ) → IsUnitThen limits bytes item later → StandsNext c limits bytes (step_of_unit c item)
+  broken : (fault : UnitFault) → IsFaultAt limits bytes fault → StandsNext c limits bytes (Fault c fault)
+
+-- The fault at the rest was handed in; or the book refused what comes there.
+abbrev pub IsShutBy : Settings → Bool → ℕ → ℕ → Limits → List ℕ → Option UnitFault → List Entry → Type 0
+IsShutBy k taped desk c limits rest (Some fault) after = Unit {0}
+IsShutBy k taped desk c limits rest None after = (s : Step) × StandsNext c limits rest s × Refuses k taped s desk after
+
+-- ---- a session
+
+-- What a session read of its input, and what it handed in of that: all units and no fault, where the input is used up,
+-- the reader failed or it read as many pieces as it may; then there is no unit at the rest, and no fault. Where it
+-- found its slot shut, why.
+pub record Reads (k : Settings) (taped : Bool) (desk c : ℕ) (limits : Limits) (old new : Option (List ℕ)) (end : SessionEnd) (seen after : List Entry) : Type 0 where
+  pub read : List ℕ
+  pub consumes : Consumes old new read
+  pub rest : List ℕ
+  pub fault : Option UnitFault
+  pub hands : HandsIn desk c limits read rest fault seen after
+  pub whole : IsWhole end → (fault ≡ None) × Waits limits rest
+  pub shut : end ≡ ends.Shut → IsShutBy k taped desk c limits rest fault after
+
+-- ---- in small
+
+-- an event was applied, or nothing was and the session is over
+abbrev pub Applies : Settings → Bool → ℕ → Step → Result (Unit {0}) SessionEnd → List Entry → List Entry → Type 0
+Applies k taped desk s (Ok done) seen after = Adds desk (s ∷ []) seen after
+Applies k taped desk s (Err end) seen after = Adds desk [] seen after × (IsWhole end → ⊥) × (end ≡ ends.Shut → Refuses k taped s desk after)
+
+-- the fault that comes next was applied, or nothing was, and the session is over
+pub record Stops (k : Settings) (taped : Bool) (desk c : ℕ) (old : Stream) (end : SessionEnd) (seen after : List Entry) : Type 0 where
+  pub fault : Option UnitFault
+  pub stands : IfSome fault (λ fault. IsFaultAt old.limits old.pending fault)
+  pub adds : Adds desk (fault_steps c fault) seen after
+  pub broken : IsWhole end → ⊥
+  pub shut : end ≡ ends.Shut → IsShutBy k taped desk c old.limits old.pending fault after
+
+-- what becomes of the next unit: it was applied; or there is none, and more bytes are waited for; or the session is over
+abbrev pub TakesNext : Settings → Bool → ℕ → ℕ → Stream → Result Taken SessionEnd → List Entry → List Entry → Stream → Type 0
+TakesNext k taped desk c old (Ok (AUnit is_line)) seen after new = (item : Item) × GivesUnit old item new × Adds desk (step_of_unit c item ∷ []) seen after
+TakesNext k taped desk c old (Ok Nothing) seen after new = GivesNone old new × (after ≡ seen)
+TakesNext k taped desk c old (Err end) seen after new = Stops k taped desk c old end seen after
+
+-- after a piece more bytes are waited for
+pub record GoesOn (desk c : ℕ) (limits : Limits) (bytes : List ℕ) (seen after : List Entry) (new : Stream) : Type 0 where
+  pub hands : HandsIn desk c limits bytes new.pending None seen after
+  pub waits : Waits limits new.pending
+  pub limited : new.limits ≡ limits
+
+-- after a piece the session is over
+pub record Breaks (k : Settings) (taped : Bool) (desk c : ℕ) (limits : Limits) (bytes : List ℕ) (end : SessionEnd) (seen after : List Entry) : Type 0 where
+  pub rest : List ℕ
+  pub fault : Option UnitFault
+  pub hands : HandsIn desk c limits bytes rest fault seen after
+  pub broken : IsWhole end → ⊥
+  pub shut : end ≡ ends.Shut → IsShutBy k taped desk c limits rest fault after
+
+-- what becomes of these bytes
+abbrev pub Takes : Settings → Bool → ℕ → ℕ → Limits → List ℕ → Result (Unit {0}) SessionEnd → List Entry → List Entry → Stream → Type 0
+Takes k taped desk c limits bytes (Ok done) seen after new = GoesOn desk c limits bytes seen after new
+Takes k taped desk c limits bytes (Err end) seen after new = Breaks k taped desk c limits bytes end seen after
+
+abbrev pub Unloads : Settings → Bool → ℕ → ℕ → Stream → Result (Unit {0}) SessionEnd → List Entry → List Entry → Stream → Type 0
+Unloads k taped desk c old outcome seen after new = Takes k taped desk c old.limits old.pending outcome seen after new

@@ -1,0 +1,142 @@
+//! A desk at which no other slot's connection speaks.
+
+ghost use Rattle.std.specs.Prelude.{◌≡◌, true, false, []};
+ghost use Rattle.std.specs.Result.{IsErrOf};
+ghost use Rattle.std.specs.Io.KnownBytes.{IsAtEnd};
+ghost use Rattle.gm_notes.specs.Servers.{step_of, IsSized};
+ghost use Rattle.gm_notes.specs.Steps.{Open, Close, Tick};
+ghost use Rattle.gm_shared.specs.Books.{NeedsNoMemory};
+ghost use Rattle.gm_shared.specs.Calls.{DeskCalled, HandedIn, if_taken, account};
+ghost use Rattle.gm_session.specs.Owners.{is_said_by, SaysOwn};
+ghost use Rattle.gm_session.specs.Sessions.{Reads};
+
+use crate::effects::Notify;
+use crate::gate::Gate;
+use crate::session::{SessionEnd, read_and_notify};
+use gm_conns::SlotSet;
+use gm_feeder::Limits;
+use gm_notes::{ApplyError, Event};
+use gm_shared::{BookName, Desk, Receipt, Shared};
+use std::alloc::Global;
+use std::io::Read;
+use std::sync::Wait;
+
+/// A desk. What its own slot's connection says is handed in there, and what no slot says: openings and ticks.
+#[derive(Drop)]
+pub struct OwnDesk<K: BookName> {
+    desk: Desk<K>,
+    ghost own: { SaysOwn desk.number desk.front.seen },
+}
+
+impl<K: BookName> OwnDesk<K> {
+    /// A desk that has seen nothing yet.
+    pub fn new(desk: Desk<K>) -> OwnDesk<K>
+        requires { desk.front.seen ≡ [] }
+        ensures { result.desk ≡ desk }
+    {
+        OwnDesk { desk }
+    }
+
+    /// The desk, whose share and history have nothing of other slots' connections.
+    pub fn into_desk(self) -> Desk<K>
+        ensures desk { result ≡ self.desk }
+        ensures own { SaysOwn result.number result.front.seen }
+    {
+        self.desk
+    }
+
+    /// Hands in an event that is of this desk's slot, or of none. `touched` becomes the slots that it touched, as
+    /// `Desk::apply_with` says.
+    fn apply(
+        &mut self,
+        rt: &impl Wait,
+        shared: &Shared<K>,
+        event: Event<'_>,
+        touched: &mut SlotSet,
+    ) -> Result<Receipt, ApplyError>
+        requires size { IsSized event }
+        requires own { is_said_by self.old.desk.number (step_of event) ≡ true }
+        ensures called { DeskCalled K.settings K.taped (step_of event.entry) self.old.desk.number result touched.new
+            (account self.old.desk.share.items self.old.desk.front.seen) (account self.new.desk.share.items self.new.desk.front.seen) }
+        ensures hands { HandedIn self.old.desk.number (if_taken (step_of event.entry) result) self.old.desk.front.seen self.new.desk.front.seen }
+        ensures memory { NeedsNoMemory K.taped (step_of event.entry) → IsErrOf result ApplyError.Memory → ⊥ }
+        ensures number { self.new.desk.number ≡ self.old.desk.number }
+    {
+        self.desk.apply_with(rt, shared, event, touched)
+    }
+
+    /// Opens a connection from this address.
+    pub fn open(
+        &mut self,
+        rt: &impl Wait,
+        shared: &Shared<K>,
+        addr: &[u8],
+        touched: &mut SlotSet,
+    ) -> Result<Receipt, ApplyError>
+        ensures called { DeskCalled K.settings K.taped (Open addr.now) self.old.desk.number result touched.new
+            (account self.old.desk.share.items self.old.desk.front.seen) (account self.new.desk.share.items self.new.desk.front.seen) }
+        ensures number { self.new.desk.number ≡ self.old.desk.number }
+    {
+        self.apply(rt, shared, Event::Open { addr }, touched)
+    }
+
+    /// Hands in which second it is.
+    pub fn tick(
+        &mut self,
+        rt: &impl Wait,
+        shared: &Shared<K>,
+        now: u64,
+        touched: &mut SlotSet,
+    ) -> Result<Receipt, ApplyError>
+        ensures called { DeskCalled K.settings K.taped (Tick now) self.old.desk.number result touched.new
+            (account self.old.desk.share.items self.old.desk.front.seen) (account self.new.desk.share.items self.new.desk.front.seen) }
+        ensures number { self.new.desk.number ≡ self.old.desk.number }
+    {
+        self.apply(rt, shared, Event::Tick { now }, touched)
+    }
+
+    /// Closes the desk's slot.
+    pub fn close(
+        &mut self,
+        rt: &impl Wait,
+        shared: &Shared<K>,
+        touched: &mut SlotSet,
+    ) -> Result<Receipt, ApplyError>
+        ensures called { DeskCalled K.settings K.taped (Close self.old.desk.number) self.old.desk.number result touched.new
+            (account self.old.desk.share.items self.old.desk.front.seen) (account self.new.desk.share.items self.new.desk.front.seen) }
+        ensures memory { K.taped ≡ false → IsErrOf result ApplyError.Memory → ⊥ }
+        ensures number { self.new.desk.number ≡ self.old.desk.number }
+    {
+        let slot = self.desk.number();
+        self.apply(rt, shared, Event::Close { slot }, touched)
+    }
+
+    /// Reads the stream of the slot's connection to its end (`read_and_notify`).
+    pub fn read<R: Wait, I: Read, G: Gate, N: Notify<R>>(
+        &mut self,
+        rt: &R,
+        alloc: Global,
+        reader: &mut I,
+        shared: &Shared<K>,
+        limits: Limits,
+        gate: &G,
+        server: &N,
+    ) -> SessionEnd
+        ensures ended { result ≡ SessionEnd.Ended → IsAtEnd (I.remaining reader.new) }
+        ensures reads { Reads K.settings K.taped self.old.desk.number self.old.desk.number limits (I.remaining reader.old) (I.remaining reader.new) result self.old.desk.front.seen self.new.desk.front.seen }
+        ensures number { self.new.desk.number ≡ self.old.desk.number }
+    {
+        let slot = self.desk.number();
+        read_and_notify(
+            rt,
+            alloc,
+            reader,
+            shared,
+            &mut self.desk,
+            slot,
+            limits,
+            gate,
+            server,
+        )
+    }
+}

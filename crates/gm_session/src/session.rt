@@ -1,0 +1,392 @@
+//! What one connection says, from its opening to its end.
+
+ghost use Rattle.std.specs.Prelude.{◌≡◌, ◌+◌, ◌-◌, ◌%◌, ◌^◌, ◌<◌, ◌≤◌, true, false, [], None, IsSome, IsNone, IfOk, IfErr, length, drop};
+ghost use Rattle.std.specs.Io.KnownBytes.{IsAtEnd};
+ghost use Rattle.gm_notes.specs.Servers.{step_of, IsSized};
+ghost use Rattle.gm_notes.specs.Steps.{Packet};
+ghost use Rattle.gm_shared.specs.Calls.{account};
+ghost use Rattle.gm_session.specs.Effects.{IsNothing, Keeps};
+ghost use Rattle.gm_session.specs.Sessions.{IsPiece, Applies, TakesNext, Unloads, Reads};
+
+use crate::effects::{Effects, Notify};
+use crate::gate::Gate;
+use gm_bytes::{Data, LONG, SharedBytes};
+use gm_conns::SlotSet;
+use gm_feeder::{Feeder, Limits, OwnedPacket, ReadError};
+use gm_front::{Next, next_event};
+use gm_notes::{ApplyError, Event};
+use gm_packet::Kind;
+use gm_shared::{BookName, Desk, Shared};
+use std::alloc::{AllocError, Global};
+use std::io::{ErrorKind, Read};
+use std::sync::{MutexGuard, Wait};
+use std::time::Instant;
+
+/// The most bytes of a piece that doesn't wait for others: a few requests without data.
+const SHORT_PIECE: usize = 256;
+
+/// How many units of a longer piece don't wait for others either: a request or two with data. Where a client sends many at a
+/// time, none is free.
+const FIRST_UNITS: u32 = 2;
+
+/// After how many units a session reads the clock.
+const UNITS_PER_CLOCK_READ: u32 = 8;
+
+/// The most pieces that a session reads.
+const MOST_PIECES: u64 = 1_099_511_627_776;
+
+/// Why a session ended.
+#[derive(Clone, Copy, Debug, PartialEq, Eq)]
+pub enum SessionEnd {
+    /// The input is at its end.
+    Ended,
+    /// The reader failed.
+    ReadFault,
+    /// A fault stood in the stream and was applied, or the slot was found shut or not open.
+    Shut,
+    /// There was no memory for a piece, or for a unit.
+    Memory,
+    /// It read 1,099,511,627,776 pieces.
+    Turns,
+}
+
+/// Whether a worker asks for a job.
+fn is_grab(event: &Event<'_>) -> bool {
+    match event {
+        Event::Packet { kind, .. } => {
+            matches!(Kind::of(*kind), Some(Kind::GrabJob | Kind::GrabJobUniq))
+        }
+        _ => false,
+    }
+}
+
+/// Where a connection's events are applied: its desk, past the gate.
+#[derive(Drop)]
+struct Applier<'s, K: BookName, R, G> {
+    rt: &'s R,
+    shared: &'s Shared<K>,
+    desk: &'s mut Desk<K>,
+    gate: &'s G,
+    slot: u32,
+    /// The next unit's index.
+    index: u64,
+    /// What came of the events since others were notified last.
+    effects: Effects,
+    /// What the last event touched. It is made once for the session, as a set is too large to be made and moved for each
+    /// event.
+    touched: SlotSet,
+}
+
+impl<'s, K: BookName, R: Wait, G: Gate> Applier<'s, K, R, G> {
+    /// Applies an event. Where it is refused, the session is over.
+    fn apply(&mut self, event: Event<'_>) -> Result<(), SessionEnd>
+        requires { IsSized event }
+        ensures applies { Applies K.settings K.taped self.old.desk.now.number (step_of event.entry) result self.old.desk.now.front.seen self.new.desk.now.front.seen }
+        ensures keeps { Keeps K.settings K.taped (step_of event.entry) self.old.desk.now.number result
+            (account self.old.desk.now.share.items self.old.desk.now.front.seen) (account self.new.desk.now.share.items self.new.desk.now.front.seen) self.old.effects self.new.effects }
+        ensures same_desk { self.new.desk.ghost_name ≡ self.old.desk.ghost_name }
+        ensures number { self.new.desk.now.number ≡ self.old.desk.now.number }
+        ensures slot { self.new.slot ≡ self.old.slot }
+    {
+        match self
+            .desk
+            .apply_with(self.rt, self.shared, event, &mut self.touched)
+        {
+            Ok(receipt) => {
+                self.effects.add(&self.touched, receipt.mode);
+                Ok(())
+            }
+            Err(ApplyError::Memory) => Err(SessionEnd::Memory),
+            Err(_) => Err(SessionEnd::Shut),
+        }
+    }
+
+    /// Lets a unit pass the gate, and applies it, before a grab with the present second.
+    fn apply_unit<N: Notify<R>>(&mut self, server: &N, event: Event<'_>) -> Result<(), SessionEnd>
+        requires { IsSized event }
+        ensures applies { Applies K.settings K.taped self.old.desk.now.number (step_of event.entry) result self.old.desk.now.front.seen self.new.desk.now.front.seen }
+        ensures keeps { Keeps K.settings K.taped (step_of event.entry) self.old.desk.now.number result
+            (account self.old.desk.now.share.items self.old.desk.now.front.seen) (account self.new.desk.now.share.items self.new.desk.now.front.seen) self.old.effects self.new.effects }
+        ensures same_desk { self.new.desk.ghost_name ≡ self.old.desk.ghost_name }
+        ensures number { self.new.desk.now.number ≡ self.old.desk.now.number }
+        ensures slot { self.new.slot ≡ self.old.slot }
+    {
+        self.gate.pass(self.rt, self.slot, self.index);
+        self.index = self.index.saturating_add(1);
+        if is_grab(&event) {
+            server.update_time(self.rt);
+        }
+        self.apply(event)
+    }
+}
+
+/// A connection's way in: its bytes are cut into units, and each is applied at its desk.
+#[derive(Drop)]
+struct Session<'s, K: BookName, R, G, N> {
+    alloc: Global,
+    applier: Applier<'s, K, R, G>,
+    feeder: Feeder,
+    server: &'s N,
+    /// Whether the last long piece had many units, as the next one then has: that waits from its first unit on.
+    is_pipelining: bool,
+}
+
+/// What was taken of a connection's bytes.
+#[derive(Clone, Copy)]
+pub(crate) enum Taken {
+    /// A unit, which was applied.
+    Unit { is_line: bool },
+    /// No unit: more bytes are needed.
+    Nothing,
+}
+
+/// The data of a packet, to be shared.
+fn share(alloc: Global, packet: OwnedPacket) -> Result<SharedBytes, AllocError>
+    ensures { IfOk result (λ shared. shared ≡ drop packet.data_at packet.bytes.items) }
+{
+    SharedBytes::new(alloc, packet.bytes)?.suffix(packet.data_at)
+}
+
+/// The units that a session applies before it notifies others of what came of them.
+#[derive(Drop)]
+struct Batch<'s> {
+    /// How many units don't wait for other sessions' batches.
+    free_units: u32,
+    /// Held over the other units, so that no other session has such a batch. Many units in a row, of several connections at
+    /// once, would wake and sleep at the book's lock at each unit.
+    alone: Option<MutexGuard<'s, ()>>,
+    units: u32,
+    begun: Option<Instant>,
+}
+
+impl<'s> Batch<'s> {
+    fn new(free_units: u32) -> Batch<'s>
+        ensures free { result.free_units ≡ free_units }
+        ensures units { result.units ≡ 0 }
+        ensures alone { IsNone result.alone }
+        ensures begun { result.begun ≡ None }
+    {
+        Batch {
+            free_units,
+            alone: None,
+            units: 0,
+            begun: None,
+        }
+    }
+
+    /// Lets the next unit in. The first that isn't free waits until no other session has such a batch.
+    fn admit<R: Wait, N: Notify<R>>(&mut self, server: &'s N, rt: &R)
+        ensures free { self.new.free_units ≡ self.old.free_units }
+        ensures units { self.new.units ≡ self.old.units }
+        ensures waits { self.old.free_units ≤ self.old.units → IsSome self.new.alone }
+        ensures begun { self.new.begun ≡ self.old.begun }
+    {
+        if self.units >= self.free_units && self.alone.is_none() {
+            self.alone = Some(server.long_piece_lock().lock(rt));
+        }
+    }
+
+    /// Whether it has ended, after a unit more. A text line may be the work of many units, so it ends a batch.
+    fn has_ended<R, N: Notify<R>>(&mut self, server: &N, rt: &R, is_line: bool) -> bool
+        ensures free { self.new.free_units ≡ self.old.free_units }
+        ensures units { self.new.units ≡ (self.old.units + 1) % 2 ^ 32 }
+        ensures line { is_line ≡ true → result ≡ true }
+        ensures looks { is_line ≡ false → 0 < self.new.units % 8 → result ≡ false }
+    {
+        self.units = self.units.wrapping_add(1);
+        is_line || self.units % UNITS_PER_CLOCK_READ == 0 && server.is_time(rt, &mut self.begun)
+    }
+}
+
+/// Has the server notify others of what came of events. After that there is nothing to notify them of.
+fn flush_effects<R, N: Notify<R>>(server: &N, rt: &R, effects: &mut Effects)
+    ensures own { effects.new.own ≡ effects.old.own }
+    ensures nothing { IsNothing effects.new }
+{
+    server.notify(rt, effects);
+    *effects = Effects::new(effects.own);
+}
+
+impl<'s, K: BookName, R: Wait, G: Gate, N: Notify<R>> Session<'s, K, R, G, N> {
+    /// How many units of a piece of this length don't wait for other sessions.
+    fn free_units(&self, length: usize) -> u32
+        ensures short { length ≤ 256 → result ≡ 2 ^ 32 - 1 }
+        ensures pipelining { 256 < length → self.now.is_pipelining ≡ true → result ≡ 0 }
+        ensures first { 256 < length → self.now.is_pipelining ≡ false → result ≡ 2 }
+    {
+        if length <= SHORT_PIECE {
+            u32::MAX
+        } else if self.is_pipelining {
+            0
+        } else {
+            FIRST_UNITS
+        }
+    }
+
+    /// Takes the next unit in the feeder, or the fault there. A long packet is taken with its
+    /// memory, so that its data are shared and not copied. Where the session is over, it says why.
+    fn take_unit(&mut self, batch: &mut Batch<'s>) -> Result<Taken, SessionEnd>
+        ensures takes { TakesNext K.settings K.taped self.old.applier.desk.now.number self.old.applier.slot self.old.feeder result self.old.applier.desk.now.front.seen self.new.applier.desk.now.front.seen self.new.feeder }
+        ensures same_desk { self.new.applier.desk.ghost_name ≡ self.old.applier.desk.ghost_name }
+        ensures number { self.new.applier.desk.now.number ≡ self.old.applier.desk.now.number }
+        ensures slot { self.new.applier.slot ≡ self.old.applier.slot }
+    {
+        let slot = self.applier.slot;
+        if let Some(packet) = self.feeder.take_packet(LONG) {
+            batch.admit(self.server, self.applier.rt);
+            self.take_long(packet)?;
+            return Ok(Taken::Unit { is_line: false });
+        }
+        match next_event(&mut self.feeder, slot) {
+            Next::Unit(event) => {
+                let is_line = matches!(event, Event::Line { .. });
+                batch.admit(self.server, self.applier.rt);
+                self.applier.apply_unit(self.server, event)?;
+                Ok(Taken::Unit { is_line })
+            }
+            Next::Wait => Ok(Taken::Nothing),
+            Next::Fault(fault) => {
+                self.applier.apply(Event::Fault { slot, fault })?;
+                Err(SessionEnd::Shut)
+            }
+        }
+    }
+
+    /// Applies a packet that was taken with its memory.
+    fn take_long(&mut self, packet: OwnedPacket) -> Result<(), SessionEnd>
+        requires { length (drop packet.data_at packet.bytes.items) ≤ 1073741824 }
+        ensures applies { Applies K.settings K.taped self.old.applier.desk.now.number (Packet self.old.applier.slot packet.kind (drop packet.data_at packet.bytes.items)) result
+            self.old.applier.desk.now.front.seen self.new.applier.desk.now.front.seen }
+        ensures feeder { self.new.feeder ≡ self.old.feeder }
+        ensures same_desk { self.new.applier.desk.ghost_name ≡ self.old.applier.desk.ghost_name }
+        ensures number { self.new.applier.desk.now.number ≡ self.old.applier.desk.now.number }
+        ensures slot { self.new.applier.slot ≡ self.old.applier.slot }
+    {
+        let slot = self.applier.slot;
+        let kind = packet.kind;
+        let Ok(data) = share(self.alloc, packet) else {
+            return Err(SessionEnd::Memory);
+        };
+        let bytes = Data::shared(&data);
+        self.applier
+            .apply_unit(self.server, Event::Packet { slot, kind, bytes })
+    }
+
+    /// Takes each unit in the feeder, and the fault after them. Where the session is over, it says why. Where
+    /// its batch has ended, it notifies others of what came of it, and other sessions have theirs.
+    fn unload(&mut self, length: usize) -> Result<(), SessionEnd>
+        ensures unloads { Unloads K.settings K.taped self.old.applier.desk.now.number self.old.applier.slot self.old.feeder result self.old.applier.desk.now.front.seen self.new.applier.desk.now.front.seen self.new.feeder }
+        ensures same_desk { self.new.applier.desk.ghost_name ≡ self.old.applier.desk.ghost_name }
+        ensures number { self.new.applier.desk.now.number ≡ self.old.applier.desk.now.number }
+        ensures slot { self.new.applier.slot ≡ self.old.applier.slot }
+    {
+        let server = self.server;
+        let free_units = self.free_units(length);
+        let mut batch = Batch::new(free_units);
+        loop {
+            let is_line = match self.take_unit(&mut batch)? {
+                Taken::Unit { is_line } => is_line,
+                Taken::Nothing => {
+                    self.is_pipelining = batch.units > FIRST_UNITS;
+                    return Ok(());
+                }
+            };
+            if batch.has_ended(server, self.applier.rt, is_line) {
+                drop(batch);
+                flush_effects(server, self.applier.rt, &mut self.applier.effects);
+                batch = Batch::new(free_units);
+            }
+        }
+    }
+
+    /// Takes what is in the feeder since a piece of this length came, and notifies of what came of it. Where the session is
+    /// over, it says why.
+    fn take_piece(&mut self, len: usize) -> Result<(), SessionEnd>
+        ensures told { IsNothing self.new.applier.effects }
+        ensures unloads { Unloads K.settings K.taped self.old.applier.desk.now.number self.old.applier.slot self.old.feeder result self.old.applier.desk.now.front.seen self.new.applier.desk.now.front.seen self.new.feeder }
+        ensures same_desk { self.new.applier.desk.ghost_name ≡ self.old.applier.desk.ghost_name }
+        ensures number { self.new.applier.desk.now.number ≡ self.old.applier.desk.now.number }
+        ensures slot { self.new.applier.slot ≡ self.old.applier.slot }
+    {
+        let outcome = self.unload(len);
+        flush_effects(self.server, self.applier.rt, &mut self.applier.effects);
+        outcome
+    }
+
+    /// Reads a connection's stream to its end.
+    fn run<I: Read>(&mut self, reader: &mut I) -> SessionEnd
+        requires { self.old.feeder.pending ≡ [] }
+        ensures ended { result ≡ SessionEnd.Ended → IsAtEnd (I.remaining reader.new) }
+        ensures reads { Reads K.settings K.taped self.old.applier.desk.now.number self.old.applier.slot self.old.feeder.limits (I.remaining reader.old) (I.remaining reader.new) result
+            self.old.applier.desk.now.front.seen self.new.applier.desk.now.front.seen }
+        ensures same_desk { self.new.applier.desk.ghost_name ≡ self.old.applier.desk.ghost_name }
+        ensures number { self.new.applier.desk.now.number ≡ self.old.applier.desk.now.number }
+    {
+        for _ in 0..MOST_PIECES {
+            let len = match read_piece(&mut self.feeder, reader) {
+                Ok(len) => len,
+                Err(end) => return end,
+            };
+            match self.take_piece(len) {
+                Ok(()) => {}
+                Err(end) => return end,
+            }
+        }
+        SessionEnd::Turns
+    }
+}
+
+/// Reads the next piece into the feeder, and answers how many bytes it has; or it says why the session is over.
+fn read_piece<I: Read>(feeder: &mut Feeder, reader: &mut I) -> Result<usize, SessionEnd>
+    ensures piece { IsPiece (I.remaining reader.old) (I.remaining reader.new) feeder.old feeder.new result }
+    ensures ended { IfErr result (λ end. end ≡ SessionEnd.Ended → IsAtEnd (I.remaining reader.new)) }
+{
+    match feeder.read_from(reader) {
+        Ok(0) => Err(SessionEnd::Ended),
+        Ok(len) => Ok(len),
+        Err(ReadError::Feed(_)) => Err(SessionEnd::Memory),
+        Err(ReadError::Read(error)) => match error.kind() {
+            // The read was broken off, and gave nothing.
+            ErrorKind::Interrupted => Ok(0),
+            _ => Err(SessionEnd::ReadFault),
+        },
+    }
+}
+
+/// The same (`read_session`), and the server notifies others of what came of each piece, or of some of its units.
+pub(crate) fn read_and_notify<'s, K: BookName, R: Wait, I: Read, G: Gate, N: Notify<R>>(
+    rt: &'s R,
+    alloc: Global,
+    reader: &mut I,
+    shared: &'s Shared<K>,
+    desk: &'s mut Desk<K>,
+    slot: u32,
+    limits: Limits,
+    gate: &'s G,
+    server: &'s N,
+) -> SessionEnd
+    ensures ended { result ≡ SessionEnd.Ended → IsAtEnd (I.remaining reader.new) }
+    ensures reads { Reads K.settings K.taped desk.old.number slot limits (I.remaining reader.old) (I.remaining reader.new) result desk.old.front.seen desk.new.front.seen }
+    ensures number { desk.new.number ≡ desk.old.number }
+{
+    let mut session = Session {
+        alloc,
+        applier: Applier {
+            rt,
+            shared,
+            desk,
+            gate,
+            slot,
+            index: 0,
+            effects: Effects::new(Some(slot)),
+            touched: SlotSet::new(),
+        },
+        feeder: Feeder::new(alloc, limits),
+        server,
+        is_pipelining: false,
+    };
+    let end = session.run(reader);
+    // The desk is the caller's again.
+    let _desk = session.applier.desk;
+    end
+}
