@@ -125,7 +125,7 @@ impl<'s, K: BookName + Send + Sync> Control<'s, K> {
         thread::sleep(rt, Duration::from_millis(ACCEPT_TIMEOUT_MS));
     }
 
-    /// Takes connections and hands in ticks until the server has ended.
+    /// Takes connections and hands in ticks until the server can end.
     fn take_all<E, R: Threads + Wait + Clock + Eprint + Sync, G: Gate>(
         &mut self,
         scope: &Scope<'s, E>,
@@ -144,7 +144,7 @@ impl<'s, K: BookName + Send + Sync> Control<'s, K> {
                 Err(error) if is_fatal(&error) => return Err(ControlError::Listen),
                 Err(error) => self.hold_on(rt, &error),
             }
-            if self.state.has_ended() {
+            if self.state.can_end() {
                 break;
             }
         }
@@ -154,7 +154,7 @@ impl<'s, K: BookName + Send + Sync> Control<'s, K> {
         Ok(())
     }
 
-    /// Takes connections and hands in ticks until the server has ended, and has each connection end that is left. It answers
+    /// Takes connections and hands in ticks until the server can end, and has each connection end that is left. It answers
     /// how many connections were opened.
     pub(crate) fn run<E, R: Threads + Wait + Clock + Eprint + Sync, G: Gate>(
         mut self,

@@ -9,7 +9,8 @@ use std::sync::{Arc, Wait};
 use std::thread::{Scope, Threads};
 use std::time::Clock;
 
-/// Gives a connection to the reader of the slot with this number, and says whether it could. A slot's threads are made with its first connection.
+/// Gives a connection to the reader of the slot with this number, and says whether it could. A slot's threads are made with its
+/// first connection.
 pub(crate) fn start<'s, E, K: BookName + Send + Sync, G: Gate, R: Threads + Wait + Clock + Sync>(
     scope: &Scope<'s, E>,
     rt: &'s R,

@@ -1,15 +1,16 @@
-//! What a slot has of its own.
+//! A slot's desk and lane.
 
 use gm_delivery::Lane;
 use gm_session::OwnDesk;
 use gm_shared::{BookName, Pen};
 use std::sync::Mutex;
 
-/// Where a slot's connection's events are handed in, which is its reader's while a connection has the slot, and what its connection is
-/// sent.
+/// What a slot has of its own.
 #[derive(Drop)]
 pub(crate) struct Slot<K: BookName> {
+    /// Where its connection's events are handed in. The reader has it while a connection has the slot.
     pub(crate) desk: Mutex<OwnDesk<K>>,
+    /// Which delivers to its connection.
     pub(crate) lane: Lane<K>,
 }
 

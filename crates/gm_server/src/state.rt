@@ -76,7 +76,7 @@ impl Round {
     }
 
     /// Whether the rest is for the writers. It is asked before each slot.
-    fn leaves_the_rest(&mut self, rt: &impl Clock) -> bool
+    fn is_left_to_writers(&mut self, rt: &impl Clock) -> bool
         ensures begun { self.new.has_begun ≡ true }
         ensures says { self.new.is_late ≡ result }
         ensures first { self.old.has_begun ≡ false → result ≡ self.old.is_late }
@@ -161,7 +161,7 @@ impl<K: BookName> ServerState<K> {
     }
 
     /// Whether the server takes no new connections, and has none; or it ran out of memory at the end of one.
-    pub(crate) fn has_ended(&self) -> bool {
+    pub(crate) fn can_end(&self) -> bool {
         self.out_of_memory() || self.is_ending.load(Ordering::SeqCst) && !self.has_connections()
     }
 
@@ -202,7 +202,7 @@ impl<K: BookName> ServerState<K> {
         let Some(slot) = self.slot(number) else {
             return;
         };
-        if round.leaves_the_rest(rt) {
+        if round.is_left_to_writers(rt) {
             slot.lane.touch_for_writer();
         } else {
             round.is_late = slot.lane.touch(rt, &self.shared);
