@@ -6,7 +6,8 @@ use Rattle.std.proofs.KnownBytes.{Appends-trans}
 use Rattle.gm_notes.specs.Settings.{Settings}
 use Rattle.gm_notes.specs.declared.event.ApplyError.{ApplyError}
 use Rattle.gm_shared.specs.declared.receipt.Drained.{Drained}
-use Rattle.gm_shared.specs.Calls.{Account, PenCalled}
+use Rattle.gm_shared.specs.declared.tape.Entry.{Entry}
+use Rattle.gm_shared.specs.Calls.{PenCalled}
 use Rattle.gm_delivery.specs.declared.message.Delivery.{Delivery}
 use Rattle.gm_delivery.specs.declared.message.Delivery.TheVariants.{Done, Over}
 use Rattle.gm_delivery.specs.Turns.{turn_of}
@@ -17,11 +18,11 @@ pub takes_as : (took : Bool) (a b c d : ℕ) → a ≡ c → b ≡ d → MatchBo
 takes_as true a b c d p q h = sym q ∙ (h ∙ ap (λ n. n + 1) p)
 takes_as false a b c d p q h = sym q ∙ (h ∙ p)
 
--- a drain, said of the same slot and accounts
-pub called_as : (k : Settings) (taped : Bool) (slot same : ℕ) (result : Result Drained ApplyError) (share after from to : Account) → same ≡ slot → from ≡ share → to ≡ after
-    → PenCalled k taped same same result from to → PenCalled k taped slot slot result share after
-called_as k taped slot same result share after from to e f g h =
-    subst (λ (c : ℕ). PenCalled k taped c c result share after) e (subst (λ (s : Account). PenCalled k taped same same result s after) f (subst (λ (s : Account). PenCalled k taped same same result from s) g h))
+-- a drain, said of the same slot and histories
+pub called_as : (k : Settings) (taped : Bool) (slot same : ℕ) (result : Result Drained ApplyError) (seen after from to : List Entry) → same ≡ slot → from ≡ seen → to ≡ after
+    → PenCalled k taped same same result from to → PenCalled k taped slot slot result seen after
+called_as k taped slot same result seen after from to e f g h =
+    subst (λ (c : ℕ). PenCalled k taped c c result seen after) e (subst (λ (s : List Entry). PenCalled k taped same same result s after) f (subst (λ (s : List Entry). PenCalled k taped same same result from s) g h))
 
 -- without another reason to end it, nor with one
 sends_unless : {ended : Type 0} {delivery : Delivery} {old new : Option (List ℕ)} {due left : List ℕ} → Sends ⊥ delivery old new due left → Sends ended delivery old new due left
@@ -34,10 +35,10 @@ sends_unless sends = record {
   over = λ is none. absurd (sends.over is none);
 }
 
-module _ (k : Settings) (taped : Bool) (slot takes takes_after : ℕ) (share after : Account) (old mid : Option (List ℕ)) (left between : List ℕ) where
+module _ (k : Settings) (taped : Bool) (slot takes takes_after : ℕ) (seen after : List Entry) (old mid : Option (List ℕ)) (left between : List ℕ) where
   -- what was left couldn't all be sent
-  pub delivers_left : (delivery : Delivery) → (delivery ≡ Done → ⊥) → takes_after ≡ takes → after ≡ share → Sends ⊥ delivery old mid left between
-      → Delivers k taped delivery slot takes takes_after share after old mid left between
+  pub delivers_left : (delivery : Delivery) → (delivery ≡ Done → ⊥) → takes_after ≡ takes → after ≡ seen → Sends ⊥ delivery old mid left between
+      → Delivers k taped delivery slot takes takes_after seen after old mid left between
   delivers_left delivery undone t s sends = record {
     asked = false;
     took = false;
@@ -53,7 +54,7 @@ module _ (k : Settings) (taped : Bool) (slot takes takes_after : ℕ) (share aft
     all_sent = sends.whole ∙ (ap (λ rest. sends.sent ++ rest) sends.leaves.0 ∙ append-nil sends.sent)
 
     -- the pen was refused: the connection is over
-    pub delivers_none : (error : ApplyError) → PenCalled k taped slot slot (Err error) share after → Delivers k taped Over slot takes takes_after share after old mid left between
+    pub delivers_none : (error : ApplyError) → PenCalled k taped slot slot (Err error) seen after → Delivers k taped Over slot takes takes_after seen after old mid left between
     delivers_none error called = record {
       asked = false;
       took = took;
@@ -71,10 +72,10 @@ module _ (k : Settings) (taped : Bool) (slot takes takes_after : ℕ) (share aft
       };
     }
 
-    module _ (drained : Drained) (called : PenCalled k taped slot slot (Ok drained) share after) (new : Option (List ℕ)) (due left_after : List ℕ) (is_due : due ≡ turn_of took drained.bytes.bytes) where
+    module _ (drained : Drained) (called : PenCalled k taped slot slot (Ok drained) seen after) (new : Option (List ℕ)) (due left_after : List ℕ) (is_due : due ≡ turn_of took drained.bytes.bytes) where
       -- it gave, and that was sent as far as the peer took it
       delivers_given : (delivery : Delivery) → (delivery ≡ Done → drained.shut ≡ false) → Sends (drained.shut ≡ true) delivery mid new due left_after
-          → Delivers k taped delivery slot takes takes_after share after old new left left_after
+          → Delivers k taped delivery slot takes takes_after seen after old new left left_after
       delivers_given delivery goes_on more = record {
         asked = true;
         took = took;
@@ -93,10 +94,10 @@ module _ (k : Settings) (taped : Bool) (slot takes takes_after : ℕ) (share aft
       }
 
       pub delivers_more : (delivery : Delivery) → (delivery ≡ Done → drained.shut ≡ false) → Sends ⊥ delivery mid new due left_after
-          → Delivers k taped delivery slot takes takes_after share after old new left left_after
+          → Delivers k taped delivery slot takes takes_after seen after old new left left_after
       delivers_more delivery goes_on more = delivers_given delivery goes_on (sends_unless more)
 
       -- all of that, and the slot is shut
-      pub delivers_last : drained.shut ≡ true → Sends ⊥ Done mid new due left_after → Delivers k taped Over slot takes takes_after share after old new left left_after
+      pub delivers_last : drained.shut ≡ true → Sends ⊥ Done mid new due left_after → Delivers k taped Over slot takes takes_after seen after old new left left_after
       delivers_last shut more =
           delivers_given Over (λ is. absurd cc) (record { sent = more.sent; rest = more.rest; written = more.written; whole = more.whole; leaves = more.leaves.1; over = λ is none. shut })

@@ -4,7 +4,8 @@ use Rattle.std.specs.Io.KnownBytes.{Appends}
 use Rattle.gm_notes.specs.Settings.{Settings}
 use Rattle.gm_notes.specs.declared.event.ApplyError.{ApplyError}
 use Rattle.gm_shared.specs.declared.receipt.Drained.{Drained}
-use Rattle.gm_shared.specs.Calls.{Account, PenCalled}
+use Rattle.gm_shared.specs.declared.tape.Entry.{Entry}
+use Rattle.gm_shared.specs.Calls.{PenCalled}
 use Rattle.gm_delivery.specs.declared.message.Delivery.{Delivery}
 use Rattle.gm_delivery.specs.declared.message.Delivery.TheVariants.{Done, Late, Over}
 use Rattle.gm_delivery.specs.declared.outbox.Message.{Message}
@@ -44,7 +45,7 @@ pub record Sends (ended : Type 0) (delivery : Delivery) (old new : Option (List 
 
 -- What a pen gave for a delivery: whether it was asked and gave at all, with a NOOP or without, the bytes, and whether the connection has
 -- ended by that, as its slot is shut or nothing was given.
-pub data Gives (k : Settings) (taped : Bool) (slot takes takes_after : ℕ) (before after : Account) : Bool → Bool → List ℕ → Bool → Type 0 where
+pub data Gives (k : Settings) (taped : Bool) (slot takes takes_after : ℕ) (before after : List Entry) : Bool → Bool → List ℕ → Bool → Type 0 where
   unasked : takes_after ≡ takes → after ≡ before → Gives k taped slot takes takes_after before after false false [] false
   given : (took : Bool) (drained : Drained) → MatchBool took (takes_after ≡ takes + 1) (takes_after ≡ takes)
       → PenCalled k taped slot slot (Ok drained) before after → Gives k taped slot takes takes_after before after true took drained.bytes.bytes drained.shut
@@ -53,7 +54,7 @@ pub data Gives (k : Settings) (taped : Bool) (slot takes takes_after : ℕ) (bef
 
 -- A delivery sends what was left, and then what the pen gives, the NOOP behind the bytes that were drained with it: in this order,
 -- each byte once. All is done only where the pen gave, and the slot isn't shut; with all sent the connection is over only where it has ended.
-pub record Delivers (k : Settings) (taped : Bool) (delivery : Delivery) (slot takes takes_after : ℕ) (before after : Account) (old new : Option (List ℕ)) (left left_after : List ℕ) : Type 0 where
+pub record Delivers (k : Settings) (taped : Bool) (delivery : Delivery) (slot takes takes_after : ℕ) (before after : List Entry) (old new : Option (List ℕ)) (left left_after : List ℕ) : Type 0 where
   pub asked : Bool
   pub took : Bool
   pub gave : List ℕ

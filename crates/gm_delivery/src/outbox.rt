@@ -1,7 +1,6 @@
 //! What is to be sent to a connection, and how it is sent.
 
 ghost use Rattle.std.specs.Prelude.{◌≡◌, ◌<◌, ℕ, List, [], ◌++◌, length};
-ghost use Rattle.gm_shared.specs.Calls.{account};
 
 use crate::message::{Delivery, noop_if, write_once};
 use gm_bytes::ByteQueue;
@@ -51,6 +50,7 @@ impl Message {
     pub fn send<W: Write>(&mut self, w: &mut W) -> Delivery
         ensures { SendsFront result (W.contents w.old) (W.contents w.new) (unsent self.old) (unsent self.new) }
     {
+        // Modelled in models/lane.h.
         let mut writes_left = MOST_WRITES;
         loop {
             let chunk = self.next_chunk();
@@ -76,6 +76,7 @@ impl Message {
         requires { self.old.bytes.bytes ≡ [] }
         ensures { SendsFront result (W.contents w.old) (W.contents w.new) (unsent self.old) (unsent self.new) }
     {
+        // Modelled in models/lane.h.
         let (count, delivery) = write_once(self.noop, w);
         self.noop = &self.noop[count..];
         delivery
@@ -110,6 +111,7 @@ impl<K: BookName> Outbox<K> {
         ensures pen { self.new.pen ≡ self.old.pen }
         ensures empty { left_in self.new.left ≡ [] }
     {
+        // Modelled in models/lane.h.
         self.left = None;
     }
 
@@ -118,6 +120,7 @@ impl<K: BookName> Outbox<K> {
         ensures sends { Sends ⊥ result (W.contents w.old) (W.contents w.new) (left_in self.old.left) (left_in self.new.left) }
         ensures pen { self.new.pen ≡ self.old.pen }
     {
+        // Modelled in models/lane.h.
         let Some(message) = &mut self.left else {
             return Delivery::Done;
         };
@@ -134,6 +137,7 @@ impl<K: BookName> Outbox<K> {
         ensures sends { Sends ⊥ result (W.contents w.old) (W.contents w.new) (unsent message) (left_in self.new.left) }
         ensures pen { self.new.pen ≡ self.old.pen }
     {
+        // Modelled in models/lane.h.
         let delivery = message.send(w);
         if delivery == Delivery::Late {
             self.left = Some(message);
@@ -150,9 +154,10 @@ impl<K: BookName> Outbox<K> {
         w: &mut W,
     ) -> Delivery
         ensures delivers { Delivers K.settings K.taped result self.old.pen.slot self.old.pen.seat.takes self.new.pen.seat.takes
-            (account self.old.pen.share.items self.old.pen.front.seen) (account self.new.pen.share.items self.new.pen.front.seen) (W.contents w.old) (W.contents w.new) (left_in self.old.left) (left_in self.new.left) }
+            self.old.pen.front.seen self.new.pen.front.seen (W.contents w.old) (W.contents w.new) (left_in self.old.left) (left_in self.new.left) }
         ensures slot { self.new.pen.slot ≡ self.old.pen.slot }
     {
+        // Modelled in models/lane.h.
         match self.send_left(w) {
             Delivery::Done => {}
             Delivery::Late => return Delivery::Late,

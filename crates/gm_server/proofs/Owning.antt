@@ -20,12 +20,12 @@ use Rattle.gm_shared.specs.Tapes.{actor_is, actor_code, if_event, step_in, steps
 use Rattle.gm_shared.specs.Histories.{Knows, AreBelow, calls_by}
 use Rattle.gm_shared.specs.Tokens.{FrontState}
 use Rattle.gm_shared.specs.Calls.{events_in, events_of}
-use Rattle.gm_shared.specs.Shared.{told_by, actor_count, Accounts, numbers_below}
+use Rattle.gm_shared.specs.Shared.{told_by, actor_count, HasSeenOwn, numbers_below, everybody}
 use Rattle.gm_shared.proofs.Logs.{calls_known}
 use Rattle.gm_shared.proofs.Sharing.{and_more, itself}
 use Rattle.gm_session.specs.Owners.{are_said_by, SaysOwn}
 use Rattle.gm_session.proofs.Owning.{and_first, and_second}
-use Rattle.gm_server.specs.Owners.{is_own, AreOwn, everybody}
+use Rattle.gm_server.specs.Owners.{is_own, AreOwn}
 use Rattle.gm_server.specs.Promise.{says, said_at}
 
 -- ---- the entries of an actor
@@ -85,7 +85,7 @@ self_is : (a : Actor) → actor_is a a ≡ true
 self_is (Desk n) = itself n
 self_is (Pen n) = itself n
 
-map_twice : {A B C : Type 0} (f : A → B) (g : B → C) (xs : List A) → map g (map f xs) ≡ map (λ x. g (f x)) xs
+pub map_twice : {A B C : Type 0} (f : A → B) (g : B → C) (xs : List A) → map g (map f xs) ≡ map (λ x. g (f x)) xs
 map_twice f g [] = refl
 map_twice f g (x ∷ xs) = ap (λ ys. g (f x) ∷ ys) (map_twice f g xs)
 
@@ -142,40 +142,37 @@ module _ {A B : Type 0} (number : A → ℕ) (desk_share : A → List Told) (des
   abbrev pub PenOwn : B → Type 0
   PenOwn pen = ((pen_front pen).who ≡ 2 * slot pen + 1) × (drains_alone (slot pen) (calls_by (2 * slot pen + 1) (pen_front pen).seen) ≡ true)
 
-  abbrev Settles : Actor → Type 0
-  Settles actor = IsOwnOf log actor × AreBelow (actor_count slots) log
-
-  each_desk : (desks : List A) → ByRecursion (Accounts (actor_count slots) log) (map desk_front desks) → ByRecursion DeskOwn desks → ByRecursion Settles (map (λ desk. Desk (number desk)) desks)
-  each_desk [] accounts own = tt
-  each_desk (desk ∷ desks) accounts own = (
-    (seen_own log (desk_front desk).seen (Desk (number desk)) (subst (λ who. Knows log who (desk_front desk).seen) own.0.0 accounts.0.knows) own.0.1, accounts.0.whose),
-    each_desk desks accounts.1 own.1,
+  each_desk : (desks : List A) → ByRecursion (HasSeenOwn log) (map desk_front desks) → ByRecursion DeskOwn desks → ByRecursion (IsOwnOf log) (map (λ desk. Desk (number desk)) desks)
+  each_desk [] seen own = tt
+  each_desk (desk ∷ desks) seen own = (
+    seen_own log (desk_front desk).seen (Desk (number desk)) (subst (λ who. Knows log who (desk_front desk).seen) own.0.0 seen.0) own.0.1,
+    each_desk desks seen.1 own.1,
   )
 
-  each_pen : (pens : List B) → ByRecursion (Accounts (actor_count slots) log) (map pen_front pens) → ByRecursion PenOwn pens → ByRecursion Settles (map (λ pen. Pen (slot pen)) pens)
-  each_pen [] accounts own = tt
-  each_pen (pen ∷ pens) accounts own = (
-    (seen_own log (pen_front pen).seen (Pen (slot pen)) (subst (λ who. Knows log who (pen_front pen).seen) own.0.0 accounts.0.knows) own.0.1, accounts.0.whose),
-    each_pen pens accounts.1 own.1,
+  each_pen : (pens : List B) → ByRecursion (HasSeenOwn log) (map pen_front pens) → ByRecursion PenOwn pens → ByRecursion (IsOwnOf log) (map (λ pen. Pen (slot pen)) pens)
+  each_pen [] seen own = tt
+  each_pen (pen ∷ pens) seen own = (
+    seen_own log (pen_front pen).seen (Pen (slot pen)) (subst (λ who. Knows log who (pen_front pen).seen) own.0.0 seen.0) own.0.1,
+    each_pen pens seen.1 own.1,
   )
 
   -- Where everybody was given back, the whole history is its desks' and pens' own.
-  pub ended_own : (desks : List A) (pens : List B) (shares : List Share)
+  pub ended_own : (desks : List A) (pens : List B) (shares : List Share) → AreBelow (actor_count slots) log
       → map told_by shares ≡ map (λ desk. (Desk (number desk), desk_share desk)) desks ++ map (λ pen. (Pen (slot pen), pen_share pen)) pens
-      → All (Accounts (actor_count slots) log) (map desk_front desks ++ map pen_front pens) → All DeskOwn desks → All PenOwn pens
+      → All (HasSeenOwn log) (map desk_front desks ++ map pen_front pens) → All DeskOwn desks → All PenOwn pens
       → map (λ (share : Share). share.actor) shares ≡ everybody slots → AreOwn log
-  ended_own desks pens shares are accounts desks_own pens_own all =
-      let known = recursion_from_All (Accounts (actor_count slots) log) (map desk_front desks ++ map pen_front pens) accounts in
-      let of_desks = each_desk desks (left (Accounts (actor_count slots) log) (map desk_front desks) (map pen_front pens) known) (recursion_from_All DeskOwn desks desks_own) in
-      let of_pens = each_pen pens (right (Accounts (actor_count slots) log) (map desk_front desks) (map pen_front pens) known) (recursion_from_All PenOwn pens pens_own) in
+  ended_own desks pens shares below are seen desks_own pens_own all =
+      let known = recursion_from_All (HasSeenOwn log) (map desk_front desks ++ map pen_front pens) seen in
+      let of_desks = each_desk desks (left (HasSeenOwn log) (map desk_front desks) (map pen_front pens) known) (recursion_from_All DeskOwn desks desks_own) in
+      let of_pens = each_pen pens (right (HasSeenOwn log) (map desk_front desks) (map pen_front pens) known) (recursion_from_All PenOwn pens pens_own) in
       let first : Actor × List Told → Actor = λ pair. pair.0 in
       let names = sym (map_twice told_by first shares) ∙ (ap (map first) are
       ∙ (map-append first (map (λ desk. (Desk (number desk), desk_share desk)) desks) (map (λ pen. (Pen (slot pen), pen_share pen)) pens)
       ∙ ap₂ (λ xs ys. xs ++ ys) (map_twice (λ desk. (Desk (number desk), desk_share desk)) first desks) (map_twice (λ pen. (Pen (slot pen), pen_share pen)) first pens))) in
-      let each = each_of Settles slots (subst (All Settles) (sym names ∙ all)
-      (All-append Settles (map (λ desk. Desk (number desk)) desks) (map (λ pen. Pen (slot pen)) pens)
-      (All-from_recursion Settles (map (λ desk. Desk (number desk)) desks) of_desks) (All-from_recursion Settles (map (λ pen. Pen (slot pen)) pens) of_pens))) in
-      all_own (actor_count slots) log (each (Desk slots) (omega arith)).1 (λ actor less. (each actor less).0)
+      let each = each_of (IsOwnOf log) slots (subst (All (IsOwnOf log)) (sym names ∙ all)
+      (All-append (IsOwnOf log) (map (λ desk. Desk (number desk)) desks) (map (λ pen. Pen (slot pen)) pens)
+      (All-from_recursion (IsOwnOf log) (map (λ desk. Desk (number desk)) desks) of_desks) (All-from_recursion (IsOwnOf log) (map (λ pen. Pen (slot pen)) pens) of_pens))) in
+      all_own (actor_count slots) log below each
 
 -- what a slot says stands at its desk, and nowhere else
 module _ (c : ℕ) (xs ys : List Step) (rest : said_at c xs ≡ said_at c ys) where

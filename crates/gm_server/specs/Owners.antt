@@ -1,11 +1,10 @@
 -- Whose the entries of a history are: what a connection says is handed in at its slot's desk, and its slot's pen drains what waits for it.
-use Rattle.std.specs.Prelude.{◌≡◌, ℕ, Bool, true, List, [], ◌∷◌, ◌++◌, map, All}
+use Rattle.std.specs.Prelude.{◌≡◌, Bool, true, List, [], All}
 use Rattle.gm_shared.specs.declared.tape.Actor.{Actor}
 use Rattle.gm_shared.specs.declared.tape.Actor.TheVariants.{Desk, Pen}
 use Rattle.gm_shared.specs.declared.tape.TapeStep.{TapeStep}
 use Rattle.gm_shared.specs.declared.tape.Entry.{Entry}
 use Rattle.gm_shared.specs.Tapes.{if_event, is_drain_of}
-use Rattle.gm_shared.specs.Shared.{numbers_below}
 use Rattle.gm_session.specs.Owners.{are_said_by}
 
 -- an entry is its actor's own; takings and withdrawals of NOOPs count with the desk in whose call they were found
@@ -16,7 +15,3 @@ is_own (Pen n) step = is_drain_of n step
 -- each entry is its actor's own
 abbrev pub AreOwn : List Entry → Type 0
 AreOwn log = All (λ (e : Entry). is_own e.actor e.step ≡ true) log
-
--- all that have a share in a book with this number of slots, in order: the desks, the control desk, the pens
-abbrev pub everybody : ℕ → List Actor
-everybody slots = map Desk (numbers_below slots) ++ (Desk slots ∷ map Pen (numbers_below slots))

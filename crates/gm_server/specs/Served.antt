@@ -1,5 +1,5 @@
 -- How a server ended.
-use Rattle.std.specs.Prelude.{◌≡◌, ◌⊎◌, Bool, if◌then◌else◌, List, [], map, reverse, Result, Ok, Err, vec_len}
+use Rattle.std.specs.Prelude.{◌≡◌, Bool, if◌then◌else◌, List, [], map, reverse, Result, Ok, Err, vec_len}
 use Rattle.gm_notes.specs.Settings.{Settings as BookSettings}
 use Rattle.gm_shared.specs.declared.settling.Settled.{Settled}
 use Rattle.gm_shared.specs.declared.tape.Share.{Share}
@@ -7,9 +7,9 @@ use Rattle.gm_shared.specs.declared.settling.SettleError.{SettleError}
 use Rattle.gm_shared.specs.declared.settling.SettleError.TheVariants as of_book
 use Rattle.gm_shared.specs.declared.tape.Entry.{Entry}
 use Rattle.gm_shared.specs.Tapes.{AddUp, steps_of, Legal}
-use Rattle.gm_shared.specs.Shared.{told_by}
+use Rattle.gm_shared.specs.Shared.{told_by, everybody}
 use Rattle.gm_core.specs.Holds.{CoreAgrees}
-use Rattle.gm_server.specs.Owners.{AreOwn, everybody}
+use Rattle.gm_server.specs.Owners.{AreOwn}
 use Rattle.gm_server.specs.declared.error.ServeError.{ServeError}
 use Rattle.gm_server.specs.declared.error.ServeError.TheVariants as errors
 use Rattle.gm_server.specs.declared.settings.Served.{Served}
@@ -29,15 +29,15 @@ pub record IsWhole (k : BookSettings) (taped : Bool) (settled : Settled) : Type 
   pub up : AddUp settled.tape.items (map told_by settled.shares.items)
   pub everybody : HasEverybody k settled
 
--- The shares don't add up with the tape, or one is missing.
-abbrev pub IsNotWhole : BookSettings → Settled → Type 0
-IsNotWhole k settled = (AddUp settled.tape.items (map told_by settled.shares.items) → ⊥) ⊎ (HasEverybody k settled → ⊥)
+-- A share is missing.
+abbrev pub LacksAShare : BookSettings → Settled → Type 0
+LacksAShare k settled = HasEverybody k settled → ⊥
 
 -- how a book was settled, or that it couldn't be
 abbrev pub SettledSo : BookSettings → Bool → Result Settled SettleError → Type 0
 SettledSo k taped (Ok settled) = IsWhole k taped settled
 SettledSo k taped (Err of_book.Memory) = Unit {0}
-SettledSo k taped (Err (of_book.Differs settled)) = IsNotWhole k settled
+SettledSo k taped (Err (of_book.Differs settled)) = LacksAShare k settled
 
 -- the same of what a server tells in the end: how many entries its tape has
 pub record ServedSo (k : BookSettings) (taped : Bool) (served : Served) : Type 0 where
@@ -47,7 +47,7 @@ pub record ServedSo (k : BookSettings) (taped : Bool) (served : Served) : Type 0
 
 pub record DiffersSo (k : BookSettings) : Type 0 where
   pub settled : Settled
-  pub is : IsNotWhole k settled
+  pub is : LacksAShare k settled
 
 abbrev pub EndsSo : BookSettings → Bool → Result Served ServeError → Type 0
 EndsSo k taped (Ok served) = ServedSo k taped served

@@ -3,8 +3,8 @@
 ghost use Rattle.std.specs.Prelude.{◌≡◌, Bool, [], ◌∷◌, IfOk, MatchBool, All, map, length, drop, true};
 ghost use Rattle.gm_notes.specs.Settings.{Settings as BookSettings};
 ghost use Rattle.gm_shared.specs.declared.tape.Actor.TheVariants as actors;
+ghost use Rattle.gm_shared.specs.Shared.{everybody};
 ghost use Rattle.gm_session.specs.Owners.{SaysOwn};
-ghost use Rattle.gm_server.specs.Owners.{everybody};
 ghost use Rattle.gm_server.specs.Served.{HasEverybody, IsWhole, SettledSo};
 
 use crate::slot::Slot;

@@ -6,7 +6,8 @@ use Rattle.gm_notes.specs.declared.states.Mode.TheVariants.{Running}
 use Rattle.gm_notes.specs.Settings.{Settings}
 use Rattle.gm_notes.specs.Steps.{Step}
 use Rattle.gm_shared.specs.declared.receipt.Receipt.{Receipt}
-use Rattle.gm_shared.specs.Calls.{Account, DeskCalled}
+use Rattle.gm_shared.specs.declared.tape.Entry.{Entry}
+use Rattle.gm_shared.specs.Calls.{DeskCalled}
 use Rattle.gm_session.specs.declared.effects.Effects.{Effects}
 use Rattle.gm_session.specs.declared.session.SessionEnd.{SessionEnd}
 
@@ -22,13 +23,13 @@ pub record Collects (touched : List ℕ) (mode : Mode) (old new : Effects) : Typ
   pub mode_is : new.mode ≡ mode
 
 -- An event was applied with this receipt and touched these slots, of which nothing is lost to the threads that are notified.
-pub record KeepsReceipt (k : Settings) (taped : Bool) (s : Step) (desk : ℕ) (before after : Account) (old new : Effects) : Type 0 where
+pub record KeepsReceipt (k : Settings) (taped : Bool) (s : Step) (desk : ℕ) (before after : List Entry) (old new : Effects) : Type 0 where
   pub receipt : Receipt
   pub touched : List ℕ
   pub called : DeskCalled k taped s desk (Ok receipt) touched before after
   pub collects : Collects touched receipt.mode old new
 
 -- what came of an event is kept; where it wasn't applied, nothing came of it
-abbrev pub Keeps : Settings → Bool → Step → ℕ → Result (Unit {0}) SessionEnd → Account → Account → Effects → Effects → Type 0
+abbrev pub Keeps : Settings → Bool → Step → ℕ → Result (Unit {0}) SessionEnd → List Entry → List Entry → Effects → Effects → Type 0
 Keeps k taped s desk (Ok done) before after old new = KeepsReceipt k taped s desk before after old new
 Keeps k taped s desk (Err end) before after old new = new ≡ old

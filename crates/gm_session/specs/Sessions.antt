@@ -11,7 +11,7 @@ use Rattle.gm_notes.specs.Settings.{Settings}
 use Rattle.gm_notes.specs.Steps.{Step, Fault}
 use Rattle.gm_front.specs.Units.{step_of_unit, fault_steps, steps_of, IsFaultAt, BeginsWith}
 use Rattle.gm_shared.specs.declared.tape.Entry.{Entry}
-use Rattle.gm_shared.specs.Calls.{Account, Called, HandedIn}
+use Rattle.gm_shared.specs.Calls.{Called, HandedIn}
 use Rattle.gm_session.specs.declared.session.SessionEnd.{SessionEnd}
 use Rattle.gm_session.specs.declared.session.SessionEnd.TheVariants as ends
 use Rattle.gm_session.specs.declared.session.Taken.{Taken}
@@ -46,10 +46,8 @@ IsWhole ends.Turns = Unit {0}
 -- the event was handed in at this desk, and the book refused it for another reason than memory
 pub record Refuses (k : Settings) (taped : Bool) (s : Step) (desk : ℕ) (after : List Entry) : Type 0 where
   pub error : ApplyError
-  pub before : Account
-  pub now : Account
-  pub called : Called k taped s desk (Err error) before now
-  pub seen_is : now.seen ≡ after
+  pub seen : List Entry
+  pub called : Called k taped s desk (Err error) seen after
   pub reason : error ≡ refusals.Memory → ⊥
 
 -- this event of slot c comes next in the bytes

@@ -38,6 +38,7 @@ impl Effects {
         ensures some { IfSome result (λ slot. (self.now.own ≡ Some slot) × IsTrue (has self.now.touched slot)) }
         ensures none { IfNone result ((slot : ℕ) → self.now.own ≡ Some slot → has self.now.touched slot ≡ false) }
     {
+        // Modelled in models/jobs.pml.
         let own = self.own?;
         self.touched.next(own).filter(|slot| *slot == own)
     }
@@ -46,6 +47,7 @@ impl Effects {
     pub fn add(&mut self, touched: &SlotSet, mode: Mode)
         ensures { Collects touched.now mode self.old self.new }
     {
+        // Modelled in models/jobs.pml.
         self.mode = mode;
         self.touched.union(touched);
     }

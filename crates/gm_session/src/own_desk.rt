@@ -6,7 +6,7 @@ ghost use Rattle.std.specs.Io.KnownBytes.{IsAtEnd};
 ghost use Rattle.gm_notes.specs.Servers.{step_of, IsSized};
 ghost use Rattle.gm_notes.specs.Steps.{Open, Close, Tick};
 ghost use Rattle.gm_shared.specs.Books.{NeedsNoMemory};
-ghost use Rattle.gm_shared.specs.Calls.{DeskCalled, HandedIn, if_taken, account};
+ghost use Rattle.gm_shared.specs.Calls.{DeskCalled, HandedIn, if_taken};
 ghost use Rattle.gm_session.specs.Owners.{is_said_by, SaysOwn};
 ghost use Rattle.gm_session.specs.Sessions.{Reads};
 
@@ -57,7 +57,7 @@ impl<K: BookName> OwnDesk<K> {
         requires size { IsSized event }
         requires own { is_said_by self.old.desk.number (step_of event) ≡ true }
         ensures called { DeskCalled K.settings K.taped (step_of event.entry) self.old.desk.number result touched.new
-            (account self.old.desk.share.items self.old.desk.front.seen) (account self.new.desk.share.items self.new.desk.front.seen) }
+            self.old.desk.front.seen self.new.desk.front.seen }
         ensures hands { HandedIn self.old.desk.number (if_taken (step_of event.entry) result) self.old.desk.front.seen self.new.desk.front.seen }
         ensures memory { NeedsNoMemory K.taped (step_of event.entry) → IsErrOf result ApplyError.Memory → ⊥ }
         ensures number { self.new.desk.number ≡ self.old.desk.number }
@@ -74,7 +74,7 @@ impl<K: BookName> OwnDesk<K> {
         touched: &mut SlotSet,
     ) -> Result<Receipt, ApplyError>
         ensures called { DeskCalled K.settings K.taped (Open addr.now) self.old.desk.number result touched.new
-            (account self.old.desk.share.items self.old.desk.front.seen) (account self.new.desk.share.items self.new.desk.front.seen) }
+            self.old.desk.front.seen self.new.desk.front.seen }
         ensures number { self.new.desk.number ≡ self.old.desk.number }
     {
         self.apply(rt, shared, Event::Open { addr }, touched)
@@ -89,9 +89,10 @@ impl<K: BookName> OwnDesk<K> {
         touched: &mut SlotSet,
     ) -> Result<Receipt, ApplyError>
         ensures called { DeskCalled K.settings K.taped (Tick now) self.old.desk.number result touched.new
-            (account self.old.desk.share.items self.old.desk.front.seen) (account self.new.desk.share.items self.new.desk.front.seen) }
+            self.old.desk.front.seen self.new.desk.front.seen }
         ensures number { self.new.desk.number ≡ self.old.desk.number }
     {
+        // Modelled in models/ticks.pml.
         self.apply(rt, shared, Event::Tick { now }, touched)
     }
 
@@ -103,10 +104,11 @@ impl<K: BookName> OwnDesk<K> {
         touched: &mut SlotSet,
     ) -> Result<Receipt, ApplyError>
         ensures called { DeskCalled K.settings K.taped (Close self.old.desk.number) self.old.desk.number result touched.new
-            (account self.old.desk.share.items self.old.desk.front.seen) (account self.new.desk.share.items self.new.desk.front.seen) }
+            self.old.desk.front.seen self.new.desk.front.seen }
         ensures memory { K.taped ≡ false → IsErrOf result ApplyError.Memory → ⊥ }
         ensures number { self.new.desk.number ≡ self.old.desk.number }
     {
+        // Modelled in models/endings.pml.
         let slot = self.desk.number();
         self.apply(rt, shared, Event::Close { slot }, touched)
     }

@@ -4,7 +4,6 @@ ghost use Rattle.std.specs.Prelude.{◌≡◌, ◌+◌, ◌-◌, ◌%◌, ◌^�
 ghost use Rattle.std.specs.Io.KnownBytes.{IsAtEnd};
 ghost use Rattle.gm_notes.specs.Servers.{step_of, IsSized};
 ghost use Rattle.gm_notes.specs.Steps.{Packet};
-ghost use Rattle.gm_shared.specs.Calls.{account};
 ghost use Rattle.gm_session.specs.Effects.{IsNothing, Keeps};
 ghost use Rattle.gm_session.specs.Sessions.{IsPiece, Applies, TakesNext, Unloads, Reads};
 
@@ -52,6 +51,7 @@ pub enum SessionEnd {
 
 /// Whether a worker asks for a job.
 fn is_grab(event: &Event<'_>) -> bool {
+    // Modelled in models/jobs.pml and ticks.pml.
     match event {
         Event::Packet { kind, .. } => {
             matches!(Kind::of(*kind), Some(Kind::GrabJob | Kind::GrabJobUniq))
@@ -83,11 +83,12 @@ impl<'s, K: BookName, R: Wait, G: Gate> Applier<'s, K, R, G> {
         requires { IsSized event }
         ensures applies { Applies K.settings K.taped self.old.desk.now.number (step_of event.entry) result self.old.desk.now.front.seen self.new.desk.now.front.seen }
         ensures keeps { Keeps K.settings K.taped (step_of event.entry) self.old.desk.now.number result
-            (account self.old.desk.now.share.items self.old.desk.now.front.seen) (account self.new.desk.now.share.items self.new.desk.now.front.seen) self.old.effects self.new.effects }
+            self.old.desk.now.front.seen self.new.desk.now.front.seen self.old.effects self.new.effects }
         ensures same_desk { self.new.desk.ghost_name ≡ self.old.desk.ghost_name }
         ensures number { self.new.desk.now.number ≡ self.old.desk.now.number }
         ensures slot { self.new.slot ≡ self.old.slot }
     {
+        // Modelled in models/jobs.pml.
         match self
             .desk
             .apply_with(self.rt, self.shared, event, &mut self.touched)
@@ -106,11 +107,12 @@ impl<'s, K: BookName, R: Wait, G: Gate> Applier<'s, K, R, G> {
         requires { IsSized event }
         ensures applies { Applies K.settings K.taped self.old.desk.now.number (step_of event.entry) result self.old.desk.now.front.seen self.new.desk.now.front.seen }
         ensures keeps { Keeps K.settings K.taped (step_of event.entry) self.old.desk.now.number result
-            (account self.old.desk.now.share.items self.old.desk.now.front.seen) (account self.new.desk.now.share.items self.new.desk.now.front.seen) self.old.effects self.new.effects }
+            self.old.desk.now.front.seen self.new.desk.now.front.seen self.old.effects self.new.effects }
         ensures same_desk { self.new.desk.ghost_name ≡ self.old.desk.ghost_name }
         ensures number { self.new.desk.now.number ≡ self.old.desk.now.number }
         ensures slot { self.new.slot ≡ self.old.slot }
     {
+        // Modelled in models/jobs.pml and ticks.pml.
         self.gate.pass(self.rt, self.slot, self.index);
         self.index = self.index.saturating_add(1);
         if is_grab(&event) {
@@ -181,6 +183,7 @@ impl<'s> Batch<'s> {
         ensures waits { self.old.free_units ≤ self.old.units → IsSome self.new.alone }
         ensures begun { self.new.begun ≡ self.old.begun }
     {
+        // Modelled in models/jobs.pml.
         if self.units >= self.free_units && self.alone.is_none() {
             self.alone = Some(server.long_piece_lock().lock(rt));
         }
@@ -193,6 +196,7 @@ impl<'s> Batch<'s> {
         ensures line { is_line ≡ true → result ≡ true }
         ensures looks { is_line ≡ false → 0 < self.new.units % 8 → result ≡ false }
     {
+        // Modelled in models/jobs.pml.
         self.units = self.units.wrapping_add(1);
         is_line || self.units % UNITS_PER_CLOCK_READ == 0 && server.is_time(rt, &mut self.begun)
     }
@@ -203,6 +207,7 @@ fn flush_effects<R, N: Notify<R>>(server: &N, rt: &R, effects: &mut Effects)
     ensures own { effects.new.own ≡ effects.old.own }
     ensures nothing { IsNothing effects.new }
 {
+    // Modelled in models/jobs.pml.
     server.notify(rt, effects);
     *effects = Effects::new(effects.own);
 }
@@ -231,6 +236,7 @@ impl<'s, K: BookName, R: Wait, G: Gate, N: Notify<R>> Session<'s, K, R, G, N> {
         ensures number { self.new.applier.desk.now.number ≡ self.old.applier.desk.now.number }
         ensures slot { self.new.applier.slot ≡ self.old.applier.slot }
     {
+        // Modelled in models/jobs.pml.
         let slot = self.applier.slot;
         if let Some(packet) = self.feeder.take_packet(LONG) {
             batch.admit(self.server, self.applier.rt);
@@ -280,6 +286,7 @@ impl<'s, K: BookName, R: Wait, G: Gate, N: Notify<R>> Session<'s, K, R, G, N> {
         ensures number { self.new.applier.desk.now.number ≡ self.old.applier.desk.now.number }
         ensures slot { self.new.applier.slot ≡ self.old.applier.slot }
     {
+        // Modelled in models/jobs.pml.
         let server = self.server;
         let free_units = self.free_units(length);
         let mut batch = Batch::new(free_units);
@@ -308,6 +315,7 @@ impl<'s, K: BookName, R: Wait, G: Gate, N: Notify<R>> Session<'s, K, R, G, N> {
         ensures number { self.new.applier.desk.now.number ≡ self.old.applier.desk.now.number }
         ensures slot { self.new.applier.slot ≡ self.old.applier.slot }
     {
+        // Modelled in models/jobs.pml.
         let outcome = self.unload(len);
         flush_effects(self.server, self.applier.rt, &mut self.applier.effects);
         outcome
@@ -322,6 +330,7 @@ impl<'s, K: BookName, R: Wait, G: Gate, N: Notify<R>> Session<'s, K, R, G, N> {
         ensures same_desk { self.new.applier.desk.ghost_name ≡ self.old.applier.desk.ghost_name }
         ensures number { self.new.applier.desk.now.number ≡ self.old.applier.desk.now.number }
     {
+        // Modelled in models/jobs.pml.
         for _ in 0..MOST_PIECES {
             let len = match read_piece(&mut self.feeder, reader) {
                 Ok(len) => len,

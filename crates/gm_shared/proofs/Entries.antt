@@ -15,16 +15,19 @@ use Rattle.gm_shared.specs.declared.events.Noop.{Noop}
 use Rattle.gm_shared.specs.declared.events.Noop.TheVariants.{Left, Taken, Withdrawn}
 use Rattle.gm_shared.specs.declared.receipt.Receipt.{Receipt}
 use Rattle.gm_shared.specs.declared.receipt.Drained.{Drained}
+use Rattle.gm_shared.specs.declared.tape.Actor.{Actor}
+use Rattle.gm_shared.specs.declared.tape.Actor.TheVariants as actors
 use Rattle.gm_shared.specs.declared.tape.Answer.TheVariants as answers
 use Rattle.gm_shared.specs.declared.tape.Entry.{Entry}
 use Rattle.gm_shared.specs.declared.tape.Told.{Told}
 use Rattle.gm_shared.specs.declared.tape.Tape.{Tape}
 use Rattle.gm_shared.specs.Events.{MayFind, entered}
-use Rattle.gm_shared.specs.Tapes.{steps_of, Legal, TapeIs, noop_entries, event_entry, holding_entries, tape_step, told_from, Grows, place_behind}
+use Rattle.gm_shared.specs.Tapes.{actor_code, share_of, steps_of, Legal, TapeIs, noop_entries, event_entry, holding_entries, tape_step, told_from, Grows, place_behind}
 use Rattle.gm_shared.specs.Books.{BookedAgrees, AreTouched, Held, asked, unasked, Drains, IsDrainRefusal}
-use Rattle.gm_shared.specs.Histories.{AreOf}
-use Rattle.gm_shared.specs.Calls.{added, drained_entries, share_after, Calls, asks, lacks, Gives}
-use Rattle.gm_shared.specs.Shared.{IsBlank, IsGuarded}
+use Rattle.gm_shared.specs.Histories.{Knows, AreOf, AreBelow}
+use Rattle.gm_shared.specs.Calls.{added, drained_entries, Calls, asks, lacks, Gives}
+use Rattle.gm_shared.specs.Shared.{IsBlank, IsGuarded, actor_count}
+use Rattle.gm_shared.proofs.Shares.{share_grows}
 use Rattle.gm_shared.proofs.Taping.{longer, noop_tape, event_tape}
 
 -- ---- the history as a tape
@@ -84,15 +87,19 @@ module _ (taped : Bool) (log more back : List Entry) (old new : Tape) (told : Li
       by true false same was now = absurd cc
       by false true same was now = absurd cc
 
-  -- and a share gets what was entered
-  pub shared_after : (share after : List Told) → after ≡ share ++ told → after ≡ share_after taped log back share
-  shared_after share after e = by taped old.on on recorded g.told_is
+  -- and its actor's share is what the actor has seen then
+  pub shared_after : (a : Actor) (seen : List Entry) → AreOf (actor_code a) more → Knows log (actor_code a) seen → (share after : List Told) → share ≡ share_of taped a seen → after ≡ share ++ told
+      → after ≡ share_of taped a (more ++ log)
+  shared_after a seen are knows share after held e = by taped old.on on recorded g.told_is held
     where
-      by : (t u : Bool) → u ≡ t → old.entries.items ≡ (if t then reverse log else []) → told ≡ (if u then told_from (length old.entries.items) back else []) → after ≡ (if t then share ++ told_from (length log) back else share)
-      by true true same was now = e ∙ ap (λ ts. share ++ ts) (now ∙ ap (λ n. told_from n back) (ap length was ∙ length-reverse log))
-      by false false same was now = e ∙ (ap (λ ts. share ++ ts) now ∙ append-nil share)
-      by true false same was now = absurd cc
-      by false true same was now = absurd cc
+      by : (t u : Bool) → u ≡ t → old.entries.items ≡ (if t then reverse log else []) → told ≡ (if u then told_from (length old.entries.items) back else []) → share ≡ share_of t a seen
+          → after ≡ share_of t a (more ++ log)
+      by true true same was now held =
+          let entered : told ≡ told_from (length log) (reverse more) = now ∙ ap₂ told_from (ap length was ∙ length-reverse log) (sym is) in
+          e ∙ (ap₂ (λ xs ys. xs ++ ys) held entered ∙ sym (share_grows a more log seen are knows))
+      by false false same was now held = e ∙ ap₂ (λ xs ys. xs ++ ys) held now
+      by true false same was now held = absurd cc
+      by false true same was now held = absurd cc
 
 -- the place behind what was entered
 place_is : (taped : Bool) (log more : List Entry) (tape : Tape) → tape.on ≡ taped → tape.entries.items ≡ (if taped then reverse log else []) → place_behind more tape ≡ (if taped then Some (length (more ++ log)) else None)
@@ -119,7 +126,7 @@ module _ (k : Settings) (e : Event) (desk : ℕ) (noop : Noop) (touched : List �
       (event_tape k e (entered noop (steps_of log)) desk receipt.done taken is true (reverse before) (subst (λ steps. TapeIs true (reverse before) k steps) (sym first.0) (as_tape k before first.1)))
 
   -- it leaves the book as the longer history says, which is legal
-  held_log : (result : Result Receipt ApplyError) → Held k (steps_of log) (step_of e) desk noop result touched old new told
+  pub held_log : (result : Result Receipt ApplyError) → Held k (steps_of log) (step_of e) desk noop result touched old new told
       → BookedAgrees new k (steps_of (added desk (step_of e) result noop ++ log)) × Legal k (added desk (step_of e) result noop ++ log)
   held_log (Ok receipt) (asked h) =
       let both = event_log receipt h.found h.event.taken h.event.done_is in
@@ -139,21 +146,24 @@ module _ (k : Settings) (e : Event) (desk : ℕ) (noop : Noop) (touched : List �
 
   module _ (taped : Bool) (on : old.tape.on ≡ taped) (recorded : old.tape.entries.items ≡ (if taped then reverse log else [])) (result : Result Receipt ApplyError)
       (held : Held k (steps_of log) (step_of e) desk noop result touched old new told) where
-    pub held_guarded : (table : TableId) → new.seat.table ≡ table → IsGuarded table k taped new (added desk (step_of e) result noop ++ log)
-    held_guarded table same =
+    pub held_guarded : (table : TableId) → new.seat.table ≡ table → AreBelow (actor_count k.slots) (added desk (step_of e) result noop ++ log) → IsGuarded table k taped new (added desk (step_of e) result noop ++ log)
+    held_guarded table same whose =
         let both = held_log result held in
         let grows = held_grows result held in
         record {
           agrees = both.0;
           legal = both.1;
           recorded = recorded_after taped log (added desk (step_of e) result noop) _ old.tape new.tape told on recorded grows (added_back desk (step_of e) result noop);
+          whose = whose;
           table_is = same;
           on = grows.on ∙ on;
         }
 
-    pub held_shares : (share after : List Told) → after ≡ share ++ told → after ≡ share_after taped log (holding_entries desk noop (step_of e) result) share
-    held_shares share after is =
-        shared_after taped log (added desk (step_of e) result noop) _ old.tape new.tape told on recorded (held_grows result held) (added_back desk (step_of e) result noop) share after is
+    pub held_shares : (seen : List Entry) → Knows log (2 * desk) seen → (share after : List Told) → share ≡ share_of taped (actors.Desk desk) seen → after ≡ share ++ told
+        → after ≡ share_of taped (actors.Desk desk) (added desk (step_of e) result noop ++ log)
+    held_shares seen knows =
+        shared_after taped log (added desk (step_of e) result noop) _ old.tape new.tape told on recorded (held_grows result held) (added_back desk (step_of e) result noop)
+        (actors.Desk desk) seen (own_added desk (step_of e) result noop) knows
 
   -- and is this of the history
   pub held_calls : (taped : Bool) → old.tape.on ≡ taped → old.tape.entries.items ≡ (if taped then reverse log else []) → (result : Result Receipt ApplyError)
@@ -185,7 +195,7 @@ module _ (k : Settings) (e : Event) (desk : ℕ) (noop : Noop) (touched : List �
 -- ---- a pen's call
 
 module _ (k : Settings) (pen slot : ℕ) (old new : Booked) (told : List Told) (log : List Entry) (legal : Legal k log) where
-  drained_log : (result : Result Drained ApplyError) → Drains k (steps_of log) pen slot result old new told
+  pub drained_log : (result : Result Drained ApplyError) → Drains k (steps_of log) pen slot result old new told
       → BookedAgrees new k (steps_of (drained_entries pen slot result ++ log)) × Legal k (drained_entries pen slot result ++ log)
   drained_log (Ok drained) h = (h.agrees, (refl, ap (λ b. answers.Drained b) h.bytes_are, legal))
   drained_log (Err refused) h = (h.1, legal)
@@ -200,21 +210,24 @@ module _ (k : Settings) (pen slot : ℕ) (old new : Booked) (told : List Told) (
 
   module _ (taped : Bool) (on : old.tape.on ≡ taped) (recorded : old.tape.entries.items ≡ (if taped then reverse log else [])) (result : Result Drained ApplyError)
       (drains : Drains k (steps_of log) pen slot result old new told) where
-    pub drained_guarded : (table : TableId) → new.seat.table ≡ table → IsGuarded table k taped new (drained_entries pen slot result ++ log)
-    drained_guarded table same =
+    pub drained_guarded : (table : TableId) → new.seat.table ≡ table → AreBelow (actor_count k.slots) (drained_entries pen slot result ++ log) → IsGuarded table k taped new (drained_entries pen slot result ++ log)
+    drained_guarded table same whose =
         let both = drained_log result drains in
         let grows = drained_grows result drains in
         record {
           agrees = both.0;
           legal = both.1;
           recorded = recorded_after taped log (drained_entries pen slot result) _ old.tape new.tape told on recorded grows (drained_back pen slot result);
+          whose = whose;
           table_is = same;
           on = grows.on ∙ on;
         }
 
-    pub drained_shares : (share after : List Told) → after ≡ share ++ told → after ≡ share_after taped log (drained_entries pen slot result) share
-    drained_shares share after is =
-        shared_after taped log (drained_entries pen slot result) _ old.tape new.tape told on recorded (drained_grows result drains) (drained_back pen slot result) share after is
+    pub drained_shares : (seen : List Entry) → Knows log (2 * pen + 1) seen → (share after : List Told) → share ≡ share_of taped (actors.Pen pen) seen → after ≡ share ++ told
+        → after ≡ share_of taped (actors.Pen pen) (drained_entries pen slot result ++ log)
+    drained_shares seen knows =
+        shared_after taped log (drained_entries pen slot result) _ old.tape new.tape told on recorded (drained_grows result drains) (drained_back pen slot result)
+        (actors.Pen pen) seen (own_drained pen slot result) knows
 
 -- ---- a book that is opened
 
@@ -240,7 +253,7 @@ pub opens_guarded : (table : TableId) (k : Settings) (slots : ℕ) (booked : Boo
     → booked.tape.on ≡ taped → IsGuarded table k taped booked log
 opens_guarded table k slots booked seats taped log blank empty on =
     subst (IsGuarded table k taped booked) (sym empty)
-    (record { agrees = blank.agrees; legal = tt; recorded = none taped booked.tape.on on blank.agrees.tape; table_is = blank.table_is; on = on })
+    (record { agrees = blank.agrees; legal = tt; recorded = none taped booked.tape.on on blank.agrees.tape; whose = tt; table_is = blank.table_is; on = on })
   where
     none : (t u : Bool) → u ≡ t → TapeIs u booked.tape.entries.items k [] → booked.tape.entries.items ≡ (if t then [] else [])
     none true true same h = begun booked.tape.entries.items h.0

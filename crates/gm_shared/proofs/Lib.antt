@@ -13,3 +13,4 @@ pub mod Moves
 pub mod Entering
 mod Entries
 mod Standing
+mod Shares

@@ -32,9 +32,9 @@ calls_begin k taped s desk noop result touched before after (lacks l) = ([], l.a
 
 pub seen_is_older : SeenIsOlder
 seen_is_older = record {
-  desks = λ k taped s desk result touched old new left call seen.
-      (begins_then left old.seen call.before seen (call.knows.newer, call.knows.goes_on), calls_begin k taped s desk call.noop result touched call.before new.seen call.calls);
-  pens = λ k taped pen slot result old new left call seen. (begins_then left old.seen call.before seen (call.knows.newer, call.knows.goes_on), (_, call.after_is));
+  desks = λ k taped s desk result touched seen after left call begins.
+      (begins_then left seen call.before begins (call.knows.newer, call.knows.goes_on), calls_begin k taped s desk call.noop result touched call.before after call.calls);
+  pens = λ k taped pen slot result seen after left call begins. (begins_then left seen call.before begins (call.knows.newer, call.knows.goes_on), (_, call.after_is));
 }
 
 -- ---- what one actor did
@@ -61,9 +61,9 @@ calls_add k taped s desk noop (Err refused) touched before after (lacks l) = l.a
 
 pub own_are_whole : OwnAreWhole
 own_are_whole = record {
-  desks = λ k taped s desk result touched old new call.
-      own_more (2 * desk) (added desk s result call.noop) call.before old.seen new.seen (own_added desk s result call.noop) call.knows
-      (calls_add k taped s desk call.noop result touched call.before new.seen call.calls);
-  pens = λ k taped pen slot result old new call.
-      own_more (2 * pen + 1) _ call.before old.seen new.seen (own_drained pen slot result) call.knows call.after_is;
+  desks = λ k taped s desk result touched seen after call.
+      own_more (2 * desk) (added desk s result call.noop) call.before seen after (own_added desk s result call.noop) call.knows
+      (calls_add k taped s desk call.noop result touched call.before after call.calls);
+  pens = λ k taped pen slot result seen after call.
+      own_more (2 * pen + 1) _ call.before seen after (own_drained pen slot result) call.knows call.after_is;
 }

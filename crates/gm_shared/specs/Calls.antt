@@ -12,11 +12,10 @@ use Rattle.gm_notes.specs.Servers.{IsRefusal, is_closing}
 use Rattle.gm_shared.specs.declared.events.Noop.{Noop}
 use Rattle.gm_shared.specs.declared.events.Noop.TheVariants.{Left}
 use Rattle.gm_shared.specs.declared.tape.Entry.{Entry}
-use Rattle.gm_shared.specs.declared.tape.Told.{Told}
 use Rattle.gm_shared.specs.declared.receipt.Receipt.{Receipt}
 use Rattle.gm_shared.specs.declared.receipt.Drained.{Drained}
 use Rattle.gm_shared.specs.Events.{MayFind}
-use Rattle.gm_shared.specs.Tapes.{steps_of, Legal, if_event, noop_entries, drain_entry, holding_entries, told_from}
+use Rattle.gm_shared.specs.Tapes.{steps_of, Legal, if_event, noop_entries, drain_entry}
 use Rattle.gm_shared.specs.Books.{AreTouched, IsDrainRefusal}
 use Rattle.gm_shared.specs.Histories.{Knows, calls_by}
 use Rattle.gm_shared.specs.Tokens.{if_done}
@@ -24,18 +23,6 @@ use Rattle.gm_shared.specs.Tokens.{if_done}
 -- what has happened by a history
 abbrev pub past_of : Settings → List Entry → Past
 past_of k log = run k (steps_of log)
-
--- what a desk or a pen knows: its share of the tape, and the history as it was at its last call
-pub record Account : Type 0 where
-  pub share : List Told
-  pub seen : List Entry
-
-abbrev pub account : List Told → List Entry → Account
-account share seen = record { share = share; seen = seen }
-
--- with a tape a share gets what was entered behind these entries
-abbrev pub share_after : Bool → List Entry → List Entry → List Told → List Told
-share_after taped before entries share = if taped then share ++ told_from (length before) entries else share
 
 -- ---- a desk's call
 
@@ -78,18 +65,17 @@ pub data Calls (k : Settings) (taped : Bool) (s : Step) (desk : ℕ) (noop : Noo
   lacks : Lacks taped noop result before after → Calls k taped s desk noop result touched before after
 
 -- A desk's call. When it had the lock, the history was `before`: it goes on from what the desk had seen, with no entry of the desk
--- between. The call added this, nothing was added meanwhile, and the history is legal.
-pub record DeskCalled (k : Settings) (taped : Bool) (s : Step) (desk : ℕ) (result : Result Receipt ApplyError) (touched : List ℕ) (old new : Account) : Type 0 where
+-- between. The call added this, nothing was added meanwhile, and the history after it is legal.
+pub record DeskCalled (k : Settings) (taped : Bool) (s : Step) (desk : ℕ) (result : Result Receipt ApplyError) (touched : List ℕ) (seen after : List Entry) : Type 0 where
   pub before : List Entry
-  pub knows : Knows before (2 * desk) old.seen
-  pub legal : Legal k new.seen
+  pub knows : Knows before (2 * desk) seen
+  pub legal : Legal k after
   pub noop : Noop
-  pub calls : Calls k taped s desk noop result touched before new.seen
-  pub share_is : new.share ≡ share_after taped before (holding_entries desk noop s result) old.share
+  pub calls : Calls k taped s desk noop result touched before after
 
 -- the same, whichever slots it touched
-abbrev pub Called : Settings → Bool → Step → ℕ → Result Receipt ApplyError → Account → Account → Type 0
-Called k taped s desk result old new = (touched : List ℕ) × DeskCalled k taped s desk result touched old new
+abbrev pub Called : Settings → Bool → Step → ℕ → Result Receipt ApplyError → List Entry → List Entry → Type 0
+Called k taped s desk result seen after = (touched : List ℕ) × DeskCalled k taped s desk result touched seen after
 
 -- the events among entries; takings and withdrawals of NOOPs are none
 abbrev pub events_in : List Entry → List Step
@@ -128,10 +114,9 @@ Gives k taped slot (Ok drained) before = IsGiven k slot drained before
 Gives k taped slot (Err refused) before = IsDrainRefusal refused slot (past_of k before) taped
 
 -- A drain of a slot by a pen, as a desk's call. What is refused enters nothing.
-pub record PenCalled (k : Settings) (taped : Bool) (pen slot : ℕ) (result : Result Drained ApplyError) (old new : Account) : Type 0 where
+pub record PenCalled (k : Settings) (taped : Bool) (pen slot : ℕ) (result : Result Drained ApplyError) (seen after : List Entry) : Type 0 where
   pub before : List Entry
-  pub knows : Knows before (2 * pen + 1) old.seen
-  pub legal : Legal k new.seen
+  pub knows : Knows before (2 * pen + 1) seen
+  pub legal : Legal k after
   pub gives : Gives k taped slot result before
-  pub after_is : new.seen ≡ drained_entries pen slot result ++ before
-  pub share_is : new.share ≡ share_after taped before (drained_entries pen slot result) old.share
+  pub after_is : after ≡ drained_entries pen slot result ++ before

@@ -93,7 +93,7 @@ abbrev pub entered : List Entry → Page → Note → Page
 entered es page note = record { log = es ++ page.log; made = page.made; held = Some record { who = note.who; seen = es ++ page.log } }
 
 -- the keeper adds these entries for the actor whose note it holds, and is told how far that actor has seen, and that each
--- entry is of an actor that was made
+-- entry then is of an actor that was made
 abbrev pub Enters : List Entry → Me (Unit {0}) View → Me (Unit {0}) View → Type 0
 Enters es me after = (page : Page) (note : Note) → me.0 ≡ Keeper page → page.held ≡ Some note
-    → (after ≡ (Keeper (entered es page note), me.1)) × Knows page.log note.who note.seen × AreBelow page.made page.log
+    → (after ≡ (Keeper (entered es page note), me.1)) × Knows page.log note.who note.seen × AreBelow page.made (es ++ page.log)

@@ -7,7 +7,7 @@ use Rattle.gm_shared.specs.declared.tape.Entry.{Entry}
 use Rattle.gm_shared.specs.declared.receipt.Receipt.{Receipt}
 use Rattle.gm_shared.specs.declared.receipt.Drained.{Drained}
 use Rattle.gm_shared.specs.Histories.{calls_by}
-use Rattle.gm_shared.specs.Calls.{Account, DeskCalled, PenCalled, added, drained_entries}
+use Rattle.gm_shared.specs.Calls.{DeskCalled, PenCalled, added, drained_entries}
 
 -- a view of the history was the whole of it once, before what is newer
 abbrev pub Begins : List Entry → List Entry → Type 0
@@ -19,14 +19,14 @@ OneBeginsTheOther = (log mine yours : List Entry) → Begins mine log → Begins
 
 -- Where a desk or a pen has seen what another call left, what it adds in a call comes behind all of that.
 pub record SeenIsOlder : Type 0 where
-  pub desks : (k : Settings) (taped : Bool) (s : Step) (desk : ℕ) (result : Result Receipt ApplyError) (touched : List ℕ) (old new : Account) (left : List Entry)
-      → (call : DeskCalled k taped s desk result touched old new) → Begins left old.seen → Begins left call.before × Begins call.before new.seen
-  pub pens : (k : Settings) (taped : Bool) (pen slot : ℕ) (result : Result Drained ApplyError) (old new : Account) (left : List Entry)
-      → (call : PenCalled k taped pen slot result old new) → Begins left old.seen → Begins left call.before × Begins call.before new.seen
+  pub desks : (k : Settings) (taped : Bool) (s : Step) (desk : ℕ) (result : Result Receipt ApplyError) (touched : List ℕ) (seen after left : List Entry)
+      → (call : DeskCalled k taped s desk result touched seen after) → Begins left seen → Begins left call.before × Begins call.before after
+  pub pens : (k : Settings) (taped : Bool) (pen slot : ℕ) (result : Result Drained ApplyError) (seen after left : List Entry)
+      → (call : PenCalled k taped pen slot result seen after) → Begins left seen → Begins left call.before × Begins call.before after
 
 -- Of a desk or a pen the history has what each of its calls added, once and in order, and nothing else.
 pub record OwnAreWhole : Type 0 where
-  pub desks : (k : Settings) (taped : Bool) (s : Step) (desk : ℕ) (result : Result Receipt ApplyError) (touched : List ℕ) (old new : Account)
-      → (call : DeskCalled k taped s desk result touched old new) → calls_by (2 * desk) new.seen ≡ added desk s result call.noop ++ calls_by (2 * desk) old.seen
-  pub pens : (k : Settings) (taped : Bool) (pen slot : ℕ) (result : Result Drained ApplyError) (old new : Account)
-      → PenCalled k taped pen slot result old new → calls_by (2 * pen + 1) new.seen ≡ drained_entries pen slot result ++ calls_by (2 * pen + 1) old.seen
+  pub desks : (k : Settings) (taped : Bool) (s : Step) (desk : ℕ) (result : Result Receipt ApplyError) (touched : List ℕ) (seen after : List Entry)
+      → (call : DeskCalled k taped s desk result touched seen after) → calls_by (2 * desk) after ≡ added desk s result call.noop ++ calls_by (2 * desk) seen
+  pub pens : (k : Settings) (taped : Bool) (pen slot : ℕ) (result : Result Drained ApplyError) (seen after : List Entry)
+      → PenCalled k taped pen slot result seen after → calls_by (2 * pen + 1) after ≡ drained_entries pen slot result ++ calls_by (2 * pen + 1) seen

@@ -8,13 +8,14 @@ use Rattle.gm_core.specs.Holds.{CoreAgrees}
 use Rattle.gm_word.specs.Seats.{PenState, fresh_pens}
 use Rattle.gm_shared.specs.declared.book.Booked.{Booked}
 use Rattle.gm_shared.specs.declared.tape.Actor.{Actor}
+use Rattle.gm_shared.specs.declared.tape.Actor.TheVariants.{Desk, Pen}
 use Rattle.gm_shared.specs.declared.tape.Entry.{Entry}
 use Rattle.gm_shared.specs.declared.tape.Share.{Share}
 use Rattle.gm_shared.specs.declared.settling.Settled.{Settled}
 use Rattle.gm_shared.specs.declared.settling.SettleError.{SettleError}
 use Rattle.gm_shared.specs.declared.settling.SettleError.TheVariants.{Memory, Differs}
 use Rattle.gm_shared.specs.declared.tape.Told.{Told}
-use Rattle.gm_shared.specs.Tapes.{AddUp, steps_of, Legal}
+use Rattle.gm_shared.specs.Tapes.{AddUp, share_of, steps_of, Legal}
 use Rattle.gm_shared.specs.Books.{takings, BookedAgrees}
 use Rattle.gm_shared.specs.Histories.{Knows, AreBelow}
 use Rattle.gm_shared.specs.Tokens.{KeeperState, FrontState}
@@ -42,12 +43,17 @@ pub record HasMade (count : ℕ) (history : TableId) (keeper : KeeperState) : Ty
 abbrev pub IsNew : TableId → KeeperState → Type 0
 IsNew history keeper = HasMade 0 history keeper
 
+-- how many actors share a book with this number of slots: a desk and a pen for each, and the control desk
+abbrev pub actor_count : ℕ → ℕ
+actor_count slots = 2 * slots + 1
+
 -- What the lock keeps: the book agrees with the steps of the one history, which is legal under these settings and which the tape,
--- if one is kept, is. Its words are in this table.
+-- if one is kept, is. Each entry is of an actor of this book. Its words are in this table.
 pub record IsGuarded (table : TableId) (k : Settings) (taped : Bool) (booked : Booked) (log : List Entry) : Type 0 where
   pub agrees : BookedAgrees booked k (steps_of log)
   pub legal : Legal k log
   pub recorded : booked.tape.entries.items ≡ (if taped then reverse log else [])
+  pub whose : AreBelow (actor_count k.slots) log
   pub table_is : booked.seat.table ≡ table
   pub on : booked.tape.on ≡ taped
 
@@ -58,33 +64,44 @@ pub record GuardedState : Type 0 where
 
 -- ---- the end
 
--- how many actors share a book with this number of slots: a desk and a pen for each, and the control desk
-abbrev pub actor_count : ℕ → ℕ
-actor_count slots = 2 * slots + 1
-
--- The history has nothing of a front's actor that it hasn't seen; and each entry is of an actor below this number.
-pub record Accounts (made : ℕ) (log : List Entry) (front : FrontState) : Type 0 where
-  pub knows : Knows log front.who front.seen
-  pub whose : AreBelow made log
+-- the history has nothing of a front's actor that it hasn't seen
+abbrev pub HasSeenOwn : List Entry → FrontState → Type 0
+HasSeenOwn log front = Knows log front.who front.seen
 
 -- a pen took the NOOPs that were entered as taken, or one more, where its slot is said to be owed one still
 abbrev pub TookThose : Settings → List Step → PenState → Type 0
 TookThose k steps pen =
     (pen.takes ≡ takings pen.slot steps) ⊎ ((pen.takes ≡ takings pen.slot steps + 1) × (owes pen.slot (run k steps) ≡ true))
 
+-- the numbers below a number, in their order
+abbrev pub numbers_below : ℕ → List ℕ
+numbers_below zero = []
+numbers_below (suc n) = numbers_below n ++ n ∷ []
+
+-- all of them, in order: the desks, the control desk, the pens
+abbrev pub everybody : ℕ → List Actor
+everybody slots = map Desk (numbers_below slots) ++ (Desk slots ∷ map Pen (numbers_below slots))
+
 -- What a share is of, and what it tells.
 abbrev pub told_by : Share → Actor × List Told
 told_by share = (share.actor, share.told.items)
 
--- What a book was when it ended: this history is legal, the core agrees with its steps, and the tape, if one was kept, is it. These
--- are the shares of the desks and pens that were given back, and these their fronts.
+-- a share is what the history has of its actor
+abbrev pub IsShareOf : Bool → List Entry → Actor × List Told → Type 0
+IsShareOf taped log share = share.1 ≡ share_of taped share.0 log
+
+-- What a book was when it ended: this history is legal, the core agrees with its steps, and the tape, if one was kept, is it. Each entry
+-- is of an actor of this book. These are the shares of the desks and pens that were given back, each what the history has of its own, and
+-- these their fronts.
 pub record IsEnded (k : Settings) (taped : Bool) (settled : Settled) (shares : List (Actor × List Told)) (fronts : List FrontState) : Type 0 where
   pub log : List Entry
   pub legal : Legal k log
   pub agrees : CoreAgrees settled.core k (steps_of log)
   pub tape : settled.tape.items ≡ (if taped then reverse log else [])
+  pub whose : AreBelow (actor_count k.slots) log
   pub shares_are : map told_by settled.shares.items ≡ shares
-  pub accounts : All (Accounts (actor_count k.slots) log) fronts
+  pub exact : All (IsShareOf taped log) shares
+  pub seen : All (HasSeenOwn log) fronts
 
 -- The shares add up, and the pens took what was entered.
 pub record IsSettled (k : Settings) (taped : Bool) (settled : Settled) (shares : List (Actor × List Told)) (fronts : List FrontState) (pens : List PenState) : Type 0 where
@@ -92,16 +109,12 @@ pub record IsSettled (k : Settings) (taped : Bool) (settled : Settled) (shares :
   pub up : AddUp settled.tape.items shares
   pub takes : All (TookThose k (steps_of ended.log)) pens
 
--- The shares don't add up.
+-- The shares don't add up, and one is missing.
 pub record IsUnsettled (k : Settings) (taped : Bool) (settled : Settled) (shares : List (Actor × List Told)) (fronts : List FrontState) : Type 0 where
   pub ended : IsEnded k taped settled shares fronts
   pub apart : AddUp settled.tape.items shares → ⊥
+  pub missing : map (λ (share : Actor × List Told). share.0) shares ≡ everybody k.slots → ⊥
 
 abbrev pub WhySo : Settings → Bool → SettleError → List (Actor × List Told) → List FrontState → Type 0
 WhySo k taped Memory shares fronts = Unit {0}
 WhySo k taped (Differs settled) shares fronts = IsUnsettled k taped settled shares fronts
-
--- the numbers below a number, in their order
-abbrev pub numbers_below : ℕ → List ℕ
-numbers_below zero = []
-numbers_below (suc n) = numbers_below n ++ n ∷ []

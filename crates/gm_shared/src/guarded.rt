@@ -6,8 +6,10 @@ ghost use Rattle.gm_notes.specs.Steps.{Step};
 ghost use Rattle.gm_notes.specs.Servers.{step_of, IsSized};
 ghost use Rattle.gm_shared.specs.Books.{BookedAgrees, Held, NeedsNoMemory, Drains};
 ghost use Rattle.gm_shared.specs.Tokens.{sees};
-ghost use Rattle.gm_shared.specs.Calls.{DeskCalled, PenCalled, account, done_in};
-ghost use Rattle.gm_shared.specs.Shared.{IsGuarded, Accounts, actor_count};
+ghost use Rattle.gm_shared.specs.Tapes.{share_of};
+ghost use Rattle.gm_shared.specs.Calls.{DeskCalled, PenCalled, done_in};
+ghost use Rattle.gm_shared.specs.declared.tape.Actor.TheVariants as actors;
+ghost use Rattle.gm_shared.specs.Shared.{IsGuarded, HasSeenOwn, actor_count};
 ghost use Rattle.gm_shared.specs.declared.events.Noop.{Noop};
 ghost use Rattle.std.specs.Result.{IsErrOf};
 
@@ -85,7 +87,9 @@ impl<K: BookName> Guarded<K> {
         requires history { history.now ≡ K.history }
         requires front { front.old.table ≡ K.history }
         requires who { front.old.who ≡ 2 * desk }
-        ensures called { DeskCalled K.settings K.taped (step_of event.now) desk result touched.new (account share.old.items front.old.seen) (account share.new.items front.new.seen) }
+        requires told { share.old.items ≡ share_of K.taped (actors.Desk desk) front.old.seen }
+        ensures called { DeskCalled K.settings K.taped (step_of event.now) desk result touched.new front.old.seen front.new.seen }
+        ensures told { share.new.items ≡ share_of K.taped (actors.Desk desk) front.new.seen }
         ensures front { front.new ≡ sees self.new.log front.old }
         ensures holding { (steps : List Step) → BookedAgrees self.old.booked K.settings steps
             → (told : List Told) × (noop : Noop) × Held K.settings steps (step_of event.now) desk noop result touched.new self.old.booked self.new.booked told }
@@ -114,7 +118,9 @@ impl<K: BookName> Guarded<K> {
         requires history { history.now ≡ K.history }
         requires front { front.old.table ≡ K.history }
         requires who { front.old.who ≡ 2 * pen + 1 }
-        ensures called { PenCalled K.settings K.taped pen slot result (account share.old.items front.old.seen) (account share.new.items front.new.seen) }
+        requires told { share.old.items ≡ share_of K.taped (actors.Pen pen) front.old.seen }
+        ensures called { PenCalled K.settings K.taped pen slot result front.old.seen front.new.seen }
+        ensures told { share.new.items ≡ share_of K.taped (actors.Pen pen) front.new.seen }
         ensures front { front.new ≡ sees self.new.log front.old }
         ensures drains { (steps : List Step) → BookedAgrees self.old.booked K.settings steps
             → (told : List Told) × Drains K.settings steps pen slot result self.old.booked self.new.booked told }
@@ -132,7 +138,7 @@ impl<K: BookName> Guarded<K> {
     pub(crate) fn give_back(&mut self, history: &History, front: &mut Front)
         requires history { history.now ≡ K.history }
         requires front { front.old.table ≡ K.history }
-        ensures accounts { Accounts (actor_count K.settings.slots) self.old.log front.old }
+        ensures seen { HasSeenOwn self.old.log front.old }
         ensures kept { self.new ≡ self.old }
     {
         self.keeper.enter(history, front, 0, What::Nothing);

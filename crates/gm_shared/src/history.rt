@@ -104,7 +104,7 @@ impl Keeper {
         requires entries { E.entries ≡ entries_of _number _what }
         requires own { AreOf front.old.who (entries_of _number _what) }
         ensures knows { Knows self.old.log front.old.who front.old.seen }
-        ensures whose { AreBelow self.old.made self.old.log }
+        ensures whose { AreBelow self.old.made (entries_of _number _what.entry ++ self.old.log) }
         ensures keeper { self.new ≡ kept_more (entries_of _number _what.entry) self.old }
         ensures front { front.new ≡ sees (entries_of _number _what.entry ++ self.old.log) front.old }
     {
@@ -128,7 +128,7 @@ impl Keeper {
         requires front { front.old.table ≡ history.now }
         requires own { AreOf front.old.who (entries_of number what) }
         ensures knows { Knows self.old.log front.old.who front.old.seen }
-        ensures whose { AreBelow self.old.made self.old.log }
+        ensures whose { AreBelow self.old.made (entries_of number what.entry ++ self.old.log) }
         ensures keeper { self.new ≡ kept_more (entries_of number what.entry) self.old }
         ensures front { front.new ≡ sees (entries_of number what.entry ++ self.old.log) front.old }
     {

@@ -6,9 +6,10 @@ ghost use Rattle.gm_notes.specs.Servers.{step_of, IsSized};
 ghost use Rattle.gm_conns.specs.Slots.{has};
 ghost use Rattle.gm_word.specs.Seats.{fresh_pens};
 ghost use Rattle.gm_shared.specs.Books.{NeedsNoMemory};
-ghost use Rattle.gm_shared.specs.Tapes.{drains_alone};
+ghost use Rattle.gm_shared.specs.Tapes.{drains_alone, share_of};
+ghost use Rattle.gm_shared.specs.declared.tape.Actor.TheVariants as actors;
 ghost use Rattle.gm_shared.specs.Histories.{calls_by};
-ghost use Rattle.gm_shared.specs.Calls.{DeskCalled, PenCalled, HandedIn, if_taken, account};
+ghost use Rattle.gm_shared.specs.Calls.{DeskCalled, PenCalled, HandedIn, if_taken};
 ghost use Rattle.gm_shared.specs.Shared.{IsNew, HasMade, numbers_below};
 ghost use Rattle.std.specs.Result.{IsErrOf};
 
@@ -36,8 +37,8 @@ pub struct Shared<K: BookName> {
 }
 
 /// Where one thread hands in events. Desks have numbers: one for each slot, and that of the control desk is the
-/// number of slots. A desk knows how much of the history there was at its last call. Where a tape is kept, it keeps its part
-/// of that: its share.
+/// number of slots. A desk knows how much of the history there was at its last call. Where a tape is kept, it keeps its own
+/// part of that, its share: each of its calls, with the place and the answer.
 #[derive(Drop)]
 pub struct Desk<K: BookName> {
     pub(crate) number: u32,
@@ -45,6 +46,7 @@ pub struct Desk<K: BookName> {
     pub(crate) front: Front,
     of: PhantomData<K>,
     ghost fronted: { (front.table ≡ K.history) × (front.who ≡ 2 * number) },
+    ghost told: { share.items ≡ share_of K.taped (actors.Desk number) front.seen },
 }
 
 /// What takes out of the book what waits for one slot: its NOOP, and its bytes. Its number on the tape is its slot's;
@@ -57,6 +59,7 @@ pub struct Pen<K: BookName> {
     pub(crate) front: Front,
     of: PhantomData<K>,
     ghost fronted: { (front.table ≡ K.history) × (front.who ≡ 2 * slot + 1) },
+    ghost told: { share.items ≡ share_of K.taped (actors.Pen slot) front.seen },
     ghost named: { seat.table ≡ K.table },
     ghost sits: { seat.slot ≡ slot },
     ghost own: { drains_alone slot (calls_by (2 * slot + 1) front.seen) ≡ true },
@@ -100,6 +103,7 @@ impl<K: BookName> Shared<K> {
 impl<K: BookName> Desk<K> {
     fn new(alloc: Global, number: u32, front: Front) -> Desk<K>
         requires front { (front.table ≡ K.history) × (front.who ≡ 2 * number) }
+        requires nothing_seen { front.seen ≡ [] }
         ensures number { result.number ≡ number }
         ensures front { result.front ≡ front }
     {
@@ -128,8 +132,7 @@ impl<K: BookName> Desk<K> {
         touched: &mut SlotSet,
     ) -> Result<Receipt, ApplyError>
         requires { IsSized event }
-        ensures called { DeskCalled K.settings K.taped (step_of event.entry) self.old.number result touched.new
-            (account self.old.share.items self.old.front.seen) (account self.new.share.items self.new.front.seen) }
+        ensures called { DeskCalled K.settings K.taped (step_of event.entry) self.old.number result touched.new self.old.front.seen self.new.front.seen }
         ensures refused { IfErr result (λ _. (c : ℕ) → has touched.new c ≡ false) }
         ensures hands { HandedIn self.old.number (if_taken (step_of event.entry) result) self.old.front.seen self.new.front.seen }
         ensures memory { NeedsNoMemory K.taped (step_of event.entry) → IsErrOf result ApplyError.Memory → ⊥ }
@@ -186,8 +189,7 @@ impl<K: BookName> Pen<K> {
     /// of it. It may wait for the lock. Without a tape it needs no memory; with one the drain is in the pen's share, and
     /// `Memory` comes where there is none for that, and changes nothing.
     pub fn drain(&mut self, rt: &impl Wait, shared: &Shared<K>) -> Result<Drained, ApplyError>
-        ensures called { PenCalled K.settings K.taped self.old.slot self.old.slot result
-            (account self.old.share.items self.old.front.seen) (account self.new.share.items self.new.front.seen) }
+        ensures called { PenCalled K.settings K.taped self.old.slot self.old.slot result self.old.front.seen self.new.front.seen }
         ensures slot { self.new.slot ≡ self.old.slot }
         ensures seat { self.new.seat ≡ self.old.seat }
     {

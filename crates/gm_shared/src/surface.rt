@@ -7,7 +7,7 @@ ghost use Rattle.gm_notes.specs.Steps.{Step};
 ghost use Rattle.gm_notes.specs.Servers.{step_of, IsSized};
 ghost use Rattle.gm_shared.specs.Books.{BookedAgrees, Held, NeedsNoMemory, Drains};
 ghost use Rattle.gm_laws.specs.Laws.{MayBeTakenLater};
-ghost use Rattle.gm_shared.specs.Calls.{Called, HandedIn, if_taken, account};
+ghost use Rattle.gm_shared.specs.Calls.{Called, HandedIn, if_taken};
 ghost use Rattle.gm_shared.specs.declared.events.Noop.{Noop};
 ghost use Rattle.gm_shared.specs.declared.tape.Told.{Told};
 
@@ -85,7 +85,7 @@ impl<K: BookName> Desk<K> {
         event: Event<'_>,
     ) -> Result<Receipt, ApplyError>
         requires { IsSized event }
-        ensures called { Called K.settings K.taped (step_of event.entry) self.old.number result (account self.old.share.items self.old.front.seen) (account self.new.share.items self.new.front.seen) }
+        ensures called { Called K.settings K.taped (step_of event.entry) self.old.number result self.old.front.seen self.new.front.seen }
         ensures hands { HandedIn self.old.number (if_taken (step_of event.entry) result) self.old.front.seen self.new.front.seen }
         ensures memory { NeedsNoMemory K.taped (step_of event.entry) → IsErrOf result ApplyError.Memory → ⊥ }
         ensures number { self.new.number ≡ self.old.number }

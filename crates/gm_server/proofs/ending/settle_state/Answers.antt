@@ -1,7 +1,7 @@
 use Rattle.std.proofs.Common.{◌∙◌, ap, sym, subst, get_or}
 use Rattle.std.proofs.lemmas.Result.{err_from_is_err_and}
 use Rattle.gm_shared.specs.Tapes.{AddUp}
-use Rattle.gm_server.specs.Owners.{everybody}
+use Rattle.gm_shared.specs.Shared.{everybody}
 use Rattle.gm_server.proofs.Owning.{ended_own}
 use Rattle.gm_server.proofs.Serving.{not_settled}
 use Rattle.gm_server.proofs.ending.settle_state.Goals as goal
@@ -23,7 +23,7 @@ returns g c =
       legal = ended.legal;
       agrees = ended.agrees;
       own = ended_own (λ desk. desk.number) (λ desk. desk.share.items) (λ desk. desk.front) (λ pen. pen.slot) (λ pen. pen.share.items) (λ pen. pen.front) g.K.BookName.settings.slots ended.log
-          desks pens c.in_ok-settled.settled.shares.items ended.shares_are ended.accounts
+          desks pens c.in_ok-settled.settled.shares.items ended.whose ended.shares_are ended.seen
           (λ i none lt. let desk = get_or desks i none in (desk.fronted.1, c.in_ok-desks.ensures.own i none lt))
           (λ i none lt. let pen = get_or pens i none in (pen.fronted.1, pen.own)) all;
       tape = ended.tape;

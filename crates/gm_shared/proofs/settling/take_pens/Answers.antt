@@ -2,7 +2,7 @@ use Rattle.std.proofs.Common.{◌≡◌, rules, map, All, refl, sym, ap, ◌∙�
 use Rattle.std.proofs.lemmas.List.{map-append}
 use Rattle.std.proofs.lemmas.List.Elements.{All-push}
 use Rattle.gm_shared.specs.declared.tape.Actor.TheVariants as actors
-use Rattle.gm_shared.specs.Shared.{GuardedState, told_by, actor_count, Accounts}
+use Rattle.gm_shared.specs.Shared.{GuardedState, told_by, HasSeenOwn}
 use Rattle.gm_shared.proofs.Ending.{all_before, moved}
 use Rattle.gm_shared.proofs.settling.take_pens.Goals as goal
 
@@ -15,7 +15,7 @@ loop-pen-preserved g c = record {
   shares_are = moved (λ pen. (actors.Pen pen.slot, pen.share.items)) _ _ _ _ _ c.in-Some.pen _ (ap (map told_by) c.push_reserved.ensures.items ∙ map-append told_by c.loop-pen.shares.items _)
       c.in-Some.ensures.steps.0 refl c.loop-pen.invariant.shares_are;
   room_for_shares = search rules;
-  accounts = all_before (λ pen. Accounts (actor_count g.K.BookName.settings.slots) c.args.guarded.now.log pen.front) c.args.pens.items _ _ c.in-Some.pen c.in-Some.ensures.steps.0
-      (subst (λ (x : GuardedState). Accounts (actor_count g.K.BookName.settings.slots) x.log c.in-Some.pen.front) c.loop-pen.invariant.kept c.give_back.ensures.accounts) c.loop-pen.invariant.accounts;
+  seen = all_before (λ pen. HasSeenOwn c.args.guarded.now.log pen.front) c.args.pens.items _ _ c.in-Some.pen c.in-Some.ensures.steps.0
+      (subst (λ (x : GuardedState). HasSeenOwn x.log c.in-Some.pen.front) c.loop-pen.invariant.kept c.give_back.ensures.seen) c.loop-pen.invariant.seen;
   kept = c.give_back.ensures.kept ∙ c.loop-pen.invariant.kept;
 }

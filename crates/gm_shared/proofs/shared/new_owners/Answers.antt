@@ -20,6 +20,9 @@ new-requires-in-loop-seat-clause-seat g c =
     let next = next_left _ _ _ _ _ _ c.loop-seat.invariant.left c.in-Some.ensures.steps.0 in
     (ap (λ p. p.table) next.pen_is, ap (λ p. p.slot) next.pen_is)
 
+pub new-requires-clause-nothing_seen : goal.new-requires-clause-nothing_seen
+new-requires-clause-nothing_seen g c = ap (λ f. f.seen) c.new_front.ensures.front ∙ c.loop-seat.invariant.made.empty
+
 pub new-requires-in-loop-seat-clause-nothing_seen : goal.new-requires-in-loop-seat-clause-nothing_seen
 new-requires-in-loop-seat-clause-nothing_seen g c =
     ap (λ f. f.seen) c.new_front-in-loop-seat.ensures.front ∙ (ap (λ k. k.log) c.new_front.ensures.keeper ∙ c.loop-seat.invariant.made.empty)

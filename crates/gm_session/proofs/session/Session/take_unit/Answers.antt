@@ -1,8 +1,14 @@
-use Rattle.std.proofs.Common.{refl}
+use Rattle.std.proofs.Common.{refl, true}
 use Rattle.std.proofs.lemmas.Result.{err_from_is_err_and}
 use Rattle.gm_feeder.specs.Streams.{item_in}
-use Rattle.gm_session.proofs.Handing.{next_fault, unit_stops, fault_stops, packet_stops}
+use Rattle.gm_notes.specs.Servers.{step_of}
+use Rattle.gm_session.proofs.Handing.{next_unit, next_fault, unit_stops, fault_stops, packet_stops}
 use Rattle.gm_session.proofs.session.Session.take_unit.Goals as goal
+
+pub returns-in_ok-apply_unit-in-Unit-clause-takes : goal.returns-in_ok-apply_unit-in-Unit-clause-takes
+returns-in_ok-apply_unit-in-Unit-clause-takes g c =
+    next_unit g.K.BookName.settings g.K.BookName.taped c.args.self.now.applier.desk.now.number _ _ c.take_packet.new.self _ _ _ c.in_default.ensures.none (step_of c.in-Unit.event) true
+    (rw c.in-Unit.is at c.next_event.follows.holds-at-none) c.in_ok-apply_unit-in-Unit.ensures.applies
 
 pub returns-in_ok-apply-in-Fault-clause-takes : goal.returns-in_ok-apply-in-Fault-clause-takes
 returns-in_ok-apply-in-Fault-clause-takes g c =

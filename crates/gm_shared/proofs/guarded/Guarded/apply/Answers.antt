@@ -1,16 +1,18 @@
-use Rattle.std.proofs.Common.{ℕ, ◌∙◌, ◌++◌, ap, sym, subst, List}
+use Rattle.std.proofs.Common.{ℕ, Option, ◌∙◌, ◌++◌, ap, sym, subst, List}
+use Rattle.gm_notes.specs.declared.event.Done.{Done}
 use Rattle.gm_notes.specs.Steps.{Step}
 use Rattle.gm_notes.specs.Servers.{step_of}
 use Rattle.gm_shared.specs.declared.events.Noop.{Noop}
 use Rattle.gm_shared.specs.declared.tape.Entry.{Entry}
 use Rattle.gm_shared.specs.declared.tape.Told.{Told}
-use Rattle.gm_shared.specs.Tapes.{steps_of, Legal, noop_entries}
+use Rattle.gm_shared.specs.declared.tape.Actor.TheVariants as actors
+use Rattle.gm_shared.specs.Tapes.{share_of, steps_of, Legal, noop_entries}
 use Rattle.gm_shared.specs.Books.{BookedAgrees, Held}
-use Rattle.gm_shared.specs.Histories.{Knows, AreOf}
+use Rattle.gm_shared.specs.Histories.{Knows, AreOf, AreBelow}
 use Rattle.gm_shared.specs.Tokens.{if_done}
 use Rattle.gm_shared.specs.Calls.{Calls}
 use Rattle.gm_shared.specs.Shared.{GuardedState, IsGuarded}
-use Rattle.gm_shared.proofs.Entries.{own_added, held_guarded, held_calls, held_shares}
+use Rattle.gm_shared.proofs.Entries.{own_added, held_log, held_guarded, held_calls, held_shares}
 use Rattle.gm_shared.proofs.guarded.Guarded.apply.Goals as goal
 
 pub enter-requires : goal.enter-requires
@@ -35,7 +37,8 @@ invariant_of-self g c =
     let h = c.hold-result.ensures.holding _ (steps_of log) i.agrees in
     let is = ap (λ k. k.log) c.enter.ensures.keeper ∙ ap (λ d. if_done desk s d (noop_entries desk noop) ++ log) c.done_in-done.ensures in (
       subst (IsGuarded g.K.BookName.table g.K.BookName.settings g.K.BookName.taped c.hold-result.new.self) (sym is)
-          (held_guarded _ c.args.event.now desk noop _ _ _ _ log i.legal g.K.BookName.taped i.on i.recorded c.hold-result.result h.2 g.K.BookName.table (c.hold-result.ensures.table ∙ i.table_is)),
+          (held_guarded _ c.args.event.now desk noop _ _ _ _ log i.legal g.K.BookName.taped i.on i.recorded c.hold-result.result h.2 g.K.BookName.table (c.hold-result.ensures.table ∙ i.table_is)
+          (subst (λ (z : ℕ × Option Done). AreBelow z.0 (if_done desk s z.1 (noop_entries desk noop) ++ log)) (λ j. (c.self.invariant.2 j, c.done_in-done.ensures j)) c.enter.ensures.whose)),
       ap (λ k. k.table) c.enter.ensures.keeper ∙ c.self.invariant.1,
       ap (λ k. k.made) c.enter.ensures.keeper ∙ c.self.invariant.2,
     )
@@ -52,12 +55,24 @@ returns-clause-called g c =
     record {
       before = log;
       knows = subst (λ who. Knows log who c.args.front.now.seen) c.requires.who c.enter.ensures.knows;
-      legal = subst (Legal g.K.BookName.settings) (sym is) (held_guarded _ c.args.event.now desk noop _ _ _ _ log i.legal g.K.BookName.taped i.on i.recorded c.hold-result.result h.2 _ (c.hold-result.ensures.table ∙ i.table_is)).legal;
+      legal = subst (Legal g.K.BookName.settings) (sym is) (held_log _ c.args.event.now desk noop _ _ _ _ log i.legal c.hold-result.result h.2).1;
       noop = noop;
       calls = subst (Calls g.K.BookName.settings g.K.BookName.taped s desk noop c.hold-result.result c.hold-result.new.touched log) (sym is)
           (held_calls _ c.args.event.now desk noop _ _ _ _ log i.legal g.K.BookName.taped i.on i.recorded c.hold-result.result h.2);
-      share_is = held_shares _ c.args.event.now desk noop _ _ _ _ log i.legal g.K.BookName.taped i.on i.recorded c.hold-result.result h.2 _ _ h.1;
     }
+
+pub returns-clause-told : goal.returns-clause-told
+returns-clause-told g c =
+    let i = c.self.invariant.0 in
+    let desk = c.args.desk in
+    let noop = c.hold-result.new.found in
+    let s = step_of c.args.event.now in
+    let log = c.self.inside.keeper.log in
+    let h = c.hold-result.ensures.holding _ (steps_of log) i.agrees in
+    let is = ap (λ f. f.seen) c.enter.ensures.front ∙ ap (λ d. if_done desk s d (noop_entries desk noop) ++ log) c.done_in-done.ensures in
+    held_shares _ c.args.event.now desk noop _ _ _ _ log i.legal g.K.BookName.taped i.on i.recorded c.hold-result.result h.2 c.args.front.now.seen
+    (subst (λ who. Knows log who c.args.front.now.seen) c.requires.who c.enter.ensures.knows) _ _ c.requires.told h.1
+    ∙ ap (share_of g.K.BookName.taped (actors.Desk desk)) (sym is)
 
 pub returns-clause-holding : goal.returns-clause-holding
 returns-clause-holding g c =

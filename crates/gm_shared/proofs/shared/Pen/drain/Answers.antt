@@ -8,4 +8,5 @@ invariant_of-self g c = record {
   sits = search rules;
   own = called_own _ _ _ _ _ _ c.drain.ensures.called c.args.self.now.own;
   fronted = search rules;
+  told = c.drain.ensures.told;
 }
