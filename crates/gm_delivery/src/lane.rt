@@ -1,10 +1,9 @@
 //! The way of a slot's bytes to its connection's socket.
 
 ghost use Rattle.std.specs.Prelude.{◌≡◌, ℕ, List, [], Option, true, Some, IfSome, IfNone};
-ghost use Rattle.gm_shared.specs.Calls.{account};
 ghost use Rattle.gm_delivery.specs.Deliveries.{left_in, Delivers};
 
-use crate::message::Delivery;
+use crate::message::{Delivery, write_at_once};
 use crate::outbox::Outbox;
 use crate::timing::has_passed;
 use crossbeam_utils::sync::{Parker, Unparker};
@@ -18,11 +17,8 @@ use std::sync::atomic::{AtomicBool, Ordering};
 use std::sync::{Arc, Condvar, Mutex, Wait};
 use std::time::{Clock, Duration, Instant};
 
-/// How long a write waits that isn't the writer's: about the least that a system can wait.
-const WRITE_TIMEOUT_MS: u64 = 1;
-
-/// How long a write of the writer waits at a time.
-const WRITER_TIMEOUT_MS: u64 = 250;
+/// How long a write waits at a time, which only the writer's does.
+const WRITE_TIMEOUT_MS: u64 = 250;
 
 /// How long a connection that is to end has for what it is still to be sent: while its peer takes nothing, or the server ends,
 /// from when its writer first found it late.
@@ -56,6 +52,7 @@ impl End {
 
     /// Looks at the time after a write: a peer that takes some has more, unless the server ends.
     fn look(&mut self, rt: &impl Clock, has_taken: bool, is_stopping: bool) {
+        // Modelled in models/lane.h.
         if has_taken {
             self.stalled = None;
         }
@@ -69,21 +66,33 @@ impl End {
     }
 }
 
+/// Whose delivery it is: only the writer waits for a slow peer.
+#[derive(Clone, Copy, PartialEq, Eq)]
+enum Deliverer {
+    Writer,
+    Another,
+}
+
 /// A connection's socket. Once the connection is to end and has had its time, it takes no more.
 #[derive(Drop)]
 struct Socket<'a, K: BookName, R> {
     rt: &'a R,
     lane: &'a Lane<K>,
     stream: &'a TcpStream,
+    deliverer: Deliverer,
     end: End,
 }
 
 impl<'a, K: BookName, R: Clock> Write for Socket<'a, K, R> {
     fn write(&mut self, bytes: &[u8]) -> io::Result<usize> {
+        // Modelled in models/lane.h.
         if self.end.deadline_passed {
             return Err(io::Error::from(ErrorKind::TimedOut));
         }
-        let outcome = self.stream.write(bytes);
+        let outcome = match self.deliverer {
+            Deliverer::Writer => self.stream.write(bytes),
+            Deliverer::Another => write_at_once(self.stream, bytes),
+        };
         if self.lane.is_ending.load(Ordering::SeqCst) {
             let has_taken = matches!(outcome, Ok(count) if count > 0);
             let is_stopping = self.lane.is_stopping.load(Ordering::SeqCst);
@@ -115,11 +124,13 @@ impl<K: BookName> Sender<K> {
         ensures stream { self.new.stream ≡ Some stream }
         ensures taken { self.new.has_connection ≡ true }
     {
+        // Modelled in models/lane.h.
+        // Where it fails, writes fail too.
+        let _ = stream.set_write_timeout(Some(Duration::from_millis(WRITE_TIMEOUT_MS)));
         Outbox::forget(&mut self.outbox);
         self.stream = Some(stream);
         self.has_connection = true;
         self.end = End::new();
-        self.set_write_timeout(WRITE_TIMEOUT_MS);
     }
 
     /// Ends the connection, so that its reader ends.
@@ -129,19 +140,12 @@ impl<K: BookName> Sender<K> {
         ensures stream { self.new.stream ≡ self.old.stream }
         ensures connection { self.new.has_connection ≡ self.old.has_connection }
     {
+        // Modelled in models/lane.h.
         if let Some(stream) = &self.stream {
             // Where it fails, the peer is gone already.
             let _ = stream.shutdown(Shutdown::Both);
         }
         self.outbox.forget();
-    }
-
-    /// Sets how long a write waits.
-    fn set_write_timeout(&self, timeout_ms: u64) {
-        if let Some(stream) = &self.stream {
-            // Where it fails, writes fail too.
-            let _ = stream.set_write_timeout(Some(Duration::from_millis(timeout_ms)));
-        }
     }
 
     /// Sends what there is to send, and ends the connection where it is over. It is done only in a look at the lane.
@@ -151,15 +155,17 @@ impl<K: BookName> Sender<K> {
         shared: &Shared<K>,
         lane: &Lane<K>,
         _looking: &Looking<'_>,
+        deliverer: Deliverer,
     ) -> Delivery
         ensures delivers { IfSome self.old.stream (λ stream. (old new : Option (List ℕ)) × Delivers K.settings K.taped result self.old.outbox.pen.slot
-            self.old.outbox.pen.seat.takes self.new.outbox.pen.seat.takes (account self.old.outbox.pen.share.items self.old.outbox.pen.front.seen) (account self.new.outbox.pen.share.items self.new.outbox.pen.front.seen) old new
+            self.old.outbox.pen.seat.takes self.new.outbox.pen.seat.takes self.old.outbox.pen.front.seen self.new.outbox.pen.front.seen old new
             (left_in self.old.outbox.left) (left_in self.new.outbox.left)) }
         ensures none { IfNone self.old.stream ((result ≡ Delivery.Over) × (self.new.outbox ≡ self.old.outbox)) }
         ensures slot { self.new.outbox.pen.slot ≡ self.old.outbox.pen.slot }
         ensures stream { self.new.stream ≡ self.old.stream }
         ensures connection { self.new.has_connection ≡ self.old.has_connection }
     {
+        // Modelled in models/lane.h.
         let Some(stream) = &self.stream else {
             return Delivery::Over;
         };
@@ -167,6 +173,7 @@ impl<K: BookName> Sender<K> {
             rt,
             lane,
             stream,
+            deliverer,
             end: self.end,
         };
         let delivery = self.outbox.deliver(rt, shared, &mut socket);
@@ -212,6 +219,7 @@ pub struct Lane<K: BookName> {
 impl<K: BookName> Lane<K> {
     /// A lane with this pen, and no connection yet.
     pub fn new(alloc: Global, pen: Pen<K>) -> Result<Lane<K>, AllocError> {
+        // Modelled in models/lane.h.
         let parker = Parker::new(alloc)?;
         let unparker = parker.unparker().clone()?;
         Ok(Lane {
@@ -266,6 +274,7 @@ impl<K: BookName> Lane<K> {
 
     /// Gives the reader the slot's next connection.
     pub fn arrive(&self, rt: &impl Wait, stream: Arc<TcpStream, Global>) {
+        // Modelled in models/lane.h.
         // Before the reader has it: it may be told to end at once.
         self.is_ending.store(false, Ordering::SeqCst);
         self.crew.lock(rt).stream = Some(stream);
@@ -274,6 +283,7 @@ impl<K: BookName> Lane<K> {
 
     /// Waits for the slot's next connection. None means that none comes any more.
     pub fn next_stream(&self, rt: &impl Wait) -> Option<Arc<TcpStream, Global>> {
+        // Modelled in models/lane.h.
         let mut crew = self.arrived.wait_while(
             rt,
             self.crew.lock(rt),
@@ -284,6 +294,7 @@ impl<K: BookName> Lane<K> {
 
     /// Has the slot's threads end, once they have no connection.
     pub fn dismiss(&self, rt: &impl Wait) {
+        // Modelled in models/lane.h.
         self.crew.lock(rt).is_dismissed = true;
         self.arrived.notify_one();
         self.wake_writer();
@@ -296,14 +307,16 @@ impl<K: BookName> Lane<K> {
         shared: &Shared<K>,
         stream: Arc<TcpStream, Global>,
     ) {
+        // Modelled in models/lane.h.
         self.sender.lock(rt).begin(stream);
         if let Ok(owed) = self.word.take_over() {
-            let _is_late = self.deliver_owed(rt, shared, owed);
+            self.deliver_owed(rt, shared, owed);
         }
     }
 
     /// Ends the connection, and lets go of it, after its writer's last look.
     fn release(&self, rt: &impl Wait) {
+        // Modelled in models/lane.h.
         let mut sender = self.sender.lock(rt);
         sender.hang_up();
         sender.stream = None;
@@ -313,23 +326,27 @@ impl<K: BookName> Lane<K> {
     }
 
     fn wake_writer(&self) {
+        // Modelled in models/lane.h.
         self.unparker.unpark();
     }
 
     /// Has the writer send what there is, and end the connection.
     fn request_close(&self) {
+        // Modelled in models/lane.h.
         self.is_ending.store(true, Ordering::SeqCst);
         self.wake_writer();
     }
 
     /// As `request_close`, since the server ends.
     pub fn stop(&self) {
+        // Modelled in models/lane.h.
         self.is_stopping.store(true, Ordering::SeqCst);
         self.request_close();
     }
 
     /// Has the writer send what there is, and waits until it has let go of the connection.
     pub fn end(&self, rt: &impl Wait) {
+        // Modelled in models/lane.h.
         self.request_close();
         let sender = self
             .released
@@ -339,6 +356,7 @@ impl<K: BookName> Lane<K> {
 
     /// Tells the lane that there may be something to send, which is left to the writer, or to the thread that looks anyway.
     pub fn touch_for_writer(&self) {
+        // Modelled in models/lane.h.
         // An error means that another thread looks after this touch.
         if let Ok(owed) = self.word.touch() {
             let _tally = owed.hand_over(|_| self.wake_writer());
@@ -346,41 +364,39 @@ impl<K: BookName> Lane<K> {
     }
 
     /// Tells the lane that there may be something to send, and sends it, unless another thread has the lane and so looks after
-    /// this. It says whether it found the peer slow.
-    pub fn touch<R: Wait + Clock>(&self, rt: &R, shared: &Shared<K>) -> bool {
-        match self.word.touch() {
-            Ok(owed) => self.deliver_owed(rt, shared, owed),
-            Err(_) => false,
+    /// this.
+    pub fn touch<R: Wait + Clock>(&self, rt: &R, shared: &Shared<K>) {
+        // Modelled in models/lane.h.
+        if let Ok(owed) = self.word.touch() {
+            self.deliver_owed(rt, shared, owed);
         }
     }
 
     /// Looks, and again where the lane was touched since. Where the peer is slow, or the connection is to end, or the lane
     /// is touched again and again, the writer does the rest.
-    fn deliver_owed<'a, R: Wait + Clock>(
-        &'a self,
-        rt: &R,
-        shared: &Shared<K>,
-        owed: Owed<'a>,
-    ) -> bool {
+    fn deliver_owed<'a, R: Wait + Clock>(&'a self, rt: &R, shared: &Shared<K>, owed: Owed<'a>) {
+        // Modelled in models/lane.h.
         let mut owed = owed;
         for _ in 0..MOST_LOOKS {
             let (looking, (is_ending, delivery)) = owed.look(|looking| {
                 // Read first: the thread that asks for the end wakes the writer, which touches the lane after that.
                 let is_ending = self.is_ending.load(Ordering::SeqCst);
-                let delivery = self.sender.lock(rt).deliver(rt, shared, self, looking);
+                let delivery = self
+                    .sender
+                    .lock(rt)
+                    .deliver(rt, shared, self, looking, Deliverer::Another);
                 (is_ending, delivery)
             });
             if is_ending || delivery == Delivery::Late {
                 let _tally = looking.hand_over(|_| self.wake_writer());
-                return delivery == Delivery::Late;
+                return;
             }
             match looking.finish() {
-                Ok(_) => return false,
+                Ok(_) => return,
                 Err(again) => owed = again,
             }
         }
         let _tally = owed.hand_over(|_| self.wake_writer());
-        false
     }
 
     /// Delivers, and waits for a slow peer; where the connection is to end, not for long.
@@ -390,13 +406,10 @@ impl<K: BookName> Lane<K> {
         shared: &Shared<K>,
         looking: &Looking<'_>,
     ) {
+        // Modelled in models/lane.h.
         let mut sender = self.sender.lock(rt);
-        if sender.deliver(rt, shared, self, looking) != Delivery::Late {
-            return;
-        }
-        sender.set_write_timeout(WRITER_TIMEOUT_MS);
         for _ in rt.forever() {
-            if sender.deliver(rt, shared, self, looking) != Delivery::Late {
+            if sender.deliver(rt, shared, self, looking, Deliverer::Writer) != Delivery::Late {
                 break;
             }
             if sender.end.deadline_passed {
@@ -404,7 +417,6 @@ impl<K: BookName> Lane<K> {
                 break;
             }
         }
-        sender.set_write_timeout(WRITE_TIMEOUT_MS);
     }
 
     /// Looks as the writer, and again where the lane was touched since. It says whether that was the connection's last
@@ -415,6 +427,7 @@ impl<K: BookName> Lane<K> {
         shared: &Shared<K>,
         owed: Owed<'a>,
     ) -> bool {
+        // Modelled in models/lane.h.
         let mut owed = owed;
         for _ in rt.forever() {
             let (looking, is_last) = owed.look(|looking| {
@@ -437,6 +450,7 @@ impl<K: BookName> Lane<K> {
     /// Runs the slot's writer, connection after connection, until none comes any more. What woke it may be of a connection
     /// that is gone.
     pub fn run_writer<R: Wait + Clock>(&self, rt: &R, shared: &Shared<K>) {
+        // Modelled in models/lane.h.
         let parker = self.parker.lock(rt);
         for _ in rt.forever() {
             if !self.sender.lock(rt).has_connection {

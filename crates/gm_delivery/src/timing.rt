@@ -10,6 +10,7 @@ pub fn has_passed(rt: &impl Clock, begun: &mut Option<Instant>, time_ms: u64) ->
     ensures keeps { IfSome begun.old (λ first. begun.new ≡ Some first) }
     ensures first { begun.old ≡ None → result ≡ is_none begun.new }
 {
+    // Modelled in models/lane.h.
     match begun {
         Some(begun) => match begun.elapsed(rt) {
             Ok(elapsed) => elapsed >= Duration::from_millis(time_ms),
