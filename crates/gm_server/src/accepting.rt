@@ -3,11 +3,11 @@
 use crate::connection::start;
 use crate::error::ControlError;
 use crate::keepalive::set_peer_timeout;
+use crate::speaking::Trouble;
 use crate::state::ServerState;
 use gm_session::Gate;
 use gm_shared::BookName;
 use libc::{EBADF, EINVAL, EMFILE, ENOTSOCK};
-use std::alloc::AllocError;
 use std::io::ErrorKind;
 use std::net::{SocketAddr, TcpListener, TcpStream};
 use std::os::fd::OwnedFd;
@@ -18,6 +18,9 @@ use std::{io, thread};
 
 /// How long the control thread waits for a connection. A tick and the end may be late by this.
 const ACCEPT_TIMEOUT_MS: u64 = 50;
+
+/// The error of a system that is out of file descriptors (errno(3)).
+const ENFILE: i32 = 23;
 
 /// Has `accept` return where no connection comes for a while.
 pub(crate) fn set_accept_timeout(listener: &TcpListener) -> io::Result<()> {
@@ -37,6 +40,7 @@ fn prepare(stream: &TcpStream, peer_timeout: u16) -> io::Result<()> {
 /// Whether this error says that the listener itself failed. Other errors of `accept` come from one connection, or from
 /// others that are open, and pass.
 fn is_fatal(error: &io::Error) -> bool {
+    // Modelled in models/shutdown.pml.
     match error.raw_os_error() {
         Some(code) => code == EINVAL || code == EBADF || code == ENOTSOCK,
         None => false,
@@ -56,6 +60,7 @@ fn is_usual(error: &io::Error) -> bool {
 
 /// Waits until each connection has ended. One that has just arrived needs its writer until then.
 fn wait_for_ends<K: BookName>(rt: &(impl Wait + Clock), state: &ServerState<K>) {
+    // Modelled in models/shutdown.pml.
     for _ in rt.forever() {
         if !state.has_connections() {
             return;
@@ -72,8 +77,8 @@ pub(crate) struct Control<'s, K: BookName> {
     peer_timeout: u16,
     /// How many connections were opened.
     opened: u64,
-    /// Whether it was said that connections wait because descriptors ran out.
-    has_warned: bool,
+    /// How many were refused.
+    refused: u64,
 }
 
 impl<'s, K: BookName + Send + Sync> Control<'s, K> {
@@ -82,11 +87,46 @@ impl<'s, K: BookName + Send + Sync> Control<'s, K> {
             state,
             peer_timeout,
             opened: 0,
-            has_warned: false,
+            refused: 0,
         }
     }
 
-    /// Opens a connection. One that is refused is closed without a byte.
+    /// Opens a connection, and has it served. One that is refused is closed without a byte.
+    fn open<E, R: Threads + Wait + Clock + Sync, G: Gate>(
+        &mut self,
+        scope: &Scope<'s, E>,
+        rt: &'s R,
+        gate: &'s G,
+        stream: TcpStream,
+        peer: SocketAddr,
+    ) -> Result<(), Trouble> {
+        let alloc = self.state.alloc();
+        let ip = peer.ip();
+        let Ok(addr) = format!(in alloc; "{ip}") else {
+            return Err(Trouble::Memory);
+        };
+        let Ok(stream) = Arc::new(alloc, stream) else {
+            return Err(Trouble::Memory);
+        };
+        let mut desk = self.state.control.lock(rt);
+        let opened = self.state.open(rt, &mut desk, addr.as_bytes());
+        drop(desk);
+        let Some(slot) = opened else {
+            return Err(if self.state.has_free_slot() {
+                Trouble::Memory
+            } else {
+                Trouble::Slots
+            });
+        };
+        self.opened = self.opened.saturating_add(1);
+        if start(scope, rt, self.state, gate, slot, stream) {
+            return Ok(());
+        }
+        self.state.close_slot(rt, slot);
+        Err(Trouble::Threads)
+    }
+
+    /// Takes a connection that came, unless it is gone, or refuses it, and has that said. After a graceful stop each is refused.
     fn admit<E, R: Threads + Wait + Clock + Sync, G: Gate>(
         &mut self,
         scope: &Scope<'s, E>,
@@ -94,52 +134,48 @@ impl<'s, K: BookName + Send + Sync> Control<'s, K> {
         gate: &'s G,
         stream: TcpStream,
         peer: SocketAddr,
-    ) -> Result<(), AllocError> {
+    ) {
+        // Modelled in models/endings.pml, shutdown.pml, ticks.pml.
         let Ok(()) = prepare(&stream, self.peer_timeout) else {
-            return Ok(());
+            return;
         };
-        let alloc = self.state.alloc();
-        let ip = peer.ip();
-        let addr = format!(in alloc; "{ip}")?;
-        let stream = Arc::new(alloc, stream)?;
-        let mut desk = self.state.control.lock(rt);
-        let opened = self.state.open(rt, &mut desk, addr.as_bytes());
-        drop(desk);
-        let Some(slot) = opened else {
-            return Ok(());
-        };
-        self.opened = self.opened.saturating_add(1);
-        if !start(scope, rt, self.state, gate, slot, stream) {
-            self.state.close_slot(rt, slot);
+        let speaker = &self.state.speaker;
+        match self.open(scope, rt, gate, stream, peer) {
+            Ok(()) => speaker.clear(rt),
+            Err(trouble) => {
+                self.refused = self.refused.saturating_add(1);
+                if !self.state.is_ending() {
+                    speaker.note(rt, trouble);
+                }
+            }
         }
-        Ok(())
     }
 
-    /// Waits if no connection can be taken at present, and says so once if the process is out of file descriptors: other
-    /// connections have to be closed first.
-    fn hold_on(&mut self, rt: &(impl Clock + Eprint), error: &io::Error) {
-        if error.raw_os_error() == Some(EMFILE) && !self.has_warned {
-            self.has_warned = true;
-            let _ = eprintln!(rt; "gmd: out of file descriptors, connections wait: {error}");
-        }
+    /// Waits if no connection can be taken at present, and has that said: other connections have to be closed first.
+    fn hold_on(&self, rt: &(impl Wait + Clock), error: &io::Error) {
+        let code = error.raw_os_error().unwrap_or(0);
+        let trouble = if code == EMFILE || code == ENFILE {
+            Trouble::Descriptors(code)
+        } else {
+            Trouble::Accept(code)
+        };
+        self.state.speaker.note(rt, trouble);
         thread::sleep(rt, Duration::from_millis(ACCEPT_TIMEOUT_MS));
     }
 
     /// Takes connections and hands in ticks until the server can end.
-    fn take_all<E, R: Threads + Wait + Clock + Eprint + Sync, G: Gate>(
+    fn take_all<E, R: Threads + Wait + Clock + Sync, G: Gate>(
         &mut self,
         scope: &Scope<'s, E>,
         rt: &'s R,
         gate: &'s G,
         listener: &TcpListener,
     ) -> Result<(), ControlError> {
+        // Modelled in models/shutdown.pml and ticks.pml.
         for _ in rt.forever() {
             self.state.update_time(rt);
             match listener.accept() {
-                Ok((stream, peer)) => {
-                    // If out of memory, the connection is closed, and the server goes on.
-                    let _ = self.admit(scope, rt, gate, stream, peer);
-                }
+                Ok((stream, peer)) => self.admit(scope, rt, gate, stream, peer),
                 Err(error) if is_usual(&error) => {}
                 Err(error) if is_fatal(&error) => return Err(ControlError::Listen),
                 Err(error) => self.hold_on(rt, &error),
@@ -163,13 +199,22 @@ impl<'s, K: BookName + Send + Sync> Control<'s, K> {
         gate: &'s G,
         listener: &TcpListener,
     ) -> Result<u64, ControlError> {
+        // Modelled in models/shutdown.pml.
+        let state = self.state;
+        // Without this thread nothing is said.
+        let _ = scope.spawn(move || state.speaker.run(rt, state.slot_count));
         let outcome = self.take_all(scope, rt, gate, listener);
-        let Control { state, opened, .. } = self;
+        let Control {
+            opened,
+            refused,
+            ..
+        } = self;
         if outcome.is_err() {
             state.stop();
             wait_for_ends(rt, state);
         }
         state.dismiss(rt);
+        state.speaker.end(rt, refused);
         outcome?;
         Ok(opened)
     }

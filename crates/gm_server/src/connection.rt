@@ -19,6 +19,7 @@ pub(crate) fn start<'s, E, K: BookName + Send + Sync, G: Gate, R: Threads + Wait
     number: u32,
     stream: Arc<TcpStream, Global>,
 ) -> bool {
+    // Modelled in models/endings.pml and shutdown.pml.
     let Some(slot) = state.slot(number) else {
         return false;
     };

@@ -18,6 +18,7 @@ mod run;
 mod server;
 mod settings;
 mod slot;
+mod speaking;
 mod state;
 mod systemd;
 

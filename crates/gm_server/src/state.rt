@@ -2,10 +2,10 @@
 
 ghost use Rattle.std.specs.Prelude.{◌≡◌, ◌<◌, ◌≤◌, All, [], true, false, None, IfSome, IfNone, length};
 ghost use Rattle.gm_notes.specs.Steps.{Close};
-ghost use Rattle.gm_shared.specs.Calls.{account};
 ghost use Rattle.gm_session.specs.Owners.{Asks, Opens};
 
 use crate::slot::Slot;
+use crate::speaking::Speaker;
 use gm_conns::SlotSet;
 use gm_delivery::{Lane, has_passed};
 use gm_feeder::Limits;
@@ -34,6 +34,8 @@ pub(crate) struct ServerState<K: BookName> {
     pub(crate) slot_count: u32,
     // Where connections are opened, and ticks handed in.
     pub(crate) control: Mutex<OwnDesk<K>>,
+    // What is said while the server runs.
+    pub(crate) speaker: Speaker,
     limits: Limits,
     // When the server began, if the clock could be read.
     begun: Option<Instant>,
@@ -58,35 +60,28 @@ struct Round {
     has_begun: bool,
     /// When the clock was first read: a round of one slot doesn't read it.
     begun: Option<Instant>,
-    /// A peer was found slow, or the time is over.
-    is_late: bool,
 }
 
 impl Round {
     fn new() -> Round
         ensures begun { result.has_begun ≡ false }
         ensures clock { result.begun ≡ None }
-        ensures late { result.is_late ≡ false }
     {
         Round {
             has_begun: false,
             begun: None,
-            is_late: false,
         }
     }
 
     /// Whether the rest is for the writers. It is asked before each slot.
     fn is_left_to_writers(&mut self, rt: &impl Clock) -> bool
         ensures begun { self.new.has_begun ≡ true }
-        ensures says { self.new.is_late ≡ result }
-        ensures first { self.old.has_begun ≡ false → result ≡ self.old.is_late }
-        ensures stays { self.old.is_late ≡ true → result ≡ true }
+        ensures first { self.old.has_begun ≡ false → result ≡ false }
     {
-        if self.has_begun && !self.is_late {
-            self.is_late = has_passed(rt, &mut self.begun, DELIVERING_TIME_MS);
-        }
+        // Modelled in models/jobs.pml.
+        let is_first = !self.has_begun;
         self.has_begun = true;
-        self.is_late
+        !is_first && has_passed(rt, &mut self.begun, DELIVERING_TIME_MS)
     }
 }
 
@@ -130,6 +125,7 @@ impl<K: BookName> ServerState<K> {
             slots,
             slot_count,
             control: Mutex::new(control),
+            speaker: Speaker::new(),
             limits,
             begun: Instant::now(rt).ok(),
             second: AtomicU64::new(0),
@@ -162,31 +158,47 @@ impl<K: BookName> ServerState<K> {
 
     /// Whether the server takes no new connections, and has none; or it ran out of memory at the end of one.
     pub(crate) fn can_end(&self) -> bool {
-        self.out_of_memory() || self.is_ending.load(Ordering::SeqCst) && !self.has_connections()
+        // Modelled in models/shutdown.pml.
+        self.out_of_memory() || self.is_ending() && !self.has_connections()
+    }
+
+    /// Whether the server takes no new connections.
+    pub(crate) fn is_ending(&self) -> bool {
+        self.is_ending.load(Ordering::SeqCst)
+    }
+
+    /// Whether fewer connections are open than there are slots.
+    pub(crate) fn has_free_slot(&self) -> bool {
+        self.connections.load(Ordering::SeqCst) < self.slot_count as u64
     }
 
     /// Whether a connection is open, or about to start.
     pub(crate) fn has_connections(&self) -> bool {
+        // Modelled in models/shutdown.pml.
         self.connections.load(Ordering::SeqCst) > 0
     }
 
     /// Whether it ran out of memory at a connection's end.
     pub(crate) fn out_of_memory(&self) -> bool {
+        // Modelled in models/shutdown.pml.
         self.out_of_memory.load(Ordering::SeqCst)
     }
 
     /// Counts a connection that is about to start.
     pub(crate) fn begin(&self) {
+        // Modelled in models/shutdown.pml.
         self.connections.fetch_add(1, Ordering::SeqCst);
     }
 
     /// Counts a connection that is gone.
     pub(crate) fn end(&self) {
+        // Modelled in models/shutdown.pml.
         self.connections.fetch_sub(1, Ordering::SeqCst);
     }
 
     /// Has each connection end.
     pub(crate) fn stop(&self) {
+        // Modelled in models/shutdown.pml.
         if self.is_stopped.swap(true, Ordering::SeqCst) {
             return;
         }
@@ -196,22 +208,22 @@ impl<K: BookName> ServerState<K> {
     }
 
     /// Touches the lane of a slot, and delivers where nobody else does; or has its writer do so, where the round is over.
-    fn touch<R: Wait + Clock>(&self, rt: &R, number: u32, round: &mut Round)
-        ensures { round.old.is_late ≡ true → round.new.is_late ≡ true }
-    {
+    fn touch<R: Wait + Clock>(&self, rt: &R, number: u32, round: &mut Round) {
+        // Modelled in models/deliver.pml and endings.pml.
         let Some(slot) = self.slot(number) else {
             return;
         };
         if round.is_left_to_writers(rt) {
             slot.lane.touch_for_writer();
         } else {
-            round.is_late = slot.lane.touch(rt, &self.shared);
+            slot.lane.touch(rt, &self.shared);
         }
     }
 
-    /// Touches the lane of each of the slots, and delivers where nobody else does, until a peer is found slow or the time
-    /// is over; then it has the writers do so. One's own connection is answered first: there may be a thousand others.
+    /// Touches the lane of each of the slots, and delivers where nobody else does, until the time is over; then it has the
+    /// writers do so. One's own connection is answered first: there may be a thousand others.
     fn deliver<R: Wait + Clock>(&self, rt: &R, effects: &Effects) {
+        // Modelled in models/jobs.pml and shutdown.pml.
         let mut round = Round::new();
         let own = effects.own_touched();
         if let Some(slot) = own {
@@ -226,6 +238,7 @@ impl<K: BookName> ServerState<K> {
 
     /// Notifies others of what came of an event.
     fn notify_of<R: Wait + Clock>(&self, rt: &R, touched: &SlotSet, mode: Mode) {
+        // Modelled in models/jobs.pml.
         let mut effects = Effects::new(None);
         effects.add(touched, mode);
         self.notify(rt, &effects);
@@ -238,9 +251,10 @@ impl<K: BookName> ServerState<K> {
         desk: &mut OwnDesk<K>,
         addr: &[u8],
     ) -> Option<u32>
-        ensures opens { Opens K.settings K.taped desk.old.desk.number addr.now result (account desk.old.desk.share.items desk.old.desk.front.seen) (account desk.new.desk.share.items desk.new.desk.front.seen) }
+        ensures opens { Opens K.settings K.taped desk.old.desk.number addr.now result desk.old.desk.front.seen desk.new.desk.front.seen }
         ensures number { desk.new.desk.number ≡ desk.old.desk.number }
     {
+        // Modelled in models/shutdown.pml and ticks.pml.
         let mut touched = SlotSet::new();
         let receipt = desk.open(rt, &self.shared, addr, &mut touched).ok()?;
         self.notify_of(rt, &touched, receipt.mode);
@@ -249,12 +263,14 @@ impl<K: BookName> ServerState<K> {
 
     /// How many seconds the server has run, if the clock can be read.
     fn seconds(&self, rt: &impl Clock) -> Option<u64> {
+        // Modelled in models/ticks.pml.
         let elapsed = self.begun.as_ref()?.elapsed(rt).ok()?;
         Some(elapsed.as_secs())
     }
 
     /// Hands in the present second, if it is later than the last that was. Where the clock can't be read, there is no tick.
     pub(crate) fn update_time<R: Wait + Clock>(&self, rt: &R) {
+        // Modelled in models/jobs.pml and ticks.pml.
         if let Some(now) = self.seconds(rt) {
             if self.second.load(Ordering::SeqCst) < now {
                 self.tick(rt, now);
@@ -265,6 +281,7 @@ impl<K: BookName> ServerState<K> {
     /// Hands in this second, unless another thread was first. If there is no memory for that, the book gets the next
     /// second.
     fn tick<R: Wait + Clock>(&self, rt: &R, now: u64) {
+        // Modelled in models/jobs.pml and ticks.pml.
         let mut touched = SlotSet::new();
         let mut desk = self.control.lock(rt);
         if now <= self.second.load(Ordering::SeqCst) {
@@ -282,9 +299,10 @@ impl<K: BookName> ServerState<K> {
     /// Closes a desk's slot. With a tape there may be no memory for that. Then the slot stays open in the book, and the
     /// server ends.
     fn close<R: Wait + Clock>(&self, rt: &R, desk: &mut OwnDesk<K>)
-        ensures asks { Asks K.settings K.taped (Close desk.old.desk.number) desk.old.desk.number (account desk.old.desk.share.items desk.old.desk.front.seen) (account desk.new.desk.share.items desk.new.desk.front.seen) }
+        ensures asks { Asks K.settings K.taped (Close desk.old.desk.number) desk.old.desk.number desk.old.desk.front.seen desk.new.desk.front.seen }
         ensures number { desk.new.desk.number ≡ desk.old.desk.number }
     {
+        // Modelled in models/endings.pml and shutdown.pml.
         let mut touched = SlotSet::new();
         match desk.close(rt, &self.shared, &mut touched) {
             Ok(receipt) => self.notify_of(rt, &touched, receipt.mode),
@@ -295,6 +313,7 @@ impl<K: BookName> ServerState<K> {
 
     /// Closes a slot whose connection couldn't start.
     pub(crate) fn close_slot<R: Wait + Clock>(&self, rt: &R, number: u32) {
+        // Modelled in models/endings.pml and shutdown.pml.
         if let Some(slot) = self.slot(number) {
             let mut desk = slot.desk.lock(rt);
             self.close(rt, &mut desk);
@@ -309,6 +328,7 @@ impl<K: BookName> ServerState<K> {
         slot: &Slot<K>,
         stream: &Arc<TcpStream, Global>,
     ) {
+        // Modelled in models/endings.pml and shutdown.pml.
         let mut desk = slot.desk.lock(rt);
         if let Ok(sending) = Arc::try_clone(stream) {
             slot.lane.begin(rt, &self.shared, sending);
@@ -329,6 +349,7 @@ impl<K: BookName> ServerState<K> {
 
     /// Runs a slot's reader, connection after connection, until none comes any more.
     pub(crate) fn run_reader<R: Wait + Clock, G: Gate>(&self, rt: &R, gate: &G, slot: &Slot<K>) {
+        // Modelled in models/endings.pml and shutdown.pml.
         for _ in rt.forever() {
             let Some(stream) = slot.lane.next_stream(rt) else {
                 break;
@@ -341,6 +362,7 @@ impl<K: BookName> ServerState<K> {
 
     /// Has the threads of each slot end, once they have no connection.
     pub(crate) fn dismiss(&self, rt: &impl Wait) {
+        // Modelled in models/shutdown.pml.
         for slot in &self.slots {
             slot.lane.dismiss(rt);
         }
@@ -361,6 +383,7 @@ impl<K: BookName, R: Wait + Clock> Notify<R> for ServerState<K> {
     }
 
     fn notify(&self, rt: &R, effects: &Effects) {
+        // Modelled in models/deliver.pml and shutdown.pml.
         match effects.mode {
             Mode::Running => {}
             Mode::Graceful => self.is_ending.store(true, Ordering::SeqCst),
