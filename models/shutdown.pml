@@ -1,0 +1,336 @@
+/* The end of the server: the control thread takes CALLS connections in N slots (Control::take_all, admit and run, accepting.rt;
+ * start, connection.rt), each slot with a reader and a writer that stay; some peers never close, some never read, one may ask for
+ * `shutdown` or `shutdown graceful` at any point; threads can't be made, a closing finds no memory (with a tape), the listener fails.
+ * The program ends: once the book was stopped, memory ran out or the listener failed, whatever peers do; after a graceful shutdown
+ * once the peers are gone; otherwise it goes on. In quiescent states of a server that goes on nothing waits for a connection that
+ * lives. No deadlock. Order and stale flags as in endings.pml. */
+#ifndef N
+#define N 2
+#endif
+#ifndef CALLS
+#define CALLS 2
+#endif
+#ifndef FAILS
+#define FAILS 0
+#endif
+#ifndef WANTS
+#define WANTS 0          /* how many closings find no memory */
+#endif
+#ifndef LISTEN
+#define LISTEN 0         /* how often the listener fails */
+#endif
+#ifndef ADMIN
+#define ADMIN 1          /* what an administrator says: 1 shutdown, 2 shutdown graceful, 0 nothing */
+#endif
+#ifndef UNITS
+#define UNITS 1
+#endif
+#ifndef DEAF
+#define DEAF 1           /* 1: peers may be deaf; 2: also after a first message; 3: also slow */
+#endif
+#ifndef LATES
+#define LATES 0
+#endif
+#ifndef ROLES
+#define ROLES 0          /* 1: slot 0 has the administrator, who reads; slot 1 a peer that may send and be deaf; both stay */
+#endif
+#define CHOOSE_PEER(s) \
+    if \
+    :: lates[s] = LATES \
+    :: DEAF && (!ROLES || s == 1) -> deaf[s] = true \
+    :: DEAF > 1 && (!ROLES || s == 1) -> deaf[s] = true; room[s] = 1 \
+    :: DEAF > 2 && (!ROLES || s == 1) -> slow[s] = true \
+    fi; \
+    if \
+    :: stays[s] = true \
+    :: !ROLES -> stays[s] = false \
+    fi
+#define ON_LAST(s) assert(!is_last || may_end[s] || is_stopped)
+bool stays[N];           /* the peer never closes */
+bool may_end[N];
+bool is_stopped = false;
+#include "lane.h"
+
+bit  desk[N];
+bit  control = 0;
+byte mode = RUNNING;     /* of the core, under the book's lock */
+byte connections = 0;
+bool server_is_ending = false;   /* ServerState::is_ending */
+bool out_of_memory = false;
+byte fails = FAILS;
+byte wants = WANTS;
+byte listen = LISTEN;
+byte calls = CALLS;
+byte admins = (ADMIN > 0 -> 1 : 0);
+bool listen_failed = false;
+byte readers = 0;        /* threads of the scope */
+byte writers = 0;
+bool ended = false;
+bool errored = false;    /* the control thread answered an error */
+
+/* ServerState::stop (state.rt) */
+inline stop() {
+    atomic { seen_stopped = is_stopped; is_stopped = true };
+    if
+    :: seen_stopped
+    :: else ->
+#ifdef M_STOP_WITHOUT_REQUEST
+        skip
+#else
+        stop_lane(0);
+#if N > 1
+        stop_lane(1)
+#endif
+#endif
+    fi;
+    seen_stopped = false
+}
+
+/* ServerState::notify and deliver (state.rt), with what a critical section told: one's own slot first */
+inline notify() {
+    if
+    :: told_mode == RUNNING
+    :: told_mode == GRACEFUL ->
+#ifdef M_GRACEFUL_FORGETS
+        skip
+#else
+        server_is_ending = true
+#endif
+    :: told_mode == STOPPED -> server_is_ending = true; stop()
+    fi;
+    told_mode = RUNNING;
+#if N > 1
+    if
+    :: (told & 1) && !(own == 1 && (told & 2)) -> touch(0)
+    :: else
+    fi;
+    if
+    :: (told & 2) && !met_late -> touch(1)
+    :: (told & 2) && met_late -> touch_for_writer(1)
+    :: else
+    fi;
+    if
+    :: (told & 1) && own == 1 && (told & 2) && !met_late -> touch(0)
+    :: (told & 1) && own == 1 && (told & 2) && met_late -> touch_for_writer(0)
+    :: else
+    fi;
+#else
+    if
+    :: told & 1 -> touch(0)
+    :: else
+    fi;
+#endif
+    told = 0; met_late = false
+}
+
+/* ServerState::close (state.rt). With a tape there may be no memory for it. */
+inline close(s) {
+    if
+    :: atomic { (book == 0) ->
+            assert(is_open[s]);
+            is_open[s] = false; shut[s] = false; put[s] = 0; drained[s] = 0;
+            told = 1 << s; told_mode = mode };
+        notify()
+#ifdef M_MEMORY_IS_FORGOTTEN
+    :: atomic { wants > 0 -> wants-- }
+#else
+    :: atomic { wants > 0 -> wants-- }; out_of_memory = true
+#endif
+    fi
+}
+
+/* Lane::run_writer (lane.rt) */
+proctype Writer(byte me) {
+    LOCALS(true);
+    run_writer(me);
+    writers--
+}
+
+/* ServerState::run_reader and read (state.rt), with the session of a peer that sends UNITS units at most */
+proctype Reader(byte me) {
+    LOCALS(false);
+    byte told = 0; byte told_mode = RUNNING; bool seen_stopped = false; byte own = me;
+    byte n = 0; bool refused = false;
+    do
+    :: true ->
+        next_stream(me);
+        if
+        :: !has -> break
+        :: else -> has = false
+        fi;
+        LOCK(desk[me]);
+        begin(me);
+        met_late = false; n = 0; refused = false;
+        do
+        :: n < UNITS && (!ROLES || me == 1) ->         /* an echo */
+            n++;
+            atomic { (book == 0) ->
+                if
+                :: shut[me] -> refused = true
+                :: else -> put[me]++; told = 1 << me; told_mode = mode
+                fi };
+            if
+            :: refused -> break
+            :: else -> notify()
+            fi
+        :: atomic { (admins > 0 && (!ROLES || me == 0)) -> admins-- } ->
+            atomic { (book == 0) ->
+                if
+                :: shut[me] -> refused = true
+                :: else ->
+                    put[me]++; told = 1 << me;
+                    if
+                    :: ADMIN == 2 -> mode = (mode == RUNNING -> GRACEFUL : mode)
+                    :: else ->
+                        mode = STOPPED;
+#ifndef M_NO_SHUT
+                        if
+                        :: is_open[0] && !shut[0] -> shut[0] = true; told = told | 1
+                        :: else
+                        fi;
+#if N > 1
+                        if
+                        :: is_open[1] && !shut[1] -> shut[1] = true; told = told | 2
+                        :: else
+                        fi
+#endif
+#endif
+                    fi;
+                    told_mode = mode
+                fi };
+            if
+            :: refused -> break
+            :: else -> notify()
+            fi
+        :: !stays[me] -> break                         /* the peer closes */
+        :: down[me] -> break
+        od;
+        refused = false; n = 0;
+        may_end[me] = true;
+        end_lane(me);
+        close(me);
+        UNLOCK(desk[me]);
+        connections--
+    od;
+    readers--
+}
+
+/* ServerState::can_end (state.rt) */
+#ifdef M_OVER_WITHOUT_ENDING
+#define IS_OVER (out_of_memory || connections == 0)
+#else
+#define IS_OVER (out_of_memory || (server_is_ending && connections == 0))
+#endif
+
+/* Control::run, take_all and admit (accepting.rt) */
+active proctype Control() {
+    LOCALS(false);
+    byte told = 0; byte told_mode = RUNNING; bool seen_stopped = false; byte own = NONE;
+    byte s = NONE; bool is_made = false; bool has_reader[N]; bool has_writer[N];
+    do
+    :: calls > 0 ->
+        calls--;
+        s = NONE;
+        LOCK(control);
+        atomic { (book == 0) ->                    /* Event::Open: the least slot that isn't open, or a refusal */
+            if
+            :: mode == RUNNING && !is_open[0] -> s = 0
+#if N > 1
+            :: mode == RUNNING && is_open[0] && !is_open[1] -> s = 1
+#endif
+            :: else
+            fi;
+            if
+            :: s != NONE -> is_open[s] = true; gen[s]++; told = 1 << s; told_mode = mode
+            :: else
+            fi };
+        if
+        :: s != NONE ->
+            notify();                              /* ServerState::open (state.rt), with the control desk's lock */
+            UNLOCK(control);
+            may_end[s] = false;
+            /* start (connection.rt) */
+            is_made = true;
+            if
+            :: has_writer[s]
+            :: !has_writer[s] ->
+                if
+                :: atomic { run Writer(s) -> writers++; has_writer[s] = true }
+                :: atomic { fails > 0 -> fails--; is_made = false }
+                fi
+            fi;
+            if
+            :: !is_made || has_reader[s]
+            :: is_made && !has_reader[s] ->
+                if
+                :: atomic { run Reader(s) -> readers++; has_reader[s] = true }
+                :: atomic { fails > 0 -> fails--; is_made = false }
+                fi
+            fi;
+            if
+            :: is_made ->
+                connections++;
+                arrive(s)
+            :: else ->
+                LOCK(desk[s]);                     /* close_slot */
+                close(s);
+                UNLOCK(desk[s])
+            fi;
+            is_made = false
+        :: else -> UNLOCK(control)
+        fi;
+        s = NONE;
+        if
+        :: atomic { IS_OVER -> break }
+        :: else
+        fi
+    :: atomic { IS_OVER -> break }
+    :: atomic { listen > 0 -> listen--; listen_failed = true; break }
+    od;
+    assert(mode != RUNNING || out_of_memory || listen_failed);
+    if
+#ifndef M_ERROR_WITHOUT_STOP
+    :: out_of_memory || listen_failed ->
+        errored = true;
+        stop()
+#endif
+    :: else
+    fi;
+#ifndef M_NO_WAIT_FOR_ENDS
+    if
+    :: errored -> (connections == 0)               /* wait_for_ends (accepting.rt) */
+    :: else
+    fi;
+#endif
+    dismiss(0);
+#if N > 1
+    dismiss(1);
+#endif
+    (readers == 0 && writers == 0);                /* the scope */
+    ended = true;
+    assert(connections == 0);
+    assert(!stream[0] && parker[0] == 0 && desk[0] == 0 && lock[0] == 0 && book == 0 && !crew_stream[0]);
+    assert(!is_open[0] || out_of_memory);
+    assert(!out_of_memory || errored)              /* its status says so */
+}
+
+/* In a quiescent state a connection that lives has got all, and a slot whose reader is at its end was closed. */
+#define QUIET(s) ((!stream[s] || down[s] || deaf[s] || (drained[s] == put[s] && !has_left[s] && received[s] == put[s])) \
+    && (!may_end[s] || !is_open[s] || out_of_memory))
+
+#ifndef NO_MONITOR
+active proctype Monitor() {
+    timeout ->
+    assert(book == 0);
+    assert(!(mode == STOPPED || out_of_memory || listen_failed) || ended);
+    assert(mode != GRACEFUL || ended || (connections > 0 && ((stream[0] && stays[0])
+#if N > 1
+        || (stream[1] && stays[1])
+#endif
+        )));
+    assert(QUIET(0));
+#if N > 1
+    assert(QUIET(1))
+#endif
+}
+#endif

@@ -1,0 +1,128 @@
+/* READERS workers' readers, which each grab GRABS times, the control thread, and a clock that goes on SECONDS times. Each reader tells
+ * the time before a grab, and the control thread before each connection that it takes (ServerState::update_time and tick, state.rt;
+ * Applier::apply_unit, session.rt; Control::take_all and admit, accepting.rt). With LONG a reader may hold long_piece_lock over
+ * its unit. What a tick queues is a count, and a slot's touch notes it (deliver.pml has what comes of a touch).
+ * Ticks: each second is told once, in order; a grab comes only once the book was told the second that its reader read; the last
+ * second is told; each slot that a tick touched is told. No deadlock. */
+#ifndef READERS
+#define READERS 2
+#endif
+#ifndef GRABS
+#define GRABS 2
+#endif
+#ifndef SECONDS
+#define SECONDS 3
+#endif
+#ifndef OPENS
+#define OPENS 1
+#endif
+#define LOCK(m)   atomic { (m == 0) -> m = 1 }
+#define UNLOCK(m) m = 0
+
+bit  book = 0;
+bit  control = 0;        /* ServerState::control */
+bit  long_piece_lock = 0;
+byte second = 0;         /* ServerState::second */
+byte book_second = 0;    /* the core's */
+byte clock = 0;
+byte queued = 0;         /* by ticks, for a slot that listens */
+byte touched = 0;        /* what its last touch came behind */
+byte opens = 0;
+
+/* ServerState::update_time and tick (state.rt) */
+inline update_time() {
+    now = clock;
+    if
+    :: second < now ->
+        LOCK(control);
+        if
+#ifdef M_SECOND_NOT_READ_AGAIN
+        :: true ->
+#else
+        :: now <= second -> is_first = false
+        :: else ->
+#endif
+            is_first = true;
+#ifdef M_SECOND_BEFORE_THE_TICK
+            second = now;
+#endif
+            /* OwnDesk::tick (own_desk.rt): one critical section */
+            atomic { (book == 0) ->
+                assert(now > book_second);         /* each second once, in order */
+                book_second = now;
+                queued++ };
+#ifndef M_SECOND_BEFORE_THE_TICK
+#ifndef M_SECOND_NEVER_STORED
+            second = now
+#else
+            skip
+#endif
+#endif
+        fi;
+        UNLOCK(control);
+#ifdef M_TICK_TELLS_NOBODY
+        is_first = false;
+#endif
+        if
+        :: is_first -> touched = queued; is_first = false
+        :: else
+        fi
+    :: else
+    fi
+}
+
+proctype Reader() {
+    byte now = 0; bool is_first = false; byte n = 0; bool alone = false;
+    do
+    :: n < GRABS ->
+        n++;
+#ifdef LONG
+        if
+        :: true
+        :: LOCK(long_piece_lock); alone = true
+        fi;
+#endif
+#ifdef M_TIME_AFTER_THE_GRAB
+        now = clock;
+#else
+        update_time();
+#endif
+        atomic { (book == 0) -> assert(book_second >= now) };   /* the grab */
+        if
+        :: alone -> UNLOCK(long_piece_lock); alone = false
+        :: else
+        fi
+    :: else -> break
+    od
+}
+
+active proctype Control() {
+    byte now = 0; bool is_first = false;
+    do
+    :: clock < SECONDS -> clock++                  /* the clock goes on */
+    :: second < clock -> update_time()
+    :: opens < OPENS ->
+        opens++;
+        update_time();
+        LOCK(control);                             /* ServerState::open (state.rt) */
+        atomic { (book == 0) -> skip };
+        UNLOCK(control)
+    :: clock == SECONDS && second == clock && opens == OPENS -> break
+    od
+}
+
+init {
+    byte i = 0;
+    atomic {
+        do
+        :: i < READERS -> run Reader(); i++
+        :: else -> break
+        od }
+}
+
+active proctype Monitor() {
+    timeout ->
+    assert(book_second == SECONDS && second == SECONDS);
+    assert(touched == queued);
+    assert(book == 0 && control == 0 && long_piece_lock == 0)
+}
