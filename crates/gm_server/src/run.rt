@@ -27,29 +27,6 @@ use std::thread::Threads;
 use std::time::Clock;
 use thiserror::Error;
 
-/// What the program needs of the system: threads, time, random bytes, sockets, the environment, standard error and memory.
-pub trait System: Threads
-    + Wait
-    + Clock
-    + RandomSource
-    + Net<Listener = TcpListener, Stream = TcpStream>
-    + Env
-    + Eprint
-    + AllocGlobal
-    + Sync {}
-
-impl<
-    R: Threads
-        + Wait
-        + Clock
-        + RandomSource
-        + Net<Listener = TcpListener, Stream = TcpStream>
-        + Env
-        + Eprint
-        + AllocGlobal
-        + Sync,
-> System for R {}
-
 /// Why the program ends early.
 #[derive(Debug, Drop, Error)]
 enum RunError {
@@ -255,12 +232,18 @@ fn open_listener<R: Net<Listener = TcpListener, Stream = TcpStream> + Env + Allo
 }
 
 /// Serves as the arguments ask.
-fn serve_on<R: System, W: Write>(
-    rt: &R,
-    args: Args<'_>,
-    settings: Settings,
-    w: &mut W,
-) -> Result<Served, RunError> {
+fn serve_on<
+    R: Threads
+        + Wait
+        + Clock
+        + RandomSource
+        + Net<Listener = TcpListener, Stream = TcpStream>
+        + Env
+        + Eprint
+        + AllocGlobal
+        + Sync,
+    W: Write,
+>(rt: &R, args: Args<'_>, settings: Settings, w: &mut W) -> Result<Served, RunError> {
     let Ok(seed) = RandomState::new(rt) else {
         return Err(RunError::Seed);
     };
@@ -288,11 +271,18 @@ fn serve_on<R: System, W: Write>(
 }
 
 /// Does what the arguments ask for. It answers what was served, if anything was.
-fn run<R: System, W: Write>(
-    rt: &R,
-    words: &[String],
-    w: &mut W,
-) -> Result<Option<Served>, RunError> {
+fn run<
+    R: Threads
+        + Wait
+        + Clock
+        + RandomSource
+        + Net<Listener = TcpListener, Stream = TcpStream>
+        + Env
+        + Eprint
+        + AllocGlobal
+        + Sync,
+    W: Write,
+>(rt: &R, words: &[String], w: &mut W) -> Result<Option<Served>, RunError> {
     let args = match parse_args(rt.alloc(), words) {
         Ok(args) => args,
         Err(error) => {
@@ -348,7 +338,18 @@ fn report<R: Eprint>(rt: &R, ended: &Result<Option<Served>, RunError>) {
 /// connection or of the server; 4 where the tape differs from what the connections were told.
 ///
 /// The options are those of gearmand(8) of the same names, `--tape` and `--check`.
-pub fn run_words<R: System, W: Write>(rt: &R, words: &[String], w: &mut W) -> u8
+pub fn run_words<
+    R: Threads
+        + Wait
+        + Clock
+        + RandomSource
+        + Net<Listener = TcpListener, Stream = TcpStream>
+        + Env
+        + Eprint
+        + AllocGlobal
+        + Sync,
+    W: Write,
+>(rt: &R, words: &[String], w: &mut W) -> u8
     ensures { IsStatus result }
 {
     let ended = run(rt, words, w);
