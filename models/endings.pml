@@ -71,7 +71,7 @@ inline tell(s) {
     met_late = false
 }
 
-/* OwnDesk::close (own_desk.rt), Event::Close, in one critical section: a NOOP that is owed is withdrawn, what waits goes with the
+/* OwnDesk::apply (own_desk.rt), Event::Close, in one critical section: a NOOP that is owed is withdrawn, what waits goes with the
  * connection */
 inline book_close() {
     atomic { (book == 0) ->
@@ -229,7 +229,7 @@ active proctype Control() {
     (_nr_pr == 1);                                 /* the scope, and the touchers */
 #endif
     ended = true;
-    assert(!is_open[0] && !stream[0] && !has_conn[0] && !crew_stream[0]);
+    assert(!is_open[0] && !stream[0] && !crew_stream[0]);
     assert(book == 0 && lock[0] == 0 && desk == 0 && parker[0] == 0);
     assert(owners[0] == 0 && (lw[0] == LANE_LATE || lw[0] == LANE_IDLE));
     assert(word[0] == AWAKE)

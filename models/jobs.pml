@@ -6,7 +6,7 @@
  * comes while it is awake is passed over. With SECONDS the clock goes on so often, the control thread and the worker's reader tell
  * the time (ServerState::update_time and tick, state.rt), and a tick may end a running job.
  * NOOPs: in every quiescent state each job was done and its end sent, the worker sleeps, and nothing waits or is left; each NOOP owed
- * is sent once or withdrawn once. No deadlock, with long_piece_lock, the control desk and the book. Order.
+ * is sent once or withdrawn once. No deadlock, with batch_lock and long_piece_lock, the control desk and the book. Order.
  * Ticks: each second is told once, in order, and a job is handed out only once the book was told the second that its worker's reader
  * read. */
 #define N 2
@@ -50,6 +50,7 @@ byte parked = 0;
 #define JOB_ASSIGN 1
 #define ERROR      2
 
+bit  batch_lock = 0;
 bit  long_piece_lock = 0;
 /* The control desk's lock, the second that is kept beside it, the book's, and the clock */
 bit  control = 0;
@@ -236,23 +237,28 @@ inline update_time() {
 #endif
 }
 
-/* Batch::admit (session.rt): each unit after the free ones waits for long_piece_lock. */
+/* Batch::admit (session.rt): each unit after the free ones waits for batch_lock, in a long piece behind long_piece_lock. */
 inline admit() {
 #ifdef LONG
     if
     :: alone
     :: !alone
-    :: !alone -> LOCK(long_piece_lock); alone = true
+    :: !alone -> LOCK(batch_lock); alone = true
+    :: !alone -> LOCK(long_piece_lock); turn = true; LOCK(batch_lock); alone = true
     fi
 #else
     skip
 #endif
 }
 
-/* tell (session.rt), as a turn or a piece is over: long_piece_lock is released, and what came of it is told. */
+/* Session::unload (session.rt), as a batch is over: its locks are released, and what came of it is told. */
 inline turn_ends(own) {
     if
-    :: alone -> UNLOCK(long_piece_lock); alone = false
+    :: alone -> UNLOCK(batch_lock); alone = false
+    :: else
+    fi;
+    if
+    :: turn -> UNLOCK(long_piece_lock); turn = false
     :: else
     fi;
     deliver_to(told, own)
@@ -271,7 +277,7 @@ inline turn_ends(own) {
 /* Session::run (session.rt) of the worker, with its peer */
 proctype WorkerReader() {
     LOCALS(false);
-    byte told = 0; bool alone = false; byte tick_told = 0; byte read_second = 0;
+    byte told = 0; bool alone = false; bool turn = false; byte tick_told = 0; byte read_second = 0;
     byte read = 0; byte noops_read = 0; byte tries = 0; byte dozes = 0;
     byte job = 0; bool again = false;
 ask:
@@ -318,7 +324,7 @@ end_worker:
 /* Session::run (session.rt) of the client */
 proctype ClientReader() {
     LOCALS(false);
-    byte told = 0; bool alone = false; byte read_second = 0;
+    byte told = 0; bool alone = false; bool turn = false; byte read_second = 0;
     byte n = 0;
     do
     :: n < JOBS ->
@@ -357,7 +363,7 @@ init {
         byte i = 0;
         do
         :: i < N ->
-            is_open[i] = true; gen[i] = 1; stream[i] = true; stream_gen[i] = 1; has_conn[i] = true;
+            is_open[i] = true; gen[i] = 1; stream[i] = true; stream_gen[i] = 1;
             lates[i] = (i == 0 -> LATES0 : LATES1);
             i++
         :: else -> break
@@ -372,7 +378,7 @@ init {
 #ifndef NO_MONITOR
 active proctype Monitor() {
 end: timeout ->
-    assert(book == 0 && long_piece_lock == 0 && control == 0);
+    assert(book == 0 && batch_lock == 0 && long_piece_lock == 0 && control == 0);
     assert(book_second == SECONDS);
     assert(lock[0] == 0 && lock[1] == 0 && lw[0] == LANE_IDLE && lw[1] == LANE_IDLE);
     assert(parked == 2);

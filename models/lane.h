@@ -18,7 +18,7 @@
 #ifndef MOST_LOOKS
 #define MOST_LOOKS 2      /* lane.rt: 16 */
 #endif
-/* The time of an end, in looks of `End::look`: lane.rt has 2 s and 30 s. A slow peer is late for less than the first. */
+/* The time of an end, in looks of `End::look`: ending.rt has 2 s and 30 s. A slow peer is late for less than the first. */
 #define ENDING_TIME 2
 #define MOST_ENDING_TIME 4
 
@@ -51,6 +51,11 @@
 #define LANE_OWED 2
 #define LANE_LATE 3
 
+/* Stage (ending.rt) of a connection */
+#define SERVING  0
+#define ENDING   1
+#define STOPPING 2
+
 /* a sleep word, and Phase (gm_word) */
 #define AWAKE  0
 #define ASLEEP 1
@@ -82,23 +87,21 @@ byte lw[N];              /* lane words */
 
 /* -- Lane. The Mutex<Sender>, and what it guards */
 bit  lock[N];
-bool stream[N];          /* sender.stream is Some, */
+bool stream[N];          /* sender.connection is Some, */
 byte stream_gen[N];      /*   of this connection */
 bool has_left[N];        /* sender.outbox.left is Some */
 byte l_gen[N];
 byte l_next[N];
 byte l_to[N];
 bool l_noop[N];
-bool has_conn[N];        /* sender.has_connection */
 bool patient[N];         /* the writer delivers, and waits for a slow peer */
-byte end_begun[N];       /* sender.end: for how many looks `begun` runs, */
+byte end_begun[N];       /* its end: for how many looks `begun` runs, */
 byte end_stalled[N];     /*   `stalled` runs, */
 bool end_over[N];        /*   and deadline_passed */
-/* the parker's lock and token, and the flags; no lock guards these */
+/* the parker's lock and token, and the stage; no lock guards these */
 bit  parker[N];
 bool token[N];
-bool is_ending[N];
-bool is_stopping[N];
+byte stage[N];
 /* Mutex<Crew> */
 bool crew_stream[N];
 bool crew_over[N];
@@ -156,7 +159,7 @@ inline hang_up(s) {
 #endif
 }
 
-/* End::look and is_over (lane.rt), under the lane's lock. For a peer that reads in time neither time runs out. Each look of
+/* End::look (ending.rt), under the lane's lock. For a peer that reads in time neither time runs out. Each look of
  * another peer's end takes one unit of the time. */
 inline look_at_end(s, has_taken) {
     if
@@ -169,7 +172,7 @@ inline look_at_end(s, has_taken) {
 #ifdef M_NO_MOST_TIME
         :: false
 #else
-        :: end_begun[s] >= (is_stopping[s] -> ENDING_TIME : MOST_ENDING_TIME) -> end_over[s] = true
+        :: end_begun[s] >= (stage[s] == STOPPING -> ENDING_TIME : MOST_ENDING_TIME) -> end_over[s] = true
 #endif
         :: else ->
 #ifndef M_NO_MOST_TIME
@@ -187,7 +190,7 @@ inline look_at_end(s, has_taken) {
 #ifdef M_TIME_BEFORE_THE_END
 #define IS_ENDING(s) true
 #else
-#define IS_ENDING(s) is_ending[s]
+#define IS_ENDING(s) (stage[s] != SERVING)
 #endif
 
 /* Message::send (outbox.rt) with write_once (message.rt), for one message of what is left, and Socket::write (lane.rt),
@@ -415,13 +418,13 @@ inline deliver_owed(s) {
     do
     :: true ->
 #ifdef M_FLAG_BEFORE_LOOK
-        e = is_ending[s];
+        e = (stage[s] != SERVING);
 #endif
 #ifndef M_LOOK_AFTER_DELIVERY
         atomic { assert(lw[s] == LANE_OWED); lw[s] = LANE_BUSY };   /* Owed::look: swap */
 #endif
 #ifndef M_FLAG_BEFORE_LOOK
-        e = is_ending[s];
+        e = (stage[s] != SERVING);
 #endif
         atomic { (lock[s] == 0) -> lock[s] = 1;
             assert(!patient[s]);                   /* the writer lets go of the lane first */
@@ -529,7 +532,7 @@ inline take_over(s) {
 }
 
 /* Lane::deliver_patiently (lane.rt). If the peer is deaf and the connection isn't to end, a round changes nothing: so the
- * writer waits for is_ending in place of such rounds. */
+ * writer waits for the stage in place of such rounds. */
 inline deliver_patiently(s) {
     atomic { (lock[s] == 0) -> lock[s] = 1;
         assert(!patient[s]);
@@ -545,7 +548,7 @@ end_deaf:   atomic {
 #ifndef M_NEVER_GIVE_UP
         :: res == LATE && end_over[s] ->
             atomic {
-                assert(is_ending[s]);              /* an end is asked for, */
+                assert(stage[s] != SERVING);       /* an end is asked for, */
                 assert(deaf[s] || slow[s]);        /*   and the peer had its time */
                 faulted[s] = true; hang_up(s); res = OVER; end_delivery(s) }
 #endif
@@ -563,9 +566,9 @@ inline write_owed(s) {
         atomic { assert(lw[s] == LANE_OWED); lw[s] = LANE_BUSY };
 #ifdef M_FLAG_AFTER_DELIVERY
         deliver_patiently(s);
-        is_last = is_ending[s];
+        is_last = (stage[s] != SERVING);
 #else
-        is_last = is_ending[s];
+        is_last = (stage[s] != SERVING);
         ON_LAST(s);
         deliver_patiently(s);
 #endif
@@ -598,7 +601,6 @@ inline release(s) {
         hang_up(s);
 #endif
         stream[s] = false;
-        has_conn[s] = false;
         /* ghosts, which end with the connection */
         received[s] = 0; noops[s] = 0; takes[s] = 0; faulted[s] = false;
         deaf[s] = false; room[s] = 0; slow[s] = false; was_late[s] = false; lates[s] = 0 };
@@ -609,13 +611,13 @@ inline release(s) {
 #endif
 }
 
-/* Lane::request_close (lane.rt) */
+/* Lane::request_close (lane.rt) and Stage::end (ending.rt) */
 inline request_close(s) {
 #ifdef M_WAKE_BEFORE_FLAG
     token[s] = true;
-    is_ending[s] = true
+    stage[s] = (stage[s] > ENDING -> stage[s] : ENDING)
 #else
-    is_ending[s] = true;
+    stage[s] = (stage[s] > ENDING -> stage[s] : ENDING);
 #ifdef M_REQUEST_WITHOUT_WAKE
     skip
 #else
@@ -624,10 +626,10 @@ inline request_close(s) {
 #endif
 }
 
-/* Lane::stop (lane.rt) */
+/* Lane::stop (lane.rt) and Stage::stop (ending.rt) */
 inline stop_lane(s) {
-    is_stopping[s] = true;
-    request_close(s)
+    stage[s] = STOPPING;
+    token[s] = true
 }
 
 /* Lane::end (lane.rt): Condvar::wait_while over Condvar::wait, which reads the count under the lock, and may end with no
@@ -637,8 +639,8 @@ inline end_lane(s) {
     request_close(s);
 #endif
     do
-    :: atomic { (lock[s] == 0 && !has_conn[s]) -> break }
-    :: atomic { (lock[s] == 0 && has_conn[s]) -> seen = released[s] };
+    :: atomic { (lock[s] == 0 && !stream[s]) -> break }
+    :: atomic { (lock[s] == 0 && stream[s]) -> seen = released[s] };
         if
         :: released[s] != seen
 #ifdef M_WAIT_ONCE
@@ -652,10 +654,10 @@ inline end_lane(s) {
     seen = 0
 }
 
-/* Lane::arrive (lane.rt) */
+/* Lane::arrive (lane.rt) and Stage::serve (ending.rt) */
 inline arrive(s) {
 #ifndef M_KEEP_ENDING
-    is_ending[s] = false;
+    stage[s] = SERVING;
 #endif
     atomic { crew_stream[s] = true };
 #ifndef M_NO_NOTIFY_OF_ARRIVAL
@@ -689,14 +691,13 @@ inline dismiss(s) {
 /* Lane::begin and Sender::begin (lane.rt). The model chooses the peer. */
 inline begin(s) {
 #ifdef M_RESET_AT_BEGIN
-    is_ending[s] = false;
+    stage[s] = SERVING;
 #endif
     atomic { (lock[s] == 0) ->
 #ifndef M_KEEP_LEFT
         forget(s);
 #endif
         stream[s] = true; stream_gen[s] = gen[s];
-        has_conn[s] = true;
 #ifndef M_KEEP_THE_TIME
         end_begun[s] = 0; end_stalled[s] = 0; end_over[s] = false;
 #endif
@@ -723,7 +724,7 @@ inline run_writer(s) {
     do
     :: true ->
         is_last = false;
-        atomic { (lock[s] == 0) -> has = has_conn[s] };
+        atomic { (lock[s] == 0) -> has = stream[s] };
         if
         :: !has ->
             if

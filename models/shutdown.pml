@@ -48,15 +48,16 @@
 #define ON_LAST(s) assert(!is_last || may_end[s] || is_stopped)
 bool stays[N];           /* the peer never closes */
 bool may_end[N];
-bool is_stopped = false;
+bool is_stopped = false; /* stop() began */
 #include "lane.h"
 
 bit  desk[N];
 bit  control = 0;
 byte mode = RUNNING;     /* of the core, under the book's lock */
 byte connections = 0;
-bool server_is_ending = false;   /* ServerState::is_ending */
-bool out_of_memory = false;
+byte stage_of_server = RUNNING;  /* Stage (stage.rt): a Mode's, or */
+#define FAILED 3
+#define HAS_FAILED (stage_of_server == FAILED)
 byte fails = FAILS;
 byte wants = WANTS;
 byte listen = LISTEN;
@@ -70,34 +71,33 @@ bool errored = false;    /* the control thread answered an error */
 
 /* ServerState::stop (state.rt) */
 inline stop() {
-    atomic { seen_stopped = is_stopped; is_stopped = true };
-    if
-    :: seen_stopped
-    :: else ->
+    is_stopped = true;
 #ifdef M_STOP_WITHOUT_REQUEST
-        skip
+    skip
 #else
-        stop_lane(0);
+    stop_lane(0);
 #if N > 1
-        stop_lane(1)
+    stop_lane(1)
 #endif
 #endif
-    fi;
-    seen_stopped = false
 }
 
-/* ServerState::notify and deliver (state.rt), with what a critical section told: one's own slot first */
+/* ServerState::notify and deliver (state.rt) and Stage::follow (stage.rt), with what a critical section told: one's own slot
+ * first */
 inline notify() {
-    if
-    :: told_mode == RUNNING
-    :: told_mode == GRACEFUL ->
 #ifdef M_GRACEFUL_FORGETS
-        skip
-#else
-        server_is_ending = true
-#endif
-    :: told_mode == STOPPED -> server_is_ending = true; stop()
+    if
+    :: told_mode == GRACEFUL -> told_mode = RUNNING
+    :: else
     fi;
+#endif
+    atomic { stops = (told_mode == STOPPED && stage_of_server < STOPPED);
+        stage_of_server = (told_mode > stage_of_server -> told_mode : stage_of_server) };
+    if
+    :: stops -> stop()
+    :: else
+    fi;
+    stops = false;
     told_mode = RUNNING;
 #if N > 1
     if
@@ -134,7 +134,7 @@ inline close(s) {
 #ifdef M_MEMORY_IS_FORGOTTEN
     :: atomic { wants > 0 -> wants-- }
 #else
-    :: atomic { wants > 0 -> wants-- }; out_of_memory = true
+    :: atomic { wants > 0 -> wants-- }; stage_of_server = FAILED
 #endif
     fi
 }
@@ -149,7 +149,7 @@ proctype Writer(byte me) {
 /* ServerState::run_reader and read (state.rt), with the session of a peer that sends UNITS units at most */
 proctype Reader(byte me) {
     LOCALS(false);
-    byte told = 0; byte told_mode = RUNNING; bool seen_stopped = false; byte own = me;
+    byte told = 0; byte told_mode = RUNNING; bool stops = false; byte own = me;
     byte n = 0; bool refused = false;
     do
     :: true ->
@@ -217,15 +217,15 @@ proctype Reader(byte me) {
 
 /* ServerState::can_end (state.rt) */
 #ifdef M_OVER_WITHOUT_ENDING
-#define IS_OVER (out_of_memory || connections == 0)
+#define IS_OVER (HAS_FAILED || connections == 0)
 #else
-#define IS_OVER (out_of_memory || (server_is_ending && connections == 0))
+#define IS_OVER (HAS_FAILED || (stage_of_server != RUNNING && connections == 0))
 #endif
 
 /* Control::run, take_all and admit (accepting.rt) */
 active proctype Control() {
     LOCALS(false);
-    byte told = 0; byte told_mode = RUNNING; bool seen_stopped = false; byte own = NONE;
+    byte told = 0; byte told_mode = RUNNING; bool stops = false; byte own = NONE;
     byte s = NONE; bool is_made = false; bool has_reader[N]; bool has_writer[N];
     do
     :: calls > 0 ->
@@ -287,10 +287,10 @@ active proctype Control() {
     :: atomic { IS_OVER -> break }
     :: atomic { listen > 0 -> listen--; listen_failed = true; break }
     od;
-    assert(mode != RUNNING || out_of_memory || listen_failed);
+    assert(mode != RUNNING || HAS_FAILED || listen_failed);
     if
 #ifndef M_ERROR_WITHOUT_STOP
-    :: out_of_memory || listen_failed ->
+    :: HAS_FAILED || listen_failed ->
         errored = true;
         stop()
 #endif
@@ -310,19 +310,19 @@ active proctype Control() {
     ended = true;
     assert(connections == 0);
     assert(!stream[0] && parker[0] == 0 && desk[0] == 0 && lock[0] == 0 && book == 0 && !crew_stream[0]);
-    assert(!is_open[0] || out_of_memory);
-    assert(!out_of_memory || errored)              /* its status says so */
+    assert(!is_open[0] || HAS_FAILED);
+    assert(!HAS_FAILED || errored)              /* its status says so */
 }
 
 /* In a quiescent state a connection that lives has got all, and a slot whose reader is at its end was closed. */
 #define QUIET(s) ((!stream[s] || down[s] || deaf[s] || (drained[s] == put[s] && !has_left[s] && received[s] == put[s])) \
-    && (!may_end[s] || !is_open[s] || out_of_memory))
+    && (!may_end[s] || !is_open[s] || HAS_FAILED))
 
 #ifndef NO_MONITOR
 active proctype Monitor() {
     timeout ->
     assert(book == 0);
-    assert(!(mode == STOPPED || out_of_memory || listen_failed) || ended);
+    assert(!(mode == STOPPED || HAS_FAILED || listen_failed) || ended);
     assert(mode != GRACEFUL || ended || (connections > 0 && ((stream[0] && stays[0])
 #if N > 1
         || (stream[1] && stays[1])

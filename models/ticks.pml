@@ -1,6 +1,6 @@
 /* READERS workers' readers, which each grab GRABS times, the control thread, and a clock that goes on SECONDS times. Each reader tells
  * the time before a grab, and the control thread before each connection that it takes (ServerState::update_time and tick, state.rt;
- * Applier::apply_unit, session.rt; Control::take_all and admit, accepting.rt). With LONG a reader may hold long_piece_lock over
+ * Applier::apply_unit, session.rt; Control::take_all and admit, accepting.rt). With LONG a reader may hold its batch's locks over
  * its unit. What a tick queues is a count, and a slot's touch notes it (deliver.pml has what comes of a touch).
  * Ticks: each second is told once, in order; a grab comes only once the book was told the second that its reader read; the last
  * second is told; each slot that a tick touched is told. No deadlock. */
@@ -21,6 +21,7 @@
 
 bit  book = 0;
 bit  control = 0;        /* ServerState::control */
+bit  batch_lock = 0;
 bit  long_piece_lock = 0;
 byte second = 0;         /* ServerState::second */
 byte book_second = 0;    /* the core's */
@@ -46,7 +47,7 @@ inline update_time() {
 #ifdef M_SECOND_BEFORE_THE_TICK
             second = now;
 #endif
-            /* OwnDesk::tick (own_desk.rt): one critical section */
+            /* OwnDesk::apply (own_desk.rt): one critical section */
             atomic { (book == 0) ->
                 assert(now > book_second);         /* each second once, in order */
                 book_second = now;
@@ -72,14 +73,15 @@ inline update_time() {
 }
 
 proctype Reader() {
-    byte now = 0; bool is_first = false; byte n = 0; bool alone = false;
+    byte now = 0; bool is_first = false; byte n = 0; bool alone = false; bool turn = false;
     do
     :: n < GRABS ->
         n++;
 #ifdef LONG
         if
         :: true
-        :: LOCK(long_piece_lock); alone = true
+        :: LOCK(batch_lock); alone = true
+        :: LOCK(long_piece_lock); turn = true; LOCK(batch_lock); alone = true
         fi;
 #endif
 #ifdef M_TIME_AFTER_THE_GRAB
@@ -89,7 +91,11 @@ proctype Reader() {
 #endif
         atomic { (book == 0) -> assert(book_second >= now) };   /* the grab */
         if
-        :: alone -> UNLOCK(long_piece_lock); alone = false
+        :: alone -> UNLOCK(batch_lock); alone = false
+        :: else
+        fi;
+        if
+        :: turn -> UNLOCK(long_piece_lock); turn = false
         :: else
         fi
     :: else -> break
@@ -124,5 +130,5 @@ active proctype Monitor() {
     timeout ->
     assert(book_second == SECONDS && second == SECONDS);
     assert(touched == queued);
-    assert(book == 0 && control == 0 && long_piece_lock == 0)
+    assert(book == 0 && control == 0 && batch_lock == 0 && long_piece_lock == 0)
 }

@@ -1,70 +1,26 @@
 //! The way of a slot's bytes to its connection's socket.
 
-ghost use Rattle.std.specs.Prelude.{◌≡◌, ℕ, List, [], Option, true, Some, IfSome, IfNone};
+ghost use Rattle.std.specs.Prelude.{◌≡◌, ℕ, List, [], Option, IsSome, IfSome, IfNone, IfOk};
 ghost use Rattle.gm_delivery.specs.Deliveries.{left_in, Delivers};
 
+use crate::ending::{End, Stage};
 use crate::message::{Delivery, write_at_once};
 use crate::outbox::Outbox;
-use crate::timing::has_passed;
 use crossbeam_utils::sync::{Parker, Unparker};
-use gm_lane_word::{LaneWord, Looking, Owed};
+use gm_lane_word::{Due, LaneWord, Looking, Owed};
 use gm_shared::{BookName, Pen, Shared};
 use std::alloc::{AllocError, Global};
 use std::io;
 use std::io::{ErrorKind, Write};
 use std::net::{Shutdown, TcpStream};
-use std::sync::atomic::{AtomicBool, Ordering};
 use std::sync::{Arc, Condvar, Mutex, Wait};
-use std::time::{Clock, Duration, Instant};
+use std::time::{Clock, Duration};
 
 /// How long a write waits at a time, which only the writer's does.
 const WRITE_TIMEOUT_MS: u64 = 250;
 
-/// How long a connection that is to end has for what it is still to be sent: while its peer takes nothing, or the server ends,
-/// from when its writer first found it late.
-const ENDING_TIME_MS: u64 = 2_000;
-
-/// The same where its peer takes some.
-const MOST_ENDING_TIME_MS: u64 = 30_000;
-
 /// How often a thread that isn't the writer looks in a row, where the lane is touched again and again.
 const MOST_LOOKS: u32 = 16;
-
-/// How long a connection's end has taken.
-#[derive(Clone, Copy)]
-struct End {
-    /// When it was first looked at.
-    begun: Option<Instant>,
-    /// When the peer was first seen to take nothing, since it last took some.
-    stalled: Option<Instant>,
-    /// The connection has had its time.
-    deadline_passed: bool,
-}
-
-impl End {
-    fn new() -> End {
-        End {
-            begun: None,
-            stalled: None,
-            deadline_passed: false,
-        }
-    }
-
-    /// Looks at the time after a write: a peer that takes some has more, unless the server ends.
-    fn look(&mut self, rt: &impl Clock, has_taken: bool, is_stopping: bool) {
-        // Modelled in models/lane.h.
-        if has_taken {
-            self.stalled = None;
-        }
-        let time_ms = if is_stopping {
-            ENDING_TIME_MS
-        } else {
-            MOST_ENDING_TIME_MS
-        };
-        self.deadline_passed = has_passed(rt, &mut self.begun, time_ms)
-            || has_passed(rt, &mut self.stalled, ENDING_TIME_MS);
-    }
-}
 
 /// Whose delivery it is: only the writer waits for a slow peer.
 #[derive(Clone, Copy, PartialEq, Eq)]
@@ -73,31 +29,36 @@ enum Deliverer {
     Another,
 }
 
-/// A connection's socket. Once the connection is to end and has had its time, it takes no more.
+/// A connection, until its writer lets go of it.
 #[derive(Drop)]
-struct Socket<'a, K: BookName, R> {
-    rt: &'a R,
-    lane: &'a Lane<K>,
-    stream: &'a TcpStream,
-    deliverer: Deliverer,
+struct Connection {
+    stream: Arc<TcpStream, Global>,
     end: End,
 }
 
-impl<'a, K: BookName, R: Clock> Write for Socket<'a, K, R> {
+/// A connection's socket. Once the connection is to end and has had its time, it takes no more.
+#[derive(Drop)]
+struct Socket<'a, R> {
+    rt: &'a R,
+    stage: &'a Stage,
+    connection: &'a mut Connection,
+    deliverer: Deliverer,
+}
+
+impl<'a, R: Clock> Write for Socket<'a, R> {
     fn write(&mut self, bytes: &[u8]) -> io::Result<usize> {
         // Modelled in models/lane.h.
-        if self.end.deadline_passed {
+        let Connection { stream, end } = &mut *self.connection;
+        if end.deadline_passed {
             return Err(io::Error::from(ErrorKind::TimedOut));
         }
+        let mut stream: &TcpStream = stream;
         let outcome = match self.deliverer {
-            Deliverer::Writer => self.stream.write(bytes),
-            Deliverer::Another => write_at_once(self.stream, bytes),
+            Deliverer::Writer => stream.write(bytes),
+            Deliverer::Another => write_at_once(stream, bytes),
         };
-        if self.lane.is_ending.load(Ordering::SeqCst) {
-            let has_taken = matches!(outcome, Ok(count) if count > 0);
-            let is_stopping = self.lane.is_stopping.load(Ordering::SeqCst);
-            self.end.look(self.rt, has_taken, is_stopping);
-        }
+        let has_taken = matches!(outcome, Ok(count) if count > 0);
+        end.look(self.rt, self.stage, has_taken);
         outcome
     }
 
@@ -110,10 +71,7 @@ impl<'a, K: BookName, R: Clock> Write for Socket<'a, K, R> {
 #[derive(Drop)]
 struct Sender<K: BookName> {
     outbox: Outbox<K>,
-    stream: Option<Arc<TcpStream, Global>>,
-    /// A connection has the slot, and its writer hasn't let go of it.
-    has_connection: bool,
-    end: End,
+    connection: Option<Connection>,
 }
 
 impl<K: BookName> Sender<K> {
@@ -121,63 +79,72 @@ impl<K: BookName> Sender<K> {
     fn begin(&mut self, stream: Arc<TcpStream, Global>)
         ensures left { left_in self.new.outbox.left ≡ [] }
         ensures pen { self.new.outbox.pen ≡ self.old.outbox.pen }
-        ensures stream { self.new.stream ≡ Some stream }
-        ensures taken { self.new.has_connection ≡ true }
+        ensures connection { IfSome self.new.connection (λ connection. connection.stream ≡ stream) }
+        ensures some { IsSome self.new.connection }
     {
         // Modelled in models/lane.h.
         // Where it fails, writes fail too.
         let _ = stream.set_write_timeout(Some(Duration::from_millis(WRITE_TIMEOUT_MS)));
         Outbox::forget(&mut self.outbox);
-        self.stream = Some(stream);
-        self.has_connection = true;
-        self.end = End::new();
+        let end = End::new();
+        self.connection = Some(Connection { stream, end });
     }
 
     /// Ends the connection, so that its reader ends.
     fn hang_up(&mut self)
         ensures left { left_in self.new.outbox.left ≡ [] }
         ensures pen { self.new.outbox.pen ≡ self.old.outbox.pen }
-        ensures stream { self.new.stream ≡ self.old.stream }
-        ensures connection { self.new.has_connection ≡ self.old.has_connection }
+        ensures connection { self.new.connection ≡ self.old.connection }
     {
         // Modelled in models/lane.h.
-        if let Some(stream) = &self.stream {
+        if let Some(connection) = &self.connection {
             // Where it fails, the peer is gone already.
-            let _ = stream.shutdown(Shutdown::Both);
+            let _ = connection.stream.shutdown(Shutdown::Both);
         }
         self.outbox.forget();
     }
 
-    /// Sends what there is to send, and ends the connection where it is over. It is done only in a look at the lane.
+    /// Whether the connection is to end, and has had its time.
+    fn has_had_its_time(&self) -> bool {
+        match &self.connection {
+            Some(connection) => connection.end.deadline_passed,
+            None => false,
+        }
+    }
+
+    /// Sends what there is to send for this slot, and ends the connection where it is over. It is done only in a look at the lane.
     fn deliver<R: Wait + Clock>(
         &mut self,
         rt: &R,
         shared: &Shared<K>,
-        lane: &Lane<K>,
+        slot: u32,
+        stage: &Stage,
         _looking: &Looking<'_>,
         deliverer: Deliverer,
     ) -> Delivery
-        ensures delivers { IfSome self.old.stream (λ stream. (old new : Option (List ℕ)) × Delivers K.settings K.taped result self.old.outbox.pen.slot
+        ensures delivers { IfSome self.old.connection (λ _. self.old.outbox.pen.slot ≡ slot → (old new : Option (List ℕ)) × Delivers K.settings K.taped result slot
             self.old.outbox.pen.seat.takes self.new.outbox.pen.seat.takes self.old.outbox.pen.front.seen self.new.outbox.pen.front.seen old new
             (left_in self.old.outbox.left) (left_in self.new.outbox.left)) }
-        ensures none { IfNone self.old.stream ((result ≡ Delivery.Over) × (self.new.outbox ≡ self.old.outbox)) }
+        ensures other { (self.old.outbox.pen.slot ≡ slot → ⊥) → (result ≡ Delivery.Over) × (self.new.outbox.pen ≡ self.old.outbox.pen) }
+        ensures none { IfNone self.old.connection ((result ≡ Delivery.Over) × (self.new.outbox ≡ self.old.outbox)) }
         ensures slot { self.new.outbox.pen.slot ≡ self.old.outbox.pen.slot }
-        ensures stream { self.new.stream ≡ self.old.stream }
-        ensures connection { self.new.has_connection ≡ self.old.has_connection }
     {
         // Modelled in models/lane.h.
-        let Some(stream) = &self.stream else {
+        let Some(connection) = &mut self.connection else {
             return Delivery::Over;
         };
+        // A lock doesn't say whose pen it guards.
+        if self.outbox.slot() != slot {
+            self.hang_up();
+            return Delivery::Over;
+        }
         let mut socket = Socket {
             rt,
-            lane,
-            stream,
+            stage,
+            connection,
             deliverer,
-            end: self.end,
         };
         let delivery = self.outbox.deliver(rt, shared, &mut socket);
-        self.end = socket.end;
         if delivery == Delivery::Over {
             self.hang_up();
         }
@@ -197,10 +164,16 @@ struct Crew {
     is_dismissed: bool,
 }
 
+/// A reader has a connection. It can't be dropped: `Lane::end` takes it, and waits for the writer's last look.
+pub struct Begun {
+    slot: u32,
+}
+
 /// What a slot has for what its connections are sent. The parker is the writer's. What is to be sent is with the thread that has
 /// the lane, so its lock is waited for only where a connection comes or goes.
 #[derive(Drop)]
 pub struct Lane<K: BookName> {
+    slot: u32,
     word: LaneWord,
     sender: Mutex<Sender<K>>,
     parker: Mutex<Parker>,
@@ -210,25 +183,23 @@ pub struct Lane<K: BookName> {
     crew: Mutex<Crew>,
     // The next connection came, or none comes any more.
     arrived: Condvar,
-    // The connection is to end.
-    is_ending: AtomicBool,
-    // So is the server.
-    is_stopping: AtomicBool,
+    stage: Stage,
 }
 
 impl<K: BookName> Lane<K> {
     /// A lane with this pen, and no connection yet.
-    pub fn new(alloc: Global, pen: Pen<K>) -> Result<Lane<K>, AllocError> {
+    pub fn new(alloc: Global, pen: Pen<K>) -> Result<Lane<K>, AllocError>
+        ensures { IfOk result (λ lane. lane.slot ≡ pen.slot) }
+    {
         // Modelled in models/lane.h.
         let parker = Parker::new(alloc)?;
         let unparker = parker.unparker().clone()?;
         Ok(Lane {
+            slot: pen.slot(),
             word: LaneWord::new(alloc)?,
             sender: Mutex::new(Sender {
                 outbox: Outbox::new(pen),
-                stream: None,
-                has_connection: false,
-                end: End::new(),
+                connection: None,
             }),
             parker: Mutex::new(parker),
             unparker,
@@ -240,8 +211,7 @@ impl<K: BookName> Lane<K> {
                 is_dismissed: false,
             }),
             arrived: Condvar::new(),
-            is_ending: AtomicBool::new(false),
-            is_stopping: AtomicBool::new(false),
+            stage: Stage::new(),
         })
     }
 
@@ -272,11 +242,13 @@ impl<K: BookName> Lane<K> {
         self.crew.lock(rt).has_reader = true;
     }
 
-    /// Gives the reader the slot's next connection.
-    pub fn arrive(&self, rt: &impl Wait, stream: Arc<TcpStream, Global>) {
+    /// Gives the reader the connection for which the slot was opened.
+    pub fn arrive(&self, rt: &impl Wait, opened: u32, stream: Arc<TcpStream, Global>)
+        requires { opened ≡ self.now.slot }
+    {
         // Modelled in models/lane.h.
         // Before the reader has it: it may be told to end at once.
-        self.is_ending.store(false, Ordering::SeqCst);
+        self.stage.serve();
         self.crew.lock(rt).stream = Some(stream);
         self.arrived.notify_one();
     }
@@ -306,12 +278,15 @@ impl<K: BookName> Lane<K> {
         rt: &R,
         shared: &Shared<K>,
         stream: Arc<TcpStream, Global>,
-    ) {
+    ) -> Begun
+        ensures { result.slot ≡ self.now.slot }
+    {
         // Modelled in models/lane.h.
         self.sender.lock(rt).begin(stream);
         if let Ok(owed) = self.word.take_over() {
             self.deliver_owed(rt, shared, owed);
         }
+        Begun { slot: self.slot }
     }
 
     /// Ends the connection, and lets go of it, after its writer's last look.
@@ -319,8 +294,7 @@ impl<K: BookName> Lane<K> {
         // Modelled in models/lane.h.
         let mut sender = self.sender.lock(rt);
         sender.hang_up();
-        sender.stream = None;
-        sender.has_connection = false;
+        sender.connection = None;
         drop(sender);
         self.released.notify_all();
     }
@@ -333,41 +307,50 @@ impl<K: BookName> Lane<K> {
     /// Has the writer send what there is, and end the connection.
     fn request_close(&self) {
         // Modelled in models/lane.h.
-        self.is_ending.store(true, Ordering::SeqCst);
+        self.stage.end();
         self.wake_writer();
     }
 
-    /// As `request_close`, since the server ends.
+    /// The same, and soon, since the server ends.
     pub fn stop(&self) {
         // Modelled in models/lane.h.
-        self.is_stopping.store(true, Ordering::SeqCst);
-        self.request_close();
+        self.stage.stop();
+        self.wake_writer();
     }
 
     /// Has the writer send what there is, and waits until it has let go of the connection.
-    pub fn end(&self, rt: &impl Wait) {
+    pub fn end(&self, rt: &impl Wait, begun: Begun)
+        requires { begun.slot ≡ self.now.slot }
+    {
         // Modelled in models/lane.h.
+        let Begun { slot: _ } = begun;
         self.request_close();
-        let sender = self
-            .released
-            .wait_while(rt, self.sender.lock(rt), |sender| sender.has_connection);
+        let sender = self.released.wait_while(
+            rt,
+            self.sender.lock(rt),
+            |sender| sender.connection.is_some(),
+        );
         drop(sender);
     }
 
     /// Tells the lane that there may be something to send, which is left to the writer, or to the thread that looks anyway.
-    pub fn touch_for_writer(&self) {
+    pub fn touch_for_writer(&self, due: Due)
+        requires { due.slot ≡ self.now.slot }
+    {
         // Modelled in models/lane.h.
         // An error means that another thread looks after this touch.
-        if let Ok(owed) = self.word.touch() {
+        if let Ok(owed) = self.word.touch(due) {
             let _tally = owed.hand_over(|_| self.wake_writer());
         }
     }
 
     /// Tells the lane that there may be something to send, and sends it, unless another thread has the lane and so looks after
     /// this.
-    pub fn touch<R: Wait + Clock>(&self, rt: &R, shared: &Shared<K>) {
+    pub fn touch<R: Wait + Clock>(&self, rt: &R, shared: &Shared<K>, due: Due)
+        requires { due.slot ≡ self.now.slot }
+    {
         // Modelled in models/lane.h.
-        if let Ok(owed) = self.word.touch() {
+        if let Ok(owed) = self.word.touch(due) {
             self.deliver_owed(rt, shared, owed);
         }
     }
@@ -380,11 +363,15 @@ impl<K: BookName> Lane<K> {
         for _ in 0..MOST_LOOKS {
             let (looking, (is_ending, delivery)) = owed.look(|looking| {
                 // Read first: the thread that asks for the end wakes the writer, which touches the lane after that.
-                let is_ending = self.is_ending.load(Ordering::SeqCst);
-                let delivery = self
-                    .sender
-                    .lock(rt)
-                    .deliver(rt, shared, self, looking, Deliverer::Another);
+                let is_ending = self.stage.is_ending();
+                let delivery = self.sender.lock(rt).deliver(
+                    rt,
+                    shared,
+                    self.slot,
+                    &self.stage,
+                    looking,
+                    Deliverer::Another,
+                );
                 (is_ending, delivery)
             });
             if is_ending || delivery == Delivery::Late {
@@ -409,10 +396,18 @@ impl<K: BookName> Lane<K> {
         // Modelled in models/lane.h.
         let mut sender = self.sender.lock(rt);
         for _ in rt.forever() {
-            if sender.deliver(rt, shared, self, looking, Deliverer::Writer) != Delivery::Late {
+            if sender.deliver(
+                rt,
+                shared,
+                self.slot,
+                &self.stage,
+                looking,
+                Deliverer::Writer,
+            ) != Delivery::Late
+            {
                 break;
             }
-            if sender.end.deadline_passed {
+            if sender.has_had_its_time() {
                 sender.hang_up();
                 break;
             }
@@ -431,7 +426,7 @@ impl<K: BookName> Lane<K> {
         let mut owed = owed;
         for _ in rt.forever() {
             let (looking, is_last) = owed.look(|looking| {
-                let is_last = self.is_ending.load(Ordering::SeqCst);
+                let is_last = self.stage.is_ending();
                 self.deliver_patiently(rt, shared, looking);
                 is_last
             });
@@ -453,7 +448,7 @@ impl<K: BookName> Lane<K> {
         // Modelled in models/lane.h.
         let parker = self.parker.lock(rt);
         for _ in rt.forever() {
-            if !self.sender.lock(rt).has_connection {
+            if self.sender.lock(rt).connection.is_none() {
                 if self.crew.lock(rt).is_dismissed {
                     break;
                 }

@@ -3,13 +3,14 @@
 //! word that says which thread delivers.
 #![tactic(auto)]
 
+mod ending;
 mod lane;
 mod message;
 mod outbox;
 mod timing;
 mod writing;
 
-pub use lane::Lane;
+pub use lane::{Begun, Lane};
 pub use message::Delivery;
 pub use outbox::Message;
 pub use timing::has_passed;

@@ -100,6 +100,12 @@ impl<K: BookName> Outbox<K> {
         Outbox { pen, left: None }
     }
 
+    pub(crate) fn slot(&self) -> u32
+        ensures { result ≡ self.now.pen.slot }
+    {
+        self.pen.slot()
+    }
+
     pub(crate) fn into_pen(self) -> Pen<K>
         ensures { result ≡ self.pen }
     {

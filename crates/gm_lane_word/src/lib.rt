@@ -1,9 +1,9 @@
 //! The word of a lane: which thread delivers to a connection, and when, so that no delivery is forgotten.
 //!
-//! A thread that queued something for a connection then touches its lane. If no thread has the lane, this one has it now,
-//! and owes it a look, which takes what is queued. If another thread has it, that one looks again before it gives the lane
-//! up. A thread that finds the peer slow hands the lane over to the connection's writer, which may wait for the peer. One
-//! atomic word for each lane says which thread is to look:
+//! A thread that queued something for a connection has a `Due`, with which it then touches its lane. If no thread has the
+//! lane, this one has it now, and owes it a look, which takes what is queued. If another thread has it, that one looks
+//! again before it gives the lane up. A thread that finds the peer slow hands the lane over to the connection's writer,
+//! which may wait for the peer. One atomic word for each lane says which thread is to look:
 //!
 //! - 0 idle: no thread has the lane, and no touch is without a look.
 //! - 1 busy: a thread has the lane, and began a look after the last touch.
@@ -19,6 +19,7 @@
 //! tries again.
 #![tactic(auto)]
 
+mod due;
 pub mod laws;
 mod looking;
 mod owed;
@@ -27,6 +28,7 @@ mod tally;
 mod view;
 mod word;
 
+pub use due::Due;
 pub use looking::Looking;
 pub use owed::Owed;
 pub use tally::Tally;

@@ -38,6 +38,7 @@ impl<'a> Looking<'a> {
     pub fn finish(self) -> Result<Tally, Owed<'a>>
         ensures { MatchResult result (λ tally. tally ≡ self.entry) (λ owed. owed ≡ self.entry) }
     {
+        // Modelled in models/lane.h.
         let Looking { word, mut seat } = self;
         let found = word
             .table
@@ -56,6 +57,7 @@ impl<'a> Looking<'a> {
         ensures left { result ≡ with_hand_over self.entry }
         ensures woken { FnOnceReturnsAt F.FnOnce wake (with_hand_over self.entry) tt }
     {
+        // Modelled in models/lane.h.
         let Looking { word, mut seat } = self;
         word.table.shared.swap::<HandOver>(&mut seat, 0, LATE);
         let tally = Tally { seat };

@@ -39,6 +39,7 @@ impl<'a> Owed<'a> {
         ensures begun { result.0 ≡ with_look self.entry }
         ensures taken { FnOnceReturnsAt F.FnOnce take (with_look self.entry) result.1 }
     {
+        // Modelled in models/lane.h.
         let Owed { word, mut seat } = self;
         word.table.shared.swap::<Look>(&mut seat, 0, BUSY);
         let looking = Looking { word, seat };
@@ -52,6 +53,7 @@ impl<'a> Owed<'a> {
         ensures left { result ≡ with_hand_over self.entry }
         ensures woken { FnOnceReturnsAt F.FnOnce wake (with_hand_over self.entry) tt }
     {
+        // Modelled in models/lane.h.
         let Owed { word, mut seat } = self;
         word.table.shared.swap::<HandOver>(&mut seat, 0, LATE);
         let tally = Tally { seat };

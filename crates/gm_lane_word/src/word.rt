@@ -4,6 +4,7 @@ ghost use Rattle.std.specs.Prelude.{◌≡◌};
 ghost use Rattle.std.specs.Result.{MatchResult};
 ghost use Rattle.gm_lane_word.specs.Seats.{one_touch, one_take_over};
 
+use crate::due::Due;
 use crate::owed::Owed;
 use crate::rule::{Enter, LaneRule, TakeOver, Touch};
 use crate::tally::Tally;
@@ -46,15 +47,18 @@ impl Model for LaneWord {
 impl LaneWord {
     /// The word of an idle lane. An error means that there was no memory for it.
     pub fn new(alloc: Global) -> Result<LaneWord, AllocError> {
+        // Modelled in models/lane.h.
         let (table, _seat) = Table::of_words(alloc, &[IDLE], &())?;
         Ok(LaneWord { table })
     }
 
     /// Touches the lane, after something was queued for its connection. Where no thread had the lane, the caller has it now,
     /// and owes it a look. An error means that another thread looks, after this touch.
-    pub fn touch<'a>(&'a self) -> Result<Owed<'a>, Tally>
+    pub fn touch<'a>(&'a self, due: Due) -> Result<Owed<'a>, Tally>
         ensures { MatchResult result (λ owed. owed ≡ one_touch self.now) (λ tally. tally ≡ one_touch self.now) }
     {
+        // Modelled in models/lane.h.
+        let Due { slot: _ } = due;
         let (found, mut seat) = self.table.shared.load_new_seat::<Enter>(0);
         if found >= OWED {
             return Err(Tally { seat });
@@ -73,6 +77,7 @@ impl LaneWord {
     pub fn take_over<'a>(&'a self) -> Result<Owed<'a>, Tally>
         ensures { MatchResult result (λ owed. owed ≡ one_take_over self.now) (λ tally. tally ≡ one_take_over self.now) }
     {
+        // Modelled in models/lane.h.
         let (found, seat) = self.table.shared.swap_new_seat::<TakeOver>(0, OWED);
         if found == IDLE || found == LATE {
             Ok(Owed { word: self, seat })

@@ -1,3 +1,4 @@
+mod Numbering
 mod Owning
 mod Promised
 mod Serving

@@ -1,8 +1,8 @@
 -- Whose the entries of a history are.
 use Rattle.std.proofs.Common.{◌≡◌, ◌≢◌, ℕ, zero, suc, ◌+◌, ◌*◌, Bool, true, false, if◌then◌else◌, List, [], ◌∷◌, ◌++◌, length, map, All}
-use Rattle.std.proofs.Common.{Option, Some, None, Result, Ok, Err, refl, sym, ap, ap₂, subst, ◌∙◌, arith, add-one, length-append}
-use Rattle.std.specs.Prelude.{◌==◌, ◌&&◌, ◌<◌, get_or, drop, reverse}
-use Rattle.std.proofs.lemmas.List.{map-append, append_assoc, append_cancel_left, reverse-append}
+use Rattle.std.proofs.Common.{Some, refl, sym, ap, ap₂, subst, ◌∙◌, arith, add-one, length-append}
+use Rattle.std.specs.Prelude.{◌==◌, ◌&&◌, ◌<◌, get_or, drop}
+use Rattle.std.proofs.lemmas.List.{map-append, append_assoc, append_cancel_left}
 use Rattle.std.proofs.lemmas.List.Elements.{All-nil, All-cons, All-head, All-tail, All-push, All-append, All-from_recursion, recursion_from_All}
 use Rattle.std.specs.List.{AllByRecursion as ByRecursion}
 use Rattle.std.proofs.Math.Seq.{drop-cons, drop-append-add}

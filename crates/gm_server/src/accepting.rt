@@ -144,7 +144,7 @@ impl<'s, K: BookName + Send + Sync> Control<'s, K> {
             Ok(()) => speaker.clear(rt),
             Err(trouble) => {
                 self.refused = self.refused.saturating_add(1);
-                if !self.state.is_ending() {
+                if !self.state.stage.is_ending() {
                     speaker.note(rt, trouble);
                 }
             }
@@ -184,7 +184,7 @@ impl<'s, K: BookName + Send + Sync> Control<'s, K> {
                 break;
             }
         }
-        if self.state.out_of_memory() {
+        if self.state.stage.has_failed() {
             return Err(ControlError::Memory);
         }
         Ok(())

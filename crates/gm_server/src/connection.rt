@@ -43,6 +43,6 @@ pub(crate) fn start<'s, E, K: BookName + Send + Sync, G: Gate, R: Threads + Wait
         lane.note_reader(rt);
     }
     state.begin();
-    lane.arrive(rt, stream);
+    lane.arrive(rt, number, stream);
     true
 }

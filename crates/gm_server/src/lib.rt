@@ -19,6 +19,7 @@ mod server;
 mod settings;
 mod slot;
 mod speaking;
+mod stage;
 mod state;
 mod systemd;
 

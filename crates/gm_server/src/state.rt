@@ -1,20 +1,23 @@
 //! What all threads of a server share.
 
-ghost use Rattle.std.specs.Prelude.{◌≡◌, ◌<◌, ◌≤◌, All, [], true, false, None, IfSome, IfNone, length};
+ghost use Rattle.std.specs.Prelude.{◌≡◌, ◌≤◌, ℕ, All, [], true, false, None, IfSome, IfNone, IfOk, length, map};
 ghost use Rattle.gm_notes.specs.Steps.{Close};
+ghost use Rattle.gm_conns.specs.Slots.{has};
+ghost use Rattle.gm_shared.specs.Shared.{numbers_below};
 ghost use Rattle.gm_session.specs.Owners.{Asks, Opens};
 
 use crate::slot::Slot;
 use crate::speaking::Speaker;
-use gm_conns::SlotSet;
+use crate::stage::ServerStage;
 use gm_delivery::{Lane, has_passed};
 use gm_feeder::Limits;
-use gm_notes::{ApplyError, Mode};
+use gm_lane_word::Due;
+use gm_notes::{ApplyError, Event};
 use gm_session::{Effects, Gate, Notify, OwnDesk};
 use gm_shared::{BookName, Desk, Pen, Shared};
 use std::alloc::{AllocError, Global};
 use std::net::TcpStream;
-use std::sync::atomic::{AtomicBool, AtomicU64, Ordering};
+use std::sync::atomic::{AtomicU64, Ordering};
 use std::sync::{Arc, Mutex, Wait};
 use std::time::{Clock, Instant};
 
@@ -43,15 +46,13 @@ pub(crate) struct ServerState<K: BookName> {
     second: AtomicU64,
     // Long pieces pass it one after another.
     long_piece_lock: Mutex<()>,
+    // So do batches, of long pieces and of others.
+    batch_lock: Mutex<()>,
     // How many connections are open.
     connections: AtomicU64,
-    // The server takes no new connections, and ends once there are none.
-    is_ending: AtomicBool,
-    // Each connection was asked to end.
-    is_stopped: AtomicBool,
-    // There was no memory to enter a connection's end on the tape, so the book still has its slot open.
-    out_of_memory: AtomicBool,
+    pub(crate) stage: ServerStage,
     ghost sized: { slot_count ≡ K.settings.slots },
+    ghost numbered: { map (λ slot. slot.lane.slot) slots.items ≡ numbers_below slot_count },
 }
 
 /// How far a thread is that delivers to others.
@@ -91,10 +92,16 @@ fn new_slots<K: BookName>(
     desks: Vec<Desk<K>>,
     pens: Vec<Pen<K>>,
 ) -> Result<Vec<Slot<K>>, AllocError>
-    requires { All (λ desk. desk.front.seen ≡ []) desks.items }
+    requires nothing_seen { All (λ desk. desk.front.seen ≡ []) desks.items }
+    requires paired { length desks.items ≡ length pens.items }
+    ensures { IfOk result (λ slots. map (λ slot. slot.lane.slot) slots.items ≡ map (λ pen. pen.slot) pens.items) }
 {
-    let mut slots = Vec::with_capacity(alloc, desks.len())?;
-    for (desk, pen) in desks.into_iter().zip(pens) {
+    let mut slots = Vec::with_capacity(alloc, pens.len())?;
+    let mut desks_left = desks.into_iter();
+    for pen in pens {
+        let Some(desk) = desks_left.next() else {
+            unreachable!()
+        };
         slots.push(Slot {
             desk: Mutex::new(OwnDesk::new(desk)),
             lane: Lane::new(alloc, pen)?,
@@ -117,6 +124,8 @@ impl<K: BookName> ServerState<K> {
     ) -> Result<ServerState<K>, AllocError>
         requires sized { slot_count ≡ K.settings.slots }
         requires nothing_seen { All (λ desk. desk.front.seen ≡ []) desks.items }
+        requires paired { length desks.items ≡ length pens.items }
+        requires numbered { map (λ pen. pen.slot) pens.items ≡ numbers_below slot_count }
     {
         let slots = new_slots(alloc, desks, pens)?;
         Ok(ServerState {
@@ -130,10 +139,9 @@ impl<K: BookName> ServerState<K> {
             begun: Instant::now(rt).ok(),
             second: AtomicU64::new(0),
             long_piece_lock: Mutex::new(()),
+            batch_lock: Mutex::new(()),
             connections: AtomicU64::new(0),
-            is_ending: AtomicBool::new(false),
-            is_stopped: AtomicBool::new(false),
-            out_of_memory: AtomicBool::new(false),
+            stage: ServerStage::new(),
         })
     }
 
@@ -150,21 +158,16 @@ impl<K: BookName> ServerState<K> {
     }
 
     pub(crate) fn slot(&self, number: u32) -> Option<&Slot<K>>
-        ensures some { IfSome result (λ _. number < length self.now.slots.items) }
+        ensures some { IfSome result (λ slot. slot.now.lane.slot ≡ number) }
         ensures none { IfNone result (length self.now.slots.items ≤ number) }
     {
         self.slots.get(number as usize)
     }
 
-    /// Whether the server takes no new connections, and has none; or it ran out of memory at the end of one.
+    /// Whether the server takes no new connections, and has none; or has failed.
     pub(crate) fn can_end(&self) -> bool {
         // Modelled in models/shutdown.pml.
-        self.out_of_memory() || self.is_ending() && !self.has_connections()
-    }
-
-    /// Whether the server takes no new connections.
-    pub(crate) fn is_ending(&self) -> bool {
-        self.is_ending.load(Ordering::SeqCst)
+        self.stage.has_failed() || self.stage.is_ending() && !self.has_connections()
     }
 
     /// Whether fewer connections are open than there are slots.
@@ -176,12 +179,6 @@ impl<K: BookName> ServerState<K> {
     pub(crate) fn has_connections(&self) -> bool {
         // Modelled in models/shutdown.pml.
         self.connections.load(Ordering::SeqCst) > 0
-    }
-
-    /// Whether it ran out of memory at a connection's end.
-    pub(crate) fn out_of_memory(&self) -> bool {
-        // Modelled in models/shutdown.pml.
-        self.out_of_memory.load(Ordering::SeqCst)
     }
 
     /// Counts a connection that is about to start.
@@ -199,49 +196,50 @@ impl<K: BookName> ServerState<K> {
     /// Has each connection end.
     pub(crate) fn stop(&self) {
         // Modelled in models/shutdown.pml.
-        if self.is_stopped.swap(true, Ordering::SeqCst) {
-            return;
-        }
         for slot in &self.slots {
             slot.lane.stop();
         }
     }
 
-    /// Touches the lane of a slot, and delivers where nobody else does; or has its writer do so, where the round is over.
-    fn touch<R: Wait + Clock>(&self, rt: &R, number: u32, round: &mut Round) {
+    /// Touches the lane to whose slot something is due, and delivers where nobody else does; or has its writer do so, where the round
+    /// is over.
+    fn touch<R: Wait + Clock>(&self, rt: &R, due: Due, round: &mut Round) {
         // Modelled in models/deliver.pml and endings.pml.
-        let Some(slot) = self.slot(number) else {
+        let Some(slot) = self.slot(due.slot()) else {
+            due.without_lane(self.slots.len());
             return;
         };
         if round.is_left_to_writers(rt) {
-            slot.lane.touch_for_writer();
+            slot.lane.touch_for_writer(due);
         } else {
-            slot.lane.touch(rt, &self.shared);
+            slot.lane.touch(rt, &self.shared, due);
         }
     }
 
-    /// Touches the lane of each of the slots, and delivers where nobody else does, until the time is over; then it has the
+    /// Touches the lane of each touched slot, and delivers where nobody else does, until the time is over; then it has the
     /// writers do so. One's own connection is answered first: there may be a thousand others.
-    fn deliver<R: Wait + Clock>(&self, rt: &R, effects: &Effects) {
+    fn deliver<R: Wait + Clock>(&self, rt: &R, effects: &mut Effects)
+        ensures own { effects.new.own ≡ effects.old.own }
+        ensures mode { effects.new.mode ≡ effects.old.mode }
+        ensures nothing { (slot : ℕ) → has effects.new.touched slot ≡ false }
+    {
         // Modelled in models/jobs.pml and shutdown.pml.
         let mut round = Round::new();
-        let own = effects.own_touched();
-        if let Some(slot) = own {
-            self.touch(rt, slot, &mut round);
+        if let Some(due) = effects.take_own() {
+            self.touch(rt, due, &mut round);
         }
-        for slot in &effects.touched {
-            if Some(slot) != own {
-                self.touch(rt, slot, &mut round);
-            }
+        let mut from = 0;
+        while let Some(due) = effects.take_next(from) {
+            from = due.slot() + 1;
+            self.touch(rt, due, &mut round);
         }
     }
 
     /// Notifies others of what came of an event.
-    fn notify_of<R: Wait + Clock>(&self, rt: &R, touched: &SlotSet, mode: Mode) {
-        // Modelled in models/jobs.pml.
-        let mut effects = Effects::new(None);
-        effects.add(touched, mode);
-        self.notify(rt, &effects);
+    fn finish<R: Wait + Clock>(&self, rt: &R, mut effects: Effects) {
+        // Modelled in models/jobs.pml and ticks.pml.
+        self.notify(rt, &mut effects);
+        effects.end();
     }
 
     /// Opens a connection from this address, and answers its slot; none where it is refused.
@@ -255,10 +253,10 @@ impl<K: BookName> ServerState<K> {
         ensures number { desk.new.desk.number ≡ desk.old.desk.number }
     {
         // Modelled in models/shutdown.pml and ticks.pml.
-        let mut touched = SlotSet::new();
-        let receipt = desk.open(rt, &self.shared, addr, &mut touched).ok()?;
-        self.notify_of(rt, &touched, receipt.mode);
-        receipt.done.opened
+        let mut effects = Effects::new(None);
+        let answer = desk.apply(rt, &self.shared, Event::Open { addr }, &mut effects);
+        self.finish(rt, effects);
+        answer.ok()?.done.opened
     }
 
     /// How many seconds the server has run, if the clock can be read.
@@ -282,18 +280,15 @@ impl<K: BookName> ServerState<K> {
     /// second.
     fn tick<R: Wait + Clock>(&self, rt: &R, now: u64) {
         // Modelled in models/jobs.pml and ticks.pml.
-        let mut touched = SlotSet::new();
+        let mut effects = Effects::new(None);
         let mut desk = self.control.lock(rt);
-        if now <= self.second.load(Ordering::SeqCst) {
-            return;
+        if self.second.load(Ordering::SeqCst) < now {
+            let _ = desk.apply(rt, &self.shared, Event::Tick { now }, &mut effects);
+            // Only now: a thread that reads it hands in a grab without a tick.
+            self.second.store(now, Ordering::SeqCst);
         }
-        let outcome = desk.tick(rt, &self.shared, now, &mut touched);
-        // Only now: a thread that reads it hands in a grab without a tick.
-        self.second.store(now, Ordering::SeqCst);
         drop(desk);
-        if let Ok(receipt) = outcome {
-            self.notify_of(rt, &touched, receipt.mode);
-        }
+        self.finish(rt, effects);
     }
 
     /// Closes a desk's slot. With a tape there may be no memory for that. Then the slot stays open in the book, and the
@@ -303,12 +298,13 @@ impl<K: BookName> ServerState<K> {
         ensures number { desk.new.desk.number ≡ desk.old.desk.number }
     {
         // Modelled in models/endings.pml and shutdown.pml.
-        let mut touched = SlotSet::new();
-        match desk.close(rt, &self.shared, &mut touched) {
-            Ok(receipt) => self.notify_of(rt, &touched, receipt.mode),
-            Err(ApplyError::Memory) => self.out_of_memory.store(true, Ordering::SeqCst),
-            Err(_) => {}
+        let mut effects = Effects::new(None);
+        let slot = desk.number();
+        let answer = desk.apply(rt, &self.shared, Event::Close { slot }, &mut effects);
+        if let Err(ApplyError::Memory) = answer {
+            self.stage.fail();
         }
+        self.finish(rt, effects);
     }
 
     /// Closes a slot whose connection couldn't start.
@@ -331,7 +327,7 @@ impl<K: BookName> ServerState<K> {
         // Modelled in models/endings.pml and shutdown.pml.
         let mut desk = slot.desk.lock(rt);
         if let Ok(sending) = Arc::try_clone(stream) {
-            slot.lane.begin(rt, &self.shared, sending);
+            let begun = slot.lane.begin(rt, &self.shared, sending);
             let mut reader: &TcpStream = stream;
             desk.read(
                 &*rt,
@@ -342,7 +338,7 @@ impl<K: BookName> ServerState<K> {
                 &*gate,
                 &*self,
             );
-            slot.lane.end(rt);
+            slot.lane.end(rt, begun);
         }
         self.close(rt, &mut desk);
     }
@@ -374,6 +370,10 @@ impl<K: BookName, R: Wait + Clock> Notify<R> for ServerState<K> {
         &self.long_piece_lock
     }
 
+    fn batch_lock(&self) -> &Mutex<()> {
+        &self.batch_lock
+    }
+
     fn is_time(&self, rt: &R, begun: &mut Option<Instant>) -> bool {
         has_passed(rt, begun, BATCH_TIME_MS)
     }
@@ -382,15 +382,10 @@ impl<K: BookName, R: Wait + Clock> Notify<R> for ServerState<K> {
         ServerState::update_time(self, rt);
     }
 
-    fn notify(&self, rt: &R, effects: &Effects) {
+    fn notify(&self, rt: &R, effects: &mut Effects) {
         // Modelled in models/deliver.pml and shutdown.pml.
-        match effects.mode {
-            Mode::Running => {}
-            Mode::Graceful => self.is_ending.store(true, Ordering::SeqCst),
-            Mode::Stopped => {
-                self.is_ending.store(true, Ordering::SeqCst);
-                self.stop();
-            }
+        if self.stage.follow(effects.take_mode()) {
+            self.stop();
         }
         self.deliver(rt, effects);
     }

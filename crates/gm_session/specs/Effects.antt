@@ -1,6 +1,8 @@
 -- What came of events, for the threads that are notified.
-use Rattle.std.specs.Prelude.{◌≡◌, ℕ, Bool, false, ◌||◌, List, Result, Ok, Err}
+use Rattle.std.specs.Prelude.{◌≡◌, ◌<◌, ◌≤◌, ℕ, ◌==◌, Bool, true, false, not, ◌&&◌, ◌||◌, List, Option, Some, None, Result, Ok, Err}
 use Rattle.gm_conns.specs.Slots.{has}
+use Rattle.gm_lane_word.specs.declared.due.Due.{Due}
+use Rattle.gm_notes.specs.declared.event.ApplyError.{ApplyError}
 use Rattle.gm_notes.specs.declared.states.Mode.{Mode}
 use Rattle.gm_notes.specs.declared.states.Mode.TheVariants.{Running}
 use Rattle.gm_notes.specs.Settings.{Settings}
@@ -22,14 +24,35 @@ pub record Collects (touched : List ℕ) (mode : Mode) (old new : Effects) : Typ
   pub slots : (c : ℕ) → has new.touched c ≡ (has old.touched c || has touched c)
   pub mode_is : new.mode ≡ mode
 
--- An event was applied with this receipt and touched these slots, of which nothing is lost to the threads that are notified.
-pub record KeepsReceipt (k : Settings) (taped : Bool) (s : Step) (desk : ℕ) (before after : List Entry) (old new : Effects) : Type 0 where
-  pub receipt : Receipt
-  pub touched : List ℕ
-  pub called : DeskCalled k taped s desk (Ok receipt) touched before after
-  pub collects : Collects touched receipt.mode old new
+-- what came of an event is kept; where it was refused, nothing came of it
+abbrev pub Kept : Result Receipt ApplyError → List ℕ → Effects → Effects → Type 0
+Kept (Ok receipt) touched old new = Collects touched receipt.mode old new
+Kept (Err refused) touched old new = new ≡ old
 
--- what came of an event is kept; where it wasn't applied, nothing came of it
-abbrev pub Keeps : Settings → Bool → Step → ℕ → Result (Unit {0}) SessionEnd → List Entry → List Entry → Effects → Effects → Type 0
-Keeps k taped s desk (Ok done) before after old new = KeepsReceipt k taped s desk before after old new
-Keeps k taped s desk (Err end) before after old new = new ≡ old
+-- An event was handed in at the desk, and of the slots that it touched none is lost to the threads that are notified.
+pub record Keeps (k : Settings) (taped : Bool) (s : Step) (desk : ℕ) (answer : Result Receipt ApplyError) (before after : List Entry) (old new : Effects) : Type 0 where
+  pub touched : List ℕ
+  pub called : DeskCalled k taped s desk answer touched before after
+  pub kept : Kept answer touched old new
+
+-- the same for a session, which is over where the event was refused
+abbrev pub KeepsUnit : Settings → Bool → Step → ℕ → Result (Unit {0}) SessionEnd → List Entry → List Entry → Effects → Effects → Type 0
+KeepsUnit k taped s desk (Ok done) before after old new = (receipt : Receipt) × Keeps k taped s desk (Ok receipt) before after old new
+KeepsUnit k taped s desk (Err end) before after old new = new ≡ old
+
+-- What is due to a slot is taken out, and nothing else.
+pub record Takes (due : Due) (old new : Effects) : Type 0 where
+  pub was : has old.touched due.slot ≡ true
+  pub slots : (c : ℕ) → has new.touched c ≡ (not (c == due.slot) && has old.touched c)
+  pub mode : new.mode ≡ old.mode
+  pub own : new.own ≡ old.own
+
+-- it is that of the first touched slot from one on; none where there is no such slot
+abbrev pub TakesDue : ℕ → Option Due → Effects → Effects → Type 0
+TakesDue from None old new = (new ≡ old) × ((c : ℕ) → from ≤ c → has old.touched c ≡ false)
+TakesDue from (Some due) old new = (from ≤ due.slot) × (due.slot < 1024) × ((c : ℕ) → from ≤ c → c < due.slot → has old.touched c ≡ false) × Takes due old new
+
+-- it is that of one's own slot, if it is touched
+abbrev pub TakesOwn : Option Due → Effects → Effects → Type 0
+TakesOwn None old new = (new ≡ old) × ((c : ℕ) → old.own ≡ Some c → has old.touched c ≡ false)
+TakesOwn (Some due) old new = (old.own ≡ Some due.slot) × Takes due old new

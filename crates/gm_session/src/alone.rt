@@ -18,13 +18,15 @@ use std::time::Instant;
 #[derive(Drop)]
 pub struct Alone {
     long_piece_lock: Mutex<()>,
+    batch_lock: Mutex<()>,
 }
 
 impl Alone {
-    /// For one session. Its lock for long pieces is free.
+    /// For one session. Its locks for batches are free.
     pub fn new() -> Alone {
         Alone {
             long_piece_lock: Mutex::new(()),
+            batch_lock: Mutex::new(()),
         }
     }
 }
@@ -34,13 +36,19 @@ impl<R> Notify<R> for Alone {
         &self.long_piece_lock
     }
 
+    fn batch_lock(&self) -> &Mutex<()> {
+        &self.batch_lock
+    }
+
     fn is_time(&self, _rt: &R, _begun: &mut Option<Instant>) -> bool {
         false
     }
 
     fn update_time(&self, _rt: &R) {}
 
-    fn notify(&self, _rt: &R, _effects: &Effects) {}
+    fn notify(&self, _rt: &R, effects: &mut Effects) {
+        effects.forget();
+    }
 }
 
 /// Reads a connection's stream to its end, cuts it into units and applies each at the slot, in order; where no
@@ -51,7 +59,7 @@ pub fn read_session<'s, K: BookName, R: Wait, I: Read, G: Gate>(
     alloc: Global,
     reader: &mut I,
     shared: &'s Shared<K>,
-    desk: &'s mut Desk<K>,
+    desk: &mut Desk<K>,
     slot: u32,
     limits: Limits,
     gate: &'s G,

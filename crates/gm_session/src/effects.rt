@@ -1,23 +1,27 @@
 //! What came of events, for the threads that are notified.
 
-ghost use Rattle.std.specs.Prelude.{◌≡◌, ℕ, false, Some, IfSome, IfNone, IsTrue};
-ghost use Rattle.gm_conns.specs.Slots.{has};
-ghost use Rattle.gm_session.specs.Effects.{IsNothing, Collects};
+ghost use Rattle.std.specs.Prelude.{◌≡◌};
+ghost use Rattle.std.specs.Result.{IsErrOf};
+ghost use Rattle.gm_notes.specs.Servers.{step_of, IsSized};
+ghost use Rattle.gm_shared.specs.Books.{NeedsNoMemory};
+ghost use Rattle.gm_shared.specs.Calls.{HandedIn, if_taken};
+ghost use Rattle.gm_session.specs.Effects.{IsNothing, Collects, Keeps, TakesDue, TakesOwn};
 
 use gm_conns::SlotSet;
-use gm_notes::Mode;
-use std::sync::Mutex;
+use gm_lane_word::Due;
+use gm_notes::{ApplyError, Event, Mode};
+use gm_shared::{BookName, Desk, Receipt, Shared};
+use std::sync::{Mutex, Wait};
 use std::time::Instant;
 
-/// What came of some events.
-#[derive(Drop)]
+/// What came of some events. It can't be dropped: what is due to each touched slot is taken out of it, and then it is ended.
 pub struct Effects {
-    /// The slot whose connection's events they were, if they were a connection's.
-    pub own: Option<u32>,
-    /// The slots for which there may be something to send.
-    pub touched: SlotSet,
-    /// Whether the server goes on.
-    pub mode: Mode,
+    // The slot whose connection's events they were, if they were a connection's.
+    own: Option<u32>,
+    // The slots for which there may be something to send.
+    touched: SlotSet,
+    // Whether the server goes on.
+    mode: Mode,
 }
 
 impl Effects {
@@ -33,30 +37,99 @@ impl Effects {
         }
     }
 
-    /// The slot whose connection's events they were, if there may be something to send to it.
-    pub fn own_touched(&self) -> Option<u32>
-        ensures some { IfSome result (λ slot. (self.now.own ≡ Some slot) × IsTrue (has self.now.touched slot)) }
-        ensures none { IfNone result ((slot : ℕ) → self.now.own ≡ Some slot → has self.now.touched slot ≡ false) }
-    {
-        // Modelled in models/jobs.pml.
-        let own = self.own?;
-        self.touched.next(own).filter(|slot| *slot == own)
-    }
-
     /// Takes the slots that an event touched, and the mode in its receipt.
-    pub fn add(&mut self, touched: &SlotSet, mode: Mode)
+    pub(crate) fn add(&mut self, touched: &SlotSet, mode: Mode)
         ensures { Collects touched.now mode self.old self.new }
     {
         // Modelled in models/jobs.pml.
         self.mode = mode;
         self.touched.union(touched);
     }
+
+    /// Takes whether the server goes on.
+    pub fn take_mode(&mut self) -> Mode
+        ensures mode { result ≡ self.old.mode }
+        ensures taken { self.new.mode ≡ Mode.Running }
+        ensures touched { self.new.touched ≡ self.old.touched }
+        ensures own { self.new.own ≡ self.old.own }
+    {
+        std::mem::replace(&mut self.mode, Mode::Running)
+    }
+
+    /// Takes what is due to the first slot from `from` on, if anything is due to one.
+    pub fn take_next(&mut self, from: u32) -> Option<Due>
+        ensures { TakesDue from result self.old self.new }
+    {
+        // Modelled in models/jobs.pml.
+        let slot = self.touched.next(from)?;
+        self.touched.remove(slot);
+        Some(Due::new(slot))
+    }
+
+    /// Takes what is due to the slot whose connection's events they were, if anything is.
+    pub fn take_own(&mut self) -> Option<Due>
+        ensures { TakesOwn result self.old self.new }
+    {
+        // Modelled in models/jobs.pml.
+        let own = self.own?;
+        if self.touched.next(own) == Some(own) {
+            self.touched.remove(own);
+            return Some(Due::new(own));
+        }
+        None
+    }
+
+    /// Forgets what is due, where nobody is notified.
+    pub(crate) fn forget(&mut self)
+        ensures own { self.new.own ≡ self.old.own }
+        ensures nothing { IsNothing self.new }
+    {
+        self.touched = SlotSet::new();
+        self.mode = Mode::Running;
+    }
+
+    /// Ends it, where nothing is due to any slot any more.
+    pub fn end(self)
+        requires { IsNothing self }
+    {
+        let Effects {
+            own: _,
+            touched: _,
+            mode: _,
+        } = self;
+    }
+}
+
+/// Hands in an event at a desk, and adds what came of it. `touched` becomes the slots that it touched, as `Desk::apply_with` says.
+pub(crate) fn hand_in<K: BookName>(
+    rt: &impl Wait,
+    shared: &Shared<K>,
+    desk: &mut Desk<K>,
+    event: Event<'_>,
+    touched: &mut SlotSet,
+    effects: &mut Effects,
+) -> Result<Receipt, ApplyError>
+    requires { IsSized event }
+    ensures keeps { Keeps K.settings K.taped (step_of event.entry) desk.old.number result desk.old.front.seen desk.new.front.seen effects.old effects.new }
+    ensures hands { HandedIn desk.old.number (if_taken (step_of event.entry) result) desk.old.front.seen desk.new.front.seen }
+    ensures memory { NeedsNoMemory K.taped (step_of event.entry) → IsErrOf result ApplyError.Memory → ⊥ }
+    ensures number { desk.new.number ≡ desk.old.number }
+{
+    // Modelled in models/jobs.pml.
+    let answer = desk.apply_with(rt, shared, event, touched);
+    if let Ok(receipt) = &answer {
+        effects.add(touched, receipt.mode);
+    }
+    answer
 }
 
 /// What a session needs of the threads around it: whom it notifies of what came of its units, and whether it is time for that.
 pub trait Notify<R> {
-    /// Long pieces pass it one after another.
+    /// Long pieces pass it one after another. It is taken before `batch_lock`, and held with it.
     fn long_piece_lock(&self) -> &Mutex<()>;
+
+    /// Batches pass it one after another, of long pieces and of others.
+    fn batch_lock(&self) -> &Mutex<()>;
 
     /// Whether a session has had its time, and is to notify others. It keeps when it was first asked.
     fn is_time(&self, rt: &R, begun: &mut Option<Instant>) -> bool;
@@ -65,6 +138,8 @@ pub trait Notify<R> {
     /// second that was handed in.
     fn update_time(&self, rt: &R);
 
-    /// Notifies others of what came of some units, with the book's lock let go.
-    fn notify(&self, rt: &R, effects: &Effects);
+    /// Notifies others of what came of some events, with the book's lock let go.
+    fn notify(&self, rt: &R, effects: &mut Effects)
+        ensures own { effects.new.own ≡ effects.old.own }
+        ensures nothing { IsNothing effects.new };
 }

@@ -4,13 +4,12 @@ ghost use Rattle.std.specs.Prelude.{◌≡◌, true, false, []};
 ghost use Rattle.std.specs.Result.{IsErrOf};
 ghost use Rattle.std.specs.Io.KnownBytes.{IsAtEnd};
 ghost use Rattle.gm_notes.specs.Servers.{step_of, IsSized};
-ghost use Rattle.gm_notes.specs.Steps.{Open, Close, Tick};
 ghost use Rattle.gm_shared.specs.Books.{NeedsNoMemory};
-ghost use Rattle.gm_shared.specs.Calls.{DeskCalled, HandedIn, if_taken};
+ghost use Rattle.gm_session.specs.Effects.{Keeps};
 ghost use Rattle.gm_session.specs.Owners.{is_said_by, SaysOwn};
 ghost use Rattle.gm_session.specs.Sessions.{Reads};
 
-use crate::effects::Notify;
+use crate::effects::{Effects, Notify, hand_in};
 use crate::gate::Gate;
 use crate::session::{SessionEnd, read_and_notify};
 use gm_conns::SlotSet;
@@ -45,72 +44,31 @@ impl<K: BookName> OwnDesk<K> {
         self.desk
     }
 
-    /// Hands in an event that is of this desk's slot, or of none. `touched` becomes the slots that it touched, as
-    /// `Desk::apply_with` says.
-    fn apply(
+    /// Hands in an event that is of this desk's slot, or of none: an opening, a tick. What came of it is added to the effects.
+    pub fn apply(
         &mut self,
         rt: &impl Wait,
         shared: &Shared<K>,
         event: Event<'_>,
-        touched: &mut SlotSet,
+        effects: &mut Effects,
     ) -> Result<Receipt, ApplyError>
         requires size { IsSized event }
         requires own { is_said_by self.old.desk.number (step_of event) ≡ true }
-        ensures called { DeskCalled K.settings K.taped (step_of event.entry) self.old.desk.number result touched.new
-            self.old.desk.front.seen self.new.desk.front.seen }
-        ensures hands { HandedIn self.old.desk.number (if_taken (step_of event.entry) result) self.old.desk.front.seen self.new.desk.front.seen }
+        ensures keeps { Keeps K.settings K.taped (step_of event.entry) self.old.desk.number result
+            self.old.desk.front.seen self.new.desk.front.seen effects.old effects.new }
         ensures memory { NeedsNoMemory K.taped (step_of event.entry) → IsErrOf result ApplyError.Memory → ⊥ }
         ensures number { self.new.desk.number ≡ self.old.desk.number }
     {
-        self.desk.apply_with(rt, shared, event, touched)
+        // Modelled in models/endings.pml and ticks.pml.
+        let mut touched = SlotSet::new();
+        hand_in(rt, shared, &mut self.desk, event, &mut touched, effects)
     }
 
-    /// Opens a connection from this address.
-    pub fn open(
-        &mut self,
-        rt: &impl Wait,
-        shared: &Shared<K>,
-        addr: &[u8],
-        touched: &mut SlotSet,
-    ) -> Result<Receipt, ApplyError>
-        ensures called { DeskCalled K.settings K.taped (Open addr.now) self.old.desk.number result touched.new
-            self.old.desk.front.seen self.new.desk.front.seen }
-        ensures number { self.new.desk.number ≡ self.old.desk.number }
+    /// The number of the desk, which is its slot's; the control desk has the number after the last slot's.
+    pub fn number(&self) -> u32
+        ensures { result ≡ self.now.desk.number }
     {
-        self.apply(rt, shared, Event::Open { addr }, touched)
-    }
-
-    /// Hands in which second it is.
-    pub fn tick(
-        &mut self,
-        rt: &impl Wait,
-        shared: &Shared<K>,
-        now: u64,
-        touched: &mut SlotSet,
-    ) -> Result<Receipt, ApplyError>
-        ensures called { DeskCalled K.settings K.taped (Tick now) self.old.desk.number result touched.new
-            self.old.desk.front.seen self.new.desk.front.seen }
-        ensures number { self.new.desk.number ≡ self.old.desk.number }
-    {
-        // Modelled in models/ticks.pml.
-        self.apply(rt, shared, Event::Tick { now }, touched)
-    }
-
-    /// Closes the desk's slot.
-    pub fn close(
-        &mut self,
-        rt: &impl Wait,
-        shared: &Shared<K>,
-        touched: &mut SlotSet,
-    ) -> Result<Receipt, ApplyError>
-        ensures called { DeskCalled K.settings K.taped (Close self.old.desk.number) self.old.desk.number result touched.new
-            self.old.desk.front.seen self.new.desk.front.seen }
-        ensures memory { K.taped ≡ false → IsErrOf result ApplyError.Memory → ⊥ }
-        ensures number { self.new.desk.number ≡ self.old.desk.number }
-    {
-        // Modelled in models/endings.pml.
-        let slot = self.desk.number();
-        self.apply(rt, shared, Event::Close { slot }, touched)
+        self.desk.number()
     }
 
     /// Reads the stream of the slot's connection to its end (`read_and_notify`).

@@ -4,10 +4,10 @@ ghost use Rattle.std.specs.Prelude.{◌≡◌, ◌+◌, ◌-◌, ◌%◌, ◌^�
 ghost use Rattle.std.specs.Io.KnownBytes.{IsAtEnd};
 ghost use Rattle.gm_notes.specs.Servers.{step_of, IsSized};
 ghost use Rattle.gm_notes.specs.Steps.{Packet};
-ghost use Rattle.gm_session.specs.Effects.{IsNothing, Keeps};
+ghost use Rattle.gm_session.specs.Effects.{IsNothing, KeepsUnit};
 ghost use Rattle.gm_session.specs.Sessions.{IsPiece, Applies, TakesNext, Unloads, Reads};
 
-use crate::effects::{Effects, Notify};
+use crate::effects::{Effects, Notify, hand_in};
 use crate::gate::Gate;
 use gm_bytes::{Data, LONG, SharedBytes};
 use gm_conns::SlotSet;
@@ -23,6 +23,10 @@ use std::time::Instant;
 
 /// The most bytes of a piece that doesn't wait for others: a few requests without data.
 const SHORT_PIECE: usize = 256;
+
+/// The most bytes of a piece that doesn't wait behind the long pieces that wait: several requests. It waits for the batch that
+/// goes on.
+const MIDDLE_PIECE: usize = 2_048;
 
 /// How many units of a longer piece don't wait for others either: a request or two with data. Where a client sends many at a
 /// time, none is free.
@@ -60,12 +64,10 @@ fn is_grab(event: &Event<'_>) -> bool {
     }
 }
 
-/// Where a connection's events are applied: its desk, past the gate.
-#[derive(Drop)]
+/// How a connection's events are applied at its desk: past the gate.
 struct Applier<'s, K: BookName, R, G> {
     rt: &'s R,
     shared: &'s Shared<K>,
-    desk: &'s mut Desk<K>,
     gate: &'s G,
     slot: u32,
     /// The next unit's index.
@@ -79,37 +81,41 @@ struct Applier<'s, K: BookName, R, G> {
 
 impl<'s, K: BookName, R: Wait, G: Gate> Applier<'s, K, R, G> {
     /// Applies an event. Where it is refused, the session is over.
-    fn apply(&mut self, event: Event<'_>) -> Result<(), SessionEnd>
+    fn apply(&mut self, desk: &mut Desk<K>, event: Event<'_>) -> Result<(), SessionEnd>
         requires { IsSized event }
-        ensures applies { Applies K.settings K.taped self.old.desk.now.number (step_of event.entry) result self.old.desk.now.front.seen self.new.desk.now.front.seen }
-        ensures keeps { Keeps K.settings K.taped (step_of event.entry) self.old.desk.now.number result
-            self.old.desk.now.front.seen self.new.desk.now.front.seen self.old.effects self.new.effects }
-        ensures same_desk { self.new.desk.ghost_name ≡ self.old.desk.ghost_name }
-        ensures number { self.new.desk.now.number ≡ self.old.desk.now.number }
+        ensures applies { Applies K.settings K.taped desk.old.number (step_of event.entry) result desk.old.front.seen desk.new.front.seen }
+        ensures keeps { KeepsUnit K.settings K.taped (step_of event.entry) desk.old.number result
+            desk.old.front.seen desk.new.front.seen self.old.effects self.new.effects }
+        ensures number { desk.new.number ≡ desk.old.number }
         ensures slot { self.new.slot ≡ self.old.slot }
     {
         // Modelled in models/jobs.pml.
-        match self
-            .desk
-            .apply_with(self.rt, self.shared, event, &mut self.touched)
-        {
-            Ok(receipt) => {
-                self.effects.add(&self.touched, receipt.mode);
-                Ok(())
-            }
+        match hand_in(
+            self.rt,
+            self.shared,
+            desk,
+            event,
+            &mut self.touched,
+            &mut self.effects,
+        ) {
+            Ok(_) => Ok(()),
             Err(ApplyError::Memory) => Err(SessionEnd::Memory),
             Err(_) => Err(SessionEnd::Shut),
         }
     }
 
     /// Lets a unit pass the gate, and applies it, before a grab with the present second.
-    fn apply_unit<N: Notify<R>>(&mut self, server: &N, event: Event<'_>) -> Result<(), SessionEnd>
+    fn apply_unit<N: Notify<R>>(
+        &mut self,
+        desk: &mut Desk<K>,
+        server: &N,
+        event: Event<'_>,
+    ) -> Result<(), SessionEnd>
         requires { IsSized event }
-        ensures applies { Applies K.settings K.taped self.old.desk.now.number (step_of event.entry) result self.old.desk.now.front.seen self.new.desk.now.front.seen }
-        ensures keeps { Keeps K.settings K.taped (step_of event.entry) self.old.desk.now.number result
-            self.old.desk.now.front.seen self.new.desk.now.front.seen self.old.effects self.new.effects }
-        ensures same_desk { self.new.desk.ghost_name ≡ self.old.desk.ghost_name }
-        ensures number { self.new.desk.now.number ≡ self.old.desk.now.number }
+        ensures applies { Applies K.settings K.taped desk.old.number (step_of event.entry) result desk.old.front.seen desk.new.front.seen }
+        ensures keeps { KeepsUnit K.settings K.taped (step_of event.entry) desk.old.number result
+            desk.old.front.seen desk.new.front.seen self.old.effects self.new.effects }
+        ensures number { desk.new.number ≡ desk.old.number }
         ensures slot { self.new.slot ≡ self.old.slot }
     {
         // Modelled in models/jobs.pml and ticks.pml.
@@ -118,12 +124,11 @@ impl<'s, K: BookName, R: Wait, G: Gate> Applier<'s, K, R, G> {
         if is_grab(&event) {
             server.update_time(self.rt);
         }
-        self.apply(event)
+        self.apply(desk, event)
     }
 }
 
 /// A connection's way in: its bytes are cut into units, and each is applied at its desk.
-#[derive(Drop)]
 struct Session<'s, K: BookName, R, G, N> {
     alloc: Global,
     applier: Applier<'s, K, R, G>,
@@ -154,38 +159,53 @@ fn share(alloc: Global, packet: OwnedPacket) -> Result<SharedBytes, AllocError>
 struct Batch<'s> {
     /// How many units don't wait for other sessions' batches.
     free_units: u32,
+    /// Whether its piece is long, and waits for its turn among the long pieces.
+    is_long: bool,
     /// Held over the other units, so that no other session has such a batch. Many units in a row, of several connections at
     /// once, would wake and sleep at the book's lock at each unit.
     alone: Option<MutexGuard<'s, ()>>,
+    /// The turn of a long piece, held with `alone`. So at most one thread with a long piece waits for `alone`, beside those with
+    /// shorter ones.
+    turn: Option<MutexGuard<'s, ()>>,
     units: u32,
     begun: Option<Instant>,
 }
 
 impl<'s> Batch<'s> {
-    fn new(free_units: u32) -> Batch<'s>
+    fn new(free_units: u32, is_long: bool) -> Batch<'s>
         ensures free { result.free_units ≡ free_units }
         ensures units { result.units ≡ 0 }
+        ensures long { result.is_long ≡ is_long }
         ensures alone { IsNone result.alone }
+        ensures turn { IsNone result.turn }
         ensures begun { result.begun ≡ None }
     {
         Batch {
             free_units,
+            is_long,
             alone: None,
+            turn: None,
             units: 0,
             begun: None,
         }
     }
 
-    /// Lets the next unit in. The first that isn't free waits until no other session has such a batch.
+    /// Lets the next unit in. The first that isn't free waits until no other session has such a batch, in a long piece behind
+    /// the other long ones.
     fn admit<R: Wait, N: Notify<R>>(&mut self, server: &'s N, rt: &R)
         ensures free { self.new.free_units ≡ self.old.free_units }
         ensures units { self.new.units ≡ self.old.units }
         ensures waits { self.old.free_units ≤ self.old.units → IsSome self.new.alone }
+        ensures turn { self.old.free_units ≤ self.old.units → IsNone self.old.alone → self.old.is_long ≡ true → IsSome self.new.turn }
+        ensures long { self.new.is_long ≡ self.old.is_long }
         ensures begun { self.new.begun ≡ self.old.begun }
     {
         // Modelled in models/jobs.pml.
         if self.units >= self.free_units && self.alone.is_none() {
-            self.alone = Some(server.long_piece_lock().lock(rt));
+            if self.is_long {
+                self.turn = Some(server.long_piece_lock().lock(rt));
+            }
+            self.alone = Some(server.batch_lock().lock(rt));
         }
     }
 
@@ -200,16 +220,6 @@ impl<'s> Batch<'s> {
         self.units = self.units.wrapping_add(1);
         is_line || self.units % UNITS_PER_CLOCK_READ == 0 && server.is_time(rt, &mut self.begun)
     }
-}
-
-/// Has the server notify others of what came of events. After that there is nothing to notify them of.
-fn flush_effects<R, N: Notify<R>>(server: &N, rt: &R, effects: &mut Effects)
-    ensures own { effects.new.own ≡ effects.old.own }
-    ensures nothing { IsNothing effects.new }
-{
-    // Modelled in models/jobs.pml.
-    server.notify(rt, effects);
-    *effects = Effects::new(effects.own);
 }
 
 impl<'s, K: BookName, R: Wait, G: Gate, N: Notify<R>> Session<'s, K, R, G, N> {
@@ -230,42 +240,40 @@ impl<'s, K: BookName, R: Wait, G: Gate, N: Notify<R>> Session<'s, K, R, G, N> {
 
     /// Takes the next unit in the feeder, or the fault there. A long packet is taken with its
     /// memory, so that its data are shared and not copied. Where the session is over, it says why.
-    fn take_unit(&mut self, batch: &mut Batch<'s>) -> Result<Taken, SessionEnd>
-        ensures takes { TakesNext K.settings K.taped self.old.applier.desk.now.number self.old.applier.slot self.old.feeder result self.old.applier.desk.now.front.seen self.new.applier.desk.now.front.seen self.new.feeder }
-        ensures same_desk { self.new.applier.desk.ghost_name ≡ self.old.applier.desk.ghost_name }
-        ensures number { self.new.applier.desk.now.number ≡ self.old.applier.desk.now.number }
+    fn take_unit(&mut self, desk: &mut Desk<K>, batch: &mut Batch<'s>) -> Result<Taken, SessionEnd>
+        ensures takes { TakesNext K.settings K.taped desk.old.number self.old.applier.slot self.old.feeder result desk.old.front.seen desk.new.front.seen self.new.feeder }
+        ensures number { desk.new.number ≡ desk.old.number }
         ensures slot { self.new.applier.slot ≡ self.old.applier.slot }
     {
         // Modelled in models/jobs.pml.
         let slot = self.applier.slot;
         if let Some(packet) = self.feeder.take_packet(LONG) {
             batch.admit(self.server, self.applier.rt);
-            self.take_long(packet)?;
+            self.take_long(desk, packet)?;
             return Ok(Taken::Unit { is_line: false });
         }
         match next_event(&mut self.feeder, slot) {
             Next::Unit(event) => {
                 let is_line = matches!(event, Event::Line { .. });
                 batch.admit(self.server, self.applier.rt);
-                self.applier.apply_unit(self.server, event)?;
+                self.applier.apply_unit(desk, self.server, event)?;
                 Ok(Taken::Unit { is_line })
             }
             Next::Wait => Ok(Taken::Nothing),
             Next::Fault(fault) => {
-                self.applier.apply(Event::Fault { slot, fault })?;
+                self.applier.apply(desk, Event::Fault { slot, fault })?;
                 Err(SessionEnd::Shut)
             }
         }
     }
 
     /// Applies a packet that was taken with its memory.
-    fn take_long(&mut self, packet: OwnedPacket) -> Result<(), SessionEnd>
+    fn take_long(&mut self, desk: &mut Desk<K>, packet: OwnedPacket) -> Result<(), SessionEnd>
         requires { length (drop packet.data_at packet.bytes.items) ≤ 1073741824 }
-        ensures applies { Applies K.settings K.taped self.old.applier.desk.now.number (Packet self.old.applier.slot packet.kind (drop packet.data_at packet.bytes.items)) result
-            self.old.applier.desk.now.front.seen self.new.applier.desk.now.front.seen }
+        ensures applies { Applies K.settings K.taped desk.old.number (Packet self.old.applier.slot packet.kind (drop packet.data_at packet.bytes.items)) result
+            desk.old.front.seen desk.new.front.seen }
         ensures feeder { self.new.feeder ≡ self.old.feeder }
-        ensures same_desk { self.new.applier.desk.ghost_name ≡ self.old.applier.desk.ghost_name }
-        ensures number { self.new.applier.desk.now.number ≡ self.old.applier.desk.now.number }
+        ensures number { desk.new.number ≡ desk.old.number }
         ensures slot { self.new.applier.slot ≡ self.old.applier.slot }
     {
         let slot = self.applier.slot;
@@ -275,23 +283,23 @@ impl<'s, K: BookName, R: Wait, G: Gate, N: Notify<R>> Session<'s, K, R, G, N> {
         };
         let bytes = Data::shared(&data);
         self.applier
-            .apply_unit(self.server, Event::Packet { slot, kind, bytes })
+            .apply_unit(desk, self.server, Event::Packet { slot, kind, bytes })
     }
 
     /// Takes each unit in the feeder, and the fault after them. Where the session is over, it says why. Where
     /// its batch has ended, it notifies others of what came of it, and other sessions have theirs.
-    fn unload(&mut self, length: usize) -> Result<(), SessionEnd>
-        ensures unloads { Unloads K.settings K.taped self.old.applier.desk.now.number self.old.applier.slot self.old.feeder result self.old.applier.desk.now.front.seen self.new.applier.desk.now.front.seen self.new.feeder }
-        ensures same_desk { self.new.applier.desk.ghost_name ≡ self.old.applier.desk.ghost_name }
-        ensures number { self.new.applier.desk.now.number ≡ self.old.applier.desk.now.number }
+    fn unload(&mut self, desk: &mut Desk<K>, length: usize) -> Result<(), SessionEnd>
+        ensures unloads { Unloads K.settings K.taped desk.old.number self.old.applier.slot self.old.feeder result desk.old.front.seen desk.new.front.seen self.new.feeder }
+        ensures number { desk.new.number ≡ desk.old.number }
         ensures slot { self.new.applier.slot ≡ self.old.applier.slot }
     {
         // Modelled in models/jobs.pml.
         let server = self.server;
         let free_units = self.free_units(length);
-        let mut batch = Batch::new(free_units);
+        let is_long = length > MIDDLE_PIECE;
+        let mut batch = Batch::new(free_units, is_long);
         loop {
-            let is_line = match self.take_unit(&mut batch)? {
+            let is_line = match self.take_unit(desk, &mut batch)? {
                 Taken::Unit { is_line } => is_line,
                 Taken::Nothing => {
                     self.is_pipelining = batch.units > FIRST_UNITS;
@@ -300,35 +308,36 @@ impl<'s, K: BookName, R: Wait, G: Gate, N: Notify<R>> Session<'s, K, R, G, N> {
             };
             if batch.has_ended(server, self.applier.rt, is_line) {
                 drop(batch);
-                flush_effects(server, self.applier.rt, &mut self.applier.effects);
-                batch = Batch::new(free_units);
+                server.notify(self.applier.rt, &mut self.applier.effects);
+                batch = Batch::new(free_units, is_long);
             }
         }
     }
 
     /// Takes what is in the feeder since a piece of this length came, and notifies of what came of it. Where the session is
     /// over, it says why.
-    fn take_piece(&mut self, len: usize) -> Result<(), SessionEnd>
-        ensures told { IsNothing self.new.applier.effects }
-        ensures unloads { Unloads K.settings K.taped self.old.applier.desk.now.number self.old.applier.slot self.old.feeder result self.old.applier.desk.now.front.seen self.new.applier.desk.now.front.seen self.new.feeder }
-        ensures same_desk { self.new.applier.desk.ghost_name ≡ self.old.applier.desk.ghost_name }
-        ensures number { self.new.applier.desk.now.number ≡ self.old.applier.desk.now.number }
+    fn take_piece(&mut self, desk: &mut Desk<K>, len: usize) -> Result<(), SessionEnd>
+        ensures nothing { IsNothing self.new.applier.effects }
+        ensures unloads { Unloads K.settings K.taped desk.old.number self.old.applier.slot self.old.feeder result desk.old.front.seen desk.new.front.seen self.new.feeder }
+        ensures number { desk.new.number ≡ desk.old.number }
         ensures slot { self.new.applier.slot ≡ self.old.applier.slot }
     {
         // Modelled in models/jobs.pml.
-        let outcome = self.unload(len);
-        flush_effects(self.server, self.applier.rt, &mut self.applier.effects);
+        let outcome = self.unload(desk, len);
+        self.server
+            .notify(self.applier.rt, &mut self.applier.effects);
         outcome
     }
 
     /// Reads a connection's stream to its end.
-    fn run<I: Read>(&mut self, reader: &mut I) -> SessionEnd
-        requires { self.old.feeder.pending ≡ [] }
+    fn run<I: Read>(&mut self, desk: &mut Desk<K>, reader: &mut I) -> SessionEnd
+        requires feeder { self.old.feeder.pending ≡ [] }
+        requires nothing { IsNothing self.old.applier.effects }
+        ensures nothing { IsNothing self.new.applier.effects }
         ensures ended { result ≡ SessionEnd.Ended → IsAtEnd (I.remaining reader.new) }
-        ensures reads { Reads K.settings K.taped self.old.applier.desk.now.number self.old.applier.slot self.old.feeder.limits (I.remaining reader.old) (I.remaining reader.new) result
-            self.old.applier.desk.now.front.seen self.new.applier.desk.now.front.seen }
-        ensures same_desk { self.new.applier.desk.ghost_name ≡ self.old.applier.desk.ghost_name }
-        ensures number { self.new.applier.desk.now.number ≡ self.old.applier.desk.now.number }
+        ensures reads { Reads K.settings K.taped desk.old.number self.old.applier.slot self.old.feeder.limits (I.remaining reader.old) (I.remaining reader.new) result
+            desk.old.front.seen desk.new.front.seen }
+        ensures number { desk.new.number ≡ desk.old.number }
     {
         // Modelled in models/jobs.pml.
         for _ in 0..MOST_PIECES {
@@ -336,7 +345,7 @@ impl<'s, K: BookName, R: Wait, G: Gate, N: Notify<R>> Session<'s, K, R, G, N> {
                 Ok(len) => len,
                 Err(end) => return end,
             };
-            match self.take_piece(len) {
+            match self.take_piece(desk, len) {
                 Ok(()) => {}
                 Err(end) => return end,
             }
@@ -368,7 +377,7 @@ pub(crate) fn read_and_notify<'s, K: BookName, R: Wait, I: Read, G: Gate, N: Not
     alloc: Global,
     reader: &mut I,
     shared: &'s Shared<K>,
-    desk: &'s mut Desk<K>,
+    desk: &mut Desk<K>,
     slot: u32,
     limits: Limits,
     gate: &'s G,
@@ -383,7 +392,6 @@ pub(crate) fn read_and_notify<'s, K: BookName, R: Wait, I: Read, G: Gate, N: Not
         applier: Applier {
             rt,
             shared,
-            desk,
             gate,
             slot,
             index: 0,
@@ -394,8 +402,23 @@ pub(crate) fn read_and_notify<'s, K: BookName, R: Wait, I: Read, G: Gate, N: Not
         server,
         is_pipelining: false,
     };
-    let end = session.run(reader);
-    // The desk is the caller's again.
-    let _desk = session.applier.desk;
+    let end = session.run(desk, reader);
+    let Session {
+        alloc: _,
+        applier,
+        feeder: _feeder,
+        server: _,
+        is_pipelining: _,
+    } = session;
+    let Applier {
+        rt: _,
+        shared: _,
+        gate: _,
+        slot: _,
+        index: _,
+        effects,
+        touched: _,
+    } = applier;
+    effects.end();
     end
 }

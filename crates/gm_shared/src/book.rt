@@ -100,6 +100,7 @@ impl Booked {
         ensures memory { NeedsNoMemory self.old.tape.on (step_of event.now) → IsErrOf result ApplyError.Memory → ⊥ }
         ensures table { self.new.seat.table ≡ self.old.seat.table }
     {
+        // Modelled in models/deliver.pml and jobs.pml.
         *touched = SlotSet::new();
         *found = Noop::Left;
         let copies = self.tape.room_for(self.alloc, share, event)?;
@@ -128,6 +129,7 @@ impl Booked {
             × Drains k steps pen slot result self.old self.new told }
         ensures seat { self.new.seat ≡ self.old.seat }
     {
+        // Modelled in models/lane.h.
         let (conns, _, _) = self.core.parts();
         if !conns.is_open(slot) {
             return Err(ApplyError::NotOpen);
@@ -154,6 +156,7 @@ impl Booked {
     fn is_withdrawal(&self, event: &Event<'_>) -> bool
         ensures { (k : Settings) (steps : List Step) → CoreAgrees self.now.core k steps → result ≡ withdraws_noop (step_of event.now) (run k steps) }
     {
+        // Modelled in models/jobs.pml.
         match *event {
             Event::Close { .. } => true,
             Event::Packet { slot, kind, bytes } => asks_a_job(kind, bytes.as_slice())
@@ -173,6 +176,7 @@ impl Booked {
         ensures table { self.new.seat.table ≡ self.old.seat.table }
         ensures tape { self.new.tape ≡ self.old.tape }
     {
+        // Modelled in models/jobs.pml.
         let Some(slot) = slot_of(event) else {
             return Noop::Left;
         };
@@ -203,6 +207,7 @@ impl Booked {
         ensures tape { self.new.tape ≡ self.old.tape }
         ensures missed { (c : ℕ) → c < self.old.slots → has touched.new c ≡ false → is_touched self.old.core.conns c ≡ false }
     {
+        // Modelled in models/jobs.pml.
         *touched = SlotSet::new();
         for _at in 0..self.slots {
             let Some(slot) = self.core.take_touched() else {
@@ -223,6 +228,7 @@ impl Booked {
         ensures follows { FollowsCore (step_of event.now) touched.new self.old self.new }
         ensures tape { self.new.tape ≡ self.old.tape }
     {
+        // Modelled in models/jobs.pml.
         self.follow_touched(table, touched);
         if let Event::Close { slot } = *event
             && slot < self.slots

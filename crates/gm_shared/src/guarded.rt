@@ -96,6 +96,7 @@ impl<K: BookName> Guarded<K> {
         ensures refused { IfErr result (λ _. (c : ℕ) → has touched.new c ≡ false) }
         ensures memory { NeedsNoMemory K.taped (step_of event.now) → IsErrOf result ApplyError.Memory → ⊥ }
     {
+        // Modelled in models/deliver.pml.
         let mut noop = Noop::Left;
         let result = self
             .booked
@@ -125,6 +126,7 @@ impl<K: BookName> Guarded<K> {
         ensures drains { (steps : List Step) → BookedAgrees self.old.booked K.settings steps
             → (told : List Told) × Drains K.settings steps pen slot result self.old.booked self.new.booked told }
     {
+        // Modelled in models/lane.h.
         let result = self.booked.drain_into(pen, slot, share);
         let what = match &result {
             Ok(drained) => What::Drain(slot, &drained.bytes),

@@ -138,6 +138,7 @@ impl<K: BookName> Desk<K> {
         ensures memory { NeedsNoMemory K.taped (step_of event.entry) → IsErrOf result ApplyError.Memory → ⊥ }
         ensures number { self.new.number ≡ self.old.number }
     {
+        // Modelled in models/deliver.pml.
         let mut freed = None;
         let share = &mut self.share;
         let result = shared.book.lock(rt).apply(
@@ -172,6 +173,13 @@ impl<K: BookName> Pen<K> {
         }
     }
 
+    /// Its slot.
+    pub fn slot(&self) -> u32
+        ensures { result ≡ self.now.slot }
+    {
+        self.slot
+    }
+
     /// Takes the NOOP that the slot is owed, and says whether it did. It tries once, and never waits. The book enters
     /// the taking when it next looks at the slot.
     pub fn take(&mut self, shared: &Shared<K>) -> bool
@@ -181,6 +189,7 @@ impl<K: BookName> Pen<K> {
         ensures tries { self.new.seat.tries ≡ self.old.seat.tries + 1 }
         ensures takes { MatchBool result (self.new.seat.takes ≡ self.old.seat.takes + 1) (self.new.seat.takes ≡ self.old.seat.takes) }
     {
+        // Modelled in models/lane.h.
         self.seat.take(&shared.table)
     }
 
@@ -193,6 +202,7 @@ impl<K: BookName> Pen<K> {
         ensures slot { self.new.slot ≡ self.old.slot }
         ensures seat { self.new.seat ≡ self.old.seat }
     {
+        // Modelled in models/lane.h.
         shared.book.lock(rt).drain(
             &shared.history,
             &mut self.front,

@@ -3,7 +3,7 @@
 ghost use Rattle.std.specs.Prelude.{◌≡◌};
 
 use crate::checks::must;
-use gm_lane_word::{LaneWord, Looking, Owed, Tally};
+use gm_lane_word::{Due, LaneWord, Looking, Owed, Tally};
 use std::sync::Wait;
 use std::sync::atomic::{AtomicU64, Ordering};
 use std::test::Fail;
@@ -34,22 +34,22 @@ fn is_given_up(looking: Looking<'_>) -> bool {
 #[test]
 fn lane_word_ample(rt: HostRuntime) -> Result<(), Fail> {
     let lane = LaneWord::new(rt.alloc())?;
-    let Ok(owed) = lane.touch() else {
+    let Ok(owed) = lane.touch(Due::new(0)) else {
         panic!(rt; "an idle lane isn't to be had")
     };
-    must(&rt, is_others(lane.touch()));
+    must(&rt, is_others(lane.touch(Due::new(0))));
     let (looking, found) = owed.look(|_| 7);
-    must(&rt, found == 7 && is_others(lane.touch()));
+    must(&rt, found == 7 && is_others(lane.touch(Due::new(0))));
     let Err(owed) = looking.finish() else {
         panic!(rt; "a lane was given up that is owed a look")
     };
     let (looking, _) = owed.look(|_| {});
     must(&rt, is_given_up(looking));
-    let Ok(owed) = lane.touch() else {
+    let Ok(owed) = lane.touch(Due::new(0)) else {
         panic!(rt; "a lane that was given up isn't to be had")
     };
     owed.hand_over(|_| {});
-    must(&rt, is_others(lane.touch()));
+    must(&rt, is_others(lane.touch(Due::new(0))));
     let Ok(owed) = lane.take_over() else {
         panic!(rt; "a late lane isn't to be had")
     };
@@ -61,7 +61,7 @@ fn lane_word_ample(rt: HostRuntime) -> Result<(), Fail> {
     });
     must(
         &rt,
-        wakes.load(Ordering::SeqCst) == 1 && is_others(lane.touch()),
+        wakes.load(Ordering::SeqCst) == 1 && is_others(lane.touch(Due::new(0))),
     );
     Ok(())
 }
@@ -98,7 +98,7 @@ impl Line {
     fn send_ones(&self, rt: &impl Wait, times: u32) {
         for _ in 0..times {
             self.queued.fetch_add(1, Ordering::SeqCst);
-            if let Ok(owed) = self.word.touch() {
+            if let Ok(owed) = self.word.touch(Due::new(0)) {
                 self.deliver(rt, owed);
             }
         }
@@ -107,7 +107,7 @@ impl Line {
     // Leaves the lane to the writer, this number of times.
     fn be_slow(&self, times: u32) {
         for _ in 0..times {
-            if let Ok(owed) = self.word.touch() {
+            if let Ok(owed) = self.word.touch(Due::new(0)) {
                 owed.hand_over(|_| {});
             }
         }

@@ -112,6 +112,7 @@ impl BookSeat {
         requires owed { (line_at slot self.old.lines).phase ≡ Owed }
         ensures { MatchBool result (self.new ≡ with_line slot with_withdrawal self.old) (self.new ≡ with_line slot with_take_found self.old) }
     {
+        // Modelled in models/jobs.pml.
         let found = table
             .words
             .shared
@@ -127,6 +128,7 @@ impl BookSeat {
         requires slot { slot < length self.old.lines }
         ensures { MatchBool result (((line_at slot self.old.lines).phase ≡ Owed) × (self.new ≡ with_line slot with_take_found self.old)) (self.new ≡ looked slot self.old) }
     {
+        // Modelled in models/jobs.pml.
         let Phase::Owed = self.phases[slot as usize] else {
             return false;
         };

@@ -35,6 +35,7 @@ impl PenSeat {
         requires { self.old.table ≡ table.now }
         ensures { MatchBool result (self.new ≡ record self.old { takes = self.old.takes + 1; tries = self.old.tries + 1 }) (self.new ≡ record self.old { tries = self.old.tries + 1 }) }
     {
+        // Modelled in models/lane.h.
         let found = table
             .words
             .shared

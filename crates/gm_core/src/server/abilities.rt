@@ -104,6 +104,7 @@ impl Core {
         requires { IsOpen self.old.conns slot }
         ensures { Goes self.old self.new (pre_sleep self.old.config slot) }
     {
+        // Modelled in models/jobs.pml.
         if !self.conns.phase(slot).is_awake() {
             return;
         }

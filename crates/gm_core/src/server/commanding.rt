@@ -162,6 +162,7 @@ impl Core {
         requires { IsOpen self.old.conns slot }
         ensures { Does self.old result self.new (shutdown self.old.config slot true) }
     {
+        // Modelled in models/shutdown.pml.
         self.say_ok(slot)?;
         self.turn_away();
         Ok(())
@@ -172,6 +173,7 @@ impl Core {
         requires { IsOpen self.old.conns slot }
         ensures { Does self.old result self.new (shutdown self.old.config slot false) }
     {
+        // Modelled in models/shutdown.pml.
         self.say_ok(slot)?;
         self.mode = Mode::Stopped;
         self.shut_each();
@@ -182,6 +184,7 @@ impl Core {
     fn shut_one(&mut self, slot: u32)
         ensures { Goes self.old self.new (shut_one slot) }
     {
+        // Modelled in models/shutdown.pml.
         if self.can_take_units(slot) {
             self.conns.shut_down(slot);
         }

@@ -15,6 +15,7 @@ impl Core {
         requires { f < length self.old.functions.names }
         ensures { Goes self.old self.new (wake self.old.config (name_at self.old.functions.names f)) }
     {
+        // Modelled in models/jobs.pml.
         let mut from = 0;
         while let Some(slot) = self.conns.next_sleeper(f, from) {
             self.conns.set_phase(slot, Phase::Owed);

@@ -7,12 +7,12 @@ use Rattle.gm_session.proofs.session.Session.take_unit.Goals as goal
 
 pub returns-in_ok-apply_unit-in-Unit-clause-takes : goal.returns-in_ok-apply_unit-in-Unit-clause-takes
 returns-in_ok-apply_unit-in-Unit-clause-takes g c =
-    next_unit g.K.BookName.settings g.K.BookName.taped c.args.self.now.applier.desk.now.number _ _ c.take_packet.new.self _ _ _ c.in_default.ensures.none (step_of c.in-Unit.event) true
+    next_unit g.K.BookName.settings g.K.BookName.taped c.args.desk.now.number _ _ c.take_packet.new.self _ _ _ c.in_default.ensures.none (step_of c.in-Unit.event) true
     (rw c.in-Unit.is at c.next_event.follows.holds-at-none) c.in_ok-apply_unit-in-Unit.ensures.applies
 
 pub returns-in_ok-apply-in-Fault-clause-takes : goal.returns-in_ok-apply-in-Fault-clause-takes
 returns-in_ok-apply-in-Fault-clause-takes g c =
-    next_fault g.K.BookName.settings _ c.args.self.now.applier.desk.now.number _ _ c.take_packet.new.self _ _ _ c.in_default.ensures.none c.in-Fault.fault
+    next_fault g.K.BookName.settings _ c.args.desk.now.number _ _ c.take_packet.new.self _ _ _ c.in_default.ensures.none c.in-Fault.fault
     (rw c.in-Fault.is at c.next_event.follows.holds-at-none) c.in_ok-apply-in-Fault.ensures.applies
 
 pub returns-in_err-take_long-clause-takes : goal.returns-in_err-take_long-clause-takes

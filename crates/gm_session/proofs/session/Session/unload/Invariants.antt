@@ -4,9 +4,8 @@ use Rattle.gm_session.proofs.session.Session.unload.Given as goal
 
 abbrev pub invariant-loop-batch : goal.invariant-loop-batch
 invariant-loop-batch g l = record {
-  unloading : Unloading l.fn.self.applier.desk.now.number l.fn.self.applier.slot l.fn.self.feeder l.fn.self.applier.desk.now.front.seen l.self.applier.desk.now.front.seen l.self.feeder;
-  same_desk : l.self.applier.desk.ghost_name ≡ l.fn.self.applier.desk.ghost_name;
-  number : l.self.applier.desk.now.number ≡ l.fn.self.applier.desk.now.number;
+  unloading : Unloading l.fn.desk.number l.fn.self.applier.slot l.fn.self.feeder l.fn.desk.front.seen l.desk.front.seen l.self.feeder;
+  number : l.desk.number ≡ l.fn.desk.number;
   slot : l.self.applier.slot ≡ l.fn.self.applier.slot;
 }
 
