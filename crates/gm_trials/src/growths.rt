@@ -4,7 +4,8 @@ use crate::error::TrialError;
 use crate::reference::Reference;
 use crate::script::Order;
 use crate::seen::{Taker, hand_in, same, see};
-use crate::settings::Settings;
+use crate::settings::{Settings, TrialServer, new_front};
+use gm_core::Core;
 use gm_front::{Front, Input, StepError};
 use gm_notes::{ApplyError, JobServer, Place};
 use gm_plain::PlainServer;
@@ -43,8 +44,8 @@ fn hand_in_all<T: Taker>(
 }
 
 /// Hands in what a front took: all before the cut piece, the first units of that, and the closing.
-fn hand_in_taken(
-    reference: &mut Reference,
+fn hand_in_taken<R: JobServer>(
+    reference: &mut Reference<R>,
     first_job: u64,
     orders: &[Order<'_>],
     cut: Option<(usize, u64)>,
@@ -63,21 +64,23 @@ fn hand_in_taken(
     see(reference, first_job, seen)
 }
 
-/// Where this growth is refused, a front does as the reference that has memory. It answers whether there is such a growth.
-fn is_refused<S: JobServer>(
+/// Where this growth is refused, a front of the one server does as a reference of the other that has memory. It answers
+/// whether there is such a growth.
+fn is_refused<S: TrialServer, R: TrialServer>(
     alloc: Global,
     growth: u32,
-    front: &mut Front<S>,
-    reference: &mut Reference,
-    first_job: u64,
+    settings: &Settings,
     orders: &[Order<'_>],
 ) -> Result<bool, TrialError> {
+    let first_job = settings.first_job;
+    let mut front = new_front::<S>(alloc, settings)?;
+    let mut reference = Reference::<R>::new(alloc, settings)?;
     let mut got = String::with_capacity(alloc, ROOM)?;
     let mut wanted = String::with_capacity(alloc, ROOM)?;
     refuse(alloc, growth);
-    let cut = hand_in_all(front, first_job, orders, &mut got);
+    let cut = hand_in_all(&mut front, first_job, orders, &mut got);
     let is_refused = refuse(alloc, 0);
-    hand_in_taken(reference, first_job, orders, cut?, &mut wanted)?;
+    hand_in_taken(&mut reference, first_job, orders, cut?, &mut wanted)?;
     same(alloc, u64::from(growth), got.as_str(), wanted.as_str())?;
     Ok(is_refused)
 }
@@ -89,22 +92,8 @@ pub fn growth_front(
     orders: &[Order<'_>],
 ) -> Result<u64, TrialError> {
     for growth in 1..MOST {
-        let on_core = is_refused(
-            alloc,
-            growth,
-            &mut settings.core_front(alloc)?,
-            &mut Reference::new(alloc, settings)?,
-            settings.first_job,
-            orders,
-        )?;
-        let on_plain = is_refused(
-            alloc,
-            growth,
-            &mut settings.plain_front(alloc)?,
-            &mut Reference::new(alloc, settings)?,
-            settings.first_job,
-            orders,
-        )?;
+        let on_core = is_refused::<Core, PlainServer>(alloc, growth, settings, orders)?;
+        let on_plain = is_refused::<PlainServer, PlainServer>(alloc, growth, settings, orders)?;
         if !on_core && !on_plain {
             return Ok(u64::from(growth) - 1);
         }
@@ -117,7 +106,7 @@ const THREE: &[u8] =
     b"\0REQ\0\0\0\x12\0\0\0\x05f\0-\0d\0REQ\0\0\0\x12\0\0\0\x05f\0-\0d\0REQ\0\0\0\x12\0\0\0\x05f\0-\0d";
 
 /// After a cut the slot is closed, and there are as many jobs as units were taken.
-fn is_cut_after(front: &mut Front<PlainServer>, units: u64) -> bool {
+fn is_cut_after<S: JobServer>(front: &mut Front<S>, units: u64) -> bool {
     let is_closed = matches!(
         front.step(Input::Piece(0, THREE)),
         Err(StepError::Refused(ApplyError::NotOpen))
@@ -131,13 +120,18 @@ fn is_cut_after(front: &mut Front<PlainServer>, units: u64) -> bool {
 }
 
 /// Where this growth of a piece is refused, the piece is cut. It answers whether there is such a growth.
-fn is_cut(alloc: Global, growth: u32, front: &mut Front<PlainServer>) -> Result<bool, TrialError> {
+fn is_cut<S: TrialServer>(
+    alloc: Global,
+    growth: u32,
+    settings: &Settings,
+) -> Result<bool, TrialError> {
+    let mut front = new_front::<S>(alloc, settings)?;
     front.step(Input::Open(b"a"))?;
     refuse(alloc, growth);
     let answer = front.step(Input::Piece(0, THREE));
     let is_refused = refuse(alloc, 0);
     let is_right = match answer {
-        Err(StepError::Cut { units }) => is_refused && is_cut_after(front, units),
+        Err(StepError::Cut { units }) => is_refused && is_cut_after(&mut front, units),
         Ok(stepped) => !is_refused && stepped.done.created == Some(3),
         Err(_) => false,
     };
@@ -151,7 +145,7 @@ fn is_cut(alloc: Global, growth: u32, front: &mut Front<PlainServer>) -> Result<
 /// Refuses each growth of a piece in turn, at a front of the plain server.
 pub fn cut_piece(alloc: Global, settings: &Settings) -> Result<u64, TrialError> {
     for growth in 1..MOST {
-        if !is_cut(alloc, growth, &mut settings.plain_front(alloc)?)? {
+        if !is_cut::<PlainServer>(alloc, growth, settings)? {
             return Ok(u64::from(growth) - 1);
         }
     }

@@ -5,9 +5,11 @@ ghost use Rattle.std.specs.Prelude.{◌<◌};
 use crate::error::TrialError;
 use crate::script::Order;
 use crate::seen::{Taker, same, see, see_answer};
-use crate::settings::{LIMITS, Settings};
+use crate::settings::{LIMITS, Settings, TrialServer, new_front};
+use gm_core::Core;
 use gm_feeder::{FeedFault, Feeder};
 use gm_front::Input;
+use gm_plain::PlainServer;
 use std::alloc::Global;
 use std::fmt::Write;
 
@@ -67,23 +69,22 @@ fn play<T: Taker>(
     Ok(())
 }
 
+/// What is seen of this server, where a connection sends a stream and is closed.
+fn seen_of<S: TrialServer>(
+    alloc: Global,
+    settings: &Settings,
+    stream: &[u8],
+) -> Result<String, TrialError> {
+    let mut front = new_front::<S>(alloc, settings)?;
+    let mut seen = String::new(alloc);
+    play(&mut front, stream, settings.first_job, &mut seen)?;
+    Ok(seen)
+}
+
 /// Both servers make the same of a connection that sends a stream and is closed.
 fn play_both(alloc: Global, settings: &Settings, stream: &[u8]) -> Result<(), TrialError> {
-    let mut on_core = String::new(alloc);
-    let mut on_plain = String::new(alloc);
-    let first_job = settings.first_job;
-    play(
-        &mut settings.core_front(alloc)?,
-        stream,
-        first_job,
-        &mut on_core,
-    )?;
-    play(
-        &mut settings.plain_front(alloc)?,
-        stream,
-        first_job,
-        &mut on_plain,
-    )?;
+    let on_core = seen_of::<Core>(alloc, settings, stream)?;
+    let on_plain = seen_of::<PlainServer>(alloc, settings, stream)?;
     same(
         alloc,
         stream.len() as u64,

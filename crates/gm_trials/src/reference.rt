@@ -1,32 +1,33 @@
-//! A plain server that is handed the steps which inputs spell, without a front.
+//! A server that is handed the steps which inputs spell, without a front.
 
 use crate::error::TrialError;
 use crate::seen::Taker;
-use crate::settings::{LIMITS, Settings};
+use crate::settings::{LIMITS, Settings, TrialServer};
 use gm_bytes::ByteQueue;
 use gm_feeder::Feeder;
 use gm_front::{Input, Next, StepError, Stepped, next_event};
 use gm_notes::{ApplyError, Done, Event, JobServer};
-use gm_plain::PlainServer;
 use std::alloc::Global;
 
-/// A plain server, and what each slot sent that made no unit yet. A slot that isn't open has no feeder.
+/// A server, and what each slot sent that made no unit yet. A slot that isn't open has no feeder.
 #[derive(Drop)]
-pub struct Reference {
-    server: PlainServer,
+pub struct Reference<S> {
+    server: S,
     feeders: Vec<Option<Feeder>>,
     alloc: Global,
 }
 
-impl Reference {
-    pub fn new(alloc: Global, settings: &Settings) -> Result<Reference, TrialError> {
+impl<S: TrialServer> Reference<S> {
+    pub fn new(alloc: Global, settings: &Settings) -> Result<Reference<S>, TrialError> {
         Ok(Reference {
-            server: settings.plain_server(alloc)?,
+            server: S::with_settings(alloc, settings)?,
             feeders: Vec::new(alloc),
             alloc,
         })
     }
+}
 
+impl<S: JobServer> Reference<S> {
     fn open(&mut self, addr: &[u8]) -> Result<Done, ApplyError> {
         let done = self.server.apply(&Event::Open { addr })?;
         let feeder = Some(Feeder::new(self.alloc, LIMITS));
@@ -76,8 +77,8 @@ impl Reference {
     }
 }
 
-impl Taker for Reference {
-    type Server = PlainServer;
+impl<S: JobServer> Taker for Reference<S> {
+    type Server = S;
 
     fn take(&mut self, input: Input<'_>) -> Result<Stepped, StepError> {
         let mut drained = ByteQueue::new(self.alloc);
@@ -94,7 +95,7 @@ impl Taker for Reference {
         Ok(Stepped { done, drained })
     }
 
-    fn asked(&self) -> &PlainServer {
+    fn asked(&self) -> &S {
         &self.server
     }
 }

@@ -4,7 +4,7 @@ use crate::error::TrialError;
 use gm_core::Core;
 use gm_feeder::Limits;
 use gm_front::Front;
-use gm_notes::Config;
+use gm_notes::{Config, JobServer};
 use gm_plain::PlainServer;
 use std::alloc::Global;
 use std::hash::RandomState;
@@ -62,17 +62,30 @@ impl Settings {
                 .with_retries(self.retries),
         )
     }
+}
 
-    pub fn plain_server(&self, alloc: Global) -> Result<PlainServer, TrialError> {
-        Ok(PlainServer::new(alloc, self.config(alloc)?)?)
-    }
+/// A server that a trial begins with. Trials take any, so that their proofs don't spell out how the tables of each are dropped.
+pub trait TrialServer: JobServer + Drop {
+    /// A server to which nothing has happened.
+    fn with_settings(alloc: Global, settings: &Settings) -> Result<Self, TrialError>;
+}
 
-    pub fn plain_front(&self, alloc: Global) -> Result<Front<PlainServer>, TrialError> {
-        Ok(Front::new(alloc, self.plain_server(alloc)?, LIMITS)?)
+impl TrialServer for PlainServer {
+    fn with_settings(alloc: Global, settings: &Settings) -> Result<PlainServer, TrialError> {
+        Ok(PlainServer::new(alloc, settings.config(alloc)?)?)
     }
+}
 
-    pub fn core_front(&self, alloc: Global) -> Result<Front<Core>, TrialError> {
-        let core = Core::new(alloc, self.seed, self.config(alloc)?)?;
-        Ok(Front::new(alloc, core, LIMITS)?)
+impl TrialServer for Core {
+    fn with_settings(alloc: Global, settings: &Settings) -> Result<Core, TrialError> {
+        Ok(Core::new(alloc, settings.seed, settings.config(alloc)?)?)
     }
+}
+
+/// A front of a new server.
+pub fn new_front<S: TrialServer>(
+    alloc: Global,
+    settings: &Settings,
+) -> Result<Front<S>, TrialError> {
+    Ok(Front::new(alloc, S::with_settings(alloc, settings)?, LIMITS)?)
 }
