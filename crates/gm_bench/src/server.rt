@@ -9,7 +9,7 @@ use crate::script::{Order, Round, Script};
 use gm_core::Core;
 use gm_feeder::Limits;
 use gm_front::Front;
-use gm_notes::{Config, Done};
+use gm_notes::{Config, Done, JobServer};
 use std::alloc::Global;
 use std::hash::RandomState;
 use std::time::Clock;
@@ -41,7 +41,7 @@ fn sum_of_done(done: Done) -> u64 {
 }
 
 /// Carries out the orders, and answers the sum of what came of them.
-fn obey(front: &mut Front<Core>, orders: &[Order]) -> Result<u64, BenchError> {
+fn obey(front: &mut Front<impl JobServer>, orders: &[Order]) -> Result<u64, BenchError> {
     let mut sum: u64 = 0;
     for order in orders {
         match front.step(order.input()) {
@@ -57,7 +57,7 @@ fn obey(front: &mut Front<Core>, orders: &[Order]) -> Result<u64, BenchError> {
 
 /// Does these rounds with the clock stopped.
 fn run(
-    front: &mut Front<Core>,
+    front: &mut Front<impl JobServer>,
     script: &mut Script,
     round: Round,
     rounds: u32,
@@ -69,7 +69,7 @@ fn run(
 
 /// Does a round again and again, one at a time.
 fn repeat(
-    front: &mut Front<Core>,
+    front: &mut Front<impl JobServer>,
     script: &mut Script,
     round: Round,
     count: u64,
@@ -82,7 +82,7 @@ fn repeat(
 
 /// The client and the worker come, and then the jobs or workers beside which rounds are timed.
 fn crowd(
-    front: &mut Front<Core>,
+    front: &mut Front<impl JobServer>,
     script: &mut Script,
     timed: Round,
     size: u64,
@@ -100,7 +100,7 @@ fn crowd(
 }
 
 fn run_aside(
-    front: &mut Front<Core>,
+    front: &mut Front<impl JobServer>,
     script: &mut Script,
     round: Option<Round>,
 ) -> Result<(), BenchError> {
@@ -113,7 +113,7 @@ fn run_aside(
 /// Times a batch.
 fn batch(
     rt: &impl Clock,
-    front: &mut Front<Core>,
+    front: &mut Front<impl JobServer>,
     script: &mut Script,
     timed: Round,
 ) -> Result<Outcome, BenchError> {
@@ -129,7 +129,7 @@ fn batch(
 /// Times this many batches.
 fn batches(
     rt: &impl Clock,
-    front: &mut Front<Core>,
+    front: &mut Front<impl JobServer>,
     script: &mut Script,
     timed: Round,
     count: u64,
@@ -144,7 +144,7 @@ fn batches(
 /// Repeats all the rounds: the sum of all, and the least time that they took.
 fn best(
     rt: &impl Clock,
-    front: &mut Front<Core>,
+    front: &mut Front<impl JobServer>,
     script: &mut Script,
     timed: Round,
     amount: Amount,
@@ -174,7 +174,7 @@ fn new_front(alloc: Global, seed: RandomState) -> Result<Front<Core>, BenchError
 /// By how many bytes resident memory grows when this many background jobs come to wait.
 fn growth(
     rt: &HostRuntime,
-    front: &mut Front<Core>,
+    front: &mut Front<impl JobServer>,
     script: &mut Script,
     size: u64,
 ) -> Result<Outcome, BenchError> {
@@ -187,7 +187,7 @@ fn growth(
 /// Times an event, once.
 fn once(
     rt: &impl Clock,
-    front: &mut Front<Core>,
+    front: &mut Front<impl JobServer>,
     script: &mut Script,
     event: Event,
     amount: Amount,
@@ -218,7 +218,7 @@ pub(crate) enum Task {
 /// Carries out a task.
 fn carry_out(
     rt: &HostRuntime,
-    front: &mut Front<Core>,
+    front: &mut Front<impl JobServer>,
     script: &mut Script,
     task: Task,
     amount: Amount,

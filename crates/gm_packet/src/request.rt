@@ -31,7 +31,7 @@ pub enum RequestFault {
 
 /// A request, its arguments borrowed from the data of its packet. The Gearman PROTOCOL document says under
 /// the same names what each asks for and which side sends it.
-#[derive(Clone, Copy, PartialEq, Eq)]
+#[derive(Clone, Copy)]
 pub enum Request<'a> {
     /// A worker can do jobs of this function.
     CanDo {
@@ -144,9 +144,9 @@ pub enum Request<'a> {
 macro_rules! read_by_kind {
     ($kind:ident, $bytes:ident: $($name:ident($($argument:ident),*) by $read:ident;)*) => {
         match $kind {
-            $(Kind::$name => {
-                let ($($argument),*) = $read($bytes)?;
-                Some(Request::$name { $($argument),* })
+            $(Kind::$name => match $read($bytes) {
+                Some(($($argument),*)) => Some(Request::$name { $($argument),* }),
+                None => None,
             })*
         }
     };

@@ -13,7 +13,7 @@ use std::fmt::{self, Debug, Formatter, Write};
 
 /// A response, its arguments borrowed. The Gearman PROTOCOL document says under the same names what each
 /// means, and which side gets it.
-#[derive(Clone, Copy, PartialEq, Eq)]
+#[derive(Clone, Copy)]
 pub enum Response<'a> {
     /// There is a job for a worker that went to sleep.
     Noop,

@@ -74,7 +74,7 @@ pub fn is_to_wake(log: &Log, slot: u32, number: u64) -> bool
 }
 
 /// A function that a worker can do, and how many seconds a job of it may take; 0 is no limit.
-#[derive(Clone, Copy, Debug)]
+#[derive(Clone, Copy)]
 pub struct Ability<'a> {
     pub function: &'a [u8],
     pub timeout: u32,

@@ -1,10 +1,8 @@
 //! Tests of what threads do at once: a shared book, by worked cases over its desks and pens and by threads that work at
-//! it; and the server: its arguments, sessions, what a writer writes, and connections
-//! of which one is held at a unit. It holds nothing else. What can be seen from outside is tested at the program, by tests/serve.
+//! it; and the server: sessions, what a writer writes, and connections of which one is held at a unit. It holds nothing
+//! else. What can be seen from outside is tested at the program, by tests/serve.
 #![tactic(auto)]
 
-#[cfg(test)]
-mod books;
 #[cfg(test)]
 mod calls;
 #[cfg(test)]
@@ -27,5 +25,3 @@ mod room;
 mod sessions;
 #[cfg(test)]
 mod tapes;
-#[cfg(test)]
-mod words;

@@ -17,10 +17,3 @@ pub fn must(rt: &impl Abort, holds: bool)
 pub fn same<A: Debug + Copy, T: PartialEq + Debug>(rt: &impl Abort, at: A, got: &T, wanted: &T) {
     assert!(rt; got == wanted, "at {at:?}: {got:?}, and not {wanted:?}");
 }
-
-/// The number that comes after this one in a run of numbers that look random.
-pub fn next_random(state: u64) -> u64 {
-    state
-        .wrapping_mul(6364136223846793005)
-        .wrapping_add(1442695040888963407)
-}

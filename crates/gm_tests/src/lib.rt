@@ -1,9 +1,6 @@
-//! Tests of the public calls of the library crates: vectors and worked cases from the protocol, and that calls
-//! which can be refused for memory succeed where there is memory. It holds nothing else.
+//! Tests of the public calls of the library crates: vectors and worked cases from the protocol. It holds nothing else.
 #![tactic(auto)]
 
-#[cfg(test)]
-mod bytes;
 #[cfg(test)]
 mod checks;
 #[cfg(test)]
@@ -15,8 +12,6 @@ mod lane_word;
 #[cfg(test)]
 mod lines;
 #[cfg(test)]
-mod lists;
-#[cfg(test)]
 mod packets;
 #[cfg(test)]
 mod queues;
@@ -24,7 +19,5 @@ mod queues;
 mod servers;
 #[cfg(test)]
 mod settings;
-#[cfg(test)]
-mod streams;
 #[cfg(test)]
 mod word;

@@ -1,4 +1,4 @@
-//! The sleep words: steps in turn, and those of several threads at once.
+//! The sleep words: steps in turn, and those of two threads at once.
 
 ghost use Rattle.std.specs.Prelude.{◌≡◌, ◌<◌, All, IfSome, length};
 
@@ -7,7 +7,7 @@ use gm_word::{BookSeat, PenSeat, Phase, SleepTable, close_words};
 use std::alloc::{AllocError, Global};
 use std::process::Abort;
 use std::test::Fail;
-use std::thread::{join, map_vec};
+use std::thread::join;
 
 // What the book does at a slot.
 #[derive(Clone, Copy, Debug)]
@@ -173,21 +173,6 @@ impl<'a> Keeper<'a> {
         }
         self
     }
-
-    // Goes round the slots, this many steps in all, those that a phase doesn't allow among them.
-    fn go_round(mut self, steps: u32) -> Keeper<'a> {
-        for i in 0..steps {
-            let step = match i / 4 % 7 {
-                0 | 4 => Step::Sleep,
-                1 | 5 => Step::Wake,
-                2 => Step::Look,
-                3 => Step::Withdraw,
-                _ => Step::Stir,
-            };
-            self.turn(step, i % 4);
-        }
-        self
-    }
 }
 
 // A pen, and how often it took a NOOP.
@@ -223,39 +208,20 @@ fn next_pen(table: &SleepTable, pens: &mut Vec<PenSeat>) -> Option<PenSeat>
     pens.pop()
 }
 
-// A taker for each pen.
-fn takers_of(
-    alloc: Global,
-    table: &SleepTable,
-    mut pens: Vec<PenSeat>,
-) -> Result<Vec<Taker<'_>>, AllocError>
-    requires { All (λ pen. pen.table ≡ table.now) pens.items }
-{
-    let mut takers = Vec::new(alloc);
-    for _ in 0..pens.len() {
-        let Some(pen) = next_pen(table, &mut pens) else {
-            break;
-        };
-        takers.push(Taker {
-            table,
-            pen,
-            takes: 0,
-        })?;
-    }
-    Ok(takers)
-}
-
 #[test]
 fn word_two(rt: HostRuntime) -> Result<(), Fail> {
     let Desk {
         table,
         book,
-        pens,
+        mut pens,
         slots,
     } = Desk::new(rt.alloc(), 1)?;
     let keeper = Keeper::new(&table, book, slots);
-    let mut takers = takers_of(rt.alloc(), &table, pens)?;
-    let taker = takers.pop().ok_or("the slot has no pen")?;
+    let taker = Taker {
+        table: &table,
+        pen: next_pen(&table, &mut pens).ok_or("the slot has no pen")?,
+        takes: 0,
+    };
     let (keeper, taker) = join(
         &rt,
         || keeper.withdraw_often(0, 100_000),
@@ -263,39 +229,5 @@ fn word_two(rt: HostRuntime) -> Result<(), Fail> {
     );
     same(&rt, "wakes", &keeper.wakes, &100_000);
     keeper.assert_balance(&rt, taker.takes);
-    Ok(())
-}
-
-// Each pen takes what is left, the book enters it, and then nothing is owed.
-fn settle(rt: &impl Abort, mut keeper: Keeper<'_>, takers: Vec<Taker<'_>>) {
-    let mut takes = 0u64;
-    for taker in takers {
-        let taker = taker.take_often(1);
-        takes = takes.wrapping_add(taker.takes);
-    }
-    for slot in 0..4 {
-        keeper.turn(Step::Look, slot);
-    }
-    assert!(rt; keeper.wakes > 0);
-    keeper.assert_balance(rt, takes);
-}
-
-// Four pens and the book, each in a thread of its own, try a million times in all. Then nothing is owed.
-#[test]
-fn word_four(rt: HostRuntime) -> Result<(), Fail> {
-    let Desk {
-        table,
-        book,
-        pens,
-        slots,
-    } = Desk::new(rt.alloc(), 4)?;
-    let keeper = Keeper::new(&table, book, slots);
-    let takers = takers_of(rt.alloc(), &table, pens)?;
-    let (keeper, takers) = join(
-        &rt,
-        || keeper.go_round(200_000),
-        || map_vec(&rt, takers, &|taker: Taker<'_>| taker.take_often(200_000)),
-    );
-    settle(&rt, keeper, takers?);
     Ok(())
 }

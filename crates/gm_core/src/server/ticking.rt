@@ -18,10 +18,20 @@ use super::Core;
 use crate::telling::{put_each, reserve_each};
 use crate::written::Written;
 use gm_actions::handle;
-use gm_notes::{ApplyError, Done};
+use gm_notes::{ApplyError, Config, Done};
 use gm_packet::{Response, write_response};
-use std::alloc::AllocError;
+use std::alloc::{AllocError, Global};
 use std::collections::VecDeque;
+
+/// The packet that tells of a job's failure.
+fn fail_packet(alloc: Global, config: &Config, job: u64) -> Result<Vec<u8>, AllocError>
+    ensures { IfOk result (λ packet. packet.items ≡ answer_packet (work_fail (handle config.now job))) }
+{
+    let handle = handle(alloc, config, job)?;
+    let mut packet = Vec::new(alloc);
+    write_response(&Response::WorkFail { handle: &handle }, &mut packet)?;
+    Ok(packet)
+}
 
 /// A job whose deadline is reached, and the packet that tells of its failure.
 #[derive(Drop)]
@@ -45,12 +55,10 @@ impl Core {
         ensures text { IfOk result (λ late. late.text ≡ copied_text (answer_packet (work_fail (handle self.old.config job)))) }
         ensures room { IfOk result (λ late. (c : ℕ) → (conn self.old.conns c).room + needed late.text.cost c (filter (hears self.old.conns false) (listeners_of (job_of self.old.jobs job))) ≤ (conn self.new.conns c).room) }
     {
-        let handle = handle(self.alloc, &self.config, job)?;
-        let mut text = Vec::new(self.alloc);
-        write_response(&Response::WorkFail { handle: &handle }, &mut text)?;
+        let packet = fail_packet(self.alloc, &self.config, job)?;
         let slots = self.jobs.listeners(job);
-        reserve_each(&mut self.conns, slots, false, text.len())?;
-        let text = Written::of(text);
+        reserve_each(&mut self.conns, slots, false, packet.len())?;
+        let text = Written::of(packet);
         Ok(Late { job, text })
     }
 
