@@ -1,5 +1,5 @@
 /* A worker (slot 0) that sleeps between jobs, and a client (slot 1) that submits JOBS foreground jobs; each with its reader
- * and its writer (Session::unload and take_piece, session.rt; Booked::hold, resolve_noop and follow, book.rt; sync_word, words.rt;
+ * and its writer (Applier::unload and take_piece, session.rt; Booked::hold, resolve_noop and follow, book.rt; sync_word, words.rt;
  * ServerState::deliver, state.rt; lane.rt). A reader tells after a unit of its choice (a millisecond, a line) and after the piece.
  * The worker's peer is that of libgearman: GRAB_JOB until NO_JOB, then PRE_SLEEP, then nothing until a NOOP; IMPATIENT times
  * it may also ask by itself, and DROWSY times it answers a NOOP by another PRE_SLEEP. It goes by the order of its stream; a NOOP that
@@ -251,7 +251,7 @@ inline admit() {
 #endif
 }
 
-/* Session::unload (session.rt), as a batch is over: its locks are released, and what came of it is told. */
+/* Applier::unload (session.rt), as a batch is over: its locks are released, and what came of it is told. */
 inline turn_ends(own) {
     if
     :: alone -> UNLOCK(batch_lock); alone = false
@@ -274,7 +274,7 @@ inline turn_ends(own) {
 #define UPDATE_TIME update_time()
 #endif
 
-/* Session::run (session.rt) of the worker, with its peer */
+/* Applier::run and step (session.rt) of the worker, with its peer */
 proctype WorkerReader() {
     LOCALS(false);
     byte told = 0; bool alone = false; bool turn = false; byte tick_told = 0; byte read_second = 0;
@@ -321,7 +321,7 @@ end_worker:
     fi
 }
 
-/* Session::run (session.rt) of the client */
+/* Applier::run and step (session.rt) of the client */
 proctype ClientReader() {
     LOCALS(false);
     byte told = 0; bool alone = false; bool turn = false; byte read_second = 0;

@@ -1,5 +1,5 @@
 -- What a session hands in, unit after unit and piece after piece.
-use Rattle.std.proofs.Common.{◌≡◌, ℕ, Bool, List, [], ◌∷◌, ◌++◌, map, Option, Some, None, Ok, Err, length}
+use Rattle.std.proofs.Common.{◌≡◌, ℕ, Bool, List, [], ◌∷◌, ◌++◌, map, Option, Some, None, Result, Ok, Err, length}
 use Rattle.std.proofs.Common.{refl, sym, ap, ap₂, subst, ◌∙◌, arith, length-append}
 use Rattle.std.specs.Prelude.{IfSome}
 use Rattle.std.proofs.lemmas.List.{append-nil, append_assoc, map-append, reverse-append}
@@ -19,7 +19,7 @@ use Rattle.gm_shared.proofs.Sharing.{events_of_more}
 use Rattle.gm_session.specs.declared.session.SessionEnd.{SessionEnd}
 use Rattle.gm_session.specs.declared.session.SessionEnd.TheVariants as ends
 use Rattle.gm_session.specs.declared.session.Taken.TheVariants.{Unit as AUnit, Nothing}
-use Rattle.gm_session.specs.Sessions.{Adds, HandsIn, Reads, Applies, Stops, TakesNext, Unloads, Breaks, IsShutBy, StandsNext, unit, broken}
+use Rattle.gm_session.specs.Sessions.{Adds, HandsIn, Reads, Applies, Stops, TakesNext, Unloads, Steps, Ends, broke, unread, IsShutBy, StandsNext, unit, broken}
 
 -- ---- events handed in, one after another
 
@@ -179,6 +179,14 @@ reading_none desk c old seen feeder empty = record {
   waits = subst (λ rest. Waits feeder.limits rest) (sym empty) (waits_none feeder.limits);
 }
 
+-- a piece was read, and what was whole then was taken
+pub step_took : (k : Settings) (taped : Bool) (desk c : ℕ) (now new : Option (List ℕ)) (feeder fed next : Stream) (len : ℕ) (outcome : Result (Unit {0}) SessionEnd) (seen after : List Entry)
+    → TakesIn now new feeder fed len → Unloads k taped desk c fed outcome seen after next → Steps k taped desk c feeder now new outcome seen after next
+step_took k taped desk c now new feeder fed next len (Ok done) seen after came taken =
+    (came.piece, came.consumes, subst (λ (s : Stream). Unloads k taped desk c s (Ok done) seen after next) came.kept taken)
+step_took k taped desk c now new feeder fed next len (Err end) seen after came taken =
+    broke came.piece came.consumes (subst (λ (s : Stream). Unloads k taped desk c s (Err end) seen after next) came.kept taken)
+
 module _ (k : Settings) (taped : Bool) (desk c : ℕ) (limits : Limits) (old now new : Option (List ℕ)) (seen mid after : List Entry) (feeder : Stream) (r : Reading desk c limits old now seen mid feeder) where
   -- more units, and the fault behind them, after those that were handed in
   hands_more : (piece rest : List ℕ) (fault : Option UnitFault) → HandsIn desk c feeder.limits (feeder.pending ++ piece) rest fault mid after → HandsIn desk c limits (r.read ++ piece) rest fault seen after
@@ -192,42 +200,43 @@ module _ (k : Settings) (taped : Bool) (desk c : ℕ) (limits : Limits) (old now
             (steps_then c r.handed.items h.items fault) (adds_then desk (map (step_of_unit c) r.handed.items) (steps_of c h.items fault) seen mid after r.handed.adds h.adds);
       }
 
-  pub reading_more : (n d : ℕ) → n ≡ desk → d ≡ c → (len : ℕ) (fed next : Stream) → TakesIn now new feeder fed len → Unloads k taped n d fed (Ok tt) mid after next → Reading desk c limits old new seen after next
-  reading_more n d same here len fed next came taken =
-      let t = subst (λ (slot : ℕ). Unloads k taped desk slot (with_bytes feeder came.piece) (Ok tt) mid after next) here
-      (subst (λ (i : ℕ). Unloads k taped i d (with_bytes feeder came.piece) (Ok tt) mid after next) same (subst (λ (s : Stream). Unloads k taped n d s (Ok tt) mid after next) came.kept taken)) in
-      let more = hands_more came.piece next.pending None t.hands in
+  pub reading_more : (n d : ℕ) → n ≡ desk → d ≡ c → (next : Stream) → Steps k taped n d feeder now new (Ok tt) mid after next → Reading desk c limits old new seen after next
+  reading_more n d same here next stepped =
+      let s = subst (λ (slot : ℕ). Steps k taped desk slot feeder now new (Ok tt) mid after next) here (subst (λ (i : ℕ). Steps k taped i d feeder now new (Ok tt) mid after next) same stepped) in
+      let more = hands_more s.0 next.pending None s.2.hands in
       record {
-        read = r.read ++ came.piece;
-        consumes = consumes_then old now new r.read came.piece r.consumes came.consumes;
-        limited = t.limited ∙ r.limited;
+        read = r.read ++ s.0;
+        consumes = consumes_then old now new r.read s.0 r.consumes s.1;
+        limited = s.2.limited ∙ r.limited;
         handed = record { items = more.items; begins = more.begins; adds = adds_same desk (steps_of c more.items None) (map (step_of_unit c) more.items) seen after (append-nil (map (step_of_unit c) more.items)) more.adds };
-        waits = subst (λ (l : Limits). Waits l next.pending) r.limited t.waits;
+        waits = subst (λ (l : Limits). Waits l next.pending) r.limited s.2.waits;
       }
 
-  pub reading_ends : (end : SessionEnd) → Consumes now new [] × (end ≡ ends.Shut → ⊥) → Reads k taped desk c limits old new end seen mid
-  reading_ends end kept = record {
+  -- nothing was read any more
+  pub reading_ends : (end : SessionEnd) → Consumes now new [] → (end ≡ ends.Shut → ⊥) → Reads k taped desk c limits old new end seen mid
+  reading_ends end kept unshut = record {
     read = r.read ++ [];
-    consumes = consumes_then old now new r.read [] r.consumes kept.0;
+    consumes = consumes_then old now new r.read [] r.consumes kept;
     rest = feeder.pending;
     fault = None;
     hands = hands desk c limits (r.read ++ []) feeder.pending None seen mid mid
         (subst (λ bytes. Handed desk c limits bytes feeder.pending seen mid) (sym (append-nil r.read)) r.handed) tt (adds_none desk mid);
     whole = λ w. (refl, r.waits);
-    shut = λ is. absurd (kept.1 is);
+    shut = λ is. absurd (unshut is);
   }
 
-  pub reading_breaks : (n d : ℕ) → n ≡ desk → d ≡ c → (len : ℕ) (fed next : Stream) (end : SessionEnd) → TakesIn now new feeder fed len → Unloads k taped n d fed (Err end) mid after next
-      → Reads k taped desk c limits old new end seen after
-  reading_breaks n d same here len fed next end came taken =
-      let t = subst (λ (slot : ℕ). Breaks k taped desk slot feeder.limits (feeder.pending ++ came.piece) end mid after) here
-      (subst (λ (i : ℕ). Breaks k taped i d feeder.limits (feeder.pending ++ came.piece) end mid after) same (subst (λ (s : Stream). Unloads k taped n d s (Err end) mid after next) came.kept taken)) in
-      record {
-        read = r.read ++ came.piece;
-        consumes = consumes_then old now new r.read came.piece r.consumes came.consumes;
-        rest = t.rest;
-        fault = t.fault;
-        hands = hands_more came.piece t.rest t.fault t.hands;
-        whole = λ w. absurd (t.broken w);
-        shut = λ is. subst (λ (l : Limits). IsShutBy k taped desk c l t.rest t.fault after) r.limited (t.shut is);
-      }
+  reading_over_here : (end : SessionEnd) → Ends k taped desk c feeder now new end mid after → Reads k taped desk c limits old new end seen after
+  reading_over_here end (broke piece consumes t) = record {
+    read = r.read ++ piece;
+    consumes = consumes_then old now new r.read piece r.consumes consumes;
+    rest = t.rest;
+    fault = t.fault;
+    hands = hands_more piece t.rest t.fault t.hands;
+    whole = λ w. absurd (t.broken w);
+    shut = λ is. subst (λ (l : Limits). IsShutBy k taped desk c l t.rest t.fault after) r.limited (t.shut is);
+  }
+  reading_over_here end (unread consumes unshut same) = subst (λ (l : List Entry). Reads k taped desk c limits old new end seen l) (sym same) (reading_ends end consumes unshut)
+
+  pub reading_over : (n d : ℕ) → n ≡ desk → d ≡ c → (end : SessionEnd) → Ends k taped n d feeder now new end mid after → Reads k taped desk c limits old new end seen after
+  reading_over n d same here end ended =
+      reading_over_here end (subst (λ (slot : ℕ). Ends k taped desk slot feeder now new end mid after) here (subst (λ (i : ℕ). Ends k taped i d feeder now new end mid after) same ended))

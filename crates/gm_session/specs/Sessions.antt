@@ -1,5 +1,5 @@
 -- What a session reads, and what it hands in of that.
-use Rattle.std.specs.Prelude.{◌≡◌, ℕ, Bool, List, [], ◌∷◌, reverse, Option, Some, None, IfSome, Result, Ok, Err}
+use Rattle.std.specs.Prelude.{◌≡◌, ℕ, Bool, List, [], ◌∷◌, ◌++◌, reverse, Option, Some, None, IfSome, Result, Ok, Err}
 use Rattle.std.specs.Io.KnownBytes.{Consumes}
 use Rattle.gm_feeder.specs.declared.units.Limits.{Limits}
 use Rattle.gm_feeder.specs.Units.{Item, IsUnitThen, Waits}
@@ -116,3 +116,14 @@ Takes k taped desk c limits bytes (Err end) seen after new = Breaks k taped desk
 
 abbrev pub Unloads : Settings → Bool → ℕ → ℕ → Stream → Result (Unit {0}) SessionEnd → List Entry → List Entry → Stream → Type 0
 Unloads k taped desk c old outcome seen after new = Takes k taped desk c old.limits old.pending outcome seen after new
+
+-- ---- a step: a piece is read, and what is whole then is handed in
+
+-- A session that was waiting with these bytes is over: a piece was read, and it broke; or nothing was read, and nothing was handed in.
+pub data Ends (k : Settings) (taped : Bool) (desk c : ℕ) (old : Stream) (input left : Option (List ℕ)) (end : SessionEnd) (seen after : List Entry) : Type 0 where
+  broke : (piece : List ℕ) → Consumes input left piece → Breaks k taped desk c old.limits (old.pending ++ piece) end seen after → Ends k taped desk c old input left end seen after
+  unread : Consumes input left [] → (end ≡ ends.Shut → ⊥) → after ≡ seen → Ends k taped desk c old input left end seen after
+
+abbrev pub Steps : Settings → Bool → ℕ → ℕ → Stream → Option (List ℕ) → Option (List ℕ) → Result (Unit {0}) SessionEnd → List Entry → List Entry → Stream → Type 0
+Steps k taped desk c old input left (Ok done) seen after new = (piece : List ℕ) × Consumes input left piece × GoesOn desk c old.limits (old.pending ++ piece) seen after new
+Steps k taped desk c old input left (Err end) seen after new = Ends k taped desk c old input left end seen after

@@ -5,7 +5,7 @@ ghost use Rattle.std.specs.Io.KnownBytes.{IsAtEnd};
 ghost use Rattle.gm_notes.specs.Servers.{step_of, IsSized};
 ghost use Rattle.gm_notes.specs.Steps.{Packet};
 ghost use Rattle.gm_session.specs.Effects.{IsNothing, KeepsUnit};
-ghost use Rattle.gm_session.specs.Sessions.{IsPiece, Applies, TakesNext, Unloads, Reads};
+ghost use Rattle.gm_session.specs.Sessions.{IsPiece, Applies, TakesNext, Unloads, Steps, Reads};
 
 use crate::effects::{Effects, Notify, hand_in};
 use crate::gate::Gate;
@@ -64,78 +64,57 @@ fn is_grab(event: &Event<'_>) -> bool {
     }
 }
 
-/// How a connection's events are applied at its desk: past the gate.
-struct Applier<'s, K: BookName, R, G> {
+/// A connection's way in, while it waits for bytes.
+#[derive(Drop)]
+pub(crate) struct Session {
+    feeder: Feeder,
+    /// The next unit's index.
+    index: u64,
+    /// Whether the last long piece had many units, as the next one then has: that waits from its first unit on.
+    is_pipelining: bool,
+}
+
+impl Session {
+    /// A session that has read nothing.
+    fn new(alloc: Global, limits: Limits) -> Session
+        ensures empty { result.feeder.pending ≡ [] }
+        ensures limits { result.feeder.limits ≡ limits }
+    {
+        Session {
+            feeder: Feeder::new(alloc, limits),
+            index: 0,
+            is_pipelining: false,
+        }
+    }
+
+    /// How many units of a piece of this length don't wait for other sessions.
+    fn free_units(&self, length: usize) -> u32
+        ensures short { length ≤ 256 → result ≡ 2 ^ 32 - 1 }
+        ensures pipelining { 256 < length → self.now.is_pipelining ≡ true → result ≡ 0 }
+        ensures first { 256 < length → self.now.is_pipelining ≡ false → result ≡ 2 }
+    {
+        if length <= SHORT_PIECE {
+            u32::MAX
+        } else if self.is_pipelining {
+            0
+        } else {
+            FIRST_UNITS
+        }
+    }
+}
+
+/// What cuts a connection's bytes into units, and applies each at its desk: past the gate.
+struct Applier<'s, K: BookName, R, G, N> {
+    alloc: Global,
     rt: &'s R,
     shared: &'s Shared<K>,
     gate: &'s G,
+    server: &'s N,
     slot: u32,
-    /// The next unit's index.
-    index: u64,
     /// What came of the events since others were notified last.
     effects: Effects,
-    /// What the last event touched. It is made once for the session, as a set is too large to be made and moved for each
-    /// event.
+    /// What the last event touched. It is made once, as a set is too large to be made and moved for each event.
     touched: SlotSet,
-}
-
-impl<'s, K: BookName, R: Wait, G: Gate> Applier<'s, K, R, G> {
-    /// Applies an event. Where it is refused, the session is over.
-    fn apply(&mut self, desk: &mut Desk<K>, event: Event<'_>) -> Result<(), SessionEnd>
-        requires { IsSized event }
-        ensures applies { Applies K.settings K.taped desk.old.number (step_of event.entry) result desk.old.front.seen desk.new.front.seen }
-        ensures keeps { KeepsUnit K.settings K.taped (step_of event.entry) desk.old.number result
-            desk.old.front.seen desk.new.front.seen self.old.effects self.new.effects }
-        ensures number { desk.new.number ≡ desk.old.number }
-        ensures slot { self.new.slot ≡ self.old.slot }
-    {
-        // Modelled in models/jobs.pml.
-        match hand_in(
-            self.rt,
-            self.shared,
-            desk,
-            event,
-            &mut self.touched,
-            &mut self.effects,
-        ) {
-            Ok(_) => Ok(()),
-            Err(ApplyError::Memory) => Err(SessionEnd::Memory),
-            Err(_) => Err(SessionEnd::Shut),
-        }
-    }
-
-    /// Lets a unit pass the gate, and applies it, before a grab with the present second.
-    fn apply_unit<N: Notify<R>>(
-        &mut self,
-        desk: &mut Desk<K>,
-        server: &N,
-        event: Event<'_>,
-    ) -> Result<(), SessionEnd>
-        requires { IsSized event }
-        ensures applies { Applies K.settings K.taped desk.old.number (step_of event.entry) result desk.old.front.seen desk.new.front.seen }
-        ensures keeps { KeepsUnit K.settings K.taped (step_of event.entry) desk.old.number result
-            desk.old.front.seen desk.new.front.seen self.old.effects self.new.effects }
-        ensures number { desk.new.number ≡ desk.old.number }
-        ensures slot { self.new.slot ≡ self.old.slot }
-    {
-        // Modelled in models/jobs.pml and ticks.pml.
-        self.gate.pass(self.rt, self.slot, self.index);
-        self.index = self.index.saturating_add(1);
-        if is_grab(&event) {
-            server.update_time(self.rt);
-        }
-        self.apply(desk, event)
-    }
-}
-
-/// A connection's way in: its bytes are cut into units, and each is applied at its desk.
-struct Session<'s, K: BookName, R, G, N> {
-    alloc: Global,
-    applier: Applier<'s, K, R, G>,
-    feeder: Feeder,
-    server: &'s N,
-    /// Whether the last long piece had many units, as the next one then has: that waits from its first unit on.
-    is_pipelining: bool,
 }
 
 /// What was taken of a connection's bytes.
@@ -222,93 +201,140 @@ impl<'s> Batch<'s> {
     }
 }
 
-impl<'s, K: BookName, R: Wait, G: Gate, N: Notify<R>> Session<'s, K, R, G, N> {
-    /// How many units of a piece of this length don't wait for other sessions.
-    fn free_units(&self, length: usize) -> u32
-        ensures short { length ≤ 256 → result ≡ 2 ^ 32 - 1 }
-        ensures pipelining { 256 < length → self.now.is_pipelining ≡ true → result ≡ 0 }
-        ensures first { 256 < length → self.now.is_pipelining ≡ false → result ≡ 2 }
+impl<'s, K: BookName, R: Wait, G: Gate, N: Notify<R>> Applier<'s, K, R, G, N> {
+    /// Applies an event. Where it is refused, the session is over.
+    fn apply(&mut self, desk: &mut Desk<K>, event: Event<'_>) -> Result<(), SessionEnd>
+        requires { IsSized event }
+        ensures applies { Applies K.settings K.taped desk.old.number (step_of event.entry) result desk.old.front.seen desk.new.front.seen }
+        ensures keeps { KeepsUnit K.settings K.taped (step_of event.entry) desk.old.number result
+            desk.old.front.seen desk.new.front.seen self.old.effects self.new.effects }
+        ensures number { desk.new.number ≡ desk.old.number }
+        ensures slot { self.new.slot ≡ self.old.slot }
     {
-        if length <= SHORT_PIECE {
-            u32::MAX
-        } else if self.is_pipelining {
-            0
-        } else {
-            FIRST_UNITS
+        // Modelled in models/jobs.pml.
+        match hand_in(
+            self.rt,
+            self.shared,
+            desk,
+            event,
+            &mut self.touched,
+            &mut self.effects,
+        ) {
+            Ok(_) => Ok(()),
+            Err(ApplyError::Memory) => Err(SessionEnd::Memory),
+            Err(_) => Err(SessionEnd::Shut),
         }
+    }
+
+    /// Lets a unit pass the gate, and applies it, before a grab with the present second.
+    fn apply_unit(
+        &mut self,
+        desk: &mut Desk<K>,
+        index: u64,
+        event: Event<'_>,
+    ) -> Result<(), SessionEnd>
+        requires { IsSized event }
+        ensures applies { Applies K.settings K.taped desk.old.number (step_of event.entry) result desk.old.front.seen desk.new.front.seen }
+        ensures keeps { KeepsUnit K.settings K.taped (step_of event.entry) desk.old.number result
+            desk.old.front.seen desk.new.front.seen self.old.effects self.new.effects }
+        ensures number { desk.new.number ≡ desk.old.number }
+        ensures slot { self.new.slot ≡ self.old.slot }
+    {
+        // Modelled in models/jobs.pml and ticks.pml.
+        self.gate.pass(self.rt, self.slot, index);
+        if is_grab(&event) {
+            self.server.update_time(self.rt);
+        }
+        self.apply(desk, event)
     }
 
     /// Takes the next unit in the feeder, or the fault there. A long packet is taken with its
     /// memory, so that its data are shared and not copied. Where the session is over, it says why.
-    fn take_unit(&mut self, desk: &mut Desk<K>, batch: &mut Batch<'s>) -> Result<Taken, SessionEnd>
-        ensures takes { TakesNext K.settings K.taped desk.old.number self.old.applier.slot self.old.feeder result desk.old.front.seen desk.new.front.seen self.new.feeder }
+    fn take_unit(
+        &mut self,
+        session: &mut Session,
+        desk: &mut Desk<K>,
+        batch: &mut Batch<'s>,
+    ) -> Result<Taken, SessionEnd>
+        ensures takes { TakesNext K.settings K.taped desk.old.number self.old.slot session.old.feeder result desk.old.front.seen desk.new.front.seen session.new.feeder }
         ensures number { desk.new.number ≡ desk.old.number }
-        ensures slot { self.new.applier.slot ≡ self.old.applier.slot }
+        ensures slot { self.new.slot ≡ self.old.slot }
     {
         // Modelled in models/jobs.pml.
-        let slot = self.applier.slot;
-        if let Some(packet) = self.feeder.take_packet(LONG) {
-            batch.admit(self.server, self.applier.rt);
-            self.take_long(desk, packet)?;
+        let slot = self.slot;
+        let index = session.index;
+        if let Some(packet) = session.feeder.take_packet(LONG) {
+            batch.admit(self.server, self.rt);
+            session.index = index.saturating_add(1);
+            self.take_long(desk, index, packet)?;
             return Ok(Taken::Unit { is_line: false });
         }
-        match next_event(&mut self.feeder, slot) {
+        match next_event(&mut session.feeder, slot) {
             Next::Unit(event) => {
                 let is_line = matches!(event, Event::Line { .. });
-                batch.admit(self.server, self.applier.rt);
-                self.applier.apply_unit(desk, self.server, event)?;
+                batch.admit(self.server, self.rt);
+                session.index = index.saturating_add(1);
+                self.apply_unit(desk, index, event)?;
                 Ok(Taken::Unit { is_line })
             }
             Next::Wait => Ok(Taken::Nothing),
             Next::Fault(fault) => {
-                self.applier.apply(desk, Event::Fault { slot, fault })?;
+                self.apply(desk, Event::Fault { slot, fault })?;
                 Err(SessionEnd::Shut)
             }
         }
     }
 
     /// Applies a packet that was taken with its memory.
-    fn take_long(&mut self, desk: &mut Desk<K>, packet: OwnedPacket) -> Result<(), SessionEnd>
+    fn take_long(
+        &mut self,
+        desk: &mut Desk<K>,
+        index: u64,
+        packet: OwnedPacket,
+    ) -> Result<(), SessionEnd>
         requires { length (drop packet.data_at packet.bytes.items) ≤ 1073741824 }
-        ensures applies { Applies K.settings K.taped desk.old.number (Packet self.old.applier.slot packet.kind (drop packet.data_at packet.bytes.items)) result
+        ensures applies { Applies K.settings K.taped desk.old.number (Packet self.old.slot packet.kind (drop packet.data_at packet.bytes.items)) result
             desk.old.front.seen desk.new.front.seen }
-        ensures feeder { self.new.feeder ≡ self.old.feeder }
         ensures number { desk.new.number ≡ desk.old.number }
-        ensures slot { self.new.applier.slot ≡ self.old.applier.slot }
+        ensures slot { self.new.slot ≡ self.old.slot }
     {
-        let slot = self.applier.slot;
+        let slot = self.slot;
         let kind = packet.kind;
         let Ok(data) = share(self.alloc, packet) else {
             return Err(SessionEnd::Memory);
         };
         let bytes = Data::shared(&data);
-        self.applier
-            .apply_unit(desk, self.server, Event::Packet { slot, kind, bytes })
+        self.apply_unit(desk, index, Event::Packet { slot, kind, bytes })
     }
 
     /// Takes each unit in the feeder, and the fault after them. Where the session is over, it says why. Where
     /// its batch has ended, it notifies others of what came of it, and other sessions have theirs.
-    fn unload(&mut self, desk: &mut Desk<K>, length: usize) -> Result<(), SessionEnd>
-        ensures unloads { Unloads K.settings K.taped desk.old.number self.old.applier.slot self.old.feeder result desk.old.front.seen desk.new.front.seen self.new.feeder }
+    fn unload(
+        &mut self,
+        session: &mut Session,
+        desk: &mut Desk<K>,
+        length: usize,
+    ) -> Result<(), SessionEnd>
+        ensures unloads { Unloads K.settings K.taped desk.old.number self.old.slot session.old.feeder result desk.old.front.seen desk.new.front.seen session.new.feeder }
         ensures number { desk.new.number ≡ desk.old.number }
-        ensures slot { self.new.applier.slot ≡ self.old.applier.slot }
+        ensures slot { self.new.slot ≡ self.old.slot }
     {
         // Modelled in models/jobs.pml.
         let server = self.server;
-        let free_units = self.free_units(length);
+        let free_units = session.free_units(length);
         let is_long = length > MIDDLE_PIECE;
         let mut batch = Batch::new(free_units, is_long);
         loop {
-            let is_line = match self.take_unit(desk, &mut batch)? {
+            let is_line = match self.take_unit(session, desk, &mut batch)? {
                 Taken::Unit { is_line } => is_line,
                 Taken::Nothing => {
-                    self.is_pipelining = batch.units > FIRST_UNITS;
+                    session.is_pipelining = batch.units > FIRST_UNITS;
                     return Ok(());
                 }
             };
-            if batch.has_ended(server, self.applier.rt, is_line) {
+            if batch.has_ended(server, self.rt, is_line) {
                 drop(batch);
-                server.notify(self.applier.rt, &mut self.applier.effects);
+                server.notify(self.rt, &mut self.effects);
                 batch = Batch::new(free_units, is_long);
             }
         }
@@ -316,36 +342,63 @@ impl<'s, K: BookName, R: Wait, G: Gate, N: Notify<R>> Session<'s, K, R, G, N> {
 
     /// Takes what is in the feeder since a piece of this length came, and notifies of what came of it. Where the session is
     /// over, it says why.
-    fn take_piece(&mut self, desk: &mut Desk<K>, len: usize) -> Result<(), SessionEnd>
-        ensures nothing { IsNothing self.new.applier.effects }
-        ensures unloads { Unloads K.settings K.taped desk.old.number self.old.applier.slot self.old.feeder result desk.old.front.seen desk.new.front.seen self.new.feeder }
+    fn take_piece(
+        &mut self,
+        session: &mut Session,
+        desk: &mut Desk<K>,
+        len: usize,
+    ) -> Result<(), SessionEnd>
+        ensures nothing { IsNothing self.new.effects }
+        ensures unloads { Unloads K.settings K.taped desk.old.number self.old.slot session.old.feeder result desk.old.front.seen desk.new.front.seen session.new.feeder }
         ensures number { desk.new.number ≡ desk.old.number }
-        ensures slot { self.new.applier.slot ≡ self.old.applier.slot }
+        ensures slot { self.new.slot ≡ self.old.slot }
     {
         // Modelled in models/jobs.pml.
-        let outcome = self.unload(desk, len);
-        self.server
-            .notify(self.applier.rt, &mut self.applier.effects);
+        let outcome = self.unload(session, desk, len);
+        self.server.notify(self.rt, &mut self.effects);
         outcome
     }
 
+    /// Reads a piece, and takes each unit that is whole then. Where the session is over, it says why.
+    fn step<I: Read>(
+        &mut self,
+        session: &mut Session,
+        desk: &mut Desk<K>,
+        reader: &mut I,
+    ) -> Result<(), SessionEnd>
+        requires nothing { IsNothing self.old.effects }
+        ensures nothing { IsNothing self.new.effects }
+        ensures ended { IfErr result (λ end. end ≡ SessionEnd.Ended → IsAtEnd (I.remaining reader.new)) }
+        ensures steps { Steps K.settings K.taped desk.old.number self.old.slot session.old.feeder (I.remaining reader.old) (I.remaining reader.new) result
+            desk.old.front.seen desk.new.front.seen session.new.feeder }
+        ensures number { desk.new.number ≡ desk.old.number }
+        ensures slot { self.new.slot ≡ self.old.slot }
+    {
+        // Modelled in models/jobs.pml.
+        match read_piece(&mut session.feeder, reader) {
+            Ok(len) => self.take_piece(session, desk, len),
+            Err(end) => Err(end),
+        }
+    }
+
     /// Reads a connection's stream to its end.
-    fn run<I: Read>(&mut self, desk: &mut Desk<K>, reader: &mut I) -> SessionEnd
-        requires feeder { self.old.feeder.pending ≡ [] }
-        requires nothing { IsNothing self.old.applier.effects }
-        ensures nothing { IsNothing self.new.applier.effects }
+    fn run<I: Read>(
+        &mut self,
+        session: &mut Session,
+        desk: &mut Desk<K>,
+        reader: &mut I,
+    ) -> SessionEnd
+        requires feeder { session.old.feeder.pending ≡ [] }
+        requires nothing { IsNothing self.old.effects }
+        ensures nothing { IsNothing self.new.effects }
         ensures ended { result ≡ SessionEnd.Ended → IsAtEnd (I.remaining reader.new) }
-        ensures reads { Reads K.settings K.taped desk.old.number self.old.applier.slot self.old.feeder.limits (I.remaining reader.old) (I.remaining reader.new) result
+        ensures reads { Reads K.settings K.taped desk.old.number self.old.slot session.old.feeder.limits (I.remaining reader.old) (I.remaining reader.new) result
             desk.old.front.seen desk.new.front.seen }
         ensures number { desk.new.number ≡ desk.old.number }
     {
         // Modelled in models/jobs.pml.
         for _ in 0..MOST_PIECES {
-            let len = match read_piece(&mut self.feeder, reader) {
-                Ok(len) => len,
-                Err(end) => return end,
-            };
-            match self.take_piece(desk, len) {
+            match self.step(session, desk, reader) {
                 Ok(()) => {}
                 Err(end) => return end,
             }
@@ -387,35 +440,25 @@ pub(crate) fn read_and_notify<'s, K: BookName, R: Wait, I: Read, G: Gate, N: Not
     ensures reads { Reads K.settings K.taped desk.old.number slot limits (I.remaining reader.old) (I.remaining reader.new) result desk.old.front.seen desk.new.front.seen }
     ensures number { desk.new.number ≡ desk.old.number }
 {
-    let mut session = Session {
+    let mut applier = Applier {
         alloc,
-        applier: Applier {
-            rt,
-            shared,
-            gate,
-            slot,
-            index: 0,
-            effects: Effects::new(Some(slot)),
-            touched: SlotSet::new(),
-        },
-        feeder: Feeder::new(alloc, limits),
+        rt,
+        shared,
+        gate,
         server,
-        is_pipelining: false,
+        slot,
+        effects: Effects::new(Some(slot)),
+        touched: SlotSet::new(),
     };
-    let end = session.run(desk, reader);
-    let Session {
-        alloc: _,
-        applier,
-        feeder: _feeder,
-        server: _,
-        is_pipelining: _,
-    } = session;
+    let mut session = Session::new(alloc, limits);
+    let end = applier.run(&mut session, desk, reader);
     let Applier {
+        alloc: _,
         rt: _,
         shared: _,
         gate: _,
+        server: _,
         slot: _,
-        index: _,
         effects,
         touched: _,
     } = applier;

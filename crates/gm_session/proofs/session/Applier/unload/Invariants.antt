@@ -1,0 +1,13 @@
+use Rattle.std.proofs.Common.{◌≡◌, length}
+use Rattle.gm_session.proofs.Handing.{Unloading}
+use Rattle.gm_session.proofs.session.Applier.unload.Given as goal
+
+abbrev pub invariant-loop-batch : goal.invariant-loop-batch
+invariant-loop-batch g l = record {
+  unloading : Unloading l.fn.desk.number l.fn.self.slot l.fn.session.feeder l.fn.desk.front.seen l.desk.front.seen l.session.feeder;
+  number : l.desk.number ≡ l.fn.desk.number;
+  slot : l.self.slot ≡ l.fn.self.slot;
+}
+
+abbrev pub decreases-loop-batch : goal.decreases-loop-batch
+decreases-loop-batch g l = length l.session.feeder.pending
