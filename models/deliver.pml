@@ -1,4 +1,4 @@
-/* One open connection, its writer (Lane::run_writer, lane.rt), its reader that begins it (Lane::begin), and TOUCHERS threads that
+/* One open connection, its writer (Lane::write, lane.rt), its reader that begins it (Lane::begin), and TOUCHERS threads that
  * queue bytes for it, or bytes and a NOOP, TOUCHES times each, from before the connection begins. Each touch looks itself or is left
  * to the writer (ServerState::touch, state.rt). The lane is idle at first, or late, as the last connection leaves it.
  * Delivery: in every quiescent state nothing waits, no NOOP is owed and nothing is left, unless the peer is deaf. No deadlock.

@@ -1,13 +1,15 @@
 /* One slot that GENS connections have one after another: the control thread opens and starts each (Control::admit, accepting.rt;
  * start, connection.rt), the slot's reader and writer are made with the first and stay (ServerState::run_reader and read, state.rt;
- * Lane::run_writer, lane.rt), and TOUCHERS threads of other connections touch the slot TOUCHES times each, whichever connection has
+ * Lane::write, lane.rt), and TOUCHERS threads of other connections touch the slot TOUCHES times each, whichever connection has
  * it then. Threads that can't be made, writes that fail, peers that never read or read slowly, slots that are shut by a fault come
  * at any point, within bounds. At the end the threads are dismissed.
  * Ends: each process ends, and the slot can be used again; no deadlock; what was queued when its reader ended a connection its peer
  * receives, if it reads. A peer that is late has its connection hung up only once its end was asked for.
  * Order: bytes go to their own connection, in order, once. Stale tokens, flags, words and touches do no harm: a writer ends for its
  * own connection's end only. Only the writer waits.
- * ENDLESS: the threads queue for ever while the slot is open, and each connection ends nevertheless. */
+ * ENDLESS: the threads queue for ever while the slot is open, and each connection ends nevertheless.
+ * POLLED: a reading thread has the slot (ServerState::take_reading, read_on and end_reading, reading.rt), and its writer is made where
+ * it is needed (make_writers, connection.rt). */
 #ifndef GENS
 #define GENS 2
 #endif
@@ -37,7 +39,10 @@
 #else
 #define ON_RELEASE(s) assert(faulted[s] || received[s] >= at_end[s])
 #endif
-#define ON_LAST(s) assert(!is_last || may_end)     /* the flag is this connection's */
+#define ON_LAST(s) assert(!is_last || !stream[s] || may_end)    /* the flag is this connection's */
+#ifdef POLLED
+#define ON_GONE(s) wr = false; finish_slot(); wr = true
+#endif
 #define CHOOSE_PEER(s) \
     if \
     :: PEERS == 0 || PEERS >= 3 -> lates[s] = LATES \
@@ -80,17 +85,37 @@ inline book_close() {
         core_phase[0] = AWAKE; seat_phase[0] = AWAKE; word[0] = AWAKE }
 }
 
-/* Lane::run_writer (lane.rt): in a last look the flag is this connection's. */
+/* ServerState::finish_slot (state.rt) */
+inline finish_slot() {
+    LOCK(desk);
+    book_close(); tell(0);
+    UNLOCK(desk);
+    connections--
+}
+
+/* Lane::write (lane.rt): in a last look the flag is this connection's. */
 proctype Writer() {
     LOCALS(true);
     run_writer(0)
 }
+
+#ifdef POLLED
+#define TURN_BEGINS LOCK(desk)
+#define TURN_ENDS   UNLOCK(desk)
+#else
+#define TURN_BEGINS skip
+#define TURN_ENDS   skip
+#endif
 
 /* ServerState::run_reader and read (state.rt), with the session of a peer that sends UNITS units at most */
 proctype Reader() {
     LOCALS(false);
     byte n = 0;
     do
+#ifdef POLLED
+    :: is_done -> break
+    :: atomic { crew_stream[0] -> crew_stream[0] = false };    /* Lane::take_stream, where its peer sends or goes */
+#else
     :: true ->
         next_stream(0);
         if
@@ -98,11 +123,13 @@ proctype Reader() {
         :: else -> has = false
         fi;
         LOCK(desk);
+#endif
         begin(0);
         n = 0;
         do
         :: n < UNITS && !down[0] ->
             n++;
+            TURN_BEGINS;
             if
             :: atomic { (book == 0) ->
                     assert(is_open[0] && gen[0] == stream_gen[0]);
@@ -117,6 +144,7 @@ proctype Reader() {
                     QUEUE; shut[0] = true; at_end[0] = put[0] };
                 tell(0)
             fi;
+            TURN_ENDS;
             if
             :: shut[0] -> break
             :: else
@@ -130,6 +158,14 @@ proctype Reader() {
         od;
         n = 0;
         may_end = true;
+#ifdef POLLED
+        end_at_once(0);
+        if
+        :: gone -> finish_slot()
+        :: else
+        fi;
+        gone = false
+#else
 #ifdef M_CLOSE_FIRST
         book_close(); tell(0);
         end_lane(0);
@@ -139,6 +175,7 @@ proctype Reader() {
 #endif
         UNLOCK(desk);
         connections--
+#endif
     od
 }
 
@@ -184,6 +221,29 @@ active proctype Control() {
         :: else -> break
         od };
     g = 0;
+#ifdef POLLED
+    run Reader();
+    do
+    :: atomic { (g < GENS && book == 0 && !is_open[0]) ->
+            g++; is_open[0] = true; gen[0] = g };
+        tell(0);
+        may_end = false; at_end[0] = 0;
+        connections++;                             /* ServerState::give_to_reading_thread (reading.rt) */
+        arrive(0)
+    :: demand[0] == NEEDED ->                      /* make_writers (connection.rt) */
+        if
+        :: run Writer() -> demand[0] = MADE
+        :: atomic { fails > 0 -> fails-- };
+            cut(0);                                /* ServerState::cut (reading.rt) */
+            if
+            :: gone -> finish_slot()
+            :: else
+            fi;
+            gone = false
+        fi
+    :: g == GENS && connections == 0 -> break
+    od;
+#else
     do
     :: g < GENS ->
         g++;
@@ -221,6 +281,7 @@ active proctype Control() {
     :: else -> break
     od;
     (connections == 0);
+#endif
     is_done = true;
     dismiss(0);
 #ifdef ENDLESS

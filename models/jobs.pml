@@ -352,7 +352,7 @@ end_control:
 }
 #endif
 
-/* Lane::run_writer (lane.rt) */
+/* Lane::write (lane.rt) */
 proctype Writer(byte me) {
     LOCALS(true);
     run_writer(me)

@@ -32,6 +32,9 @@
 #ifndef ON_LAST
 #define ON_LAST(s) skip
 #endif
+#ifndef ON_GONE
+#define ON_GONE(s) skip
+#endif
 #ifndef ON_SENT
 #define ON_SENT(s) skip
 #endif
@@ -50,6 +53,10 @@
 #define LANE_BUSY 1
 #define LANE_OWED 2
 #define LANE_LATE 3
+
+/* Demand (demand.rt): whether a slot has a writer. Without -DPOLLED each has one before its first connection comes. */
+#define NEEDED 1
+#define MADE   2
 
 /* Stage (ending.rt) of a connection */
 #define SERVING  0
@@ -102,6 +109,7 @@ bool end_over[N];        /*   and deadline_passed */
 bit  parker[N];
 bool token[N];
 byte stage[N];
+byte demand[N];
 /* Mutex<Crew> */
 bool crew_stream[N];
 bool crew_over[N];
@@ -138,7 +146,7 @@ byte owners[N];          /* how many have the lane */
 /* What the inlines work with, in each process that uses them; `wr`: it is a writer. */
 #define LOCALS(writer) \
     bool wr = writer; byte res = 0; bool took = false; bool is_shut = false; bool e = false; \
-    bool is_last = false; byte seen = 0; bool had_left = false; bool has = false; \
+    bool is_last = false; bool gone = false; byte seen = 0; bool had_left = false; bool has = false; \
     byte found = 0; byte looks = 0; bool met_late = false; bool has_taken = false
 
 /* Outbox::forget (outbox.rt) */
@@ -183,6 +191,25 @@ inline look_at_end(s, has_taken) {
             :: else -> end_stalled[s]++
             fi
         fi
+    :: else
+    fi
+}
+
+/* Sender::let_go (lane.rt), under the lane's lock: gone if there was a connection */
+inline let_go(s) {
+    gone = stream[s];
+    if
+    :: gone ->
+        ON_RELEASE(s);
+#ifdef M_RELEASE_WITHOUT_HANG_UP
+        forget(s);
+#else
+        hang_up(s);
+#endif
+        stream[s] = false;
+        /* ghosts, which end with the connection */
+        received[s] = 0; noops[s] = 0; takes[s] = 0; faulted[s] = false;
+        deaf[s] = false; room[s] = 0; slow[s] = false; was_late[s] = false; lates[s] = 0
     :: else
     fi
 }
@@ -341,6 +368,11 @@ inline end_delivery(s) {
     :: else ->
 #endif
         patient[s] = false;
+        /* the last look of Lane::deliver_patiently, or that of Lane::end_at_once */
+        if
+        :: is_last && (wr || res != LATE) -> let_go(s)
+        :: else
+        fi;
         UNLOCK(lock[s])
     fi
 }
@@ -401,14 +433,24 @@ inline deliver(s) {
     fi
 }
 
-/* Owed::hand_over (owed.rt) and Looking::hand_over (looking.rt) */
+/* Lane::wake_writer (lane.rt) and Demand::need (demand.rt) */
+inline wake_writer(s) {
+#ifdef POLLED
+#ifndef M_NEEDS_NOTHING
+    demand[s] = (demand[s] > NEEDED -> demand[s] : NEEDED);
+#endif
+#endif
+    token[s] = true
+}
+
+/* Owed::hand_over (owed.rt) and Looking::hand_over (looking.rt), with a waking of the writer */
 inline hand_over(s) {
     atomic {
         assert(lw[s] == LANE_BUSY || lw[s] == LANE_OWED);
         owners[s]--;
         lw[s] = LANE_LATE };
 #ifndef M_NO_WAKE_AT_HAND_OVER
-    token[s] = true
+    wake_writer(s)
 #endif
 }
 
@@ -531,11 +573,16 @@ inline take_over(s) {
         found = 0 }
 }
 
-/* Lane::deliver_patiently (lane.rt). If the peer is deaf and the connection isn't to end, a round changes nothing: so the
+/* Lane::deliver_patiently (lane.rt): is_last if it let go of the connection. If the peer is deaf and the connection isn't to end, a round changes nothing: so the
  * writer waits for the stage in place of such rounds. */
 inline deliver_patiently(s) {
+    gone = false;
     atomic { (lock[s] == 0) -> lock[s] = 1;
         assert(!patient[s]);
+#ifndef M_FLAG_AFTER_DELIVERY
+        is_last = (stage[s] != SERVING);
+        ON_LAST(s);
+#endif
         start_delivery(s) };
     deliver(s);
     do
@@ -556,6 +603,9 @@ end_deaf:   atomic {
         fi
     :: else -> break
     od;
+#ifndef M_LETS_GO_OF_NONE
+    is_last = gone;
+#endif
     res = 0
 }
 
@@ -564,17 +614,21 @@ inline write_owed(s) {
     do
     :: true ->
         atomic { assert(lw[s] == LANE_OWED); lw[s] = LANE_BUSY };
+        deliver_patiently(s);
 #ifdef M_FLAG_AFTER_DELIVERY
-        deliver_patiently(s);
-        is_last = (stage[s] != SERVING);
-#else
-        is_last = (stage[s] != SERVING);
-        ON_LAST(s);
-        deliver_patiently(s);
+        atomic { (lock[s] == 0) ->
+            is_last = (stage[s] != SERVING);
+            if
+            :: is_last -> let_go(s); is_last = gone
+            :: else
+            fi };
 #endif
         if
         :: is_last ->
             atomic { lw[s] = LANE_LATE; owners[s]-- };
+#ifndef M_NO_NOTIFY
+            released[s] = (released[s] + 1) % 4;
+#endif
             break
         :: else ->
             atomic { found = lw[s];
@@ -591,26 +645,6 @@ inline write_owed(s) {
     found = 0
 }
 
-/* Lane::release (lane.rt) */
-inline release(s) {
-    atomic { (lock[s] == 0) ->
-        ON_RELEASE(s);
-#ifdef M_RELEASE_WITHOUT_HANG_UP
-        forget(s);
-#else
-        hang_up(s);
-#endif
-        stream[s] = false;
-        /* ghosts, which end with the connection */
-        received[s] = 0; noops[s] = 0; takes[s] = 0; faulted[s] = false;
-        deaf[s] = false; room[s] = 0; slow[s] = false; was_late[s] = false; lates[s] = 0 };
-#ifdef M_NO_NOTIFY
-    skip
-#else
-    released[s] = (released[s] + 1) % 4
-#endif
-}
-
 /* Lane::request_close (lane.rt) and Stage::end (ending.rt) */
 inline request_close(s) {
 #ifdef M_WAKE_BEFORE_FLAG
@@ -624,6 +658,45 @@ inline request_close(s) {
     token[s] = true
 #endif
 #endif
+}
+
+/* Lane::end_at_once (lane.rt): gone if it let go of the connection */
+inline end_at_once(s) {
+    gone = false;
+    stage[s] = (stage[s] > ENDING -> stage[s] : ENDING);
+    take_over(s);
+    if
+    :: has ->
+        atomic { assert(lw[s] == LANE_OWED); lw[s] = LANE_BUSY };
+        atomic { (lock[s] == 0) -> lock[s] = 1;
+            assert(!patient[s]);
+            is_last = true;
+            start_delivery(s) };
+        deliver(s);
+        if
+        :: res == LATE -> hand_over(s)
+        :: else -> atomic { lw[s] = LANE_LATE; owners[s]-- }
+        fi;
+        is_last = false; res = 0
+    :: else
+    fi;
+    has = false
+}
+
+/* Lane::cut (lane.rt): gone if it let go of the connection */
+inline cut(s) {
+    gone = false;
+    atomic { (lock[s] == 0) -> faulted[s] = true; hang_up(s) };
+    if
+    :: stage[s] != SERVING -> end_at_once(s)
+    :: else
+    fi
+}
+
+/* Lane::hasten (lane.rt) and Stage::hasten (ending.rt) */
+inline hasten(s) {
+    stage[s] = (stage[s] == ENDING -> STOPPING : stage[s]);
+    token[s] = true
 }
 
 /* Lane::stop (lane.rt) and Stage::stop (ending.rt) */
@@ -665,7 +738,7 @@ inline arrive(s) {
 #endif
 }
 
-/* Lane::next_stream (lane.rt): has, or none comes any more */
+/* Lane::next_stream (lane.rt): has, or none comes any more. Lane::take_stream is one step of it. */
 inline next_stream(s) {
     do
     :: atomic { (crew_stream[s] || crew_over[s]) -> has = crew_stream[s]; crew_stream[s] = false; break }
@@ -688,7 +761,7 @@ inline dismiss(s) {
 #endif
 }
 
-/* Lane::begin and Sender::begin (lane.rt). The model chooses the peer. */
+/* Lane::open, begin and Sender::begin (lane.rt). The model chooses the peer. */
 inline begin(s) {
 #ifdef M_RESET_AT_BEGIN
     stage[s] = SERVING;
@@ -714,7 +787,7 @@ inline begin(s) {
 #endif
 }
 
-/* Lane::run_writer (lane.rt) */
+/* Lane::write (lane.rt) */
 #ifndef PARKED
 #define PARKED(s) skip
 #define UNPARKED(s) skip
@@ -740,7 +813,7 @@ inline run_writer(s) {
         fi;
         has = false;
         if
-        :: is_last -> release(s)
+        :: is_last -> is_last = false; ON_GONE(s)      /* ServerState::run_writer */
         :: else ->
 #ifdef M_PARK_LOSES_TOKEN
             token[s] = false;

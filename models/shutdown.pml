@@ -3,7 +3,8 @@
  * `shutdown` or `shutdown graceful` at any point; threads can't be made, a closing finds no memory (with a tape), the listener fails.
  * The program ends: once the book was stopped, memory ran out or the listener failed, whatever peers do; after a graceful shutdown
  * once the peers are gone; otherwise it goes on. In quiescent states of a server that goes on nothing waits for a connection that
- * lives. No deadlock. Order and stale flags as in endings.pml. */
+ * lives. No deadlock. Order and stale flags as in endings.pml.
+ * POLLED: a reading thread has the one slot (reading.rt; Reader::run, reader.rt), and its writer is made where it is needed. */
 #ifndef N
 #define N 2
 #endif
@@ -45,7 +46,10 @@
     :: stays[s] = true \
     :: !ROLES -> stays[s] = false \
     fi
-#define ON_LAST(s) assert(!is_last || may_end[s] || is_stopped)
+#define ON_LAST(s) assert(!is_last || !stream[s] || may_end[s] || is_stopped)
+#ifdef POLLED
+#define ON_GONE(s) wr = false; finish_slot(s); wr = true
+#endif
 bool stays[N];           /* the peer never closes */
 bool may_end[N];
 bool is_stopped = false; /* stop() began */
@@ -68,16 +72,25 @@ byte readers = 0;        /* threads of the scope */
 byte writers = 0;
 bool ended = false;
 bool errored = false;    /* the control thread answered an error */
+bool is_dismissed = false;
+bool woken = false;      /* the reading thread's waker */
+bool is_silent = false;  /* the peer says nothing, and stays */
 
 /* ServerState::stop (state.rt) */
 inline stop() {
     is_stopped = true;
+    stage_of_server = (stage_of_server > STOPPED -> stage_of_server : STOPPED);
 #ifdef M_STOP_WITHOUT_REQUEST
     skip
+#else
+#ifdef POLLED
+    hasten(0);
+    woken = true                                   /* Hub::wake_all */
 #else
     stop_lane(0);
 #if N > 1
     stop_lane(1)
+#endif
 #endif
 #endif
 }
@@ -139,9 +152,20 @@ inline close(s) {
     fi
 }
 
-/* Lane::run_writer (lane.rt) */
+/* ServerState::finish_slot (state.rt) */
+inline finish_slot(s) {
+    LOCK(desk[s]);
+    close(s);
+    UNLOCK(desk[s]);
+    connections--
+}
+
+/* Lane::write (lane.rt) */
 proctype Writer(byte me) {
     LOCALS(true);
+#ifdef POLLED
+    byte told = 0; byte told_mode = RUNNING; bool stops = false; byte own = NONE;
+#endif
     run_writer(me);
     writers--
 }
@@ -150,8 +174,18 @@ proctype Writer(byte me) {
 proctype Reader(byte me) {
     LOCALS(false);
     byte told = 0; byte told_mode = RUNNING; bool stops = false; byte own = me;
-    byte n = 0; bool refused = false;
+    byte n = 0; bool refused = false; bool is_ending = false;
     do
+#ifdef POLLED
+    :: atomic { is_dismissed -> break }            /* Readings::order (reading.rt) */
+    :: atomic { !is_dismissed && (crew_stream[me] && !is_silent || woken && stage_of_server >= STOPPED) ->
+            woken = false; is_ending = (stage_of_server >= STOPPED) };
+        atomic { has = crew_stream[me]; crew_stream[me] = false };   /* Lane::take_stream; or Table::end_all (table.rt) */
+        if
+        :: !has -> goto none
+        :: else -> has = false
+        fi;
+#else
     :: true ->
         next_stream(me);
         if
@@ -159,6 +193,7 @@ proctype Reader(byte me) {
         :: else -> has = false
         fi;
         LOCK(desk[me]);
+#endif
         begin(me);
         met_late = false; n = 0; refused = false;
         do
@@ -204,13 +239,28 @@ proctype Reader(byte me) {
             fi
         :: !stays[me] -> break                         /* the peer closes */
         :: down[me] -> break
+#ifdef POLLED
+        :: atomic { woken && stage_of_server >= STOPPED -> woken = false; break }
+        :: is_ending -> break
+#endif
         od;
         refused = false; n = 0;
         may_end[me] = true;
+#ifdef POLLED
+        end_at_once(me);
+        if
+        :: gone -> finish_slot(me)
+        :: !gone && stage_of_server >= STOPPED -> hasten(me)
+        :: else
+        fi;
+        gone = false; is_ending = false;
+none:   skip
+#else
         end_lane(me);
         close(me);
         UNLOCK(desk[me]);
         connections--
+#endif
     od;
     readers--
 }
@@ -222,12 +272,32 @@ proctype Reader(byte me) {
 #define IS_OVER (HAS_FAILED || (stage_of_server != RUNNING && connections == 0))
 #endif
 
+/* make_writers (connection.rt) and ServerState::cut (reading.rt) */
+inline make_writer() {
+    if
+    :: atomic { run Writer(0) -> writers++; demand[0] = MADE }
+    :: atomic { fails > 0 -> fails-- };
+        cut(0);
+        if
+        :: gone -> finish_slot(0)
+        :: else
+        fi;
+        gone = false
+    fi
+}
+
 /* Control::run, take_all and admit (accepting.rt) */
 active proctype Control() {
     LOCALS(false);
     byte told = 0; byte told_mode = RUNNING; bool stops = false; byte own = NONE;
     byte s = NONE; bool is_made = false; bool has_reader[N]; bool has_writer[N];
+#ifdef POLLED
+    atomic { run Reader(0); readers++ };
+#endif
     do
+#ifdef POLLED
+    :: demand[0] == NEEDED -> make_writer()
+#endif
     :: calls > 0 ->
         calls--;
         s = NONE;
@@ -249,6 +319,18 @@ active proctype Control() {
             notify();                              /* ServerState::open (state.rt), with the control desk's lock */
             UNLOCK(control);
             may_end[s] = false;
+#ifdef POLLED
+            if                                     /* ServerState::give_to_reading_thread (reading.rt) */
+            :: is_silent = true
+            :: is_silent = false
+            fi;
+            connections++;
+            arrive(s);
+            if
+            :: stage_of_server >= STOPPED -> woken = true
+            :: else
+            fi;
+#else
             /* start (connection.rt) */
             is_made = true;
             if
@@ -277,6 +359,7 @@ active proctype Control() {
                 UNLOCK(desk[s])
             fi;
             is_made = false
+#endif
         :: else -> UNLOCK(control)
         fi;
         s = NONE;
@@ -297,12 +380,13 @@ active proctype Control() {
     :: else
     fi;
 #ifndef M_NO_WAIT_FOR_ENDS
-    if
-    :: errored -> (connections == 0)               /* wait_for_ends (accepting.rt) */
-    :: else
-    fi;
+    do
+    :: errored && connections > 0 && demand[0] == NEEDED -> make_writer()
+    :: !errored || connections == 0 -> break       /* wait_for_ends (accepting.rt) */
+    od;
 #endif
     dismiss(0);
+    is_dismissed = true;
 #if N > 1
     dismiss(1);
 #endif
@@ -323,7 +407,7 @@ active proctype Monitor() {
     timeout ->
     assert(book == 0);
     assert(!(mode == STOPPED || HAS_FAILED || listen_failed) || ended);
-    assert(mode != GRACEFUL || ended || (connections > 0 && ((stream[0] && stays[0])
+    assert(mode != GRACEFUL || ended || (connections > 0 && ((stream[0] && stays[0]) || (crew_stream[0] && is_silent)
 #if N > 1
         || (stream[1] && stays[1])
 #endif

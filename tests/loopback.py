@@ -1,5 +1,6 @@
 """A gmd that runs, and connections to it over loopback."""
 import contextlib
+import os
 import socket
 import subprocess
 
@@ -56,6 +57,10 @@ def on_free_port(start):
     raise Wrong("each port is taken by another")
 
 
+# Options that each server is given besides: tests/serve and others try the same with `EXTRA="--readers 2"`.
+EXTRA = os.environ.get("EXTRA", "").split()
+
+
 class Server:
     """A server in the background, which listens or has ended."""
 
@@ -64,7 +69,7 @@ class Server:
 
         def start(port):
             self.port = port
-            self.process = subprocess.Popen([*under, program, "--listen", "127.0.0.1", "--port", str(port), *options], env=env,
+            self.process = subprocess.Popen([*under, program, "--listen", "127.0.0.1", "--port", str(port), *options, *EXTRA], env=env,
                                             stdin=subprocess.DEVNULL, stdout=subprocess.PIPE, stderr=self.error, pass_fds=told)
             try:
                 self.said = self.process.stdout.readline()

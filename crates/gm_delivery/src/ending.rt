@@ -51,6 +51,14 @@ impl Stage {
         self.code.fetch_max(STOPPING, Ordering::SeqCst);
     }
 
+    /// So is the server, where the connection is to end.
+    pub(crate) fn hasten(&self) {
+        // Modelled in models/lane.h.
+        let _ = self
+            .code
+            .compare_exchange(ENDING, STOPPING, Ordering::SeqCst, Ordering::SeqCst);
+    }
+
     /// Whether the connection is to end.
     pub(crate) fn is_ending(&self) -> bool {
         self.code.load(Ordering::SeqCst) != SERVING

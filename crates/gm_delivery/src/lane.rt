@@ -1,8 +1,9 @@
 //! The way of a slot's bytes to its connection's socket.
 
-ghost use Rattle.std.specs.Prelude.{◌≡◌, ℕ, List, [], Option, IsSome, IfSome, IfNone, IfOk};
+ghost use Rattle.std.specs.Prelude.{◌≡◌, ◌↔◌, ℕ, List, [], Option, IsTrue, IsSome, IsNone, IfSome, IfNone, IfOk};
 ghost use Rattle.gm_delivery.specs.Deliveries.{left_in, Delivers};
 
+use crate::demand::Demand;
 use crate::ending::{End, Stage};
 use crate::message::{Delivery, write_at_once};
 use crate::outbox::Outbox;
@@ -104,6 +105,18 @@ impl<K: BookName> Sender<K> {
         self.outbox.forget();
     }
 
+    /// Ends the connection, and lets go of it. It says whether there was one.
+    fn let_go(&mut self) -> bool
+        ensures left { left_in self.new.outbox.left ≡ [] }
+        ensures pen { self.new.outbox.pen ≡ self.old.outbox.pen }
+        ensures gone { IsNone self.new.connection }
+        ensures was { IsTrue result ↔ IsSome self.old.connection }
+    {
+        // Modelled in models/lane.h.
+        self.hang_up();
+        self.connection.take().is_some()
+    }
+
     /// Whether the connection is to end, and has had its time.
     fn has_had_its_time(&self) -> bool {
         match &self.connection {
@@ -152,12 +165,11 @@ impl<K: BookName> Sender<K> {
     }
 }
 
-/// The threads that are kept for a slot, from its first connection on: making new ones costs a connection more than all
+/// What the threads of a slot are told. They are kept from its first connection on: making new ones costs a connection more than all
 /// that it then does.
 #[derive(Drop)]
 struct Crew {
     has_reader: bool,
-    has_writer: bool,
     /// The next connection's, until the reader takes it.
     stream: Option<Arc<TcpStream, Global>>,
     /// No connection comes any more.
@@ -178,6 +190,8 @@ pub struct Lane<K: BookName> {
     sender: Mutex<Sender<K>>,
     parker: Mutex<Parker>,
     unparker: Unparker,
+    // Whether there is a writer.
+    demand: Demand,
     // The writer let go of the connection.
     released: Condvar,
     crew: Mutex<Crew>,
@@ -203,16 +217,23 @@ impl<K: BookName> Lane<K> {
             }),
             parker: Mutex::new(parker),
             unparker,
+            demand: Demand::new(),
             released: Condvar::new(),
             crew: Mutex::new(Crew {
                 has_reader: false,
-                has_writer: false,
                 stream: None,
                 is_dismissed: false,
             }),
             arrived: Condvar::new(),
             stage: Stage::new(),
         })
+    }
+
+    /// The slot's number.
+    pub fn number(&self) -> u32
+        ensures { result ≡ self.now.slot }
+    {
+        self.slot
     }
 
     /// The slot's pen.
@@ -223,8 +244,14 @@ impl<K: BookName> Lane<K> {
     }
 
     /// Whether the slot's writer was made.
-    pub fn has_writer(&self, rt: &impl Wait) -> bool {
-        self.crew.lock(rt).has_writer
+    pub fn has_writer(&self) -> bool {
+        self.demand.is_made()
+    }
+
+    /// Whether the slot is to get a writer.
+    pub fn needs_writer(&self) -> bool {
+        // Modelled in models/lane.h.
+        self.demand.is_needed()
     }
 
     /// Whether the slot's reader was made.
@@ -233,8 +260,9 @@ impl<K: BookName> Lane<K> {
     }
 
     /// The slot's writer was made.
-    pub fn note_writer(&self, rt: &impl Wait) {
-        self.crew.lock(rt).has_writer = true;
+    pub fn note_writer(&self) {
+        // Modelled in models/lane.h.
+        self.demand.note_made();
     }
 
     /// The slot's reader was made.
@@ -264,15 +292,35 @@ impl<K: BookName> Lane<K> {
         crew.stream.take()
     }
 
+    /// The slot's next connection, if it came.
+    pub fn take_stream(&self, rt: &impl Wait) -> Option<Arc<TcpStream, Global>> {
+        // Modelled in models/lane.h.
+        self.crew.lock(rt).stream.take()
+    }
+
     /// Has the slot's threads end, once they have no connection.
     pub fn dismiss(&self, rt: &impl Wait) {
         // Modelled in models/lane.h.
         self.crew.lock(rt).is_dismissed = true;
         self.arrived.notify_one();
-        self.wake_writer();
+        self.unparker.unpark();
     }
 
-    /// Takes a connection, as its reader. The last one left the lane late, so a thread has to look before touches count.
+    /// Takes a connection. The last one left the lane late, so a thread has to look before touches count.
+    pub fn open<R: Wait + Clock>(
+        &self,
+        rt: &R,
+        shared: &Shared<K>,
+        stream: Arc<TcpStream, Global>,
+    ) {
+        // Modelled in models/lane.h.
+        self.sender.lock(rt).begin(stream);
+        if let Ok(owed) = self.word.take_over() {
+            self.deliver_owed(rt, shared, owed);
+        }
+    }
+
+    /// The same, as the slot's reader.
     pub fn begin<R: Wait + Clock>(
         &self,
         rt: &R,
@@ -281,26 +329,14 @@ impl<K: BookName> Lane<K> {
     ) -> Begun
         ensures { result.slot ≡ self.now.slot }
     {
-        // Modelled in models/lane.h.
-        self.sender.lock(rt).begin(stream);
-        if let Ok(owed) = self.word.take_over() {
-            self.deliver_owed(rt, shared, owed);
-        }
+        self.open(rt, shared, stream);
         Begun { slot: self.slot }
     }
 
-    /// Ends the connection, and lets go of it, after its writer's last look.
-    fn release(&self, rt: &impl Wait) {
-        // Modelled in models/lane.h.
-        let mut sender = self.sender.lock(rt);
-        sender.hang_up();
-        sender.connection = None;
-        drop(sender);
-        self.released.notify_all();
-    }
-
+    /// Wakes the writer, or asks for one.
     fn wake_writer(&self) {
         // Modelled in models/lane.h.
+        self.demand.need();
         self.unparker.unpark();
     }
 
@@ -315,7 +351,14 @@ impl<K: BookName> Lane<K> {
     pub fn stop(&self) {
         // Modelled in models/lane.h.
         self.stage.stop();
-        self.wake_writer();
+        self.unparker.unpark();
+    }
+
+    /// Has a connection end soon whose end was asked for, since the server ends.
+    pub fn hasten(&self) {
+        // Modelled in models/lane.h.
+        self.stage.hasten();
+        self.unparker.unpark();
     }
 
     /// Has the writer send what there is, and waits until it has let go of the connection.
@@ -331,6 +374,44 @@ impl<K: BookName> Lane<K> {
             |sender| sender.connection.is_some(),
         );
         drop(sender);
+    }
+
+    /// Sends what there is, and lets go of the connection, as a thread that can't wait for its end. Where the peer is slow, or another
+    /// thread has the lane, the writer does so. It says whether the connection was let go of.
+    pub fn end_at_once<R: Wait + Clock>(&self, rt: &R, shared: &Shared<K>) -> bool {
+        // Modelled in models/lane.h.
+        self.stage.end();
+        // An error means that another thread looks after this, and hands the lane over.
+        let Ok(owed) = self.word.take_over() else {
+            return false;
+        };
+        let (looking, (is_late, has_let_go)) = owed.look(|looking| {
+            let mut sender = self.sender.lock(rt);
+            let delivery = sender.deliver(
+                rt,
+                shared,
+                self.slot,
+                &self.stage,
+                looking,
+                Deliverer::Another,
+            );
+            let is_late = delivery == Delivery::Late;
+            (is_late, !is_late && sender.let_go())
+        });
+        if is_late {
+            let _tally = looking.hand_over(|_| self.wake_writer());
+        } else {
+            let _tally = looking.hand_over(|_| {});
+        }
+        has_let_go
+    }
+
+    /// Hangs up on a slow peer, for which there can't be a writer. It says whether the connection was let go of, as its reader had
+    /// stopped.
+    pub fn cut<R: Wait + Clock>(&self, rt: &R, shared: &Shared<K>) -> bool {
+        // Modelled in models/lane.h.
+        self.sender.lock(rt).hang_up();
+        self.stage.is_ending() && self.end_at_once(rt, shared)
     }
 
     /// Tells the lane that there may be something to send, which is left to the writer, or to the thread that looks anyway.
@@ -386,15 +467,18 @@ impl<K: BookName> Lane<K> {
         let _tally = owed.hand_over(|_| self.wake_writer());
     }
 
-    /// Delivers, and waits for a slow peer; where the connection is to end, not for long.
+    /// Delivers, and waits for a slow peer; where the connection is to end, not for long, and then it lets go of it. It says whether it
+    /// did.
     fn deliver_patiently<R: Wait + Clock>(
         &self,
         rt: &R,
         shared: &Shared<K>,
         looking: &Looking<'_>,
-    ) {
+    ) -> bool {
         // Modelled in models/lane.h.
         let mut sender = self.sender.lock(rt);
+        // Under the lock, so it is asked of this connection; and first, so all is sent that was queued before its end was asked for.
+        let is_ending = self.stage.is_ending();
         for _ in rt.forever() {
             if sender.deliver(
                 rt,
@@ -412,10 +496,11 @@ impl<K: BookName> Lane<K> {
                 break;
             }
         }
+        is_ending && sender.let_go()
     }
 
     /// Looks as the writer, and again where the lane was touched since. It says whether that was the connection's last
-    /// look, after which the lane is late until the slot's next writer takes it over.
+    /// look, in which it let go of it. The lane is late then until a thread takes it over for the slot's next connection.
     fn write_owed<'a, R: Wait + Clock>(
         &'a self,
         rt: &R,
@@ -425,13 +510,12 @@ impl<K: BookName> Lane<K> {
         // Modelled in models/lane.h.
         let mut owed = owed;
         for _ in rt.forever() {
-            let (looking, is_last) = owed.look(|looking| {
-                let is_last = self.stage.is_ending();
-                self.deliver_patiently(rt, shared, looking);
-                is_last
-            });
+            let (looking, is_last) = owed.look(|looking| self.deliver_patiently(
+                rt, shared, looking,
+            ));
             if is_last {
                 let _tally = looking.hand_over(|_| {});
+                self.released.notify_all();
                 return true;
             }
             match looking.finish() {
@@ -442,9 +526,9 @@ impl<K: BookName> Lane<K> {
         unreachable!()
     }
 
-    /// Runs the slot's writer, connection after connection, until none comes any more. What woke it may be of a connection
-    /// that is gone.
-    pub fn run_writer<R: Wait + Clock>(&self, rt: &R, shared: &Shared<K>) {
+    /// Writes what other threads leave to the slot's writer, until it let go of a connection, or none comes any more. It says whether it
+    /// let go of one. What woke it may be of a connection that is gone.
+    pub fn write<R: Wait + Clock>(&self, rt: &R, shared: &Shared<K>) -> bool {
         // Modelled in models/lane.h.
         let parker = self.parker.lock(rt);
         for _ in rt.forever() {
@@ -455,11 +539,11 @@ impl<K: BookName> Lane<K> {
             } else if let Ok(owed) = self.word.take_over() {
                 // An error means that another thread looks after this, and hands the lane over where the connection is to end.
                 if self.write_owed(rt, shared, owed) {
-                    self.release(rt);
-                    continue;
+                    return true;
                 }
             }
             parker.park(rt);
         }
+        false
     }
 }

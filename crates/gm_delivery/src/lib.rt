@@ -3,6 +3,7 @@
 //! word that says which thread delivers.
 #![tactic(auto)]
 
+mod demand;
 mod ending;
 mod lane;
 mod message;

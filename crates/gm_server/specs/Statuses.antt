@@ -31,6 +31,7 @@ run_status errors_of_run.SocketCount = 2
 run_status (errors_of_run.Socket error) = 3
 run_status (errors_of_run.Listen address error) = 3
 run_status errors_of_run.Seed = 3
+run_status (errors_of_run.Readers error) = 3
 run_status errors_of_run.Output = 3
 run_status (errors_of_run.Serve error) = serve_error_status error
 

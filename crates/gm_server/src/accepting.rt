@@ -1,10 +1,12 @@
 //! The control thread: it takes connections, and hands in ticks.
 
-use crate::connection::start;
+use crate::connection::{make_writers, start};
 use crate::error::ControlError;
 use crate::keepalive::set_peer_timeout;
+use crate::reading::start_readers;
 use crate::speaking::Trouble;
 use crate::state::ServerState;
+use gm_readers::Seat;
 use gm_session::Gate;
 use gm_shared::BookName;
 use libc::{EBADF, EINVAL, EMFILE, ENOTSOCK};
@@ -59,12 +61,17 @@ fn is_usual(error: &io::Error) -> bool {
 }
 
 /// Waits until each connection has ended. One that has just arrived needs its writer until then.
-fn wait_for_ends<K: BookName>(rt: &(impl Wait + Clock), state: &ServerState<K>) {
+fn wait_for_ends<'s, E, K: BookName + Send + Sync, R: Threads + Wait + Clock + Sync>(
+    scope: &Scope<'s, E>,
+    rt: &'s R,
+    state: &'s ServerState<K>,
+) {
     // Modelled in models/shutdown.pml.
     for _ in rt.forever() {
         if !state.has_connections() {
             return;
         }
+        make_writers(scope, rt, state);
         thread::sleep(rt, Duration::from_millis(ACCEPT_TIMEOUT_MS));
     }
 }
@@ -180,6 +187,7 @@ impl<'s, K: BookName + Send + Sync> Control<'s, K> {
                 Err(error) if is_fatal(&error) => return Err(ControlError::Listen),
                 Err(error) => self.hold_on(rt, &error),
             }
+            make_writers(scope, rt, self.state);
             if self.state.can_end() {
                 break;
             }
@@ -198,12 +206,16 @@ impl<'s, K: BookName + Send + Sync> Control<'s, K> {
         rt: &'s R,
         gate: &'s G,
         listener: &TcpListener,
+        seats: Vec<Seat>,
     ) -> Result<u64, ControlError> {
         // Modelled in models/shutdown.pml.
         let state = self.state;
         // Without this thread nothing is said.
         let _ = scope.spawn(move || state.speaker.run(rt, state.slot_count));
-        let outcome = self.take_all(scope, rt, gate, listener);
+        let outcome = match start_readers(scope, rt, state, seats) {
+            Ok(()) => self.take_all(scope, rt, gate, listener),
+            Err(_) => Err(ControlError::Memory),
+        };
         let Control {
             opened,
             refused,
@@ -211,7 +223,7 @@ impl<'s, K: BookName + Send + Sync> Control<'s, K> {
         } = self;
         if outcome.is_err() {
             state.stop();
-            wait_for_ends(rt, state);
+            wait_for_ends(scope, rt, state);
         }
         state.dismiss(rt);
         state.speaker.end(rt, refused);

@@ -3,7 +3,8 @@
 //!
 //! A connection has two threads. Its reader cuts what it reads into units and hands them to the book; its writer
 //! waits until something is to be sent that no other thread sends. A thread that queued something for a connection touches its
-//! lane, and sends it, unless another thread has the lane, which then looks again; a slow peer is left to the writer.
+//! lane, and sends it, unless another thread has the lane, which then looks again; a slow peer is left to the writer. With `--readers N`
+//! few threads read for all connections (gm_readers), and a writer is made where it is needed.
 #![tactic(auto)]
 
 mod accepting;
@@ -13,6 +14,7 @@ mod ending;
 mod error;
 mod keepalive;
 pub mod laws;
+mod reading;
 mod ready;
 mod run;
 mod server;

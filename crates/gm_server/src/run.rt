@@ -14,6 +14,7 @@ use crate::settings::{Served, Settings};
 use crate::systemd::{first_socket, handed_sockets, notify_ready};
 use clap::error::ErrorKind;
 use gm_notes::{Config, MAX_FUNCTIONS};
+use gm_readers::Hub;
 use gm_session::OpenGate;
 use std::alloc::{AllocError, Global};
 use std::env::Env;
@@ -51,6 +52,9 @@ enum RunError {
     /// The system gives no random bytes.
     #[error("can't get a random seed")]
     Seed,
+    /// It can't wait for many connections at once.
+    #[error("can't set up the threads of --readers: {0}")]
+    Readers(io::Error),
     /// Standard output can't be written.
     #[error("can't write to standard output")]
     Output,
@@ -73,6 +77,7 @@ impl RunError {
             RunError::Socket(_)
             | RunError::Listen(..)
             | RunError::Seed
+            | RunError::Readers(_)
             | RunError::Output
             | RunError::Serve(_) => 3,
         }
@@ -140,7 +145,7 @@ fn settings_of(alloc: Global, args: Args<'_>) -> Result<Settings, RunError>
     })
 }
 
-/// Prints the settings on a line, and on a further one those that programs don't expect there, if they are given.
+/// Prints the settings on a line, and on further ones those that programs don't expect there, if they are given.
 fn print_settings<W: Write>(args: Args<'_>, w: &mut W) -> io::Result<()> {
     let Args {
         port,
@@ -148,6 +153,8 @@ fn print_settings<W: Write>(args: Args<'_>, w: &mut W) -> io::Result<()> {
         name,
         peer_timeout,
         has_peer_timeout,
+        readers,
+        has_readers,
         tape,
         ..
     } = args;
@@ -162,6 +169,9 @@ fn print_settings<W: Write>(args: Args<'_>, w: &mut W) -> io::Result<()> {
     )?;
     if has_peer_timeout {
         writeln!(w, "peer-timeout={peer_timeout}")?;
+    }
+    if has_readers {
+        writeln!(w, "readers={readers}")?;
     }
     w.flush()
 }
@@ -248,18 +258,27 @@ fn serve_on<
         return Err(RunError::Seed);
     };
     let listener = open_listener(rt, args)?;
+    let alloc = rt.alloc();
+    let (hub, seats) = match Hub::new(rt, alloc, u32::from(args.readers)) {
+        Ok(made) => made,
+        Err(error) if error.kind() == io::ErrorKind::OutOfMemory => {
+            return Err(RunError::Serve(ServeError::Memory));
+        }
+        Err(error) => return Err(RunError::Readers(error)),
+    };
     let mut listening = Listening {
         rt,
         output: w,
         told: Ok(()),
     };
-    let alloc = rt.alloc();
     let outcome = serve_announced(
         rt,
         alloc,
         seed,
         listener,
         settings,
+        hub,
+        seats,
         &OpenGate,
         &mut listening,
     );

@@ -12,6 +12,7 @@ use crate::ready::Ready;
 use crate::settings::{Served, Settings};
 use crate::state::ServerState;
 use gm_feeder::Limits;
+use gm_readers::{Hub, Seat};
 use gm_session::{Gate, OwnDesk};
 use gm_shared::{Blank, BookName, SettleError, Settled, Shared, TapeMode};
 use std::alloc::Global;
@@ -29,13 +30,14 @@ fn run_control<'x, K: BookName + Send + Sync, R: Threads + Wait + Clock + Eprint
     state: &'x ServerState<K>,
     listener: &'x TcpListener,
     peer_timeout: u16,
+    seats: Vec<Seat>,
     gate: &'x G,
 ) -> Result<u64, ControlError> {
     let control = Control::new(state, peer_timeout);
     thread::scope(
         thread::scope_env(),
         rt,
-        |scope| control.run(scope, rt, gate, listener),
+        |scope| control.run(scope, rt, gate, listener, seats),
     )
 }
 
@@ -69,6 +71,8 @@ pub fn serve_book<
     listener: &TcpListener,
     limits: Limits,
     peer_timeout: u16,
+    hub: Hub,
+    seats: Vec<Seat>,
     gate: &G,
     ready: &mut T,
 ) -> Result<Ended, ControlError>
@@ -81,9 +85,11 @@ pub fn serve_book<
     let slot_count = blank.slots();
     let (shared, desks, pens, control) = Shared::<K>::open(alloc, blank)?;
     let control = OwnDesk::new(control);
-    let state = ServerState::new(rt, alloc, shared, desks, pens, control, slot_count, limits)?;
+    let state = ServerState::new(
+        rt, alloc, shared, desks, pens, control, slot_count, limits, hub,
+    )?;
     let outcome = if ready.announce() {
-        run_control(rt, &state, listener, peer_timeout, gate)
+        run_control(rt, &state, listener, peer_timeout, seats, gate)
     } else {
         Ok(0)
     };
@@ -139,17 +145,31 @@ pub fn serve<R: Threads + Wait + Clock + Eprint + Sync, G: Gate>(
 ) -> Result<Served, ServeError>
     ensures { EndsSo settings.config settings.tape result }
 {
-    serve_announced(rt, alloc, seed, listener, settings, gate, &mut Unannounced)
+    let hub = Hub::none(alloc);
+    let seats = Vec::new(alloc);
+    serve_announced(
+        rt,
+        alloc,
+        seed,
+        listener,
+        settings,
+        hub,
+        seats,
+        gate,
+        &mut Unannounced,
+    )
 }
 
-/// The same (`serve`). Once the book is open, and before a connection is taken, `ready` says so; where it can't, the
-/// server ends at once.
+/// The same (`serve`), with a reading thread at each of the hub's seats; with none each connection has a reader. Once the book is open,
+/// and before a connection is taken, `ready` says so; where it can't, the server ends at once.
 pub(crate) fn serve_announced<R: Threads + Wait + Clock + Eprint + Sync, G: Gate, T: Ready>(
     rt: &R,
     alloc: Global,
     seed: RandomState,
     listener: TcpListener,
     settings: Settings,
+    hub: Hub,
+    seats: Vec<Seat>,
     gate: &G,
     ready: &mut T,
 ) -> Result<Served, ServeError>
@@ -172,6 +192,8 @@ pub(crate) fn serve_announced<R: Threads + Wait + Clock + Eprint + Sync, G: Gate
         &listener,
         limits,
         peer_timeout,
+        hub,
+        seats,
         gate,
         ready,
     )?;

@@ -39,6 +39,12 @@ impl ServerStage {
         self.code.fetch_max(code, Ordering::SeqCst) < code && code == STOPPED
     }
 
+    /// Each connection is to end.
+    pub(crate) fn stop(&self) {
+        // Modelled in models/shutdown.pml.
+        self.code.fetch_max(STOPPED, Ordering::SeqCst);
+    }
+
     /// There was no memory for a connection's end.
     pub(crate) fn fail(&self) {
         // Modelled in models/shutdown.pml.
@@ -49,6 +55,12 @@ impl ServerStage {
     pub(crate) fn is_ending(&self) -> bool {
         // Modelled in models/shutdown.pml.
         self.code.load(Ordering::SeqCst) != RUNNING
+    }
+
+    /// Whether each connection is to end.
+    pub(crate) fn has_stopped(&self) -> bool {
+        // Modelled in models/shutdown.pml.
+        self.code.load(Ordering::SeqCst) >= STOPPED
     }
 
     /// Whether there was no memory for a connection's end.

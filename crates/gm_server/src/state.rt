@@ -13,11 +13,12 @@ use gm_delivery::{Lane, has_passed};
 use gm_feeder::Limits;
 use gm_lane_word::Due;
 use gm_notes::{ApplyError, Event};
+use gm_readers::Hub;
 use gm_session::{Effects, Gate, Notify, OwnDesk};
 use gm_shared::{BookName, Desk, Pen, Shared};
 use std::alloc::{AllocError, Global};
 use std::net::TcpStream;
-use std::sync::atomic::{AtomicU64, Ordering};
+use std::sync::atomic::{AtomicBool, AtomicU64, Ordering};
 use std::sync::{Arc, Mutex, Wait};
 use std::time::{Clock, Instant};
 
@@ -32,6 +33,8 @@ const BATCH_TIME_MS: u64 = 1;
 pub(crate) struct ServerState<K: BookName> {
     pub(crate) alloc: Global,
     pub(crate) shared: Shared<K>,
+    // The reading threads. With none each slot has a reader.
+    pub(crate) hub: Hub,
     pub(crate) slots: Vec<Slot<K>>,
     // How many slots the book has.
     pub(crate) slot_count: u32,
@@ -39,7 +42,7 @@ pub(crate) struct ServerState<K: BookName> {
     pub(crate) control: Mutex<OwnDesk<K>>,
     // What is said while the server runs.
     pub(crate) speaker: Speaker,
-    limits: Limits,
+    pub(crate) limits: Limits,
     // When the server began, if the clock could be read.
     begun: Option<Instant>,
     // The last second since then that was handed in.
@@ -51,6 +54,10 @@ pub(crate) struct ServerState<K: BookName> {
     // How many connections are open.
     connections: AtomicU64,
     pub(crate) stage: ServerStage,
+    // A slot is to get a writer.
+    needs_writer: AtomicBool,
+    // The reading threads are to leave.
+    is_dismissed: AtomicBool,
     ghost sized: { slot_count ≡ K.settings.slots },
     ghost numbered: { map (λ slot. slot.lane.slot) slots.items ≡ numbers_below slot_count },
 }
@@ -121,6 +128,7 @@ impl<K: BookName> ServerState<K> {
         control: OwnDesk<K>,
         slot_count: u32,
         limits: Limits,
+        hub: Hub,
     ) -> Result<ServerState<K>, AllocError>
         requires sized { slot_count ≡ K.settings.slots }
         requires nothing_seen { All (λ desk. desk.front.seen ≡ []) desks.items }
@@ -131,6 +139,7 @@ impl<K: BookName> ServerState<K> {
         Ok(ServerState {
             alloc,
             shared,
+            hub,
             slots,
             slot_count,
             control: Mutex::new(control),
@@ -142,6 +151,8 @@ impl<K: BookName> ServerState<K> {
             batch_lock: Mutex::new(()),
             connections: AtomicU64::new(0),
             stage: ServerStage::new(),
+            needs_writer: AtomicBool::new(false),
+            is_dismissed: AtomicBool::new(false),
         })
     }
 
@@ -193,12 +204,37 @@ impl<K: BookName> ServerState<K> {
         self.connections.fetch_sub(1, Ordering::SeqCst);
     }
 
-    /// Has each connection end.
+    /// Has each connection end. A reading thread asks for the ends of its own.
     pub(crate) fn stop(&self) {
         // Modelled in models/shutdown.pml.
+        self.stage.stop();
         for slot in &self.slots {
-            slot.lane.stop();
+            if self.hub.is_empty() {
+                slot.lane.stop();
+            } else {
+                slot.lane.hasten();
+            }
         }
+        self.hub.wake_all();
+    }
+
+    /// Has the slot get a writer, if it needs one.
+    pub(crate) fn note_writer_of(&self, slot: &Slot<K>) {
+        // Modelled in models/lane.h.
+        if slot.lane.needs_writer() {
+            self.needs_writer.store(true, Ordering::SeqCst);
+        }
+    }
+
+    /// Whether a slot was to get a writer, since it was last asked.
+    pub(crate) fn take_needs_writer(&self) -> bool {
+        // Modelled in models/lane.h.
+        self.needs_writer.load(Ordering::SeqCst) && self.needs_writer.swap(false, Ordering::SeqCst)
+    }
+
+    /// Whether the reading threads are to leave.
+    pub(crate) fn is_dismissed(&self) -> bool {
+        self.is_dismissed.load(Ordering::SeqCst)
     }
 
     /// Touches the lane to whose slot something is due, and delivers where nobody else does; or has its writer do so, where the round
@@ -214,6 +250,7 @@ impl<K: BookName> ServerState<K> {
         } else {
             slot.lane.touch(rt, &self.shared, due);
         }
+        self.note_writer_of(slot);
     }
 
     /// Touches the lane of each touched slot, and delivers where nobody else does, until the time is over; then it has the
@@ -316,6 +353,13 @@ impl<K: BookName> ServerState<K> {
         }
     }
 
+    /// Closes a slot whose connection was let go of.
+    pub(crate) fn finish_slot<R: Wait + Clock>(&self, rt: &R, number: u32) {
+        // Modelled in models/endings.pml.
+        self.close_slot(rt, number);
+        self.end();
+    }
+
     /// Reads a connection to its end, and ends it.
     fn read<R: Wait + Clock, G: Gate>(
         &self,
@@ -343,6 +387,20 @@ impl<K: BookName> ServerState<K> {
         self.close(rt, &mut desk);
     }
 
+    /// Runs a slot's writer, connection after connection, until none comes any more.
+    pub(crate) fn run_writer<R: Wait + Clock>(&self, rt: &R, slot: &Slot<K>) {
+        // Modelled in models/endings.pml.
+        for _ in rt.forever() {
+            if !slot.lane.write(rt, &self.shared) {
+                break;
+            }
+            // A slot's own reader waits for this, and closes it.
+            if !self.hub.is_empty() {
+                self.finish_slot(rt, slot.lane.number());
+            }
+        }
+    }
+
     /// Runs a slot's reader, connection after connection, until none comes any more.
     pub(crate) fn run_reader<R: Wait + Clock, G: Gate>(&self, rt: &R, gate: &G, slot: &Slot<K>) {
         // Modelled in models/endings.pml and shutdown.pml.
@@ -362,6 +420,8 @@ impl<K: BookName> ServerState<K> {
         for slot in &self.slots {
             slot.lane.dismiss(rt);
         }
+        self.is_dismissed.store(true, Ordering::SeqCst);
+        self.hub.wake_all();
     }
 }
 

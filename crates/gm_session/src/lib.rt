@@ -13,4 +13,4 @@ pub use alone::read_session;
 pub use effects::{Effects, Notify};
 pub use gate::{Gate, OpenGate};
 pub use own_desk::OwnDesk;
-pub use session::SessionEnd;
+pub use session::{Session, SessionEnd};

@@ -1,17 +1,17 @@
 //! A desk at which no other slot's connection speaks.
 
-ghost use Rattle.std.specs.Prelude.{◌≡◌, true, false, []};
+ghost use Rattle.std.specs.Prelude.{◌≡◌, true, false, [], IfErr};
 ghost use Rattle.std.specs.Result.{IsErrOf};
 ghost use Rattle.std.specs.Io.KnownBytes.{IsAtEnd};
 ghost use Rattle.gm_notes.specs.Servers.{step_of, IsSized};
 ghost use Rattle.gm_shared.specs.Books.{NeedsNoMemory};
 ghost use Rattle.gm_session.specs.Effects.{Keeps};
 ghost use Rattle.gm_session.specs.Owners.{is_said_by, SaysOwn};
-ghost use Rattle.gm_session.specs.Sessions.{Reads};
+ghost use Rattle.gm_session.specs.Sessions.{Steps, Reads};
 
 use crate::effects::{Effects, Notify, hand_in};
 use crate::gate::Gate;
-use crate::session::{SessionEnd, read_and_notify};
+use crate::session::{Session, SessionEnd, read_and_notify, step_and_notify};
 use gm_conns::SlotSet;
 use gm_feeder::Limits;
 use gm_notes::{ApplyError, Event};
@@ -95,6 +95,36 @@ impl<K: BookName> OwnDesk<K> {
             &mut self.desk,
             slot,
             limits,
+            gate,
+            server,
+        )
+    }
+    /// Goes on with a session of the slot's connection: reads a piece, and takes each unit that is whole then. Where the session is
+    /// over, it says why. A reader that would have to wait, and says so, gives nothing.
+    pub fn step<R: Wait, I: Read, G: Gate, N: Notify<R>>(
+        &mut self,
+        rt: &R,
+        alloc: Global,
+        session: &mut Session,
+        reader: &mut I,
+        shared: &Shared<K>,
+        gate: &G,
+        server: &N,
+    ) -> Result<(), SessionEnd>
+        ensures ended { IfErr result (λ end. end ≡ SessionEnd.Ended → IsAtEnd (I.remaining reader.new)) }
+        ensures steps { Steps K.settings K.taped self.old.desk.number self.old.desk.number session.old.feeder (I.remaining reader.old) (I.remaining reader.new) result
+            self.old.desk.front.seen self.new.desk.front.seen session.new.feeder }
+        ensures number { self.new.desk.number ≡ self.old.desk.number }
+    {
+        let slot = self.desk.number();
+        step_and_notify(
+            rt,
+            alloc,
+            session,
+            reader,
+            shared,
+            &mut self.desk,
+            slot,
             gate,
             server,
         )

@@ -64,9 +64,10 @@ fn is_grab(event: &Event<'_>) -> bool {
     }
 }
 
-/// A connection's way in, while it waits for bytes.
+/// A connection's way in, while it waits for bytes: a thread that reads for many connections keeps one of each, and goes on with it
+/// by `OwnDesk::step`.
 #[derive(Drop)]
-pub(crate) struct Session {
+pub struct Session {
     feeder: Feeder,
     /// The next unit's index.
     index: u64,
@@ -76,7 +77,7 @@ pub(crate) struct Session {
 
 impl Session {
     /// A session that has read nothing.
-    fn new(alloc: Global, limits: Limits) -> Session
+    pub fn new(alloc: Global, limits: Limits) -> Session
         ensures empty { result.feeder.pending ≡ [] }
         ensures limits { result.feeder.limits ≡ limits }
     {
@@ -417,10 +418,52 @@ fn read_piece<I: Read>(feeder: &mut Feeder, reader: &mut I) -> Result<usize, Ses
         Ok(len) => Ok(len),
         Err(ReadError::Feed(_)) => Err(SessionEnd::Memory),
         Err(ReadError::Read(error)) => match error.kind() {
-            // The read was broken off, and gave nothing.
-            ErrorKind::Interrupted => Ok(0),
+            // The read was broken off, or would have waited, and gave nothing.
+            ErrorKind::Interrupted | ErrorKind::WouldBlock => Ok(0),
             _ => Err(SessionEnd::ReadFault),
         },
+    }
+}
+
+impl<'s, K: BookName, R, G, N> Applier<'s, K, R, G, N> {
+    fn new(
+        rt: &'s R,
+        alloc: Global,
+        shared: &'s Shared<K>,
+        slot: u32,
+        gate: &'s G,
+        server: &'s N,
+    ) -> Applier<'s, K, R, G, N>
+        ensures nothing { IsNothing result.effects }
+        ensures slot { result.slot ≡ slot }
+    {
+        Applier {
+            alloc,
+            rt,
+            shared,
+            gate,
+            server,
+            slot,
+            effects: Effects::new(Some(slot)),
+            touched: SlotSet::new(),
+        }
+    }
+
+    /// Others were notified of all that came of its units.
+    fn end(self)
+        requires { IsNothing self.effects }
+    {
+        let Applier {
+            alloc: _,
+            rt: _,
+            shared: _,
+            gate: _,
+            server: _,
+            slot: _,
+            effects,
+            touched: _,
+        } = self;
+        effects.end();
     }
 }
 
@@ -440,28 +483,32 @@ pub(crate) fn read_and_notify<'s, K: BookName, R: Wait, I: Read, G: Gate, N: Not
     ensures reads { Reads K.settings K.taped desk.old.number slot limits (I.remaining reader.old) (I.remaining reader.new) result desk.old.front.seen desk.new.front.seen }
     ensures number { desk.new.number ≡ desk.old.number }
 {
-    let mut applier = Applier {
-        alloc,
-        rt,
-        shared,
-        gate,
-        server,
-        slot,
-        effects: Effects::new(Some(slot)),
-        touched: SlotSet::new(),
-    };
+    let mut applier = Applier::new(rt, alloc, shared, slot, gate, server);
     let mut session = Session::new(alloc, limits);
     let end = applier.run(&mut session, desk, reader);
-    let Applier {
-        alloc: _,
-        rt: _,
-        shared: _,
-        gate: _,
-        server: _,
-        slot: _,
-        effects,
-        touched: _,
-    } = applier;
-    effects.end();
+    applier.end();
     end
+}
+
+/// Goes on with a session by a step, and the server notifies others of what came of it.
+pub(crate) fn step_and_notify<'s, K: BookName, R: Wait, I: Read, G: Gate, N: Notify<R>>(
+    rt: &'s R,
+    alloc: Global,
+    session: &mut Session,
+    reader: &mut I,
+    shared: &'s Shared<K>,
+    desk: &mut Desk<K>,
+    slot: u32,
+    gate: &'s G,
+    server: &'s N,
+) -> Result<(), SessionEnd>
+    ensures ended { IfErr result (λ end. end ≡ SessionEnd.Ended → IsAtEnd (I.remaining reader.new)) }
+    ensures steps { Steps K.settings K.taped desk.old.number slot session.old.feeder (I.remaining reader.old) (I.remaining reader.new) result
+        desk.old.front.seen desk.new.front.seen session.new.feeder }
+    ensures number { desk.new.number ≡ desk.old.number }
+{
+    let mut applier = Applier::new(rt, alloc, shared, slot, gate, server);
+    let outcome = applier.step(session, desk, reader);
+    applier.end();
+    outcome
 }
