@@ -86,8 +86,8 @@ impl<K: BookName> ServerState<K> {
         let fd = stream.as_raw_fd();
         self.begin();
         slot.lane.arrive(rt, number, stream);
-        if !self.hub.register(number, fd) {
-            drop(slot.lane.take_stream(rt));
+        // Where it isn't there any more, the thread has it already, as it ends all that came.
+        if !self.hub.register(number, fd) && slot.lane.take_stream(rt).is_some() {
             self.end();
             return false;
         }
@@ -109,10 +109,13 @@ impl<K: BookName> ServerState<K> {
     /// Takes the connection that came to a slot, if one did.
     fn take_reading<R: Wait + Clock>(&self, rt: &R, slot: &Slot<K>) -> Option<Reading> {
         let stream = slot.lane.take_stream(rt)?;
-        if let Ok(sending) = Arc::try_clone(&stream) {
-            slot.lane.open(rt, &self.shared, sending);
-            self.note_writer_of(slot);
-        }
+        let Ok(sending) = Arc::try_clone(&stream) else {
+            drop(stream);
+            self.finish_slot(rt, slot.lane.number());
+            return None;
+        };
+        slot.lane.open(rt, &self.shared, sending);
+        self.note_writer_of(slot);
         Some(Reading {
             stream,
             session: Session::new(self.alloc, self.limits),
