@@ -1,4 +1,4 @@
-//! A job server in plain Rust, measured as `gm_bench server` measures the proved one, to compare with:
+//! A job server in plain Rust, measured as `gm_trials measure` measures the proved one, to compare with:
 //! `rustc -O bench/server.rs -o server && ./server NAME SIZE ROUNDS`, or `./server --check`.
 
 use std::cmp::Reverse;
@@ -980,18 +980,18 @@ fn main() {
     match words.as_slice() {
         ["--check"] => {
             for (name, timed) in LOADS {
-                println!("server {name}: sum {}", measure(timed, 64, 1000, 1).0);
+                println!("{name}: sum {}", measure(timed, 64, 1000, 1).0);
             }
         }
         ["memory", size] => {
             let size = size.parse().expect("a number");
-            println!("server memory {size}: {} bytes a job", memory(size) / size.max(1));
+            println!("memory {size}: {} bytes a job", memory(size) / size.max(1));
         }
         [name, size, rounds] => {
             let (size, rounds) = (size.parse().expect("a number"), rounds.parse::<u64>().expect("a number"));
             let (sum, nanos) = measure(named(name), size, rounds, TIMES);
             let each = nanos / rounds.max(1);
-            println!("server {name} {size} {rounds}: sum {sum}, {nanos} ns, {each} ns a round");
+            println!("{name} {size} {rounds}: sum {sum}, {nanos} ns, {each} ns a round");
         }
         _ => eprintln!("server NAME SIZE ROUNDS, server memory SIZE, or server --check"),
     }

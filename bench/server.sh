@@ -1,10 +1,10 @@
 #!/bin/sh
-# Runs `gm_bench server` and its plain Rust twin in turn on one core, three times each, and prints the least nanoseconds of each
+# Runs `gm_trials measure` and its plain Rust twin in turn on one core, three times each, and prints the least nanoseconds of each
 # round: bench/server.sh [CORE], at the top of the repository, once both are built as bench/README.md says.
 core=${1:-0}
 row() {
     for turn in 1 2 3; do
-        taskset -c "$core" crates/gm_bench/out/gm_bench server "$@"
+        taskset -c "$core" crates/gm_trials/out/gm_trials measure "$@"
         taskset -c "$core" ./server "$@"
     done | awk -v row="$1 $2" '
         { value = $(NF - 3) + 0; if (!(NR % 2 in least) || value < least[NR % 2]) least[NR % 2] = value }

@@ -1,16 +1,18 @@
-//! The inputs of a script.
+//! Orders, and those of a script.
 
 use crate::error::TrialError;
 use gm_front::Input;
 use std::alloc::Global;
 
-/// What a line asks for.
+/// What is asked of a front: what a line asks for, or a measurement.
 #[derive(Drop)]
 pub enum Order<'a> {
     Open(&'a str),
     Piece(u32, Vec<u8>),
     Close(u32),
     Tick(u64),
+    Took(u32),
+    Drain(u32),
 }
 
 impl Order<'_> {
@@ -21,6 +23,8 @@ impl Order<'_> {
             Order::Piece(slot, bytes) => Input::Piece(*slot, bytes),
             Order::Close(slot) => Input::Close(*slot),
             Order::Tick(now) => Input::Tick(*now),
+            Order::Took(slot) => Input::Took(*slot),
+            Order::Drain(slot) => Input::Drain(*slot),
         }
     }
 }

@@ -8,6 +8,7 @@ use gm_notes::{Config, JobServer};
 use gm_plain::PlainServer;
 use std::alloc::Global;
 use std::hash::RandomState;
+use std::str::FromStr;
 
 /// How large a unit may be.
 pub const LIMITS: Limits = Limits {
@@ -26,11 +27,11 @@ pub struct Settings {
     seed: RandomState,
 }
 
-fn number(argument: &str) -> Result<u64, TrialError> {
-    argument.parse().ok().ok_or(TrialError::Usage)
-}
-
-fn short(argument: &str) -> Result<u32, TrialError> {
+/// The number that an argument spells.
+pub fn number<T: FromStr>(argument: &str) -> Result<T, TrialError>
+where
+    T::Err: Drop,
+{
     argument.parse().ok().ok_or(TrialError::Usage)
 }
 
@@ -43,10 +44,10 @@ impl Settings {
         };
         Ok(Settings {
             first_job: number(first_job)?,
-            slots: short(slots)?,
-            functions: short(functions)?,
-            round_robin: short(turns)? != 0,
-            retries: short(retries)?,
+            slots: number(slots)?,
+            functions: number(functions)?,
+            round_robin: number::<u32>(turns)? != 0,
+            retries: number(retries)?,
             seed,
         })
     }
