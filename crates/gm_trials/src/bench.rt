@@ -99,12 +99,13 @@ impl<S: TrialServer> Bench<S> {
     fn batches(
         &mut self,
         rt: &impl Clock,
-        measurement: &Measurement,
-        amount: Amount,
+        rounds: &[(Round, bool)],
+        count: u64,
+        batches: u64,
     ) -> Result<Outcome, TrialError> {
         let mut all = Outcome { sum: 0, nanos: 0 };
-        for _ in 0..measurement.batches(amount) {
-            let batch = self.batch(rt, measurement.then, measurement.count.of(amount))?;
+        for _ in 0..batches {
+            let batch = self.batch(rt, rounds, count)?;
             all.sum = all.sum.wrapping_add(batch.sum);
             all.nanos = all.nanos.saturating_add(batch.nanos);
         }
@@ -122,8 +123,10 @@ impl<S: TrialServer> Bench<S> {
             sum: 0,
             nanos: u64::MAX,
         };
-        for _ in 0..measurement.times(amount) {
-            let all = self.batches(rt, measurement, amount)?;
+        let (times, batches) = measurement.repetitions(amount);
+        let count = measurement.count.of(amount);
+        for _ in 0..times {
+            let all = self.batches(rt, measurement.then, count, batches)?;
             best.sum = best.sum.wrapping_add(all.sum);
             best.nanos = best.nanos.min(all.nanos);
         }

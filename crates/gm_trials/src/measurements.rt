@@ -50,19 +50,11 @@ pub struct Measurement {
 }
 
 impl Measurement {
-    /// How often its batches are repeated.
-    pub fn times(&self, amount: Amount) -> u64 {
+    /// How often its batches are repeated, and how many they are.
+    pub fn repetitions(&self, amount: Amount) -> (u64, u64) {
         match self.count {
-            Count::Batch => amount.times,
-            _ => 1,
-        }
-    }
-
-    /// How many batches its rounds are.
-    pub fn batches(&self, amount: Amount) -> u64 {
-        match self.count {
-            Count::Batch => amount.rounds.div_ceil(BATCH),
-            _ => 1,
+            Count::Batch => (amount.times, amount.rounds.div_ceil(BATCH)),
+            _ => (1, 1),
         }
     }
 }
