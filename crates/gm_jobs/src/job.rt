@@ -4,7 +4,6 @@ ghost use Rattle.std.specs.Prelude.{◌≡◌, ◌≤◌, ◌&&◌, ◌==◌, []
 ghost use Rattle.std.specs.Option.{option_map, unwrap_or};
 ghost use Rattle.std.specs.Vec.{vec_capacity};
 ghost use Rattle.gm_jobs.specs.Live.{Live, body_bytes, fresh, given_back, reported, with_listener, without_listener, place_at, is_named, is_run_by, is_orphan, is_due, is_last_try, waits, runs_at};
-ghost use Rattle.gm_notes.specs.Jobs.{joins};
 ghost use Rattle.gm_jobs.specs.Queries.{meets};
 ghost use Rattle.gm_jobs.specs.Tables.{Room};
 ghost use Rattle.gm_jobs.specs.Changes.{changed, takes_memory};
@@ -152,13 +151,6 @@ impl Model for Job {
     ghost Value = { Live };
 
     ghost view = { λ j. record { function = j.f; priority = j.p; unique = j.unique.items; body = body_bytes j.body; kept = j.kept; stage = j.stage; returns = j.returns; deadline = j.deadline; report = option_map (λ r. (r.value.numerator.items, r.value.denominator.items)) j.report; listeners = j.listeners.items } };
-}
-
-/// Whether a unique id names a job: it isn't empty, and no dash.
-pub(crate) fn is_joining(unique: &[u8]) -> bool
-    ensures { result ≡ joins unique.now }
-{
-    !unique.is_empty() && unique != b"-".as_slice()
 }
 
 impl Job {

@@ -11,11 +11,11 @@ ghost use Rattle.gm_jobs.specs.Uniques.{LeadsTo};
 
 use crate::by_number::JobMap;
 use crate::deadlines::Deadlines;
-use crate::job::{Change, Job, NewJob, ORPHANS, Query, Reservation, is_joining};
+use crate::job::{Change, Job, NewJob, ORPHANS, Query, Reservation};
 use crate::listening::Listening;
 use crate::uniques::{Uniques, Vacancy, digest};
 use gm_bytes::SharedBytes;
-use gm_notes::Place;
+use gm_notes::{Place, is_joining};
 use std::alloc::{AllocError, Global};
 use std::hash::RandomState;
 use std::marker::Model;

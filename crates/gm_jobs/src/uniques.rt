@@ -8,7 +8,7 @@ ghost use Rattle.gm_jobs.specs.Tables.{find_job, passes};
 ghost use Rattle.gm_jobs.specs.Uniques.{digest_of, LeadsTo};
 
 use crate::by_number::{JobMap, NumberHash};
-use crate::job::is_joining;
+use gm_notes::is_joining;
 use indexmap::IndexMap;
 use std::alloc::{AllocError, Global};
 use std::hash::{BuildHasher, Hasher, RandomState};

@@ -4,6 +4,7 @@
 mod config;
 mod event;
 mod job_server;
+mod joining;
 mod note;
 mod states;
 mod text;
@@ -11,6 +12,7 @@ mod text;
 pub use config::{Config, ConfigError, MAX_FUNCTIONS, MAX_SLOTS};
 pub use event::{ApplyError, Done, Event, UnitFault};
 pub use job_server::JobServer;
+pub use joining::is_joining;
 pub use note::Note;
 pub use states::{Mode, Phase, Pick, Place, Priority};
 pub use text::Text;

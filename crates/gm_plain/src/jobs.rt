@@ -5,7 +5,7 @@ ghost use Rattle.std.specs.Option.{option_map};
 ghost use Rattle.std.specs.List.{All};
 ghost use Rattle.gm_notes.specs.Jobs.{says_job_state, job_state, says_job, job, says_kept, is_kept, listeners, is_wanted, says_report};
 ghost use Rattle.gm_notes.specs.Jobs.{report, is_job_of, is_job_with, is_job_named, made, functions, is_mentioned, says_limit, limit};
-ghost use Rattle.gm_notes.specs.Jobs.{joins, is_live_named, joined, next_number, is_live_of, total, running, says_deadline, deadline, returns, is_last_try};
+ghost use Rattle.gm_notes.specs.Jobs.{is_live_named, joined, next_number, is_live_of, total, running, says_deadline, deadline, returns, is_last_try};
 ghost use Rattle.gm_notes.specs.JobStates.{is_live, is_waiting, is_running, is_running_at, place_of};
 ghost use Rattle.gm_notes.specs.Closings.{is_reached};
 ghost use Rattle.gm_notes.specs.Notes.{moment};
@@ -18,7 +18,7 @@ ghost use Rattle.gm_plain.specs.Searches.{said_place, says_mentioned, listeners_
 use crate::connections::moment;
 use crate::log::{Log, last_said};
 use gm_actions::{JobView, Report};
-use gm_notes::{Config, Note, Place, Priority};
+use gm_notes::{Config, Note, Place, Priority, is_joining};
 use std::alloc::{AllocError, Global};
 
 fn says_place(note: &Note, job: u64) -> Option<Place>
@@ -318,13 +318,6 @@ fn is_live_named(log: &Log, number: u64, function: &[u8], unique: &[u8]) -> bool
     ensures { result ≡ is_live_named function.now unique.now log.now.notes number }
 {
     is_live(log, number) && is_job_named(log, number, function, unique)
-}
-
-/// Whether a unique id joins jobs.
-fn is_joining(unique: &[u8]) -> bool
-    ensures { result ≡ joins unique.now }
-{
-    !unique.is_empty() && unique != b"-".as_slice()
 }
 
 /// The live job of a function with a unique id that joins.
