@@ -84,7 +84,7 @@ MUTANTS = [
     ("order", DELIVER, "M_SENT_AGAIN", "Message::send", "self.bytes.advance(count)", "only where delivery is Done"),
     ("order", DELIVER, "M_NOOP_FIRST", "Message::send", "return self.send_noop(w)", "before the bytes"),
     ("order", DELIVER, "M_DRAIN_LEAVES_BYTES", "Booked::drain_into", "let bytes = self.core.drain(slot)", "a copy of what waits"),
-    ("order", PEERS, "M_KEEP_LEFT", "Sender::begin", "Outbox::forget(&mut self.outbox)", "left out, and in hang_up too"),
+    ("order", PEERS, "M_KEEP_LEFT", "Sender::begin", "self.outbox.forget()", "left out, and in hang_up too"),
     ("order", ENDINGS, "M_CLOSE_FIRST", "ServerState::read", "lane.end(rt, begun)", "after self.close"),
     ("noops", JOBS, "M_NO_LOOK", "Booked::resolve_noop", "if self.seat.look(table, slot)", "left out"),
     ("noops", JOBS, "M_SLEEP_BESIDE_WORK", "Core::pre_sleep", "if beside", "left out"),

@@ -1,19 +1,20 @@
 //! The way of a slot's bytes to its connection's socket.
 
-ghost use Rattle.std.specs.Prelude.{◌≡◌, ◌↔◌, ℕ, List, [], Option, IsTrue, IsSome, IsNone, IfSome, IfNone, IfOk};
-ghost use Rattle.gm_delivery.specs.Deliveries.{left_in, Delivers};
+ghost use Rattle.std.specs.Prelude.{◌≡◌, ◌≤◌, ◌↔◌, ℕ, List, [], length, Option, IsTrue, IsSome, IsNone, IfSome, IfNone, IfOk};
+ghost use Rattle.gm_outbox.specs.Deliveries.{left_in, Delivers};
 
 use crate::demand::Demand;
 use crate::ending::{End, Stage};
-use crate::message::{Delivery, write_at_once};
-use crate::outbox::Outbox;
 use crossbeam_utils::sync::{Parker, Unparker};
 use gm_lane_word::{Due, LaneWord, Looking, Owed};
+use gm_outbox::{Delivery, Outbox};
 use gm_shared::{BookName, Pen, Shared};
+use libc::net::{MSG_DONTWAIT, MSG_NOSIGNAL, send};
 use std::alloc::{AllocError, Global};
 use std::io;
 use std::io::{ErrorKind, Write};
 use std::net::{Shutdown, TcpStream};
+use std::os::fd::AsRawFd;
 use std::sync::{Arc, Condvar, Mutex, Wait};
 use std::time::{Clock, Duration};
 
@@ -35,6 +36,18 @@ enum Deliverer {
 struct Connection {
     stream: Arc<TcpStream, Global>,
     end: End,
+}
+
+/// Sends bytes, as many as the system takes without waiting, though the socket is one whose writes wait.
+fn write_at_once(stream: &TcpStream, bytes: &[u8]) -> io::Result<usize>
+    ensures { IfOk result (λ count. count ≤ length bytes.now) }
+{
+    // Sound, as the call only reads the bytes.
+    let count = unsafe { send(stream.as_raw_fd(), bytes, MSG_DONTWAIT | MSG_NOSIGNAL) };
+    if count < 0 {
+        return Err(io::Error::from_raw_os_error(os::errno()));
+    }
+    Ok(count as usize)
 }
 
 /// A connection's socket. Once the connection is to end and has had its time, it takes no more.
@@ -86,7 +99,7 @@ impl<K: BookName> Sender<K> {
         // Modelled in models/lane.h.
         // Where it fails, writes fail too.
         let _ = stream.set_write_timeout(Some(Duration::from_millis(WRITE_TIMEOUT_MS)));
-        Outbox::forget(&mut self.outbox);
+        self.outbox.forget();
         let end = End::new();
         self.connection = Some(Connection { stream, end });
     }

@@ -26,7 +26,7 @@ mod state;
 mod systemd;
 
 pub use error::{ControlError, ServeError};
-pub use gm_delivery::{Delivery, Message, WriteFault, write_turn};
+pub use gm_outbox::{Delivery, Message, WriteFault, write_turn};
 pub use gm_session::{Gate, OpenGate, SessionEnd, read_session};
 pub use ready::Ready;
 pub use run::run_words;

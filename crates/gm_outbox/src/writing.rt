@@ -2,7 +2,7 @@
 
 ghost use Rattle.std.specs.Prelude.{◌≡◌, ◌<◌, length, take, OnOk, IfErr};
 ghost use Rattle.std.specs.Io.KnownBytes.{Appends};
-ghost use Rattle.gm_delivery.specs.Turns.{turn_of};
+ghost use Rattle.gm_outbox.specs.Turns.{turn_of};
 
 use crate::message::{noop_if, write_once};
 use std::io::Write;

@@ -3,10 +3,10 @@ use Rattle.std.proofs.Common.{◌≡◌, ℕ, List, [], ◌++◌, Option, length
 use Rattle.std.proofs.lemmas.List.{append_assoc, take-append-drop, take-append-le}
 use Rattle.std.proofs.KnownBytes.{Appends-nil, Appends-trans}
 use Rattle.std.specs.Io.KnownBytes.{Appends}
-use Rattle.gm_delivery.specs.declared.message.Delivery.{Delivery}
-use Rattle.gm_delivery.specs.declared.message.Delivery.TheVariants.{Done, Late}
-use Rattle.gm_delivery.specs.Deliveries.{SendsFront}
-use Rattle.gm_delivery.specs.Turns.{Writes}
+use Rattle.gm_outbox.specs.declared.message.Delivery.{Delivery}
+use Rattle.gm_outbox.specs.declared.message.Delivery.TheVariants.{Done, Late}
+use Rattle.gm_outbox.specs.Deliveries.{SendsFront}
+use Rattle.gm_outbox.specs.Turns.{Writes}
 
 -- a front of what was due is sent, and this is left
 pub record Sending (old now : Option (List ℕ)) (due left : List ℕ) : Type 0 where

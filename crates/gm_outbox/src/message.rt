@@ -1,13 +1,9 @@
 //! What is written to a socket at a time.
 
-ghost use Rattle.std.specs.Prelude.{◌≡◌, ◌<◌, ◌≤◌, length, IfOk};
-ghost use Rattle.gm_delivery.specs.Turns.{noop_if, Writes};
+ghost use Rattle.std.specs.Prelude.{◌≡◌};
+ghost use Rattle.gm_outbox.specs.Turns.{noop_if, Writes};
 
-use libc::net::{MSG_DONTWAIT, MSG_NOSIGNAL, send};
-use std::io;
 use std::io::{Error, ErrorKind, Write};
-use std::net::TcpStream;
-use std::os::fd::AsRawFd;
 
 /// The packet NOOP (the Gearman PROTOCOL document, "NOOP"): the magic of a response, the type 6, and no data.
 const NOOP: &[u8] = b"\0RES\0\0\0\x06\0\0\0\0";
@@ -17,7 +13,7 @@ const NOOP: &[u8] = b"\0RES\0\0\0\x06\0\0\0\0";
 pub enum Delivery {
     /// All was sent.
     Done,
-    /// The peer takes no more at present, or was sent as much as it is at a time; what is left waits in the lane.
+    /// The peer takes no more at present, or was sent as much as it is at a time; what is left waits in the outbox.
     Late,
     /// There is no connection to send to.
     Over,
@@ -35,18 +31,6 @@ pub(crate) fn noop_if(took: bool) -> &'static [u8]
     ensures { result.now ≡ noop_if took }
 {
     if took { NOOP } else { &[] }
-}
-
-/// Sends bytes, as many as the system takes without waiting, though the socket is one whose writes wait.
-pub(crate) fn write_at_once(stream: &TcpStream, bytes: &[u8]) -> io::Result<usize>
-    ensures { IfOk result (λ count. count ≤ length bytes.now) }
-{
-    // Sound, as the call only reads the bytes.
-    let count = unsafe { send(stream.as_raw_fd(), bytes, MSG_DONTWAIT | MSG_NOSIGNAL) };
-    if count < 0 {
-        return Err(Error::from_raw_os_error(os::errno()));
-    }
-    Ok(count as usize)
 }
 
 /// Writes the bytes, as many as the writer takes in one write, and says how many these were. Where it takes some and not all,

@@ -1,7 +1,7 @@
 use Rattle.std.proofs.Common.{length}
-use Rattle.gm_delivery.specs.Deliveries.{unsent}
-use Rattle.gm_delivery.proofs.Sending.{Sending}
-use Rattle.gm_delivery.proofs.outbox.Message.send.Given as goal
+use Rattle.gm_outbox.specs.Deliveries.{unsent}
+use Rattle.gm_outbox.proofs.Sending.{Sending}
+use Rattle.gm_outbox.proofs.outbox.Message.send.Given as goal
 
 abbrev pub invariant-loop-chunk : goal.invariant-loop-chunk
 invariant-loop-chunk g l = Sending (g.W.Write.contents l.fn.w) (g.W.Write.contents l.w) (unsent l.fn.self) (unsent l.self)

@@ -8,10 +8,10 @@ use Rattle.gm_notes.specs.declared.event.ApplyError.{ApplyError}
 use Rattle.gm_shared.specs.declared.receipt.Drained.{Drained}
 use Rattle.gm_shared.specs.declared.tape.Entry.{Entry}
 use Rattle.gm_shared.specs.Calls.{PenCalled}
-use Rattle.gm_delivery.specs.declared.message.Delivery.{Delivery}
-use Rattle.gm_delivery.specs.declared.message.Delivery.TheVariants.{Done, Over}
-use Rattle.gm_delivery.specs.Turns.{turn_of}
-use Rattle.gm_delivery.specs.Deliveries.{Sends, unasked, given, refused, Delivers}
+use Rattle.gm_outbox.specs.declared.message.Delivery.{Delivery}
+use Rattle.gm_outbox.specs.declared.message.Delivery.TheVariants.{Done, Over}
+use Rattle.gm_outbox.specs.Turns.{turn_of}
+use Rattle.gm_outbox.specs.Deliveries.{Sends, unasked, given, refused, Delivers}
 
 -- whether a NOOP was taken, said of the same counts
 pub takes_as : (took : Bool) (a b c d : ℕ) → a ≡ c → b ≡ d → MatchBool took (b ≡ a + 1) (b ≡ a) → MatchBool took (d ≡ c + 1) (d ≡ c)

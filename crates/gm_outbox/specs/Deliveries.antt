@@ -6,10 +6,10 @@ use Rattle.gm_notes.specs.declared.event.ApplyError.{ApplyError}
 use Rattle.gm_shared.specs.declared.receipt.Drained.{Drained}
 use Rattle.gm_shared.specs.declared.tape.Entry.{Entry}
 use Rattle.gm_shared.specs.Calls.{PenCalled}
-use Rattle.gm_delivery.specs.declared.message.Delivery.{Delivery}
-use Rattle.gm_delivery.specs.declared.message.Delivery.TheVariants.{Done, Late, Over}
-use Rattle.gm_delivery.specs.declared.outbox.Message.{Message}
-use Rattle.gm_delivery.specs.Turns.{turn_of}
+use Rattle.gm_outbox.specs.declared.message.Delivery.{Delivery}
+use Rattle.gm_outbox.specs.declared.message.Delivery.TheVariants.{Done, Late, Over}
+use Rattle.gm_outbox.specs.declared.outbox.Message.{Message}
+use Rattle.gm_outbox.specs.Turns.{turn_of}
 
 -- what isn't sent yet of a message
 abbrev pub unsent : Message → List ℕ

@@ -24,8 +24,8 @@ pub struct Message {
 }
 
 impl Message {
-    ghost use Rattle.gm_delivery.specs.Turns.{turn_of};
-    ghost use Rattle.gm_delivery.specs.Deliveries.{unsent, SendsFront};
+    ghost use Rattle.gm_outbox.specs.Turns.{turn_of};
+    ghost use Rattle.gm_outbox.specs.Deliveries.{unsent, SendsFront};
 
     /// These bytes, and a NOOP where one was taken.
     pub fn new(bytes: ByteQueue, took: bool) -> Message
@@ -85,35 +85,38 @@ impl Message {
 
 /// What is to be sent to a connection: what is left of the present message, and what its pen gives.
 #[derive(Drop)]
-pub(crate) struct Outbox<K: BookName> {
+pub struct Outbox<K: BookName> {
     pen: Pen<K>,
     left: Option<Message>,
 }
 
 impl<K: BookName> Outbox<K> {
-    ghost use Rattle.gm_delivery.specs.Deliveries.{left_in, unsent, Sends, Delivers};
+    ghost use Rattle.gm_outbox.specs.Deliveries.{left_in, unsent, Sends, Delivers};
 
-    pub(crate) fn new(pen: Pen<K>) -> Outbox<K>
+    /// What this pen gives is to be sent, and nothing is left.
+    pub fn new(pen: Pen<K>) -> Outbox<K>
         ensures pen { result.pen ≡ pen }
         ensures empty { left_in result.left ≡ [] }
     {
         Outbox { pen, left: None }
     }
 
-    pub(crate) fn slot(&self) -> u32
+    /// The number of the pen's slot.
+    pub fn slot(&self) -> u32
         ensures { result ≡ self.now.pen.slot }
     {
         self.pen.slot()
     }
 
-    pub(crate) fn into_pen(self) -> Pen<K>
+    /// The slot's pen.
+    pub fn into_pen(self) -> Pen<K>
         ensures { result ≡ self.pen }
     {
         self.pen
     }
 
-    /// Forgets what is left, since there is no connection to send it to.
-    pub(crate) fn forget(&mut self)
+    /// Forgets what is left: all of it is sent, or there is no connection to send it to.
+    pub fn forget(&mut self)
         ensures pen { self.new.pen ≡ self.old.pen }
         ensures empty { left_in self.new.left ≡ [] }
     {
@@ -132,7 +135,7 @@ impl<K: BookName> Outbox<K> {
         };
         let delivery = message.send(w);
         if delivery != Delivery::Late {
-            self.left = None;
+            self.forget();
         }
         delivery
     }
@@ -153,12 +156,7 @@ impl<K: BookName> Outbox<K> {
 
     /// Sends what was left, and then what waits in the book: the bytes, and a NOOP where one is owed. Where the slot
     /// is shut and all is sent, the connection is over.
-    pub(crate) fn deliver<W: Write>(
-        &mut self,
-        rt: &impl Wait,
-        shared: &Shared<K>,
-        w: &mut W,
-    ) -> Delivery
+    pub fn deliver<W: Write>(&mut self, rt: &impl Wait, shared: &Shared<K>, w: &mut W) -> Delivery
         ensures delivers { Delivers K.settings K.taped result self.old.pen.slot self.old.pen.seat.takes self.new.pen.seat.takes
             self.old.pen.front.seen self.new.pen.front.seen (W.contents w.old) (W.contents w.new) (left_in self.old.left) (left_in self.new.left) }
         ensures slot { self.new.pen.slot ≡ self.old.pen.slot }

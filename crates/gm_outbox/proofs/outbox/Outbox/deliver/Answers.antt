@@ -1,6 +1,6 @@
 use Rattle.std.proofs.Common.{refl, sym, ap, ◌∙◌}
-use Rattle.gm_delivery.proofs.Delivering.{takes_as, called_as, delivers_left, delivers_none, delivers_more, delivers_last}
-use Rattle.gm_delivery.proofs.outbox.Outbox.deliver.Goals as goal
+use Rattle.gm_outbox.proofs.Delivering.{takes_as, called_as, delivers_left, delivers_none, delivers_more, delivers_last}
+use Rattle.gm_outbox.proofs.outbox.Outbox.deliver.Goals as goal
 
 pub returns-in-Late-clause-delivers : goal.returns-in-Late-clause-delivers
 returns-in-Late-clause-delivers g c =

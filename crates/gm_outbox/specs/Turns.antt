@@ -2,8 +2,8 @@
 use Rattle.std.specs.Prelude.{◌≡◌, ◌≤◌, ℕ, List, [], ◌++◌, length, take, Bool, true, false, Option}
 use Rattle.std.specs.Io.KnownBytes.{Appends}
 use Rattle.gm_packet.specs.Answers.{noop, answer_packet}
-use Rattle.gm_delivery.specs.declared.message.Delivery.{Delivery}
-use Rattle.gm_delivery.specs.declared.message.Delivery.TheVariants.{Done, Over}
+use Rattle.gm_outbox.specs.declared.message.Delivery.{Delivery}
+use Rattle.gm_outbox.specs.declared.message.Delivery.TheVariants.{Done, Over}
 
 -- the NOOP, where one was taken
 abbrev pub noop_if : Bool → List ℕ
