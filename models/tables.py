@@ -8,10 +8,12 @@ weak fairness).
 
 # property, model, how, definitions, when (set: by models/run; all: by models/run all), what
 RUNS = [
-    ("delivery", "deliver", "all", "-DUNBOUNDED", "set", "2 threads touch twice, writes late at will"),
+    ("delivery", "deliver", "all", "-DUNBOUNDED -DTOUCHES=1", "set", "2 threads touch once, writes late at will"),
+    ("delivery", "deliver", "all", "-DUNBOUNDED", "all", "2 threads touch twice"),
     ("delivery", "deliver", "all", "-DUNBOUNDED -DTOUCHERS=3 -DTOUCHES=1", "all", "3 threads touch once"),
     ("delivery", "deliver", "all", "-DDEAF=2", "set", "a peer that takes one message and then none"),
-    ("forever", "deliver", "ends", "-DNO_MONITOR -DLATES=2 -DTOUCHES=1", "set", "no infinite run, with 2 late writes"),
+    ("forever", "deliver", "ends", "-DNO_MONITOR -DLATES=1 -DTOUCHES=1", "set", "no infinite run, with a late write"),
+    ("forever", "deliver", "ends", "-DNO_MONITOR -DLATES=2 -DTOUCHES=1", "all", "with 2 late writes"),
     ("forever", "deliver", "ltl", "-DENDLESS -DNO_MONITOR -DLATES=1", "set", "2 threads touch for ever: each infinite run delivers for ever"),
     ("noops", "jobs", "all", "-DJOBS=2", "all", "2 jobs, a worker that sleeps"),
     ("noops", "jobs", "all", "-DJOBS=1 -DIMPATIENT=1 -DLATES0=1", "all", "and asks by itself once; a late write to the worker"),
@@ -21,7 +23,8 @@ RUNS = [
     ("noops", "jobs", "all", "-DJOBS=1 -DDROWSY=1 -DLONG", "all", "with the locks of batches"),
     ("noops", "jobs", "ends", "-DJOBS=1 -DLATES0=1 -DNO_MONITOR", "all", "no infinite run"),
     ("ticks", "ticks", "all", "-DREADERS=2 -DGRABS=2", "set", "2 workers grab twice, 3 seconds pass"),
-    ("ticks", "ticks", "all", "-DREADERS=3 -DGRABS=1 -DSECONDS=2 -DLONG", "set", "3 workers grab once, 2 seconds pass, with the locks of batches"),
+    ("ticks", "ticks", "all", "-DREADERS=2 -DGRABS=2 -DSECONDS=2 -DLONG", "set", "2 seconds pass, with the locks of batches"),
+    ("ticks", "ticks", "all", "-DREADERS=3 -DGRABS=1 -DSECONDS=2 -DLONG", "all", "3 workers grab once"),
     ("ticks", "jobs", "bits", "-DJOBS=1 -DSECONDS=1", "all", "a second passes, told by the control thread or before a grab"),
     ("ticks", "jobs", "bits", "-DJOBS=1 -DSECONDS=1 -DLONG", "all", "with the locks of batches"),
     ("ends", "endings", "all", "-DTOUCHES=1 -DFAILS=1", "set", "a slot that two connections have, a foreign touch, a thread that can't be made"),
@@ -130,3 +133,15 @@ MUTANTS = [
     ("server", SLOTS, "M_NO_SHUT", "Core::stop", "self.shut_each()", "left out"),
     ("server", SLOTS, "M_SHUT_STAYS", "Outbox::deliver", "if shut { Delivery::Over }", "always Done"),
 ]
+
+# Mutants (their property and name) that simulated executions hardly find: they are searched at once.
+SEARCHED = {
+    ("delivery", "M_GIVES_UP"), ("delivery", "M_BEGIN_WITHOUT_LOOK"), ("delivery", "M_TOUCH_FIRST"),
+    ("noops", "M_FINISH_BLINDLY"), ("noops", "M_WITHDRAW_BLINDLY"), ("ticks", "M_SECOND_BEFORE_THE_TICK"),
+    ("ends", "M_FLAG_BEFORE_LOOK"), ("ends", "M_ENDING_IGNORED"), ("ends", "M_FLAG_AFTER_DELIVERY"), ("ends", "M_WAKE_BEFORE_FLAG"),
+    ("ends", "M_DISMISS_WAKES_FIRST"), ("ends", "M_TIME_BEFORE_THE_END"), ("ends", "M_LETS_GO_OF_NONE"),
+    ("server", "M_KEEP_ENDING"), ("server", "M_NO_WAIT_FOR_ENDS"), ("server", "M_RESET_AT_BEGIN"),
+}
+
+# Mutants only in `all`: the set has the same fault under another property, and these take seconds of gcc.
+REPEATED = {("noops", "M_FINISH_BLINDLY"), ("server", "M_KEEP_ENDING"), ("forever", "M_FINISH_BLINDLY"), ("forever", "M_LATE_NOT_TAKEN_OVER")}
