@@ -1,6 +1,7 @@
 //! Orders, and those of a script.
 
 use crate::error::TrialError;
+use crate::settings::number;
 use gm_front::Input;
 use std::alloc::Global;
 
@@ -35,10 +36,10 @@ fn order_of(alloc: Global, line: &str) -> Option<Order<'_>> {
     match (verb, rest.split_once(' ')) {
         ("open", None) if !rest.is_empty() => Some(Order::Open(rest)),
         ("bytes", Some((slot, digits))) => {
-            Some(Order::Piece(slot.parse().ok()?, hex::decode(alloc, digits).ok()?))
+            Some(Order::Piece(number(slot).ok()?, hex::decode(alloc, digits).ok()?))
         }
-        ("close", None) => Some(Order::Close(rest.parse().ok()?)),
-        ("tick", None) => Some(Order::Tick(rest.parse().ok()?)),
+        ("close", None) => Some(Order::Close(number(rest).ok()?)),
+        ("tick", None) => Some(Order::Tick(number(rest).ok()?)),
         _ => None,
     }
 }
