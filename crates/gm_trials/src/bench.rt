@@ -77,6 +77,7 @@ impl<S: TrialServer> Bench<S> {
             nanos: u64::try_from(nanos).unwrap_or(u64::MAX),
         })
     }
+
     /// Does these rounds in turn. It answers the sums and the time of those that are timed.
     fn batch(
         &mut self,

@@ -17,7 +17,7 @@ pub enum Order<'a> {
 }
 
 impl Order<'_> {
-    /// It as an input of a front.
+    /// The order as an input of a front.
     pub fn input(&self) -> Input<'_> {
         match self {
             Order::Open(addr) => Input::Open(addr.as_bytes()),
