@@ -3,7 +3,7 @@
 ghost use Rattle.std.specs.Prelude.{◌≡◌, ℕ, ◌<◌, ◌≤◌, ◌↔◌, ◌⊎◌, true, false, not, ◌&&◌, ◌==◌, [], ◌++◌, ◌+◌, IsTrue, length, slice_get};
 ghost use Rattle.std.specs.Prelude.{IfSome, IfNone, IfOk, IfErr, OnOk, OnErr, Err};
 ghost use Rattle.gm_conns.specs.Connections.{closed, opened, shut, with_option, with_phase, with_id, with_ability, without_ability};
-ghost use Rattle.gm_conns.specs.Connections.{without_abilities, with_last, with_room, with_bytes, drained, index_of};
+ghost use Rattle.gm_conns.specs.Connections.{without_abilities, with_last, with_room, with_bytes, drained, index_of, timeout_of};
 ghost use Rattle.gm_conns.specs.ConnTables.{conn, IsOpen, is_touched, able_count, is_sleeper, Changes, IsLeastFree, IsFull, LosesAbilities};
 
 use crate::able::{AbleSet, cover};
@@ -207,6 +207,15 @@ impl Conns {
     {
         let conn = &self.conns[slot as usize];
         conn.abilities_len()
+    }
+
+    /// The timeout of the ability for the function.
+    pub fn timeout_of(&self, slot: u32, f: u32) -> Option<u32>
+        requires { IsOpen self.now slot }
+        ensures { result ≡ timeout_of f (conn self.now slot) }
+    {
+        let conn = &self.conns[slot as usize];
+        conn.timeout_of(f)
     }
 
     /// The position of the ability for the function, in the order added.

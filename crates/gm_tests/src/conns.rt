@@ -45,6 +45,7 @@ fn add_abilities(rt: &impl Abort, conns: &mut Conns) -> Result<(), AllocError> {
 
 fn read_abilities(rt: &impl Abort, conns: &Conns) {
     must(rt, conns.is_open(0));
+    same(rt, "a timeout", &conns.timeout_of(0, 3), &Some(5));
     same(rt, "a count", &conns.able_count(7), &1);
 }
 
