@@ -15,7 +15,7 @@ pub enum Command<'a> {
     Status,
     /// Lists the connections with the functions that they can do.
     Workers,
-    /// Limits the waiting jobs of a function; a size of 0 is no limit.
+    /// Limits the jobs, waiting and running, of a function; a size of 0 is no limit.
     MaxQueue { name: &'a [u8], size: u32 },
     /// Asks for the server's version.
     Version,

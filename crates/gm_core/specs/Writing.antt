@@ -1,5 +1,5 @@
 -- Texts that are to be queued, and packets whose last argument is put behind the rest.
-use Rattle.std.specs.Prelude.{ℕ, ◌≤◌, Bool, false, IsTrue, List, [], ◌∷◌, length, Option, Some, None}
+use Rattle.std.specs.Prelude.{◌≡◌, ℕ, ◌≤◌, Bool, false, IsTrue, List, [], ◌∷◌, length, Option, Some, None}
 use Rattle.gm_packet.specs.Answers.{Answer}
 
 -- the text, how much of a queue's room it takes, and whether its body is shared, with how many owners for the queues
@@ -12,6 +12,12 @@ pub record Text : Type 0 where
 -- a text that is copied
 abbrev pub copied_text : List ℕ → Text
 copied_text bytes = record { bytes = bytes; cost = length bytes; is_shared = false; owners = 0 }
+
+-- It has no body, and is short.
+pub record IsLight (text : Text) : Type 0 where
+  pub unshared : text.is_shared ≡ false
+  pub unowned : text.owners ≡ 0
+  pub short : length text.bytes ≤ 65536
 
 -- it can be put to this number of queues
 abbrev pub IsFor : ℕ → Text → Type 0

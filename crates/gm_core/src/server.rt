@@ -58,6 +58,7 @@ fn first_job(config: &Config) -> u64
 
 impl Core {
     ghost use Rattle.gm_core.specs.Holds.{outbox, Holds, Goes, Does, AllTouched, CoreAgrees};
+    ghost use Rattle.gm_core.specs.Writing.{IsLight};
     ghost use Rattle.gm_core.specs.NoMemory.{NeedsNoMemory};
 
     /// A server to which nothing has happened. Names and ids come from strangers, so its tables hash with this seed.
@@ -104,8 +105,27 @@ impl Core {
     }
 
     /// As `apply`, for a caller with a lock: where a job ends whose body is shared, `freed` becomes an owner of it, so that it
-    /// can be freed later, as it may be long.
+    /// can be freed later, as it may be long. Whatever it answers, it keeps no long text that it wrote.
     pub fn apply_locked(
+        &mut self,
+        event: &Event<'_>,
+        freed: &mut Option<SharedBytes>,
+    ) -> Result<Done, ApplyError>
+        requires size { IsSized event.now }
+        ensures answers { (k : Settings) (steps : List Step) → CoreAgrees self.old k steps
+            → Answers k steps (step_of event.now) result
+            × CoreAgrees self.new k (steps_after result (step_of event.now) steps) }
+        ensures memory { NeedsNoMemory self.old event.now → IsErrOf result ApplyError.Memory → ⊥ }
+        ensures touched { AllTouched self.old.conns self.new.conns }
+        ensures light { IsLight self.new.text }
+    {
+        let answer = self.take(event, freed);
+        self.text.let_go();
+        answer
+    }
+
+    /// Takes an event.
+    fn take(
         &mut self,
         event: &Event<'_>,
         freed: &mut Option<SharedBytes>,

@@ -7,7 +7,7 @@ ghost use Rattle.gm_packet.specs.Packets.{Fits};
 ghost use Rattle.gm_conns.specs.Connections.{with_bytes};
 ghost use Rattle.gm_conns.specs.ConnTables.{IsOpen, conn, Changes};
 ghost use Rattle.gm_actions.specs.Bodies.{EndsWith};
-ghost use Rattle.gm_core.specs.Writing.{bare_answer, copied_text, IsFor};
+ghost use Rattle.gm_core.specs.Writing.{bare_answer, copied_text, IsFor, IsLight};
 
 use gm_bytes::{Data, SHARED_ROOM, SharedBytes};
 use gm_conns::Conns;
@@ -206,8 +206,10 @@ impl Written {
         }
     }
 
-    /// Gives large memory back, once it is queued.
-    pub(crate) fn let_go(&mut self) {
+    /// Gives large memory back: the body, and a long text.
+    pub(crate) fn let_go(&mut self)
+        ensures { IsLight self.new }
+    {
         self.body = None;
         self.owners.clear();
         if self.copied.capacity() > MOST_KEPT {

@@ -69,7 +69,6 @@ impl Core {
         ensures moment { self.new.moment ≡ self.old.moment }
     {
         self.text.put(&mut self.conns, slot);
-        self.text.let_go();
     }
 
     /// Queues a packet to a slot; its last argument may be this body.

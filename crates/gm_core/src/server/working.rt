@@ -100,7 +100,6 @@ impl Core {
     {
         let slots = self.jobs.listeners(job);
         put_each(&mut self.conns, slots, exceptions_only, &mut self.text);
-        self.text.let_go();
     }
 
     /// What a worker says of its job, which runs, is told to those that hear it, kept, and perhaps ends the job.

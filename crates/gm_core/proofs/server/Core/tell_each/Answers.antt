@@ -10,4 +10,4 @@ returns-clause-goes c answer text =
     goes_then {a = old} {b = told}
     (told_goes old c.put_each.new.conns c.args.job c.args.exceptions_only old.text.bytes c.listeners-slots.result.now c.requires.runs c.listeners-slots.ensures
     c.put_each.ensures.poured.touched c.put_each.ensures.holds answer text)
-    (goes_nothing {a = told} {b = record told { text = c.let_go.new.self }} refl refl refl refl refl refl)
+    (goes_nothing {a = told} {b = record told { text = c.put_each.new.text }} refl refl refl refl refl refl)
