@@ -10,17 +10,42 @@ use Rattle.gm_notes.specs.Settings.{Settings}
 use Rattle.gm_notes.specs.Notes.{is_open}
 use Rattle.gm_notes.specs.Flow.{Flow, Began, Queued, Drained, Emptied, sent, waiting}
 use Rattle.gm_notes.specs.Past.{Past}
-use Rattle.gm_notes.specs.Steps.{Step, step, run}
+use Rattle.gm_notes.specs.Closings.{discard_each, give_back_each, disconnect, rising, close}
+use Rattle.gm_notes.specs.Steps.{Step, Close, step, run}
 use Rattle.gm_laws.specs.History.{History}
 use Rattle.gm_laws.specs.Laws.{drained, is_kept_up, IsFront, SentSo, takes_from, OnlyDrainsTake}
-use Rattle.gm_laws.proofs.Keeping.{is_inner}
-use Rattle.gm_laws.proofs.StepsKeep.{step_keeps, run_history}
+use Rattle.gm_laws.proofs.Finding.{same_number}
+use Rattle.gm_laws.proofs.Keeping.{is_inner, Keeps}
+use Rattle.gm_laws.proofs.StepsKeep.{gone_keeps, discard_each_keeps, give_back_each_keeps, step_keeps, run_history}
 
 -- a note that is no opening and no closing leaves open what was
 pub inner_open : (note : Note) (older : List Note) (c : ℕ) → is_inner note ≡ true → is_open c (note ∷ older) ≡ is_open c older
 inner_open (notes.Opened d addr) older c inner = absurd cc
 inner_open (notes.Closed d) older c inner = absurd cc
 inner_open note older c inner = refl
+
+-- whoever is closed isn't open
+module _ (k : Settings) (c : ℕ) (past : Past) where
+  stays_closed : Keeps k past.notes (Close c) (λ p. is_open c p.notes ≡ false)
+  stays_closed = record {
+    by_note = λ note p inner allowed caused h i. inner_open note p.notes c inner ∙ i;
+    by_opening = λ d addr p allowed caused h i. absurd cc;
+    by_closing = λ d p opened caused h i. by (c == d) (is_open c p.notes) i;
+    by_saying = λ d bytes p opened may h i. i;
+  }
+    where
+      by : (t older : Bool) → older ≡ false → unwrap_or (cond t (Some false) None) older ≡ false
+      by true older i = refl
+      by false older i = i
+
+  anything : Keeps k past.notes (Close c) (λ p. Unit {0})
+  anything = record { by_note = λ note p i a w h u. tt; by_opening = λ d addr p a w h u. tt; by_closing = λ d p o w h u. tt; by_saying = λ d bytes p o m h u. tt }
+
+  pub close_closes : History k past.notes → is_open c past.notes ≡ true → is_open c (close k c past).notes ≡ false
+  close_closes h opened =
+      let now : is_open c (disconnect c past).notes ≡ false = rw (same_number c) refl in
+      (give_back_each_keeps stays_closed (rising past) (discard_each (rising past) (disconnect c past))
+      (discard_each_keeps stays_closed (rising past) (disconnect c past) ((gone_keeps anything past opened (h, tt)).0, now))).1
 
 -- ---- what was sent
 

@@ -29,7 +29,8 @@ use Rattle.gm_laws.proofs.Keeping.{tell_all_notes}
 use Rattle.gm_laws.proofs.Moving.{from, both_not}
 use Rattle.gm_laws.proofs.Handles.{same_handle, fail_handle, placed_small}
 use Rattle.gm_laws.proofs.Outputs.{told, copies_append, copies_same, copies_other}
-use Rattle.gm_laws.proofs.Passing.{asked_kind, passed}
+use Rattle.gm_laws.proofs.Asking.{asked_kind}
+use Rattle.gm_laws.proofs.Passing.{passed}
 use Rattle.gm_laws.proofs.StepLaws.{ends}
 use Rattle.gm_laws.proofs.StepsKeep.{run_history}
 

@@ -9,7 +9,6 @@ use Rattle.std.proofs.lemmas.Bool.Decides.{nat_tests}
 use Rattle.std.proofs.lemmas.Slice.Eq.{bytes_eq-Decides}
 use Rattle.gm_notes.specs.declared.note.Note.{Note}
 use Rattle.gm_notes.specs.declared.note.Note.TheVariants.{Made, Assigned, Returned, Lost, Ended, Discarded}
-use Rattle.gm_notes.specs.declared.states.Priority.TheVariants.{Normal}
 use Rattle.gm_notes.specs.Settings.{Settings}
 use Rattle.gm_notes.specs.Jobs.{Job, job_state, job, is_job_named, joins, joined, made, next_number}
 use Rattle.gm_notes.specs.JobStates.{JobState, is_live, is_waiting, is_running}
@@ -19,7 +18,7 @@ use Rattle.gm_laws.specs.History.{runs_at_a_slot, Allowed, History}
 use Rattle.gm_laws.specs.Laws.{AreNumbers, is_made, has_place, HavePlaces, is_live_named, AreOne, is_gone, StayGone}
 use Rattle.gm_laws.proofs.StepsKeep.{step_keeps, run_history}
 use Rattle.gm_laws.proofs.Keeping.{keeps_notes, slot_runs}
-use Rattle.gm_laws.proofs.NumberLaws.{numbers}
+use Rattle.gm_laws.proofs.NumberLaws.{next_is, numbers}
 
 -- ---- numbers that are equal or not
 
@@ -56,16 +55,20 @@ live_place states.Discarded e = refl
 slot_place : (s : JobState) → runs_at_a_slot s ≡ true → has_place s ≡ true
 slot_place s e = running_place s (slot_runs s e)
 
-slot_live : (s : JobState) → runs_at_a_slot s ≡ true → is_live s ≡ true
+pub slot_live : (s : JobState) → runs_at_a_slot s ≡ true → is_live s ≡ true
 slot_live s e = or_right (is_waiting s) (is_running s) (slot_runs s e)
 
 -- what may be discarded is live
-discarded_live : (s : JobState) → (is_waiting s || runs_at_a_slot s) ≡ true → is_live s ≡ true
+pub discarded_live : (s : JobState) → (is_waiting s || runs_at_a_slot s) ≡ true → is_live s ≡ true
 discarded_live states.Waiting e = refl
 discarded_live (states.Running c) e = refl
 discarded_live other e = absurd cc
 
 -- ---- places
+
+pub place_still : (t : Bool) (new old : JobState) → has_place new ≡ true → has_place old ≡ true → has_place (unwrap_or (cond t (Some new) None) old) ≡ true
+place_still true new old p q = p
+place_still false new old p q = q
 
 -- a new place for job m, which had one
 place_moved : (n m : ℕ) (older : List Note) (new : JobState) (t : Bool) → (n == m) ≡ t → has_place new ≡ true → has_place (job_state m older) ≡ true → has_place (job_state n older) ≡ is_made n older → has_place (unwrap_or (cond t (Some new) None) (job_state n older)) ≡ is_made n older
@@ -105,7 +108,7 @@ live_named_parts : (f u : List ℕ) (n : ℕ) (notes : List Note) → is_live_na
 live_named_parts f u n notes e = and_parts (is_live (job_state n notes)) (is_job_named f u (job n notes)) e
 
 -- nothing live joins what finds nothing to join
-none_joins : (k : Settings) (f u : List ℕ) (n : ℕ) (older : List Note) → History k older → joins u ≡ true → joined f u older ≡ None → is_live_named f u n older ≡ true → ⊥
+pub none_joins : (k : Settings) (f u : List ℕ) (n : ℕ) (older : List Note) → History k older → joins u ≡ true → joined f u older ≡ None → is_live_named f u n older ≡ true → ⊥
 none_joins k f u n older h joining none e =
     let searched : find (λ m. is_live (job_state m older) && is_job_named f u (job m older)) (made older) ≡ None =
     ap (λ t. cond t (find (λ m. is_live (job_state m older) && is_job_named f u (job m older)) (made older)) None) (sym joining) ∙ none in
@@ -120,10 +123,10 @@ moved_live f u n m older new true is lived e =
     and_from (is_live (job_state n older)) (is_job_named f u (job n older)) (subst (λ x. is_live (job_state x older) ≡ true) same lived) (and_parts (is_live new) (is_job_named f u (job n older)) e).1
 moved_live f u n m older new false is lived e = e
 
-waiting_live : (s : JobState) → is_waiting s ≡ true → is_live s ≡ true
+pub waiting_live : (s : JobState) → is_waiting s ≡ true → is_live s ≡ true
 waiting_live s e = or_left (is_waiting s) (is_running s) e
 
-running_live : (s : JobState) → is_running s ≡ true → is_live s ≡ true
+pub running_live : (s : JobState) → is_running s ≡ true → is_live s ≡ true
 running_live s e = or_right (is_waiting s) (is_running s) e
 
 -- a new job is live under its own function and id
@@ -205,7 +208,7 @@ no_place other e = absurd cc
 
 unmade_if : (k : Settings) (n : ℕ) (older : List Note) (t : Bool) → has_place (job_state n older) ≡ t → History k older → next_number k older ≡ Some n → job_state n older ≡ states.Unmade
 unmade_if k n older true is h next =
-    let number = (numbers k (Made n [] Normal [] [] ∷ older) ((next, refl), h)).0 in
+    let number = next_is k older n next in
     let lt = below_next k (made older) n (numbers k older h) (sym (places k older h n) ∙ is) in
     absurd (omega arith)
 unmade_if k n older false is h next = no_place (job_state n older) is

@@ -9,22 +9,25 @@ use Rattle.gm_notes.specs.declared.note.Note.{Note}
 use Rattle.gm_notes.specs.declared.note.Note.TheVariants.{Opened, Closed, Made}
 use Rattle.gm_notes.specs.Settings.{Settings}
 use Rattle.gm_notes.specs.Notes.{is_open}
-use Rattle.gm_notes.specs.Jobs.{made}
+use Rattle.gm_notes.specs.Jobs.{made, next_number}
 use Rattle.gm_laws.specs.History.{History}
 use Rattle.gm_laws.specs.Laws.{AreNumbers, AreSlots}
 
 -- ---- numbers
 
-next_is : (k : Settings) (older : List Note) (n : ℕ) (t : Bool) → ltb (k.first_job + length (made older)) (2 ^ 64) ≡ t → cond t (Some (k.first_job + length (made older))) None ≡ Some n → (n ≡ k.first_job + length (made older)) × (n < 2 ^ 64)
-next_is k older n true is e =
+next_at : (k : Settings) (older : List Note) (n : ℕ) (t : Bool) → ltb (k.first_job + length (made older)) (2 ^ 64) ≡ t → cond t (Some (k.first_job + length (made older))) None ≡ Some n → (n ≡ k.first_job + length (made older)) × (n < 2 ^ 64)
+next_at k older n true is e =
     let same = same_Some (k.first_job + length (made older)) n e in
     (sym same, subst (λ x. x < 2 ^ 64) same (ltb-true _ _ is))
-next_is k older n false is e = absurd cc
+next_at k older n false is e = absurd cc
+
+pub next_is : (k : Settings) (older : List Note) (n : ℕ) → next_number k older ≡ Some n → (n ≡ k.first_job + length (made older)) × (n < 2 ^ 64)
+next_is k older n e = next_at k older n (ltb (k.first_job + length (made older)) (2 ^ 64)) refl e
 
 pub numbers : (k : Settings) (notes : List Note) → History k notes → AreNumbers k (made notes)
 numbers k [] h = tt
 numbers k (Made n f p u body ∷ older) h =
-    let is = next_is k older n (ltb (k.first_job + length (made older)) (2 ^ 64)) refl h.0.0 in
+    let is = next_is k older n h.0.0 in
     (is.0, is.1, numbers k older h.1)
 numbers k (note ∷ older) h = numbers k older h.1
 

@@ -32,7 +32,8 @@ use Rattle.gm_laws.proofs.Finding.{same_number, found_passes}
 use Rattle.gm_laws.proofs.Keeping.{tell_all_notes, slot_runs, runs_somewhere}
 use Rattle.gm_laws.proofs.Sayings.{error_other}
 use Rattle.gm_laws.proofs.Outputs.{told, copies_append, copies_other}
-use Rattle.gm_laws.proofs.StepsKeep.{step_keeps, kind_read, taken_or_not, run_history}
+use Rattle.gm_laws.proofs.Asking.{kind_read}
+use Rattle.gm_laws.proofs.StepsKeep.{step_keeps, taken_or_not, run_history}
 
 -- ---- copies
 

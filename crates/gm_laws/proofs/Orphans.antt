@@ -25,6 +25,7 @@ use Rattle.gm_laws.specs.History.{Allowed, History}
 use Rattle.gm_laws.specs.Causes.{Caused, is_closing, is_submission, is_request, is_one_of}
 use Rattle.gm_laws.specs.Between.{NoWaitingJobIsOrphaned}
 use Rattle.gm_laws.specs.Laws.{has_place}
+use Rattle.gm_laws.proofs.Asking.{made_request}
 use Rattle.gm_laws.proofs.Keeping.{keeps_notes, kept_if}
 use Rattle.gm_laws.proofs.Moving.{closes_not, both_not, moved, from, not_both, In, placed_rises, wake_each_notes}
 use Rattle.gm_laws.proofs.StepsKeep.{step_keeps, taken_or_not, packet_of_kinds, run_history}
@@ -170,7 +171,7 @@ quiet_wanted k s start closes submits h w =
     (keeps_notes (λ l. WantedSo None_ l) (λ note older allowed cause g p.
     wanted_more None_ k note older
     (λ c is. closes_not s c closes (subst (λ x. Caused k start.notes s x older) is cause))
-    (λ m f pr u body is. both_not (is_request is_submission s) (subst (λ x. Caused k start.notes s x older) is cause) submits) allowed p))
+    (λ m f pr u body is. both_not (is_request is_submission s) (made_request k start.notes s m f pr u body older (subst (λ x. Caused k start.notes s x older) is cause)) submits) allowed p))
     (λ c e g u. u) (h, w)).1
 
 request_submits : (k : Settings) (c : ℕ) (start : Past) → WantedSo None_ start.notes → (kind : Kind) (a : List (List ℕ)) (timeout : ℕ) → is_submission kind ≡ true → WantedSo None_ (request k c kind a timeout start).notes

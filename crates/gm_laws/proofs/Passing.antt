@@ -2,13 +2,11 @@
 use Rattle.std.proofs.Common.{◌≡◌, ℕ, suc, Bool, true, false, cond, ◌&&◌, List, [], ◌∷◌, ◌++◌, length, filter, replicate, Option}
 use Rattle.std.proofs.Common.{Some, None, Ok, refl, sym, ap, ◌∙◌}
 use Rattle.std.specs.Prelude.{◌==◌}
-use Rattle.std.specs.Option.{ok_or}
 use Rattle.std.proofs.lemmas.Option.{same_Some}
 use Rattle.gm_packet.specs.declared.kind.Kind.{Kind}
 use Rattle.gm_packet.specs.declared.kind.Kind.TheVariants.{WorkStatus, WorkComplete, WorkFail, WorkException, WorkData, WorkWarning}
-use Rattle.gm_packet.specs.declared.request.RequestFault.TheVariants.{BadArguments}
 use Rattle.gm_packet.specs.Kinds.{kind_of}
-use Rattle.gm_packet.specs.Requests.{Asked, read_as, read_kind, request_of}
+use Rattle.gm_packet.specs.Requests.{Asked, request_of}
 use Rattle.gm_packet.specs.Answers.{Answer, answer_packet, work_status, work_complete, work_fail, work_data, work_warning}
 use Rattle.gm_packet.specs.Answers.{work_exception}
 use Rattle.gm_notes.specs.declared.note.Note.{Note}
@@ -19,11 +17,10 @@ use Rattle.gm_notes.specs.JobStates.{JobState, is_running_at}
 use Rattle.gm_notes.specs.JobStates as states
 use Rattle.gm_notes.specs.Past.{Past, tell_all}
 use Rattle.gm_notes.specs.Workers.{Work, keep_report, end_if, hearers, tell_work, work_on, work}
-use Rattle.gm_notes.specs.Requests.{packet_of, first, second, third, passing, ending, request, request_if_read}
+use Rattle.gm_notes.specs.Requests.{packet_of, first, second, third, passing, ending, request}
 use Rattle.gm_notes.specs.Steps.{Packet, run, step}
 use Rattle.gm_laws.specs.History.{History}
 use Rattle.gm_laws.specs.Between.{AllOpen}
-use Rattle.gm_laws.specs.Causes.{is_one_of}
 use Rattle.gm_laws.specs.Laws.{has_place}
 use Rattle.gm_laws.specs.Listeners.{outputs, Queues, listens, hears, passed_on, WhatWorkersSayIsPassedOn}
 use Rattle.gm_laws.proofs.Finding.{same_number}
@@ -32,7 +29,8 @@ use Rattle.gm_laws.proofs.Listeners.{listeners_open}
 use Rattle.gm_laws.proofs.Handles.{handle_names}
 use Rattle.gm_laws.proofs.Outputs.{told}
 use Rattle.gm_laws.proofs.StepLaws.{taken_is}
-use Rattle.gm_laws.proofs.StepsKeep.{kind_read, run_history}
+use Rattle.gm_laws.proofs.StepsKeep.{run_history}
+use Rattle.gm_laws.proofs.Asking.{packet_does}
 
 -- ---- who hears
 
@@ -104,10 +102,14 @@ module _ (k : Settings) (worker n : ℕ) (start : Past) (history : History k sta
   here : is_running_at worker (job_state n start.notes) ≡ true
   here = ap (is_running_at worker) runs ∙ same_number worker
 
-  works : (w : Work) (text : List ℕ) → text ≡ handle k n → (c : ℕ) → Queues c (replicate (heard w.exceptions_only c n start.notes) (answer_packet w.answer)) start (work k worker text w start)
-  works w text names c =
+  -- what the job's worker reports with its handle is said of the job
+  pub works_does : (w : Work) (text : List ℕ) → text ≡ handle k n → work k worker text w start ≡ tell_work w n start
+  works_does w text names =
       let found : job_of_handle k text start.notes ≡ Some n = ap (λ x. job_of_handle k x start.notes) names ∙ handle_names k start.notes n history (ap has_place runs) in
-      ap (λ (past : Past). outputs c past.flow) (works_at w (job_of_handle k text start.notes) found here) ∙ tells w c
+      works_at w (job_of_handle k text start.notes) found here
+
+  works : (w : Work) (text : List ℕ) → text ≡ handle k n → (c : ℕ) → Queues c (replicate (heard w.exceptions_only c n start.notes) (answer_packet w.answer)) start (work k worker text w start)
+  works w text names c = ap (λ (past : Past). outputs c past.flow) (works_does w text names) ∙ tells w c
 
   passes : (w : Work) (a : List (List ℕ)) (answer : Answer) → first a ≡ handle k n → w.answer ≡ answer → (c : ℕ)
       → Queues c (replicate (heard w.exceptions_only c n start.notes) (answer_packet answer)) start (work k worker (first a) w start)
@@ -133,27 +135,6 @@ module _ (k : Settings) (worker n : ℕ) (start : Past) (history : History k sta
   asks kind a timeout answer names is c = absurd cc
 
 -- ---- packets
-
--- a packet does what it asks
-module _ (bytes : List ℕ) (asked : Asked) where
-  read_does : (k : Settings) (c : ℕ) (past : Past) (o : Option Asked) → ok_or o BadArguments ≡ Ok asked → request_if_read k c o past ≡ request k c asked.kind asked.arguments asked.timeout past
-  read_does k c past None e = absurd cc
-  read_does k c past (Some other) e =
-      let same : other ≡ asked = cc in ap (λ (x : Asked). request k c x.kind x.arguments x.timeout past) same
-
-  packet_does : (k : Settings) (c : ℕ) (past : Past) (o : Option Kind) → read_kind o bytes ≡ Ok asked → packet_of k c o bytes past ≡ request k c asked.kind asked.arguments asked.timeout past
-  packet_does k c past None e = absurd cc
-  packet_does k c past (Some kind) e = read_does k c past (read_as kind bytes) e
-
-  is_read : (kind : Kind) (o : Option Asked) → o ≡ read_as kind bytes → ok_or o BadArguments ≡ Ok asked → asked.kind ≡ kind
-  is_read kind None is e = absurd cc
-  is_read kind (Some other) is e =
-      let same : other ≡ asked = cc in ap (λ (x : Asked). x.kind) (sym same) ∙ kind_read kind bytes other (sym is)
-
-  -- what is asked is of the packet's kind
-  pub asked_kind : (kinds : Kind → Bool) (o : Option Kind) → read_kind o bytes ≡ Ok asked → is_one_of kinds o ≡ kinds asked.kind
-  asked_kind kinds None e = absurd cc
-  asked_kind kinds (Some kind) e = ap kinds (sym (is_read kind (read_as kind bytes) refl e))
 
 pub passed : (k : Settings) (start : Past) → History k start.notes → (worker n number : ℕ) (bytes : List ℕ) (asked : Asked) (answer : Answer)
     → takes_units worker start.notes ≡ true → job_state n start.notes ≡ states.Running worker

@@ -1,28 +1,28 @@
 -- The laws about retries: how often jobs are handed out, which are lost, and when these end.
-use Rattle.std.proofs.Common.{◌≡◌, ◌⊎◌, inl, inr, ℕ, suc, ◌+◌, ◌<◌, ◌≤◌, Bool, true, false, cond, not, ◌&&◌, ◌||◌, List, []}
+use Rattle.std.proofs.Common.{◌≡◌, ℕ, suc, ◌+◌, ◌<◌, ◌≤◌, Bool, true, false, cond, not, ◌&&◌, ◌||◌, List, []}
 use Rattle.std.proofs.Common.{◌∷◌, ◌++◌, Option, Some, None, refl, sym, ap, subst, ◌∙◌, arith}
 use Rattle.std.specs.Prelude.{◌==◌, nat_le, max, unwrap_or}
 use Rattle.std.proofs.lemmas.Bool.{and_parts, and_from}
 use Rattle.std.proofs.lemmas.Bool.Decides.{nat_tests}
-use Rattle.gm_packet.specs.Answers.{work_fail}
 use Rattle.gm_notes.specs.declared.note.Note.{Note}
 use Rattle.gm_notes.specs.declared.note.Note.TheVariants as notes
 use Rattle.gm_notes.specs.Settings.{Settings}
 use Rattle.gm_notes.specs.Notes.{moment}
-use Rattle.gm_notes.specs.Jobs.{job_state, returns, is_last_try, listeners, deadline, handle}
+use Rattle.gm_notes.specs.Jobs.{job_state, returns, is_last_try, deadline}
 use Rattle.gm_notes.specs.JobStates.{JobState, is_waiting, is_running}
 use Rattle.gm_notes.specs.JobStates as states
-use Rattle.gm_notes.specs.Past.{Past, with_note, tell_all}
-use Rattle.gm_notes.specs.Closings.{is_reached, expire_one, expire_each, rising, tick}
+use Rattle.gm_notes.specs.Past.{Past, with_note}
+use Rattle.gm_notes.specs.Closings.{is_reached}
 use Rattle.gm_notes.specs.Steps.{Step, Packet, Tick, step}
 use Rattle.gm_laws.specs.History.{runs_at_a_slot, Allowed, History}
 use Rattle.gm_laws.specs.Causes.{Caused, Ends, is_tick}
 use Rattle.gm_laws.specs.Laws.{has_place}
 use Rattle.gm_laws.specs.Retries.{times, hands_out, gives_back, loses, NoJobIsHandedOutMoreOften, NoJobIsLostTwice}
 use Rattle.gm_laws.specs.Retries.{NoneIsLostWithoutALimit, IsLostSo, OnlyTheLastTryLoses, LostJobsEndWithTheNextTick}
+use Rattle.gm_laws.proofs.Clocks.{IsDue, tick_ends}
 use Rattle.gm_laws.proofs.JobLaws.{is_same, unmade}
-use Rattle.gm_laws.proofs.Moving.{from, both_not, not_both, In, placed_rises}
-use Rattle.gm_laws.proofs.Keeping.{keeps_notes, tell_all_notes}
+use Rattle.gm_laws.proofs.Moving.{both_not}
+use Rattle.gm_laws.proofs.Keeping.{keeps_notes}
 use Rattle.gm_laws.proofs.StepsKeep.{step_keeps}
 
 -- ---- how often a job was handed out, came back and was lost, by where it is
@@ -269,43 +269,12 @@ lost_late n (notes.Ended m ∷ older) lost = late_kept states.Ended n older (n =
 lost_late n (notes.Discarded m ∷ older) lost = late_kept states.Discarded n older (n == m) (λ e. let bad : ⊥ = cc in bad) (lost_late n older) lost
 lost_late n (note ∷ older) lost = lost_late n older lost
 
-lost_expires : (n : ℕ) (past : Past) → job_state n past.notes ≡ states.Lost → (is_running (job_state n past.notes) && is_reached (deadline n past.notes) (moment past.notes)) ≡ true
+lost_expires : (n : ℕ) (past : Past) → job_state n past.notes ≡ states.Lost → IsDue n past.notes
 lost_expires n past lost =
     let at_hand : nat_le 0 (moment past.notes) ≡ true = grind (arith, nat_tests) in
     and_from (is_running (job_state n past.notes)) (is_reached (deadline n past.notes) (moment past.notes)) (ap is_running lost)
     (ap (λ d. is_reached d (moment past.notes)) (lost_late n past.notes lost) ∙ at_hand)
 
--- it is lost and stands in the list, or it has ended
-abbrev EndsOf : ℕ → List ℕ → List Note → Type 0
-EndsOf n jobs l = ((job_state n l ≡ states.Lost) × In n jobs) ⊎ (job_state n l ≡ states.Ended)
-
-other_left : (n m : ℕ) (jobs : List ℕ) → (n == m) ≡ false → In n (m ∷ jobs) → In n jobs
-other_left n m jobs other (inl same) = absurd (not_both n m same other)
-other_left n m jobs other (inr there) = there
-
-ended_more : (n m : ℕ) (jobs : List ℕ) (l : List Note) (t : Bool) → (n == m) ≡ t → EndsOf n (m ∷ jobs) l
-    → ((unwrap_or (cond t (Some states.Ended) None) (job_state n l) ≡ states.Lost) × In n jobs) ⊎ (unwrap_or (cond t (Some states.Ended) None) (job_state n l) ≡ states.Ended)
-ended_more n m jobs l true is e = inr refl
-ended_more n m jobs l false is (inl h) = inl (h.0, other_left n m jobs is h.1)
-ended_more n m jobs l false is (inr h) = inr h
-
-expired_so : (k : Settings) (n m : ℕ) (jobs : List ℕ) (past : Past) (t : Bool) → (is_running (job_state m past.notes) && is_reached (deadline m past.notes) (moment past.notes)) ≡ t → EndsOf n (m ∷ jobs) past.notes
-    → EndsOf n jobs (cond t (with_note (notes.Ended m) (tell_all (work_fail (handle k m)) (listeners m past.notes) past)) past).notes
-expired_so k n m jobs past true is e =
-    subst (λ l. EndsOf n jobs (notes.Ended m ∷ l)) (sym (tell_all_notes (work_fail (handle k m)) (listeners m past.notes) past)) (ended_more n m jobs past.notes (n == m) refl e)
-expired_so k n m jobs past false is (inr h) = inr h
-expired_so k n m jobs past false is (inl h) =
-    inl (h.0, from h.1 (λ same. absurd (both_not _ (lost_expires m past (subst (λ x. job_state x past.notes ≡ states.Lost) same h.0)) is)) (λ there. there))
-
-expired : (k : Settings) (n : ℕ) (jobs : List ℕ) (past : Past) → EndsOf n jobs past.notes → job_state n (expire_each k jobs past).notes ≡ states.Ended
-expired k n [] past e = from e (λ h. absurd h.1) (λ h. h)
-expired k n (m ∷ jobs) past e =
-    expired k n jobs (expire_one k m past) (expired_so k n m jobs past (is_running (job_state m past.notes) && is_reached (deadline m past.notes) (moment past.notes)) refl e)
-
-tick_ends : (k : Settings) (now : ℕ) (start : Past) (n : ℕ) → History k start.notes → job_state n start.notes ≡ states.Lost → job_state n (tick k now start).notes ≡ states.Ended
-tick_ends k now start n h lost =
-    expired k n (rising start) (with_note (notes.Now (max now (moment start.notes))) start) (inl (lost, placed_rises k start n h (ap has_place lost)))
-
 pub ends_next : (k : Settings) (s : Step) (start : Past) → History k start.notes → LostJobsEndWithTheNextTick k start s (step k s start)
-ends_next k (Tick now) start h n lost = tick_ends k now start n h lost
+ends_next k (Tick now) start h n lost = tick_ends k now start n h (ap has_place lost) (lost_expires n (with_note (notes.Now (max now (moment start.notes))) start) lost)
 ends_next k s start h n lost = stays_lost k s start n refl h lost

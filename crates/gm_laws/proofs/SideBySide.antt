@@ -44,7 +44,8 @@ use Rattle.gm_laws.specs.Laws.{GoesAlike}
 use Rattle.gm_laws.proofs.Alike.{Alike, alike_on, units_alike, wanted_alike, last_try_alike, mentioned_alike, many_alike, unwanted_alike}
 use Rattle.gm_laws.proofs.Alike.{waked_alike, hearers_alike, expired_alike, full_alike, joined_alike, next_alike}
 use Rattle.gm_laws.proofs.Alike.{handled_alike, enabled_alike, pick_alike, statuses_alike, workers_alike, free_alike}
-use Rattle.gm_laws.proofs.StepsKeep.{kind_read}
+use Rattle.gm_laws.proofs.Asking.{kind_read}
+use Rattle.gm_laws.proofs.StepsKeep.{}
 
 -- these notes and this flow were added to the past
 abbrev onto : List Note → List Flow → Past → Past

@@ -4,7 +4,6 @@ use Rattle.std.proofs.Common.{Option, Some, None, refl, sym, ap, subst, ◌∙�
 use Rattle.std.specs.Prelude.{◌==◌, unwrap_or, codes}
 use Rattle.std.specs.List.{list_any}
 use Rattle.std.specs.Str.{bytes_eq}
-use Rattle.std.proofs.lemmas.Bool.{and_parts}
 use Rattle.std.proofs.lemmas.Bool.Decides.{nat_tests}
 use Rattle.std.proofs.lemmas.Slice.Eq.{bytes_eq-Decides}
 use Rattle.gm_packet.specs.declared.kind.Kind.{Kind}
@@ -30,8 +29,9 @@ use Rattle.gm_notes.specs.Requests.{packet_of, first, submission, request}
 use Rattle.gm_notes.specs.Closings.{discard_one, discard_each, wake_for, return_or_lose, give_back_one, give_back_each, disconnect, rising, close}
 use Rattle.gm_notes.specs.Steps.{Step, Packet, Close, refusal, step, run}
 use Rattle.gm_laws.specs.History.{History}
-use Rattle.gm_laws.specs.Causes.{Caused, is_closing, is_submission, is_enabling, is_sleeping, is_request, is_one_of, asks}
+use Rattle.gm_laws.specs.Causes.{Caused, is_closing, is_submission, is_enabling, is_sleeping, is_request, is_one_of}
 use Rattle.gm_laws.specs.Between.{NoOneSleepsBesideWork}
+use Rattle.gm_laws.proofs.Asking.{asks_some, made_request, can_asks}
 use Rattle.gm_laws.proofs.NumberLaws.{slots}
 use Rattle.gm_laws.proofs.Keeping.{keeps_notes, kept_if}
 use Rattle.gm_laws.proofs.Listeners.{opens, still_open}
@@ -73,7 +73,7 @@ sleepers_open k (note ∷ older) h c e = sleepers_open k older h.1 c e
 
 -- ---- what each note does
 
-fewer : (test : Ability → Bool) (t : Bool) (xs : List Ability) → list_any test xs ≡ false → list_any test (cond t [] xs) ≡ false
+pub fewer : (test : Ability → Bool) (t : Bool) (xs : List Ability) → list_any test xs ≡ false → list_any test (cond t [] xs) ≡ false
 fewer test true xs e = refl
 fewer test false xs e = e
 
@@ -89,7 +89,7 @@ filtered : (test keep : Ability → Bool) (xs : List Ability) → list_any test 
 filtered test keep [] e = refl
 filtered test keep (x ∷ xs) e = let p = or_none (test x) (list_any test xs) e in left_at test x _ (keep x) p.0 (filtered test keep xs p.1)
 
-filtered_if : (test keep : Ability → Bool) (t : Bool) (xs : List Ability) → list_any test xs ≡ false → list_any test (cond t (filter keep xs) xs) ≡ false
+pub filtered_if : (test keep : Ability → Bool) (t : Bool) (xs : List Ability) → list_any test xs ≡ false → list_any test (cond t (filter keep xs) xs) ≡ false
 filtered_if test keep true xs e = filtered test keep xs e
 filtered_if test keep false xs e = e
 
@@ -131,7 +131,7 @@ put_at : (g f : List ℕ) (t : ℕ) (ability : Ability) (rest more : List Abilit
 put_at g f t ability rest more true other a r m = ap (λ x. x || list_any (is_of g) rest) other ∙ r
 put_at g f t ability rest more false other a r m = ap (λ x. x || list_any (is_of g) more) a ∙ m
 
-put_other : (g f : List ℕ) (t : ℕ) (xs : List Ability) → bytes_eq f g ≡ false → list_any (is_of g) xs ≡ false → list_any (is_of g) (put f t xs) ≡ false
+pub put_other : (g f : List ℕ) (t : ℕ) (xs : List Ability) → bytes_eq f g ≡ false → list_any (is_of g) xs ≡ false → list_any (is_of g) (put f t xs) ≡ false
 put_other g f t [] other e = ap (λ x. x || false) other
 put_other g f t (x ∷ xs) other e =
     let p = or_none (is_of g x) (list_any (is_of g) xs) e in
@@ -328,18 +328,14 @@ module _ (k : Settings) (c : ℕ) where
 
 -- ---- steps
 
-abbrev is_stirring : Kind → Bool
+abbrev pub is_stirring : Kind → Bool
 is_stirring kind = is_submission kind || is_enabling kind || is_sleeping kind
-
-asks_some : (kinds : Kind → Bool) (c : ℕ) (s : Step) → asks kinds c s ≡ true → is_request kinds s ≡ true
-asks_some kinds c (Packet d number bytes) e = (and_parts (c == d) (is_one_of kinds (kind_of number)) e).1
-asks_some kinds c other e = absurd cc
 
 -- a step that is no closing, submission, new ability or sleep adds quiet notes
 quiet_notes : (k : Settings) (before : List Note) (s : Step) (note : Note) (older : List Note) → is_closing s ≡ false → is_request is_submission s ≡ false → is_request is_enabling s ≡ false → is_request is_sleeping s ≡ false → Caused k before s note older → is_quiet note ≡ true
-quiet_notes k before s (notes.Made m f p u body) older a b c d cause = absurd (both_not (is_request is_submission s) cause b)
+quiet_notes k before s (notes.Made m f p u body) older a b c d cause = absurd (both_not (is_request is_submission s) (made_request k before s m f p u body older cause) b)
 quiet_notes k before s (notes.Returned m) older a b c d cause = absurd (both_not (is_closing s) (ap is_closing cause.1) a)
-quiet_notes k before s (notes.Can e f t) older a b c d cause = absurd (both_not (is_request is_enabling s) (asks_some is_enabling e s cause) c)
+quiet_notes k before s (notes.Can e f t) older a b c d cause = absurd (both_not (is_request is_enabling s) (asks_some is_enabling e s (can_asks k before s e f t older cause)) c)
 quiet_notes k before s (notes.Slept e) older a b c d cause = absurd (both_not (is_request is_sleeping s) (asks_some is_sleeping e s cause) d)
 quiet_notes k before s note older a b c d cause = refl
 

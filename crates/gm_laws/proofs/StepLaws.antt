@@ -18,37 +18,16 @@ use Rattle.gm_notes.specs.JobStates as states
 use Rattle.gm_notes.specs.Past.{Past, with_note}
 use Rattle.gm_notes.specs.Workers.{wake_itself, deadline_after, tell_assigned, give_out}
 use Rattle.gm_notes.specs.Notes.{moment, takes_units}
-use Rattle.gm_notes.specs.Steps.{Step, Open, Packet, Line, Fault, Close, Tick, Took, Withdrew, Drain, unless, unless_not_open, step, run}
+use Rattle.gm_notes.specs.Steps.{Step, unless, unless_not_open, step, run}
 use Rattle.gm_laws.specs.History.{Allowed, Gets, History}
-use Rattle.gm_laws.specs.Causes.{is_one_of, Caused, Ends, AllCaused, AllSaid, asks, is_request, is_grab, is_closing}
+use Rattle.gm_laws.specs.Causes.{is_one_of, Caused, Ends, AllCaused, AllSaid, asks, is_grab, is_closing}
 use Rattle.gm_laws.specs.Laws.{NotesAreCaused, DiscardsTheUnwanted, EndsWithItsWorker, GivesThePick, GrabsGetThePick, SaysNoJobWhereNoneIs}
+use Rattle.gm_laws.specs.Listeners.{AllMayGet, AnswersStayHome}
+use Rattle.gm_laws.proofs.Asking.{closing_asks}
 use Rattle.gm_laws.proofs.Finding.{same_number}
 use Rattle.gm_laws.proofs.Moving.{moved, from}
 use Rattle.gm_laws.proofs.Keeping.{keeps_notes}
 use Rattle.gm_laws.proofs.StepsKeep.{step_keeps}
-
--- a closing is no request
-closing_asks : (kinds : Kind → Bool) (s : Step) → is_closing s ≡ true → is_request kinds s ≡ true → ⊥
-closing_asks kinds (Close c) e h = let bad : ⊥ = cc in bad
-closing_asks kinds (Open addr) e h = let bad : ⊥ = cc in bad
-closing_asks kinds (Packet c number bytes) e h = let bad : ⊥ = cc in bad
-closing_asks kinds (Line c bytes) e h = let bad : ⊥ = cc in bad
-closing_asks kinds (Fault c fault) e h = let bad : ⊥ = cc in bad
-closing_asks kinds (Tick now) e h = let bad : ⊥ = cc in bad
-closing_asks kinds (Took c) e h = let bad : ⊥ = cc in bad
-closing_asks kinds (Withdrew c) e h = let bad : ⊥ = cc in bad
-closing_asks kinds (Drain c) e h = let bad : ⊥ = cc in bad
-
-closing_asks_at : (kinds : Kind → Bool) (c : ℕ) (s : Step) → is_closing s ≡ true → asks kinds c s ≡ true → ⊥
-closing_asks_at kinds c (Close d) e h = let bad : ⊥ = cc in bad
-closing_asks_at kinds c (Open addr) e h = let bad : ⊥ = cc in bad
-closing_asks_at kinds c (Packet d number bytes) e h = let bad : ⊥ = cc in bad
-closing_asks_at kinds c (Line d bytes) e h = let bad : ⊥ = cc in bad
-closing_asks_at kinds c (Fault d fault) e h = let bad : ⊥ = cc in bad
-closing_asks_at kinds c (Tick now) e h = let bad : ⊥ = cc in bad
-closing_asks_at kinds c (Took d) e h = let bad : ⊥ = cc in bad
-closing_asks_at kinds c (Withdrew d) e h = let bad : ⊥ = cc in bad
-closing_asks_at kinds c (Drain d) e h = let bad : ⊥ = cc in bad
 
 some : (n : ℕ) → not (suc n == 0) ≡ false → ⊥
 some n e = let more : (suc n == 0) ≡ false = grind (arith, nat_tests) in let bad : ⊥ = cc in bad
@@ -88,7 +67,7 @@ module _ (k : Settings) (s : Step) (start : Past) (history : History k start.not
 
   -- ---- grabs
 
-  abbrev GivenSo : ℕ → ℕ → Type 0
+  abbrev pub GivenSo : ℕ → ℕ → Type 0
   GivenSo n c = (job_state n start.notes ≡ states.Running c) ⊎ ((asks is_grab c s ≡ true) × Gets k c n start.notes)
 
   given_here : (n m c d : ℕ) → n ≡ m → states.Running d ≡ states.Running c → (asks is_grab d s ≡ true) × Gets k d m start.notes → GivenSo n c
@@ -96,7 +75,7 @@ module _ (k : Settings) (s : Step) (start : Past) (history : History k start.not
       let there : d ≡ c = cc in
       inr (subst (λ x. (asks is_grab x s ≡ true) × Gets k x n start.notes) there (subst (λ x. (asks is_grab d s ≡ true) × Gets k d x start.notes) (sym same) cause))
 
-  given_more : (note : Note) (older : List Note) → Caused k start.notes s note older → ((n c : ℕ) → job_state n older ≡ states.Running c → GivenSo n c) → (n c : ℕ) → job_state n (note ∷ older) ≡ states.Running c → GivenSo n c
+  pub given_more : (note : Note) (older : List Note) → Caused k start.notes s note older → ((n c : ℕ) → job_state n older ≡ states.Running c → GivenSo n c) → (n c : ℕ) → job_state n (note ∷ older) ≡ states.Running c → GivenSo n c
   given_more (notes.Made m f p u body) older cause before n c e = from (moved n m states.Waiting (job_state n older) (states.Running c) (n == m) refl e) (λ h. absurd (let x = h.1 in cc)) (λ h. before n c h.1)
   given_more (notes.Returned m) older cause before n c e = from (moved n m states.Waiting (job_state n older) (states.Running c) (n == m) refl e) (λ h. absurd (let x = h.1 in cc)) (λ h. before n c h.1)
   given_more (notes.Assigned m d late) older cause before n c e = from (moved n m (states.Running d) (job_state n older) (states.Running c) (n == m) refl e) (λ h. given_here n m c d h.0 h.1 cause) (λ h. before n c h.1)
@@ -124,9 +103,9 @@ module _ (k : Settings) (s : Step) (start : Past) (history : History k start.not
 
   thrown_more : (note : Note) (older : List Note) → Allowed k note older → Caused k start.notes s note older → ((n : ℕ) → job_state n older ≡ states.Discarded → ThrownSo n older) → (n : ℕ) → job_state n (note ∷ older) ≡ states.Discarded → ThrownSo n (note ∷ older)
   thrown_more (notes.Made m f p u body) older allowed cause before n e =
-      from (moved n m states.Waiting (job_state n older) states.Discarded (n == m) refl e) (λ h. absurd (let x = h.1 in cc)) (λ h. elsewhere n older (notes.Made m f p u body ∷ older) (λ c. closing_asks _ s c cause) (before n h.1))
-  thrown_more (notes.Kept m) older allowed cause before n e = elsewhere n older (notes.Kept m ∷ older) (λ c. closing_asks _ s c cause) (before n e)
-  thrown_more (notes.Listens m d) older allowed cause before n e = elsewhere n older (notes.Listens m d ∷ older) (λ c. closing_asks_at _ d s c cause) (before n e)
+      from (moved n m states.Waiting (job_state n older) states.Discarded (n == m) refl e) (λ h. absurd (let x = h.1 in cc)) (λ h. elsewhere n older (notes.Made m f p u body ∷ older) (λ c. closing_asks cause.0 s cause.1 c cause.2) (before n h.1))
+  thrown_more (notes.Kept m) older allowed cause before n e = elsewhere n older (notes.Kept m ∷ older) (λ c. closing_asks cause.0 s cause.1 c cause.2) (before n e)
+  thrown_more (notes.Listens m d) older allowed cause before n e = elsewhere n older (notes.Listens m d ∷ older) (λ c. closing_asks d s cause.0 c cause.1) (before n e)
   thrown_more (notes.Closed c) older allowed cause before n e = thrown_closed n c older (before n e)
   thrown_more (notes.Returned m) older allowed cause before n e = from (moved n m states.Waiting (job_state n older) states.Discarded (n == m) refl e) (λ h. absurd (let x = h.1 in cc)) (λ h. before n h.1)
   thrown_more (notes.Lost m) older allowed cause before n e = from (moved n m states.Lost (job_state n older) states.Discarded (n == m) refl e) (λ h. absurd (let x = h.1 in cc)) (λ h. before n h.1)
@@ -151,6 +130,18 @@ module _ (k : Settings) (s : Step) (start : Past) (history : History k start.not
         by_saying = λ c bytes past opened may h p. (Queued c bytes ∷ p.0, ap (λ l. Queued c bytes ∷ l) p.1, (may.0, p.2));
       })
       (λ c e h p. (Drained c ∷ p.0, ap (λ l. Drained c ∷ l) p.1, (tt, p.2)))
+      (history, ([], refl, tt))).1
+
+  pub stays_home : AnswersStayHome k start s (step k s start)
+  stays_home =
+      (step_keeps {I = λ past. (newer : List Flow) × (past.flow ≡ newer ++ start.flow) × AllMayGet k start.notes s newer} start s
+      (record {
+        by_note = λ note past inner allowed cause h p. p;
+        by_opening = λ c addr past allowed cause h p. (Began c ∷ p.0, ap (λ l. Began c ∷ l) p.1, p.2);
+        by_closing = λ c past opened cause h p. (Emptied c ∷ p.0, ap (λ l. Emptied c ∷ l) p.1, p.2);
+        by_saying = λ c bytes past opened may h p. (Queued c bytes ∷ p.0, ap (λ l. Queued c bytes ∷ l) p.1, (may.2, p.2));
+      })
+      (λ c e h p. (Drained c ∷ p.0, ap (λ l. Drained c ∷ l) p.1, p.2))
       (history, ([], refl, tt))).1
 
 -- ---- a grab gets its pick

@@ -1,9 +1,9 @@
 -- Who submits a job in the foreground listens to it, and is told of its end.
-use Rattle.std.proofs.Common.{◌≡◌, ◌⊎◌, inl, inr, ℕ, suc, ◌<◌, Bool, true, false, cond, not, ◌&&◌, List, [], ◌∷◌, ◌++◌, ◌||◌, length, filter, drop, get_or}
+use Rattle.std.proofs.Common.{◌≡◌, ◌⊎◌, inl, inr, ℕ, suc, ◌<◌, Bool, true, false, cond, not, List, [], ◌∷◌, ◌++◌, ◌||◌, length, filter, drop, get_or}
 use Rattle.std.proofs.Common.{Option, Some, None, refl, sym, ap, subst, ◌∙◌, arith}
 use Rattle.std.specs.Prelude.{◌==◌, codes, unwrap_or}
 use Rattle.std.specs.List.{list_all}
-use Rattle.std.proofs.lemmas.Bool.{and_parts}
+use Rattle.std.proofs.lemmas.Bool.{and_parts, or_left}
 use Rattle.std.proofs.lemmas.Bool.Decides.{nat_tests}
 use Rattle.std.proofs.lemmas.List.{append-nil, append_cancel_left}
 use Rattle.gm_packet.specs.declared.kind.Kind.{Kind}
@@ -11,32 +11,32 @@ use Rattle.gm_packet.specs.declared.kind.Kind.TheVariants.{SubmitJob, SubmitJobH
 use Rattle.gm_packet.specs.Kinds.{kind_of}
 use Rattle.gm_packet.specs.Packets.{packet}
 use Rattle.gm_packet.specs.Requests.{Asked, read_as}
-use Rattle.gm_packet.specs.Answers.{answer_packet, job_created, error}
-use Rattle.gm_notes.specs.declared.states.Priority.{Priority}
-use Rattle.gm_notes.specs.declared.states.Priority.TheVariants.{High, Normal, Low}
+use Rattle.gm_packet.specs.Answers.{Answer, answer_packet, job_created, error}
+use Rattle.gm_notes.specs.Flow.{Queued}
 use Rattle.gm_notes.specs.declared.note.Note.{Note}
 use Rattle.gm_notes.specs.declared.note.Note.TheVariants as notes
 use Rattle.gm_notes.specs.Settings.{Settings}
-use Rattle.gm_notes.specs.Notes.{is_open, phase, is_asleep, takes_units, slots_from}
-use Rattle.gm_notes.specs.Jobs.{job_state, listeners, handle, is_able, is_mentioned, is_kept, joined, next_number}
+use Rattle.gm_notes.specs.Notes.{takes_units}
+use Rattle.gm_notes.specs.Jobs.{job_state, listeners, handle, is_kept}
 use Rattle.gm_notes.specs.JobStates.{JobState, is_live}
 use Rattle.gm_notes.specs.JobStates as states
-use Rattle.gm_notes.specs.Past.{Past, with_note, give, refuse, with_mention, wake_one, wake_each}
+use Rattle.gm_notes.specs.Past.{Past, refuse}
 use Rattle.gm_notes.specs.Texts.{spaced}
-use Rattle.gm_notes.specs.Submissions.{Submission, is_bad_name, is_one_too_many, is_full, make, join_or_make, submit}
-use Rattle.gm_notes.specs.Requests.{packet_of, submission, request, request_if_read}
+use Rattle.gm_notes.specs.Requests.{packet_of, request, request_if_read}
 use Rattle.gm_notes.specs.Steps.{Step, Packet, Close, unless_not_open, run, step}
 use Rattle.gm_laws.specs.History.{Allowed, History}
-use Rattle.gm_laws.specs.Causes.{Caused, is_foreground, is_one_of, asks, closes}
+use Rattle.gm_laws.specs.Causes.{Caused, is_foreground, is_background, is_one_of, asks, closes, JustQueues}
 use Rattle.gm_laws.specs.Laws.{has_place}
 use Rattle.gm_laws.specs.Turns.{One}
 use Rattle.gm_laws.specs.Listeners.{outputs, Queues, listens, Tells, WhoStaysIsTold}
-use Rattle.gm_laws.proofs.Finding.{joined_lives, same_number}
-use Rattle.gm_laws.proofs.JobLaws.{is_same, unmade, live_place}
-use Rattle.gm_laws.proofs.Moving.{from, both_not, wake_each_notes}
+use Rattle.gm_laws.proofs.Finding.{same_number}
+use Rattle.gm_laws.proofs.JobLaws.{is_same, unmade, live_place, place_still}
+use Rattle.gm_laws.proofs.Moving.{from, both_not}
 use Rattle.gm_laws.proofs.Endings.{all_told}
 use Rattle.gm_laws.proofs.StepLaws.{note_law, discards}
-use Rattle.gm_laws.proofs.StepsKeep.{kind_read, taken_or_not, run_history}
+use Rattle.gm_laws.proofs.Asking.{kind_read}
+use Rattle.gm_laws.proofs.Created.{Answered, request_answered}
+use Rattle.gm_laws.proofs.StepsKeep.{taken_or_not, run_history}
 
 -- ---- what is said of a submission
 
@@ -55,24 +55,17 @@ created_error code text h e = eight (ap (λ (l : List ℕ). get_or l 7 0) e)
 one_head : {X : Type 0} (x y : X) → x ∷ [] ≡ y ∷ [] → x ≡ y
 one_head x y e = cc
 
--- ---- who listens
+-- ---- a submission
 
 -- job n is live, and slot c listens to it
 abbrev Listens : ℕ → ℕ → List Note → Type 0
 Listens c n l = (is_live (job_state n l) ≡ true) × (0 < listens c n l)
 
-counts_last : (c : ℕ) (slots : List ℕ) → 0 < length (filter (λ d. c == d) (slots ++ c ∷ []))
-counts_last c [] = rw (same_number c) (omega arith)
-counts_last c (d ∷ slots) = by (c == d) (counts_last c slots)
-  where
-    by : (t : Bool) → 0 < length (filter (λ e. c == e) (slots ++ c ∷ [])) → 0 < length (cond t (d ∷ filter (λ e. c == e) (slots ++ c ∷ [])) (filter (λ e. c == e) (slots ++ c ∷ [])))
-    by true rest = omega arith
-    by false rest = rest
-
-listens_at : (c n : ℕ) (older : List Note) → 0 < listens c n (notes.Listens n c ∷ older)
-listens_at c n older = rw (same_number n) (counts_last c (listeners n older))
-
--- ---- a submission
+foreground_apart : (kind : Kind) → is_foreground kind ≡ true → is_background kind ≡ true → ⊥
+foreground_apart SubmitJob e b = let bad : ⊥ = cc in bad
+foreground_apart SubmitJobHigh e b = let bad : ⊥ = cc in bad
+foreground_apart SubmitJobLow e b = let bad : ⊥ = cc in bad
+foreground_apart kind e b = let bad : ⊥ = cc in bad
 
 module _ (k : Settings) (c : ℕ) (start : Past) where
   -- where just JOB_CREATED was queued, the job that it names is live, and the slot listens to it
@@ -84,102 +77,47 @@ module _ (k : Settings) (c : ℕ) (start : Past) where
       let none : [] ≡ answer_packet (job_created text) ∷ [] = append_cancel_left (outputs c start.flow) [] (answer_packet (job_created text) ∷ []) (append-nil (outputs c start.flow) ∙ e) in
       absurd cc
 
-  given_at : (bytes : List ℕ) → cond (c == c) (outputs c start.flow ++ bytes ∷ []) (outputs c start.flow) ≡ outputs c start.flow ++ bytes ∷ []
-  given_at bytes = rw (same_number c) refl
-
   -- what was queued is what was given
-  one_given : (bytes : List ℕ) (text : List ℕ) → cond (c == c) (outputs c start.flow ++ bytes ∷ []) (outputs c start.flow) ≡ outputs c start.flow ++ answer_packet (job_created text) ∷ []
-      → bytes ≡ answer_packet (job_created text)
-  one_given bytes text e =
-      one_head bytes (answer_packet (job_created text)) (append_cancel_left (outputs c start.flow) (bytes ∷ []) (answer_packet (job_created text) ∷ []) (sym (given_at bytes) ∙ e))
+  one_given : (answer : Answer) (past : Past) (text : List ℕ) → JustQueues c answer start past → Queues c (answer_packet (job_created text) ∷ []) start past → answer_packet answer ≡ answer_packet (job_created text)
+  one_given answer past text just e =
+      let bytes = answer_packet answer in
+      let given : outputs c (Queued c bytes ∷ start.flow) ≡ outputs c start.flow ++ bytes ∷ [] = rw (same_number c) refl in
+      one_head bytes (answer_packet (job_created text)) (append_cancel_left (outputs c start.flow) (bytes ∷ []) (answer_packet (job_created text) ∷ []) (sym given ∙ (ap (outputs c) (sym just) ∙ e)))
 
-  refused_good : (code : List ℕ) → Good (refuse c code start)
-  refused_good code text e = absurd (created_error code (spaced code) text (one_given (answer_packet (error code (spaced code))) text e))
+  error_good : (code text : List ℕ) (past : Past) → JustQueues c (error code text) start past → Good past
+  error_good code text past just h e = absurd (created_error code text h (one_given (error code text) past h just e))
 
-  if_good : (t : Bool) (a b : Past) → (t ≡ true → Good a) → (t ≡ false → Good b) → Good (cond t a b)
-  if_good true a b p q = p refl
-  if_good false a b p q = q refl
-
-  -- JOB_CREATED was given, and then sleepers were woken
-  created_good : (n : ℕ) (l : List Note) → Listens c n l → (text : List ℕ)
-      → cond (c == c) (outputs c start.flow ++ answer_packet (job_created (handle k n)) ∷ []) (outputs c start.flow) ≡ outputs c start.flow ++ answer_packet (job_created text) ∷ []
-      → (m : ℕ) × (text ≡ handle k m) × Listens c m l
-  created_good n l good text e = (n, sym (created_handle (handle k n) text (one_given (answer_packet (job_created (handle k n))) text e)), good)
-
-  -- waking and mentioning queue nothing
-  wakes_flow : (f slots : List ℕ) (past : Past) → outputs c (wake_each f slots past).flow ≡ outputs c past.flow
-  wakes_flow f [] past = refl
-  wakes_flow f (d ∷ slots) past = wakes_flow f slots (wake_one f d past) ∙ by (is_open d past.notes && is_asleep (phase d past.notes) && is_able d f past.notes)
+  answered_good : (asked : Asked) (past : Past) → is_foreground asked.kind ≡ true → Answered k c asked start past → Good past
+  answered_good asked past e (inr r) = error_good r.0 r.1 past r.2
+  answered_good asked past e (inl r) = λ text given. (r.n, sym (created_handle (handle k r.n) text (one_given (job_created (handle k r.n)) past text r.queued given)), (r.lives, from r.keeps (λ b. absurd (foreground_apart asked.kind e b.0)) (λ h. some h.2)))
     where
-      by : (t : Bool) → outputs c (cond t (with_note (notes.Woken d) past) past).flow ≡ outputs c past.flow
-      by true = refl
-      by false = refl
+      some : listens c r.n past.notes ≡ suc (listens c r.n start.notes) → 0 < listens c r.n past.notes
+      some more = omega (arith, more)
 
-  mention_flow : (f : List ℕ) → (with_mention f start).flow ≡ start.flow
-  mention_flow f = by (is_mentioned f start.notes)
-    where
-      by : (t : Bool) → (cond t start (with_note (notes.Mention f) start)).flow ≡ start.flow
-      by true = refl
-      by false = refl
-
-  module _ (p : Priority) (a : List (List ℕ)) where
-    abbrev sub : Submission
-    sub = submission p false a
-
-    made_good : (o : Option ℕ) → Good (make k c sub o start)
-    made_good None text e = refused_good (codes "no_numbers") text e
-    made_good (Some n) text e =
-        let f = sub.function in
-        let two = with_note (notes.Made n f p sub.unique sub.body) (with_mention f start) in
-        let three = give c (job_created (handle k n)) (with_note (notes.Listens n c) two) in
-        let lives : is_live (job_state n three.notes) ≡ true = rw (same_number n) refl in
-        let good = wake_each_notes (λ l. Listens c n l) (λ d older x. x) f (slots_from 0 k.slots) three (lives, listens_at c n two.notes) in
-        created_good n (make k c sub (Some n) start).notes good text
-        (ap (λ flow. cond (c == c) (outputs c flow ++ answer_packet (job_created (handle k n)) ∷ []) (outputs c flow)) (sym (mention_flow f))
-        ∙ (sym (wakes_flow f (slots_from 0 k.slots) three) ∙ e))
-
-    joins_good : (o : Option ℕ) → joined sub.function sub.unique start.notes ≡ o → Good (join_or_make k c sub o start)
-    joins_good (Some n) is text e =
-        created_good n (notes.Listens n c ∷ start.notes) (joined_lives sub.function sub.unique start.notes n is, listens_at c n start.notes) text e
-    joins_good None is text e =
-        if_good (is_one_too_many k sub.function start.notes) (refuse c (codes "too_many_functions") start) _ (λ x. refused_good (codes "too_many_functions"))
-        (λ x. if_good (is_full sub.function start.notes) (refuse c (codes "queue_full") start) _ (λ y. refused_good (codes "queue_full")) (λ y. made_good (next_number k start.notes))) text e
-
-    submit_good : Good (submit k c sub start)
-    submit_good =
-        if_good (is_bad_name sub.function) (refuse c (codes "bad_function") start) _ (λ x. refused_good (codes "bad_function")) (λ x. joins_good (joined sub.function sub.unique start.notes) refl)
-
-  request_good : (kind : Kind) (a : List (List ℕ)) (timeout : ℕ) → is_foreground kind ≡ true → Good (request k c kind a timeout start)
-  request_good SubmitJob a timeout e = submit_good Normal a
-  request_good SubmitJobHigh a timeout e = submit_good High a
-  request_good SubmitJobLow a timeout e = submit_good Low a
-  request_good kind a timeout e = absurd cc
-
-  packet_good : (bytes : List ℕ) (o : Option Kind) → is_one_of is_foreground o ≡ true → Good (packet_of k c o bytes start)
-  packet_good bytes None e = absurd cc
-  packet_good bytes (Some kind) e = by (read_as kind bytes) refl
+  packet_good : History k start.notes → (bytes : List ℕ) (o : Option Kind) → is_one_of is_foreground o ≡ true → Good (packet_of k c o bytes start)
+  packet_good history bytes None e = absurd cc
+  packet_good history bytes (Some kind) e = by (read_as kind bytes) refl
     where
       by : (o : Option Asked) → read_as kind bytes ≡ o → Good (request_if_read k c o start)
-      by None is = refused_good (codes "bad_arguments")
-      by (Some asked) is = request_good asked.kind asked.arguments asked.timeout (ap is_foreground (kind_read kind bytes asked is) ∙ e)
+      by None is = error_good (codes "bad_arguments") (spaced (codes "bad_arguments")) (refuse c (codes "bad_arguments") start) refl
+      by (Some asked) is =
+          let heard = ap is_foreground (kind_read kind bytes asked is) ∙ e in
+          answered_good asked (request k c asked.kind asked.arguments asked.timeout start) heard
+          (request_answered k c start history asked.kind asked.arguments asked.timeout (or_left (is_foreground asked.kind) (is_background asked.kind) heard))
 
-step_good : (k : Settings) (c : ℕ) (start : Past) (s : Step) → asks is_foreground c s ≡ true → Good k c start (step k s start)
-step_good k c start (Packet d number bytes) e =
+step_good : (k : Settings) (c : ℕ) (start : Past) → History k start.notes → (s : Step) → asks is_foreground c s ≡ true → Good k c start (step k s start)
+step_good k c start history (Packet d number bytes) e =
     let parts = and_parts (c == d) (is_one_of is_foreground (kind_of number)) e in
     taken_or_not (Good k c start) (unless_not_open (takes_units d start.notes)) (packet_of k d (kind_of number) bytes start) start
-    (λ taken. subst (λ x. Good k c start (packet_of k x (kind_of number) bytes start)) (is_same c d parts.0) (packet_good k c start bytes (kind_of number) parts.1))
+    (λ taken. subst (λ x. Good k c start (packet_of k x (kind_of number) bytes start)) (is_same c d parts.0) (packet_good k c start history bytes (kind_of number) parts.1))
     (nothing_good k c start)
-step_good k c start s e = absurd cc
+step_good k c start history s e = absurd cc
 
 -- ---- while the slot stays
 
 -- job n has a place, and slot c listens to it
 abbrev Hears : ℕ → ℕ → List Note → Type 0
 Hears c n l = (has_place (job_state n l) ≡ true) × (0 < listens c n l)
-
-place_still : (t : Bool) (new old : JobState) → has_place new ≡ true → has_place old ≡ true → has_place (unwrap_or (cond t (Some new) None) old) ≡ true
-place_still true new old p q = p
-place_still false new old p q = q
 
 module _ (c n : ℕ) where
   abbrev counted : List ℕ → ℕ
@@ -275,5 +213,5 @@ module _ (k : Settings) (c n : ℕ) where
 
 pub who_stays : WhoStaysIsTold
 who_stays k c text earlier later s asked given stays =
-    let good = step_good k c (run k earlier) s asked text given in
+    let good = step_good k c (run k earlier) (run_history k earlier) s asked text given in
     (good.0, good.1, from (follows k c good.0 later (s ∷ earlier) stays good.2) (λ h. inl h.0) inr)

@@ -29,7 +29,8 @@ use Rattle.gm_notes.proofs.Scans.{scan_members}
 use Rattle.gm_laws.specs.History.{Gets}
 use Rattle.gm_laws.specs.Causes.{Caused, is_one_of, asks, is_grab, is_enabling}
 use Rattle.gm_laws.specs.Turns.{Gives, FindsWaiting, LeavesAbilities, Each, One, TurnsAreFair}
-use Rattle.gm_laws.proofs.Finding.{WaitsFor, waiting_for_waits, pick_found, same_number}
+use Rattle.gm_laws.proofs.Asking.{can_asks}
+use Rattle.gm_laws.proofs.Finding.{WaitsFor, waiting_for_waits, pick_found, waiting_is, same_number}
 use Rattle.gm_laws.proofs.Keeping.{keeps_notes, kept_if}
 use Rattle.gm_laws.proofs.JobLaws.{is_same}
 use Rattle.gm_laws.proofs.Moving.{from}
@@ -87,14 +88,6 @@ picks g (ability ∷ all) l found e of_g =
     picks_at g ability all (waiting_for ability.function l) l found refl (waiting_for_waits ability.function l) (λ later. picks g all l found later of_g) e of_g
 
 -- ---- what a step gives
-
-waiting_is : (state : JobState) → is_waiting state ≡ true → state ≡ states.Waiting
-waiting_is states.Waiting e = refl
-waiting_is states.Unmade e = absurd cc
-waiting_is (states.Running d) e = absurd cc
-waiting_is states.Lost e = absurd cc
-waiting_is states.Ended e = absurd cc
-waiting_is states.Discarded e = absurd cc
 
 module _ (k : Settings) (c : ℕ) (start : Past) where
   -- nothing was given out
@@ -209,7 +202,7 @@ module _ (c : ℕ) (s : Step) (before : List Note) where
   passed_more k other (notes.Assigned n d late) older cause p = passed_assigned n d late older (c == d) refl other cause.0 p
   passed_more k other (notes.Closed d) older cause p = passed_less (notes.Closed d) older refl (none_or (c == d) (abilities c older)) p
   passed_more k other (notes.Reset d) older cause p = passed_less (notes.Reset d) older refl (none_or (c == d) (abilities c older)) p
-  passed_more k other (notes.Can d f t) older cause p = passed_can d f t older cause p
+  passed_more k other (notes.Can d f t) older cause p = passed_can d f t older (can_asks k before s d f t older cause) p
   passed_more k other (notes.Cant d f) older cause p = passed_less (notes.Cant d f) older refl (λ e. rw e (none_or (c == d) [] refl)) p
   passed_more k other note older cause p = p
 

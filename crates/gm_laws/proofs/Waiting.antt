@@ -89,7 +89,7 @@ priority_same High = refl
 priority_same Normal = refl
 priority_same Low = refl
 
-is_queued_here : (n : ℕ) (l : List Note) (what : Job) → job_state n l ≡ states.Waiting → job n l ≡ Some what → is_queued what.function what.priority l n ≡ true
+pub is_queued_here : (n : ℕ) (l : List Note) (what : Job) → job_state n l ≡ states.Waiting → job n l ≡ Some what → is_queued what.function what.priority l n ≡ true
 is_queued_here n l what waits is =
     and_from (is_waiting (job_state n l)) (is_job_with what.function what.priority (job n l)) (ap is_waiting waits)
     (ap (is_job_with what.function what.priority) is

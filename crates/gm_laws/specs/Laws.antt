@@ -1,5 +1,5 @@
 -- What holds after any steps, under any settings.
-use Rattle.std.specs.Prelude.{◌≡◌, ℕ, ◌+◌, ◌<◌, ◌^◌, ◌&&◌, ◌==◌, ◌⊎◌, Bool, true, false, not, if◌then◌else◌, List, [], ◌∷◌}
+use Rattle.std.specs.Prelude.{◌≡◌, ℕ, ◌+◌, ◌<◌, ◌≤◌, ◌^◌, ◌&&◌, ◌==◌, ◌⊎◌, Bool, true, false, not, if◌then◌else◌, List, [], ◌∷◌}
 use Rattle.std.specs.Prelude.{◌++◌, length, Some, None}
 use Rattle.std.specs.List.{list_any, list_all}
 use Rattle.gm_packet.specs.Kinds.{kind_of}
@@ -7,15 +7,18 @@ use Rattle.gm_notes.specs.declared.note.Note.{Note}
 use Rattle.gm_notes.specs.Settings.{Settings}
 use Rattle.gm_notes.specs.Notes.{is_open, takes_units, mode}
 use Rattle.gm_notes.specs.Flow.{Flow, Began, Queued, Drained, Emptied, sent, waiting}
-use Rattle.gm_notes.specs.Jobs.{pick, job_state, is_wanted, job, is_job_named, joins, made}
+use Rattle.gm_notes.specs.Jobs.{pick, job_state, is_wanted, job, is_job_named, joins, made, deadline}
+use Rattle.gm_notes.specs.declared.event.UnitFault.{UnitFault}
+use Rattle.gm_notes.specs.declared.states.Mode.TheVariants.{Running, Graceful, Stopped}
+use Rattle.gm_admin.specs.Commands.{Shutdown}
 use Rattle.gm_notes.specs.declared.states.Pick.{Pick}
 use Rattle.gm_notes.specs.JobStates.{JobState, is_live, place_of}
 use Rattle.gm_notes.specs.JobStates as states
-use Rattle.gm_notes.specs.Steps.{Step, Packet, Close, Took, Withdrew, Drain, refusal, done, step, run}
+use Rattle.gm_notes.specs.Steps.{Step, Open, Packet, Line, Fault, Close, Took, Withdrew, Drain, refusal, done, step, run}
 use Rattle.gm_notes.specs.Past.{Past}
 use Rattle.gm_notes.specs.Servers.{owes, is_closing as has_shut}
-use Rattle.gm_laws.specs.History.{Gets}
-use Rattle.gm_laws.specs.Causes.{Ends, AllCaused, AllSaid, asks, is_grab, is_sleeping, is_one_of, is_closing}
+use Rattle.gm_laws.specs.History.{Gets, stage}
+use Rattle.gm_laws.specs.Causes.{Ends, Commands, AllCaused, AllSaid, asks, is_grab, is_sleeping, is_one_of, is_closing, closes}
 
 -- P holds of the notes after any steps
 abbrev pub AfterAnySteps : (Settings → List Note → Type 0) → Type 0
@@ -110,6 +113,12 @@ DiscardsTheUnwanted k before s after = (n : ℕ) → job_state n after.notes ≡
 abbrev pub EndsWithItsWorker : Settings → Past → Step → Past → Type 0
 EndsWithItsWorker k before s after = (n : ℕ) → job_state n after.notes ≡ states.Ended → (job_state n before.notes ≡ states.Ended) ⊎ Ends k before.notes s n
 
+-- the converse: what would end a job ends it, unless the step is refused; and while a job runs at a slot, its deadline stays as it is
+abbrev pub WorkersAndClocksEndJobs : Settings → Past → Step → Past → Type 0
+WorkersAndClocksEndJobs k before s after =
+    ((n : ℕ) → refusal k s before ≡ None → Ends k before.notes s n → job_state n after.notes ≡ states.Ended)
+    × ((n c : ℕ) → job_state n before.notes ≡ states.Running c → job_state n after.notes ≡ states.Running c → deadline n after.notes ≡ deadline n before.notes)
+
 -- a job comes to run at a slot only where the slot grabs, and the job is its pick
 abbrev pub GivesThePick : Settings → Past → Step → Past → Type 0
 GivesThePick k before s after = (n c : ℕ) → job_state n after.notes ≡ states.Running c →
@@ -133,6 +142,32 @@ takes_from c other = false
 
 abbrev pub OnlyDrainsTake : Settings → Past → Step → Past → Type 0
 OnlyDrainsTake k before s after = (c : ℕ) → takes_from c s ≡ false → IsFront (waiting c before.flow) (waiting c after.flow)
+
+-- ---- how the server goes on
+
+-- a mode never goes back; `shutdown graceful` of a slot that takes units makes it Graceful at least, and `shutdown` makes it Stopped
+abbrev pub ModesComeInOrder : Past → Step → Past → Type 0
+ModesComeInOrder before s after =
+    (stage (mode before.notes) ≤ stage (mode after.notes))
+    × ((c : ℕ) (line : List ℕ) (graceful : Bool) → s ≡ Line c line → Commands s (Shutdown graceful) → takes_units c before.notes ≡ true →
+    (if graceful then stage Graceful else stage Stopped) ≤ stage (mode after.notes))
+
+-- only a running server opens connections, and it opens one if a slot is free
+abbrev pub OpensWhileItRuns : Settings → Past → Step → Past → Type 0
+OpensWhileItRuns k before s after =
+    ((c : ℕ) → is_open c before.notes ≡ false → is_open c after.notes ≡ true → mode before.notes ≡ Running)
+    × ((c : ℕ) (addr : List ℕ) → s ≡ Open addr → mode before.notes ≡ Running → c < k.slots → is_open c before.notes ≡ false →
+    (d : ℕ) × (is_open d before.notes ≡ false) × (is_open d after.notes ≡ true))
+
+-- a shut slot stays shut until it closes; a fault shuts its slot, and once the server is stopped each open slot is shut
+abbrev pub ShutStaysShut : Past → Step → Past → Type 0
+ShutStaysShut before s after =
+    ((c : ℕ) → has_shut c before ≡ true → closes c s ≡ false → has_shut c after ≡ true)
+    × ((c : ℕ) (fault : UnitFault) → s ≡ Fault c fault → is_open c before.notes ≡ true → has_shut c after ≡ true)
+    × (mode after.notes ≡ Stopped → (c : ℕ) → is_open c after.notes ≡ true → has_shut c after ≡ true)
+
+abbrev pub ModesNeverGoBack : Settings → Past → Step → Past → Type 0
+ModesNeverGoBack k before s after = ModesComeInOrder before s after × OpensWhileItRuns k before s after × ShutStaysShut before s after
 
 -- ---- when a NOOP is taken
 

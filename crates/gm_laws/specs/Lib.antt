@@ -1,12 +1,17 @@
+pub mod Abilities
 pub mod Between
 pub mod Causes
 pub mod ConnectionRows
 pub mod History
 pub mod JobRows
 pub mod Laws
+pub mod Limits
 pub mod LineRows
 pub mod Listeners
 pub mod Retries
 pub mod RowWords
+pub mod Statuses
+pub mod Submitted
 pub mod Turns
+pub mod Waiting
 pub mod WorkerRows

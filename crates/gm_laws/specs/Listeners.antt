@@ -17,8 +17,8 @@ use Rattle.gm_notes.specs.JobStates.{is_running, is_live}
 use Rattle.gm_notes.specs.JobStates as states
 use Rattle.gm_notes.specs.Past.{Past}
 use Rattle.gm_notes.specs.Requests.{first, second, third}
-use Rattle.gm_notes.specs.Steps.{Step, Packet, Tick, run}
-use Rattle.gm_laws.specs.Causes.{asks, is_foreground, is_ending, closes, IsOfEnd}
+use Rattle.gm_notes.specs.Steps.{Step, Packet, Line, Fault, Tick, run}
+use Rattle.gm_laws.specs.Causes.{asks, is_foreground, is_ending, closes, Asks, Ends, IsOfEnd}
 use Rattle.gm_laws.specs.Laws.{is_made}
 use Rattle.gm_laws.specs.Turns.{One}
 
@@ -72,6 +72,33 @@ WhatWorkersSayIsPassedOn = (k : Settings) (steps : List Step) (worker n number :
     takes_units worker before.notes ≡ true → job_state n before.notes ≡ states.Running worker →
     request_of number bytes ≡ Ok asked → first asked.arguments ≡ handle k n → passed_on k n asked.kind asked.arguments ≡ Some answer →
     (c : ℕ) → Queues c (replicate (hears c n asked.kind before.notes) (answer_packet answer)) before (run k (Packet worker number bytes ∷ steps))
+
+-- ---- which slots may get what
+
+-- slot c, where job n runs, asks that these bytes be passed on, and slot d listens to the job
+abbrev pub PassesOn : Settings → List Note → ℕ → Step → ℕ → List ℕ → Type 0
+PassesOn k before c s d bytes =
+    (n : ℕ) × (asked : Asked) × (answer : Answer) × Asks c s asked × (job_state n before ≡ states.Running c) × (first asked.arguments ≡ handle k n)
+    × (passed_on k n asked.kind asked.arguments ≡ Some answer) × (bytes ≡ answer_packet answer) × (0 < listens d n before)
+
+-- The step after these notes may queue the bytes to slot d. What a slot asks is answered only to it. Another slot gets reports of the
+-- worker of a job to which it listens, and WORK_FAIL in the tick that ends such a job. Other steps queue nothing.
+abbrev pub MayGet : Settings → List Note → Step → ℕ → List ℕ → Type 0
+MayGet k before (Packet c number asking) d bytes = (c ≡ d) ⊎ PassesOn k before c (Packet c number asking) d bytes
+MayGet k before (Line c line) d bytes = c ≡ d
+MayGet k before (Fault c fault) d bytes = c ≡ d
+MayGet k before (Tick now) d bytes = (n : ℕ) × Ends k before (Tick now) n × (bytes ≡ answer_packet (work_fail (handle k n))) × (0 < listens d n before)
+MayGet k before other d bytes = ⊥
+
+abbrev pub AllMayGet : Settings → List Note → Step → List Flow → Type 0
+AllMayGet k before s [] = Unit {0}
+AllMayGet k before s (Queued d bytes ∷ newer) = MayGet k before s d bytes × AllMayGet k before s newer
+AllMayGet k before s (one ∷ newer) = AllMayGet k before s newer
+
+abbrev pub AnswersStayHome : Settings → Past → Step → Past → Type 0
+AnswersStayHome k before s after = (newer : List Flow) × (after.flow ≡ newer ++ before.flow) × AllMayGet k before.notes s newer
+
+-- ---- ends
 
 -- what a step says of the end of job n: what its worker says, or WORK_FAIL in a tick
 abbrev pub TellsEnd : Settings → ℕ → Step → Answer → Type 0

@@ -2,13 +2,18 @@
 //! contract is the law.
 
 ghost use Rattle.gm_notes.specs.Jobs.{made};
+ghost use Rattle.gm_laws.specs.Abilities.{AbilitiesAreAsAsked};
 ghost use Rattle.gm_laws.specs.History.{History};
 ghost use Rattle.gm_laws.specs.Laws.{AfterAnySteps, AreNumbers, AreSlots, HavePlaces, AreOne, StayGone, AllIsSent, BytesArrive};
-ghost use Rattle.gm_laws.specs.Laws.{InEachStep, NotesAreCaused, DiscardsTheUnwanted, EndsWithItsWorker, GivesThePick};
-ghost use Rattle.gm_laws.specs.Laws.{GrabsGetThePick, SaysNoJobWhereNoneIs, OnlyDrainsTake, MayBeTakenLater};
+ghost use Rattle.gm_laws.specs.Laws.{InEachStep, NotesAreCaused, DiscardsTheUnwanted, EndsWithItsWorker, WorkersAndClocksEndJobs, GivesThePick};
+ghost use Rattle.gm_laws.specs.Laws.{GrabsGetThePick, SaysNoJobWhereNoneIs, OnlyDrainsTake, ModesNeverGoBack, MayBeTakenLater};
 ghost use Rattle.gm_laws.specs.Listeners.{OutputsAreSent, WhatWorkersSayIsPassedOn, EachListenerIsTold, OnlyEndsAreTold};
-ghost use Rattle.gm_laws.specs.Listeners.{NobodyIsToldTwice, WhoStaysIsTold};
+ghost use Rattle.gm_laws.specs.Listeners.{NobodyIsToldTwice, WhoStaysIsTold, AnswersStayHome};
+ghost use Rattle.gm_laws.specs.Limits.{LimitsHold};
+ghost use Rattle.gm_laws.specs.Statuses.{StatusIsTrue};
+ghost use Rattle.gm_laws.specs.Submitted.{SubmissionsAreAnswered, WhatIsSubmittedIsWorkedOn};
 ghost use Rattle.gm_laws.specs.Turns.{TurnsAreFair};
+ghost use Rattle.gm_laws.specs.Waiting.{FirstComeFirstServed, WakesHaveWork, NoJobMeansNoWork};
 ghost use Rattle.gm_laws.specs.Retries.{NoJobIsHandedOutMoreOften, NoJobIsLostTwice, NoneIsLostWithoutALimit};
 ghost use Rattle.gm_laws.specs.Retries.{OnlyTheLastTryLoses, LostJobsEndWithTheNextTick};
 ghost use Rattle.gm_laws.specs.Between.{ListenersAreOpen, RunnersAreOpen, NoWaitingJobIsOrphaned, NoOneSleepsBesideWork, SleepersAreOpen};
@@ -16,7 +21,8 @@ ghost use Rattle.gm_laws.specs.Between.{ListenersAreOpen, RunnersAreOpen, NoWait
 /// Every note of the past was allowed when it was added: only a waiting job was given out, and only to whose
 /// grab gets it; only a job with a worker waited again or was lost, and only one that somebody wants, lost just
 /// where the worker was its last one; none was discarded that somebody wants, and none that was lost; a job got the
-/// next number, and joined nothing.
+/// next number, joined nothing, and its function was below its limit; a NOOP became owed only where a job waited that the
+/// slot could do; no mode came after a later one.
 pub fn each_note_was_allowed()
     ensures { AfterAnySteps History }
 {}
@@ -72,9 +78,22 @@ pub fn only_drains_take()
     ensures { InEachStep OnlyDrainsTake }
 {}
 
-/// Each note that a step adds has its cause: `Causes` has a line for each.
+/// Each note that a step adds has its cause, down to what the packet or the text line says: `Causes` has a line for each.
 pub fn notes_are_caused()
     ensures { InEachStep NotesAreCaused }
+{}
+
+/// Each job is what one of the steps submitted: its function, priority, unique id and body are those of the packet, whose slot was
+/// answered with the job's handle. In the step that gives a slot the job, the slot is told just this, and nobody is told anything else.
+pub fn what_is_submitted_is_worked_on()
+    ensures { WhatIsSubmittedIsWorkedOn }
+{}
+
+/// Each submission of a slot that takes units gets one answer, and nobody else gets any. It is JOB_CREATED of a job that waits or runs:
+/// one that the submission joins, or a new one, just as submitted, if there is none to join. It is kept, or the slot listens to it once
+/// more. Or the answer is an ERROR that says why, and nothing happened.
+pub fn submissions_are_answered()
+    ensures { InEachStep SubmissionsAreAnswered }
 {}
 
 /// A job is discarded only in a closing, and only one that isn't kept and that nobody listens to.
@@ -86,6 +105,12 @@ pub fn discards_the_unwanted()
 /// reaches its deadline. Any tick reaches that of a lost job.
 pub fn ends_with_its_worker()
     ensures { InEachStep EndsWithItsWorker }
+{}
+
+/// WORK_COMPLETE and WORK_FAIL with a job's handle, of the slot where it runs, end the job, unless the slot is shut; so does a tick that
+/// reaches its deadline. While a job runs at a slot, its deadline stays as it is.
+pub fn workers_and_clocks_end_jobs()
+    ensures { InEachStep WorkersAndClocksEndJobs }
 {}
 
 /// In the step that ends a job, each slot gets its end exactly as often as it listened to the job before that step: the
@@ -118,14 +143,39 @@ pub fn what_workers_say_is_passed_on()
     ensures { WhatWorkersSayIsPassedOn }
 {}
 
+/// What a slot asks is answered to it alone. Others get only what the worker of a job reports of it, if they listen to the job, and
+/// WORK_FAIL in the tick that ends a job to which they listen. Openings, closings, takings, withdrawals and drains queue nothing.
+pub fn answers_stay_home()
+    ensures { InEachStep AnswersStayHome }
+{}
+
 /// A job comes to run at a slot only where the slot grabs, and the job is its pick.
 pub fn gives_the_pick()
     ensures { InEachStep GivesThePick }
 {}
 
+/// The job that a slot is given goes before each other of its function that waits: its priority is higher, or the same and it came to
+/// wait earlier. While a job waits, no other gets in before it.
+pub fn first_come_first_served()
+    ensures { InEachStep FirstComeFirstServed }
+{}
+
 /// A grab of a slot that takes units gets its pick: the job runs there.
 pub fn grabs_get_the_pick()
     ensures { GrabsGetThePick }
+{}
+
+/// After CAN_DO or CAN_DO_TIMEOUT a slot can do the function, within these seconds, and after CANT_DO or RESET_ABILITIES it can't, unless it
+/// is shut, or is answered with an ERROR and nothing happened. An ability comes only so, and stays until one of these requests changes
+/// it or the slot closes.
+pub fn abilities_are_as_asked()
+    ensures { InEachStep AbilitiesAreAsAsked }
+{}
+
+/// A grab of a slot that takes units is answered with NO_JOB exactly where no job waits that the slot can do. Otherwise such a job comes to
+/// run there, and fails after the seconds that the slot's ability for its function has, if it has some.
+pub fn no_job_means_no_work()
+    ensures { NoJobMeansNoWork }
 {}
 
 /// With round-robin on, the functions of a worker take turns: between two grabs that give it jobs of one function it
@@ -167,6 +217,12 @@ pub fn says_no_job_where_none_is()
     ensures { InEachStep SaysNoJobWhereNoneIs }
 {}
 
+/// GET_STATUS of a slot that takes units is answered with whether the job that the handle names waits or runs, whether it runs, and the
+/// numbers of the last WORK_STATUS with its handle of the slot where it ran; or with zeros, where the handle names none.
+pub fn status_is_true()
+    ensures { StatusIsTrue }
+{}
+
 /// A slot that listens to a job is open.
 pub fn listeners_are_open()
     ensures { AfterAnySteps ListenersAreOpen }
@@ -185,6 +241,25 @@ pub fn no_waiting_job_is_orphaned()
 /// A worker that sleeps can do none of the jobs that wait.
 pub fn no_one_sleeps_beside_work()
     ensures { AfterAnySteps NoOneSleepsBesideWork }
+{}
+
+/// The server is running, then perhaps graceful, then perhaps stopped, as `shutdown` lines say, and never goes back. Only a running one opens
+/// connections, and it does if a slot is free. A fault shuts its slot, a shut slot stays shut until it closes, and once the server is
+/// stopped each open slot is shut.
+pub fn modes_never_go_back()
+    ensures { InEachStep ModesNeverGoBack }
+{}
+
+/// A step that leaves a function with more jobs that wait or run leaves it with no more than its limit, if it has one. Only `maxqueue` with
+/// the function's name changes that, to what it says, or it is answered with an `ERR` line. There are never more functions than the
+/// settings say, and each job and each ability is for one of them.
+pub fn limits_hold()
+    ensures { InEachStep LimitsHold }
+{}
+
+/// A NOOP becomes owed to a slot only in a step after which a job waits that the slot can do.
+pub fn wakes_have_work()
+    ensures { InEachStep WakesHaveWork }
 {}
 
 /// A NOOP that can be taken can as well be taken later, after steps that are no PRE_SLEEP and no closing of its slot,

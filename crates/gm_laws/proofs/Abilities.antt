@@ -1,0 +1,306 @@
+-- What slots can do is what they asked for.
+use Rattle.std.proofs.Common.{◌≡◌, ◌⊎◌, inl, inr, ℕ, Bool, true, false, cond, not, ◌&&◌, ◌||◌, List, [], ◌∷◌, filter, Some, None, refl, sym, ap, subst, ◌∙◌}
+use Rattle.std.specs.Prelude.{◌==◌, codes, unwrap_or}
+use Rattle.std.specs.List.{list_any}
+use Rattle.std.specs.Str.{bytes_eq}
+use Rattle.std.proofs.lemmas.Bool.{and_parts, and_from, or_left, or_right}
+use Rattle.std.proofs.lemmas.Option.{same_Some}
+use Rattle.std.proofs.lemmas.Slice.Eq.{bytes_eq-Decides}
+use Rattle.gm_packet.specs.declared.kind.Kind.{Kind}
+use Rattle.gm_packet.specs.declared.kind.Kind.TheVariants.{CanDo, CantDo, CanDoTimeout, ResetAbilities}
+use Rattle.gm_packet.specs.Kinds.{kind_of}
+use Rattle.gm_packet.specs.Requests.{Asked, request_of}
+use Rattle.gm_notes.specs.declared.note.Note.{Note}
+use Rattle.gm_notes.specs.declared.note.Note.TheVariants as notes
+use Rattle.gm_notes.specs.Settings.{Settings}
+use Rattle.gm_notes.specs.Notes.{is_open, takes_units, phase, is_asleep}
+use Rattle.gm_notes.specs.Jobs.{Ability, abilities, is_able, is_of, put, is_empty, waiting_for}
+use Rattle.gm_notes.specs.Past.{Past, with_note, with_mention, refuse}
+use Rattle.gm_notes.specs.Texts.{spaced}
+use Rattle.gm_notes.specs.Submissions.{is_bad_name, is_one_too_many}
+use Rattle.gm_notes.specs.Workers.{wake_if, can_do, cant_do}
+use Rattle.gm_notes.specs.Requests.{first, request, packet_of}
+use Rattle.gm_notes.specs.Steps.{Step, Packet, step, run}
+use Rattle.gm_laws.specs.History.{Allowed, History}
+use Rattle.gm_laws.specs.Causes.{Caused, Asks, seconds_of, closes}
+use Rattle.gm_laws.specs.Waiting.{is_able_within}
+use Rattle.gm_laws.specs.Abilities.{Enables, Disables, IsError, AbilitiesCome, AbilitiesAreAsAsked}
+use Rattle.gm_laws.proofs.Asking.{packet_does}
+use Rattle.gm_laws.proofs.Finding.{same_number}
+use Rattle.gm_laws.proofs.JobLaws.{is_same}
+use Rattle.gm_laws.proofs.Moving.{both_not}
+use Rattle.gm_laws.proofs.StepsKeep.{run_history}
+use Rattle.gm_laws.proofs.StepLaws.{note_law, taken_is}
+
+-- ---- abilities in lists
+
+module _ (p : Ability → Bool) where
+  -- one that is put in, or was there
+  put_before : (f : List ℕ) (t : ℕ) (all : List Ability) → list_any p (put f t all) ≡ true → (p (record { function = f; timeout = t }) ≡ true) ⊎ (list_any p all ≡ true)
+  put_before f t [] e = by (p (record { function = f; timeout = t })) e
+    where
+      by : (u : Bool) → (u || false) ≡ true → (u ≡ true) ⊎ (false ≡ true)
+      by true e = inl refl
+      by false e = inr e
+  put_before f t (ability ∷ all) e = by (is_of f ability) (p (record { function = f; timeout = t })) (p ability) refl refl (put_before f t all) e
+    where
+      by : (u v w : Bool) → p (record { function = f; timeout = t }) ≡ v → p ability ≡ w → (list_any p (put f t all) ≡ true → (p (record { function = f; timeout = t }) ≡ true) ⊎ (list_any p all ≡ true))
+          → list_any p (cond u (record { function = f; timeout = t } ∷ all) (ability ∷ put f t all)) ≡ true → (v ≡ true) ⊎ ((w || list_any p all) ≡ true)
+      by true true w is was rest e = inl refl
+      by true false w is was rest e = inr (or_right w (list_any p all) (ap (λ x. x || list_any p all) (sym is) ∙ e))
+      by false v true is was rest e = inr refl
+      by false v false is was rest e = there (rest (ap (λ x. x || list_any p (put f t all)) (sym was) ∙ e))
+        where
+          there : (p (record { function = f; timeout = t }) ≡ true) ⊎ (list_any p all ≡ true) → (v ≡ true) ⊎ (list_any p all ≡ true)
+          there (inl h) = inl (sym is ∙ h)
+          there (inr h) = inr h
+
+  put_now : (f : List ℕ) (t : ℕ) (all : List Ability) → p (record { function = f; timeout = t }) ≡ true → list_any p (put f t all) ≡ true
+  put_now f t [] e = or_left (p (record { function = f; timeout = t })) false e
+  put_now f t (ability ∷ all) e = by (is_of f ability) (put_now f t all e)
+    where
+      by : (u : Bool) → list_any p (put f t all) ≡ true → list_any p (cond u (record { function = f; timeout = t } ∷ all) (ability ∷ put f t all)) ≡ true
+      by true rest = or_left (p (record { function = f; timeout = t })) (list_any p all) e
+      by false rest = or_right (p ability) (list_any p (put f t all)) rest
+
+  -- what isn't for the function stays
+  put_stays : (f : List ℕ) (t : ℕ) (all : List Ability) → ((ability : Ability) → p ability ≡ true → is_of f ability ≡ false) → list_any p all ≡ true → list_any p (put f t all) ≡ true
+  put_stays f t [] other e = absurd cc
+  put_stays f t (ability ∷ all) other e = by (is_of f ability) (p ability) refl refl (put_stays f t all other) e
+    where
+      by : (u v : Bool) → is_of f ability ≡ u → p ability ≡ v → (list_any p all ≡ true → list_any p (put f t all) ≡ true) → (v || list_any p all) ≡ true
+          → list_any p (cond u (record { function = f; timeout = t } ∷ all) (ability ∷ put f t all)) ≡ true
+      by true true is was rest e = absurd (both_not (is_of f ability) is (other ability was))
+      by true false is was rest e = or_right (p (record { function = f; timeout = t })) (list_any p all) e
+      by false true is was rest e = or_left (p ability) (list_any p (put f t all)) was
+      by false false is was rest e = or_right (p ability) (list_any p (put f t all)) (rest e)
+
+  kept_before : (keep : Ability → Bool) (all : List Ability) → list_any p (filter keep all) ≡ true → list_any p all ≡ true
+  kept_before keep [] e = e
+  kept_before keep (ability ∷ all) e = by (keep ability) (kept_before keep all) e
+    where
+      by : (u : Bool) → (list_any p (filter keep all) ≡ true → list_any p all ≡ true) → list_any p (cond u (ability ∷ filter keep all) (filter keep all)) ≡ true → (p ability || list_any p all) ≡ true
+      by true rest e = more (p ability) e
+        where
+          more : (v : Bool) → (v || list_any p (filter keep all)) ≡ true → (v || list_any p all) ≡ true
+          more true e = refl
+          more false e = rest e
+      by false rest e = or_right (p ability) (list_any p all) (rest e)
+
+  kept_stays : (keep : Ability → Bool) (all : List Ability) → ((ability : Ability) → p ability ≡ true → keep ability ≡ true) → list_any p all ≡ true → list_any p (filter keep all) ≡ true
+  kept_stays keep [] other e = e
+  kept_stays keep (ability ∷ all) other e = by (keep ability) (p ability) refl refl (kept_stays keep all other) e
+    where
+      by : (u v : Bool) → keep ability ≡ u → p ability ≡ v → (list_any p all ≡ true → list_any p (filter keep all) ≡ true) → (v || list_any p all) ≡ true → list_any p (cond u (ability ∷ filter keep all) (filter keep all)) ≡ true
+      by true true is was rest e = or_left (p ability) (list_any p (filter keep all)) was
+      by true false is was rest e = or_right (p ability) (list_any p (filter keep all)) (rest e)
+      by false true is was rest e = absurd (both_not (keep ability) (other ability was) is)
+      by false false is was rest e = rest e
+
+none_left : (f : List ℕ) (all : List Ability) → list_any (is_of f) (filter (λ ability. not (is_of f ability)) all) ≡ false
+none_left f [] = refl
+none_left f (ability ∷ all) = by (is_of f ability) refl (none_left f all)
+  where
+    by : (u : Bool) → is_of f ability ≡ u → list_any (is_of f) (filter (λ a. not (is_of f a)) all) ≡ false → list_any (is_of f) (cond (not u) (ability ∷ filter (λ a. not (is_of f a)) all) (filter (λ a. not (is_of f a)) all)) ≡ false
+    by true is rest = rest
+    by false is rest = ap (λ x. x || list_any (is_of f) (filter (λ a. not (is_of f a)) all)) is ∙ rest
+
+-- of a slot that isn't open there are none
+closed_none : (k : Settings) (c : ℕ) (l : List Note) → History k l → is_open c l ≡ false → abilities c l ≡ []
+closed_none k c [] h e = refl
+closed_none k c (notes.Opened d addr ∷ older) h e = by (c == d) (closed_none k c older h.1) e
+  where
+    by : (t : Bool) → (is_open c older ≡ false → abilities c older ≡ []) → unwrap_or (cond t (Some true) None) (is_open c older) ≡ false → cond t [] (abilities c older) ≡ []
+    by true rest e = refl
+    by false rest e = rest e
+closed_none k c (notes.Closed d ∷ older) h e = by (c == d) (closed_none k c older h.1) e
+  where
+    by : (t : Bool) → (is_open c older ≡ false → abilities c older ≡ []) → unwrap_or (cond t (Some false) None) (is_open c older) ≡ false → cond t [] (abilities c older) ≡ []
+    by true rest e = refl
+    by false rest e = rest e
+closed_none k c (notes.Reset d ∷ older) h e = by (c == d) (closed_none k c older h.1 e)
+  where
+    by : (t : Bool) → abilities c older ≡ [] → cond t [] (abilities c older) ≡ []
+    by true rest = refl
+    by false rest = rest
+closed_none k c (notes.Cant d f ∷ older) h e = rw (closed_none k c older h.1 e) (by (c == d))
+  where
+    by : (t : Bool) → cond {A = List Ability} t [] [] ≡ []
+    by true = refl
+    by false = refl
+closed_none k c (notes.Can d f t ∷ older) h e = by (c == d) refl (closed_none k c older h.1 e)
+  where
+    by : (u : Bool) → (c == d) ≡ u → abilities c older ≡ [] → cond u (put f t (abilities c older)) (abilities c older) ≡ []
+    by true is rest = absurd (both_not (is_open d older) h.0.0 (ap (λ x. is_open x older) (sym (is_same c d is)) ∙ e))
+    by false is rest = rest
+closed_none k c (note ∷ older) h e = closed_none k c older h.1 e
+
+-- ---- what each note does
+
+module _ (k : Settings) (s : Step) (start : Past) (history : History k start.notes) (c : ℕ) (f : List ℕ) (seconds : ℕ) where
+  -- an ability for the function with these seconds
+  abbrev wanted : Ability → Bool
+  wanted ability = is_of f ability && ability.timeout == seconds
+
+  abbrev Came : List Note → Type 0
+  Came l = is_able_within c f seconds l ≡ true → (is_able_within c f seconds start.notes ≡ true) ⊎ ((asked : Asked) × Asks c s asked × Enables asked f seconds)
+
+  none_or : (t : Bool) (all : List Ability) → list_any wanted (cond t [] all) ≡ true → list_any wanted all ≡ true
+  none_or true all e = absurd cc
+  none_or false all e = e
+
+  came_more : (note : Note) (older : List Note) → Caused k start.notes s note older → Came older → Came (note ∷ older)
+  came_more (notes.Opened d addr) older cause p e = p (none_or (c == d) (abilities c older) e)
+  came_more (notes.Closed d) older cause p e = p (none_or (c == d) (abilities c older) e)
+  came_more (notes.Reset d) older cause p e = p (none_or (c == d) (abilities c older) e)
+  came_more (notes.Cant d g) older cause p e = p (by (c == d) e)
+    where
+      by : (t : Bool) → list_any wanted (cond t (filter (λ ability. not (is_of g ability)) (abilities c older)) (abilities c older)) ≡ true → list_any wanted (abilities c older) ≡ true
+      by true e = kept_before wanted (λ ability. not (is_of g ability)) (abilities c older) e
+      by false e = e
+  came_more (notes.Can d g t) older cause p e = by (c == d) refl e
+    where
+      here : (c == d) ≡ true → (wanted (record { function = g; timeout = t }) ≡ true) ⊎ (list_any wanted (abilities c older) ≡ true)
+          → (is_able_within c f seconds start.notes ≡ true) ⊎ ((asked : Asked) × Asks c s asked × Enables asked f seconds)
+      here is (inr was) = p was
+      here is (inl new) =
+          let parts = and_parts (bytes_eq g f) (t == seconds) new in
+          let slot : d ≡ c = sym (is_same c d is) in
+          inr (
+            cause.0,
+            subst (λ x. Asks x s cause.0) slot cause.1,
+            (cause.3 ∙ (bytes_eq-Decides g f).0 parts.0, cause.2 ∙ ap Some (is_same t seconds parts.1)),
+          )
+
+      by : (u : Bool) → (c == d) ≡ u → list_any wanted (cond u (put g t (abilities c older)) (abilities c older)) ≡ true
+          → (is_able_within c f seconds start.notes ≡ true) ⊎ ((asked : Asked) × Asks c s asked × Enables asked f seconds)
+      by true is e = here is (put_before wanted g t (abilities c older) e)
+      by false is e = p e
+  came_more note older cause p e = p e
+
+  abbrev Left : Type 0
+  Left = (closes c s ≡ true) ⊎ ((asked : Asked) × Asks c s asked × (Disables asked f ⊎ ((other : ℕ) × Enables asked f other)))
+
+  abbrev Stays : List Note → Type 0
+  Stays l = is_able_within c f seconds start.notes ≡ true → (is_able_within c f seconds l ≡ true) ⊎ Left
+
+  -- what is wanted is for the function
+  of_f : (g : List ℕ) → bytes_eq g f ≡ false → (ability : Ability) → wanted ability ≡ true → is_of g ability ≡ false
+  of_f g other ability e = by (is_of g ability) refl
+    where
+      by : (t : Bool) → is_of g ability ≡ t → t ≡ false
+      by true is =
+          let for : ability.function ≡ f = (bytes_eq-Decides ability.function f).0 (and_parts (is_of f ability) (ability.timeout == seconds) e).0 in
+          absurd (both_not (bytes_eq g f) ((bytes_eq-Decides g f).1 (sym ((bytes_eq-Decides ability.function g).0 is) ∙ for)) other)
+      by false is = refl
+
+  stays_more : (note : Note) (older : List Note) → Allowed k note older → Caused k start.notes s note older → History k older → Stays older → Stays (note ∷ older)
+  stays_more (notes.Opened d addr) older allowed cause h p was = by (c == d) refl (p was)
+    where
+      by : (t : Bool) → (c == d) ≡ t → (list_any wanted (abilities c older) ≡ true) ⊎ Left → (list_any wanted (cond t [] (abilities c older)) ≡ true) ⊎ Left
+      by t is (inr left) = inr left
+      by true is (inl e) =
+          let none : abilities c older ≡ [] = closed_none k c older h (ap (λ x. is_open x older) (is_same c d is) ∙ allowed.0) in
+          absurd (let bad : false ≡ true = sym (ap (list_any wanted) none) ∙ e in cc)
+      by false is (inl e) = inl e
+  stays_more (notes.Closed d) older allowed cause h p was = by (c == d) refl (p was)
+    where
+      by : (t : Bool) → (c == d) ≡ t → (list_any wanted (abilities c older) ≡ true) ⊎ Left → (list_any wanted (cond t [] (abilities c older)) ≡ true) ⊎ Left
+      by t is (inr left) = inr left
+      by true is (inl e) = inr (inl (ap (closes c) cause ∙ is))
+      by false is (inl e) = inl e
+  stays_more (notes.Reset d) older allowed cause h p was = by (c == d) refl (p was)
+    where
+      by : (t : Bool) → (c == d) ≡ t → (list_any wanted (abilities c older) ≡ true) ⊎ Left → (list_any wanted (cond t [] (abilities c older)) ≡ true) ⊎ Left
+      by t is (inr left) = inr left
+      by true is (inl e) = inr (inr (cause.0, subst (λ x. Asks x s cause.0) (sym (is_same c d is)) cause.1, inl (inr cause.2)))
+      by false is (inl e) = inl e
+  stays_more (notes.Cant d g) older allowed cause h p was = by (c == d) (bytes_eq g f) refl refl (p was)
+    where
+      by : (t u : Bool) → (c == d) ≡ t → bytes_eq g f ≡ u → (list_any wanted (abilities c older) ≡ true) ⊎ Left
+          → (list_any wanted (cond t (filter (λ ability. not (is_of g ability)) (abilities c older)) (abilities c older)) ≡ true) ⊎ Left
+      by t u is same (inr left) = inr left
+      by false u is same (inl e) = inl e
+      by true true is same (inl e) = inr (inr (cause.0, subst (λ x. Asks x s cause.0) (sym (is_same c d is)) cause.1, inl (inl (cause.2, cause.3 ∙ (bytes_eq-Decides g f).0 same))))
+      by true false is same (inl e) = inl (kept_stays wanted (λ ability. not (is_of g ability)) (abilities c older) (λ ability w. ap not (of_f g same ability w)) e)
+  stays_more (notes.Can d g t) older allowed cause h p was = by (c == d) (bytes_eq g f) refl refl (p was)
+    where
+      by : (u v : Bool) → (c == d) ≡ u → bytes_eq g f ≡ v → (list_any wanted (abilities c older) ≡ true) ⊎ Left → (list_any wanted (cond u (put g t (abilities c older)) (abilities c older)) ≡ true) ⊎ Left
+      by u v is same (inr left) = inr left
+      by false v is same (inl e) = inl e
+      by true true is same (inl e) =
+          inr (inr (cause.0, subst (λ x. Asks x s cause.0) (sym (is_same c d is)) cause.1, inr (t, (cause.3 ∙ (bytes_eq-Decides g f).0 same, cause.2))))
+      by true false is same (inl e) = inl (put_stays wanted g t (abilities c older) (of_f g same) e)
+  stays_more note older allowed cause h p was = p was
+
+  comes : Came (step k s start).notes
+  comes = note_law k s start history Came (λ note older allowed cause h p. came_more note older cause p) (λ e. inl e)
+
+  stays : Stays (step k s start).notes
+  stays = note_law k s start history Stays (λ note older allowed cause h p. stays_more note older allowed cause h p) (λ e. inl e)
+
+-- ---- what is asked comes true
+
+module _ (k : Settings) (c : ℕ) (start : Past) where
+  error_here : (code : List ℕ) → IsError c start (refuse c code start)
+  error_here code = (code, spaced code, refl, refl)
+
+  can_now : (f : List ℕ) (t : ℕ) (l : List Note) → is_able_within c f t (notes.Can c f t ∷ l) ≡ true
+  can_now f t l = rw (same_number c) (put_now (λ ability. is_of f ability && ability.timeout == t) f t (abilities c l) (and_from (bytes_eq f f) (t == t) ((bytes_eq-Decides f f).1 refl) (same_number t)))
+
+  can_does : (f : List ℕ) (t : ℕ) → (is_able_within c f t (can_do k c f t start).notes ≡ true) ⊎ IsError c start (can_do k c f t start)
+  can_does f t = by (is_bad_name f) (is_one_too_many k f start.notes)
+    where
+      woken : (u : Bool) → is_able_within c f t (wake_if u c (with_note (notes.Can c f t) (with_mention f start))).notes ≡ true
+      woken true = can_now f t (with_mention f start).notes
+      woken false = can_now f t (with_mention f start).notes
+
+      by : (u v : Bool) → (is_able_within c f t (cond u (refuse c (codes "bad_function") start) (cond v (refuse c (codes "too_many_functions") start) (wake_if (is_asleep (phase c start.notes) && not (is_empty (waiting_for f start.notes))) c (with_note (notes.Can c f t) (with_mention f start))))).notes ≡ true)
+          ⊎ IsError c start (cond u (refuse c (codes "bad_function") start) (cond v (refuse c (codes "too_many_functions") start) (wake_if (is_asleep (phase c start.notes) && not (is_empty (waiting_for f start.notes))) c (with_note (notes.Can c f t) (with_mention f start)))))
+      by true v = inr (error_here (codes "bad_function"))
+      by false true = inr (error_here (codes "too_many_functions"))
+      by false false = inl (woken (is_asleep (phase c start.notes) && not (is_empty (waiting_for f start.notes))))
+
+  cant_does : (f : List ℕ) → (is_able c f (cant_do c f start).notes ≡ false) ⊎ IsError c start (cant_do c f start)
+  cant_does f = by (is_bad_name f)
+    where
+      cant_now : is_able c f (notes.Cant c f ∷ start.notes) ≡ false
+      cant_now = rw (same_number c) (none_left f (abilities c start.notes))
+
+      by : (u : Bool) → (is_able c f (cond u (refuse c (codes "bad_function") start) (with_note (notes.Cant c f) start)).notes ≡ false) ⊎ IsError c start (cond u (refuse c (codes "bad_function") start) (with_note (notes.Cant c f) start))
+      by true = inr (error_here (codes "bad_function"))
+      by false = inl cant_now
+
+  enables_does : (kind : Kind) (a : List (List ℕ)) (timeout seconds : ℕ) → seconds_of kind timeout ≡ Some seconds
+      → (is_able_within c (first a) seconds (request k c kind a timeout start).notes ≡ true) ⊎ IsError c start (request k c kind a timeout start)
+  enables_does CanDo a timeout seconds e =
+      subst (λ t. (is_able_within c (first a) t (can_do k c (first a) 0 start).notes ≡ true) ⊎ IsError c start (can_do k c (first a) 0 start)) (same_Some 0 seconds e) (can_does (first a) 0)
+  enables_does CanDoTimeout a timeout seconds e =
+      subst (λ t. (is_able_within c (first a) t (can_do k c (first a) timeout start).notes ≡ true) ⊎ IsError c start (can_do k c (first a) timeout start)) (same_Some timeout seconds e) (can_does (first a) timeout)
+  enables_does kind a timeout seconds e = absurd cc
+
+  disables_does : (kind : Kind) (a : List (List ℕ)) (timeout : ℕ) (f : List ℕ) → ((kind ≡ CantDo) × (first a ≡ f)) ⊎ (kind ≡ ResetAbilities)
+      → (is_able c f (request k c kind a timeout start).notes ≡ false) ⊎ IsError c start (request k c kind a timeout start)
+  disables_does CantDo a timeout f (inl e) = subst (λ g. (is_able c g (cant_do c (first a) start).notes ≡ false) ⊎ IsError c start (cant_do c (first a) start)) e.1 (cant_does (first a))
+  disables_does ResetAbilities a timeout f e = inl (ap (λ t. list_any (is_of f) (cond t [] (abilities c start.notes))) (same_number c))
+  disables_does kind a timeout f (inl e) = let bad = e.0 in absurd cc
+  disables_does kind a timeout f (inr e) = absurd cc
+
+abilities_come : (k : Settings) (s : Step) (start : Past) → AbilitiesCome start s (step k s start)
+abilities_come k (Packet d number bytes) start c asked f takes a =
+    let does : request k c asked.kind asked.arguments asked.timeout start ≡ step k (Packet d number bytes) start =
+    sym (ap (λ x. step k (Packet x number bytes) start) (sym a.0)
+    ∙ (taken_is (takes_units c start.notes) (packet_of k c (kind_of number) bytes start) start takes ∙ packet_does bytes asked k c start (kind_of number) a.1)) in (
+      (λ seconds e.
+          subst (λ after. (is_able_within c f seconds after.notes ≡ true) ⊎ IsError c start after) does
+          (subst (λ g. (is_able_within c g seconds (request k c asked.kind asked.arguments asked.timeout start).notes ≡ true) ⊎ IsError c start (request k c asked.kind asked.arguments asked.timeout start)) e.0
+          (enables_does k c start asked.kind asked.arguments asked.timeout seconds e.1))),
+      (λ e. subst (λ after. (is_able c f after.notes ≡ false) ⊎ IsError c start after) does (disables_does k c start asked.kind asked.arguments asked.timeout f e)),
+    )
+abilities_come k other start c asked f takes a = absurd a
+
+pub abilities_asked : (k : Settings) (steps : List Step) (s : Step) → AbilitiesAreAsAsked k (run k steps) s (run k (s ∷ steps))
+abilities_asked k steps s = (
+  abilities_come k s (run k steps),
+  λ c f seconds. (comes k s (run k steps) (run_history k steps) c f seconds, stays k s (run k steps) (run_history k steps) c f seconds),
+)

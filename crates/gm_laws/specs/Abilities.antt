@@ -1,0 +1,43 @@
+-- What slots can do is what they asked for.
+use Rattle.std.specs.Prelude.{◌≡◌, ◌⊎◌, ℕ, true, false, List, Some}
+use Rattle.gm_packet.specs.declared.kind.Kind.TheVariants.{CantDo, ResetAbilities}
+use Rattle.gm_packet.specs.Requests.{Asked}
+use Rattle.gm_packet.specs.Answers.{error}
+use Rattle.gm_notes.specs.Settings.{Settings}
+use Rattle.gm_notes.specs.Notes.{takes_units}
+use Rattle.gm_notes.specs.Jobs.{is_able}
+use Rattle.gm_notes.specs.Past.{Past}
+use Rattle.gm_notes.specs.Requests.{first}
+use Rattle.gm_notes.specs.Steps.{Step}
+use Rattle.gm_laws.specs.Causes.{Asks, seconds_of, closes, JustQueues}
+use Rattle.gm_laws.specs.Waiting.{is_able_within}
+
+-- what is asked is to do this function from now on, within these seconds
+abbrev pub Enables : Asked → List ℕ → ℕ → Type 0
+Enables asked f seconds = (first asked.arguments ≡ f) × (seconds_of asked.kind asked.timeout ≡ Some seconds)
+
+-- it is to do it no more
+abbrev pub Disables : Asked → List ℕ → Type 0
+Disables asked f = ((asked.kind ≡ CantDo) × (first asked.arguments ≡ f)) ⊎ (asked.kind ≡ ResetAbilities)
+
+-- an ERROR is the answer, and nothing happened
+abbrev pub IsError : ℕ → Past → Past → Type 0
+IsError c before after = (code : List ℕ) × (text : List ℕ) × JustQueues c (error code text) before after × (after.notes ≡ before.notes)
+
+-- what a slot that takes units asks comes true, or is answered with an ERROR
+abbrev pub AbilitiesCome : Past → Step → Past → Type 0
+AbilitiesCome before s after = (c : ℕ) (asked : Asked) (f : List ℕ) → takes_units c before.notes ≡ true → Asks c s asked →
+    ((seconds : ℕ) → Enables asked f seconds → (is_able_within c f seconds after.notes ≡ true) ⊎ IsError c before after)
+    × (Disables asked f → (is_able c f after.notes ≡ false) ⊎ IsError c before after)
+
+-- an ability comes only by asking for it, and goes only by asking for that, for the function with other seconds, or with the slot
+abbrev pub AbilitiesStay : Past → Step → Past → Type 0
+AbilitiesStay before s after = (c : ℕ) (f : List ℕ) (seconds : ℕ) →
+    (is_able_within c f seconds after.notes ≡ true →
+    (is_able_within c f seconds before.notes ≡ true) ⊎ ((asked : Asked) × Asks c s asked × Enables asked f seconds))
+    × (is_able_within c f seconds before.notes ≡ true →
+    (is_able_within c f seconds after.notes ≡ true) ⊎ ((closes c s ≡ true)
+    ⊎ ((asked : Asked) × Asks c s asked × (Disables asked f ⊎ ((other : ℕ) × Enables asked f other)))))
+
+abbrev pub AbilitiesAreAsAsked : Settings → Past → Step → Past → Type 0
+AbilitiesAreAsAsked k before s after = AbilitiesCome before s after × AbilitiesStay before s after

@@ -1,0 +1,37 @@
+-- The limits of functions.
+use Rattle.std.specs.Prelude.{◌≡◌, ◌⊎◌, ℕ, ◌<◌, ◌≤◌, true, List, ◌∷◌, length, Some}
+use Rattle.gm_admin.specs.declared.fault.AdminError.{AdminError}
+use Rattle.gm_admin.specs.Commands.{MaxQueue}
+use Rattle.gm_admin.specs.Answers.{ok_text, error_text}
+use Rattle.gm_notes.specs.declared.note.Note.{Note}
+use Rattle.gm_notes.specs.Settings.{Settings}
+use Rattle.gm_notes.specs.Notes.{takes_units}
+use Rattle.gm_notes.specs.Flow.{Queued}
+use Rattle.gm_notes.specs.Jobs.{Job, job, functions, is_mentioned, limit, total, is_able}
+use Rattle.gm_notes.specs.Past.{Past}
+use Rattle.gm_notes.specs.Steps.{Step, Line}
+use Rattle.gm_laws.specs.Causes.{Commands}
+
+-- a step that leaves a function with more jobs that wait or run leaves it with no more than its limit, if it has one
+abbrev pub NoneIsOverfull : Past → Past → Type 0
+NoneIsOverfull before after = (f : List ℕ) → 0 < limit f before.notes → total f before.notes < total f after.notes → total f after.notes ≤ limit f before.notes
+
+-- there are never more functions than the settings say, and each job and each ability is for one of them
+abbrev pub FunctionsAreFew : Settings → List Note → Type 0
+FunctionsAreFew k notes =
+    (length (functions notes) ≤ k.max_functions)
+    × ((n : ℕ) (what : Job) → job n notes ≡ Some what → is_mentioned what.function notes ≡ true)
+    × ((c : ℕ) (f : List ℕ) → is_able c f notes ≡ true → is_mentioned f notes ≡ true)
+
+-- only `maxqueue` changes the limit of the function that it names, to what it says
+abbrev pub LimitsStay : Past → Step → Past → Type 0
+LimitsStay before s after = (f : List ℕ) → (limit f after.notes ≡ limit f before.notes) ⊎ Commands s (MaxQueue f (limit f after.notes))
+
+-- of a slot that takes units it does so and is answered with `OK`, or it is answered with an `ERR` line, and nothing happened
+abbrev pub MaxqueueIsAnswered : Past → Step → Past → Type 0
+MaxqueueIsAnswered before s after = (c : ℕ) (line f : List ℕ) (size : ℕ) → s ≡ Line c line → Commands s (MaxQueue f size) → takes_units c before.notes ≡ true →
+    ((after.flow ≡ Queued c ok_text ∷ before.flow) × (limit f after.notes ≡ size))
+    ⊎ ((error : AdminError) × (after.flow ≡ Queued c (error_text error) ∷ before.flow) × (after.notes ≡ before.notes))
+
+abbrev pub LimitsHold : Settings → Past → Step → Past → Type 0
+LimitsHold k before s after = NoneIsOverfull before after × FunctionsAreFew k after.notes × LimitsStay before s after × MaxqueueIsAnswered before s after

@@ -1,0 +1,93 @@
+-- Each submission is answered, and what is submitted is what is worked on.
+use Rattle.std.specs.Prelude.{◌≡◌, ◌⊎◌, ℕ, suc, ◌+◌, ◌<◌, ◌≤◌, ◌^◌, true, false, List, [], ◌∷◌, length, codes, Option, Some, None}
+use Rattle.gm_packet.specs.declared.kind.Kind.{Kind}
+use Rattle.gm_packet.specs.declared.kind.Kind.TheVariants.{GrabJob, GrabJobUniq}
+use Rattle.gm_packet.specs.Requests.{Asked}
+use Rattle.gm_packet.specs.Answers.{Answer, job_created, job_assign, job_assign_uniq, error}
+use Rattle.gm_notes.specs.Settings.{Settings}
+use Rattle.gm_notes.specs.Notes.{takes_units}
+use Rattle.gm_notes.specs.Jobs.{Job, job_state, job, is_kept, made, functions, is_mentioned, limit, total, handle}
+use Rattle.gm_notes.specs.JobStates.{is_live}
+use Rattle.gm_notes.specs.JobStates as states
+use Rattle.gm_notes.specs.Past.{Past}
+use Rattle.gm_notes.specs.Requests.{first}
+use Rattle.gm_notes.specs.Steps.{Step, run}
+use Rattle.gm_laws.specs.Causes.{Asks, Submits, IsFor, is_foreground, is_background, is_submission, JustQueues}
+use Rattle.gm_laws.specs.Laws.{InEachStep}
+use Rattle.gm_laws.specs.Listeners.{listens}
+use Rattle.gm_laws.specs.Turns.{One}
+
+-- ---- the answer to a submission
+
+-- the job waits or runs already, and has the function and the unique id that are asked for; no id and a dash join nothing
+abbrev pub IsJoined : Asked → ℕ → Past → Type 0
+IsJoined asked n before =
+    (what : Job) × (job n before.notes ≡ Some what) × (is_live (job_state n before.notes) ≡ true)
+    × IsFor asked what × (what.unique ≡ [] → ⊥) × (what.unique ≡ codes "-" → ⊥)
+
+abbrev pub JoinsNone : Asked → Past → Type 0
+JoinsNone asked before = (n : ℕ) → IsJoined asked n before → ⊥
+
+-- it is new, and just what is asked for, since there was none to join
+abbrev pub IsNew : Asked → ℕ → Past → Past → Type 0
+IsNew asked n before after = (what : Job) × (job n after.notes ≡ Some what) × Submits asked what × (job n before.notes ≡ None) × JoinsNone asked before
+
+-- after a submission in the background the job is kept, and after one in the foreground the slot listens once more
+abbrev pub KeepsOrListens : Kind → ℕ → ℕ → Past → Past → Type 0
+KeepsOrListens kind c n before after =
+    ((is_background kind ≡ true) × (is_kept n after.notes ≡ true) × (listens c n after.notes ≡ listens c n before.notes))
+    ⊎ ((is_foreground kind ≡ true) × (is_kept n after.notes ≡ is_kept n before.notes) × (listens c n after.notes ≡ suc (listens c n before.notes)))
+
+-- JOB_CREATED says the handle of such a job, which waits or runs
+abbrev pub IsCreated : Settings → ℕ → Asked → Past → Past → Type 0
+IsCreated k c asked before after =
+    (n : ℕ) × JustQueues c (job_created (handle k n)) before after × (is_live (job_state n after.notes) ≡ true)
+    × (IsJoined asked n before ⊎ IsNew asked n before after) × KeepsOrListens asked.kind c n before after
+
+-- there is no job to join, and the function is one too many, or has as many jobs as its limit says, or no number is left
+abbrev pub HasNoRoom : Settings → Asked → Past → List ℕ → Type 0
+HasNoRoom k asked before code =
+    JoinsNone asked before
+    × (((code ≡ codes "too_many_functions") × (is_mentioned (first asked.arguments) before.notes ≡ false) × (k.max_functions ≤ length (functions before.notes)))
+    ⊎ (((code ≡ codes "queue_full") × (0 < limit (first asked.arguments) before.notes) × (limit (first asked.arguments) before.notes ≤ total (first asked.arguments) before.notes))
+    ⊎ ((code ≡ codes "no_numbers") × (2 ^ 64 ≤ k.first_job + length (made before.notes)))))
+
+-- the function's name has no byte, or more than 512
+abbrev pub HasBadName : Asked → List ℕ → Type 0
+HasBadName asked code = (code ≡ codes "bad_function") × ((first asked.arguments ≡ []) ⊎ (512 < length (first asked.arguments)))
+
+-- an ERROR says why, and nothing happened
+abbrev pub IsRefused : Settings → ℕ → Asked → Past → Past → Type 0
+IsRefused k c asked before after =
+    (code : List ℕ) × (text : List ℕ) × JustQueues c (error code text) before after × (after.notes ≡ before.notes) × (HasBadName asked code ⊎ HasNoRoom k asked before code)
+
+-- Each submission of a slot that takes units gets one answer, or the other.
+abbrev pub SubmissionsAreAnswered : Settings → Past → Step → Past → Type 0
+SubmissionsAreAnswered k before s after = (c : ℕ) (asked : Asked) → takes_units c before.notes ≡ true → Asks c s asked → is_submission asked.kind ≡ true →
+    IsCreated k c asked before after ⊎ IsRefused k c asked before after
+
+-- ---- what is worked on
+
+-- the step after these earlier ones submits job n, which is this, and is answered with its handle
+abbrev pub MakesJob : Settings → ℕ → Job → List Step → Step → Type 0
+MakesJob k n what earlier s =
+    (c : ℕ) × (asked : Asked) × Asks c s asked × Submits asked what × (job n (run k earlier).notes ≡ None)
+    × JustQueues c (job_created (handle k n)) (run k earlier) (run k (s ∷ earlier))
+
+-- how a grab that gets this job is answered
+abbrev pub assigned : Settings → ℕ → Job → Kind → Option Answer
+assigned k n what GrabJob = Some (job_assign (handle k n) what.function what.body)
+assigned k n what GrabJobUniq = Some (job_assign_uniq (handle k n) what.function what.unique what.body)
+assigned k n what kind = None
+
+-- in the step that gives a slot a job, the slot is told what the job is, and nobody is told anything else
+abbrev pub GivesTheJob : Settings → Past → Step → Past → Type 0
+GivesTheJob k before s after = (n c : ℕ) → job_state n before.notes ≡ states.Waiting → job_state n after.notes ≡ states.Running c →
+    (what : Job) × (asked : Asked) × (answer : Answer)
+    × (job n before.notes ≡ Some what) × Asks c s asked × (assigned k n what asked.kind ≡ Some answer) × JustQueues c answer before after
+
+-- Each job is what one of the steps submitted, and the slot that is given it gets just this.
+abbrev pub WhatIsSubmittedIsWorkedOn : Type 0
+WhatIsSubmittedIsWorkedOn =
+    ((k : Settings) (steps : List Step) (n : ℕ) (what : Job) → job n (run k steps).notes ≡ Some what → One (MakesJob k n what) steps [])
+    × InEachStep GivesTheJob
