@@ -1,6 +1,6 @@
 -- What the calls of a feeder do.
 use Rattle.std.specs.Prelude.{◌≡◌, ℕ, List, [], ◌∷◌, ◌++◌, length, drop, Option, Some, None, Result, Ok, Err, IfSome}
-use Rattle.std.specs.Io.KnownBytes.{Consumes}
+use Rattle.std.specs.Io.KnownBytes.{Consumes, Appends}
 use Rattle.gm_feeder.specs.declared.units.Limits.{Limits}
 use Rattle.gm_feeder.specs.declared.units.FeedFault.{FeedFault}
 use Rattle.gm_feeder.specs.declared.units.Unit.{Unit as Given}
@@ -27,10 +27,11 @@ item_in packet = APacket packet.kind (drop packet.data_at packet.bytes.items)
 abbrev pub with_bytes : Stream → List ℕ → Stream
 with_bytes stream piece = record stream { pending = stream.pending ++ piece }
 
--- these bytes of the input, as many as the count, came behind the pending ones
-pub record TakesIn (input rest : Option (List ℕ)) (old new : Stream) (count : ℕ) : Type 0 where
+-- these bytes of the input, as many as the count, came behind the pending ones, and just these were heard
+pub record TakesIn (input rest heard after : Option (List ℕ)) (old new : Stream) (count : ℕ) : Type 0 where
   pub piece : List ℕ
   pub consumes : Consumes input rest piece
+  pub hears : Appends heard after piece
   pub len : length piece ≡ count
   pub kept : new ≡ with_bytes old piece
 

@@ -13,9 +13,9 @@ use crate::head::{
     HEADER_LEN, Head, begins_with_nul, data_of, find_head, find_packet, missing_of, text_of,
 };
 use crate::room::{make_room, read_at};
+use crate::source::Source;
 use crate::units::{FeedFault, Limits, OwnedPacket, ReadError, Unit};
 use std::alloc::Global;
-use std::io::Read;
 use std::marker::Model;
 use std::mem;
 
@@ -99,17 +99,18 @@ impl Feeder {
         }
     }
 
-    /// Takes the next bytes of the stream from a reader, by one call, and answers how many they are: none at its end.
+    /// Takes the next bytes of the stream from a source, by one call, and answers how many they are: none at its end.
     /// They are read to where they are pending, without a copy. Where the header of a packet is pending, room is made for
     /// the rest of that packet, once.
     ///
     /// A fault that `next_unit` has returned is returned again. Otherwise `Memory` is returned where there is no memory
     /// for the room, and nothing was read. No error changes anything.
-    pub fn read_from<I: Read>(&mut self, reader: &mut I) -> Result<usize, ReadError>
-        ensures ok { IfOk result (λ count. TakesIn (I.remaining reader.old) (I.remaining reader.new) self.old self.new count) }
-        ensures end { IfOk result (λ count. count ≡ 0 → IsAtEnd (I.remaining reader.new)) }
+    pub fn read_from<E, S: Source<E>>(&mut self, source: &mut S, by: &E) -> Result<usize, ReadError>
+        ensures ok { IfOk result (λ count. TakesIn (S.remaining source.old) (S.remaining source.new) (S.heard source.old) (S.heard source.new) self.old self.new count) }
+        ensures end { IfOk result (λ count. count ≡ 0 → IsAtEnd (S.remaining source.new)) }
         ensures err { OnErr result (self.new ≡ self.old) }
-        ensures none_lost { OnErr result (Keeps (I.remaining reader.old) (I.remaining reader.new)) }
+        ensures none_lost { OnErr result (Keeps (S.remaining source.old) (S.remaining source.new)) }
+        ensures none_heard { OnErr result (Keeps (S.heard source.old) (S.heard source.new)) }
         ensures standing { IfSome self.old.fault (λ fault. result ≡ Err (ReadError.Feed fault)) }
     {
         if let Some(fault) = self.fault {
@@ -121,7 +122,7 @@ impl Feeder {
         let Ok(()) = make_room(&mut self.buffer, self.end, missing, was_filled) else {
             return Err(ReadError::Feed(FeedFault::Memory));
         };
-        match read_at(reader, &mut self.buffer, self.end) {
+        match read_at(source, by, &mut self.buffer, self.end) {
             Ok(count) => {
                 self.end += count;
                 Ok(count)

@@ -11,7 +11,9 @@ mod feeder;
 mod head;
 pub mod laws;
 mod room;
+mod source;
 mod units;
 
 pub use feeder::Feeder;
+pub use source::{Patience, Source};
 pub use units::{FeedFault, Limits, OwnedPacket, ReadError, Unit};

@@ -1,11 +1,11 @@
 //! Room to read into.
 
 ghost use Rattle.std.specs.Prelude.{◌≡◌, ◌+◌, ◌<◌, ◌≤◌, IfOk, OnOk, OnErr, take, drop, vec_len};
-ghost use Rattle.std.specs.Io.KnownBytes.{Consumes, Keeps, IsAtEnd};
+ghost use Rattle.std.specs.Io.KnownBytes.{Consumes, Keeps, Appends, IsAtEnd};
 
+use crate::source::Source;
 use std::alloc::AllocError;
 use std::io;
-use std::io::Read;
 
 /// The least room for a read.
 const LEAST_ROOM: usize = 1_024;
@@ -45,14 +45,21 @@ pub(crate) fn make_room(
 }
 
 /// Reads behind the first `at` bytes, by one call.
-pub(crate) fn read_at<I: Read>(reader: &mut I, buffer: &mut Vec<u8>, at: usize) -> io::Result<usize>
+pub(crate) fn read_at<E, S: Source<E>>(
+    source: &mut S,
+    by: &E,
+    buffer: &mut Vec<u8>,
+    at: usize,
+) -> io::Result<usize>
     requires { at < vec_len buffer.old }
     ensures kept { take at buffer.new.items ≡ take at buffer.old.items }
     ensures len { vec_len buffer.new ≡ vec_len buffer.old }
     ensures within { IfOk result (λ count. at + count ≤ vec_len buffer.new) }
-    ensures ok { IfOk result (λ count. Consumes (I.remaining reader.old) (I.remaining reader.new) (take count (drop at buffer.new.items))) }
-    ensures end { IfOk result (λ count. count ≡ 0 → IsAtEnd (I.remaining reader.new)) }
-    ensures err { OnErr result (Keeps (I.remaining reader.old) (I.remaining reader.new)) }
+    ensures ok { IfOk result (λ count. Consumes (S.remaining source.old) (S.remaining source.new) (take count (drop at buffer.new.items))) }
+    ensures heard { IfOk result (λ count. Appends (S.heard source.old) (S.heard source.new) (take count (drop at buffer.new.items))) }
+    ensures end { IfOk result (λ count. count ≡ 0 → IsAtEnd (S.remaining source.new)) }
+    ensures err { OnErr result (Keeps (S.remaining source.old) (S.remaining source.new)) }
+    ensures unheard { OnErr result (Keeps (S.heard source.old) (S.heard source.new)) }
 {
-    reader.read(&mut buffer[at..])
+    source.read_by(by, &mut buffer[at..])
 }

@@ -46,6 +46,7 @@ returns-in-Ok-read_at-clause-ok g c =
     record {
       piece = take count (drop f.end items);
       consumes = c.in-Ok-read_at.ensures.ok;
+      hears = c.in-Ok-read_at.ensures.heard;
       len = length-take-le count (drop f.end items) (omega (arith, length-drop f.end items, c.in-Ok-read_at.ensures.within, c.read_at.new.buffer.ok.0));
       kept = ap (λ (l : List ℕ). record { limits = f.limits; pending = l; fault = f.fault }) (part_more f.buffer.items items f.start f.end count c.self-2.invariant.0 same)
           ∙ ap (λ (s : Stream). with_bytes s (take count (drop f.end items))) (c.self-2.view_is ∙ c.move_down.ensures);

@@ -1,0 +1,45 @@
+//! Where a connection's bytes come from.
+
+use std::io;
+use std::io::Read;
+
+/// Whether a call may have its thread wait for a peer.
+#[derive(Clone, Copy, Debug, PartialEq, Eq)]
+pub enum Patience {
+    /// It may.
+    Waits,
+    /// It does what can be done at once.
+    Hurries,
+}
+
+/// What gives bytes, and is told how it is to read: whether it waits. Of some sources contracts know all that they gave.
+pub trait Source<E> {
+    ghost use Rattle.std.specs.Prelude.{List, ℕ, Option};
+    ghost use Rattle.std.specs.Io.{ReadsAtMost};
+    ghost use Rattle.std.specs.Io.KnownBytes.{ReadConsumes, WriteAppends};
+
+    // The bytes that it will give from here on, where they are known.
+    ghost remaining: { Self → Option (List ℕ) };
+
+    // The bytes that it gave so far, where they are known.
+    ghost heard: { Self → Option (List ℕ) };
+
+    /// Reads into the room, by one call, and answers how many bytes these are: none at its end.
+    fn read_by(&mut self, by: &E, room: &mut [u8]) -> io::Result<usize>
+        ensures bound { ReadsAtMost result room.new }
+        ensures bytes { ReadConsumes (remaining self.old) (remaining self.new) result room.new }
+        ensures heard { WriteAppends (heard self.old) (heard self.new) result room.new };
+}
+
+/// A reader is told nothing, and nobody records what it gave.
+impl<I: Read> Source<()> for I {
+    ghost use Rattle.std.specs.Prelude.{None};
+
+    ghost remaining = { I.remaining };
+
+    ghost heard = { λ _. None };
+
+    fn read_by(&mut self, _by: &(), room: &mut [u8]) -> io::Result<usize> {
+        self.read(room)
+    }
+}
