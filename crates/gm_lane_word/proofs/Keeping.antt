@@ -7,7 +7,7 @@ use Rattle.gm_lane_word.specs.declared.view.Hold.TheVariants.{Free, Owes, Looks}
 use Rattle.gm_lane_word.specs.declared.view.View.{View}
 use Rattle.gm_lane_word.specs.Lane.{fresh_view, entered, touched, taken_over, looked, finished, after_finish, handed_over, has, owes, taken, touches_of, answers_of, looks_of}
 use Rattle.gm_lane_word.specs.Lane.{owing_of}
-use Rattle.gm_lane_word.specs.Steps.{Step, enters, touches, takes_over, looks, finishes, hands_over, Reached, opens, steps, Keeps, IsOwed, by_owner, by_writer}
+use Rattle.gm_lane_word.specs.Steps.{Step, enters, touches, takes_over, looks, finishes, hands_over, Reached, opens, steps, Keeps, IsOwed, by_owner, by_finisher}
 use Rattle.gm_lane_word.proofs.Totals.{total-set, total-push, total-has, has_one, owing_among_owners, owner_is}
 
 -- a seat comes
@@ -143,7 +143,7 @@ pub followed_or_owed : (word : ℕ) (views : List View) → Keeps word views →
 followed_or_owed zero views k = inl (k.all_answered (lit< tt))
 followed_or_owed (suc zero) views k = inl (k.all_answered (lit< tt))
 followed_or_owed (suc (suc zero)) views k = let owner = k.owner in let o = owner_is views (omega arith) in inr (by_owner o.0 o.1 o.2 o.3 refl)
-followed_or_owed (suc (suc (suc zero))) views k = inr (by_writer refl)
+followed_or_owed (suc (suc (suc zero))) views k = inr (by_finisher refl)
 followed_or_owed (suc (suc (suc (suc word)))) views k = let small = k.small in absurd (omega arith)
 
 -- a step leaves the touches that were followed, or is a look, which follows all so far

@@ -14,7 +14,7 @@ pub data Step (word : ℕ) (views : List View) : ℕ → List View → Type 0 wh
   enters : Step word views word (views ++ entered word ∷ [])
   -- a seat touches the lane: idle and busy become owed, and late stays
   touches : (seat : ℕ) (view : View) → get_elem? views seat ≡ some view → Step word views (max word 2) (slice_set views seat (touched word view))
-  -- a new seat, the writer's, touches the lane, and takes it over where it is late
+  -- a new seat, the finisher's, touches the lane, and takes it over where it is late
   takes_over : Step word views 2 (views ++ taken_over word ∷ [])
   -- the thread that has the lane and owes a look begins one: it follows all touches so far
   looks : (seat : ℕ) (view : View) → get_elem? views seat ≡ some view → view.hold ≡ Owes
@@ -22,7 +22,7 @@ pub data Step (word : ℕ) (views : List View) : ℕ → List View → Type 0 wh
   -- the thread that began a look gives the lane up, unless it was touched since
   finishes : (seat : ℕ) (view : View) → get_elem? views seat ≡ some view → view.hold ≡ Looks
       → Step word views (finished word) (slice_set views seat (after_finish word view))
-  -- the thread that has the lane leaves it to the writer
+  -- the thread that has the lane leaves it to the finisher
   hands_over : (seat : ℕ) (view : View) → get_elem? views seat ≡ some view → view.hold ≢ Free
       → Step word views 3 (slice_set views seat (handed_over view))
 
@@ -46,10 +46,10 @@ pub record Keeps (word : ℕ) (views : List View) : Type 0 where
   pub answered : answers_of views ≤ touches_of views
   pub all_answered : word < 2 → touches_of views ≡ answers_of views
 
--- A thread owes the lane a look: the one that has it and is yet to begin one, or the writer.
+-- A thread owes the lane a look: the one that has it and is yet to begin one, or the finisher.
 pub data IsOwed (word : ℕ) (views : List View) : Type 0 where
   by_owner : (seat : ℕ) (view : View) → get_elem? views seat ≡ some view → view.hold ≢ Free → word ≡ 2 → IsOwed word views
-  by_writer : word ≡ 3 → IsOwed word views
+  by_finisher : word ≡ 3 → IsOwed word views
 
 -- what each kind of step tells the seat that makes it
 abbrev pub TellsEnter : Operands (Unit {0}) → Me (Unit {0}) View → ℕ → Me (Unit {0}) View → Type 0

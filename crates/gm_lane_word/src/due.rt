@@ -2,6 +2,14 @@
 
 ghost use Rattle.std.specs.Prelude.{◌≡◌, ◌≤◌};
 
+/// What has a lane for each slot, from 0 on.
+pub trait Lanes {
+    ghost use Rattle.std.specs.Prelude.{ℕ};
+
+    // How many.
+    ghost count: { Self → ℕ };
+}
+
 /// Something was queued for the connection of a slot, or may have been. It can't be dropped: a touch of a lane takes it.
 pub struct Due {
     pub(crate) slot: u32,
@@ -22,9 +30,9 @@ impl Due {
         self.slot
     }
 
-    /// Drops it, where there are this many lanes, and none is the slot's.
-    pub fn without_lane(self, lanes: usize)
-        requires { lanes ≤ self.slot }
+    /// Drops it, where none of the server's lanes is the slot's.
+    pub fn without_lane<S: Lanes>(self, _server: &S)
+        requires { S.count _server.now ≤ self.slot }
     {
         let Due { slot: _ } = self;
     }

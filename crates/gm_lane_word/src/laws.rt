@@ -16,7 +16,7 @@ pub fn word_rule()
 {}
 
 /// No delivery is forgotten: at any moment each touch so far was followed by a look that began after it, or a thread
-/// owes one: the thread that has the lane or the writer, as the word says. An idle lane has no owner, and no touch of it
+/// owes one: the thread that has the lane or the finisher, as the word says. An idle lane has no owner, and no touch of it
 /// is without a look. At most one has the lane. Nothing but a look follows touches, and it follows all that came before it.
 pub fn no_touch_is_forgotten()
     ensures followed { (word : ℕ) (views : List View) → Reached word views

@@ -51,7 +51,7 @@ impl<'a> Looking<'a> {
         }
     }
 
-    /// Leaves the lane to the writer, and then runs `wake`, which wakes it: for a look that met a slow peer.
+    /// Leaves the lane to the finisher, and then runs `wake`, which wakes it: for a look that met a slow peer.
     pub fn hand_over<F: FnOnce(&Tally)>(self, wake: F) -> Tally
         requires { FnOnceTakesAt F.FnOnce wake (with_hand_over self) }
         ensures left { result ≡ with_hand_over self.entry }

@@ -47,7 +47,7 @@ impl<'a> Owed<'a> {
         (looking, found)
     }
 
-    /// Leaves the lane and the look to the writer, and then runs `wake`, which wakes it.
+    /// Leaves the lane and the look to the finisher, and then runs `wake`, which wakes it.
     pub fn hand_over<F: FnOnce(&Tally)>(self, wake: F) -> Tally
         requires { FnOnceTakesAt F.FnOnce wake (with_hand_over self) }
         ensures left { result ≡ with_hand_over self.entry }

@@ -50,7 +50,7 @@ impl Play<(), View> for Finish {
     ghost then = { TellsFinish };
 }
 
-/// The thread that has the lane leaves it to the writer.
+/// The thread that has the lane leaves it to the finisher.
 pub(crate) struct HandOver;
 
 impl Play<(), View> for HandOver {

@@ -18,7 +18,7 @@ pub struct View {
     pub take_overs: u64,
     /// How many looks it began.
     pub looks: u64,
-    /// How often it left the lane to the writer.
+    /// How often it left the lane to the finisher.
     pub hand_overs: u64,
     /// How many touches, of whichever seat, its looks were the first to follow.
     pub answers: u64,

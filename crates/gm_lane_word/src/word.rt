@@ -22,7 +22,7 @@ pub(crate) const BUSY: u64 = 1;
 // Somebody has the lane, and is yet to begin a look.
 pub(crate) const OWED: u64 = 2;
 
-// The writer is to take the lane over.
+// The slot's finisher is to take the lane over.
 pub(crate) const LATE: u64 = 3;
 
 /// The word of one lane, which all threads share. Contracts see which one it is.
@@ -71,7 +71,7 @@ impl LaneWord {
         }
     }
 
-    /// Touches the lane as the connection's writer, which has it now where no thread had it or it was late: when the writer
+    /// Touches the lane as the slot's finisher, which has it now where no thread had it or it was late: when it
     /// starts, since the last connection may have left the lane late, and whenever it is woken. An error means that
     /// another thread looks, after this touch.
     pub fn take_over<'a>(&'a self) -> Result<Owed<'a>, Tally>
@@ -84,5 +84,17 @@ impl LaneWord {
         } else {
             Err(Tally { seat })
         }
+    }
+
+    /// The same, where the lane was left late. An error means that it wasn't, or that another thread has taken it over since.
+    pub fn take_over_late<'a>(&'a self) -> Result<Owed<'a>, Tally>
+        ensures { MatchResult result (λ owed. owed ≡ one_take_over self.now) (λ tally. tally.lane ≡ self.now) }
+    {
+        // Modelled in models/lane.h.
+        let (found, seat) = self.table.shared.load_new_seat::<Enter>(0);
+        if found != LATE {
+            return Err(Tally { seat });
+        }
+        self.take_over()
     }
 }
