@@ -1,5 +1,5 @@
 -- What a critical section does to the history.
-use Rattle.std.proofs.Common.{◌≡◌, ℕ, ◌+◌, ◌*◌, Bool, true, false, if◌then◌else◌, List, [], ◌∷◌, ◌++◌, length, reverse, Some, None, Result, Ok, Err, refl, sym, ap, ap₂, subst, ◌∙◌, arith}
+use Rattle.std.proofs.Common.{◌≡◌, ℕ, ◌+◌, ◌*◌, Bool, true, false, if◌then◌else◌, List, [], ◌∷◌, ◌++◌, length, reverse, replicate, IfOk, Some, None, Result, Ok, Err, refl, sym, ap, ap₂, subst, ◌∙◌, arith}
 use Rattle.std.proofs.lemmas.List.{append-nil, reverse-append, reverse-reverse, length-append, length-reverse}
 use Rattle.atomic_table.specs.Seated.{TableId}
 use Rattle.gm_notes.specs.declared.event.Event.{Event}
@@ -27,6 +27,8 @@ use Rattle.gm_shared.specs.Books.{BookedAgrees, AreTouched, Held, asked, unasked
 use Rattle.gm_shared.specs.Histories.{Knows, AreOf, AreBelow}
 use Rattle.gm_shared.specs.Calls.{added, drained_entries, Calls, asks, lacks, Gives}
 use Rattle.gm_shared.specs.Shared.{IsBlank, IsGuarded, actor_count}
+use Rattle.gm_shared.specs.Openings.{count_at, Counts}
+use Rattle.gm_shared.proofs.Opening.{Opened, held_counts, told_is, drained_counts, none_opened}
 use Rattle.gm_shared.proofs.Shares.{share_grows}
 use Rattle.gm_shared.proofs.Taping.{longer, noop_tape, event_tape}
 
@@ -146,8 +148,8 @@ module _ (k : Settings) (e : Event) (desk : ℕ) (noop : Noop) (touched : List �
 
   module _ (taped : Bool) (on : old.tape.on ≡ taped) (recorded : old.tape.entries.items ≡ (if taped then reverse log else [])) (result : Result Receipt ApplyError)
       (held : Held k (steps_of log) (step_of e) desk noop result touched old new told) where
-    pub held_guarded : (table : TableId) → new.seat.table ≡ table → AreBelow (actor_count k.slots) (added desk (step_of e) result noop ++ log) → IsGuarded table k taped new (added desk (step_of e) result noop ++ log)
-    held_guarded table same whose =
+    pub held_guarded : (table : TableId) → new.seat.table ≡ table → Opened result old.openings new.openings → Counts k.slots old.openings log → AreBelow (actor_count k.slots) (added desk (step_of e) result noop ++ log) → IsGuarded table k taped new (added desk (step_of e) result noop ++ log)
+    held_guarded table same opened counts whose =
         let both = held_log result held in
         let grows = held_grows result held in
         record {
@@ -157,6 +159,7 @@ module _ (k : Settings) (e : Event) (desk : ℕ) (noop : Noop) (touched : List �
           whose = whose;
           table_is = same;
           on = grows.on ∙ on;
+          counts = held_counts k (step_of e) desk noop result touched old new told log held opened counts;
         }
 
     pub held_shares : (seen : List Entry) → Knows log (2 * desk) seen → (share after : List Told) → share ≡ share_of taped (actors.Desk desk) seen → after ≡ share ++ told
@@ -166,9 +169,9 @@ module _ (k : Settings) (e : Event) (desk : ℕ) (noop : Noop) (touched : List �
         (actors.Desk desk) seen (own_added desk (step_of e) result noop) knows
 
   -- and is this of the history
-  pub held_calls : (taped : Bool) → old.tape.on ≡ taped → old.tape.entries.items ≡ (if taped then reverse log else []) → (result : Result Receipt ApplyError)
-      → Held k (steps_of log) (step_of e) desk noop result touched old new told → Calls k taped (step_of e) desk noop result touched log (added desk (step_of e) result noop ++ log)
-  held_calls taped on recorded (Ok receipt) (asked h) =
+  pub held_calls : (taped : Bool) → old.tape.on ≡ taped → old.tape.entries.items ≡ (if taped then reverse log else []) → Counts k.slots old.openings log → (result : Result Receipt ApplyError)
+      → Opened result old.openings new.openings → Held k (steps_of log) (step_of e) desk noop result touched old new told → Calls k taped (step_of e) desk noop result touched log (added desk (step_of e) result noop ++ log)
+  held_calls taped on recorded counts (Ok receipt) opened (asked h) =
       let first = noop_log k (step_of e) desk noop log h.found legal in
       let all = event_log receipt h.found h.event.taken h.event.done_is in
       asks (record {
@@ -180,16 +183,18 @@ module _ (k : Settings) (e : Event) (desk : ℕ) (noop : Noop) (touched : List �
           mode_is = subst (λ steps. receipt.mode ≡ mode (run k steps).notes) all.0 h.event.mode_is;
           touches = subst (λ steps. AreTouched k (steps_of log) steps touched) all.0 h.event.touches;
           at_is = h.place ∙ place_is taped log (noop_entries desk noop) old.tape on recorded;
+          opening_is = opened.1 ∙ told_is k.slots new.openings (added desk (step_of e) (Ok receipt) noop ++ log)
+              (held_counts k (step_of e) desk noop (Ok receipt) touched old new told log (asked h) opened counts) receipt.done.opened;
         };
       })
-  held_calls taped on recorded (Err refused) (asked h) =
+  held_calls taped on recorded counts (Err refused) opened (asked h) =
       asks (record {
         found = h.found;
         after_is = refl;
         answers = subst (λ steps. IsRefusal refused (refusal k (step_of e) (run k steps))) (noop_log k (step_of e) desk noop log h.found legal).0 h.event.0;
       })
-  held_calls taped on recorded (Ok receipt) (unasked is h) = let bad : Ok receipt ≡ Err _ = h.wanting in absurd cc
-  held_calls taped on recorded (Err refused) (unasked is h) =
+  held_calls taped on recorded counts (Ok receipt) opened (unasked is h) = let bad : Ok receipt ≡ Err _ = h.wanting in absurd cc
+  held_calls taped on recorded counts (Err refused) opened (unasked is h) =
       lacks (record { on = sym on ∙ h.on; none = is; result_is = h.wanting; after_is = ap (λ n. noop_entries desk n ++ log) is })
 
 -- ---- a pen's call
@@ -204,14 +209,14 @@ module _ (k : Settings) (pen slot : ℕ) (old new : Booked) (told : List Told) (
   drained_grows (Ok drained) h = h.tape
   drained_grows (Err refused) h = h.2
 
-  pub drained_gives : (taped : Bool) → old.tape.on ≡ taped → (result : Result Drained ApplyError) → Drains k (steps_of log) pen slot result old new told → Gives k taped slot result log
-  drained_gives taped on (Ok drained) h = record { opened = h.opened; bytes_are = h.bytes_are; shut_is = h.shut_is }
-  drained_gives taped on (Err refused) h = subst (IsDrainRefusal refused slot (run k (steps_of log))) on h.0
+  pub drained_gives : (taped : Bool) → old.tape.on ≡ taped → Counts k.slots old.openings log → (result : Result Drained ApplyError) → IfOk result (λ drained. drained.opening ≡ count_at slot old.openings) → Drains k (steps_of log) pen slot result old new told → Gives k taped slot result log
+  drained_gives taped on counts (Ok drained) opening h = record { opened = h.opened; bytes_are = h.bytes_are; shut_is = h.shut_is; opening_is = opening ∙ counts.each slot }
+  drained_gives taped on counts (Err refused) opening h = subst (IsDrainRefusal refused slot (run k (steps_of log))) on h.0
 
   module _ (taped : Bool) (on : old.tape.on ≡ taped) (recorded : old.tape.entries.items ≡ (if taped then reverse log else [])) (result : Result Drained ApplyError)
       (drains : Drains k (steps_of log) pen slot result old new told) where
-    pub drained_guarded : (table : TableId) → new.seat.table ≡ table → AreBelow (actor_count k.slots) (drained_entries pen slot result ++ log) → IsGuarded table k taped new (drained_entries pen slot result ++ log)
-    drained_guarded table same whose =
+    pub drained_guarded : (table : TableId) → new.seat.table ≡ table → new.openings ≡ old.openings → Counts k.slots old.openings log → AreBelow (actor_count k.slots) (drained_entries pen slot result ++ log) → IsGuarded table k taped new (drained_entries pen slot result ++ log)
+    drained_guarded table same kept counts whose =
         let both = drained_log result drains in
         let grows = drained_grows result drains in
         record {
@@ -221,6 +226,7 @@ module _ (k : Settings) (pen slot : ℕ) (old new : Booked) (told : List Told) (
           whose = whose;
           table_is = same;
           on = grows.on ∙ on;
+          counts = subst (λ c. Counts k.slots c (drained_entries pen slot result ++ log)) (sym kept) (drained_counts k.slots pen slot result log old.openings counts);
         }
 
     pub drained_shares : (seen : List Entry) → Knows log (2 * pen + 1) seen → (share after : List Told) → share ≡ share_of taped (actors.Pen pen) seen → after ≡ share ++ told
@@ -231,15 +237,16 @@ module _ (k : Settings) (pen slot : ℕ) (old new : Booked) (told : List Told) (
 
 -- ---- a book that is opened
 
-pub blank_is : (table : TableId) (booked : Booked) (k : Settings) (slots : ℕ) (seats : List PenState) → BookedAgrees booked k [] → booked.seat.table ≡ table → seats ≡ fresh_pens table k.slots → slots ≡ k.slots
+pub blank_is : (table : TableId) (booked : Booked) (k : Settings) (slots : ℕ) (seats : List PenState) → BookedAgrees booked k [] → booked.seat.table ≡ table → seats ≡ fresh_pens table k.slots → slots ≡ k.slots → booked.openings ≡ replicate k.slots 0
     → IsBlank table (config_of booked.core) slots booked seats
-blank_is table booked k slots seats agrees same are count =
+blank_is table booked k slots seats agrees same are count unopened =
     let is : config_of booked.core ≡ k = agrees.holds.core.settings in
     record {
       agrees = subst (λ (x : Settings). BookedAgrees booked x []) (sym is) agrees;
       slots_are = ap (λ (x : Settings). x.slots) is ∙ sym count;
       table_is = same;
       seats_are = are ∙ ap (fresh_pens table) (sym count);
+      unopened = unopened ∙ ap (λ n. replicate n 0) (sym count);
     }
 
 none_there : (es : List Entry) → [] ≡ steps_of es → es ≡ []
@@ -253,7 +260,15 @@ pub opens_guarded : (table : TableId) (k : Settings) (slots : ℕ) (booked : Boo
     → booked.tape.on ≡ taped → IsGuarded table k taped booked log
 opens_guarded table k slots booked seats taped log blank empty on =
     subst (IsGuarded table k taped booked) (sym empty)
-    (record { agrees = blank.agrees; legal = tt; recorded = none taped booked.tape.on on blank.agrees.tape; whose = tt; table_is = blank.table_is; on = on })
+    (record {
+      agrees = blank.agrees;
+      legal = tt;
+      recorded = none taped booked.tape.on on blank.agrees.tape;
+      whose = tt;
+      table_is = blank.table_is;
+      on = on;
+      counts = subst (λ c. Counts k.slots c []) (ap (λ n. replicate n 0) blank.slots_are ∙ sym blank.unopened) (none_opened k.slots);
+    })
   where
     none : (t u : Bool) → u ≡ t → TapeIs u booked.tape.entries.items k [] → booked.tape.entries.items ≡ (if t then [] else [])
     none true true same h = begun booked.tape.entries.items h.0

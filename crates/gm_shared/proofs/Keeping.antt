@@ -76,8 +76,8 @@ pub numbers_grow : {A : Type 0} (f : A → ℕ) (xs all : List A) (x : A) (n : �
 numbers_grow f xs all x n e h is =
     ap (map f) e ∙ (map-append f xs (x ∷ []) ∙ (ap (λ ys. ys ++ f x ∷ []) h ∙ (ap (λ (i : ℕ). numbers_below n ++ i ∷ []) is ∙ ap numbers_below (sym (add-one n)))))
 
-pub none_seen : {A : Type 0} (f : A → List Entry) (xs all : List A) (x : A) → all ≡ xs ++ x ∷ [] → All (λ a. f a ≡ []) xs → f x ≡ [] → All (λ a. f a ≡ []) all
-none_seen f xs all x e h is = subst (λ l. All (λ a. f a ≡ []) l) (sym e) (All-push (λ a. f a ≡ []) xs x h is)
+pub all_more : {A : Type 0} (P : A → Type 0) (xs all : List A) (x : A) → all ≡ xs ++ x ∷ [] → All P xs → P x → All P all
+all_more P xs all x e h is = subst (λ l. All P l) (sym e) (All-push P xs x h is)
 
 -- two fronts more
 pub made_more : (history : TableId) (n : ℕ) (old mid new : KeeperState) → HasMade (2 * n) history old → mid ≡ one_front_more old → new ≡ one_front_more mid → HasMade (2 * (n + 1)) history new

@@ -1,5 +1,6 @@
 mod Phases
 mod Noops
+mod Opening
 mod Following
 mod Applying
 mod Taping

@@ -18,6 +18,7 @@ use Rattle.gm_shared.specs.Events.{MayFind}
 use Rattle.gm_shared.specs.Tapes.{steps_of, Legal, if_event, noop_entries, drain_entry}
 use Rattle.gm_shared.specs.Books.{AreTouched, IsDrainRefusal}
 use Rattle.gm_shared.specs.Histories.{Knows, calls_by}
+use Rattle.gm_shared.specs.Openings.{openings, counted, opening_in}
 use Rattle.gm_shared.specs.Tokens.{if_done}
 
 -- what has happened by a history
@@ -26,14 +27,15 @@ past_of k log = run k (steps_of log)
 
 -- ---- a desk's call
 
--- The event was taken after the entries `before`, with the definitions' answer and mode, and with a tape the place behind them. Each
--- slot that it changed is among the touched slots, and each that was changed since `older`, when the call began.
+-- The event was taken after the entries `before`, with the definitions' answer and mode, how often the slot that it opened was opened then,
+-- and with a tape the place behind them. Each slot that it changed is among the touched slots, and each that was changed since `older`, when the call began.
 pub record IsAnswered (k : Settings) (taped : Bool) (s : Step) (receipt : Receipt) (touched : List ℕ) (older before after : List Entry) : Type 0 where
   pub taken : refusal k s (past_of k before) ≡ None
   pub done_is : receipt.done ≡ done k s (past_of k before)
   pub mode_is : receipt.mode ≡ mode (past_of k after).notes
   pub touches : AreTouched k (steps_of older) (steps_of after) touched
   pub at_is : receipt.at ≡ (if taped then Some (length before) else None)
+  pub opening_is : receipt.opening ≡ opening_in receipt.done.opened after
 
 abbrev pub Answers : Settings → Bool → Step → Result Receipt ApplyError → List ℕ → List Entry → List Entry → List Entry → Type 0
 Answers k taped s (Ok receipt) touched older before after = IsAnswered k taped s receipt touched older before after
@@ -103,11 +105,12 @@ abbrev pub drained_entries : ℕ → ℕ → Result Drained ApplyError → List 
 drained_entries pen slot (Ok drained) = drain_entry pen slot drained.bytes.bytes ∷ []
 drained_entries pen slot (Err refused) = []
 
--- the slot was open, and these were the bytes that waited for it, and whether it was shut
+-- the slot was open, and these were the bytes that waited for it, whether it was shut, and how often it had been opened
 pub record IsGiven (k : Settings) (slot : ℕ) (drained : Drained) (before : List Entry) : Type 0 where
   pub opened : is_open slot (past_of k before).notes ≡ true
   pub bytes_are : drained.bytes.bytes ≡ waiting slot (past_of k before).flow
   pub shut_is : drained.shut ≡ is_closing slot (past_of k before)
+  pub opening_is : drained.opening ≡ counted (openings slot before)
 
 abbrev pub Gives : Settings → Bool → ℕ → Result Drained ApplyError → List Entry → Type 0
 Gives k taped slot (Ok drained) before = IsGiven k slot drained before

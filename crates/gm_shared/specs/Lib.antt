@@ -3,6 +3,7 @@ pub mod Words
 pub mod Events
 pub mod Books
 pub mod Histories
+pub mod Openings
 pub mod Tokens
 pub mod Calls
 pub mod Shared

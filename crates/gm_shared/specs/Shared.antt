@@ -1,5 +1,5 @@
 -- What the lock keeps, and what callers of a shared book see.
-use Rattle.std.specs.Prelude.{◌≡◌, ◌⊎◌, ℕ, zero, suc, ◌+◌, ◌*◌, Bool, true, if◌then◌else◌, List, [], ◌∷◌, ◌++◌, reverse, map, All}
+use Rattle.std.specs.Prelude.{◌≡◌, ◌⊎◌, ℕ, zero, suc, ◌+◌, ◌*◌, Bool, true, if◌then◌else◌, List, [], ◌∷◌, ◌++◌, reverse, map, All, replicate, Result, Ok, Err}
 use Rattle.atomic_table.specs.Seated.{TableId}
 use Rattle.gm_notes.specs.Settings.{Settings}
 use Rattle.gm_notes.specs.Steps.{Step, run}
@@ -18,6 +18,7 @@ use Rattle.gm_shared.specs.declared.tape.Told.{Told}
 use Rattle.gm_shared.specs.Tapes.{AddUp, share_of, steps_of, Legal}
 use Rattle.gm_shared.specs.Books.{takings, BookedAgrees}
 use Rattle.gm_shared.specs.Histories.{Knows, AreBelow}
+use Rattle.gm_shared.specs.Openings.{Counts}
 use Rattle.gm_shared.specs.Tokens.{KeeperState, FrontState}
 
 -- a book that nobody shares yet, the settings under which it serves, and whether it keeps a tape
@@ -33,6 +34,7 @@ pub record IsBlank (table : TableId) (k : Settings) (slots : ℕ) (booked : Book
   pub slots_are : k.slots ≡ slots
   pub table_is : booked.seat.table ≡ table
   pub seats_are : seats ≡ fresh_pens table slots
+  pub unopened : booked.openings ≡ replicate slots 0
 
 -- a count of fronts were made of a history without an entry
 pub record HasMade (count : ℕ) (history : TableId) (keeper : KeeperState) : Type 0 where
@@ -48,7 +50,7 @@ abbrev pub actor_count : ℕ → ℕ
 actor_count slots = 2 * slots + 1
 
 -- What the lock keeps: the book agrees with the steps of the one history, which is legal under these settings and which the tape,
--- if one is kept, is. Each entry is of an actor of this book. Its words are in this table.
+-- if one is kept, is. Each entry is of an actor of this book. Its words are in this table, and its counters say how often slots were opened.
 pub record IsGuarded (table : TableId) (k : Settings) (taped : Bool) (booked : Booked) (log : List Entry) : Type 0 where
   pub agrees : BookedAgrees booked k (steps_of log)
   pub legal : Legal k log
@@ -56,6 +58,7 @@ pub record IsGuarded (table : TableId) (k : Settings) (taped : Bool) (booked : B
   pub whose : AreBelow (actor_count k.slots) log
   pub table_is : booked.seat.table ≡ table
   pub on : booked.tape.on ≡ taped
+  pub counts : Counts k.slots booked.openings log
 
 -- and contracts see the book and the history
 pub record GuardedState : Type 0 where
@@ -90,11 +93,12 @@ told_by share = (share.actor, share.told.items)
 abbrev pub IsShareOf : Bool → List Entry → Actor × List Told → Type 0
 IsShareOf taped log share = share.1 ≡ share_of taped share.0 log
 
--- What a book was when it ended: this history is legal, the core agrees with its steps, and the tape, if one was kept, is it. Each entry
--- is of an actor of this book. These are the shares of the desks and pens that were given back, each what the history has of its own, and
--- these their fronts.
+-- What a book was when it ended: the history that is handed out is legal, the core agrees with its steps, and the tape, if one was kept, is it.
+-- Each entry is of an actor of this book. These are the shares of the desks and pens that were given back, each what the history has of its
+-- own, and these their fronts.
 pub record IsEnded (k : Settings) (taped : Bool) (settled : Settled) (shares : List (Actor × List Told)) (fronts : List FrontState) : Type 0 where
   pub log : List Entry
+  pub log_is : settled.history.log ≡ log
   pub legal : Legal k log
   pub agrees : CoreAgrees settled.core k (steps_of log)
   pub tape : settled.tape.items ≡ (if taped then reverse log else [])
@@ -118,3 +122,13 @@ pub record IsUnsettled (k : Settings) (taped : Bool) (settled : Settled) (shares
 abbrev pub WhySo : Settings → Bool → SettleError → List (Actor × List Told) → List FrontState → Type 0
 WhySo k taped Memory shares fronts = Unit {0}
 WhySo k taped (Differs settled) shares fronts = IsUnsettled k taped settled shares fronts
+
+-- what holds of a book that ended, whether its shares add up or not
+abbrev pub IfSettled : (Settled → Type 0) → Result Settled SettleError → Type 0
+IfSettled P (Ok settled) = P settled
+IfSettled P (Err Memory) = Unit {0}
+IfSettled P (Err (Differs settled)) = P settled
+
+abbrev pub settle_error_number : SettleError → ℕ
+settle_error_number Memory = 6
+settle_error_number (Differs settled) = 16

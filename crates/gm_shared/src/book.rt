@@ -1,6 +1,6 @@
 //! The book.
 
-ghost use Rattle.std.specs.Prelude.{◌≡◌, ◌<◌, ◌≤◌, ◌++◌, ℕ, [], List, IfOk, IfErr, true, false, length, None};
+ghost use Rattle.std.specs.Prelude.{◌≡◌, ◌<◌, ◌≤◌, ◌++◌, ℕ, [], List, IfOk, IfErr, true, false, length, replicate, None};
 ghost use Rattle.gm_conns.specs.Slots.{has};
 ghost use Rattle.gm_conns.specs.ConnTables.{conn, is_touched};
 ghost use Rattle.gm_word.specs.Seats.{fresh_pens};
@@ -8,9 +8,11 @@ ghost use Rattle.gm_notes.specs.Settings.{Settings};
 ghost use Rattle.gm_notes.specs.Steps.{Step, run};
 ghost use Rattle.gm_notes.specs.Servers.{step_of, IsSized};
 ghost use Rattle.gm_core.specs.Holds.{AllTouched, CoreAgrees, outbox};
-ghost use Rattle.std.specs.Result.{IsErrOf};
+ghost use Rattle.std.specs.Result.{IsErrOf, MatchResult};
+ghost use Rattle.gm_shared.specs.Openings.{count_at, counted_up, told_opening};
 
 use crate::events::{Noop, asks_a_job, slot_of};
+use crate::openings::Openings;
 use crate::receipt::{Drained, Receipt};
 use crate::tape::{Entry, Tape, TapeMode, Told};
 use crate::words::sync_word;
@@ -32,6 +34,7 @@ pub struct Booked {
     core: Core,
     seat: BookSeat,
     slots: u32,
+    openings: Openings,
     tape: Tape,
     ghost wide: { length seat.lines ≡ slots },
     ghost most: { slots ≤ 1024 },
@@ -56,6 +59,7 @@ impl Booked {
         ensures table { IfOk result (λ made. made.0.seat.table ≡ made.1) }
         ensures pens { IfOk result (λ made. made.2.items ≡ fresh_pens made.1 config.slots) }
         ensures tape { IfOk result (λ made. made.0.tape.on ≡ is_on tape) }
+        ensures openings { IfOk result (λ made. made.0.openings ≡ replicate config.slots 0) }
     {
         let slots = config.slots();
         // A config has at least one slot, which the table wants to know.
@@ -64,11 +68,13 @@ impl Booked {
         }
         let (table, seat, pens) = SleepTable::new(alloc, slots)?;
         let core = Core::new(alloc, seed, config)?;
+        let openings = Openings::new(alloc, slots)?;
         let booked = Booked {
             alloc,
             core,
             seat,
             slots,
+            openings,
             tape: Tape::new(alloc, tape),
         };
         Ok((booked, table, pens))
@@ -99,6 +105,8 @@ impl Booked {
         ensures refused { IfErr result (λ _. (c : ℕ) → has touched.new c ≡ false) }
         ensures memory { NeedsNoMemory self.old.tape.on (step_of event.now) → IsErrOf result ApplyError.Memory → ⊥ }
         ensures table { self.new.seat.table ≡ self.old.seat.table }
+        ensures opened { MatchResult result (λ receipt. (self.new.openings ≡ counted_up receipt.done.opened self.old.openings)
+            × (receipt.opening ≡ told_opening receipt.done.opened self.new.openings)) (λ _. self.new.openings ≡ self.old.openings) }
     {
         // Modelled in models/deliver.pml and jobs.pml.
         *touched = SlotSet::new();
@@ -108,12 +116,14 @@ impl Booked {
         *found = noop;
         self.tape.enter_noop(share, desk, noop);
         let done = self.core.apply_locked(event, freed)?;
+        let opening = self.openings.note(&done);
         let at = self.tape.enter_event(share, desk, copies, done);
         self.follow(table, event, touched);
         Ok(Receipt {
             at,
             done,
             mode: self.core.mode(),
+            opening,
         })
     }
 
@@ -128,6 +138,8 @@ impl Booked {
             → (told : List Told) × (share.new.items ≡ share.old.items ++ told)
             × Drains k steps pen slot result self.old self.new told }
         ensures seat { self.new.seat ≡ self.old.seat }
+        ensures openings { self.new.openings ≡ self.old.openings }
+        ensures opening { IfOk result (λ drained. drained.opening ≡ count_at slot self.old.openings) }
     {
         // Modelled in models/lane.h.
         let (conns, _, _) = self.core.parts();
@@ -140,7 +152,11 @@ impl Booked {
         // The drain touched its slot, for which no writer has anything to do.
         let _slot = self.core.take_touched();
         self.tape.enter_drain(share, pen, slot, copies);
-        Ok(Drained { bytes, shut })
+        Ok(Drained {
+            bytes,
+            shut,
+            opening: self.openings.of(slot),
+        })
     }
 
     /// The core, the seat and the entries of the tape.
@@ -175,6 +191,7 @@ impl Booked {
         ensures touched { AllTouched self.old.core.conns self.new.core.conns }
         ensures table { self.new.seat.table ≡ self.old.seat.table }
         ensures tape { self.new.tape ≡ self.old.tape }
+        ensures openings { self.new.openings ≡ self.old.openings }
     {
         // Modelled in models/jobs.pml.
         let Some(slot) = slot_of(event) else {
@@ -205,6 +222,7 @@ impl Booked {
         requires { self.old.seat.table ≡ table.now }
         ensures follows { FollowsAt touched.new self.old self.new }
         ensures tape { self.new.tape ≡ self.old.tape }
+        ensures openings { self.new.openings ≡ self.old.openings }
         ensures missed { (c : ℕ) → c < self.old.slots → has touched.new c ≡ false → is_touched self.old.core.conns c ≡ false }
     {
         // Modelled in models/jobs.pml.
@@ -227,6 +245,7 @@ impl Booked {
         requires { self.old.seat.table ≡ table.now }
         ensures follows { FollowsCore (step_of event.now) touched.new self.old self.new }
         ensures tape { self.new.tape ≡ self.old.tape }
+        ensures openings { self.new.openings ≡ self.old.openings }
     {
         // Modelled in models/jobs.pml.
         self.follow_touched(table, touched);

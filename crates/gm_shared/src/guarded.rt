@@ -146,11 +146,13 @@ impl<K: BookName> Guarded<K> {
         self.keeper.enter(history, front, 0, What::Nothing);
     }
 
-    /// The book, which is under no lock any more.
-    pub(crate) fn into_book(self) -> Booked
-        ensures book { result ≡ self.booked }
-        ensures guarded { IsGuarded K.table K.settings K.taped result self.log }
+    /// The book, which is under no lock any more, and the keeper of its history.
+    pub(crate) fn into_parts(self) -> (Booked, Keeper)
+        ensures book { result.0 ≡ self.booked }
+        ensures guarded { IsGuarded K.table K.settings K.taped result.0 self.log }
+        ensures keeper { (result.1.log ≡ self.log) × (result.1.table ≡ K.history) }
     {
-        self.booked
+        let Guarded { booked, keeper, .. } = self;
+        (booked, keeper)
     }
 }

@@ -22,6 +22,7 @@ mod guarded;
 mod history;
 pub mod laws;
 mod name;
+mod openings;
 mod receipt;
 mod rule;
 mod settling;
@@ -34,6 +35,7 @@ mod words;
 
 pub use blank::Blank;
 pub use book::Booked;
+pub use history::Keeper;
 pub use name::BookName;
 pub use receipt::{Drained, Receipt};
 pub use settling::{SettleError, Settled, settle};

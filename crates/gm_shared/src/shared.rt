@@ -78,8 +78,8 @@ impl<K: BookName> Shared<K> {
         ensures desks { IfOk result (λ made. map (λ desk. desk.number) made.1.items ≡ numbers_below blank.settings.slots) }
         ensures pens { IfOk result (λ made. map (λ pen. pen.slot) made.2.items ≡ numbers_below blank.settings.slots) }
         ensures control { IfOk result (λ made. made.3.number ≡ blank.settings.slots) }
-        ensures nothing_seen { IfOk result (λ made. All (λ desk. desk.front.seen ≡ []) made.1.items × All (λ pen. pen.front.seen ≡ []) made.2.items
-            × (made.3.front.seen ≡ [])) }
+        ensures nothing_seen { IfOk result (λ made. All (λ desk. desk.front.seen ≡ []) made.1.items × (made.3.front.seen ≡ [])) }
+        ensures nothing_given { IfOk result (λ made. All (λ pen. (pen.front.seen ≡ []) × (pen.seat.takes ≡ 0)) made.2.items) }
     {
         let Blank {
             table,
@@ -162,6 +162,7 @@ impl<K: BookName> Pen<K> {
         requires front { (front.table ≡ K.history) × (front.who ≡ 2 * slot + 1) }
         requires nothing_seen { front.seen ≡ [] }
         ensures slot { result.slot ≡ slot }
+        ensures seat { result.seat ≡ seat }
         ensures front { result.front ≡ front }
     {
         Pen {
@@ -226,7 +227,8 @@ fn new_owners<K: BookName>(
     requires new { IsNew K.history keeper.old }
     ensures numbers { IfOk result (λ made. map (λ desk. desk.number) made.0.items ≡ numbers_below slots) }
     ensures slots { IfOk result (λ made. map (λ pen. pen.slot) made.1.items ≡ numbers_below slots) }
-    ensures nothing_seen { IfOk result (λ made. All (λ desk. desk.front.seen ≡ []) made.0.items × All (λ pen. pen.front.seen ≡ []) made.1.items) }
+    ensures nothing_seen { IfOk result (λ made. All (λ desk. desk.front.seen ≡ []) made.0.items) }
+    ensures nothing_given { IfOk result (λ made. All (λ pen. (pen.front.seen ≡ []) × (pen.seat.takes ≡ 0)) made.1.items) }
     ensures keeper { OnOk result (HasMade (2 * slots) K.history keeper.new) }
 {
     let mut desks = Vec::with_capacity(alloc, slots as usize)?;

@@ -1,5 +1,5 @@
-use Rattle.std.proofs.Common.{rules, ap, ◌∙◌}
-use Rattle.gm_shared.proofs.Keeping.{all_left, next_left, numbers_grow, none_seen, made_more}
+use Rattle.std.proofs.Common.{◌≡◌, [], rules, ap, ◌∙◌}
+use Rattle.gm_shared.proofs.Keeping.{all_left, next_left, numbers_grow, all_more, made_more}
 use Rattle.gm_shared.proofs.shared.new_owners.Goals as goal
 
 pub loop-seat-init : goal.loop-seat-init
@@ -33,10 +33,12 @@ loop-seat-preserved g c =
     record {
       desks_are = numbers_grow (λ desk. desk.number) _ _ _ _ c.push_reserved.ensures.items c.loop-seat.invariant.desks_are c.new.ensures.number;
       pens_are = numbers_grow (λ pen. pen.slot) _ _ _ _ c.push_reserved-in-loop-seat.ensures.items c.loop-seat.invariant.pens_are c.new-in-loop-seat.ensures.slot;
-      desks_new = none_seen (λ desk. desk.front.seen) _ _ _ c.push_reserved.ensures.items c.loop-seat.invariant.desks_new
+      desks_new = all_more (λ desk. desk.front.seen ≡ []) _ _ _ c.push_reserved.ensures.items c.loop-seat.invariant.desks_new
           (ap (λ f. f.seen) c.new.ensures.front ∙ (ap (λ f. f.seen) c.new_front.ensures.front ∙ c.loop-seat.invariant.made.empty));
-      pens_new = none_seen (λ pen. pen.front.seen) _ _ _ c.push_reserved-in-loop-seat.ensures.items c.loop-seat.invariant.pens_new
-          (ap (λ f. f.seen) c.new-in-loop-seat.ensures.front ∙ (ap (λ f. f.seen) c.new_front-in-loop-seat.ensures.front ∙ (ap (λ k. k.log) c.new_front.ensures.keeper ∙ c.loop-seat.invariant.made.empty)));
+      pens_new = all_more (λ pen. (pen.front.seen ≡ []) × (pen.seat.takes ≡ 0)) _ _ _ c.push_reserved-in-loop-seat.ensures.items c.loop-seat.invariant.pens_new (
+        ap (λ f. f.seen) c.new-in-loop-seat.ensures.front ∙ (ap (λ f. f.seen) c.new_front-in-loop-seat.ensures.front ∙ (ap (λ k. k.log) c.new_front.ensures.keeper ∙ c.loop-seat.invariant.made.empty)),
+        ap (λ p. p.takes) c.new-in-loop-seat.ensures.seat ∙ ap (λ p. p.takes) next.pen_is,
+      );
       desk_count = search rules;
       pen_count = search rules;
       room = search rules;

@@ -3,6 +3,6 @@ use Rattle.gm_shared.proofs.blank.Blank.new.Goals as goal
 
 pub invariant_of-result : goal.invariant_of-result
 invariant_of-result c = (
-  blank_is _ _ _ _ _ c.in_ok-booked.ensures.book c.in_ok-booked.ensures.table c.in_ok-booked.ensures.pens c.slots-slots.ensures.value,
+  blank_is _ _ _ _ _ c.in_ok-booked.ensures.book c.in_ok-booked.ensures.table c.in_ok-booked.ensures.pens c.slots-slots.ensures.value c.in_ok-booked.ensures.openings,
   record { history_is = c.in_ok-history.ensures.table; empty = c.in_ok-history.ensures.empty.0; count_is = c.in_ok-history.ensures.empty.1 },
 )

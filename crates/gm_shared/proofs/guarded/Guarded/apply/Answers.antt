@@ -37,7 +37,7 @@ invariant_of-self g c =
     let h = c.hold-result.ensures.holding _ (steps_of log) i.agrees in
     let is = ap (λ k. k.log) c.enter.ensures.keeper ∙ ap (λ d. if_done desk s d (noop_entries desk noop) ++ log) c.done_in-done.ensures in (
       subst (IsGuarded g.K.BookName.table g.K.BookName.settings g.K.BookName.taped c.hold-result.new.self) (sym is)
-          (held_guarded _ c.args.event.now desk noop _ _ _ _ log i.legal g.K.BookName.taped i.on i.recorded c.hold-result.result h.2 g.K.BookName.table (c.hold-result.ensures.table ∙ i.table_is)
+          (held_guarded _ c.args.event.now desk noop _ _ _ _ log i.legal g.K.BookName.taped i.on i.recorded c.hold-result.result h.2 g.K.BookName.table (c.hold-result.ensures.table ∙ i.table_is) c.hold-result.ensures.opened i.counts
           (subst (λ (z : ℕ × Option Done). AreBelow z.0 (if_done desk s z.1 (noop_entries desk noop) ++ log)) (λ j. (c.self.invariant.2 j, c.done_in-done.ensures j)) c.enter.ensures.whose)),
       ap (λ k. k.table) c.enter.ensures.keeper ∙ c.self.invariant.1,
       ap (λ k. k.made) c.enter.ensures.keeper ∙ c.self.invariant.2,
@@ -58,7 +58,7 @@ returns-clause-called g c =
       legal = subst (Legal g.K.BookName.settings) (sym is) (held_log _ c.args.event.now desk noop _ _ _ _ log i.legal c.hold-result.result h.2).1;
       noop = noop;
       calls = subst (Calls g.K.BookName.settings g.K.BookName.taped s desk noop c.hold-result.result c.hold-result.new.touched log) (sym is)
-          (held_calls _ c.args.event.now desk noop _ _ _ _ log i.legal g.K.BookName.taped i.on i.recorded c.hold-result.result h.2);
+          (held_calls _ c.args.event.now desk noop _ _ _ _ log i.legal g.K.BookName.taped i.on i.recorded i.counts c.hold-result.result c.hold-result.ensures.opened h.2);
     }
 
 pub returns-clause-told : goal.returns-clause-told

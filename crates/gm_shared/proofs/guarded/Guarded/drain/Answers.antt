@@ -30,7 +30,7 @@ invariant_of-self g c =
     let same : entries_of c.args.pen c.match-result.what ≡ drained_entries c.args.pen c.args.slot c.drain_into-result.result = elim c.match-result.branch [ in-Ok w ↦ rw (w.what-is, w.in-Ok.is) refl | in-Err w ↦ rw (w.what-is, w.in-Err.is) refl ] in
     let is = ap (λ k. k.log) c.enter.ensures.keeper ∙ ap (λ es. es ++ log) same in (
       subst (IsGuarded g.K.BookName.table g.K.BookName.settings g.K.BookName.taped c.drain_into-result.new.self) (sym is)
-          (drained_guarded _ c.args.pen c.args.slot _ _ _ log i.legal g.K.BookName.taped i.on i.recorded c.drain_into-result.result h.2 g.K.BookName.table (ap (λ s. s.table) c.drain_into-result.ensures.seat ∙ i.table_is)
+          (drained_guarded _ c.args.pen c.args.slot _ _ _ log i.legal g.K.BookName.taped i.on i.recorded c.drain_into-result.result h.2 g.K.BookName.table (ap (λ s. s.table) c.drain_into-result.ensures.seat ∙ i.table_is) c.drain_into-result.ensures.openings i.counts
           (subst (λ (z : ℕ × List Entry). AreBelow z.0 (z.1 ++ log)) (λ j. (c.self.invariant.2 j, same j)) c.enter.ensures.whose)),
       ap (λ k. k.table) c.enter.ensures.keeper ∙ c.self.invariant.1,
       ap (λ k. k.made) c.enter.ensures.keeper ∙ c.self.invariant.2,
@@ -48,7 +48,7 @@ returns-clause-called g c =
       knows = subst (λ who. Knows log who c.args.front.now.seen) c.requires.who c.enter.ensures.knows;
       legal = subst (Legal g.K.BookName.settings) (sym is)
           (drained_log _ c.args.pen c.args.slot _ _ _ log i.legal c.drain_into-result.result h.2).1;
-      gives = drained_gives _ c.args.pen c.args.slot _ _ _ log i.legal g.K.BookName.taped i.on c.drain_into-result.result h.2;
+      gives = drained_gives _ c.args.pen c.args.slot _ _ _ log i.legal g.K.BookName.taped i.on i.counts c.drain_into-result.result c.drain_into-result.ensures.opening h.2;
       after_is = is;
     }
 

@@ -1,6 +1,6 @@
 use Rattle.std.proofs.Common.{subst}
 use Rattle.gm_shared.specs.Shared.{GuardedState, IsGuarded}
-use Rattle.gm_shared.proofs.guarded.Guarded.into_book.Goals as goal
+use Rattle.gm_shared.proofs.guarded.Guarded.into_parts.Goals as goal
 
 pub returns-clause-guarded : goal.returns-clause-guarded
 returns-clause-guarded g c =
