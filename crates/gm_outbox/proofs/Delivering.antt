@@ -1,17 +1,19 @@
 -- A delivery: what was left, and then what the pen gives.
-use Rattle.std.proofs.Common.{◌≡◌, ℕ, ◌+◌, Bool, true, false, List, [], ◌++◌, Option, Result, Ok, Err, refl, sym, ap, subst, ◌∙◌}
+use Rattle.std.proofs.Common.{◌≡◌, ℕ, ◌+◌, max, Bool, true, false, List, [], ◌++◌, Option, Some, None, Result, Ok, Err, refl, sym, ap, subst, ◌∙◌}
 use Rattle.std.specs.Prelude.{MatchBool}
 use Rattle.std.proofs.lemmas.List.{append-nil, append_assoc}
 use Rattle.std.proofs.KnownBytes.{Appends-trans}
+use Rattle.std.specs.Io.KnownBytes.{Appends}
 use Rattle.gm_notes.specs.Settings.{Settings}
 use Rattle.gm_notes.specs.declared.event.ApplyError.{ApplyError}
 use Rattle.gm_shared.specs.declared.receipt.Drained.{Drained}
 use Rattle.gm_shared.specs.declared.tape.Entry.{Entry}
 use Rattle.gm_shared.specs.Calls.{PenCalled}
-use Rattle.gm_outbox.specs.declared.message.Delivery.{Delivery}
-use Rattle.gm_outbox.specs.declared.message.Delivery.TheVariants.{Done, Over}
+use Rattle.gm_outbox.specs.declared.message.Sent.TheVariants as sent
+use Rattle.gm_outbox.specs.declared.outbox.Delivery.{Delivery}
+use Rattle.gm_outbox.specs.declared.outbox.Delivery.TheVariants.{Done, Late, Shut, Over}
 use Rattle.gm_outbox.specs.Turns.{turn_of}
-use Rattle.gm_outbox.specs.Deliveries.{Sends, unasked, given, refused, Delivers}
+use Rattle.gm_outbox.specs.Deliveries.{Sends, Tells, Takes, Gives, unasked, given, elsewhere, refused, Delivers}
 
 -- whether a NOOP was taken, said of the same counts
 pub takes_as : (took : Bool) (a b c d : ℕ) → a ≡ c → b ≡ d → MatchBool took (b ≡ a + 1) (b ≡ a) → MatchBool took (d ≡ c + 1) (d ≡ c)
@@ -24,80 +26,80 @@ pub called_as : (k : Settings) (taped : Bool) (slot same : ℕ) (result : Result
 called_as k taped slot same result seen after from to e f g h =
     subst (λ (c : ℕ). PenCalled k taped c c result seen after) e (subst (λ (s : List Entry). PenCalled k taped same same result s after) f (subst (λ (s : List Entry). PenCalled k taped same same result from s) g h))
 
--- without another reason to end it, nor with one
-sends_unless : {ended : Type 0} {delivery : Delivery} {old new : Option (List ℕ)} {due left : List ℕ} → Sends ⊥ delivery old new due left → Sends ended delivery old new due left
-sends_unless sends = record {
-  sent = sends.sent;
-  rest = sends.rest;
-  written = sends.written;
-  whole = sends.whole;
-  leaves = sends.leaves;
-  over = λ is none. absurd (sends.over is none);
-}
-
-module _ (k : Settings) (taped : Bool) (slot takes takes_after : ℕ) (seen after : List Entry) (old mid : Option (List ℕ)) (left between : List ℕ) where
+module _ (k : Settings) (taped : Bool) (slot opening opening_after takes takes_after : ℕ) (seen after : List Entry) (old mid : Option (List ℕ)) (left between : List ℕ) where
   -- what was left couldn't all be sent
-  pub delivers_left : (delivery : Delivery) → (delivery ≡ Done → ⊥) → takes_after ≡ takes → after ≡ seen → Sends ⊥ delivery old mid left between
-      → Delivers k taped delivery slot takes takes_after seen after old mid left between
-  delivers_left delivery undone t s sends = record {
-    asked = false;
+  delivers_left : (delivery : Delivery) → opening_after ≡ opening → takes_after ≡ takes → after ≡ seen → (front rest : List ℕ) → Appends old mid front → left ≡ front ++ rest → Tells delivery None rest between
+      → Delivers k taped delivery slot opening opening_after takes takes_after seen after old mid left between
+  delivers_left delivery o t s front rest written whole tells = record {
+    gave_shut = None;
     took = false;
     gave = [];
-    ended = false;
-    gives = unasked t s;
-    done = λ is. absurd (undone is);
-    sends = subst (λ due. Sends (false ≡ true) delivery old mid due between) (sym (append-nil left)) (sends_unless sends);
+    gives = unasked o t s;
+    front = front;
+    rest = rest;
+    written = written;
+    whole = append-nil left ∙ whole;
+    tells = tells;
+    here = λ _. o;
   }
 
-  module _ (sends : Sends ⊥ Done old mid left between) (took : Bool) (takes_so : MatchBool took (takes_after ≡ takes + 1) (takes_after ≡ takes)) where
-    all_sent : left ≡ sends.sent
-    all_sent = sends.whole ∙ (ap (λ rest. sends.sent ++ rest) sends.leaves.0 ∙ append-nil sends.sent)
+  pub delivers_some : opening_after ≡ opening → takes_after ≡ takes → after ≡ seen → Sends sent.Some old mid left between → Delivers k taped Late slot opening opening_after takes takes_after seen after old mid left between
+  delivers_some o t s sends = delivers_left Late o t s sends.front sends.rest sends.written sends.whole sends.leaves
 
-    -- the pen was refused: the connection is over
-    pub delivers_none : (error : ApplyError) → PenCalled k taped slot slot (Err error) seen after → Delivers k taped Over slot takes takes_after seen after old mid left between
-    delivers_none error called = record {
-      asked = false;
+  pub delivers_failed : opening_after ≡ opening → takes_after ≡ takes → after ≡ seen → Sends sent.Failed old mid left between → Delivers k taped Over slot opening opening_after takes takes_after seen after old mid left between
+  delivers_failed o t s sends = delivers_left Over o t s sends.front sends.rest sends.written sends.whole sends.leaves.0
+
+  module _ (sends : Sends sent.All old mid left between) (took : Bool) (takes_so : Takes took takes takes_after) where
+    all_sent : left ≡ sends.front
+    all_sent = sends.whole ∙ (ap (λ rest. sends.front ++ rest) sends.leaves.0 ∙ append-nil sends.front)
+
+    -- the connection is over: the pen gave nothing to send
+    delivers_nothing : Gives k taped slot opening opening_after takes takes_after seen after None took [] → Delivers k taped Over slot opening opening_after takes takes_after seen after old mid left between
+    delivers_nothing gives = record {
+      gave_shut = None;
       took = took;
       gave = [];
-      ended = true;
-      gives = refused took error takes_so called;
-      done = λ is. absurd cc;
-      sends = record {
-        sent = sends.sent;
-        rest = turn_of took [];
-        written = sends.written;
-        whole = ap (λ front. front ++ turn_of took []) all_sent;
-        leaves = sends.leaves.1;
-        over = λ is none. refl;
-      };
+      gives = gives;
+      front = sends.front;
+      rest = turn_of took [];
+      written = sends.written;
+      whole = ap (λ front. front ++ turn_of took []) all_sent;
+      tells = sends.leaves.1;
+      here = λ no. absurd (no refl);
     }
 
-    module _ (drained : Drained) (called : PenCalled k taped slot slot (Ok drained) seen after) (new : Option (List ℕ)) (due left_after : List ℕ) (is_due : due ≡ turn_of took drained.bytes.bytes) where
+    pub delivers_none : opening_after ≡ opening → (error : ApplyError) → PenCalled k taped slot slot (Err error) seen after → Delivers k taped Over slot opening opening_after takes takes_after seen after old mid left between
+    delivers_none o error called = delivers_nothing (refused took error o takes_so called)
+
+    pub delivers_elsewhere : (drained : Drained) → (drained.opening ≡ opening → ⊥) → opening_after ≡ max opening drained.opening → PenCalled k taped slot slot (Ok drained) seen after
+        → Delivers k taped Over slot opening opening_after takes takes_after seen after old mid left between
+    delivers_elsewhere drained other o called = delivers_nothing (elsewhere took drained other o takes_so called)
+
+    module _ (drained : Drained) (same : drained.opening ≡ opening) (o : opening_after ≡ opening) (called : PenCalled k taped slot slot (Ok drained) seen after) (new : Option (List ℕ)) (due left_after : List ℕ) (is_due : due ≡ turn_of took drained.bytes.bytes) where
       -- it gave, and that was sent as far as the peer took it
-      delivers_given : (delivery : Delivery) → (delivery ≡ Done → drained.shut ≡ false) → Sends (drained.shut ≡ true) delivery mid new due left_after
-          → Delivers k taped delivery slot takes takes_after seen after old new left left_after
-      delivers_given delivery goes_on more = record {
-        asked = true;
+      delivers_given : (delivery : Delivery) (front rest : List ℕ) → Appends mid new front → due ≡ front ++ rest → Tells delivery (Some drained.shut) rest left_after
+          → Delivers k taped delivery slot opening opening_after takes takes_after seen after old new left left_after
+      delivers_given delivery front rest written whole tells = record {
+        gave_shut = Some drained.shut;
         took = took;
         gave = drained.bytes.bytes;
-        ended = drained.shut;
-        gives = given took drained takes_so called;
-        done = λ is. (refl, goes_on is);
-        sends = record {
-          sent = sends.sent ++ more.sent;
-          rest = more.rest;
-          written = Appends-trans old mid new sends.sent more.sent sends.written more.written;
-          whole = ap (λ front. front ++ turn_of took drained.bytes.bytes) all_sent ∙ (ap (λ bytes. sends.sent ++ bytes) (sym is_due ∙ more.whole) ∙ sym (append_assoc sends.sent more.sent more.rest));
-          leaves = more.leaves;
-          over = more.over;
-        };
+        gives = given took drained same o takes_so called;
+        front = sends.front ++ front;
+        rest = rest;
+        written = Appends-trans old mid new sends.front front sends.written written;
+        whole = ap (λ bytes. bytes ++ turn_of took drained.bytes.bytes) all_sent ∙ (ap (λ bytes. sends.front ++ bytes) (sym is_due ∙ whole) ∙ sym (append_assoc sends.front front rest));
+        tells = tells;
+        here = λ _. o;
       }
 
-      pub delivers_more : (delivery : Delivery) → (delivery ≡ Done → drained.shut ≡ false) → Sends ⊥ delivery mid new due left_after
-          → Delivers k taped delivery slot takes takes_after seen after old new left left_after
-      delivers_more delivery goes_on more = delivers_given delivery goes_on (sends_unless more)
+      pub given_all : drained.shut ≡ false → Sends sent.All mid new due left_after → Delivers k taped Done slot opening opening_after takes takes_after seen after old new left left_after
+      given_all unshut more = delivers_given Done more.front more.rest more.written more.whole (ap Some unshut, more.leaves.0, more.leaves.1)
 
-      -- all of that, and the slot is shut
-      pub delivers_last : drained.shut ≡ true → Sends ⊥ Done mid new due left_after → Delivers k taped Over slot takes takes_after seen after old new left left_after
-      delivers_last shut more =
-          delivers_given Over (λ is. absurd cc) (record { sent = more.sent; rest = more.rest; written = more.written; whole = more.whole; leaves = more.leaves.1; over = λ is none. shut })
+      pub given_last : drained.shut ≡ true → Sends sent.All mid new due left_after → Delivers k taped Shut slot opening opening_after takes takes_after seen after old new left left_after
+      given_last shut more = delivers_given Shut more.front more.rest more.written more.whole (ap Some shut, more.leaves.0, more.leaves.1)
+
+      pub given_some : Sends sent.Some mid new due left_after → Delivers k taped Late slot opening opening_after takes takes_after seen after old new left left_after
+      given_some more = delivers_given Late more.front more.rest more.written more.whole more.leaves
+
+      pub given_failed : Sends sent.Failed mid new due left_after → Delivers k taped Over slot opening opening_after takes takes_after seen after old new left left_after
+      given_failed more = delivers_given Over more.front more.rest more.written more.whole more.leaves.0

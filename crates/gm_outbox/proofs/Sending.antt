@@ -1,12 +1,14 @@
 -- A message that is sent in several writes.
-use Rattle.std.proofs.Common.{◌≡◌, ℕ, List, [], ◌++◌, Option, length, take, drop, refl, sym, ap, ◌∙◌, arith, length-append, length-drop}
+use Rattle.std.proofs.Common.{◌≡◌, ℕ, ◌+◌, ◌-◌, ◌≤◌, Bool, true, false, List, [], ◌++◌, Option, length, take, drop, refl, sym, ap, subst, ◌∙◌, arith, length-append, length-drop, drop-drop}
+use Rattle.std.proofs.Math.ListN.{drop_of_length-le}
+use Rattle.gm_packet.specs.Packets.{packet}
 use Rattle.std.proofs.lemmas.List.{append_assoc, take-append-drop, take-append-le}
 use Rattle.std.proofs.KnownBytes.{Appends-nil, Appends-trans}
 use Rattle.std.specs.Io.KnownBytes.{Appends}
-use Rattle.gm_outbox.specs.declared.message.Delivery.{Delivery}
-use Rattle.gm_outbox.specs.declared.message.Delivery.TheVariants.{Done, Late}
+use Rattle.gm_outbox.specs.declared.message.Sent.{Sent}
+use Rattle.gm_outbox.specs.declared.message.Sent.TheVariants as sent
 use Rattle.gm_outbox.specs.Deliveries.{SendsFront}
-use Rattle.gm_outbox.specs.Turns.{Writes}
+use Rattle.gm_outbox.specs.Turns.{noop_if, Writes}
 
 -- a front of what was due is sent, and this is left
 pub record Sending (old now : Option (List ℕ)) (due left : List ℕ) : Type 0 where
@@ -18,8 +20,8 @@ pub sending_none : (old : Option (List ℕ)) (due : List ℕ) → Sending old ol
 sending_none old due = record { sent = []; written = Appends-nil old; whole = refl }
 
 -- some is left
-pub sending_late : (old now : Option (List ℕ)) (due left : List ℕ) → Sending old now due left → (left ≡ [] → ⊥) → SendsFront Late old now due left
-sending_late old now due left so_far some = record { sent = so_far.sent; written = so_far.written; whole = so_far.whole; done = λ is. absurd cc; undone = λ is. absurd (some is) }
+pub sending_late : (old now : Option (List ℕ)) (due left : List ℕ) → Sending old now due left → (left ≡ [] → ⊥) → SendsFront sent.Some old now due left
+sending_late old now due left so_far some = record { front = so_far.sent; written = so_far.written; whole = so_far.whole; all = λ is. absurd cc; unless_all = λ is. absurd (some is) }
 
 module _ (old now new : Option (List ℕ)) (due left after : List ℕ) (so_far : Sending old now due left) where
   joined : (sent : List ℕ) → left ≡ sent ++ after → due ≡ (so_far.sent ++ sent) ++ after
@@ -33,19 +35,19 @@ module _ (old now new : Option (List ℕ)) (due left after : List ℕ) (so_far :
   }
 
   -- the last write
-  pub sending_last : (delivery : Delivery) → SendsFront delivery now new left after → SendsFront delivery old new due after
-  sending_last delivery last = record {
-    sent = so_far.sent ++ last.sent;
-    written = Appends-trans old now new so_far.sent last.sent so_far.written last.written;
-    whole = joined last.sent last.whole;
-    done = last.done;
-    undone = last.undone;
+  pub sending_last : (outcome : Sent) → SendsFront outcome now new left after → SendsFront outcome old new due after
+  sending_last outcome last = record {
+    front = so_far.sent ++ last.front;
+    written = Appends-trans old now new so_far.sent last.front so_far.written last.written;
+    whole = joined last.front last.whole;
+    all = last.all;
+    unless_all = last.unless_all;
   }
 
 -- ---- one write of the bytes that lie in one place
 
-module _ (old now new : Option (List ℕ)) (due bytes chunk rest moved noop : List ℕ) (count : ℕ) (delivery : Delivery) (so_far : Sending old now due (bytes ++ noop))
-    (first : bytes ≡ chunk ++ rest) (writes : Writes now new chunk count delivery) (after : moved ≡ drop count bytes) where
+module _ (old now new : Option (List ℕ)) (due bytes chunk rest moved noop : List ℕ) (count : ℕ) (outcome : Sent) (so_far : Sending old now due (bytes ++ noop))
+    (first : bytes ≡ chunk ++ rest) (writes : Writes now new chunk count outcome) (after : moved ≡ drop count bytes) where
   taken : take count bytes ≡ take count chunk
   taken = ap (take count) first ∙ take-append-le count chunk rest writes.within
 
@@ -55,13 +57,13 @@ module _ (old now new : Option (List ℕ)) (due bytes chunk rest moved noop : Li
       (ap (λ l. l ++ noop) (sym (take-append-drop count bytes)) ∙ (append_assoc (take count bytes) (drop count bytes) noop ∙ (λ j. taken j ++ (sym after j ++ noop))))
 
   -- the peer takes no more
-  pub chunk_stops : (stopped : Delivery) → delivery ≡ stopped → (stopped ≡ Done → ⊥) → SendsFront stopped old new due (moved ++ noop)
-  chunk_stops stopped is_stopped undone = record {
-    sent = chunk_sent.sent;
+  pub chunk_stops : (stopped : Sent) → outcome ≡ stopped → (stopped ≡ sent.All → ⊥) → SendsFront stopped old new due (moved ++ noop)
+  chunk_stops stopped is_stopped not_all = record {
+    front = chunk_sent.sent;
     written = chunk_sent.written;
     whole = chunk_sent.whole;
-    done = λ is. absurd (undone is);
-    undone = λ is. sym is_stopped ∙ writes.undone (omega (
+    all = λ is. absurd (not_all is);
+    unless_all = λ is. sym is_stopped ∙ writes.unless_all (omega (
       arith,
       writes.within,
       ap length is,
@@ -70,4 +72,40 @@ module _ (old now new : Option (List ℕ)) (due bytes chunk rest moved noop : Li
       length-drop count bytes,
       ap length first ∙ length-append chunk rest,
     ));
+  }
+
+-- ---- a NOOP
+
+noop_short : (took : Bool) → length (noop_if took) ≤ 12
+unfolding packet
+noop_short true = omega arith
+noop_short false = omega arith
+
+module _ (old new : Option (List ℕ)) (took : Bool) (sent count : ℕ) (outcome : Sent) (within : sent ≤ 12)
+    (there : List ℕ) (there_is : there ≡ drop sent (noop_if took)) (wrote : Writes old new there count outcome) where
+  abbrev pub noop_rest : List ℕ
+  noop_rest = drop sent (noop_if took)
+
+  writes : Writes old new noop_rest count outcome
+  writes = subst (λ l. Writes old new l count outcome) there_is wrote
+
+  left_is : length noop_rest ≡ length (noop_if took) - sent
+  left_is = length-drop sent (noop_if took)
+
+  pub noop_within : sent + count ≤ 12
+  noop_within = let short = noop_short took in omega (arith, within, writes.within, left_is, short)
+
+  moves : drop count noop_rest ≡ drop (sent + count) (noop_if took)
+  moves = drop-drop count sent (noop_if took)
+
+  none_left : drop (sent + count) (noop_if took) ≡ [] → count ≡ length noop_rest
+  none_left is = omega (arith, writes.within, sym (ap length (moves ∙ is)) ∙ length-drop count noop_rest)
+
+  pub noop_sent : (bytes : List ℕ) → bytes ≡ [] → SendsFront outcome old new (bytes ++ noop_rest) (bytes ++ drop (sent + count) (noop_if took))
+  noop_sent _ none = rw none record {
+    front = take count noop_rest;
+    written = writes.written;
+    whole = sym (take-append-drop count noop_rest) ∙ ap (λ l. take count noop_rest ++ l) moves;
+    all = λ is. sym moves ∙ drop_of_length-le noop_rest (omega (arith, writes.all is));
+    unless_all = λ is. writes.unless_all (none_left is);
   }

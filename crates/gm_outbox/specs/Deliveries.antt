@@ -1,64 +1,88 @@
 -- What a delivery sends to a connection.
-use Rattle.std.specs.Prelude.{◌≡◌, ◌+◌, ℕ, List, [], ◌++◌, Bool, true, false, Option, Some, None, Ok, Err, MatchBool}
+use Rattle.std.specs.Prelude.{◌≡◌, ◌+◌, max, ℕ, List, [], ◌++◌, drop, Bool, true, false, Option, Some, None, Ok, Err, MatchBool}
 use Rattle.std.specs.Io.KnownBytes.{Appends}
 use Rattle.gm_notes.specs.Settings.{Settings}
 use Rattle.gm_notes.specs.declared.event.ApplyError.{ApplyError}
 use Rattle.gm_shared.specs.declared.receipt.Drained.{Drained}
 use Rattle.gm_shared.specs.declared.tape.Entry.{Entry}
 use Rattle.gm_shared.specs.Calls.{PenCalled}
-use Rattle.gm_outbox.specs.declared.message.Delivery.{Delivery}
-use Rattle.gm_outbox.specs.declared.message.Delivery.TheVariants.{Done, Late, Over}
+use Rattle.gm_outbox.specs.declared.message.Sent.{Sent}
+use Rattle.gm_outbox.specs.declared.message.Sent.TheVariants as sent
+use Rattle.gm_outbox.specs.declared.outbox.Delivery.{Delivery}
+use Rattle.gm_outbox.specs.declared.outbox.Delivery.TheVariants.{Done, Late, Shut, Over}
 use Rattle.gm_outbox.specs.declared.outbox.Message.{Message}
-use Rattle.gm_outbox.specs.Turns.{turn_of}
+use Rattle.gm_outbox.specs.Turns.{noop_if, turn_of}
+
+-- what isn't sent yet of a message's NOOP, where one was taken
+abbrev pub noop_left : Message → List ℕ
+noop_left message = drop message.noop_sent (noop_if message.took)
 
 -- what isn't sent yet of a message
 abbrev pub unsent : Message → List ℕ
-unsent message = message.bytes.bytes ++ message.noop.now
+unsent message = message.bytes.bytes ++ noop_left message
 
 abbrev pub left_in : Option Message → List ℕ
 left_in None = []
 left_in (Some message) = unsent message
 
--- A front of what was due was sent, and this is left; nothing exactly where all is done.
-pub record SendsFront (delivery : Delivery) (old new : Option (List ℕ)) (due left : List ℕ) : Type 0 where
-  pub sent : List ℕ
-  pub written : Appends old new sent
-  pub whole : due ≡ sent ++ left
-  pub done : delivery ≡ Done → left ≡ []
-  pub undone : left ≡ [] → delivery ≡ Done
+-- A front of what was due was sent, and this is left; nothing exactly where all was.
+pub record SendsFront (outcome : Sent) (old new : Option (List ℕ)) (due left : List ℕ) : Type 0 where
+  pub front : List ℕ
+  pub written : Appends old new front
+  pub whole : due ≡ front ++ left
+  pub all : outcome ≡ sent.All → left ≡ []
+  pub unless_all : left ≡ [] → outcome ≡ sent.All
 
--- What becomes of what wasn't sent: at Done there is none; at Late there is some, and it is left; a connection that is over forgets it.
-abbrev pub Leaves : Delivery → List ℕ → List ℕ → Type 0
-Leaves Done rest left = (rest ≡ []) × (left ≡ [])
-Leaves Late rest left = (left ≡ rest) × (rest ≡ [] → ⊥)
-Leaves Over rest left = left ≡ []
+-- What becomes of what wasn't sent: there is none where all was; some is left where some was; where sending failed, some wasn't and is
+-- forgotten.
+abbrev pub Leaves : Sent → List ℕ → List ℕ → Type 0
+Leaves sent.All rest left = (rest ≡ []) × (left ≡ [])
+Leaves sent.Some rest left = (left ≡ rest) × (rest ≡ [] → ⊥)
+Leaves sent.Failed rest left = (left ≡ []) × (rest ≡ [] → ⊥)
 
--- A front of what was due was sent. The connection is over where the writer failed before all was sent, or, with all sent, where it has
--- ended anyhow.
-pub record Sends (ended : Type 0) (delivery : Delivery) (old new : Option (List ℕ)) (due left : List ℕ) : Type 0 where
-  pub sent : List ℕ
+-- A front of what was due was sent.
+pub record Sends (outcome : Sent) (old new : Option (List ℕ)) (due left : List ℕ) : Type 0 where
+  pub front : List ℕ
   pub rest : List ℕ
-  pub written : Appends old new sent
-  pub whole : due ≡ sent ++ rest
-  pub leaves : Leaves delivery rest left
-  pub over : delivery ≡ Over → rest ≡ [] → ended
+  pub written : Appends old new front
+  pub whole : due ≡ front ++ rest
+  pub leaves : Leaves outcome rest left
 
--- What a pen gave for a delivery: whether it was asked and gave at all, with a NOOP or without, the bytes, and whether the connection has
--- ended by that, as its slot is shut or nothing was given.
-pub data Gives (k : Settings) (taped : Bool) (slot takes takes_after : ℕ) (before after : List Entry) : Bool → Bool → List ℕ → Bool → Type 0 where
-  unasked : takes_after ≡ takes → after ≡ before → Gives k taped slot takes takes_after before after false false [] false
-  given : (took : Bool) (drained : Drained) → MatchBool took (takes_after ≡ takes + 1) (takes_after ≡ takes)
-      → PenCalled k taped slot slot (Ok drained) before after → Gives k taped slot takes takes_after before after true took drained.bytes.bytes drained.shut
-  refused : (took : Bool) (error : ApplyError) → MatchBool took (takes_after ≡ takes + 1) (takes_after ≡ takes)
-      → PenCalled k taped slot slot (Err error) before after → Gives k taped slot takes takes_after before after false took [] true
+-- ---- a delivery
+
+-- A NOOP was taken, or none.
+abbrev pub Takes : Bool → ℕ → ℕ → Type 0
+Takes took takes after = MatchBool took (after ≡ takes + 1) (after ≡ takes)
+
+-- What a pen gave for a delivery to the connection of this opening of its slot: it wasn't asked; it gave these bytes, with a NOOP or without, and
+-- said whether the slot is shut; it gave what waits for another opening; or it was refused.
+pub data Gives (k : Settings) (taped : Bool) (slot opening opening_after takes takes_after : ℕ) (before after : List Entry) : Option Bool → Bool → List ℕ → Type 0 where
+  unasked : opening_after ≡ opening → takes_after ≡ takes → after ≡ before → Gives k taped slot opening opening_after takes takes_after before after None false []
+  given : (took : Bool) (drained : Drained) → drained.opening ≡ opening → opening_after ≡ opening → Takes took takes takes_after
+      → PenCalled k taped slot slot (Ok drained) before after → Gives k taped slot opening opening_after takes takes_after before after (Some drained.shut) took drained.bytes.bytes
+  elsewhere : (took : Bool) (drained : Drained) → (drained.opening ≡ opening → ⊥) → opening_after ≡ max opening drained.opening → Takes took takes takes_after
+      → PenCalled k taped slot slot (Ok drained) before after → Gives k taped slot opening opening_after takes takes_after before after None took []
+  refused : (took : Bool) (error : ApplyError) → opening_after ≡ opening → Takes took takes takes_after
+      → PenCalled k taped slot slot (Err error) before after → Gives k taped slot opening opening_after takes takes_after before after None took []
+
+-- What a delivery says of what the pen gave and of what wasn't sent: all was sent, and the slot isn't shut, or is; some is left; or the
+-- connection is over, and what wasn't sent is forgotten.
+abbrev pub Tells : Delivery → Option Bool → List ℕ → List ℕ → Type 0
+Tells Done gave_shut rest left = (gave_shut ≡ Some false) × (rest ≡ []) × (left ≡ [])
+Tells Late gave_shut rest left = (left ≡ rest) × (rest ≡ [] → ⊥)
+Tells Shut gave_shut rest left = (gave_shut ≡ Some true) × (rest ≡ []) × (left ≡ [])
+Tells Over gave_shut rest left = left ≡ []
 
 -- A delivery sends what was left, and then what the pen gives, the NOOP behind the bytes that were drained with it: in this order,
--- each byte once. All is done only where the pen gave, and the slot isn't shut; with all sent the connection is over only where it has ended.
-pub record Delivers (k : Settings) (taped : Bool) (delivery : Delivery) (slot takes takes_after : ℕ) (before after : List Entry) (old new : Option (List ℕ)) (left left_after : List ℕ) : Type 0 where
-  pub asked : Bool
+-- each byte once. Unless the connection is over then, the pen gave nothing for another opening.
+pub record Delivers (k : Settings) (taped : Bool) (delivery : Delivery) (slot opening opening_after takes takes_after : ℕ) (before after : List Entry) (old new : Option (List ℕ)) (left left_after : List ℕ) : Type 0 where
+  pub gave_shut : Option Bool
   pub took : Bool
   pub gave : List ℕ
-  pub ended : Bool
-  pub gives : Gives k taped slot takes takes_after before after asked took gave ended
-  pub done : delivery ≡ Done → (asked ≡ true) × (ended ≡ false)
-  pub sends : Sends (ended ≡ true) delivery old new (left ++ turn_of took gave) left_after
+  pub gives : Gives k taped slot opening opening_after takes takes_after before after gave_shut took gave
+  pub front : List ℕ
+  pub rest : List ℕ
+  pub written : Appends old new front
+  pub whole : left ++ turn_of took gave ≡ front ++ rest
+  pub tells : Tells delivery gave_shut rest left_after
+  pub here : (delivery ≡ Over → ⊥) → opening_after ≡ opening

@@ -1,9 +1,9 @@
 -- What is sent to a connection: the bytes that were drained, and then a NOOP where one was taken.
-use Rattle.std.specs.Prelude.{◌≡◌, ◌≤◌, ℕ, List, [], ◌++◌, length, take, Bool, true, false, Option}
+use Rattle.std.specs.Prelude.{◌≡◌, ◌<◌, ◌≤◌, ◌^◌, ◌-◌, ℕ, List, [], ◌++◌, length, take, Bool, true, false, Option}
 use Rattle.std.specs.Io.KnownBytes.{Appends}
 use Rattle.gm_packet.specs.Answers.{noop, answer_packet}
-use Rattle.gm_outbox.specs.declared.message.Delivery.{Delivery}
-use Rattle.gm_outbox.specs.declared.message.Delivery.TheVariants.{Done, Over}
+use Rattle.gm_outbox.specs.declared.message.Sent.{Sent}
+use Rattle.gm_outbox.specs.declared.message.Sent.TheVariants as sent
 
 -- the NOOP, where one was taken
 abbrev pub noop_if : Bool → List ℕ
@@ -14,11 +14,28 @@ noop_if false = []
 abbrev pub turn_of : Bool → List ℕ → List ℕ
 turn_of took drained = drained ++ noop_if took
 
--- A write took this many of the bytes, which are in order the next that the writer was given: all of them exactly where all is
--- done, and none where there is no peer to write to.
-pub record Writes (old new : Option (List ℕ)) (bytes : List ℕ) (count : ℕ) (delivery : Delivery) : Type 0 where
+-- A write took this many of the bytes, which are in order the next that the writer was given: all of them exactly where that is
+-- said, and none where there is no peer to write to.
+pub record Writes (old new : Option (List ℕ)) (bytes : List ℕ) (count : ℕ) (outcome : Sent) : Type 0 where
   pub within : count ≤ length bytes
   pub written : Appends old new (take count bytes)
-  pub done : delivery ≡ Done → count ≡ length bytes
-  pub undone : count ≡ length bytes → delivery ≡ Done
-  pub over : delivery ≡ Over → count ≡ 0
+  pub all : outcome ≡ sent.All → count ≡ length bytes
+  pub unless_all : count ≡ length bytes → outcome ≡ sent.All
+  pub failed : outcome ≡ sent.Failed → count ≡ 0
+
+-- ---- openings
+
+-- the greatest count of openings, at which a counter of 64 bits stays
+abbrev pub most_openings : ℕ
+most_openings = 2 ^ 64 - 1
+
+-- the connection of this opening of a slot begins, a later one than those known so far
+pub record Begins (opening old new : ℕ) : Type 0 where
+  pub later : old < opening
+  pub below : opening < most_openings
+  pub known : new ≡ opening
+
+-- it does exactly where it may
+abbrev pub BeginsIf : Bool → ℕ → ℕ → ℕ → Type 0
+BeginsIf true opening old new = Begins opening old new
+BeginsIf false opening old new = (new ≡ old) × (old < opening → opening < most_openings → ⊥)

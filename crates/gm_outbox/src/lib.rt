@@ -2,10 +2,14 @@
 //! slot's pen and what is left of a message: it sends that, and then what the pen takes out of the book.
 #![tactic(auto)]
 
+mod logged;
 mod message;
 mod outbox;
+mod wire;
 mod writing;
 
-pub use message::Delivery;
-pub use outbox::{Message, Outbox};
+pub use logged::LoggedWriter;
+pub use message::Sent;
+pub use outbox::{Delivery, Message, Outbox};
+pub use wire::{Line, Wire};
 pub use writing::{WriteFault, write_turn};

@@ -3,20 +3,21 @@
 ghost use Rattle.std.specs.Prelude.{◌≡◌};
 ghost use Rattle.gm_outbox.specs.Turns.{noop_if, Writes};
 
-use std::io::{Error, ErrorKind, Write};
+use crate::wire::Wire;
+use std::io::{Error, ErrorKind};
 
 /// The packet NOOP (the Gearman PROTOCOL document, "NOOP"): the magic of a response, the type 6, and no data.
 const NOOP: &[u8] = b"\0RES\0\0\0\x06\0\0\0\0";
 
-/// What came of a delivery, or of a write.
+/// What came of a write, or of those of a message.
 #[derive(Clone, Copy, Debug, PartialEq, Eq)]
-pub enum Delivery {
-    /// All was sent.
-    Done,
-    /// The peer takes no more at present, or was sent as much as it is at a time; what is left waits in the outbox.
-    Late,
-    /// There is no connection to send to.
-    Over,
+pub enum Sent {
+    /// The peer took all.
+    All,
+    /// It takes no more at present, or was sent as much as it is at a time.
+    Some,
+    /// It can't be sent any more.
+    Failed,
 }
 
 /// Whether a write only came too early.
@@ -35,23 +36,23 @@ pub(crate) fn noop_if(took: bool) -> &'static [u8]
 
 /// Writes the bytes, as many as the writer takes in one write, and says how many these were. Where it takes some and not all,
 /// it takes no more at present.
-pub(crate) fn write_once<W: Write>(bytes: &[u8], w: &mut W) -> (usize, Delivery)
+pub(crate) fn write_once<E, W: Wire<E>>(bytes: &[u8], w: &mut W, by: &E) -> (usize, Sent)
     ensures { Writes (W.contents w.old) (W.contents w.new) bytes.now result.0 result.1 }
 {
     // Modelled in models/lane.h.
     if bytes.is_empty() {
-        return (0, Delivery::Done);
+        return (0, Sent::All);
     }
-    match w.write(bytes) {
-        Ok(count) if count == bytes.len() => (count, Delivery::Done),
-        Ok(0) => (0, Delivery::Over),
-        Ok(count) => (count, Delivery::Late),
+    match w.write_by(by, bytes) {
+        Ok(count) if count == bytes.len() => (count, Sent::All),
+        Ok(0) => (0, Sent::Failed),
+        Ok(count) => (count, Sent::Some),
         Err(error) => (
             0,
             if is_late(&error) {
-                Delivery::Late
+                Sent::Some
             } else {
-                Delivery::Over
+                Sent::Failed
             },
         ),
     }

@@ -1,12 +1,26 @@
 //! What is to be sent to a connection, and how it is sent.
 
-ghost use Rattle.std.specs.Prelude.{◌≡◌, ◌<◌, ℕ, List, [], ◌++◌, length};
+ghost use Rattle.std.specs.Prelude.{◌≡◌, ◌<◌, ◌≤◌, ℕ, List, [], ◌++◌, length, max, true};
+ghost use Rattle.gm_outbox.specs.Turns.{BeginsIf};
 
-use crate::message::{Delivery, noop_if, write_once};
+use crate::message::{Sent, noop_if, write_once};
+use crate::wire::Wire;
 use gm_bytes::ByteQueue;
 use gm_shared::{BookName, Drained, Pen, Shared};
-use std::io::Write;
 use std::sync::Wait;
+
+/// What came of a delivery.
+#[derive(Clone, Copy, Debug, PartialEq, Eq)]
+pub enum Delivery {
+    /// All was sent.
+    Done,
+    /// The peer takes no more at present, or was sent as much as it is at a time; what is left waits in the outbox.
+    Late,
+    /// All was sent, and the slot is shut: it is to be sent no more.
+    Shut,
+    /// There is no connection to send to.
+    Over,
+}
 
 /// The most bytes that are handed to the socket in one write: so long a write may wait while its peer reads slowly.
 const MOST_WRITTEN: usize = 262_144;
@@ -19,13 +33,16 @@ const MOST_WRITES: u32 = 8;
 pub struct Message {
     /// The bytes that aren't sent yet.
     bytes: ByteQueue,
-    /// What isn't sent yet of the NOOP.
-    noop: &'static [u8],
+    /// Whether a NOOP was taken, which is sent behind them.
+    took: bool,
+    /// How many bytes of the NOOP are sent.
+    noop_sent: usize,
+    ghost within: { noop_sent ≤ 12 },
 }
 
 impl Message {
     ghost use Rattle.gm_outbox.specs.Turns.{turn_of};
-    ghost use Rattle.gm_outbox.specs.Deliveries.{unsent, SendsFront};
+    ghost use Rattle.gm_outbox.specs.Deliveries.{noop_left, unsent, SendsFront};
 
     /// These bytes, and a NOOP where one was taken.
     pub fn new(bytes: ByteQueue, took: bool) -> Message
@@ -33,8 +50,17 @@ impl Message {
     {
         Message {
             bytes,
-            noop: noop_if(took),
+            took,
+            noop_sent: 0,
         }
+    }
+
+    /// What isn't sent yet of the NOOP.
+    fn noop(&self) -> &[u8]
+        ensures { result.now ≡ noop_left self.now }
+    {
+        let noop = noop_if(self.took);
+        &noop[self.noop_sent.min(noop.len())..]
     }
 
     /// The next bytes to write: those that lie in one place, and no more than one write may take.
@@ -47,7 +73,7 @@ impl Message {
     }
 
     /// Sends what isn't sent yet, the bytes in as many writes as it takes, and then the NOOP. After `MOST_WRITES` it is late.
-    pub fn send<W: Write>(&mut self, w: &mut W) -> Delivery
+    pub fn send<E, W: Wire<E>>(&mut self, w: &mut W, by: &E) -> Sent
         ensures { SendsFront result (W.contents w.old) (W.contents w.new) (unsent self.old) (unsent self.new) }
     {
         // Modelled in models/lane.h.
@@ -55,31 +81,31 @@ impl Message {
         loop {
             let chunk = self.next_chunk();
             if chunk.is_empty() {
-                return self.send_noop(w);
+                return self.send_noop(w, by);
             }
             if writes_left == 0 {
-                return Delivery::Late;
+                return Sent::Some;
             }
             writes_left -= 1;
-            let (count, delivery) = write_once(chunk, w);
+            let (count, sent) = write_once(chunk, w, by);
             self.bytes.advance(count);
-            match delivery {
-                Delivery::Done => {}
-                Delivery::Late => return Delivery::Late,
-                Delivery::Over => return Delivery::Over,
+            match sent {
+                Sent::All => {}
+                Sent::Some => return Sent::Some,
+                Sent::Failed => return Sent::Failed,
             }
         }
     }
 
     /// Sends what isn't sent yet of the NOOP, where all of the bytes are.
-    fn send_noop<W: Write>(&mut self, w: &mut W) -> Delivery
+    fn send_noop<E, W: Wire<E>>(&mut self, w: &mut W, by: &E) -> Sent
         requires { self.old.bytes.bytes ≡ [] }
         ensures { SendsFront result (W.contents w.old) (W.contents w.new) (unsent self.old) (unsent self.new) }
     {
         // Modelled in models/lane.h.
-        let (count, delivery) = write_once(self.noop, w);
-        self.noop = &self.noop[count..];
-        delivery
+        let (count, sent) = write_once(self.noop(), w, by);
+        self.noop_sent += count;
+        sent
     }
 }
 
@@ -88,6 +114,8 @@ impl Message {
 pub struct Outbox<K: BookName> {
     pen: Pen<K>,
     left: Option<Message>,
+    // The newest opening of its slot that is known: the present connection's, or the one of the last drain.
+    opening: u64,
 }
 
 impl<K: BookName> Outbox<K> {
@@ -97,8 +125,28 @@ impl<K: BookName> Outbox<K> {
     pub fn new(pen: Pen<K>) -> Outbox<K>
         ensures pen { result.pen ≡ pen }
         ensures empty { left_in result.left ≡ [] }
+        ensures opening { result.opening ≡ 0 }
     {
-        Outbox { pen, left: None }
+        Outbox {
+            pen,
+            left: None,
+            opening: 0,
+        }
+    }
+
+    /// Begins with the connection for which the slot was opened this often. It says whether that can be sent to: not if this opening is no
+    /// later one than those known so far, or a count of 64 bits can't tell it from the next.
+    pub fn begin(&mut self, opening: u64) -> bool
+        ensures begins { BeginsIf result opening self.old.opening self.new.opening }
+        ensures pen { self.new.pen ≡ self.old.pen }
+        ensures left { self.new.left ≡ self.old.left }
+    {
+        // Modelled in models/lane.h.
+        if opening <= self.opening || opening == u64::MAX {
+            return false;
+        }
+        self.opening = opening;
+        true
     }
 
     /// The number of the pen's slot.
@@ -115,9 +163,28 @@ impl<K: BookName> Outbox<K> {
         self.pen
     }
 
+    /// Whether nothing is left of the present message.
+    pub fn is_empty(&self) -> bool
+        ensures { result ≡ true → left_in self.now.left ≡ [] }
+    {
+        self.left.is_none()
+    }
+
+    /// Notes that the slot was opened this often.
+    fn note_opening(&mut self, opening: u64)
+        ensures opening { self.new.opening ≡ max self.old.opening opening }
+        ensures pen { self.new.pen ≡ self.old.pen }
+        ensures left { self.new.left ≡ self.old.left }
+    {
+        if self.opening < opening {
+            self.opening = opening;
+        }
+    }
+
     /// Forgets what is left: all of it is sent, or there is no connection to send it to.
     pub fn forget(&mut self)
         ensures pen { self.new.pen ≡ self.old.pen }
+        ensures opening { self.new.opening ≡ self.old.opening }
         ensures empty { left_in self.new.left ≡ [] }
     {
         // Modelled in models/lane.h.
@@ -125,58 +192,74 @@ impl<K: BookName> Outbox<K> {
     }
 
     /// Sends what is left of the present message.
-    fn send_left<W: Write>(&mut self, w: &mut W) -> Delivery
-        ensures sends { Sends ⊥ result (W.contents w.old) (W.contents w.new) (left_in self.old.left) (left_in self.new.left) }
+    fn send_left<E, W: Wire<E>>(&mut self, w: &mut W, by: &E) -> Sent
+        ensures sends { Sends result (W.contents w.old) (W.contents w.new) (left_in self.old.left) (left_in self.new.left) }
         ensures pen { self.new.pen ≡ self.old.pen }
+        ensures opening { self.new.opening ≡ self.old.opening }
     {
         // Modelled in models/lane.h.
         let Some(message) = &mut self.left else {
-            return Delivery::Done;
+            return Sent::All;
         };
-        let delivery = message.send(w);
-        if delivery != Delivery::Late {
+        let sent = message.send(w, by);
+        if sent != Sent::Some {
             self.forget();
         }
-        delivery
+        sent
     }
 
     /// Sends a message, where nothing is left of the last one, and keeps what the peer is late to take.
-    fn send_next<W: Write>(&mut self, mut message: Message, w: &mut W) -> Delivery
+    fn send_next<E, W: Wire<E>>(&mut self, mut message: Message, w: &mut W, by: &E) -> Sent
         requires { left_in self.old.left ≡ [] }
-        ensures sends { Sends ⊥ result (W.contents w.old) (W.contents w.new) (unsent message) (left_in self.new.left) }
+        ensures sends { Sends result (W.contents w.old) (W.contents w.new) (unsent message) (left_in self.new.left) }
         ensures pen { self.new.pen ≡ self.old.pen }
+        ensures opening { self.new.opening ≡ self.old.opening }
     {
         // Modelled in models/lane.h.
-        let delivery = message.send(w);
-        if delivery == Delivery::Late {
+        let sent = message.send(w, by);
+        if sent == Sent::Some {
             self.left = Some(message);
         }
-        delivery
+        sent
     }
 
-    /// Sends what was left, and then what waits in the book: the bytes, and a NOOP where one is owed. Where the slot
-    /// is shut and all is sent, the connection is over.
-    pub fn deliver<W: Write>(&mut self, rt: &impl Wait, shared: &Shared<K>, w: &mut W) -> Delivery
-        ensures delivers { Delivers K.settings K.taped result self.old.pen.slot self.old.pen.seat.takes self.new.pen.seat.takes
+    /// Sends what was left, and then what waits in the book: the bytes, and a NOOP where one is owed. What waits for another opening of the
+    /// slot than the connection's is sent to nobody.
+    pub fn deliver<E, W: Wire<E>>(
+        &mut self,
+        rt: &impl Wait,
+        shared: &Shared<K>,
+        w: &mut W,
+        by: &E,
+    ) -> Delivery
+        ensures delivers { Delivers K.settings K.taped result self.old.pen.slot self.old.opening self.new.opening self.old.pen.seat.takes self.new.pen.seat.takes
             self.old.pen.front.seen self.new.pen.front.seen (W.contents w.old) (W.contents w.new) (left_in self.old.left) (left_in self.new.left) }
         ensures slot { self.new.pen.slot ≡ self.old.pen.slot }
     {
         // Modelled in models/lane.h.
-        match self.send_left(w) {
-            Delivery::Done => {}
-            Delivery::Late => return Delivery::Late,
-            Delivery::Over => return Delivery::Over,
+        match self.send_left(w, by) {
+            Sent::All => {}
+            Sent::Some => return Delivery::Late,
+            Sent::Failed => return Delivery::Over,
         }
         let took = self.pen.take(shared);
         let drained = match self.pen.drain(rt, shared) {
             Ok(drained) => drained,
             Err(_) => return Delivery::Over,
         };
-        let Drained { bytes, shut } = drained;
-        match self.send_next(Message::new(bytes, took), w) {
-            Delivery::Done => { if shut { Delivery::Over } else { Delivery::Done } }
-            Delivery::Late => Delivery::Late,
-            Delivery::Over => Delivery::Over,
+        let Drained {
+            bytes,
+            shut,
+            opening,
+        } = drained;
+        if opening != self.opening {
+            self.note_opening(opening);
+            return Delivery::Over;
+        }
+        match self.send_next(Message::new(bytes, took), w, by) {
+            Sent::All => { if shut { Delivery::Shut } else { Delivery::Done } }
+            Sent::Some => Delivery::Late,
+            Sent::Failed => Delivery::Over,
         }
     }
 }

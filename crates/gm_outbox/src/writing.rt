@@ -4,7 +4,7 @@ ghost use Rattle.std.specs.Prelude.{◌≡◌, ◌<◌, length, take, OnOk, IfEr
 ghost use Rattle.std.specs.Io.KnownBytes.{Appends};
 ghost use Rattle.gm_outbox.specs.Turns.{turn_of};
 
-use crate::message::{noop_if, write_once};
+use crate::message::noop_if;
 use std::io::Write;
 
 /// That a turn wasn't written to its end.
@@ -23,11 +23,10 @@ fn write_whole<W: Write>(bytes: &[u8], w: &mut W) -> Result<(), usize>
 {
     let mut written = 0;
     while written < bytes.len() {
-        let (count, _) = write_once(&bytes[written..], w);
-        if count == 0 {
-            return Err(written);
+        match w.write(&bytes[written..]) {
+            Ok(0) | Err(_) => return Err(written),
+            Ok(count) => written += count,
         }
-        written += count;
     }
     Ok(())
 }

@@ -9,11 +9,11 @@ pub loop-written-preserved : goal.loop-written-preserved
 loop-written-preserved g c =
     let bytes = c.args.bytes.now in
     let written = c.loop-written.written in
-    let count = c.write_once-count.result.0 in
-    let writes = c.write_once-count.ensures in
+    let count = c.in-Ok.count in
+    let took = c.in-Ok.ensures in
     let rest = take_rest bytes written in
     record {
-      within = omega (arith, c.loop-written.invariant.within, writes.within, ap length rest ∙ length-drop written bytes);
-      so_far = subst (λ (l : List ℕ). Appends (g.W.Write.contents c.args.w.now) (g.W.Write.contents c.write_once-count.new.w) l) (ap (λ l. take written bytes ++ take count l) rest ∙ sym (take-add written count bytes))
-          (Appends-trans _ _ _ _ _ c.loop-written.invariant.so_far writes.written);
+      within = omega (arith, c.loop-written.invariant.within, took.bound, ap length rest ∙ length-drop written bytes);
+      so_far = subst (λ (l : List ℕ). Appends (g.W.Write.contents c.args.w.now) (g.W.Write.contents c.write.new.self) l) (ap (λ l. take written bytes ++ take count l) rest ∙ sym (take-add written count bytes))
+          (Appends-trans _ _ _ _ _ c.loop-written.invariant.so_far took.bytes);
     }
