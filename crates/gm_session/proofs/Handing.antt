@@ -1,9 +1,9 @@
 -- What a session hands in, unit after unit and piece after piece.
-use Rattle.std.proofs.Common.{◌≡◌, ℕ, Bool, List, [], ◌∷◌, ◌++◌, map, Option, Some, None, Result, Ok, Err, length}
+use Rattle.std.proofs.Common.{◌≡◌, ℕ, Bool, true, false, List, [], ◌∷◌, ◌++◌, map, Option, Some, None, Result, Ok, Err, length}
 use Rattle.std.proofs.Common.{refl, sym, ap, ap₂, subst, ◌∙◌, arith, length-append}
 use Rattle.std.specs.Prelude.{IfSome}
 use Rattle.std.proofs.lemmas.List.{append-nil, append_assoc, map-append, reverse-append}
-use Rattle.std.specs.Io.KnownBytes.{Consumes}
+use Rattle.std.specs.Io.KnownBytes.{Consumes, Appends, Keeps}
 use Rattle.gm_feeder.specs.declared.units.Limits.{Limits}
 use Rattle.gm_feeder.specs.Units.{Item, IsUnitThen, Waits}
 use Rattle.gm_feeder.specs.Streams.{Stream, GivesUnit, GivesNone, TakesIn, with_bytes}
@@ -18,22 +18,25 @@ use Rattle.gm_shared.specs.declared.tape.Entry.{Entry}
 use Rattle.gm_shared.proofs.Sharing.{events_of_more}
 use Rattle.gm_session.specs.declared.session.SessionEnd.{SessionEnd}
 use Rattle.gm_session.specs.declared.session.SessionEnd.TheVariants as ends
-use Rattle.gm_session.specs.declared.session.Taken.TheVariants.{Unit as AUnit, Nothing}
-use Rattle.gm_session.specs.Sessions.{Adds, HandsIn, Reads, Applies, Stops, TakesNext, Unloads, Steps, Ends, broke, unread, IsShutBy, StandsNext, unit, broken}
+use Rattle.gm_session.specs.declared.session.Turn.{Turn}
+use Rattle.gm_session.specs.declared.session.Turn.TheVariants as turns
+use Rattle.gm_session.specs.declared.applier.Taken.{Taken}
+use Rattle.gm_session.specs.declared.applier.Taken.TheVariants.{Unit as AUnit, Nothing}
+use Rattle.gm_session.specs.Sessions.{Adds, HandsIn, Reads, Applies, Stops, TakesNext, Unloads, Fed, Fills, Steps, Ends, broke, unread, IsShutBy, StandsNext, unit, broken, may_leave}
 
 -- ---- events handed in, one after another
 
 pub adds_none : (desk : ℕ) (seen : List Entry) → Adds desk [] seen seen
 adds_none desk seen = record { newer = []; goes_on = refl; events_are = refl }
 
-adds_then : (desk : ℕ) (xs ys : List Step) (seen mid after : List Entry) → Adds desk xs seen mid → Adds desk ys mid after → Adds desk (xs ++ ys) seen after
+pub adds_then : (desk : ℕ) (xs ys : List Step) (seen mid after : List Entry) → Adds desk xs seen mid → Adds desk ys mid after → Adds desk (xs ++ ys) seen after
 adds_then desk xs ys seen mid after a b = record {
   newer = b.newer ++ a.newer;
   goes_on = b.goes_on ∙ (ap (λ l. b.newer ++ l) a.goes_on ∙ sym (append_assoc b.newer a.newer seen));
   events_are = events_of_more desk b.newer a.newer ∙ (ap₂ (λ l m. l ++ m) b.events_are a.events_are ∙ sym (reverse-append xs ys));
 }
 
-adds_same : (desk : ℕ) (xs ys : List Step) (seen after : List Entry) → xs ≡ ys → Adds desk xs seen after → Adds desk ys seen after
+pub adds_same : (desk : ℕ) (xs ys : List Step) (seen after : List Entry) → xs ≡ ys → Adds desk xs seen after → Adds desk ys seen after
 adds_same desk xs ys seen after e a = subst (λ zs. Adds desk zs seen after) e a
 
 -- the steps of units, and then more
@@ -83,12 +86,12 @@ module _ (k : Settings) (taped : Bool) (desk c : ℕ) (old : Stream) (seen mid_s
     limited = ap (λ (s : Stream). s.limits) t.1.kept ∙ u.limited;
   }
 
-  pub unloads_all : TakesNext k taped desk c mid (Ok Nothing) mid_seen after new → Unloads k taped desk c old (Ok tt) seen after new
+  pub unloads_all : TakesNext k taped desk c mid (Ok Nothing) mid_seen after new → Unloads k taped desk c old (Ok turns.Emptied) seen after new
   unloads_all t = record {
     hands = hands desk c old.limits old.pending new.pending None seen mid_seen after
         (subst (λ (s : Stream). Handed desk c old.limits old.pending s.pending seen mid_seen) (sym t.0.kept) u.handed) tt
         (subst (λ (l : List Entry). Adds desk [] mid_seen l) (sym t.1) (adds_none desk mid_seen));
-    waits = subst (λ (s : Stream). Waits old.limits s.pending) (sym t.0.kept) (subst (λ (l : Limits). Waits l mid.pending) u.limited t.0.waits);
+    waits = λ is. subst (λ (s : Stream). Waits old.limits s.pending) (sym t.0.kept) (subst (λ (l : Limits). Waits l mid.pending) u.limited t.0.waits);
     limited = ap (λ (s : Stream). s.limits) t.0.kept ∙ u.limited;
   }
 
@@ -102,6 +105,20 @@ module _ (k : Settings) (taped : Bool) (desk c : ℕ) (old : Stream) (seen mid_s
     broken = t.broken;
     shut = λ is. subst (λ (l : Limits). IsShutBy k taped desk c l mid.pending t.fault after) u.limited (t.shut is);
   }
+
+-- what was taken is not all, perhaps
+pub unloads_some : (k : Settings) (taped : Bool) (desk c : ℕ) (old : Stream) (seen after : List Entry) (new : Stream) → Unloading desk c old seen after new → Unloads k taped desk c old (Ok turns.Cut) seen after new
+unloads_some k taped desk c old seen after new u = record {
+  hands = hands desk c old.limits old.pending new.pending None seen after after u.handed tt (adds_none desk after);
+  waits = λ is. absurd cc;
+  limited = u.limited;
+}
+
+-- a unit was taken at the desk and the slot that these are
+pub at_home : (k : Settings) (taped : Bool) (desk c n d : ℕ) (mid new : Stream) (seen after : List Entry) (result : Result Taken SessionEnd) → n ≡ desk → d ≡ c
+    → TakesNext k taped n d mid result seen after new → TakesNext k taped desk c mid result seen after new
+at_home k taped desk c n d mid new seen after result same here t =
+    subst (λ (slot : ℕ). TakesNext k taped desk slot mid result seen after new) here (subst (λ (i : ℕ). TakesNext k taped i d mid result seen after new) same t)
 
 -- ---- the next unit
 
@@ -155,39 +172,63 @@ pub consumes_none : (a : Option (List ℕ)) → Consumes a a []
 consumes_none None = tt
 consumes_none (Some xa) = refl
 
--- so much was read, and all of it that is a unit was handed in
-pub record Reading (desk c : ℕ) (limits : Limits) (old now : Option (List ℕ)) (seen after : List Entry) (feeder : Stream) : Type 0 where
+emptied : (turn : Turn) → may_leave turn ≡ false → turn ≡ turns.Emptied
+emptied turns.Emptied none = refl
+emptied turns.Cut none = absurd cc
+
+-- so much was read, and all of it that is a unit was handed in, unless some may be left
+pub record Reading (desk c : ℕ) (limits : Limits) (old now : Option (List ℕ)) (seen after : List Entry) (feeder : Stream) (units : Bool) : Type 0 where
   pub read : List ℕ
   pub consumes : Consumes old now read
   pub limited : feeder.limits ≡ limits
   pub handed : Handed desk c limits read feeder.pending seen after
-  pub waits : Waits limits feeder.pending
+  pub waits : units ≡ false → Waits limits feeder.pending
 
 -- nothing stands at the end of no bytes
-waits_none : (limits : Limits) → Waits limits []
+pub waits_none : (limits : Limits) → Waits limits []
 waits_none limits = record {
   no_unit = λ item after u. let some = unit_not_empty limits u.whole item u.unit in omega (arith, some, ap length u.joined, length-append u.whole after);
   goes_on = empty_goes_on limits [] (omega arith) refl;
 }
 
-pub reading_none : (desk c : ℕ) (old : Option (List ℕ)) (seen : List Entry) (feeder : Stream) → feeder.pending ≡ [] → Reading desk c feeder.limits old old seen seen feeder
-reading_none desk c old seen feeder empty = record {
+pub reading_none : (desk c : ℕ) (old : Option (List ℕ)) (seen : List Entry) (feeder : Stream) (units : Bool) → feeder.pending ≡ [] → Reading desk c feeder.limits old old seen seen feeder units
+reading_none desk c old seen feeder units empty = record {
   read = [];
   consumes = consumes_none old;
   limited = refl;
   handed = subst (λ rest. Handed desk c feeder.limits [] rest seen seen) (sym empty) (handed_none desk c feeder.limits [] seen);
-  waits = subst (λ rest. Waits feeder.limits rest) (sym empty) (waits_none feeder.limits);
+  waits = λ left. subst (λ rest. Waits feeder.limits rest) (sym empty) (waits_none feeder.limits);
 }
 
--- a piece was read, and what was whole then was taken
-pub step_took : (k : Settings) (taped : Bool) (desk c : ℕ) (now new : Option (List ℕ)) (feeder fed next : Stream) (len : ℕ) (outcome : Result (Unit {0}) SessionEnd) (seen after : List Entry)
-    → TakesIn now new feeder fed len → Unloads k taped desk c fed outcome seen after next → Steps k taped desk c feeder now new outcome seen after next
-step_took k taped desk c now new feeder fed next len (Ok done) seen after came taken =
-    (came.piece, came.consumes, subst (λ (s : Stream). Unloads k taped desk c s (Ok done) seen after next) came.kept taken)
-step_took k taped desk c now new feeder fed next len (Err end) seen after came taken =
-    broke came.piece came.consumes (subst (λ (s : Stream). Unloads k taped desk c s (Err end) seen after next) came.kept taken)
+-- a piece came, and had its turn
+pub step_took : (k : Settings) (taped : Bool) (desk c : ℕ) (input left heard after_heard : Option (List ℕ)) (feeder fed next : Stream) (units : Bool) (outcome : Result Turn SessionEnd) (seen after : List Entry)
+    → Fed input left heard after_heard feeder fed → Unloads k taped desk c fed outcome seen after next → Steps k taped desk c feeder units input left heard after_heard outcome seen after next
+step_took k taped desk c input left heard after_heard feeder fed next units (Ok turn) seen after came taken =
+    record { piece = came.piece; consumes = came.consumes; hears = came.hears; goes_on = subst (λ (s : Stream). Unloads k taped desk c s (Ok turn) seen after next) came.kept taken }
+step_took k taped desk c input left heard after_heard feeder fed next units (Err end) seen after came taken =
+    broke came.piece came.consumes came.hears (subst (λ (s : Stream). Unloads k taped desk c s (Err end) seen after next) came.kept taken)
 
-module _ (k : Settings) (taped : Bool) (desk c : ℕ) (limits : Limits) (old now new : Option (List ℕ)) (seen mid after : List Entry) (feeder : Stream) (r : Reading desk c limits old now seen mid feeder) where
+appends_none : (a : Option (List ℕ)) → Appends a a []
+appends_none None = tt
+appends_none (Some xs) = sym (append-nil xs)
+
+-- known bytes that stay grow by none
+pub keeps_none : (a b : Option (List ℕ)) → Keeps a b → Appends a b []
+keeps_none None b h = tt
+keeps_none (Some xs) None h = absurd h
+keeps_none (Some xs) (Some ys) h = h ∙ sym (append-nil xs)
+
+-- no piece was asked for
+pub fed_none : (input heard : Option (List ℕ)) (feeder : Stream) → Fed input input heard heard feeder feeder
+fed_none input heard feeder = record {
+  piece = [];
+  consumes = consumes_none input;
+  hears = appends_none heard;
+  kept = ap (λ (l : List ℕ). record feeder { pending = l }) (sym (append-nil feeder.pending));
+}
+
+module _ (k : Settings) (taped : Bool) (desk c : ℕ) (limits : Limits) (old now new heard after_heard : Option (List ℕ)) (seen mid after : List Entry) (feeder : Stream) (units : Bool)
+    (r : Reading desk c limits old now seen mid feeder units) where
   -- more units, and the fault behind them, after those that were handed in
   hands_more : (piece rest : List ℕ) (fault : Option UnitFault) → HandsIn desk c feeder.limits (feeder.pending ++ piece) rest fault mid after → HandsIn desk c limits (r.read ++ piece) rest fault seen after
   hands_more piece rest fault h =
@@ -200,33 +241,40 @@ module _ (k : Settings) (taped : Bool) (desk c : ℕ) (limits : Limits) (old now
             (steps_then c r.handed.items h.items fault) (adds_then desk (map (step_of_unit c) r.handed.items) (steps_of c h.items fault) seen mid after r.handed.adds h.adds);
       }
 
-  pub reading_more : (n d : ℕ) → n ≡ desk → d ≡ c → (next : Stream) → Steps k taped n d feeder now new (Ok tt) mid after next → Reading desk c limits old new seen after next
-  reading_more n d same here next stepped =
-      let s = subst (λ (slot : ℕ). Steps k taped desk slot feeder now new (Ok tt) mid after next) here (subst (λ (i : ℕ). Steps k taped i d feeder now new (Ok tt) mid after next) same stepped) in
-      let more = hands_more s.0 next.pending None s.2.hands in
+  reading_more_here : (turn : Turn) (next : Stream) → Steps k taped desk c feeder units now new heard after_heard (Ok turn) mid after next → Reading desk c limits old new seen after next (may_leave turn)
+  reading_more_here turn next s =
+      let more = hands_more s.piece next.pending None s.goes_on.hands in
       record {
-        read = r.read ++ s.0;
-        consumes = consumes_then old now new r.read s.0 r.consumes s.1;
-        limited = s.2.limited ∙ r.limited;
+        read = r.read ++ s.piece;
+        consumes = consumes_then old now new r.read s.piece r.consumes s.consumes;
+        limited = s.goes_on.limited ∙ r.limited;
         handed = record { items = more.items; begins = more.begins; adds = adds_same desk (steps_of c more.items None) (map (step_of_unit c) more.items) seen after (append-nil (map (step_of_unit c) more.items)) more.adds };
-        waits = subst (λ (l : Limits). Waits l next.pending) r.limited s.2.waits;
+        waits = λ none. subst (λ (l : Limits). Waits l next.pending) r.limited (s.goes_on.waits (emptied turn none));
       }
 
+  pub reading_more : (n d : ℕ) → n ≡ desk → d ≡ c → (turn : Turn) (next : Stream) (left : Bool) → left ≡ may_leave turn → Steps k taped n d feeder units now new heard after_heard (Ok turn) mid after next
+      → Reading desk c limits old new seen after next left
+  reading_more n d same here turn next left is stepped =
+      subst (λ (b : Bool). Reading desk c limits old new seen after next b) (sym is)
+      (reading_more_here turn next
+      (subst (λ (slot : ℕ). Steps k taped desk slot feeder units now new heard after_heard (Ok turn) mid after next) here
+      (subst (λ (i : ℕ). Steps k taped i d feeder units now new heard after_heard (Ok turn) mid after next) same stepped)))
+
   -- nothing was read any more
-  pub reading_ends : (end : SessionEnd) → Consumes now new [] → (end ≡ ends.Shut → ⊥) → Reads k taped desk c limits old new end seen mid
-  reading_ends end kept unshut = record {
+  pub reading_ends : (end : SessionEnd) → units ≡ false → Consumes now new [] → (end ≡ ends.Shut → ⊥) → Reads k taped desk c limits old new end seen mid
+  reading_ends end none kept unshut = record {
     read = r.read ++ [];
     consumes = consumes_then old now new r.read [] r.consumes kept;
     rest = feeder.pending;
     fault = None;
     hands = hands desk c limits (r.read ++ []) feeder.pending None seen mid mid
         (subst (λ bytes. Handed desk c limits bytes feeder.pending seen mid) (sym (append-nil r.read)) r.handed) tt (adds_none desk mid);
-    whole = λ w. (refl, r.waits);
+    whole = λ w. (refl, r.waits none);
     shut = λ is. absurd (unshut is);
   }
 
-  reading_over_here : (end : SessionEnd) → Ends k taped desk c feeder now new end mid after → Reads k taped desk c limits old new end seen after
-  reading_over_here end (broke piece consumes t) = record {
+  reading_over_here : (end : SessionEnd) → Ends k taped desk c feeder units now new heard after_heard end mid after → Reads k taped desk c limits old new end seen after
+  reading_over_here end (broke piece consumes hears t) = record {
     read = r.read ++ piece;
     consumes = consumes_then old now new r.read piece r.consumes consumes;
     rest = t.rest;
@@ -235,8 +283,9 @@ module _ (k : Settings) (taped : Bool) (desk c : ℕ) (limits : Limits) (old now
     whole = λ w. absurd (t.broken w);
     shut = λ is. subst (λ (l : Limits). IsShutBy k taped desk c l t.rest t.fault after) r.limited (t.shut is);
   }
-  reading_over_here end (unread consumes unshut same) = subst (λ (l : List Entry). Reads k taped desk c limits old new end seen l) (sym same) (reading_ends end consumes unshut)
+  reading_over_here end (unread none consumes kept unshut same) = subst (λ (l : List Entry). Reads k taped desk c limits old new end seen l) (sym same) (reading_ends end none consumes unshut)
 
-  pub reading_over : (n d : ℕ) → n ≡ desk → d ≡ c → (end : SessionEnd) → Ends k taped n d feeder now new end mid after → Reads k taped desk c limits old new end seen after
+  pub reading_over : (n d : ℕ) → n ≡ desk → d ≡ c → (end : SessionEnd) → Ends k taped n d feeder units now new heard after_heard end mid after → Reads k taped desk c limits old new end seen after
   reading_over n d same here end ended =
-      reading_over_here end (subst (λ (slot : ℕ). Ends k taped desk slot feeder now new end mid after) here (subst (λ (i : ℕ). Ends k taped i d feeder now new end mid after) same ended))
+      reading_over_here end (subst (λ (slot : ℕ). Ends k taped desk slot feeder units now new heard after_heard end mid after) here
+      (subst (λ (i : ℕ). Ends k taped i d feeder units now new heard after_heard end mid after) same ended))

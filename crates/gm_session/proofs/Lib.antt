@@ -1,2 +1,4 @@
+mod Gathering
 mod Handing
 pub mod Owning
+mod Talking

@@ -1,5 +1,5 @@
 -- What came of events, for the threads that are notified.
-use Rattle.std.specs.Prelude.{◌≡◌, ◌<◌, ◌≤◌, ℕ, ◌==◌, Bool, true, false, not, ◌&&◌, ◌||◌, List, Option, Some, None, Result, Ok, Err}
+use Rattle.std.specs.Prelude.{◌≡◌, ◌<◌, ◌≤◌, ℕ, ◌==◌, Bool, true, false, not, ◌&&◌, ◌||◌, List, [], Option, Some, None, Result, Ok, Err}
 use Rattle.gm_conns.specs.Slots.{has}
 use Rattle.gm_lane_word.specs.declared.due.Due.{Due}
 use Rattle.gm_notes.specs.declared.event.ApplyError.{ApplyError}
@@ -9,7 +9,7 @@ use Rattle.gm_notes.specs.Settings.{Settings}
 use Rattle.gm_notes.specs.Steps.{Step}
 use Rattle.gm_shared.specs.declared.receipt.Receipt.{Receipt}
 use Rattle.gm_shared.specs.declared.tape.Entry.{Entry}
-use Rattle.gm_shared.specs.Calls.{DeskCalled}
+use Rattle.gm_shared.specs.Calls.{DeskCalled, HandedIn}
 use Rattle.gm_session.specs.declared.effects.Effects.{Effects}
 use Rattle.gm_session.specs.declared.session.SessionEnd.{SessionEnd}
 
@@ -39,6 +39,14 @@ pub record Keeps (k : Settings) (taped : Bool) (s : Step) (desk : ℕ) (answer :
 abbrev pub KeepsUnit : Settings → Bool → Step → ℕ → Result (Unit {0}) SessionEnd → List Entry → List Entry → Effects → Effects → Type 0
 KeepsUnit k taped s desk (Ok done) before after old new = (receipt : Receipt) × Keeps k taped s desk (Ok receipt) before after old new
 KeepsUnit k taped s desk (Err end) before after old new = new ≡ old
+
+-- What came of each event that the desk handed in meanwhile was added to the effects, one event after another, and nothing was taken
+-- out of them.
+pub data Gathers (k : Settings) (taped : Bool) (desk : ℕ) (seen : List Entry) (old : Effects) : List Entry → Effects → Type 0 where
+  nothing : Gathers k taped desk seen old seen old
+  event : (s : Step) (receipt : Receipt) (mid after : List Entry) (between new : Effects) → Gathers k taped desk seen old mid between
+      → Keeps k taped s desk (Ok receipt) mid after between new → Gathers k taped desk seen old after new
+  refusal : (mid after : List Entry) (between : Effects) → Gathers k taped desk seen old mid between → HandedIn desk [] mid after → Gathers k taped desk seen old after between
 
 -- What is due to a slot is taken out, and nothing else.
 pub record Takes (due : Due) (old new : Effects) : Type 0 where

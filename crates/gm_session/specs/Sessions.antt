@@ -1,9 +1,9 @@
 -- What a session reads, and what it hands in of that.
-use Rattle.std.specs.Prelude.{◌≡◌, ℕ, Bool, List, [], ◌∷◌, ◌++◌, reverse, Option, Some, None, IfSome, Result, Ok, Err}
-use Rattle.std.specs.Io.KnownBytes.{Consumes}
+use Rattle.std.specs.Prelude.{◌≡◌, ℕ, Bool, true, false, List, [], ◌∷◌, ◌++◌, reverse, Option, Some, None, IfSome, Result, Ok, Err}
+use Rattle.std.specs.Io.KnownBytes.{Consumes, Appends, Keeps}
 use Rattle.gm_feeder.specs.declared.units.Limits.{Limits}
 use Rattle.gm_feeder.specs.Units.{Item, IsUnitThen, Waits}
-use Rattle.gm_feeder.specs.Streams.{Stream, TakesIn, GivesUnit, GivesNone}
+use Rattle.gm_feeder.specs.Streams.{Stream, TakesIn, GivesUnit, GivesNone, with_bytes}
 use Rattle.gm_notes.specs.declared.event.UnitFault.{UnitFault}
 use Rattle.gm_notes.specs.declared.event.ApplyError.{ApplyError}
 use Rattle.gm_notes.specs.declared.event.ApplyError.TheVariants as refusals
@@ -14,13 +14,15 @@ use Rattle.gm_shared.specs.declared.tape.Entry.{Entry}
 use Rattle.gm_shared.specs.Calls.{Called, HandedIn}
 use Rattle.gm_session.specs.declared.session.SessionEnd.{SessionEnd}
 use Rattle.gm_session.specs.declared.session.SessionEnd.TheVariants as ends
-use Rattle.gm_session.specs.declared.session.Taken.{Taken}
-use Rattle.gm_session.specs.declared.session.Taken.TheVariants.{Unit as AUnit, Nothing}
+use Rattle.gm_session.specs.declared.session.Turn.{Turn}
+use Rattle.gm_session.specs.declared.session.Turn.TheVariants as turns
+use Rattle.gm_session.specs.declared.applier.Taken.{Taken}
+use Rattle.gm_session.specs.declared.applier.Taken.TheVariants.{Unit as AUnit, Nothing}
 
--- a read took this count of bytes of the input into the feeder, or none
-abbrev pub IsPiece : Option (List ℕ) → Option (List ℕ) → Stream → Stream → Result ℕ SessionEnd → Type 0
-IsPiece input rest old new (Ok len) = TakesIn input rest old new len
-IsPiece input rest old new (Err end) = Consumes input rest [] × (end ≡ ends.Shut → ⊥)
+-- a read took this count of bytes of the input into the feeder, and they were heard; or none
+abbrev pub IsPiece : Option (List ℕ) → Option (List ℕ) → Option (List ℕ) → Option (List ℕ) → Stream → Stream → Result ℕ SessionEnd → Type 0
+IsPiece input rest heard after old new (Ok len) = TakesIn input rest heard after old new len
+IsPiece input rest heard after old new (Err end) = Consumes input rest [] × Keeps heard after × (end ≡ ends.Shut → ⊥)
 
 -- The history goes on from what a desk had seen, and meanwhile the desk handed in these events, in order.
 abbrev pub Adds : ℕ → List Step → List Entry → List Entry → Type 0
@@ -95,13 +97,13 @@ TakesNext k taped desk c old (Ok (AUnit is_line)) seen after new = (item : Item)
 TakesNext k taped desk c old (Ok Nothing) seen after new = GivesNone old new × (after ≡ seen)
 TakesNext k taped desk c old (Err end) seen after new = Stops k taped desk c old end seen after
 
--- after a piece more bytes are waited for
-pub record GoesOn (desk c : ℕ) (limits : Limits) (bytes : List ℕ) (seen after : List Entry) (new : Stream) : Type 0 where
+-- after a turn the session goes on: all whole units were taken, if that is said
+pub record GoesOn (desk c : ℕ) (limits : Limits) (bytes : List ℕ) (turn : Turn) (seen after : List Entry) (new : Stream) : Type 0 where
   pub hands : HandsIn desk c limits bytes new.pending None seen after
-  pub waits : Waits limits new.pending
+  pub waits : turn ≡ turns.Emptied → Waits limits new.pending
   pub limited : new.limits ≡ limits
 
--- after a piece the session is over
+-- after a turn the session is over
 pub record Breaks (k : Settings) (taped : Bool) (desk c : ℕ) (limits : Limits) (bytes : List ℕ) (end : SessionEnd) (seen after : List Entry) : Type 0 where
   pub rest : List ℕ
   pub fault : Option UnitFault
@@ -109,21 +111,48 @@ pub record Breaks (k : Settings) (taped : Bool) (desk c : ℕ) (limits : Limits)
   pub broken : IsWhole end → ⊥
   pub shut : end ≡ ends.Shut → IsShutBy k taped desk c limits rest fault after
 
--- what becomes of these bytes
-abbrev pub Takes : Settings → Bool → ℕ → ℕ → Limits → List ℕ → Result (Unit {0}) SessionEnd → List Entry → List Entry → Stream → Type 0
-Takes k taped desk c limits bytes (Ok done) seen after new = GoesOn desk c limits bytes seen after new
+-- what becomes of these bytes in a turn
+abbrev pub Takes : Settings → Bool → ℕ → ℕ → Limits → List ℕ → Result Turn SessionEnd → List Entry → List Entry → Stream → Type 0
+Takes k taped desk c limits bytes (Ok turn) seen after new = GoesOn desk c limits bytes turn seen after new
 Takes k taped desk c limits bytes (Err end) seen after new = Breaks k taped desk c limits bytes end seen after
 
-abbrev pub Unloads : Settings → Bool → ℕ → ℕ → Stream → Result (Unit {0}) SessionEnd → List Entry → List Entry → Stream → Type 0
+abbrev pub Unloads : Settings → Bool → ℕ → ℕ → Stream → Result Turn SessionEnd → List Entry → List Entry → Stream → Type 0
 Unloads k taped desk c old outcome seen after new = Takes k taped desk c old.limits old.pending outcome seen after new
 
--- ---- a step: a piece is read, and what is whole then is handed in
+-- ---- a step: a piece is read, unless whole units may be left, and then there is a turn
 
--- A session that was waiting with these bytes is over: a piece was read, and it broke; or nothing was read, and nothing was handed in.
-pub data Ends (k : Settings) (taped : Bool) (desk c : ℕ) (old : Stream) (input left : Option (List ℕ)) (end : SessionEnd) (seen after : List Entry) : Type 0 where
-  broke : (piece : List ℕ) → Consumes input left piece → Breaks k taped desk c old.limits (old.pending ++ piece) end seen after → Ends k taped desk c old input left end seen after
-  unread : Consumes input left [] → (end ≡ ends.Shut → ⊥) → after ≡ seen → Ends k taped desk c old input left end seen after
+-- these bytes came behind those that were left, and were heard
+pub record Fed (input left heard after_heard : Option (List ℕ)) (old new : Stream) : Type 0 where
+  pub piece : List ℕ
+  pub consumes : Consumes input left piece
+  pub hears : Appends heard after_heard piece
+  pub kept : new ≡ with_bytes old piece
 
-abbrev pub Steps : Settings → Bool → ℕ → ℕ → Stream → Option (List ℕ) → Option (List ℕ) → Result (Unit {0}) SessionEnd → List Entry → List Entry → Stream → Type 0
-Steps k taped desk c old input left (Ok done) seen after new = (piece : List ℕ) × Consumes input left piece × GoesOn desk c old.limits (old.pending ++ piece) seen after new
-Steps k taped desk c old input left (Err end) seen after new = Ends k taped desk c old input left end seen after
+-- a piece came, or none was asked for; or the session is over, and nothing was read
+abbrev pub Fills : Bool → Option (List ℕ) → Option (List ℕ) → Option (List ℕ) → Option (List ℕ) → Stream → Stream → Result (Unit {0}) SessionEnd → Type 0
+Fills units input left heard after_heard old new (Ok done) = Fed input left heard after_heard old new
+Fills units input left heard after_heard old new (Err end) = (units ≡ false) × Consumes input left [] × Keeps heard after_heard × (end ≡ ends.Shut → ⊥)
+
+-- A session is over in which these bytes were left, perhaps with whole units: a piece was read, and it broke; or nothing was read where no
+-- whole unit was left, and nothing was handed in.
+pub data Ends (k : Settings) (taped : Bool) (desk c : ℕ) (old : Stream) (units : Bool) (input left : Option (List ℕ)) (heard after_heard : Option (List ℕ)) (end : SessionEnd)
+    (seen after : List Entry) : Type 0 where
+  broke : (piece : List ℕ) → Consumes input left piece → Appends heard after_heard piece → Breaks k taped desk c old.limits (old.pending ++ piece) end seen after
+      → Ends k taped desk c old units input left heard after_heard end seen after
+  unread : units ≡ false → Consumes input left [] → Keeps heard after_heard → (end ≡ ends.Shut → ⊥) → after ≡ seen → Ends k taped desk c old units input left heard after_heard end seen after
+
+-- a piece was read and heard, or none, and the session goes on
+pub record Reaches (desk c : ℕ) (old : Stream) (input left heard after_heard : Option (List ℕ)) (turn : Turn) (seen after : List Entry) (new : Stream) : Type 0 where
+  pub piece : List ℕ
+  pub consumes : Consumes input left piece
+  pub hears : Appends heard after_heard piece
+  pub goes_on : GoesOn desk c old.limits (old.pending ++ piece) turn seen after new
+
+abbrev pub Steps : Settings → Bool → ℕ → ℕ → Stream → Bool → Option (List ℕ) → Option (List ℕ) → Option (List ℕ) → Option (List ℕ) → Result Turn SessionEnd → List Entry → List Entry → Stream → Type 0
+Steps k taped desk c old units input left heard after_heard (Ok turn) seen after new = Reaches desk c old input left heard after_heard turn seen after new
+Steps k taped desk c old units input left heard after_heard (Err end) seen after new = Ends k taped desk c old units input left heard after_heard end seen after
+
+-- whether whole units may be left after a turn
+abbrev pub may_leave : Turn → Bool
+may_leave turns.Emptied = false
+may_leave turns.Cut = true

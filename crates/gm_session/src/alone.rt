@@ -4,9 +4,10 @@ ghost use Rattle.std.specs.Prelude.{◌≡◌};
 ghost use Rattle.std.specs.Io.KnownBytes.{IsAtEnd};
 ghost use Rattle.gm_session.specs.Sessions.{Reads};
 
-use crate::effects::{Effects, Notify};
+use crate::applier::{Applier, Around};
+use crate::effects::{Audience, Effects, Notify, Oddity};
 use crate::gate::Gate;
-use crate::session::{SessionEnd, read_and_notify};
+use crate::session::{Session, SessionEnd};
 use gm_feeder::Limits;
 use gm_shared::{BookName, Desk, Shared};
 use std::alloc::Global;
@@ -31,6 +32,12 @@ impl Alone {
     }
 }
 
+impl Audience for Alone {
+    ghost use Rattle.std.specs.Prelude.{true};
+
+    ghost is_nobody = { true };
+}
+
 impl<R> Notify<R> for Alone {
     fn long_piece_lock(&self) -> &Mutex<()> {
         &self.long_piece_lock
@@ -46,8 +53,10 @@ impl<R> Notify<R> for Alone {
 
     fn update_time(&self, _rt: &R) {}
 
+    fn note(&self, _rt: &R, _slot: u32, _oddity: Oddity) {}
+
     fn notify(&self, _rt: &R, effects: &mut Effects) {
-        effects.forget();
+        effects.forget(self);
     }
 }
 
@@ -68,6 +77,17 @@ pub fn read_session<'s, K: BookName, R: Wait, I: Read, G: Gate>(
     ensures reads { Reads K.settings K.taped desk.old.number slot limits (I.remaining reader.old) (I.remaining reader.new) result desk.old.front.seen desk.new.front.seen }
     ensures number { desk.new.number ≡ desk.old.number }
 {
-    let alone = Alone::new();
-    read_and_notify(rt, alloc, reader, shared, desk, slot, limits, gate, &alone)
+    let server = Alone::new();
+    let around = Around {
+        alloc,
+        rt,
+        shared,
+        gate,
+        server: &server,
+    };
+    let mut applier = Applier::new(&around, slot);
+    let mut session = Session::new(alloc, limits);
+    let end = applier.run(&mut session, desk, reader);
+    applier.end();
+    end
 }

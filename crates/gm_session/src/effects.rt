@@ -1,6 +1,6 @@
 //! What came of events, for the threads that are notified.
 
-ghost use Rattle.std.specs.Prelude.{◌≡◌};
+ghost use Rattle.std.specs.Prelude.{◌≡◌, true};
 ghost use Rattle.std.specs.Result.{IsErrOf};
 ghost use Rattle.gm_notes.specs.Servers.{step_of, IsSized};
 ghost use Rattle.gm_shared.specs.Books.{NeedsNoMemory};
@@ -79,8 +79,9 @@ impl Effects {
         None
     }
 
-    /// Forgets what is due, where nobody is notified.
-    pub(crate) fn forget(&mut self)
+    /// Forgets what is due, of a session that notifies nobody.
+    pub(crate) fn forget<N: Audience>(&mut self, _nobody: &N)
+        requires { N.is_nobody ≡ true }
         ensures own { self.new.own ≡ self.old.own }
         ensures nothing { IsNothing self.new }
     {
@@ -123,20 +124,40 @@ pub(crate) fn hand_in<K: BookName>(
     answer
 }
 
+/// Whom a session notifies.
+pub trait Audience {
+    ghost use Rattle.std.specs.Prelude.{Bool, false};
+
+    // Whether there is nobody.
+    ghost is_nobody: { Bool } = { false };
+}
+
+/// What a session meets that operators are told of.
+#[derive(Clone, Copy, Debug, PartialEq, Eq)]
+pub enum Oddity {
+    /// A packet of this type, which isn't a request's.
+    UnknownType(u32),
+    /// A fault in the stream.
+    Fault,
+}
+
 /// What a session needs of the threads around it: whom it notifies of what came of its units, and whether it is time for that.
-pub trait Notify<R> {
+pub trait Notify<R>: Audience {
     /// Long pieces pass it one after another. It is taken before `batch_lock`, and held with it.
     fn long_piece_lock(&self) -> &Mutex<()>;
 
     /// Batches pass it one after another, of long pieces and of others.
     fn batch_lock(&self) -> &Mutex<()>;
 
-    /// Whether a session has had its time, and is to notify others. It keeps when it was first asked.
+    /// Whether a turn has had its time. It keeps when it was first asked.
     fn is_time(&self, rt: &R, begun: &mut Option<Instant>) -> bool;
 
     /// Hands in the present second, if it is a later one. It is called before each grab: a job's time limit counts from the last
     /// second that was handed in.
     fn update_time(&self, rt: &R);
+
+    /// The session of this slot's connection met this.
+    fn note(&self, rt: &R, slot: u32, oddity: Oddity);
 
     /// Notifies others of what came of some events, with the book's lock let go.
     fn notify(&self, rt: &R, effects: &mut Effects)

@@ -1,16 +1,23 @@
-//! What one connection says: its bytes are cut into units, and each is handed in, past a gate, at the desk of its slot. `OwnDesk` is a
-//! desk at which no other slot's connection speaks. `Notify` is what a session needs of the threads around it: whom it notifies of
-//! what came of its units, and when.
+//! What one connection says: its bytes are cut into units, and each is handed in, past a gate, at the desk of its slot. A `Talk` is a slot's
+//! desk with the session of its connection, which threads go on with by turns. `Notify` is what a session needs of the threads around it:
+//! whom it notifies of what came of its units, and when.
 #![tactic(auto)]
 
 mod alone;
+mod applier;
+mod batch;
 mod effects;
 mod gate;
+mod heard;
 mod own_desk;
 mod session;
+mod talk;
 
 pub use alone::read_session;
-pub use effects::{Effects, Notify};
+pub use applier::Around;
+pub use effects::{Audience, Effects, Notify, Oddity};
 pub use gate::{Gate, OpenGate};
+pub use heard::{HearingLedger, Left, LoggedSource};
 pub use own_desk::OwnDesk;
-pub use session::{Session, SessionEnd};
+pub use session::{Session, SessionEnd, Turn};
+pub use talk::Talk;

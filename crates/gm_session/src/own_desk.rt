@@ -1,29 +1,29 @@
 //! A desk at which no other slot's connection speaks.
 
-ghost use Rattle.std.specs.Prelude.{◌≡◌, true, false, [], IfErr};
+ghost use Rattle.std.specs.Prelude.{◌≡◌, true, false, [], IfOk, IfErr};
 ghost use Rattle.std.specs.Result.{IsErrOf};
 ghost use Rattle.std.specs.Io.KnownBytes.{IsAtEnd};
 ghost use Rattle.gm_notes.specs.Servers.{step_of, IsSized};
 ghost use Rattle.gm_shared.specs.Books.{NeedsNoMemory};
+ghost use Rattle.gm_shared.specs.Calls.{HandedIn, if_taken};
 ghost use Rattle.gm_session.specs.Effects.{Keeps};
 ghost use Rattle.gm_session.specs.Owners.{is_said_by, SaysOwn};
-ghost use Rattle.gm_session.specs.Sessions.{Steps, Reads};
+ghost use Rattle.gm_session.specs.Sessions.{Steps, may_leave};
 
+use crate::applier::{Applier, Around};
 use crate::effects::{Effects, Notify, hand_in};
 use crate::gate::Gate;
-use crate::session::{Session, SessionEnd, read_and_notify, step_and_notify};
+use crate::session::{Session, SessionEnd, Turn};
 use gm_conns::SlotSet;
-use gm_feeder::Limits;
+use gm_feeder::Source;
 use gm_notes::{ApplyError, Event};
 use gm_shared::{BookName, Desk, Receipt, Shared};
-use std::alloc::Global;
-use std::io::Read;
 use std::sync::Wait;
 
 /// A desk. What its own slot's connection says is handed in there, and what no slot says: openings and ticks.
 #[derive(Drop)]
 pub struct OwnDesk<K: BookName> {
-    desk: Desk<K>,
+    pub(crate) desk: Desk<K>,
     ghost own: { SaysOwn desk.number desk.front.seen },
 }
 
@@ -56,6 +56,7 @@ impl<K: BookName> OwnDesk<K> {
         requires own { is_said_by self.old.desk.number (step_of event) ≡ true }
         ensures keeps { Keeps K.settings K.taped (step_of event.entry) self.old.desk.number result
             self.old.desk.front.seen self.new.desk.front.seen effects.old effects.new }
+        ensures hands { HandedIn self.old.desk.number (if_taken (step_of event.entry) result) self.old.desk.front.seen self.new.desk.front.seen }
         ensures memory { NeedsNoMemory K.taped (step_of event.entry) → IsErrOf result ApplyError.Memory → ⊥ }
         ensures number { self.new.desk.number ≡ self.old.desk.number }
     {
@@ -71,62 +72,24 @@ impl<K: BookName> OwnDesk<K> {
         self.desk.number()
     }
 
-    /// Reads the stream of the slot's connection to its end (`read_and_notify`).
-    pub fn read<R: Wait, I: Read, G: Gate, N: Notify<R>>(
+    /// Goes on with a session of the slot's connection: reads a piece, unless whole units may be left, and takes a turn. Where the session
+    /// is over, it says why.
+    pub(crate) fn step<R: Wait, G: Gate, N: Notify<R>, E, S: Source<E>>(
         &mut self,
-        rt: &R,
-        alloc: Global,
-        reader: &mut I,
-        shared: &Shared<K>,
-        limits: Limits,
-        gate: &G,
-        server: &N,
-    ) -> SessionEnd
-        ensures ended { result ≡ SessionEnd.Ended → IsAtEnd (I.remaining reader.new) }
-        ensures reads { Reads K.settings K.taped self.old.desk.number self.old.desk.number limits (I.remaining reader.old) (I.remaining reader.new) result self.old.desk.front.seen self.new.desk.front.seen }
-        ensures number { self.new.desk.number ≡ self.old.desk.number }
-    {
-        let slot = self.desk.number();
-        read_and_notify(
-            rt,
-            alloc,
-            reader,
-            shared,
-            &mut self.desk,
-            slot,
-            limits,
-            gate,
-            server,
-        )
-    }
-    /// Goes on with a session of the slot's connection: reads a piece, and takes each unit that is whole then. Where the session is
-    /// over, it says why. A reader that would have to wait, and says so, gives nothing.
-    pub fn step<R: Wait, I: Read, G: Gate, N: Notify<R>>(
-        &mut self,
-        rt: &R,
-        alloc: Global,
+        around: &Around<'_, K, R, G, N>,
         session: &mut Session,
-        reader: &mut I,
-        shared: &Shared<K>,
-        gate: &G,
-        server: &N,
-    ) -> Result<(), SessionEnd>
-        ensures ended { IfErr result (λ end. end ≡ SessionEnd.Ended → IsAtEnd (I.remaining reader.new)) }
-        ensures steps { Steps K.settings K.taped self.old.desk.number self.old.desk.number session.old.feeder (I.remaining reader.old) (I.remaining reader.new) result
-            self.old.desk.front.seen self.new.desk.front.seen session.new.feeder }
+        source: &mut S,
+        by: &E,
+    ) -> Result<Turn, SessionEnd>
+        ensures ended { IfErr result (λ end. end ≡ SessionEnd.Ended → IsAtEnd (S.remaining source.new)) }
+        ensures steps { Steps K.settings K.taped self.old.desk.number self.old.desk.number session.old.feeder session.old.has_units (S.remaining source.old) (S.remaining source.new)
+            (S.heard source.old) (S.heard source.new) result self.old.desk.front.seen self.new.desk.front.seen session.new.feeder }
+        ensures units { IfOk result (λ turn. session.new.has_units ≡ may_leave turn) }
         ensures number { self.new.desk.number ≡ self.old.desk.number }
     {
-        let slot = self.desk.number();
-        step_and_notify(
-            rt,
-            alloc,
-            session,
-            reader,
-            shared,
-            &mut self.desk,
-            slot,
-            gate,
-            server,
-        )
+        let mut applier = Applier::new(around, self.desk.number());
+        let outcome = applier.step(session, &mut self.desk, source, by);
+        applier.end();
+        outcome
     }
 }

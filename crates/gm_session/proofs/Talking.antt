@@ -1,0 +1,288 @@
+-- A session that threads go on with, and the account of a slot's connections.
+use Rattle.std.proofs.Common.{◌≡◌, ℕ, List, [], ◌∷◌, ◌++◌, map, Bool, true, false, Option, Some, None, Result, Ok, Err, refl, sym, ap, subst, ◌∙◌}
+use Rattle.std.specs.Prelude.{IfSome, IfOk, MatchResult, is_some}
+use Rattle.std.specs.Option.{option_map}
+use Rattle.std.specs.Result.{is_ok}
+use Rattle.std.specs.Io.KnownBytes.{Consumes}
+use Rattle.std.proofs.lemmas.List.{append-nil}
+use Rattle.gm_feeder.specs.declared.units.Limits.{Limits}
+use Rattle.gm_feeder.specs.Streams.{Stream}
+use Rattle.gm_feeder.proofs.StreamLemmas.{fault_stays}
+use Rattle.gm_notes.specs.declared.event.UnitFault.{UnitFault}
+use Rattle.gm_notes.specs.Settings.{Settings}
+use Rattle.gm_notes.specs.Steps.{Close}
+use Rattle.gm_front.specs.Units.{step_of_unit, steps_of, IsFaultAt}
+use Rattle.gm_front.proofs.Heads.{begins_stay}
+use Rattle.gm_notes.specs.declared.event.ApplyError.{ApplyError}
+use Rattle.gm_shared.specs.declared.receipt.Receipt.{Receipt}
+use Rattle.gm_shared.specs.declared.tape.Entry.{Entry}
+use Rattle.gm_shared.specs.Calls.{HandedIn, if_taken}
+use Rattle.gm_session.specs.declared.heard.Heard.{Heard}
+use Rattle.gm_session.specs.declared.heard.Hearings.{Hearings}
+use Rattle.gm_session.specs.declared.session.SessionEnd.{SessionEnd}
+use Rattle.gm_session.specs.declared.session.Turn.{Turn}
+use Rattle.gm_session.specs.Hearings.{IsHeard, AreHeard, closed}
+use Rattle.gm_session.specs.Sessions.{Adds, HandsIn, Reads, Steps, Reaches, Ends, broke, unread as unread_end, may_leave}
+use Rattle.gm_session.specs.Talks.{TalkingState, TalkState, IsTalk, IsTalking, IsTalkingBy, GoesOnSo, IsOverSo, unread, heard_of, Stepped, SteppedUnless, StepsOn}
+use Rattle.gm_session.proofs.Handing.{Reading, adds_none, adds_then, adds_same, waits_none, reading_more, reading_over}
+
+-- ---- all that was read
+
+reading_of : (n : ℕ) (limits : Limits) (since seen : List Entry) (t : TalkingState) → GoesOnSo n limits since seen t → Reading n n limits (Some t.heard) (Some []) since seen t.stream t.has_units
+reading_of n limits since seen t h = record {
+  read = t.heard;
+  consumes = sym (append-nil t.heard);
+  limited = h.limited;
+  handed = record { items = h.hands.items; begins = h.hands.begins; adds = adds_same n (steps_of n h.hands.items None) (map (step_of_unit n) h.hands.items) since seen (append-nil (map (step_of_unit n) h.hands.items)) h.hands.adds };
+  waits = h.waits;
+}
+
+goes_on_of : (n : ℕ) (limits : Limits) (since seen : List Entry) (t : TalkingState) → Reading n n limits (Some t.heard) (Some []) since seen t.stream t.has_units → GoesOnSo n limits since seen t
+goes_on_of n limits since seen t r =
+    let read : r.read ≡ t.heard = sym (r.consumes ∙ append-nil r.read) in
+    let hands : HandsIn n n limits r.read t.stream.pending None since seen = record {
+      items = r.handed.items;
+      begins = r.handed.begins;
+      stands = tt;
+      adds = adds_same n (map (step_of_unit n) r.handed.items) (steps_of n r.handed.items None) since seen (sym (append-nil (map (step_of_unit n) r.handed.items))) r.handed.adds;
+    } in
+    record { limited = r.limited; hands = subst (λ (l : List ℕ). HandsIn n n limits l t.stream.pending None since seen) read hands; waits = r.waits }
+
+-- a piece more is there to be read
+fed : (n : ℕ) (limits : Limits) (read : List ℕ) (since seen : List Entry) (stream : Stream) (units : Bool) (piece : List ℕ) → Reading n n limits (Some read) (Some []) since seen stream units
+    → Reading n n limits (Some (read ++ piece)) (Some piece) since seen stream units
+fed n limits read since seen stream units piece r =
+    record { read = r.read; consumes = ap (λ l. l ++ piece) (r.consumes ∙ append-nil r.read); limited = r.limited; handed = r.handed; waits = r.waits }
+
+pub goes_on_unread : (n : ℕ) (limits : Limits) (since seen : List Entry) (t : TalkingState) → t ≡ unread limits → Adds n [] since seen → GoesOnSo n limits since seen t
+goes_on_unread n limits since seen t is none =
+    subst (λ (u : TalkingState). GoesOnSo n limits since seen u) (sym is)
+    (record { limited = refl; hands = record { items = []; begins = refl; stands = tt; adds = none }; waits = λ no_unit. waits_none limits })
+
+over_at_rest : (n : ℕ) (limits : Limits) (since seen : List Entry) (t : TalkingState) → GoesOnSo n limits since seen t → IsOverSo n limits since seen t.heard
+over_at_rest n limits since seen t h = record { rest = t.stream.pending; fault = None; hands = h.hands }
+
+module _ (k : Settings) (taped : Bool) (n : ℕ) (limits : Limits) (since seen : List Entry) (t : TalkingState) (h : GoesOnSo n limits since seen t) where
+  -- the session goes on
+  pub goes_on_more : (turn : Turn) (next : Stream) (units : Bool) (input left : Option (List ℕ)) (after : List ℕ) (seen_after : List Entry) → units ≡ may_leave turn
+      → Steps k taped n n t.stream t.has_units input left (Some t.heard) (Some after) (Ok turn) seen seen_after next
+      → GoesOnSo n limits since seen_after (record { stream = next; has_units = units; is_over = false; heard = after })
+  goes_on_more turn next units input left after seen_after is s =
+      let r = fed n limits t.heard since seen t.stream t.has_units s.piece (reading_of n limits since seen t h) in
+      let alone : Steps k taped n n t.stream t.has_units (Some s.piece) (Some []) (Some t.heard) (Some after) (Ok turn) seen seen_after next =
+      record { piece = s.piece; consumes = sym (append-nil s.piece); hears = s.hears; goes_on = s.goes_on } in
+      goes_on_of n limits since seen_after (record { stream = next; has_units = units; is_over = false; heard = after })
+      (subst (λ (l : List ℕ). Reading n n limits (Some l) (Some []) since seen_after next units) (sym s.hears)
+      (reading_more k taped n n limits (Some (t.heard ++ s.piece)) (Some s.piece) (Some []) (Some t.heard) (Some after) since seen seen_after t.stream t.has_units r n n refl refl turn next units is alone))
+
+  -- it is over
+  pub reads_all : (end : SessionEnd) (input left : Option (List ℕ)) (after : List ℕ) (seen_after : List Entry)
+      → Ends k taped n n t.stream t.has_units input left (Some t.heard) (Some after) end seen seen_after → Reads k taped n n limits (Some after) (Some []) end since seen_after
+  reads_all end input left after seen_after (broke piece consumes hears b) =
+      let r = fed n limits t.heard since seen t.stream t.has_units piece (reading_of n limits since seen t h) in
+      subst (λ (l : List ℕ). Reads k taped n n limits (Some l) (Some []) end since seen_after) (sym hears)
+      (reading_over k taped n n limits (Some (t.heard ++ piece)) (Some piece) (Some []) (Some t.heard) (Some after) since seen seen_after t.stream t.has_units r n n refl refl end
+      (broke piece (sym (append-nil piece)) hears b))
+  reads_all end input left after seen_after (unread_end none consumes kept unshut same) =
+      subst (λ (l : List ℕ). Reads k taped n n limits (Some l) (Some []) end since seen_after) (sym kept)
+      (reading_over k taped n n limits (Some t.heard) (Some []) (Some []) (Some t.heard) (Some after) since seen seen_after t.stream t.has_units (reading_of n limits since seen t h) n n refl refl end
+      (unread_end none refl kept unshut same))
+
+  pub heard_more : (end : SessionEnd) (input left : Option (List ℕ)) (after : List ℕ) (seen_after : List Entry)
+      → Ends k taped n n t.stream t.has_units input left (Some t.heard) (Some after) end seen seen_after → (piece : List ℕ) × (after ≡ t.heard ++ piece)
+  heard_more end input left after seen_after (broke piece consumes hears b) = (piece, hears)
+  heard_more end input left after seen_after (unread_end none consumes kept unshut same) = ([], kept ∙ sym (append-nil t.heard))
+
+-- a session that is over
+pub over_of : (k : Settings) (taped : Bool) (n : ℕ) (limits : Limits) (heard : List ℕ) (end : SessionEnd) (since seen : List Entry) → Reads k taped n n limits (Some heard) (Some []) end since seen
+    → IsOverSo n limits since seen heard
+over_of k taped n limits heard end since seen r = record {
+  rest = r.rest;
+  fault = r.fault;
+  hands = subst (λ (l : List ℕ). HandsIn n n limits l r.rest r.fault since seen) (sym (r.consumes ∙ append-nil r.read)) r.hands;
+}
+
+fault_at_more : (limits : Limits) (rest more : List ℕ) (fault : Option UnitFault) → IfSome fault (λ fault. IsFaultAt limits rest fault) → IfSome fault (λ fault. IsFaultAt limits (rest ++ more) fault)
+fault_at_more limits rest more None h = tt
+fault_at_more limits rest more (Some fault) h = record { fed = h.fed; named = h.named; stands = fault_stays limits rest more h.fed h.stands }
+
+-- what comes after it changes nothing
+pub over_more : (n : ℕ) (limits : Limits) (since seen : List Entry) (heard more : List ℕ) → IsOverSo n limits since seen heard → IsOverSo n limits since seen (heard ++ more)
+over_more n limits since seen heard more o = record {
+  rest = o.rest ++ more;
+  fault = o.fault;
+  hands = record {
+    items = o.hands.items;
+    begins = begins_stay limits heard o.rest more o.hands.items o.hands.begins;
+    stands = fault_at_more limits o.rest more o.fault o.hands.stands;
+    adds = o.hands.adds;
+  };
+}
+
+-- nothing was handed in behind it
+hands_none : (n : ℕ) (limits : Limits) (heard rest : List ℕ) (fault : Option UnitFault) (since seen after : List Entry) → Adds n [] seen after → HandsIn n n limits heard rest fault since seen
+    → HandsIn n n limits heard rest fault since after
+hands_none n limits heard rest fault since seen after none h = record {
+  items = h.items;
+  begins = h.begins;
+  stands = h.stands;
+  adds = adds_same n (steps_of n h.items fault ++ []) (steps_of n h.items fault) since after (append-nil (steps_of n h.items fault)) (adds_then n (steps_of n h.items fault) [] since seen after h.adds none);
+}
+
+-- ---- connections that are gone
+
+pub heard_closed : (n : ℕ) (limits : Limits) (since seen after : List Entry) (heard : List ℕ) → IsOverSo n limits since seen heard → Adds n (Close n ∷ []) seen after
+    → IsHeard n limits (record { since = since; until = after; read = heard })
+heard_closed n limits since seen after heard o adds = record {
+  items = o.hands.items;
+  rest = o.rest;
+  fault = o.fault;
+  begins = o.hands.begins;
+  stands = o.hands.stands;
+  adds = adds_then n (steps_of n o.hands.items o.fault) (Close n ∷ []) since seen after o.hands.adds adds;
+}
+
+-- nothing was read of it
+pub over_unread : (n : ℕ) (limits : Limits) (since seen : List Entry) → Adds n [] since seen → IsOverSo n limits since seen []
+over_unread n limits since seen none = record { rest = []; fault = None; hands = record { items = []; begins = refl; stands = tt; adds = none } }
+
+-- ---- a talk goes on
+
+module _ (t : TalkState) (is : IsTalk t) where
+  -- the account of the connections that are gone stays
+  talk_now : (m : ℕ) (seen : List Entry) (talking : Option TalkingState) → m ≡ t.number → IsTalking t.number t.limits t.hearings.since seen talking
+      → IsTalk (record { number = m; limits = t.limits; seen = seen; hearings = t.hearings; talking = talking })
+  talk_now m seen talking same now =
+      subst (λ (i : ℕ). IsTalk (record { number = i; limits = t.limits; seen = seen; hearings = t.hearings; talking = talking })) (sym same) (record { past = is.past; now = now })
+
+  unless_talking : (talking : Option TalkingState) → is_some talking ≡ false → IsTalking t.number t.limits t.hearings.since t.seen talking → Adds t.number [] t.hearings.since t.seen
+  unless_talking None none now = now
+  unless_talking (Some talking) none now = absurd cc
+
+  pub talk_begun : (stream : Stream) (units : Bool) (heard : List ℕ) → is_some t.talking ≡ false → stream ≡ (unread t.limits).stream → units ≡ false → heard ≡ []
+      → IsTalk (record t { talking = Some (record { stream = stream; has_units = units; is_over = false; heard = heard }) })
+  talk_begun stream units heard none fresh unit_none unheard =
+      let now : TalkingState = record { stream = stream; has_units = units; is_over = false; heard = heard } in
+      talk_now t.number t.seen (Some now) refl
+      (goes_on_unread t.number t.limits t.hearings.since t.seen now (λ i. record { stream = fresh i; has_units = unit_none i; is_over = false; heard = unheard i }) (unless_talking t.talking none is.now))
+
+  over_by : (over : Bool) (u : TalkingState) → IsTalkingBy over t.number t.limits t.hearings.since t.seen u → IsOverSo t.number t.limits t.hearings.since t.seen u.heard
+  over_by false u h = over_at_rest t.number t.limits t.hearings.since t.seen u h
+  over_by true u h = h
+
+  over_now : (talking : Option TalkingState) → IsTalking t.number t.limits t.hearings.since t.seen talking → IsOverSo t.number t.limits t.hearings.since t.seen (heard_of talking)
+  over_now None h = over_unread t.number t.limits t.hearings.since t.seen h
+  over_now (Some u) h = over_by u.is_over u h
+
+  -- more was read after the session was over
+  pub talk_discarded : (u : TalkingState) (piece heard : List ℕ) (over : Bool) → t.talking ≡ Some u → over ≡ true → heard ≡ u.heard ++ piece
+      → IsTalk (record t { talking = Some (record u { is_over = over; heard = heard }) })
+  talk_discarded u piece heard over there is_over more =
+      let old = over_now (Some u) (subst (λ (o : Option TalkingState). IsTalking t.number t.limits t.hearings.since t.seen o) there is.now) in
+      talk_now t.number t.seen (Some (record u { is_over = over; heard = heard })) refl
+      (subst (λ (b : Bool). IsTalkingBy b t.number t.limits t.hearings.since t.seen (record u { is_over = b; heard = heard })) (sym is_over)
+      (subst (λ (l : List ℕ). IsOverSo t.number t.limits t.hearings.since t.seen l) (sym more) (over_more t.number t.limits t.hearings.since t.seen u.heard piece old)))
+
+  -- ---- a turn
+
+  pub going : (u : TalkingState) → t.talking ≡ Some u → u.is_over ≡ false → GoesOnSo t.number t.limits t.hearings.since t.seen u
+  going u there on =
+      subst (λ (b : Bool). IsTalkingBy b t.number t.limits t.hearings.since t.seen u) on
+      (subst (λ (o : Option TalkingState). IsTalking t.number t.limits t.hearings.since t.seen o) there is.now)
+
+  stepped_now : (k : Settings) (taped : Bool) (u : TalkingState) → GoesOnSo t.number t.limits t.hearings.since t.seen u → (result : Result Turn SessionEnd) (next : Stream) (units over : Bool) (input left : Option (List ℕ)) (after : List ℕ) (seen : List Entry)
+      → Steps k taped t.number t.number u.stream u.has_units input left (Some u.heard) (Some after) result t.seen seen next → IfOk result (λ turn. units ≡ may_leave turn)
+      → MatchResult result (λ _. over ≡ false) (λ _. over ≡ true) → IsTalkingBy over t.number t.limits t.hearings.since seen (record { stream = next; has_units = units; is_over = over; heard = after })
+  stepped_now k taped u h (Ok turn) next units over input left after seen s is_units is_over =
+      subst (λ (b : Bool). IsTalkingBy b t.number t.limits t.hearings.since seen (record { stream = next; has_units = units; is_over = b; heard = after })) (sym is_over)
+      (goes_on_more k taped t.number t.limits t.hearings.since t.seen u h turn next units input left after seen is_units s)
+  stepped_now k taped u h (Err end) next units over input left after seen s is_units is_over =
+      subst (λ (b : Bool). IsTalkingBy b t.number t.limits t.hearings.since seen (record { stream = next; has_units = units; is_over = b; heard = after })) (sym is_over)
+      (over_of k taped t.number t.limits after end t.hearings.since seen (reads_all k taped t.number t.limits t.hearings.since t.seen u h end input left after seen s))
+
+  pub talk_stepped : (k : Settings) (taped : Bool) (m : ℕ) (u : TalkingState) → m ≡ t.number → t.talking ≡ Some u → u.is_over ≡ false → (result : Result Turn SessionEnd) (next : Stream) (units over : Bool)
+      (input left : Option (List ℕ)) (after : List ℕ) (seen : List Entry)
+      → Steps k taped t.number t.number u.stream u.has_units input left (Some u.heard) (Some after) result t.seen seen next → IfOk result (λ turn. units ≡ may_leave turn)
+      → MatchResult result (λ _. over ≡ false) (λ _. over ≡ true)
+      → IsTalk (record { number = m; limits = t.limits; seen = seen; hearings = t.hearings; talking = Some (record { stream = next; has_units = units; is_over = over; heard = after }) })
+  talk_stepped k taped m u same there on result next units over input left after seen s is_units is_over =
+      talk_now m seen (Some (record { stream = next; has_units = units; is_over = over; heard = after })) same
+      (stepped_now k taped u (going u there on) result next units over input left after seen s is_units is_over)
+
+  stepped_by : (k : Settings) (taped : Bool) (m : ℕ) (u : TalkingState) → m ≡ t.number → GoesOnSo t.number t.limits t.hearings.since t.seen u → (result : Result Turn SessionEnd) (next : Stream) (units over : Bool)
+      (input left : Option (List ℕ)) (after : List ℕ) (seen : List Entry)
+      → Steps k taped t.number t.number u.stream u.has_units input left (Some u.heard) (Some after) result t.seen seen next → IfOk result (λ turn. units ≡ may_leave turn)
+      → MatchResult result (λ _. over ≡ false) (λ _. over ≡ true)
+      → Stepped k taped result t (record { number = m; limits = t.limits; seen = seen; hearings = t.hearings; talking = Some (record { stream = next; has_units = units; is_over = over; heard = after }) }) u
+  stepped_by k taped m u same h (Ok turn) next units over input left after seen s is_units is_over = record {
+    now = record { stream = next; has_units = units; is_over = over; heard = after };
+    piece = s.piece;
+    new_is = λ i. record { number = same i; limits = t.limits; seen = seen; hearings = t.hearings; talking = Some (record { stream = next; has_units = units; is_over = over; heard = after }) };
+    heard = s.hears;
+    turns = (is_over, is_units);
+  }
+  stepped_by k taped m u same h (Err end) next units over input left after seen s is_units is_over =
+      let more = heard_more k taped t.number t.limits t.hearings.since t.seen u h end input left after seen s in
+      record {
+        now = record { stream = next; has_units = units; is_over = over; heard = after };
+        piece = more.0;
+        new_is = λ i. record { number = same i; limits = t.limits; seen = seen; hearings = t.hearings; talking = Some (record { stream = next; has_units = units; is_over = over; heard = after }) };
+        heard = more.1;
+        turns = (is_over, reads_all k taped t.number t.limits t.hearings.since t.seen u h end input left after seen s);
+      }
+
+  pub steps_on : (k : Settings) (taped : Bool) (m : ℕ) (u : TalkingState) → m ≡ t.number → t.talking ≡ Some u → u.is_over ≡ false → (result : Result Turn SessionEnd) (next : Stream) (units over : Bool)
+      (input left : Option (List ℕ)) (after : List ℕ) (seen : List Entry)
+      → Steps k taped t.number t.number u.stream u.has_units input left (Some u.heard) (Some after) result t.seen seen next → IfOk result (λ turn. units ≡ may_leave turn)
+      → MatchResult result (λ _. over ≡ false) (λ _. over ≡ true)
+      → StepsOn t.talking k taped result t (record { number = m; limits = t.limits; seen = seen; hearings = t.hearings; talking = Some (record { stream = next; has_units = units; is_over = over; heard = after }) })
+  steps_on k taped m u same there on result next units over input left after seen s is_units is_over =
+      let new : TalkState = record { number = m; limits = t.limits; seen = seen; hearings = t.hearings; talking = Some (record { stream = next; has_units = units; is_over = over; heard = after }) } in
+      subst (λ (o : Option TalkingState). StepsOn o k taped result t new) (sym there)
+      (subst (λ (b : Bool). SteppedUnless b k taped result t new u) (sym on)
+      (stepped_by k taped m u same (going u there on) result next units over input left after seen s is_units is_over))
+
+  -- ---- a closing
+
+  refused_by : (over : Bool) (u : TalkingState) (seen : List Entry) → Adds t.number [] t.seen seen → IsTalkingBy over t.number t.limits t.hearings.since t.seen u → IsTalkingBy over t.number t.limits t.hearings.since seen u
+  refused_by false u seen none h = record { limited = h.limited; hands = hands_none t.number t.limits u.heard u.stream.pending None t.hearings.since t.seen seen none h.hands; waits = h.waits }
+  refused_by true u seen none h = record { rest = h.rest; fault = h.fault; hands = hands_none t.number t.limits u.heard h.rest h.fault t.hearings.since t.seen seen none h.hands }
+
+  refused_now : (talking : Option TalkingState) (seen : List Entry) → Adds t.number [] t.seen seen → IsTalking t.number t.limits t.hearings.since t.seen talking → IsTalking t.number t.limits t.hearings.since seen talking
+  refused_now None seen none h = adds_then t.number [] [] t.hearings.since t.seen seen h none
+  refused_now (Some u) seen none h = refused_by u.is_over u seen none h
+
+  pub talk_refused : (m : ℕ) (seen : List Entry) → m ≡ t.number → Adds t.number [] t.seen seen → IsTalk (record t { number = m; seen = seen })
+  talk_refused m seen same none = talk_now m seen t.talking same (refused_now t.talking seen none is.now)
+
+  pub talk_closed : (m : ℕ) (seen : List Entry) (hearings : Hearings) (heard : List ℕ) → m ≡ t.number → heard_of t.talking ≡ heard → hearings ≡ closed seen heard t.hearings → Adds t.number (Close t.number ∷ []) t.seen seen
+      → IsTalk (record { number = m; limits = t.limits; seen = seen; hearings = hearings; talking = None })
+  talk_closed m seen hearings heard same was entered adds =
+      let one = heard_closed t.number t.limits t.hearings.since t.seen seen heard (subst (λ (l : List ℕ). IsOverSo t.number t.limits t.hearings.since t.seen l) was (over_now t.talking is.now)) adds in
+      subst (λ (z : ℕ × Hearings). IsTalk (record { number = z.0; limits = t.limits; seen = seen; hearings = z.1; talking = None })) (λ i. (sym same i, sym entered i))
+      (record { past = (refl, one, is.past); now = adds_none t.number seen })
+
+-- what a closing handed in
+pub closing_adds : (n m : ℕ) (result : Result Receipt ApplyError) (seen after : List Entry) → m ≡ n → is_ok result ≡ true → HandedIn n (if_taken (Close m) result) seen after → Adds n (Close n ∷ []) seen after
+closing_adds n m (Ok receipt) seen after same ok h = subst (λ (i : ℕ). HandedIn n (Close i ∷ []) seen after) same h
+closing_adds n m (Err refused) seen after same ok h = absurd cc
+
+pub refusal_adds : (n m : ℕ) (result : Result Receipt ApplyError) (seen after : List Entry) → is_ok result ≡ false → HandedIn n (if_taken (Close m) result) seen after → Adds n [] seen after
+refusal_adds n m (Ok receipt) seen after unless h = absurd cc
+refusal_adds n m (Err refused) seen after unless h = h
+
+pub some_talking : {X : Type 0} (f : X → TalkingState) (o : Option X) (x : X) → o ≡ Some x → option_map f o ≡ Some (f x)
+some_talking f o x is = ap (option_map f) is
+
+pub none_talking : {X : Type 0} (f : X → TalkingState) (o : Option X) → is_some o ≡ false → is_some (option_map f o) ≡ false
+none_talking f None none = none
+none_talking f (Some x) none = none
+
+pub heard_some : {X : Type 0} (f : X → TalkingState) (o : Option X) (x : X) → o ≡ Some x → heard_of (option_map f o) ≡ (f x).heard
+heard_some f o x is = ap heard_of (some_talking f o x is)
+
+pub heard_none : {X : Type 0} (f : X → TalkingState) (o : Option X) → o ≡ None → heard_of (option_map f o) ≡ []
+heard_none f o is = ap (λ p. heard_of (option_map f p)) is
+
+pub steps_from : (k : Settings) (taped : Bool) (result : Result Turn SessionEnd) (t old new : TalkState) → t ≡ old → StepsOn t.talking k taped result t new → StepsOn old.talking k taped result old new
+steps_from k taped result t old new same s = subst (λ (o : TalkState). StepsOn o.talking k taped result o new) same s

@@ -1,0 +1,33 @@
+-- What was read from a slot's connections, and what was handed in of that.
+use Rattle.std.specs.Prelude.{◌≡◌, ℕ, List, [], ◌∷◌, ◌++◌, Option, None, IfSome}
+use Rattle.gm_feeder.specs.declared.units.Limits.{Limits}
+use Rattle.gm_feeder.specs.Units.{Item}
+use Rattle.gm_notes.specs.declared.event.UnitFault.{UnitFault}
+use Rattle.gm_notes.specs.Steps.{Close}
+use Rattle.gm_front.specs.Units.{steps_of, IsFaultAt, BeginsWith}
+use Rattle.gm_shared.specs.declared.tape.Entry.{Entry}
+use Rattle.gm_session.specs.declared.heard.Heard.{Heard}
+use Rattle.gm_session.specs.declared.heard.Hearings.{Hearings}
+use Rattle.gm_session.specs.Sessions.{Adds}
+
+abbrev pub blank : Hearings
+blank = record { past = []; since = [] }
+
+-- a connection more is gone, from which this was read
+abbrev pub closed : List Entry → List ℕ → Hearings → Hearings
+closed seen read hearings = record { past = record { since = hearings.since; until = seen; read = read } ∷ hearings.past; since = seen }
+
+-- What was handed in at the desk of slot n of such a connection: the first units of what was read from it, in order, then the fault behind
+-- them or none, and its closing.
+pub record IsHeard (n : ℕ) (limits : Limits) (heard : Heard) : Type 0 where
+  pub items : List Item
+  pub rest : List ℕ
+  pub fault : Option UnitFault
+  pub begins : BeginsWith limits heard.read items rest
+  pub stands : IfSome fault (λ fault. IsFaultAt limits rest fault)
+  pub adds : Adds n (steps_of n items fault ++ Close n ∷ []) heard.since heard.until
+
+-- All that the desk of slot n had handed in when it had seen this: what was handed in of each connection, one after another.
+abbrev pub AreHeard : ℕ → Limits → List Heard → List Entry → Type 0
+AreHeard n limits [] seen = seen ≡ []
+AreHeard n limits (heard ∷ older) seen = (seen ≡ heard.until) × IsHeard n limits heard × AreHeard n limits older heard.since

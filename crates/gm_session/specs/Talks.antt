@@ -1,0 +1,109 @@
+-- A slot's desk, and the session of its connection.
+use Rattle.std.specs.Prelude.{◌≡◌, ℕ, List, [], ◌++◌, Bool, true, false, Option, Some, None, Result, Ok, Err}
+use Rattle.gm_feeder.specs.declared.units.Limits.{Limits}
+use Rattle.gm_feeder.specs.Units.{Waits}
+use Rattle.gm_feeder.specs.Streams.{Stream}
+use Rattle.gm_notes.specs.declared.event.ApplyError.{ApplyError}
+use Rattle.gm_notes.specs.declared.event.UnitFault.{UnitFault}
+use Rattle.gm_notes.specs.Settings.{Settings}
+use Rattle.gm_shared.specs.declared.receipt.Receipt.{Receipt}
+use Rattle.gm_shared.specs.declared.shared.Desk.{Desk}
+use Rattle.gm_shared.specs.declared.tape.Entry.{Entry}
+use Rattle.gm_session.specs.declared.heard.Hearings.{Hearings}
+use Rattle.gm_session.specs.declared.session.SessionEnd.{SessionEnd}
+use Rattle.gm_session.specs.declared.session.Turn.{Turn}
+use Rattle.gm_session.specs.Hearings.{closed, AreHeard}
+use Rattle.gm_session.specs.Sessions.{Adds, HandsIn, Reads, may_leave}
+
+-- the bytes of the session that make no unit yet, whether whole units may be left before them, whether the session is over, and all that was
+-- read from the connection
+pub record TalkingState : Type 0 where
+  pub stream : Stream
+  pub has_units : Bool
+  pub is_over : Bool
+  pub heard : List ℕ
+
+-- the slot's number, the limits of units, what the desk has seen of the history; the connection, if there is one, and the account of those
+-- that are gone
+pub record TalkState : Type 0 where
+  pub number : ℕ
+  pub limits : Limits
+  pub seen : List Entry
+  pub hearings : Hearings
+  pub talking : Option TalkingState
+
+-- What was handed in since the slot was last closed are the first units of what was read from the connection, in order: all that are whole,
+-- unless some may be left.
+pub record GoesOnSo (n : ℕ) (limits : Limits) (since seen : List Entry) (t : TalkingState) : Type 0 where
+  pub limited : t.stream.limits ≡ limits
+  pub hands : HandsIn n n limits t.heard t.stream.pending None since seen
+  pub waits : t.has_units ≡ false → Waits limits t.stream.pending
+
+-- Once the session is over: the first units, in order, and then the fault behind them or none.
+pub record IsOverSo (n : ℕ) (limits : Limits) (since seen : List Entry) (heard : List ℕ) : Type 0 where
+  pub rest : List ℕ
+  pub fault : Option UnitFault
+  pub hands : HandsIn n n limits heard rest fault since seen
+
+abbrev pub IsTalkingBy : Bool → ℕ → Limits → List Entry → List Entry → TalkingState → Type 0
+IsTalkingBy false n limits since seen t = GoesOnSo n limits since seen t
+IsTalkingBy true n limits since seen t = IsOverSo n limits since seen t.heard
+
+-- with no connection nothing was handed in
+abbrev pub IsTalking : ℕ → Limits → List Entry → List Entry → Option TalkingState → Type 0
+IsTalking n limits since seen None = Adds n [] since seen
+IsTalking n limits since seen (Some t) = IsTalkingBy t.is_over n limits since seen t
+
+pub record IsTalk (t : TalkState) : Type 0 where
+  pub past : AreHeard t.number t.limits t.hearings.past t.hearings.since
+  pub now : IsTalking t.number t.limits t.hearings.since t.seen t.talking
+
+-- ---- a connection's way
+
+abbrev pub unread : Limits → TalkingState
+unread limits = record { stream = record { limits = limits; pending = []; fault = None }; has_units = false; is_over = false; heard = [] }
+
+-- a connection came, of which nothing was read
+abbrev pub begun : TalkState → TalkState
+begun t = record t { talking = Some (unread t.limits) }
+
+-- After a turn the session goes on; or it is over, and what was handed in since the slot was last closed is what was read since, as of a
+-- session that one thread reads to its end.
+abbrev pub Turns : Settings → Bool → Result Turn SessionEnd → TalkState → List Entry → TalkingState → TalkingState → Type 0
+Turns k taped (Ok turn) old seen t now = (now.is_over ≡ false) × (now.has_units ≡ may_leave turn)
+Turns k taped (Err end) old seen t now = (now.is_over ≡ true) × Reads k taped old.number old.number old.limits (Some now.heard) (Some []) end old.hearings.since seen
+
+-- A piece was read, or none, and what was whole then had its turn.
+pub record Stepped (k : Settings) (taped : Bool) (result : Result Turn SessionEnd) (old new : TalkState) (t : TalkingState) : Type 0 where
+  pub now : TalkingState
+  pub piece : List ℕ
+  pub new_is : new ≡ record old { seen = new.seen; talking = Some now }
+  pub heard : now.heard ≡ t.heard ++ piece
+  pub turns : Turns k taped result old new.seen t now
+
+abbrev pub SteppedUnless : Bool → Settings → Bool → Result Turn SessionEnd → TalkState → TalkState → TalkingState → Type 0
+SteppedUnless true k taped result old new t = new ≡ old
+SteppedUnless false k taped result old new t = Stepped k taped result old new t
+
+-- nothing is read where there is no session any more
+abbrev pub StepsOn : Option TalkingState → Settings → Bool → Result Turn SessionEnd → TalkState → TalkState → Type 0
+StepsOn None k taped result old new = new ≡ old
+StepsOn (Some t) k taped result old new = SteppedUnless t.is_over k taped result old new t
+
+-- The session is over, and some bytes more were read, of which nothing is handed in.
+pub record Discarded (old new : TalkState) (t : TalkingState) : Type 0 where
+  pub piece : List ℕ
+  pub new_is : new ≡ record old { talking = Some record t { is_over = true; heard = t.heard ++ piece } }
+
+abbrev pub Discards : Option TalkingState → TalkState → TalkState → Type 0
+Discards None old new = new ≡ old
+Discards (Some t) old new = Discarded old new t
+
+abbrev pub heard_of : Option TalkingState → List ℕ
+heard_of None = []
+heard_of (Some t) = t.heard
+
+-- The connection is gone, and entered with all that was read from it; where the closing was refused nothing changed but what the desk has seen.
+abbrev pub Closes : Settings → Bool → Result Receipt ApplyError → TalkState → TalkState → Type 0
+Closes k taped (Ok receipt) old new = new ≡ record old { seen = new.seen; hearings = closed new.seen (heard_of old.talking) old.hearings; talking = None }
+Closes k taped (Err refused) old new = new ≡ record old { seen = new.seen }

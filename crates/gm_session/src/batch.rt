@@ -1,0 +1,88 @@
+//! Units that are applied together.
+
+ghost use Rattle.std.specs.Prelude.{◌≡◌, ◌+◌, ◌%◌, ◌^◌, ◌<◌, ◌≤◌, true, false, None, IsSome, IsNone};
+
+use crate::effects::Notify;
+use std::sync::{MutexGuard, Wait};
+use std::time::Instant;
+
+/// The most bytes of a turn that doesn't wait behind the long turns that wait: several requests. It waits for the batch that
+/// goes on.
+const MIDDLE_PIECE: usize = 2_048;
+
+/// The most units of a turn: then other connections have theirs.
+const MOST_UNITS: u32 = 64;
+
+/// After how many units a turn reads the clock. It does so after each text line too, which may be the work of many units.
+const UNITS_PER_CLOCK_READ: u32 = 8;
+
+/// The units of a turn, after which others are notified of what came of them.
+#[derive(Drop)]
+pub(crate) struct Batch<'s> {
+    /// How many units don't wait for other sessions' batches.
+    free_units: u32,
+    /// Whether its turn is long, and waits behind the other long ones.
+    is_long: bool,
+    /// Held over the other units, so that no other session has such a batch. Many units in a row, of several connections at
+    /// once, would wake and sleep at the book's lock at each unit.
+    alone: Option<MutexGuard<'s, ()>>,
+    /// The turn among the long ones, held with `alone`. So at most one thread with a long turn waits for `alone`, beside those with
+    /// shorter ones.
+    turn: Option<MutexGuard<'s, ()>>,
+    pub(crate) units: u32,
+    begun: Option<Instant>,
+}
+
+impl<'s> Batch<'s> {
+    /// The batch of a turn over this many bytes.
+    pub(crate) fn new(free_units: u32, length: usize) -> Batch<'s>
+        ensures free { result.free_units ≡ free_units }
+        ensures units { result.units ≡ 0 }
+        ensures long { 2048 < length → result.is_long ≡ true }
+        ensures alone { IsNone result.alone }
+        ensures turn { IsNone result.turn }
+        ensures begun { result.begun ≡ None }
+    {
+        Batch {
+            free_units,
+            is_long: length > MIDDLE_PIECE,
+            alone: None,
+            turn: None,
+            units: 0,
+            begun: None,
+        }
+    }
+
+    /// Lets the next unit in. The first that isn't free waits until no other session has such a batch, in a long turn behind
+    /// the other long ones.
+    pub(crate) fn admit<R: Wait, N: Notify<R>>(&mut self, server: &'s N, rt: &R)
+        ensures free { self.new.free_units ≡ self.old.free_units }
+        ensures units { self.new.units ≡ self.old.units }
+        ensures waits { self.old.free_units ≤ self.old.units → IsSome self.new.alone }
+        ensures turn { self.old.free_units ≤ self.old.units → IsNone self.old.alone → self.old.is_long ≡ true → IsSome self.new.turn }
+        ensures long { self.new.is_long ≡ self.old.is_long }
+        ensures begun { self.new.begun ≡ self.old.begun }
+    {
+        // Modelled in models/jobs.pml.
+        if self.units >= self.free_units && self.alone.is_none() {
+            if self.is_long {
+                self.turn = Some(server.long_piece_lock().lock(rt));
+            }
+            self.alone = Some(server.batch_lock().lock(rt));
+        }
+    }
+
+    /// Whether it has ended, after a unit more.
+    pub(crate) fn has_ended<R, N: Notify<R>>(&mut self, server: &N, rt: &R, is_line: bool) -> bool
+        ensures free { self.new.free_units ≡ self.old.free_units }
+        ensures units { self.new.units ≡ (self.old.units + 1) % 2 ^ 32 }
+        ensures most { 64 ≤ self.new.units → result ≡ true }
+        ensures looks { is_line ≡ false → self.new.units < 64 → 0 < self.new.units % 8 → result ≡ false }
+    {
+        // Modelled in models/jobs.pml.
+        self.units = self.units.wrapping_add(1);
+        self.units >= MOST_UNITS
+            || (is_line || self.units % UNITS_PER_CLOCK_READ == 0)
+                && server.is_time(rt, &mut self.begun)
+    }
+}

@@ -1,0 +1,210 @@
+//! What was read from connections, which only proofs know.
+
+ghost use Rattle.std.specs.Prelude.{◌≡◌, ◌++◌, [], Some, None, IfOk};
+ghost use Rattle.gm_session.specs.Hearings.{blank, closed};
+
+use gm_feeder::{Patience, Source};
+use gm_ghost::{Ghost, Log, Logged, Worth};
+use gm_shared::{BookName, Desk, Entry};
+use std::alloc::{AllocError, Global};
+use std::collections::LinkedList;
+use std::io;
+use std::io::ErrorKind;
+use std::marker::{Brand, Model};
+
+/// What a read left.
+#[derive(Clone, Copy, Debug, PartialEq, Eq)]
+pub enum Left {
+    /// There may be more to read: the read was filled.
+    Perhaps,
+    /// Nothing, unless the peer sends no more, or urgent data were between.
+    Little,
+    /// Nothing: a read would have to wait.
+    Nothing,
+}
+
+/// A source, and a log of all that it gave since it was taken. The log exists in proofs alone. Contracts see the source, what it was to
+/// give when it was taken, where that is known, and the log: what it was to give is the log, and then what it is still to give.
+#[derive(Drop)]
+pub struct LoggedSource<I: Source<Patience>> {
+    source: I,
+    log: Log,
+    /// What the last read left.
+    left: Left,
+    /// Whether the last read failed, as the system found out that the peer vanished.
+    has_timed_out: bool,
+}
+
+impl<I: Source<Patience>> Model for LoggedSource<I> {
+    ghost use Rattle.std.specs.Prelude.{List, ℕ, Option};
+    ghost use Rattle.std.specs.Io.KnownBytes.{Consumes};
+
+    ghost Value = { I × Option (List ℕ) × List ℕ };
+
+    ghost view = { λ r. (r.source, r.log.before, r.log.bytes) };
+
+    ghost invariant = { λ r. Consumes r.log.before (I.remaining r.source) r.log.bytes };
+}
+
+// The source is for the proof alone.
+fn log_of<I: Source<Patience>, E: Worth<Logged>>(
+    alloc: Global,
+    _source: &I,
+) -> Result<Log, AllocError>
+    requires { E.worth ≡ record { before = I.remaining _source.now; bytes = [] } }
+    ensures { IfOk result (λ log. log ≡ record { before = I.remaining _source.now; bytes = [] }) }
+{
+    Log::new::<E>(alloc)
+}
+
+impl<I: Source<Patience> + Drop> LoggedSource<I> {
+    /// Takes a source. The log is empty.
+    pub fn new(alloc: Global, source: I) -> Result<LoggedSource<I>, AllocError>
+        ensures { IfOk result (λ logged. logged ≡ (source, I.remaining source, [])) }
+    {
+        let log = log_of::<I, Brand>(alloc, &source)?;
+        Ok(LoggedSource {
+            source,
+            log,
+            left: Left::Perhaps,
+            has_timed_out: false,
+        })
+    }
+
+    /// The source.
+    pub fn source(&self) -> &I
+        ensures { result.now ≡ self.now.0 }
+    {
+        &self.source
+    }
+
+    /// What the last read left.
+    pub fn left(&self) -> Left {
+        self.left
+    }
+
+    /// Whether the last read failed, as the system found out that the peer vanished.
+    pub fn has_timed_out(&self) -> bool {
+        self.has_timed_out
+    }
+}
+
+impl<I: Source<Patience>> Source<Patience> for LoggedSource<I> {
+    ghost use Rattle.std.specs.Prelude.{Some};
+
+    ghost remaining = { λ r. I.remaining r.0 };
+
+    ghost heard = { λ r. Some r.2 };
+
+    fn read_by(&mut self, by: &Patience, room: &mut [u8]) -> io::Result<usize> {
+        match self.source.read_by(by, room) {
+            Ok(count) => {
+                self.log.add(&room[..count]);
+                self.left = if count < room.len() {
+                    Left::Little
+                } else {
+                    Left::Perhaps
+                };
+                Ok(count)
+            }
+            Err(error) => {
+                self.left = if error.kind() == ErrorKind::WouldBlock {
+                    Left::Nothing
+                } else {
+                    Left::Perhaps
+                };
+                self.has_timed_out = error.kind() == ErrorKind::TimedOut;
+                Err(error)
+            }
+        }
+    }
+}
+
+/// A connection that is gone: what its slot's desk had seen of the history when the one before it was closed, and when it was closed, and
+/// all that was read from it. No value is made.
+#[derive(Drop)]
+pub struct Heard {
+    pub since: LinkedList<Entry>,
+    pub until: LinkedList<Entry>,
+    pub read: LinkedList<u8>,
+}
+
+/// A slot's connections that are gone, the newest first, and what its desk had seen when the last was closed. None but a blank one is
+/// made.
+#[derive(Drop)]
+pub struct Hearings {
+    pub past: LinkedList<Heard>,
+    pub since: LinkedList<Entry>,
+}
+
+impl Worth<Hearings> for Brand {
+    ghost use Rattle.std.specs.Prelude.{[]};
+
+    ghost worth = { record { past = []; since = [] } };
+}
+
+/// What was read from a slot's connections. Contracts see that.
+#[derive(Drop)]
+pub struct HearingLedger {
+    cell: Ghost<Hearings>,
+}
+
+impl Model for HearingLedger {
+    ghost use Rattle.gm_session.specs.declared.heard.Hearings.{Hearings};
+
+    ghost Value = { Hearings };
+
+    ghost view = { λ l. l.cell };
+}
+
+impl HearingLedger {
+    /// No connection is gone.
+    pub(crate) fn new(alloc: Global) -> Result<HearingLedger, AllocError>
+        ensures { IfOk result (λ ledger. ledger ≡ blank) }
+    {
+        let none = Hearings {
+            past: LinkedList::new(alloc),
+            since: LinkedList::new(alloc),
+        };
+        let cell = Ghost::new(alloc, &none)?;
+        Ok(HearingLedger { cell })
+    }
+
+    // The desk is for the proof alone.
+    fn close_unheard_as<K: BookName, E: Worth<Hearings>>(&mut self, _desk: &Desk<K>)
+        requires { E.worth ≡ closed _desk.now.front.seen [] self.old }
+        ensures { self.new ≡ closed _desk.now.front.seen [] self.old }
+    {
+        self.cell.set::<E>();
+    }
+
+    /// Enters a connection that was closed at this desk before it was read.
+    pub(crate) fn close_unheard<K: BookName>(&mut self, desk: &Desk<K>)
+        ensures { self.new ≡ closed desk.now.front.seen [] self.old }
+    {
+        self.close_unheard_as::<K, Brand>(desk)
+    }
+
+    // What is passed is for the proof alone.
+    fn close_as<K: BookName, I: Source<Patience>, E: Worth<Hearings>>(
+        &mut self,
+        _desk: &Desk<K>,
+        _source: &LoggedSource<I>,
+    )
+        requires { E.worth ≡ closed _desk.now.front.seen _source.now.2 self.old }
+        ensures { self.new ≡ closed _desk.now.front.seen _source.now.2 self.old }
+    {
+        self.cell.set::<E>();
+    }
+
+    /// Enters a connection that was closed at this desk, with all that was read from it.
+    pub(crate) fn close<K: BookName, I: Source<Patience>>(
+        &mut self,
+        desk: &Desk<K>,
+        source: &LoggedSource<I>,
+    )
+        ensures { self.new ≡ closed desk.now.front.seen source.now.2 self.old }
+    {
+        self.close_as::<K, I, Brand>(desk, source)
+    }
+}

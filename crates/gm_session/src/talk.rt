@@ -1,0 +1,254 @@
+//! A desk, with the session of its slot's connection.
+
+ghost use Rattle.std.specs.Prelude.{◌≡◌, ◌++◌, ℕ, List, [], Some, None, true, false, IfOk, IfErr, OnOk, OnErr, MatchBool};
+ghost use Rattle.std.specs.Result.{IsErrOf, MatchResult};
+ghost use Rattle.std.specs.Io.KnownBytes.{IsAtEnd};
+ghost use Rattle.gm_notes.specs.Steps.{Close};
+ghost use Rattle.gm_shared.specs.Books.{NeedsNoMemory};
+ghost use Rattle.gm_shared.specs.Calls.{Called};
+ghost use Rattle.gm_session.specs.Effects.{Keeps};
+ghost use Rattle.gm_session.specs.Hearings.{blank};
+ghost use Rattle.gm_session.specs.Sessions.{Steps, may_leave};
+ghost use Rattle.gm_session.specs.Talks.{IsTalk, begun, StepsOn, Discards, Closes};
+
+use crate::applier::Around;
+use crate::effects::{Effects, Notify};
+use crate::gate::Gate;
+use crate::heard::{HearingLedger, LoggedSource};
+use crate::own_desk::OwnDesk;
+use crate::session::{Session, SessionEnd, Turn};
+use gm_feeder::{Limits, Patience, Source};
+use gm_notes::{ApplyError, Event};
+use gm_shared::{BookName, Desk, Receipt, Shared};
+use std::alloc::{AllocError, Global};
+use std::io;
+use std::marker::Model;
+use std::sync::Wait;
+
+/// A connection that is read, until its slot is closed.
+#[derive(Drop)]
+struct Talking<I: Source<Patience>> {
+    session: Session,
+    source: LoggedSource<I>,
+    /// The session is over: what still comes is dropped.
+    is_over: bool,
+    /// Nothing is read any more.
+    has_ended: bool,
+}
+
+/// A slot's desk, and the session of its connection, if there is one. Whichever threads go on with the session: what was handed in since
+/// the slot was last closed are the first units of what was read since, and so it was with each connection before. Contracts see what
+/// the desk has seen of the history, what is left of the session's bytes, all that was read from the connection, and the account of those
+/// that are gone.
+#[derive(Drop)]
+pub struct Talk<K: BookName, I: Source<Patience>> {
+    desk: OwnDesk<K>,
+    limits: Limits,
+    talking: Option<Talking<I>>,
+    ledger: HearingLedger,
+}
+
+impl<K: BookName, I: Source<Patience>> Model for Talk<K, I> {
+    ghost use Rattle.std.specs.Option.{option_map};
+    ghost use Rattle.gm_session.specs.Talks.{TalkState, IsTalk};
+
+    ghost Value = { TalkState };
+
+    ghost view = { λ t. record {
+      number = t.desk.desk.number;
+      limits = t.limits;
+      seen = t.desk.desk.front.seen;
+      hearings = t.ledger;
+      talking = option_map (λ x. record { stream = x.session.feeder; has_units = x.session.has_units; is_over = x.is_over; heard = x.source.2 }) t.talking;
+    } };
+
+    ghost invariant = { λ t. IsTalk (record {
+      number = t.desk.desk.number;
+      limits = t.limits;
+      seen = t.desk.desk.front.seen;
+      hearings = t.ledger;
+      talking = option_map (λ x. record { stream = x.session.feeder; has_units = x.session.has_units; is_over = x.is_over; heard = x.source.2 }) t.talking;
+    }) };
+}
+
+/// Goes on with a session at its desk.
+fn step_on<K: BookName, R: Wait, G: Gate, N: Notify<R>, I: Source<Patience>>(
+    desk: &mut OwnDesk<K>,
+    talking: &mut Talking<I>,
+    around: &Around<'_, K, R, G, N>,
+    by: &Patience,
+) -> Result<Turn, SessionEnd>
+    ensures steps { Steps K.settings K.taped desk.old.desk.number desk.old.desk.number talking.old.session.feeder talking.old.session.has_units
+        (I.remaining talking.old.source.0) (I.remaining talking.new.source.0) (Some talking.old.source.2) (Some talking.new.source.2) result
+        desk.old.desk.front.seen desk.new.desk.front.seen talking.new.session.feeder }
+    ensures units { IfOk result (λ turn. talking.new.session.has_units ≡ may_leave turn) }
+    ensures over { MatchResult result (λ _. talking.new.is_over ≡ false) (λ _. talking.new.is_over ≡ true) }
+    ensures number { desk.new.desk.number ≡ desk.old.desk.number }
+{
+    let outcome = desk.step(around, &mut talking.session, &mut talking.source, by);
+    talking.is_over = outcome.is_err();
+    outcome
+}
+
+/// Ends a session, and reads what comes after it.
+fn discard_on<I: Source<Patience>>(
+    talking: &mut Talking<I>,
+    by: &Patience,
+    room: &mut [u8],
+) -> io::Result<usize>
+    ensures over { talking.new.is_over ≡ true }
+    ensures heard { (piece : List ℕ) × (talking.new.source.2 ≡ talking.old.source.2 ++ piece) }
+    ensures session { talking.new.session ≡ talking.old.session }
+{
+    talking.is_over = true;
+    match talking.source.read_by(by, room) {
+        Ok(count) => Ok(count),
+        Err(error) => Err(error),
+    }
+}
+
+impl<K: BookName, I: Source<Patience> + Drop> Talk<K, I> {
+    /// A desk that has seen nothing, and no connection. Its connections' units are within these limits.
+    pub fn new(alloc: Global, desk: Desk<K>, limits: Limits) -> Result<Talk<K, I>, AllocError>
+        requires { desk.front.seen ≡ [] }
+        ensures number { IfOk result (λ talk. talk.number ≡ desk.number) }
+        ensures blank { IfOk result (λ talk. (talk.seen ≡ []) × (talk.talking ≡ None) × (talk.hearings ≡ blank)) }
+        ensures limits { IfOk result (λ talk. talk.limits ≡ limits) }
+    {
+        let ledger = HearingLedger::new(alloc)?;
+        Ok(Talk {
+            desk: OwnDesk::new(desk),
+            limits,
+            talking: None,
+            ledger,
+        })
+    }
+
+    /// All that is known of it, at any moment.
+    pub fn stands(&self)
+        ensures { IsTalk self.now }
+    {
+        let _ = &self.desk;
+    }
+
+    /// The number of the slot.
+    pub fn number(&self) -> u32
+        ensures { result ≡ self.now.number }
+    {
+        self.desk.number()
+    }
+
+    /// Takes a connection, of which nothing was read yet. It says whether it could: not before the slot was closed after the last one.
+    pub fn begin(&mut self, alloc: Global, source: LoggedSource<I>) -> bool
+        requires { source.2 ≡ [] }
+        ensures { MatchBool result (self.new ≡ begun self.old) (self.new ≡ self.old) }
+    {
+        if self.talking.is_some() {
+            return false;
+        }
+        self.talking = Some(Talking {
+            session: Session::new(alloc, self.limits),
+            source,
+            is_over: false,
+            has_ended: false,
+        });
+        true
+    }
+
+    /// Whether there is a connection from which more may be read.
+    pub fn is_reading(&self) -> bool {
+        match &self.talking {
+            Some(talking) => !talking.has_ended,
+            None => false,
+        }
+    }
+
+    /// Whether whole units may be left, so that the next step reads nothing.
+    pub fn has_units(&self) -> bool {
+        match &self.talking {
+            Some(talking) => talking.session.has_units,
+            None => false,
+        }
+    }
+
+    /// Nothing is read from the connection any more.
+    pub fn end(&mut self)
+        ensures { self.new ≡ self.old }
+    {
+        match &mut self.talking {
+            Some(talking) => talking.has_ended = true,
+            None => {}
+        }
+    }
+
+    /// What the connection is read from.
+    pub fn source(&self) -> Option<&LoggedSource<I>> {
+        match &self.talking {
+            Some(talking) => Some(&talking.source),
+            None => None,
+        }
+    }
+
+    /// Goes on with the session: reads a piece, unless whole units may be left, and takes a turn. Where the session is over, it says why.
+    pub fn step<R: Wait, G: Gate, N: Notify<R>>(
+        &mut self,
+        around: &Around<'_, K, R, G, N>,
+        by: &Patience,
+    ) -> Result<Turn, SessionEnd>
+        ensures { StepsOn self.old.talking K.settings K.taped result self.old self.new }
+    {
+        match &mut self.talking {
+            Some(talking) if !talking.is_over => step_on(&mut self.desk, talking, around, by),
+            _ => Err(SessionEnd::Shut),
+        }
+    }
+
+    /// Reads what comes after the session is over, and drops it: into this room, by one call, and says how many bytes these were.
+    pub fn discard(&mut self, by: &Patience, room: &mut [u8]) -> io::Result<usize>
+        ensures { Discards self.old.talking self.old self.new }
+    {
+        match &mut self.talking {
+            Some(talking) => discard_on(talking, by, room),
+            None => Ok(0),
+        }
+    }
+
+    /// Closes the slot, whose connection is gone. With a tape there may be no memory for that: then the slot stays open in the book.
+    pub fn close(
+        &mut self,
+        rt: &impl Wait,
+        shared: &Shared<K>,
+        effects: &mut Effects,
+    ) -> Result<Receipt, ApplyError>
+        ensures closes { Closes K.settings K.taped result self.old self.new }
+        ensures keeps { Keeps K.settings K.taped (Close self.old.number) self.old.number result self.old.seen self.new.seen effects.old effects.new }
+        ensures memory { NeedsNoMemory K.taped (Close self.old.number) → IsErrOf result ApplyError.Memory → ⊥ }
+    {
+        // Modelled in models/endings.pml.
+        let slot = self.desk.number();
+        let answer = self.desk.apply(rt, shared, Event::Close { slot }, effects);
+        if answer.is_ok() {
+            match self.talking.take() {
+                Some(talking) => self.ledger.close(&self.desk.desk, &talking.source),
+                None => self.ledger.close_unheard(&self.desk.desk),
+            }
+        }
+        answer
+    }
+
+    /// The desk, the limits of its connections' units, and the account of what was read from them.
+    pub fn into_parts(self) -> (OwnDesk<K>, Limits, HearingLedger)
+        ensures desk { (result.0.desk.number ≡ self.number) × (result.0.desk.front.seen ≡ self.seen) }
+        ensures limits { result.1 ≡ self.limits }
+        ensures hearings { result.2 ≡ self.hearings }
+        ensures talk { IsTalk self }
+    {
+        let Talk {
+            desk,
+            limits,
+            ledger,
+            ..
+        } = self;
+        (desk, limits, ledger)
+    }
+}
