@@ -1,73 +1,48 @@
 //! How a connection ends.
 
+use crate::stage::Stage;
 use crate::timing::has_passed;
-use std::sync::atomic::{AtomicU8, Ordering};
-use std::time::{Clock, Instant};
+use gm_shared::{BookName, Shared};
+use std::sync::Wait;
+use std::time::{Clock, Duration, Instant};
 
 /// How long a connection that is to end has for what it is still to be sent: while its peer takes nothing, or the server ends,
-/// from when its writer first found it late.
-const ENDING_TIME_MS: u64 = 2_000;
+/// from when that was first looked at. So long too what its peer still sends is read and dropped once all is sent.
+pub(crate) const ENDING_TIME_MS: u64 = 2_000;
 
-/// The same where its peer takes some.
+/// How long it has for what it is still to be sent where its peer takes some.
 const MOST_ENDING_TIME_MS: u64 = 30_000;
 
-// Its reader serves it, and whoever has the lane delivers.
-const SERVING: u8 = 0;
-
-// Its reader has stopped: its writer sends what waits, and hangs up.
-const ENDING: u8 = 1;
-
-// The same, and the server ends, so its peer has less time.
-const STOPPING: u8 = 2;
-
-/// How far a slot's connection is, for all threads. It goes on to a later stage only, until the slot's next connection.
-#[derive(Drop)]
-pub(crate) struct Stage {
-    code: AtomicU8,
+/// The stages of a connection.
+#[derive(Clone, Copy)]
+pub enum ReadStage {
+    /// Its requests are taken.
+    Serving,
+    /// No more of its requests are taken: what waits is sent, and then no more is.
+    Ending,
+    /// Nothing is read from it any more: what waits is sent, and then it is let go of.
+    Ended,
 }
 
-impl Stage {
-    pub(crate) fn new() -> Stage {
-        Stage {
-            code: AtomicU8::new(SERVING),
-        }
-    }
+/// What lanes ask of their server.
+pub trait Server<K: BookName> {
+    /// The book, in which waits what is to be sent.
+    fn shared(&self) -> &Shared<K>;
 
-    /// The slot's next connection comes.
-    pub(crate) fn serve(&self) {
-        // Modelled in models/lane.h.
-        self.code.store(SERVING, Ordering::SeqCst);
-    }
+    /// Has the slot's finisher look at its lane: the thread that does what others leave of it.
+    fn wake_finisher(&self, slot: u32);
 
-    /// The connection is to end.
-    pub(crate) fn end(&self) {
-        // Modelled in models/lane.h.
-        self.code.fetch_max(ENDING, Ordering::SeqCst);
-    }
+    /// Whether all connections are to end.
+    fn is_stopping(&self) -> bool;
 
-    /// So is the server.
-    pub(crate) fn stop(&self) {
-        // Modelled in models/lane.h.
-        self.code.fetch_max(STOPPING, Ordering::SeqCst);
-    }
+    /// Counts a connection whose peer vanished.
+    fn count_timed_out(&self, rt: &impl Wait);
+}
 
-    /// So is the server, where the connection is to end.
-    pub(crate) fn hasten(&self) {
-        // Modelled in models/lane.h.
-        let _ = self
-            .code
-            .compare_exchange(ENDING, STOPPING, Ordering::SeqCst, Ordering::SeqCst);
-    }
-
-    /// Whether the connection is to end.
-    pub(crate) fn is_ending(&self) -> bool {
-        self.code.load(Ordering::SeqCst) != SERVING
-    }
-
-    /// Whether the server is to end too.
-    fn is_stopping(&self) -> bool {
-        self.code.load(Ordering::SeqCst) == STOPPING
-    }
+/// Whether a connection is to end.
+pub(crate) fn is_ending<K: BookName>(server: &impl Server<K>, stage: &Stage) -> bool {
+    // Modelled in models/lane.h.
+    stage.has_reached(ReadStage::Ending as u8) || server.is_stopping()
 }
 
 /// How long a connection's end has taken.
@@ -91,20 +66,17 @@ impl End {
     }
 
     /// Looks at the time after a write, where the connection is to end: a peer that takes some has more, unless the server ends.
-    pub(crate) fn look(&mut self, rt: &impl Clock, stage: &Stage, has_taken: bool) {
+    pub(crate) fn look(&mut self, rt: &impl Clock, is_stopping: bool, has_taken: bool) {
         // Modelled in models/lane.h.
-        if !stage.is_ending() {
-            return;
-        }
         if has_taken {
             self.stalled = None;
         }
-        let time_ms = if stage.is_stopping() {
+        let time_ms = if is_stopping {
             ENDING_TIME_MS
         } else {
             MOST_ENDING_TIME_MS
         };
-        self.deadline_passed = has_passed(rt, &mut self.begun, time_ms)
-            || has_passed(rt, &mut self.stalled, ENDING_TIME_MS);
+        self.deadline_passed = has_passed(rt, &mut self.begun, Duration::from_millis(time_ms))
+            || has_passed(rt, &mut self.stalled, Duration::from_millis(ENDING_TIME_MS));
     }
 }

@@ -1,11 +1,20 @@
 //! What one connection is sent: what waits for its slot in the book is written to its socket, by one thread at a time. A `Lane` is what a
-//! slot has for that: its outbox (gm_outbox), its socket, and the word that says which thread delivers.
+//! slot has for that: its outbox (gm_outbox), the half of its connection's socket that only writes, an account of all that was ever
+//! written to its connections, and the word that says which thread delivers.
 #![tactic(auto)]
 
-mod demand;
+mod account;
 mod ending;
 mod lane;
+mod sender;
+mod socket;
+mod stage;
 mod timing;
 
-pub use lane::{Begun, Lane};
+pub use account::Ledger;
+pub use ending::{ReadStage, Server};
+pub use lane::{Deliverer, Finish, Lane};
+pub use sender::Sender;
+pub use socket::{ReadHalf, WriteHalf, split};
+pub use stage::Stage;
 pub use timing::has_passed;

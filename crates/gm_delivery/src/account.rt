@@ -1,0 +1,96 @@
+//! What was written to a slot's connections, which only proofs know.
+
+ghost use Rattle.std.specs.Prelude.{◌≡◌, IfOk};
+ghost use Rattle.gm_delivery.specs.Accounts.{blank_account, closed};
+
+use crate::socket::WriteHalf;
+use gm_ghost::{Ghost, Worth};
+use gm_outbox::Outbox;
+use gm_shared::{BookName, Entry};
+use std::alloc::{AllocError, Global};
+use std::collections::LinkedList;
+use std::marker::{Brand, Model};
+
+/// A connection that is gone: how often its slot had been opened with it, what its slot's pen had seen of the history when it came and when it
+/// went, how many NOOPs the pen had taken then, all that was written to it, and whether that is all that the pen gave. No value is made.
+#[derive(Drop)]
+pub struct Past {
+    pub opening: u64,
+    pub since: LinkedList<Entry>,
+    pub takes: u64,
+    pub until: LinkedList<Entry>,
+    pub takes_after: u64,
+    pub log: LinkedList<u8>,
+    pub is_whole: bool,
+}
+
+/// A slot's connections that are gone, the newest first, and what the pen had seen and taken when the last went or the present one came.
+/// None but a blank one is made.
+#[derive(Drop)]
+pub struct Account {
+    pub past: LinkedList<Past>,
+    pub since: LinkedList<Entry>,
+    pub takes: u64,
+}
+
+impl Worth<Account> for Brand {
+    ghost use Rattle.std.specs.Prelude.{[]};
+
+    ghost worth = { record { past = []; since = []; takes = 0 } };
+}
+
+/// A slot's account. Contracts see what it has.
+#[derive(Drop)]
+pub struct Ledger {
+    cell: Ghost<Account>,
+}
+
+impl Model for Ledger {
+    ghost use Rattle.gm_delivery.specs.declared.account.Account.{Account};
+
+    ghost Value = { Account };
+
+    ghost view = { λ l. l.cell };
+}
+
+impl Ledger {
+    /// A blank account.
+    pub(crate) fn new(alloc: Global) -> Result<Ledger, AllocError>
+        ensures { IfOk result (λ ledger. ledger ≡ blank_account) }
+    {
+        let blank = Account {
+            past: LinkedList::new(alloc),
+            since: LinkedList::new(alloc),
+            takes: 0,
+        };
+        let cell = Ghost::new(alloc, &blank)?;
+        Ok(Ledger { cell })
+    }
+
+    // What is passed is for the proof alone.
+    fn close_as<K: BookName, E: Worth<Account>>(
+        &mut self,
+        _outbox: &Outbox<K>,
+        _opening: u64,
+        _half: &WriteHalf,
+        _is_whole: bool,
+    )
+        requires { E.worth ≡ closed _outbox.now.pen.front.seen _outbox.now.pen.seat.takes _opening _half.now.socket.2 _is_whole self.old }
+        ensures { self.new ≡ closed _outbox.now.pen.front.seen _outbox.now.pen.seat.takes _opening _half.now.socket.2 _is_whole self.old }
+    {
+        self.cell.set::<E>();
+    }
+
+    /// Enters a connection of this opening that is gone, with what was written to it, and whether that is all.
+    pub(crate) fn close<K: BookName>(
+        &mut self,
+        outbox: &Outbox<K>,
+        opening: u64,
+        half: &WriteHalf,
+        is_whole: bool,
+    )
+        ensures { self.new ≡ closed outbox.now.pen.front.seen outbox.now.pen.seat.takes opening half.now.socket.2 is_whole self.old }
+    {
+        self.close_as::<K, Brand>(outbox, opening, half, is_whole)
+    }
+}
