@@ -1,4 +1,6 @@
 mod Numbering
 mod Owning
 mod Promised
-mod Serving
+mod Ended
+mod Lives
+mod Accounted

@@ -9,6 +9,9 @@ length_below : (n : ℕ) → length (numbers_below n) ≡ n
 length_below zero = refl
 length_below (suc n) = omega (arith, length-append (numbers_below n) (n ∷ []), length_below n)
 
+pub as_many : {A : Type 0} (f : A → ℕ) (xs : List A) (n : ℕ) → map f xs ≡ numbers_below n → length xs ≡ n
+as_many f xs n is = sym (length-map xs f) ∙ (ap length is ∙ length_below n)
+
 -- what has numbers below the same is as long
 pub paired : {A B : Type 0} (f : A → ℕ) (g : B → ℕ) (xs : List A) (ys : List B) (n : ℕ) → map f xs ≡ numbers_below n → map g ys ≡ numbers_below n → length xs ≡ length ys
 paired f g xs ys n is are = omega (arith, length-map xs f, length-map ys g, ap length is, ap length are)

@@ -90,11 +90,11 @@ map_twice f g [] = refl
 map_twice f g (x ∷ xs) = ap (λ ys. g (f x) ∷ ys) (map_twice f g xs)
 
 module _ {A : Type 0} (P : A → Type 0) where
-  left : (xs ys : List A) → ByRecursion P (xs ++ ys) → ByRecursion P xs
+  pub left : (xs ys : List A) → ByRecursion P (xs ++ ys) → ByRecursion P xs
   left [] ys h = tt
   left (x ∷ xs) ys h = (h.0, left xs ys h.1)
 
-  right : (xs ys : List A) → ByRecursion P (xs ++ ys) → ByRecursion P ys
+  pub right : (xs ys : List A) → ByRecursion P (xs ++ ys) → ByRecursion P ys
   right [] ys h = h
   right (x ∷ xs) ys h = right xs ys h.1
 

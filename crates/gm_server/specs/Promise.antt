@@ -10,13 +10,15 @@ use Rattle.gm_notes.specs.declared.event.UnitFault.{UnitFault}
 use Rattle.gm_notes.specs.Settings.{Settings}
 use Rattle.gm_notes.specs.Notes.{is_open}
 use Rattle.gm_notes.specs.Flow.{Flow, sent, waiting}
-use Rattle.gm_notes.specs.Jobs.{job_state, handle}
+use Rattle.gm_notes.specs.Jobs.{Job, job_state, job, handle}
 use Rattle.gm_notes.specs.JobStates.{is_live}
+use Rattle.gm_notes.specs.Past.{Past}
 use Rattle.gm_notes.specs.Steps.{Step}
 use Rattle.gm_laws.specs.Laws.{is_gone, IsFront}
 use Rattle.gm_laws.specs.Causes.{asks, is_foreground, closes}
 use Rattle.gm_laws.specs.Turns.{One}
-use Rattle.gm_laws.specs.Listeners.{Queues, Tells, EachListenerIsTold}
+use Rattle.gm_laws.specs.Listeners.{Queues, Tells}
+use Rattle.gm_laws.specs.Submitted.{MakesJob, GivesTheJob}
 use Rattle.gm_laws.specs.Between.{NoWaitingJobIsOrphaned, NoOneSleepsBesideWork}
 use Rattle.gm_shared.specs.declared.tape.Actor.TheVariants as actors
 use Rattle.gm_shared.specs.declared.tape.TapeStep.{TapeStep}
@@ -99,9 +101,15 @@ NoWorkerSleepsBesideItsWork = (k : Settings) (log : List Entry) → Legal k log 
 abbrev pub WaitingJobsAreWanted : Type 0
 WaitingJobsAreWanted = (k : Settings) (log : List Entry) → Legal k log → NoWaitingJobIsOrphaned k (past_of k log).notes
 
--- In the step that ends a job, each slot gets it exactly as often as it listened to the job just before.
-abbrev pub ListenersAreTold : Type 0
-ListenersAreTold = (k : Settings) (older : List Entry) (e : Entry) → Legal k (e ∷ older) → EachListenerIsTold k (past_of k older) (step_in e.step) (past_of k (e ∷ older))
+-- It is so of each entry: of its step, the past before it, and the past with it.
+abbrev pub InEachEntry : (Settings → Past → Step → Past → Type 0) → Type 0
+InEachEntry P = (k : Settings) (older : List Entry) (e : Entry) → Legal k (e ∷ older) → P k (past_of k older) (step_in e.step) (past_of k (e ∷ older))
+
+-- Each job is what one of the entries submitted, and the slot that is given it gets just this.
+abbrev pub WhatIsSubmittedIsWorkedOn : Type 0
+WhatIsSubmittedIsWorkedOn =
+    ((k : Settings) (log : List Entry) → Legal k log → (n : ℕ) (what : Job) → job n (past_of k log).notes ≡ Some what → One (MakesJob k n what) (steps_of log) [])
+    × InEachEntry GivesTheJob
 
 -- A slot that submits a job in the foreground is told its handle. As long as the slot isn't closed, the job waits or runs, or one of
 -- the steps since told the slot of its end.

@@ -1,27 +1,29 @@
 -- The numbers of errors, and the statuses that the program ends with.
-use Rattle.std.specs.Prelude.{◌≡◌, ℕ, Option, Result, Ok, Err}
+use Rattle.std.specs.Prelude.{◌≡◌, ℕ, Result, Ok, Err}
 use Rattle.gm_server.specs.declared.error.ServeError.{ServeError}
 use Rattle.gm_server.specs.declared.error.ServeError.TheVariants as errors
 use Rattle.gm_server.specs.declared.error.ControlError.{ControlError}
 use Rattle.gm_server.specs.declared.error.ControlError.TheVariants as of_control
 use Rattle.gm_server.specs.declared.run.RunError.{RunError}
 use Rattle.gm_server.specs.declared.run.RunError.TheVariants as errors_of_run
-use Rattle.gm_server.specs.declared.settings.Served.{Served}
 
 -- why it couldn't serve
 abbrev pub error_of_control : ControlError → ServeError
 error_of_control of_control.Memory = errors.Memory
 error_of_control of_control.Listen = errors.Listen
+error_of_control of_control.Threads = errors.Threads
 
 abbrev pub serve_error_number : ServeError → ℕ
 serve_error_number errors.Memory = 6
 serve_error_number errors.Differs = 16
 serve_error_number errors.Listen = 21
+serve_error_number errors.Threads = 22
 
 abbrev pub serve_error_status : ServeError → ℕ
 serve_error_status errors.Memory = 3
 serve_error_status errors.Differs = 4
 serve_error_status errors.Listen = 3
+serve_error_status errors.Threads = 3
 
 abbrev pub run_status : RunError → ℕ
 run_status errors_of_run.Arguments = 2
@@ -31,15 +33,16 @@ run_status errors_of_run.SocketCount = 2
 run_status (errors_of_run.Socket error) = 3
 run_status (errors_of_run.Listen address error) = 3
 run_status errors_of_run.Seed = 3
-run_status (errors_of_run.Readers error) = 3
+run_status (errors_of_run.Events error) = 3
 run_status errors_of_run.Output = 3
-run_status (errors_of_run.Serve error) = serve_error_status error
+run_status (errors_of_run.Serve error) = 3
+run_status (errors_of_run.Ended error) = serve_error_status error
 
 -- however the program ended
-abbrev pub ended_status : Result (Option Served) RunError → ℕ
+abbrev pub ended_status : Result (Unit {0}) RunError → ℕ
 ended_status (Ok served) = 0
 ended_status (Err error) = run_status error
 
 -- a status that the program may end with
 abbrev pub IsStatus : ℕ → Type 0
-IsStatus status = (ended : Result (Option Served) RunError) × (status ≡ ended_status ended)
+IsStatus status = (ended : Result (Unit {0}) RunError) × (status ≡ ended_status ended)

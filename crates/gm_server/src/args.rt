@@ -21,9 +21,9 @@ pub(crate) struct Args<'a> {
     /// After how many seconds a peer that vanished is found out; at 0 the system decides.
     pub(crate) peer_timeout: u16,
     pub(crate) has_peer_timeout: bool,
-    /// How many threads each read for many connections; at 0 each connection has a reader.
-    pub(crate) readers: u16,
-    pub(crate) has_readers: bool,
+    /// How many threads serve all connections; at 0 each has two of its own.
+    pub(crate) io_threads: u16,
+    pub(crate) has_io_threads: bool,
     pub(crate) check: bool,
     pub(crate) tape: bool,
 }
@@ -66,15 +66,15 @@ fn with_peer_timeout<'a>(alloc: Global, command: Command<'a>) -> Result<Command<
     .value_name("SECONDS"))
 }
 
-/// The command with the option of how connections are read.
-fn with_readers<'a>(alloc: Global, command: Command<'a>) -> Result<Command<'a>, AllocError> {
+/// The command with the option of how many threads there are.
+fn with_io_threads<'a>(alloc: Global, command: Command<'a>) -> Result<Command<'a>, AllocError> {
     command.arg(number(
         alloc,
-        "readers",
+        "io-threads",
         0,
         64,
         "0",
-        "Has N threads read for all connections; 0 gives each connection a reader",
+        "Has N threads serve all connections; 0 gives each connection two of its own",
     ))
 }
 
@@ -96,7 +96,7 @@ fn command<'a>(alloc: Global) -> Result<Command<'a>, AllocError> {
         .about("A Gearman job server");
     let command = with_name(alloc, with_address(alloc, command)?)?;
     let command = with_peer_timeout(alloc, with_server_options(alloc, command)?)?;
-    with_flags(alloc, with_readers(alloc, command)?)
+    with_flags(alloc, with_io_threads(alloc, command)?)
 }
 
 /// Whether this option was given.
@@ -115,8 +115,8 @@ pub(crate) fn parse_args<'a, S: AsStr>(alloc: Global, args: &'a [S]) -> Result<A
         server: server_options(&matches),
         peer_timeout: matches.get_one::<u16>("peer-timeout").unwrap_or(120),
         has_peer_timeout: is_given(&matches, "peer-timeout"),
-        readers: matches.get_one::<u16>("readers").unwrap_or(0),
-        has_readers: is_given(&matches, "readers"),
+        io_threads: matches.get_one::<u16>("io-threads").unwrap_or(0),
+        has_io_threads: is_given(&matches, "io-threads"),
         check: matches.get_flag("check"),
         tape: matches.get_flag("tape"),
     })

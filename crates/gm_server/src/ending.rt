@@ -1,13 +1,16 @@
 //! The end of a server: its book is settled, and everybody's share is there.
 
-ghost use Rattle.std.specs.Prelude.{◌≡◌, Bool, [], ◌∷◌, IfOk, MatchBool, All, map, length, drop, true};
+ghost use Rattle.std.specs.Prelude.{◌≡◌, Bool, List, [], ◌∷◌, IfOk, MatchBool, All, map, length, true};
+ghost use Rattle.atomic_table.specs.Seated.{TableId};
 ghost use Rattle.gm_notes.specs.Settings.{Settings as BookSettings};
 ghost use Rattle.gm_shared.specs.declared.tape.Actor.TheVariants as actors;
 ghost use Rattle.gm_shared.specs.Shared.{everybody};
 ghost use Rattle.gm_session.specs.Owners.{SaysOwn};
+ghost use Rattle.gm_server.specs.declared.slot.Account.{Account};
+ghost use Rattle.gm_server.specs.Accounts.{AreAccounts};
 ghost use Rattle.gm_server.specs.Served.{HasEverybody, IsWhole, SettledSo};
 
-use crate::slot::Slot;
+use crate::slot::{Account, Slot, SlotParts};
 use crate::state::ServerState;
 use gm_session::OwnDesk;
 use gm_shared::{Actor, BookName, Desk, Pen, SettleError, Settled, Share, settle};
@@ -45,30 +48,46 @@ fn are_of(shares: &[Share], actors: &[Actor]) -> bool
     rest.is_empty()
 }
 
+/// What slots were given, and the accounts of their connections.
+#[derive(Drop)]
+struct AllParts<K: BookName> {
+    desks: Vec<Desk<K>>,
+    pens: Vec<Pen<K>>,
+    accounts: Vec<Account>,
+}
+
 /// Takes out of slots what each was given, and adds the control desk to the desks.
 fn all_parts<K: BookName>(
     alloc: Global,
     slots: Vec<Slot<K>>,
     control: OwnDesk<K>,
-) -> Result<(Vec<Desk<K>>, Vec<Pen<K>>), AllocError>
-    ensures own { IfOk result (λ parts. All (λ desk. SaysOwn desk.number desk.front.seen) parts.0.items) }
-    ensures desks { IfOk result (λ parts. drop (length slots.items) parts.0.items ≡ control.desk ∷ []) }
-    ensures pens { IfOk result (λ parts. length parts.1.items ≡ length slots.items) }
+) -> Result<AllParts<K>, AllocError>
+    ensures own { IfOk result (λ all. All (λ desk. SaysOwn desk.number desk.front.seen) all.desks.items) }
+    ensures accounts { IfOk result (λ all. AreAccounts (map (λ desk. (desk.number, desk.front.seen)) all.desks.items)
+        (map (λ pen. (pen.slot, pen.front.seen, pen.seat.takes)) all.pens.items) all.accounts.items) }
+    ensures all { IfOk result (λ all. length all.accounts.items ≡ length slots.items) }
 {
     let mut desks = Vec::with_capacity(alloc, slots.len())?;
     let mut pens = Vec::with_capacity(alloc, slots.len())?;
+    let mut accounts = Vec::with_capacity(alloc, slots.len())?;
     for slot in slots {
-        let (desk, pen) = slot.into_parts();
+        let SlotParts { desk, pen, account } = slot.into_parts();
         desks.push(desk.into_desk())?;
         pens.push(pen)?;
+        accounts.push(account)?;
     }
     desks.push(control.into_desk())?;
-    Ok((desks, pens))
+    Ok(AllParts {
+        desks,
+        pens,
+        accounts,
+    })
 }
 
 /// A book that is settled, if everybody's share is there.
 fn with_everybody(settled: Settled, actors: &[Actor]) -> Result<Settled, SettleError>
-    ensures { (k : BookSettings) (taped : Bool) → actors.now ≡ everybody k.slots → (HasEverybody k settled → IsWhole k taped settled) → SettledSo k taped result }
+    ensures { (k : BookSettings) (taped : Bool) (history : TableId) (accounts : List Account) → actors.now ≡ everybody k.slots
+        → (HasEverybody k settled → IsWhole k taped history settled accounts) → SettledSo k taped history result accounts }
 {
     if are_of(settled.shares.as_slice(), actors) {
         Ok(settled)
@@ -77,9 +96,16 @@ fn with_everybody(settled: Settled, actors: &[Actor]) -> Result<Settled, SettleE
     }
 }
 
+/// How a book ended, and the accounts of its slots.
+#[derive(Drop)]
+pub(crate) struct BookEnd {
+    pub(crate) book: Result<Settled, SettleError>,
+    pub(crate) accounts: Vec<Account>,
+}
+
 /// Settles the book of a server, once no thread has any part of it.
-pub(crate) fn settle_state<K: BookName>(state: ServerState<K>) -> Result<Settled, SettleError>
-    ensures { SettledSo K.settings K.taped result }
+pub(crate) fn settle_state<K: BookName>(state: ServerState<K>) -> Result<BookEnd, AllocError>
+    ensures { IfOk result (λ end. SettledSo K.settings K.taped K.history end.book end.accounts.items) }
 {
     let ServerState {
         alloc,
@@ -90,7 +116,14 @@ pub(crate) fn settle_state<K: BookName>(state: ServerState<K>) -> Result<Settled
         ..
     } = state;
     let actors = everybody(alloc, slot_count)?;
-    let (desks, pens) = all_parts(alloc, slots, control.into_inner())?;
-    let settled = settle(alloc, shared, desks, pens)?;
-    with_everybody(settled, actors.as_slice())
+    let AllParts {
+        desks,
+        pens,
+        accounts,
+    } = all_parts(alloc, slots, control.into_inner())?;
+    let book = match settle(alloc, shared, desks, pens) {
+        Ok(settled) => with_everybody(settled, actors.as_slice()),
+        Err(error) => Err(error),
+    };
+    Ok(BookEnd { book, accounts })
 }

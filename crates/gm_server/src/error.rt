@@ -19,6 +19,9 @@ pub enum ServeError {
     /// The listener failed.
     #[error("the listener failed")]
     Listen = 21,
+    /// The system has no thread for the server.
+    #[error("the system has no thread for it")]
+    Threads = 22,
 }
 
 impl ServeError {
@@ -47,6 +50,8 @@ pub enum ControlError {
     Memory,
     /// The listener failed.
     Listen,
+    /// The system has no thread for the server.
+    Threads,
 }
 
 impl From<AllocError> for ControlError {
@@ -68,6 +73,7 @@ impl From<ControlError> for ServeError {
         match e {
             ControlError::Memory => ServeError::Memory,
             ControlError::Listen => ServeError::Listen,
+            ControlError::Threads => ServeError::Threads,
         }
     }
 }

@@ -1,7 +1,24 @@
-//! What a server does before it takes connections.
+//! Whom a server tells how it is.
 
-/// Whom a server notifies that its book is open, and that it is about to take connections.
+/// How a server is.
+#[derive(Clone, Copy, Debug, PartialEq, Eq)]
+pub struct Report {
+    /// How many connections are open.
+    pub connections: u64,
+    /// How many slots there are.
+    pub slots: u32,
+    /// How many connections were refused since the start.
+    pub refused: u64,
+    /// How many were cut since then for want of memory.
+    pub cut: u64,
+}
+
+/// Whom a server tells how it is.
 pub trait Ready {
-    /// Announces that, and says whether it could. Where not, the server ends at once.
+    /// Announces that its book is open, its threads are there, and it is about to take connections, and says whether it could. Where not,
+    /// the server ends at once.
     fn announce(&mut self) -> bool;
+
+    /// Is told about once a second how the server is.
+    fn go_on(&mut self, report: Report);
 }

@@ -7,14 +7,15 @@ ghost use Rattle.gm_server.specs.Arguments.{asked_settings};
 ghost use Rattle.gm_server.specs.Statuses.{run_status, ended_status, IsStatus};
 
 use crate::args::{Args, parse_args};
+use crate::crews::Crews;
 use crate::error::ServeError;
-use crate::ready::Ready;
-use crate::server::serve_announced;
-use crate::settings::{Served, Settings};
-use crate::systemd::{first_socket, handed_sockets, notify_ready};
+use crate::ready::{Ready, Report};
+use crate::server::{Service, serve_with};
+use crate::settings::Settings;
+use crate::speaking::Speaker;
+use crate::systemd::{Systemd, first_socket, handed_sockets};
 use clap::error::ErrorKind;
 use gm_notes::{Config, MAX_FUNCTIONS};
-use gm_readers::Hub;
 use gm_session::OpenGate;
 use std::alloc::{AllocError, Global};
 use std::env::Env;
@@ -23,7 +24,7 @@ use std::io;
 use std::io::Write;
 use std::net::{Net, TcpListener, TcpStream};
 use std::random::RandomSource;
-use std::sync::Wait;
+use std::sync::{Arc, Wait};
 use std::thread::Threads;
 use std::time::Clock;
 use thiserror::Error;
@@ -53,14 +54,17 @@ enum RunError {
     #[error("can't get a random seed")]
     Seed,
     /// It can't wait for many connections at once.
-    #[error("can't set up the threads of --readers: {0}")]
-    Readers(io::Error),
+    #[error("can't wait for many connections at once, for --io-threads: {0}")]
+    Events(io::Error),
     /// Standard output can't be written.
     #[error("can't write to standard output")]
     Output,
-    /// It stopped serving.
+    /// It can't serve.
     #[error("{0}")]
     Serve(ServeError),
+    /// It stopped serving, and that was said.
+    #[error("{0}")]
+    Ended(ServeError),
 }
 
 impl RunError {
@@ -73,13 +77,14 @@ impl RunError {
             | RunError::Name
             | RunError::AddressBesideSocket
             | RunError::SocketCount => 2,
-            RunError::Serve(ServeError::Differs) => 4,
+            RunError::Ended(ServeError::Differs) => 4,
             RunError::Socket(_)
             | RunError::Listen(..)
             | RunError::Seed
-            | RunError::Readers(_)
+            | RunError::Events(_)
             | RunError::Output
-            | RunError::Serve(_) => 3,
+            | RunError::Serve(_)
+            | RunError::Ended(_) => 3,
         }
     }
 }
@@ -128,7 +133,6 @@ fn settings_of(alloc: Global, args: Args<'_>) -> Result<Settings, RunError>
     ensures config { IfOk result (λ settings. settings.config ≡ asked_settings args.entry) }
     ensures name { IsErrOf result RunError.Name → config_fault (asked_settings args.entry) ≡ None → ⊥ }
     ensures limits { IfOk result (λ settings. settings.limits ≡ args.entry.server.limits) }
-    ensures peer_timeout { IfOk result (λ settings. settings.peer_timeout ≡ args.entry.peer_timeout) }
     ensures tape { IfOk result (λ settings. settings.tape ≡ args.entry.tape) }
 {
     let name = Vec::from_slice(alloc, args.name.as_bytes())?;
@@ -140,7 +144,6 @@ fn settings_of(alloc: Global, args: Args<'_>) -> Result<Settings, RunError>
             .with_round_robin(args.server.round_robin)
             .with_retries(args.server.job_retries),
         limits: args.server.limits,
-        peer_timeout: args.peer_timeout,
         tape: args.tape,
     })
 }
@@ -153,8 +156,8 @@ fn print_settings<W: Write>(args: Args<'_>, w: &mut W) -> io::Result<()> {
         name,
         peer_timeout,
         has_peer_timeout,
-        readers,
-        has_readers,
+        io_threads,
+        has_io_threads,
         tape,
         ..
     } = args;
@@ -170,8 +173,8 @@ fn print_settings<W: Write>(args: Args<'_>, w: &mut W) -> io::Result<()> {
     if has_peer_timeout {
         writeln!(w, "peer-timeout={peer_timeout}")?;
     }
-    if has_readers {
-        writeln!(w, "readers={readers}")?;
+    if has_io_threads {
+        writeln!(w, "io-threads={io_threads}")?;
     }
     w.flush()
 }
@@ -188,19 +191,21 @@ struct Listening<'w, R, W> {
     rt: &'w R,
     output: &'w mut W,
     told: io::Result<()>,
+    systemd: Systemd,
+    speaker: Arc<Speaker, Global>,
 }
 
-impl<'w, R: Env + Eprint, W: Write> Ready for Listening<'w, R, W> {
+impl<'w, R: Wait, W: Write> Ready for Listening<'w, R, W> {
     fn announce(&mut self) -> bool {
         self.told = print_listening(self.output);
-        if self.told.is_err() {
-            return false;
+        if self.told.is_ok() {
+            self.systemd.tell_ready(self.rt, &self.speaker);
         }
-        if let Err(error) = notify_ready(self.rt) {
-            // It can serve without. Where systemd waits for the message, the start fails, and this says why.
-            let _ = eprintln!(self.rt; "gmd: can't tell systemd that it is ready: {error}");
-        }
-        true
+        self.told.is_ok()
+    }
+
+    fn go_on(&mut self, report: Report) {
+        self.systemd.tell(self.rt, &self.speaker, report);
     }
 }
 
@@ -241,6 +246,19 @@ fn open_listener<R: Net<Listener = TcpListener, Stream = TcpStream> + Env + Allo
     }
 }
 
+/// What the threads wait at that serve connections, as the arguments ask.
+fn crews_of(rt: &impl Net, alloc: Global, args: Args<'_>) -> Result<Crews, RunError> {
+    let slots = args.server.slots;
+    if args.io_threads == 0 {
+        return Ok(Crews::pairs(alloc, slots)?);
+    }
+    match Crews::few(rt, alloc, u32::from(args.io_threads), slots) {
+        Ok(crews) => Ok(crews),
+        Err(error) if error.kind() == io::ErrorKind::OutOfMemory => Err(RunError::from(AllocError)),
+        Err(error) => Err(RunError::Events(error)),
+    }
+}
+
 /// Serves as the arguments ask.
 fn serve_on<
     R: Threads
@@ -251,45 +269,50 @@ fn serve_on<
         + Env
         + Eprint
         + AllocGlobal
-        + Sync,
+        + Copy
+        + Send
+        + Sync
+        + 'static,
     W: Write,
->(rt: &R, args: Args<'_>, settings: Settings, w: &mut W) -> Result<Served, RunError> {
+>(rt: &R, args: Args<'_>, settings: Settings, w: &mut W) -> Result<(), RunError> {
     let Ok(seed) = RandomState::new(rt) else {
         return Err(RunError::Seed);
     };
     let listener = open_listener(rt, args)?;
     let alloc = rt.alloc();
-    let (hub, seats) = match Hub::new(rt, alloc, u32::from(args.readers)) {
-        Ok(made) => made,
-        Err(error) if error.kind() == io::ErrorKind::OutOfMemory => {
-            return Err(RunError::Serve(ServeError::Memory));
-        }
-        Err(error) => return Err(RunError::Readers(error)),
+    let speaker = Speaker::start(rt, alloc, args.server.slots)?;
+    let service = Service {
+        limits: settings.limits,
+        peer_timeout: args.peer_timeout,
+        crews: crews_of(rt, alloc, args)?,
+        speaker: Arc::try_clone(&speaker)?,
     };
     let mut listening = Listening {
         rt,
         output: w,
         told: Ok(()),
+        systemd: Systemd::new(rt),
+        speaker: Arc::try_clone(&speaker)?,
     };
-    let outcome = serve_announced(
+    let outcome = serve_with(
         rt,
         alloc,
         seed,
         listener,
         settings,
-        hub,
-        seats,
+        service,
         &OpenGate,
         &mut listening,
     );
     written(listening.told)?;
+    speaker.end(rt, outcome);
     match outcome {
-        Ok(served) => Ok(served),
-        Err(error) => Err(RunError::Serve(error)),
+        Ok(_) => Ok(()),
+        Err(error) => Err(RunError::Ended(error)),
     }
 }
 
-/// Does what the arguments ask for. It answers what was served, if anything was.
+/// Does what the arguments ask for.
 fn run<
     R: Threads
         + Wait
@@ -299,51 +322,37 @@ fn run<
         + Env
         + Eprint
         + AllocGlobal
-        + Sync,
+        + Copy
+        + Send
+        + Sync
+        + 'static,
     W: Write,
->(rt: &R, words: &[String], w: &mut W) -> Result<Option<Served>, RunError> {
+>(rt: &R, words: &[String], w: &mut W) -> Result<(), RunError> {
     let args = match parse_args(rt.alloc(), words) {
         Ok(args) => args,
-        Err(error) => {
-            print_help_or_error(rt, &error, w)?;
-            return Ok(None);
-        }
+        Err(error) => return print_help_or_error(rt, &error, w),
     };
     let settings = settings_of(rt.alloc(), args)?;
     if args.check {
-        written(print_settings(args, w))?;
-        return Ok(None);
+        return written(print_settings(args, w));
     }
-    let served = serve_on(rt, args, settings, w)?;
-    Ok(Some(served))
+    serve_on(rt, args, settings, w)
 }
 
 /// How the program ended: the status that it is to end with.
-fn status_of(ended: &Result<Option<Served>, RunError>) -> u8
+fn status_of(ended: &Result<(), RunError>) -> u8
     ensures { result ≡ ended_status ended.now }
 {
     match ended {
-        Ok(_) => 0,
+        Ok(()) => 0,
         Err(error) => error.status(),
     }
 }
 
-/// Says on standard error how the program ended. Where that fails, there is nobody left to tell.
-fn report<R: Eprint>(rt: &R, ended: &Result<Option<Served>, RunError>) {
+/// Says on standard error why the program ended, where that wasn't said. Where that fails, there is nobody left to tell.
+fn report<R: Eprint>(rt: &R, ended: &Result<(), RunError>) {
     match ended {
-        Ok(Some(served)) => {
-            let Served {
-                connections,
-                entries,
-            } = *served;
-            let _ = eprintln!(rt; "gmd: ended, connections served: {connections}");
-            if entries > 0 {
-                let _ = eprintln!(rt;
-                    "gmd: the tape agrees with what the connections were told, entries: {entries}"
-                );
-            }
-        }
-        Ok(None) | Err(RunError::Arguments) => {}
+        Ok(()) | Err(RunError::Arguments | RunError::Ended(_)) => {}
         Err(error) => {
             let _ = eprintln!(rt; "gmd: {error}");
         }
@@ -353,10 +362,10 @@ fn report<R: Eprint>(rt: &R, ended: &Result<Option<Served>, RunError>) {
 /// Runs the program on its arguments, of which the first is its name, with this standard output. It answers the status
 /// that the program is to end with: 0 after a shutdown, a check, the help or the version; 2 for invalid arguments, also
 /// for an address beside a socket from systemd, and where it is handed other than one; 3 where it can't listen, the system
-/// gives no random seed, standard output can't be written, or memory ran out at the start or, with a tape, at the end of a
-/// connection or of the server; 4 where the tape differs from what the connections were told.
+/// gives no random seed, no descriptor or no thread, standard output can't be written, or memory ran out at the start or, with a tape, at
+/// the end of a connection or of the server; 4 where the tape differs from what the connections were told.
 ///
-/// The options are those of gearmand(8) of the same names, `--tape` and `--check`.
+/// The options are those of gearmand(8) of the same names, `--io-threads`, `--peer-timeout`, `--tape` and `--check`.
 pub fn run_words<
     R: Threads
         + Wait
@@ -366,7 +375,10 @@ pub fn run_words<
         + Env
         + Eprint
         + AllocGlobal
-        + Sync,
+        + Copy
+        + Send
+        + Sync
+        + 'static,
     W: Write,
 >(rt: &R, words: &[String], w: &mut W) -> u8
     ensures { IsStatus result }

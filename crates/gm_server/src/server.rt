@@ -1,43 +1,47 @@
 //! Serves.
 
-ghost use Rattle.std.specs.Prelude.{◌≡◌, Bool, IfOk};
+ghost use Rattle.std.specs.Prelude.{◌≡◌, Bool, List, IfOk};
+ghost use Rattle.atomic_table.specs.Seated.{TableId};
 ghost use Rattle.gm_notes.specs.Settings.{Settings as BookSettings};
 ghost use Rattle.gm_shared.specs.Tapes.{is_on};
+ghost use Rattle.gm_server.specs.declared.slot.Account.{Account};
 ghost use Rattle.gm_server.specs.Served.{SettledSo, EndsSo};
 
 use crate::accepting::{Control, set_accept_timeout};
-use crate::ending::settle_state;
+use crate::crews::Crews;
+use crate::ending::{BookEnd, settle_state};
 use crate::error::{ControlError, ServeError};
-use crate::ready::Ready;
+use crate::ready::{Ready, Report};
 use crate::settings::{Served, Settings};
-use crate::state::ServerState;
+use crate::slot::Account;
+use crate::speaking::Speaker;
+use crate::state::{ServerState, new_slots};
 use gm_feeder::Limits;
-use gm_readers::{Hub, Seat};
 use gm_session::{Gate, OwnDesk};
 use gm_shared::{Blank, BookName, SettleError, Settled, Shared, TapeMode};
 use std::alloc::Global;
 use std::hash::RandomState;
 use std::marker::Brand;
 use std::net::TcpListener;
-use std::sync::Wait;
+use std::sync::{Arc, Wait};
 use std::thread;
 use std::thread::Threads;
 use std::time::Clock;
 
 /// Runs the control thread, and answers how many connections were opened. All other threads have ended then.
-fn run_control<'x, K: BookName + Send + Sync, R: Threads + Wait + Clock + Eprint + Sync, G: Gate>(
+fn run_control<'x, K: BookName + Send + Sync, R: Threads + Wait + Clock + Sync, G: Gate, T: Ready>(
     rt: &'x R,
     state: &'x ServerState<K>,
     listener: &'x TcpListener,
     peer_timeout: u16,
-    seats: Vec<Seat>,
     gate: &'x G,
+    ready: &'x mut T,
 ) -> Result<u64, ControlError> {
     let control = Control::new(state, peer_timeout);
     thread::scope(
         thread::scope_env(),
         rt,
-        |scope| control.run(scope, rt, gate, listener, seats),
+        |scope| control.run(scope, rt, gate, listener, ready),
     )
 }
 
@@ -55,13 +59,29 @@ pub struct Ended {
     pub connections: u64,
     /// What its book was, and whether the shares of its connections add up.
     pub book: Result<Settled, SettleError>,
+    /// What each slot's connections read and were written, in the slots' order, which only proofs know.
+    pub accounts: Vec<Account>,
+}
+
+/// How a server serves: how its book is opened, what serves its connections, and when a peer is given up.
+#[derive(Drop)]
+pub struct Service {
+    /// How large a unit may be.
+    pub limits: Limits,
+    /// After about how many seconds, up to 32,767, a peer is disconnected that vanished or leaves what was sent to it unread; at 0
+    /// the system decides.
+    pub peer_timeout: u16,
+    /// What the threads wait at that serve connections.
+    pub crews: Crews,
+    /// What is said while the server runs.
+    pub speaker: Arc<Speaker, Global>,
 }
 
 /// Serves the connections that a listener takes, with a book that has a name, and settles the book in the end: `serve`,
-/// which hands back the tape, and the share of each desk and pen.
-pub fn serve_book<
+/// which hands back the history, the tape, the share of each desk and pen, and the account of each connection.
+pub(crate) fn serve_book<
     K: BookName + Send + Sync,
-    R: Threads + Wait + Clock + Eprint + Sync,
+    R: Threads + Wait + Clock + Sync,
     G: Gate,
     T: Ready,
 >(
@@ -69,10 +89,7 @@ pub fn serve_book<
     alloc: Global,
     blank: Blank,
     listener: &TcpListener,
-    limits: Limits,
-    peer_timeout: u16,
-    hub: Hub,
-    seats: Vec<Seat>,
+    service: Service,
     gate: &G,
     ready: &mut T,
 ) -> Result<Ended, ControlError>
@@ -80,29 +97,33 @@ pub fn serve_book<
     requires history { blank.history ≡ K.history }
     requires settings { blank.settings ≡ K.settings }
     requires taped { blank.taped ≡ K.taped }
-    ensures { IfOk result (λ ended. SettledSo K.settings K.taped ended.book) }
+    ensures { IfOk result (λ ended. SettledSo K.settings K.taped K.history ended.book ended.accounts.items) }
 {
+    let Service {
+        limits,
+        peer_timeout,
+        crews,
+        speaker,
+    } = service;
     let slot_count = blank.slots();
     let (shared, desks, pens, control) = Shared::<K>::open(alloc, blank)?;
+    let slots = new_slots(alloc, desks, pens, limits)?;
     let control = OwnDesk::new(control);
     let state = ServerState::new(
-        rt, alloc, shared, desks, pens, control, slot_count, limits, hub,
-    )?;
-    let outcome = if ready.announce() {
-        run_control(rt, &state, listener, peer_timeout, seats, gate)
-    } else {
-        Ok(0)
-    };
-    let connections = outcome?;
+        rt, alloc, shared, slots, control, slot_count, crews, speaker,
+    );
+    let connections = run_control(rt, &state, listener, peer_timeout, gate, ready)?;
+    let BookEnd { book, accounts } = settle_state(state)?;
     Ok(Ended {
         connections,
-        book: settle_state(state),
+        book,
+        accounts,
     })
 }
 
 /// What is answered of a server that ended so.
 fn served(connections: u64, book: &Result<Settled, SettleError>) -> Result<Served, ServeError>
-    ensures ends { (k : BookSettings) (taped : Bool) → SettledSo k taped book.now → EndsSo k taped result }
+    ensures ends { (k : BookSettings) (taped : Bool) (history : TableId) (accounts : List Account) → SettledSo k taped history book.now accounts → EndsSo k taped result }
     ensures connections { IfOk result (λ served. served.connections ≡ connections) }
 {
     match book {
@@ -117,14 +138,16 @@ fn served(connections: u64, book: &Result<Settled, SettleError>) -> Result<Serve
     }
 }
 
-/// Nobody is notified.
+/// Nobody is told.
 #[derive(Clone, Copy)]
-struct Unannounced;
+struct Untold;
 
-impl Ready for Unannounced {
+impl Ready for Untold {
     fn announce(&mut self) -> bool {
         true
     }
+
+    fn go_on(&mut self, _report: Report) {}
 }
 
 /// Serves the connections that a listener takes, until one of them asks for a shutdown (the Gearman PROTOCOL document,
@@ -135,7 +158,7 @@ impl Ready for Unannounced {
 /// `Memory` comes if there is no memory for the book or for its end, and with a tape if there is none to enter the end
 /// of a connection, which stops the server; `Differs` where the tape differs from what was told; `Listen`
 /// where the listener fails. With a tape it answers `Ok` exactly where the two agree.
-pub fn serve<R: Threads + Wait + Clock + Eprint + Sync, G: Gate>(
+pub fn serve<R: Threads + Wait + Clock + Eprint + Copy + Send + Sync + 'static, G: Gate>(
     rt: &R,
     alloc: Global,
     seed: RandomState,
@@ -145,59 +168,43 @@ pub fn serve<R: Threads + Wait + Clock + Eprint + Sync, G: Gate>(
 ) -> Result<Served, ServeError>
     ensures { EndsSo settings.config settings.tape result }
 {
-    let hub = Hub::none(alloc);
-    let seats = Vec::new(alloc);
-    serve_announced(
+    let slots = settings.config.slots();
+    let service = Service {
+        limits: settings.limits,
+        peer_timeout: 0,
+        crews: Crews::pairs(alloc, slots)?,
+        speaker: Speaker::start(rt, alloc, slots)?,
+    };
+    serve_with(
         rt,
         alloc,
         seed,
         listener,
         settings,
-        hub,
-        seats,
+        service,
         gate,
-        &mut Unannounced,
+        &mut Untold,
     )
 }
 
-/// The same (`serve`), with a reading thread at each of the hub's seats; with none each connection has a reader. Once the book is open,
-/// and before a connection is taken, `ready` says so; where it can't, the server ends at once.
-pub(crate) fn serve_announced<R: Threads + Wait + Clock + Eprint + Sync, G: Gate, T: Ready>(
+/// The same (`serve`), with this service, which is told how it is.
+pub(crate) fn serve_with<R: Threads + Wait + Clock + Sync, G: Gate, T: Ready>(
     rt: &R,
     alloc: Global,
     seed: RandomState,
     listener: TcpListener,
     settings: Settings,
-    hub: Hub,
-    seats: Vec<Seat>,
+    service: Service,
     gate: &G,
     ready: &mut T,
 ) -> Result<Served, ServeError>
     ensures { EndsSo settings.config settings.tape result }
 {
-    let Settings {
-        config,
-        limits,
-        peer_timeout,
-        tape,
-    } = settings;
+    let Settings { config, tape, .. } = settings;
     let Ok(()) = set_accept_timeout(&listener) else {
         return Err(ServeError::Listen);
     };
     let blank = Blank::new(alloc, seed, config, mode(tape))?;
-    let Ended { connections, book } = serve_book::<Brand, R, G, T>(
-        rt,
-        alloc,
-        blank,
-        &listener,
-        limits,
-        peer_timeout,
-        hub,
-        seats,
-        gate,
-        ready,
-    )?;
-    let told = served(connections, &book);
-    drop(book);
-    told
+    let ended = serve_book::<Brand, R, G, T>(rt, alloc, blank, &listener, service, gate, ready)?;
+    served(ended.connections, &ended.book)
 }

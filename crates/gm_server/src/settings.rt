@@ -10,9 +10,6 @@ pub struct Settings {
     pub config: Config,
     /// How large a unit may be.
     pub limits: Limits,
-    /// After about how many seconds, up to 32,767, a peer is disconnected that vanished or leaves what was sent to it unread; at 0
-    /// the system decides.
-    pub peer_timeout: u16,
     /// Whether a tape is kept: every accepted call with its bytes and its answer, for as long as the server runs. In the
     /// end it is compared with what each connection was told.
     pub tape: bool,

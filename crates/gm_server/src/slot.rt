@@ -1,23 +1,55 @@
-//! A slot's desk and lane.
+//! What a slot has of its own.
 
-use gm_delivery::Lane;
-use gm_session::OwnDesk;
+ghost use Rattle.gm_server.specs.Accounts.{IsAccount};
+
+use gm_delivery::{Lane, Ledger, ReadHalf};
+use gm_feeder::Limits;
+use gm_session::{HearingLedger, OwnDesk, Talk};
 use gm_shared::{BookName, Pen};
+use std::net::SocketAddr;
 use std::sync::Mutex;
 
 /// What a slot has of its own.
 #[derive(Drop)]
 pub(crate) struct Slot<K: BookName> {
-    /// Where its connection's events are handed in. The reader has it while a connection has the slot.
-    pub(crate) desk: Mutex<OwnDesk<K>>,
-    /// Which delivers to its connection.
+    /// What its connection says. Whoever reads from it has it meanwhile.
+    pub(crate) talk: Mutex<Talk<K, ReadHalf>>,
+    /// What its connection is sent.
     pub(crate) lane: Lane<K>,
+    /// Its connection's peer.
+    pub(crate) peer: Mutex<Option<SocketAddr>>,
+}
+
+/// What was read from a slot's connections, whose units were within these limits, and what was written to them. Only proofs know that.
+#[derive(Drop)]
+pub struct Account {
+    pub limits: Limits,
+    pub heard: HearingLedger,
+    pub sent: Ledger,
+}
+
+/// What was given to a slot, and the account of its connections.
+#[derive(Drop)]
+pub(crate) struct SlotParts<K: BookName> {
+    pub(crate) desk: OwnDesk<K>,
+    pub(crate) pen: Pen<K>,
+    pub(crate) account: Account,
 }
 
 impl<K: BookName> Slot<K> {
-    /// What was given to the slot.
-    pub(crate) fn into_parts(self) -> (OwnDesk<K>, Pen<K>) {
-        let Slot { desk, lane } = self;
-        (desk.into_inner(), lane.into_pen())
+    /// What was given to the slot, and the account of its connections.
+    pub(crate) fn into_parts(self) -> SlotParts<K>
+        ensures { IsAccount (result.desk.desk.number, result.desk.desk.front.seen) (result.pen.slot, result.pen.front.seen, result.pen.seat.takes)
+            result.account.limits result.account.heard result.account.sent }
+    {
+        let Slot { talk, lane, .. } = self;
+        let (desk, limits, heard) = talk.into_inner().into_parts();
+        let (pen, sent) = lane.into_parts();
+        let account = Account {
+            limits,
+            heard,
+            sent,
+        };
+        SlotParts { desk, pen, account }
     }
 }

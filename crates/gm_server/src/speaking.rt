@@ -1,9 +1,29 @@
-//! What is said on standard error while a server runs: by a thread of its own, so that no other waits for whoever reads that.
+//! What is said on standard error while a server runs and when it ends: by a thread of its own, so that no other waits for whoever reads
+//! that.
 
+use crate::error::ServeError;
+use crate::settings::Served;
+use crossbeam_utils::sync::{Parker, Unparker};
+use gm_delivery::has_passed;
+use std::alloc::{AllocError, Global};
 use std::io::Error;
-use std::sync::{Condvar, Mutex, Wait};
+use std::net::SocketAddr;
+use std::sync::atomic::{AtomicBool, Ordering};
+use std::sync::{Arc, Mutex, Wait};
+use std::thread;
+use std::thread::Threads;
+use std::time::{Clock, Duration};
 
-/// Why a connection can't be served at present.
+/// How long it says nothing after it said something.
+const PAUSE_MS: u64 = 1_000;
+
+/// How long the program's end waits for whoever reads what is said.
+const ENDING_TIME_MS: u64 = 2_000;
+
+/// How many kinds of trouble there are.
+const TROUBLES: usize = 8;
+
+/// Why a connection isn't served.
 #[derive(Clone, Copy, Debug, PartialEq, Eq)]
 pub(crate) enum Trouble {
     /// Each slot has a connection, so that it is refused.
@@ -12,10 +32,16 @@ pub(crate) enum Trouble {
     Memory,
     /// No thread can be made for it, so that it is refused.
     Threads,
+    /// The system can't report what comes from it, so that it is refused.
+    Events,
+    /// There was no memory to serve it, so that it was cut.
+    Cut,
     /// The process or the system has no descriptor for it, so that it waits.
-    Descriptors(i32),
+    Descriptors,
     /// The system doesn't hand it over for another reason, so that it waits.
-    Accept(i32),
+    Accept,
+    /// None: systemd can't be told how the server is.
+    Notify,
 }
 
 /// A trouble is said once, and again only after it was well in between.
@@ -27,155 +53,326 @@ enum Notice {
     Said,
 }
 
-impl Notice {
-    /// There is trouble.
-    fn note(&mut self) {
-        if *self == Notice::Well {
-            *self = Notice::Due;
-        }
-    }
+/// What is to be said of a trouble, or was.
+#[derive(Clone, Copy)]
+struct Note {
+    notice: Notice,
+    /// How often it was met since it was said.
+    count: u64,
+    /// The system's error.
+    error: i32,
+}
 
-    /// There is none any more.
+impl Note {
+    /// The trouble is over: where it comes again, it is said again.
     fn clear(&mut self) {
-        if *self == Notice::Said {
-            *self = Notice::Well;
+        if self.notice == Notice::Said {
+            self.notice = Notice::Well;
         }
     }
+}
 
-    /// Whether it is to be said, which then is done.
-    fn take(&mut self) -> bool {
-        let is_due = *self == Notice::Due;
-        if is_due {
-            *self = Notice::Said;
-        }
-        is_due
-    }
+/// What became of connections, counted from the start.
+#[derive(Clone, Copy, PartialEq, Eq)]
+pub(crate) struct Counts {
+    pub(crate) refused: u64,
+    pub(crate) cut: u64,
+    pub(crate) faulty: u64,
+    pub(crate) timed_out: u64,
 }
 
 /// What is to be said, or was.
 #[derive(Clone, Copy)]
-struct Notices {
-    slots: Notice,
-    memory: Notice,
-    threads: Notice,
-    descriptors: Notice,
-    accept: Notice,
-    /// The last error of `accept`.
-    error: i32,
+struct Notes {
+    troubles: [Note; TROUBLES],
+    counts: Counts,
+    /// The types below 64 of packets that came and are no requests, a bit for each.
+    types: u64,
+    /// The last type that came for the first time, and from whom, if that is to be said.
+    unknown: Option<(u32, Option<SocketAddr>)>,
+    /// There is something to be said.
     is_due: bool,
-    /// How many connections were refused, once the server ends.
-    refused: Option<u64>,
+    /// How the server ended.
+    outcome: Option<Result<Served, ServeError>>,
 }
 
-/// Where other threads leave what is to be said. As long as it can't be said, more of the same is not kept.
+impl Notes {
+    fn new() -> Notes {
+        let well = Note {
+            notice: Notice::Well,
+            count: 0,
+            error: 0,
+        };
+        Notes {
+            troubles: [well; TROUBLES],
+            counts: Counts {
+                refused: 0,
+                cut: 0,
+                faulty: 0,
+                timed_out: 0,
+            },
+            types: 0,
+            unknown: None,
+            is_due: false,
+            outcome: None,
+        }
+    }
+
+    /// What was due is said.
+    fn take(&mut self) {
+        self.is_due = false;
+        self.unknown = None;
+        for note in &mut self.troubles {
+            if note.notice == Notice::Due {
+                note.notice = Notice::Said;
+                note.count = 0;
+            }
+        }
+    }
+}
+
+/// Where other threads leave what is to be said.
 #[derive(Drop)]
 pub(crate) struct Speaker {
-    notices: Mutex<Notices>,
-    noted: Condvar,
+    notes: Mutex<Notes>,
+    /// Wakes the thread that speaks.
+    speaking: Unparker,
+    /// Where the program's end waits for it, and what wakes that.
+    waiting: Mutex<Parker>,
+    spoken: Unparker,
+    /// Whether there is such a thread.
+    has_thread: AtomicBool,
 }
 
 impl Speaker {
-    pub(crate) fn new() -> Speaker {
-        Speaker {
-            notices: Mutex::new(Notices {
-                slots: Notice::Well,
-                memory: Notice::Well,
-                threads: Notice::Well,
-                descriptors: Notice::Well,
-                accept: Notice::Well,
-                error: 0,
-                is_due: false,
-                refused: None,
-            }),
-            noted: Condvar::new(),
-        }
+    /// Starts the thread that speaks, of a server with this many slots. Where it can't be made, nothing is said before the end.
+    pub(crate) fn start<R: Threads + Wait + Clock + Eprint + Copy + Send + 'static>(
+        rt: &R,
+        alloc: Global,
+        slots: u32,
+    ) -> Result<Arc<Speaker, Global>, AllocError> {
+        let parker = Parker::new(alloc)?;
+        let waiting = Parker::new(alloc)?;
+        let speaker = Arc::new(
+            alloc,
+            Speaker {
+                notes: Mutex::new(Notes::new()),
+                speaking: parker.unparker().clone()?,
+                spoken: waiting.unparker().clone()?,
+                waiting: Mutex::new(waiting),
+                has_thread: AtomicBool::new(false),
+            },
+        )?;
+        let same = Arc::try_clone(&speaker)?;
+        let own_rt = *rt;
+        let made = thread::spawn(rt, move || same.run(&own_rt, &parker, slots));
+        speaker.has_thread.store(made.is_ok(), Ordering::SeqCst);
+        Ok(speaker)
     }
 
-    /// A connection can't be served.
-    pub(crate) fn note(&self, rt: &impl Wait, trouble: Trouble) {
-        let mut notices = self.notices.lock(rt);
+    /// There is trouble, for this error of the system's.
+    pub(crate) fn note(&self, rt: &impl Wait, trouble: Trouble, error: i32) {
+        let mut notes = self.notes.lock(rt);
         match trouble {
-            Trouble::Slots => notices.slots.note(),
-            Trouble::Memory => notices.memory.note(),
-            Trouble::Threads => notices.threads.note(),
-            Trouble::Descriptors(error) => {
-                notices.descriptors.note();
-                notices.error = error;
+            Trouble::Slots | Trouble::Memory | Trouble::Threads | Trouble::Events => {
+                notes.counts.refused = notes.counts.refused.saturating_add(1);
             }
-            Trouble::Accept(error) => {
-                notices.accept.note();
-                notices.error = error;
-            }
+            Trouble::Cut => notes.counts.cut = notes.counts.cut.saturating_add(1),
+            Trouble::Descriptors | Trouble::Accept | Trouble::Notify => {}
         }
-        notices.is_due = true;
-        drop(notices);
-        self.noted.notify_one();
+        let note = &mut notes.troubles[trouble as usize];
+        note.count = note.count.saturating_add(1);
+        note.error = error;
+        if note.notice == Notice::Well {
+            note.notice = Notice::Due;
+            notes.is_due = true;
+            self.speaking.unpark();
+        }
     }
 
-    /// A connection is served.
+    /// A connection is served, so that none of what keeps connections out is a trouble any more.
     pub(crate) fn clear(&self, rt: &impl Wait) {
-        let mut notices = self.notices.lock(rt);
-        notices.slots.clear();
-        notices.memory.clear();
-        notices.threads.clear();
-        notices.descriptors.clear();
-        notices.accept.clear();
+        for note in &mut self.notes.lock(rt).troubles[..Trouble::Notify as usize] {
+            note.clear();
+        }
     }
 
-    /// The server ends, and has refused this many connections.
-    pub(crate) fn end(&self, rt: &impl Wait, refused: u64) {
-        self.notices.lock(rt).refused = Some(refused);
-        self.noted.notify_one();
+    /// Systemd could be told how the server is.
+    pub(crate) fn clear_notify(&self, rt: &impl Wait) {
+        self.notes.lock(rt).troubles[Trouble::Notify as usize].clear();
     }
 
-    /// Waits for what is to be said, and takes it.
-    fn next(&self, rt: &impl Wait) -> Notices {
-        let mut notices = self.noted.wait_while(
-            rt,
-            self.notices.lock(rt),
-            |notices| !notices.is_due && notices.refused.is_none(),
-        );
-        let due = *notices;
-        notices.is_due = false;
-        notices.slots.take();
-        notices.memory.take();
-        notices.threads.take();
-        notices.descriptors.take();
-        notices.accept.take();
+    /// A packet of this type came from this peer, which isn't a request's.
+    pub(crate) fn note_type(&self, rt: &impl Wait, kind: u32, peer: Option<SocketAddr>) {
+        let mut notes = self.notes.lock(rt);
+        let bit = 1 << kind.min(63);
+        // Where another type is still to be said, this one is once it comes again.
+        if notes.types & bit == 0 && notes.unknown.is_none() {
+            notes.types |= bit;
+            notes.unknown = Some((kind, peer));
+            notes.is_due = true;
+            self.speaking.unpark();
+        }
+    }
+
+    /// A connection had a faulty stream.
+    pub(crate) fn count_faulty(&self, rt: &impl Wait) {
+        let mut notes = self.notes.lock(rt);
+        notes.counts.faulty = notes.counts.faulty.saturating_add(1);
+    }
+
+    /// A connection's peer vanished.
+    pub(crate) fn count_timed_out(&self, rt: &impl Wait) {
+        let mut notes = self.notes.lock(rt);
+        notes.counts.timed_out = notes.counts.timed_out.saturating_add(1);
+    }
+
+    /// What became of connections so far.
+    pub(crate) fn counts(&self, rt: &impl Wait) -> Counts {
+        self.notes.lock(rt).counts
+    }
+
+    /// The server ended so. It waits until that is said, but not for long.
+    pub(crate) fn end<R: Wait + Clock + Eprint>(
+        &self,
+        rt: &R,
+        outcome: Result<Served, ServeError>,
+    ) {
+        self.notes.lock(rt).outcome = Some(outcome);
+        if self.has_thread.load(Ordering::SeqCst) {
+            self.speaking.unpark();
+            let waiting = self.waiting.lock(rt);
+            waiting.park_timeout(rt, Duration::from_millis(ENDING_TIME_MS));
+        } else {
+            say_end(rt, &outcome, self.counts(rt));
+        }
+    }
+
+    /// Takes what is to be said.
+    fn next(&self, rt: &impl Wait) -> Notes {
+        let mut notes = self.notes.lock(rt);
+        let due = *notes;
+        notes.take();
         due
     }
 
-    /// Says what the others leave here, until the server ends. Where standard error fails, there is nobody to tell.
-    pub(crate) fn run(&self, rt: &(impl Wait + Eprint), slots: u32) {
+    /// Whether the server ended.
+    fn has_ended(&self, rt: &impl Wait) -> bool {
+        self.notes.lock(rt).outcome.is_some()
+    }
+
+    /// Waits for a while, or until the server ends.
+    fn pause(&self, rt: &(impl Wait + Clock), parker: &Parker) {
+        let time = Duration::from_millis(PAUSE_MS);
+        let mut begun = None;
         for _ in rt.forever() {
-            let mut notices = self.next(rt);
-            say(rt, &mut notices, slots);
-            if let Some(refused) = notices.refused {
-                if refused > 0 {
-                    let _ = eprintln!(rt; "gmd: connections refused: {refused}");
-                }
+            if has_passed(rt, &mut begun, time) || self.has_ended(rt) {
                 break;
+            }
+            parker.park_timeout(rt, time);
+        }
+    }
+
+    /// Says what the others leave here, until the server ends.
+    fn run(&self, rt: &(impl Wait + Clock + Eprint), parker: &Parker, slots: u32) {
+        for _ in rt.forever() {
+            let notes = self.next(rt);
+            say_due(rt, &notes, slots);
+            if let Some(outcome) = &notes.outcome {
+                say_end(rt, outcome, notes.counts);
+                self.spoken.unpark();
+                break;
+            }
+            if notes.is_due {
+                self.pause(rt, parker);
+            } else {
+                parker.park(rt);
             }
         }
     }
 }
 
-/// Says what is due.
-fn say(rt: &impl Eprint, notices: &mut Notices, slots: u32) {
-    if notices.slots.take() {
-        let _ = eprintln!(rt; "gmd: all {slots} slots are taken, connections are refused");
+/// Says what is due. Where standard error fails, there is nobody to tell.
+fn say_due(rt: &impl Eprint, notes: &Notes, slots: u32) {
+    if let Some((kind, peer)) = &notes.unknown {
+        say_type(rt, *kind, peer);
     }
-    if notices.memory.take() {
-        let _ = eprintln!(rt; "gmd: out of memory, connections are refused");
+    say_troubles(rt, &notes.troubles, slots);
+}
+
+/// Says that a packet of this type came, which is no request.
+fn say_type(rt: &impl Eprint, kind: u32, peer: &Option<SocketAddr>) {
+    let name = match kind {
+        35 => " (SUBMIT_JOB_SCHED)",
+        36 => " (SUBMIT_JOB_EPOCH)",
+        37 => " (SUBMIT_REDUCE_JOB)",
+        38 => " (SUBMIT_REDUCE_JOB_BACKGROUND)",
+        39 => " (GRAB_JOB_ALL)",
+        41 => " (GET_STATUS_UNIQUE)",
+        _ => "",
+    };
+    let _ = match peer {
+        Some(peer) => {
+            eprintln!(rt; "gmd: {peer} sent a packet of type {kind}{name}, which gmd doesn't serve")
+        }
+        None => eprintln!(rt; "gmd: a packet of type {kind}{name} came, which gmd doesn't serve"),
+    };
+}
+
+/// Says which troubles are due.
+fn say_troubles(rt: &impl Eprint, troubles: &[Note; TROUBLES], slots: u32) {
+    for (at, note) in troubles.iter().enumerate() {
+        if note.notice == Notice::Due {
+            say_trouble(rt, at, note, slots);
+        }
     }
-    if notices.threads.take() {
-        let _ = eprintln!(rt; "gmd: out of threads, connections are refused");
+}
+
+/// Says one, by its place.
+fn say_trouble(rt: &impl Eprint, at: usize, note: &Note, slots: u32) {
+    let Note { count, error, .. } = *note;
+    let error = Error::from_raw_os_error(error);
+    let _ = match at {
+        0 => eprintln!(rt; "gmd: all {slots} slots are taken, connections are refused: {count}"),
+        1 => eprintln!(rt; "gmd: out of memory, connections are refused: {count}"),
+        2 => eprintln!(rt; "gmd: out of threads, connections are refused: {count}"),
+        3 => eprintln!(rt; "gmd: can't wait for more, connections are refused: {count}: {error}"),
+        4 => eprintln!(rt; "gmd: out of memory, connections are cut: {count}"),
+        5 => eprintln!(rt; "gmd: out of file descriptors, connections wait: {error}"),
+        6 => eprintln!(rt; "gmd: connections wait: {error}"),
+        _ => eprintln!(rt; "gmd: can't tell systemd how it is: {error}"),
+    };
+}
+
+/// Says how the server ended.
+fn say_end(rt: &impl Eprint, outcome: &Result<Served, ServeError>, counts: Counts) {
+    let Counts {
+        refused,
+        cut,
+        faulty,
+        timed_out,
+    } = counts;
+    if refused.max(cut).max(faulty).max(timed_out) > 0 {
+        let _ = eprintln!(rt;
+            "gmd: connections refused: {refused}, cut: {cut}, with faults: {faulty}, timed out: {timed_out}"
+        );
     }
-    let error = Error::from_raw_os_error(notices.error);
-    if notices.descriptors.take() {
-        let _ = eprintln!(rt; "gmd: out of file descriptors, connections wait: {error}");
-    }
-    if notices.accept.take() {
-        let _ = eprintln!(rt; "gmd: connections wait: {error}");
+    match outcome {
+        Ok(
+            Served {
+                connections,
+                entries,
+            },
+        ) => {
+            let _ = eprintln!(rt; "gmd: ended, connections served: {connections}");
+            if *entries > 0 {
+                let _ = eprintln!(rt;
+                    "gmd: the tape agrees with what the connections were told, entries: {entries}"
+                );
+            }
+        }
+        Err(error) => {
+            let _ = eprintln!(rt; "gmd: {error}");
+        }
     }
 }

@@ -1,0 +1,235 @@
+//! What a thread waits at.
+
+use crate::hub::Hub;
+use mio::event::Event;
+use mio::{Events, Poll};
+use std::alloc::{AllocError, Global};
+use std::collections::VecDeque;
+use std::time::{Clock, Duration, Instant};
+
+/// How many slots are marked in a word.
+pub(crate) const MARKS: usize = 64;
+
+/// How many events it takes at a time.
+const EVENTS: usize = 256;
+
+/// How long it waits at most, as a waking may fail.
+const PAUSE_MS: u64 = 1_000;
+
+/// How often it looks at a slot that is to be looked at again.
+const AGAIN_MS: u64 = 250;
+
+/// A slot to serve.
+#[derive(Clone, Copy)]
+pub struct Call {
+    pub slot: u32,
+    /// It was woken, or is to be looked at again: not only its socket was reported.
+    pub is_woken: bool,
+    /// More may be there behind a short read: the peer sends no more, or urgent data were between.
+    pub is_odd: bool,
+}
+
+/// When a slot is to be served next, but for when it is called.
+#[derive(Clone, Copy)]
+pub struct Next {
+    /// After the others that are called now.
+    pub is_now: bool,
+    /// In a while.
+    pub is_again: bool,
+}
+
+/// A slot's place with its thread.
+#[derive(Clone, Copy)]
+struct Place {
+    slot: u32,
+    /// Whether it is among the ready ones.
+    is_ready: bool,
+    is_woken: bool,
+    is_odd: bool,
+    /// Whether it is among those that are looked at again.
+    is_again: bool,
+}
+
+/// What a thread waits at, for the slots that it serves. It finds all its memory when it is made.
+#[derive(Drop)]
+pub struct Poller {
+    poll: Poll,
+    events: Events,
+    /// The thread's number, which is its first slot's, and how many threads there are, so how far its slots are apart.
+    thread: u32,
+    count: u32,
+    places: Vec<Place>,
+    // The slots to serve, each once, so that there is room for all.
+    ready: VecDeque<usize>,
+    // Those to look at again, each once.
+    again: VecDeque<usize>,
+    // When they were looked at last.
+    looked: Option<Instant>,
+}
+
+impl Poller {
+    /// For the thread with this number, of `count`, of a server with this many slots.
+    pub(crate) fn new(
+        alloc: Global,
+        poll: Poll,
+        thread: u32,
+        count: u32,
+        slots: u32,
+    ) -> Result<Poller, AllocError> {
+        let count = count.max(1);
+        let mut places = Vec::new(alloc);
+        for slot in (thread..slots).step_by(count as usize) {
+            places.push(Place {
+                slot,
+                is_ready: false,
+                is_woken: false,
+                is_odd: false,
+                is_again: false,
+            })?;
+        }
+        Ok(Poller {
+            poll,
+            events: Events::with_capacity(alloc, EVENTS)?,
+            thread,
+            count,
+            ready: VecDeque::with_capacity(alloc, places.len())?,
+            again: VecDeque::with_capacity(alloc, places.len())?,
+            places,
+            looked: None,
+        })
+    }
+
+    /// How many slots are to be served now.
+    pub fn ready(&self) -> usize {
+        self.ready.len()
+    }
+
+    /// Waits until there are slots to serve, or for a second.
+    pub fn wait(&mut self, rt: &impl Clock, hub: &Hub) {
+        // Modelled in models/lane.h.
+        let time = if !self.ready.is_empty() {
+            0
+        } else if !self.again.is_empty() {
+            AGAIN_MS
+        } else {
+            PAUSE_MS
+        };
+        // Where it fails, there are no events.
+        let _ = self
+            .poll
+            .poll(&mut self.events, Some(Duration::from_millis(time)));
+        for event in &self.events {
+            note_event(&mut self.places, &mut self.ready, self.count, event);
+        }
+        self.take_marks(hub);
+        self.look_again(rt);
+    }
+
+    /// Takes the marks that others made.
+    fn take_marks(&mut self, hub: &Hub) {
+        for at in 0..self.places.len().div_ceil(MARKS) {
+            let marks = hub.take_marks(self.thread, at);
+            if marks != 0 {
+                self.call_marked(at * MARKS, marks);
+            }
+        }
+    }
+
+    /// The marked ones of these places, from the first on, are to be served.
+    fn call_marked(&mut self, first: usize, marks: u64) {
+        for bit in 0..MARKS {
+            if marks & 1 << bit != 0 {
+                self.call(first.saturating_add(bit));
+            }
+        }
+    }
+
+    /// A slot is to be served, though its socket wasn't reported.
+    fn call(&mut self, at: usize) {
+        let Some(place) = self.places.get_mut(at) else {
+            return;
+        };
+        place.is_woken = true;
+        if !place.is_ready {
+            place.is_ready = true;
+            let _ = self.ready.push_back(at);
+        }
+    }
+
+    /// Looks again at those that are to be, where it is time.
+    fn look_again(&mut self, rt: &impl Clock) {
+        if self.again.is_empty() || !self.is_time(rt) {
+            return;
+        }
+        for _ in 0..self.again.len() {
+            let Some(at) = self.again.pop_front() else {
+                break;
+            };
+            if let Some(place) = self.places.get_mut(at) {
+                place.is_again = false;
+            }
+            self.call(at);
+        }
+    }
+
+    /// Whether it is a while since they were looked at. It is where the clock can't be read.
+    fn is_time(&mut self, rt: &impl Clock) -> bool {
+        let now = Instant::now(rt).ok();
+        let is_time = match (&self.looked, &now) {
+            (Some(looked), Some(now)) => {
+                now.duration_since(*looked) >= Duration::from_millis(AGAIN_MS)
+            }
+            _ => true,
+        };
+        if is_time {
+            self.looked = now;
+        }
+        is_time
+    }
+
+    /// The next slot to serve, if there is one.
+    pub fn next(&mut self) -> Option<Call> {
+        let at = self.ready.pop_front()?;
+        let place = self.places.get_mut(at)?;
+        let is_woken = place.is_woken;
+        place.is_ready = false;
+        place.is_woken = false;
+        Some(Call {
+            slot: place.slot,
+            is_woken,
+            is_odd: place.is_odd,
+        })
+    }
+
+    /// A slot was served, and is to be served next then.
+    pub fn put_back(&mut self, slot: u32, next: Next) {
+        let at = (slot / self.count.max(1)) as usize;
+        let Some(place) = self.places.get_mut(at) else {
+            return;
+        };
+        place.is_odd = place.is_odd && next.is_now;
+        if next.is_now && !place.is_ready {
+            place.is_ready = true;
+            let _ = self.ready.push_back(at);
+        }
+        if next.is_again && !place.is_again {
+            place.is_again = true;
+            let _ = self.again.push_back(at);
+        }
+    }
+}
+
+/// The slot of an event is to be served.
+fn note_event(places: &mut Vec<Place>, ready: &mut VecDeque<usize>, count: u32, event: &Event) {
+    let at = event.token().0 / count.max(1) as usize;
+    let Some(place) = places.get_mut(at) else {
+        return;
+    };
+    if event.is_read_closed() || event.is_priority() {
+        place.is_odd = true;
+    }
+    if !place.is_ready {
+        place.is_ready = true;
+        let _ = ready.push_back(at);
+    }
+}

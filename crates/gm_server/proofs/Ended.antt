@@ -1,0 +1,54 @@
+-- How a server ends, said of its own settings.
+use Rattle.std.proofs.Common.{◌≡◌, Bool, if◌then◌else◌, List, [], map, reverse, Result, Err, sym, ap, ◌∙◌, subst}
+use Rattle.atomic_table.specs.Seated.{TableId}
+use Rattle.gm_notes.specs.Settings.{Settings}
+use Rattle.gm_shared.specs.declared.settling.Settled.{Settled}
+use Rattle.gm_shared.specs.declared.settling.SettleError.{SettleError}
+use Rattle.gm_shared.specs.declared.settling.SettleError.TheVariants.{Memory, Differs}
+use Rattle.gm_shared.specs.declared.tape.Actor.{Actor}
+use Rattle.gm_shared.specs.declared.tape.Told.{Told}
+use Rattle.gm_shared.specs.declared.tape.Entry.{Entry}
+use Rattle.gm_shared.specs.Tapes.{AddUp, Legal, steps_of}
+use Rattle.gm_shared.specs.Tokens.{FrontState}
+use Rattle.gm_shared.specs.Shared.{told_by, WhySo}
+use Rattle.gm_core.specs.Holds.{CoreAgrees}
+use Rattle.gm_server.specs.Owners.{AreOwn}
+use Rattle.gm_server.specs.declared.slot.Account.{Account}
+use Rattle.gm_server.specs.Accounts.{AreAccounted}
+use Rattle.gm_server.specs.declared.error.ServeError.{ServeError}
+use Rattle.gm_server.specs.declared.settings.Served.{Served}
+use Rattle.gm_server.specs.Served.{HasEverybody, IsWhole, SettledSo, DiffersSo, EndsSo}
+use Rattle.gm_server.proofs.Owning.{map_twice}
+
+pub ends_as : (k asked : Settings) (taped kept : Bool) (result : Result Served ServeError) → k ≡ asked → taped ≡ kept → EndsSo k taped result → EndsSo asked kept result
+ends_as k asked taped kept result settings tape ends = subst (λ t. EndsSo asked t result) tape (subst (λ s. EndsSo s taped result) settings ends)
+
+-- the history that is handed out is that of which all this is known
+pub whole_of : (k : Settings) (taped : Bool) (history : TableId) (settled : Settled) (accounts : List Account) (log : List Entry) → settled.history.log ≡ log → settled.history.table ≡ history
+    → Legal k log → CoreAgrees settled.core k (steps_of log) → AreOwn log → settled.tape.items ≡ (if taped then reverse log else []) → AddUp settled.tape.items (map told_by settled.shares.items)
+    → HasEverybody k settled → AreAccounted k log accounts → IsWhole k taped history settled accounts
+whole_of k taped history settled accounts log is of legal agrees own tape up everybody accounted =
+    let same = sym is in
+    record {
+      of = of;
+      legal = subst (Legal k) same legal;
+      agrees = subst (λ l. CoreAgrees settled.core k (steps_of l)) same agrees;
+      own = subst AreOwn same own;
+      tape = tape ∙ ap (λ (l : List Entry). if taped then reverse l else []) same;
+      up = up;
+      everybody = everybody;
+      accounted = subst (λ l. AreAccounted k l accounts) same accounted;
+    }
+
+-- where shares don't add up, one is missing
+pub not_settled : (k : Settings) (taped : Bool) (history : TableId) (accounts : List Account) (error : SettleError) (shares : List (Actor × List Told)) (fronts : List FrontState) → WhySo k taped error shares fronts
+    → SettledSo k taped history (Err error) accounts
+not_settled k taped history accounts Memory shares fronts why = tt
+not_settled k taped history accounts (Differs settled) shares fronts why = λ all.
+    let first : Actor × List Told → Actor = λ share. share.0 in
+    why.missing (ap (map first) (sym why.ended.shares_are) ∙ (map_twice told_by first settled.shares.items ∙ all))
+
+-- and so a server ends
+pub ends_differing : (k : Settings) (taped : Bool) (history : TableId) (accounts : List Account) (error : SettleError) (settled : Settled) → error ≡ Differs settled → SettledSo k taped history (Err error) accounts
+    → DiffersSo k
+ends_differing k taped history accounts error settled is so = record { settled = settled; is = subst (λ e. SettledSo k taped history (Err e) accounts) is so }
