@@ -2,7 +2,8 @@
 
 use crate::checks::same;
 use gm_bytes::ByteQueue;
-use gm_server::{Delivery, Message, WriteFault, write_turn};
+use gm_outbox::{Line, Message, Sent, Wire};
+use gm_server::{WriteFault, write_turn};
 use std::alloc::Global;
 use std::io::{Error, ErrorKind, Read, Result, Write};
 use std::process::Abort;
@@ -55,6 +56,21 @@ impl Write for FailingWriter {
     }
 }
 
+impl Line for FailingWriter {
+    ghost use Rattle.std.specs.Prelude.{None};
+
+    // What it takes is compared.
+    ghost contents = { λ _. None };
+
+    ghost name = { λ _. 0 };
+}
+
+impl Wire<()> for FailingWriter {
+    fn write_by(&mut self, _by: &(), bytes: &[u8]) -> Result<usize> {
+        self.write(bytes)
+    }
+}
+
 /// What came of a message: whether all was written, or the fault; and the bytes that were taken.
 type Outcome = (std::result::Result<(), WriteFault>, Vec<u8>);
 
@@ -81,10 +97,10 @@ fn sent(
     };
     let mut message = Message::new(ByteQueue::from_vec(Vec::from_slice(alloc, drained)?), took);
     for _ in 0..100 {
-        let outcome = match message.send(&mut writer) {
-            Delivery::Late => continue,
-            Delivery::Done => Ok(()),
-            Delivery::Over => Err(WriteFault {
+        let outcome = match message.send(&mut writer, &()) {
+            Sent::Some => continue,
+            Sent::All => Ok(()),
+            Sent::Failed => Err(WriteFault {
                 written: writer.taken.len(),
             }),
         };

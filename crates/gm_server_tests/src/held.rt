@@ -18,7 +18,7 @@ use std::time::Clock;
 use std::{io, thread};
 
 /// Serves with two slots until a shutdown; `None` where it can't.
-fn served<R: Threads + Wait + Clock + RandomSource + Eprint + Sync>(
+fn served<R: Threads + Wait + Clock + RandomSource + Eprint + Copy + Send + Sync + 'static>(
     rt: &R,
     alloc: Global,
     listener: TcpListener,
@@ -32,7 +32,6 @@ fn served<R: Threads + Wait + Clock + RandomSource + Eprint + Sync>(
             max_bytes: 67_108_864,
             max_line: 1024,
         },
-        peer_timeout: 120,
         tape: false,
     };
     serve(rt, alloc, seed, listener, settings, hold).ok()
