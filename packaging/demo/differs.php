@@ -1,0 +1,109 @@
+<?php
+// What PHP's workers and clients of packaging/demo/differs do: differs.php PORT WHAT [ARGUMENT].. A worker does jobs of the function mail
+// until it is ended, and prints a line for each.
+[, $port, $what] = $argv;
+$argument = $argv[3] ?? '';
+
+function worker(string $port, bool $has_option = true): GearmanWorker
+{
+    $worker = new GearmanWorker();
+    if ($has_option) {
+        $worker->addOptions(GEARMAN_WORKER_GRAB_UNIQ);
+    }
+    $worker->addServer('127.0.0.1', (int) $port);
+    return $worker;
+}
+function work(GearmanWorker $worker): void
+{
+    while (true) {
+        try {
+            @$worker->work();
+        } catch (Throwable $e) {
+        }
+        if ($worker->returnCode() !== GEARMAN_SUCCESS) {
+            echo 'code ', $worker->returnCode(), "\n";
+            usleep(200000);
+        }
+    }
+}
+function client(string $port): GearmanClient
+{
+    $client = new GearmanClient();
+    $client->addServer('127.0.0.1', (int) $port);
+    $client->setTimeout(5000);
+    return $client;
+}
+// What a page's code calls.
+function send_mail(string $text): string
+{
+    echo "job\n";
+    if ($text === 'slow') {
+        sleep(4);
+    }
+    if ($text === 'bad') {
+        throw new Exception('boom');
+    }
+    return 'done';
+}
+
+if ($what === 'throws' || $what === 'sends' || $what === 'slow' || $what === 'long' || $what === 'good') {
+    // ARGUMENT is the time limit.
+    $worker = worker($port);
+    $worker->setId("php@$what");
+    $worker->addFunction('mail', function ($job) use ($what) {
+        echo "job\n";
+        if ($what === 'throws') {
+            throw new Exception('boom');
+        } elseif ($what === 'sends') {
+            $job->sendException('boom');
+            $job->sendFail();
+            return null;
+        } elseif ($what === 'slow') {
+            sleep(4);
+        }
+        return $what === 'long' ? str_repeat('x', 2000000) : 'done';
+    }, null, (int) $argument);
+    work($worker);
+} elseif ($what === 'without') {
+    $worker = worker($port, false);
+    $worker->addFunction('mail', fn ($job) => 'done');
+    work($worker);
+} elseif ($what === 'page') {
+    // ARGUMENT is the page's code, which adds the function to $worker.
+    $worker = worker($port);
+    eval($argument);
+    work($worker);
+} elseif ($what === 'status') {
+    $client = client($port);
+    $handle = $client->doBackground('mail', 'x', 'one id');
+    $by_handle = $client->jobStatus($handle);
+    $by_id = @$client->jobStatusByUniqueKey('one id');
+    echo json_encode([$by_handle[0], $by_id[0], $client->returnCode()]), "\n";
+} elseif ($what === 'full') {
+    $client = client($port);
+    @$client->doBackground('full', 'x');
+    $code = $client->returnCode();
+    echo json_encode([$code, str_contains($client->error(), 'queue_full')]), "\n";
+} elseif ($what === 'table') {
+    // ARGUMENT is the page's code: two lines of the client, one of the worker, and the loop.
+    [$submits, $ends, $again] = explode("\n---\n", $argument);
+    $path = $argv[4];
+    $db = new PDO("sqlite:$path");
+    $db->exec('CREATE TABLE IF NOT EXISTS jobs (id INTEGER PRIMARY KEY, data TEXT)');
+    $client = client($port);
+    if ($argv[5] === 'submit') {
+        foreach (['a', 'b', 'c'] as $data) {
+            eval($submits);
+        }
+    } elseif ($argv[5] === 'again') {
+        eval($again);
+    } else {
+        $worker = worker($port);
+        $worker->addFunction('mail', function ($job) use ($db, $ends) {
+            echo "job\n";
+            eval($ends);
+        });
+        work($worker);
+    }
+    echo $db->query('SELECT count(*) FROM jobs')->fetchColumn(), "\n";
+}
