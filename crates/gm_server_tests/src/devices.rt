@@ -61,8 +61,6 @@ impl Line for FailingWriter {
 
     // What it takes is compared.
     ghost contents = { λ _. None };
-
-    ghost name = { λ _. 0 };
 }
 
 impl Wire<()> for FailingWriter {

@@ -180,7 +180,10 @@ fn beside<
         + RandomSource
         + Eprint
         + Net<Listener = TcpListener, Stream = TcpStream>
-        + Sync,
+        + Copy
+        + Send
+        + Sync
+        + 'static,
 >(
     rt: &R,
     alloc: Global,
@@ -206,7 +209,10 @@ fn goes_right<
         + Eprint
         + Net<Listener = TcpListener, Stream = TcpStream>
         + Abort
-        + Sync,
+        + Copy
+        + Send
+        + Sync
+        + 'static,
 >(rt: &R, alloc: Global, hold: &Hold, script: Script<'_>, connections: u64) -> Result<(), Fail> {
     let (served, right) = beside(rt, alloc, hold, script)?;
     same(rt, "the answers", &right?, &true);
@@ -238,7 +244,10 @@ fn wakes_before<
         + Eprint
         + Net<Listener = TcpListener, Stream = TcpStream>
         + Abort
-        + Sync,
+        + Copy
+        + Send
+        + Sync
+        + 'static,
 >(rt: &R, alloc: Global, from: u64, sleeper: Sleeper<'_>) -> Result<(), Fail> {
     let hold = Hold::new(from);
     goes_right(rt, alloc, &hold, Script::Wakes(&hold, sleeper), 2)
@@ -263,10 +272,10 @@ fn told_after_a_line(rt: HostRuntime) -> Result<(), Fail> {
     wakes_before(
         &rt,
         rt.alloc(),
-        2,
+        4,
         Sleeper {
             unit: b"maxqueue f\n",
-            count: 2,
+            count: 4,
             answer: 3,
         },
     )
