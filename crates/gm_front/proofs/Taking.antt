@@ -1,5 +1,5 @@
 -- Inputs that are taken, cut or refused.
-use Rattle.std.proofs.Common.{◌≡◌, ◌<◌, ◌≤◌, ◌+◌, ℕ, suc, arith, Bool, true, false, not, ◌&&◌, List, [], ◌∷◌, ◌++◌, length}
+use Rattle.std.proofs.Common.{◌≡◌, ◌<◌, ◌≤◌, ◌+◌, ◌⊎◌, ℕ, suc, arith, Bool, true, false, not, ◌&&◌, List, [], ◌∷◌, ◌++◌, length}
 use Rattle.std.proofs.Common.{get_or, set, Option, Some, None, Result, Ok, Err, refl, sym, ap, subst, ◌∙◌, length-set}
 use Rattle.std.specs.Prelude.{nat_lt}
 use Rattle.std.specs.Result.{IsErrOf}
@@ -27,7 +27,7 @@ use Rattle.gm_front.specs.declared.front.Front.{Front}
 use Rattle.gm_front.specs.declared.input.Stepped.{Stepped}
 use Rattle.gm_front.specs.declared.input.StepError.{StepError}
 use Rattle.gm_front.specs.declared.input.StepError.TheVariants.{Refused, Cut}
-use Rattle.gm_front.specs.Units.{Stands, BeginsWith}
+use Rattle.gm_front.specs.Units.{Stands, BeginsWith, ComesNext}
 use Rattle.gm_front.specs.Inputs.{Input, Opens, Gives, Cuts, Closes, Ticks, Takes, Withdraws, Drains, Reading, fresh}
 use Rattle.gm_front.specs.Inputs.{with_step, with_rest, with_units, with_fault, kept_if, given, closed, AddsUnless, refusal_of}
 use Rattle.gm_front.specs.Inputs.{created_since, done_by}
@@ -308,6 +308,7 @@ cuts {S} agrees k limits reading c piece units r front front' server server' old
         begins =
             subst (λ (l : Limits). BeginsWith l (reading.rests c ++ piece) t.items t.rest) feeder.limited
             (subst (λ (l : List ℕ). BeginsWith old.limits (l ++ piece) t.items t.rest) fed.0 t.begins);
+        left = subst (λ (l : Limits). (units ≡ 0) ⊎ ComesNext l t.rest) feeder.limited t.left;
         taken = went.1;
         adds = refl;
       };

@@ -1,9 +1,9 @@
 -- Units that are handed in one after another.
-use Rattle.std.proofs.Common.{◌≡◌, ◌≤◌, ◌+◌, ℕ, arith, true, List, [], ◌∷◌, ◌++◌, length, Option, Some, None, refl, sym, ap}
+use Rattle.std.proofs.Common.{◌≡◌, ◌≤◌, ◌+◌, ◌⊎◌, inl, inr, ℕ, arith, true, List, [], ◌∷◌, ◌++◌, length, Option, Some, None, refl, sym, ap}
 use Rattle.std.proofs.Common.{subst, ◌∙◌, append_assoc, length-append}
 use Rattle.std.specs.Option.{option_or}
 use Rattle.gm_feeder.specs.declared.units.Limits.{Limits}
-use Rattle.gm_feeder.specs.Units.{Item, APacket, ALine, Spells, BeginsNoUnit}
+use Rattle.gm_feeder.specs.Units.{Item, APacket, ALine, IsUnitThen, Spells, BeginsNoUnit}
 use Rattle.gm_feeder.specs.Streams.{Stream, GivesNone}
 use Rattle.gm_feeder.proofs.StreamLemmas.{fault-begins_no_unit}
 use Rattle.gm_notes.specs.declared.event.UnitFault.{UnitFault}
@@ -108,6 +108,7 @@ ends_short agrees c first old units created server mid new server' s u h lacks =
       count = u.count;
       rest = mid.pending;
       begins = u.begins;
+      left = inr (inl (h.item, new.pending, subst (λ (l : Limits). IsUnitThen l mid.pending h.item new.pending) u.limited h.gives.unit));
       after = λ k steps a takes.
           let l = lacks k (with_units k c u.items steps) (u.after k steps a).0 in
           (l.0, unit_taken k c h.item (with_units k c u.items steps) (subst (λ (s : Step). refusal k s (run k (with_units k c u.items steps)) ≡ None) h.is_step l.1));
@@ -117,17 +118,18 @@ ends_short agrees c first old units created server mid new server' s u h lacks =
 
 -- no unit of it was taken
 pub cut_at_once : {S : Type 0} (agrees : S → Settings → List Step → Type 0) (c : ℕ) (server : S) (old : Stream) → CutsShort agrees c server old 0 server
-cut_at_once agrees c server old = record { items = []; count = refl; rest = old.pending; begins = refl; after = λ k steps a takes. (a, takes) }
+cut_at_once agrees c server old = record { items = []; count = refl; rest = old.pending; begins = refl; left = inl refl; after = λ k steps a takes. (a, takes) }
 
 -- all units were taken, but not the fault after them
 pub cut_at_fault : {S : Type 0} (agrees : S → Settings → List Step → Type 0) (c : ℕ) (server : S) (old : Stream) (unloaded : Unloaded) (fault : UnitFault) (server' : S) (new : Stream) (server'' : S)
-    → Unloads agrees c server old unloaded server' new → Lacks agrees (Fault c fault) server' server'' → CutsShort agrees c server old unloaded.units server''
-cut_at_fault agrees c server old unloaded fault server' new server'' u lacks =
+    → Unloads agrees c server old unloaded server' new → unloaded.fault ≡ Some fault → Lacks agrees (Fault c fault) server' server'' → CutsShort agrees c server old unloaded.units server''
+cut_at_fault agrees c server old unloaded fault server' new server'' u is lacks =
     record {
       items = u.items;
       count = u.count;
       rest = new.pending;
       begins = spells_begins old.limits old.pending u.items new.pending u.spelled;
+      left = inr (inr (fault, subst (Stands old.limits new.pending) is u.standing));
       after = λ k steps a takes.
           let steps' = with_units k c u.items steps in
           let l = lacks k steps' (u.after k steps a).0 in

@@ -1,5 +1,5 @@
 -- What happens to a server and a feeder when a piece comes.
-use Rattle.std.specs.Prelude.{◌≡◌, ℕ, true, List, ◌++◌, length, Option, Some, None}
+use Rattle.std.specs.Prelude.{◌≡◌, ◌⊎◌, ℕ, true, List, ◌++◌, length, Option, Some, None}
 use Rattle.gm_feeder.specs.Units.{Item, Spells}
 use Rattle.gm_feeder.specs.Streams.{Stream}
 use Rattle.gm_notes.specs.declared.event.UnitFault.{UnitFault}
@@ -7,7 +7,7 @@ use Rattle.gm_notes.specs.Settings.{Settings}
 use Rattle.gm_notes.specs.Notes.{takes_units}
 use Rattle.gm_notes.specs.Steps.{Step, refusal, run}
 use Rattle.gm_front.specs.declared.feeding.Unloaded.{Unloaded}
-use Rattle.gm_front.specs.Units.{Stands, BeginsWith}
+use Rattle.gm_front.specs.Units.{Stands, BeginsWith, ComesNext}
 use Rattle.gm_front.specs.Inputs.{with_units, with_fault, created_since}
 
 -- whatever steps the server agreed with, it agrees with these afterwards, and this is the newest job that was made
@@ -29,12 +29,14 @@ pub record Unloads {S : Type 0} (agrees : S → Settings → List Step → Type 
   pub sound : unloaded.fault ≡ None → new.fault ≡ None
   pub after : AgreesAfter agrees (λ k steps. with_units k c items steps) unloaded.created server server'
 
--- This many units are at the head of the bytes; they were taken, and slot c would have taken more.
+-- This many units are at the head of the bytes; they were taken, and slot c would have taken more. What comes next wasn't; or, where there
+-- was no memory for the piece, none was.
 pub record CutsShort {S : Type 0} (agrees : S → Settings → List Step → Type 0) (c : ℕ) (server : S) (old : Stream) (units : ℕ) (server' : S) : Type 0 where
   pub items : List Item
   pub count : length items ≡ units
   pub rest : List ℕ
   pub begins : BeginsWith old.limits old.pending items rest
+  pub left : (units ≡ 0) ⊎ ComesNext old.limits rest
   pub after : (k : Settings) (steps : List Step) → agrees server k steps → takes_units c (run k steps).notes ≡ true
       → agrees server' k (with_units k c items steps) × (takes_units c (run k (with_units k c items steps)).notes ≡ true)
 

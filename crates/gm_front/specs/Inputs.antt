@@ -1,5 +1,5 @@
 -- What inputs spell: the steps that the server takes, and the bytes of each slot that made no unit yet.
-use Rattle.std.specs.Prelude.{◌≡◌, ℕ, Bool, true, false, ◌==◌, if◌then◌else◌, List, [], ◌∷◌, ◌++◌, length, Option, Some, None}
+use Rattle.std.specs.Prelude.{◌≡◌, ◌⊎◌, ℕ, Bool, true, false, ◌==◌, if◌then◌else◌, List, [], ◌∷◌, ◌++◌, length, Option, Some, None}
 use Rattle.gm_feeder.specs.declared.units.Limits.{Limits}
 use Rattle.gm_feeder.specs.Units.{Item, Spells}
 use Rattle.gm_notes.specs.declared.event.ApplyError.{ApplyError}
@@ -12,7 +12,7 @@ use Rattle.gm_notes.specs.Jobs.{made}
 use Rattle.gm_notes.specs.Steps.{Step, Open, Packet, Line, Fault, Close, Tick, Took, Withdrew, Drain, refusal, unless_not_open}
 use Rattle.gm_notes.specs.Steps.{free_slot, made_since}
 use Rattle.gm_notes.specs.Steps.{run}
-use Rattle.gm_front.specs.Units.{step_of_unit, Stands, BeginsWith}
+use Rattle.gm_front.specs.Units.{step_of_unit, Stands, BeginsWith, ComesNext}
 use Rattle.gm_front.specs.declared.input.Input.{Input as Handed}
 use Rattle.gm_front.specs.declared.input.Input.TheVariants as handed
 
@@ -108,12 +108,13 @@ abbrev pub closed : ℕ → List Step → (ℕ → List ℕ) → Reading
 closed c steps rests = record { steps = Close c ∷ steps; rests = with_rest c [] rests }
 
 -- A piece of slot c that was cut: a count of units begins the rest and the piece; they were taken, all of
--- them, and then the slot was closed.
+-- them, and what comes next wasn't, a unit or a fault; or, where there was no memory for the piece, no unit was. Then the slot was closed.
 pub record CutsPiece (k : Settings) (limits : Limits) (c : ℕ) (piece : List ℕ) (units : ℕ) (old new : Reading) : Type 0 where
   pub items : List Item
   pub count : length items ≡ units
   pub rest : List ℕ
   pub begins : BeginsWith limits (old.rests c ++ piece) items rest
+  pub left : (units ≡ 0) ⊎ ComesNext limits rest
   pub taken : takes_units c (run k (with_units k c items old.steps)).notes ≡ true
   pub adds : new ≡ closed c (with_units k c items old.steps) old.rests
 

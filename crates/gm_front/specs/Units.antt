@@ -1,5 +1,5 @@
 -- What a connection's bytes spell for its slot: units, and the fault behind them.
-use Rattle.std.specs.Prelude.{◌≡◌, ℕ, List, [], ◌∷◌, ◌++◌, map, Option, Some, None}
+use Rattle.std.specs.Prelude.{◌≡◌, ◌⊎◌, ℕ, List, [], ◌∷◌, ◌++◌, map, Option, Some, None}
 use Rattle.gm_feeder.specs.declared.units.Limits.{Limits}
 use Rattle.gm_feeder.specs.declared.units.FeedFault.{FeedFault}
 use Rattle.gm_feeder.specs.declared.units.FeedFault.TheVariants as feeds
@@ -48,6 +48,10 @@ Stands limits rest (Some fault) = IsFaultAt limits rest fault
 abbrev pub BeginsWith : Limits → List ℕ → List Item → List ℕ → Type 0
 BeginsWith limits bytes [] rest = bytes ≡ rest
 BeginsWith limits bytes (item ∷ items) rest = (after : List ℕ) × IsUnitThen limits bytes item after × BeginsWith limits after items rest
+
+-- a unit is at the head of this rest, or a fault
+abbrev pub ComesNext : Limits → List ℕ → Type 0
+ComesNext limits rest = ((item : Item) × (after : List ℕ) × IsUnitThen limits rest item after) ⊎ ((fault : UnitFault) × IsFaultAt limits rest fault)
 
 -- ---- the next event
 

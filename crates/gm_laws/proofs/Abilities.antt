@@ -9,7 +9,7 @@ use Rattle.std.proofs.lemmas.Slice.Eq.{bytes_eq-Decides}
 use Rattle.gm_packet.specs.declared.kind.Kind.{Kind}
 use Rattle.gm_packet.specs.declared.kind.Kind.TheVariants.{CanDo, CantDo, CanDoTimeout, ResetAbilities}
 use Rattle.gm_packet.specs.Kinds.{kind_of}
-use Rattle.gm_packet.specs.Requests.{Asked, request_of}
+use Rattle.gm_packet.specs.Requests.{Asked}
 use Rattle.gm_notes.specs.declared.note.Note.{Note}
 use Rattle.gm_notes.specs.declared.note.Note.TheVariants as notes
 use Rattle.gm_notes.specs.Settings.{Settings}

@@ -10,7 +10,7 @@ use Rattle.gm_notes.specs.Settings.{Settings}
 use Rattle.gm_notes.specs.Notes.{is_open}
 use Rattle.gm_notes.specs.Flow.{Flow, Began, Queued, Drained, Emptied, sent, waiting}
 use Rattle.gm_notes.specs.Past.{Past}
-use Rattle.gm_notes.specs.Closings.{discard_each, give_back_each, disconnect, rising, close}
+use Rattle.gm_notes.specs.Closings.{discard_each, disconnect, rising, close}
 use Rattle.gm_notes.specs.Steps.{Step, Close, step, run}
 use Rattle.gm_laws.specs.History.{History}
 use Rattle.gm_laws.specs.Laws.{drained, is_kept_up, IsFront, SentSo, takes_from, OnlyDrainsTake}

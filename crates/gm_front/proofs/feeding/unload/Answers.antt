@@ -23,3 +23,8 @@ pub returns-in-Fault-clause-ok : goal.returns-in-Fault-clause-ok
 returns-in-Fault-clause-ok g c =
     ends_faulty g.S.JobServer.agrees c.args.slot c.args.server.now c.args.feeder.now _ c.loop-event.server c.loop-event.feeder c.in-Fault.fault c.next_event.follows.lender-at-none c.loop-event.invariant refl
     (rw c.in-Fault.is at c.next_event.follows.holds-at-none)
+
+pub returns-in_default-clause-err : goal.returns-in_default-clause-err
+returns-in_default-clause-err g c =
+    ends_short g.S.JobServer.agrees c.args.slot c.args.server.now c.args.feeder.now c.loop-event.units c.loop-event.created c.loop-event.server c.loop-event.feeder
+    c.next_event.follows.lender-at-none c.hand_in.new.server _ c.loop-event.invariant (rw c.in-Unit.is at c.next_event.follows.holds-at-none) c.in_default.ensures.err
