@@ -38,6 +38,7 @@ pub struct PlaySettings {
 /// Reads the script, which is all that the reader has left.
 fn read_script<R: Read>(alloc: Global, reader: &mut R) -> Result<Vec<u8>, PlayError>
     ensures all { IfOk result (λ script. IfSome (R.remaining reader.old) (λ bytes. script.items ≡ bytes)) }
+    ensures most { IfOk result (λ script. length script.items ≤ 16777216) }
     ensures long { IsErrOf result PlayError.TooLong → IfSome (R.remaining reader.old) (λ bytes. 16777216 < length bytes) }
 {
     let mut script = Vec::new(alloc);
@@ -109,6 +110,7 @@ pub fn play_on<S: JobServer + Drop, R: Read, W: Write>(
     ensures text { OnOk result ((k : Settings) → k.slots ≡ slots → k.slots ≤ 1024 → S.agrees server k []
         → IfSome (R.remaining reader.old) (λ script. (text : List ℕ) × IsTextOf k limits script text
         × Appends (W.contents writer.old) (W.contents writer.new) text)) }
+    ensures short { OnOk result (IfSome (R.remaining reader.old) (λ script. length script ≤ 16777216)) }
     ensures long { IsErrOf result PlayError.TooLong → IfSome (R.remaining reader.old) (λ script. 16777216 < length script) }
 {
     let script = read_script(alloc, reader)?;
@@ -130,6 +132,7 @@ pub fn play<R: Read, W: Write>(
     ensures text { OnOk result (IfSome (R.remaining reader.old) (λ script. (text : List ℕ)
         × IsTextOf settings.config settings.limits script text
         × Appends (W.contents writer.old) (W.contents writer.new) text)) }
+    ensures short { OnOk result (IfSome (R.remaining reader.old) (λ script. length script ≤ 16777216)) }
     ensures long { IsErrOf result PlayError.TooLong → IfSome (R.remaining reader.old) (λ script. 16777216 < length script) }
 {
     let PlaySettings {

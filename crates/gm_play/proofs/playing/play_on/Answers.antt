@@ -1,4 +1,4 @@
-use Rattle.std.proofs.Common.{◌∙◌, ℕ, List, sym, subst}
+use Rattle.std.proofs.Common.{◌∙◌, ◌≤◌, ℕ, List, length, sym, subst}
 use Rattle.std.specs.Io.KnownBytes.{Appends}
 use Rattle.gm_front.specs.Inputs.{fresh}
 use Rattle.gm_play.specs.Prints.{Prints}
@@ -16,4 +16,10 @@ returns-clause-text g c =
     (λ script e.
     subst (λ (l : List ℕ). (text : List ℕ) × Prints k c.args.limits fresh (lines_of l) text × Appends (g.W.Write.contents c.args.writer.now) (g.W.Write.contents c.play_lines.new.writer) text) (c.deref.ensures.value ∙ e) done)
     c.in_ok-script.ensures.all)
+    c.play_lines.ensures.ok
+
+pub returns-clause-short : goal.returns-clause-short
+returns-clause-short g c =
+    on_ok c.play_lines.result _ _
+    (λ h. if_some (g.R.Read.remaining c.args.reader.now) _ _ (λ script e. subst (λ (l : List ℕ). length l ≤ 16777216) e c.in_ok-script.ensures.most) c.in_ok-script.ensures.all)
     c.play_lines.ensures.ok
