@@ -1,10 +1,11 @@
-/* One open connection, its writer (Lane::write, lane.rt), its reader that begins it (Lane::begin), and TOUCHERS threads that
- * queue bytes for it, or bytes and a NOOP, TOUCHES times each, from before the connection begins. Each touch looks itself or is left
- * to the writer (ServerState::touch, state.rt). The lane is idle at first, or late, as the last connection leaves it.
+/* One open connection, its finisher (run_finisher, crews.rt), the control thread that opens its lane (Lane::open), and TOUCHERS threads
+ * that queue bytes for it, or bytes and a NOOP, TOUCHES times each, from before the lane is opened. Each touch looks itself or is left
+ * to the finisher (ServerState::touch, state.rt). The lane is idle at first, or late, as the last connection leaves it. With FEW the
+ * finisher is an I/O thread's part that never waits (ServerState::visit, serving.rt), and the socket may report that it takes bytes.
  * Delivery: in every quiescent state nothing waits, no NOOP is owed and nothing is left, unless the peer is deaf. No deadlock.
- * Order: in the order of the queue, each once. Only the writer waits.
+ * Order: in the order of the queue, each once. Only the finisher waits, by default.
  * ENDLESS: the threads go on for ever; put is a mark, no count; a peer that reads is late LATES times between two messages at
- * most. Then each infinite run has infinitely many deliveries to slot N - 1. */
+ * most. Then each infinite run has infinitely many deliveries. */
 #ifndef TOUCHERS
 #define TOUCHERS 2
 #endif
@@ -17,43 +18,31 @@
 #ifndef DEAF
 #define DEAF 0
 #endif
-#define PARKED(s)   parked[s] = 1
-#define UNPARKED(s) parked[s] = 0
+#define PARKED(s)   parked = 1
+#define UNPARKED(s) parked = 0
 #ifdef ENDLESS
-#define ON_SENT(s) lates[s] = LATES; if :: s == N - 1 -> flip = 1 - flip :: else fi
-#endif
-#ifndef N
-#define N 1
+#define ON_SENT(s) lates[s] = LATES; flip = 1 - flip
 #endif
 bit  flip = 0;
-byte parked[N];
+bit  parked = 0;
 
 #include "lane.h"
 
 byte n_done = 0;
 
-/* ServerState::touch (state.rt): a thread that isn't the slot's writer looks itself, or leaves it to the writer, as its round
- * is over. */
-inline tell(s) {
-    if
-    :: true -> touch(s)
-    :: true -> touch_for_writer(s)
-    fi
-}
-
-#ifndef ENDLESS
 proctype Toucher() {
-    LOCALS(false);
+    LOCALS;
     byte n = 0;
 #ifdef M_SWAP_LATER
     bool owes = false;
 #endif
     do
+#ifdef ENDLESS
+    :: atomic { (book == 0 && put[0] == 0) -> put[0] = 1 };
+#else
     :: n < TOUCHES ->
         n++;
-#ifdef M_TOUCH_FIRST
-        tell(0);
-#endif
+#ifndef M_TOUCH_FIRST
         /* Desk::apply_with (shared.rt): one critical section */
         atomic { (book == 0) ->
             put[0]++;
@@ -65,108 +54,101 @@ proctype Toucher() {
 #endif
             :: true
             fi };
-#ifndef M_TOUCH_FIRST
-        tell(0);
 #endif
-#ifdef M_SWAP_LATER
+#endif
         if
-        :: owes -> word[0] = OWED; owes = false
+        :: touch_word(0)
+        :: touch_for_finisher(0)                   /* the round is over */
+        fi;
+        if
+        :: has -> deliver_owed(0)
         :: else
         fi;
+        fin = NOTHING
+#ifdef M_TOUCH_FIRST
+        ; atomic { (book == 0) -> put[0]++ }
 #endif
-        met_late = false
+#ifdef M_SWAP_LATER
+        ; if
+        :: owes -> word[0] = OWED; owes = false
+        :: else
+        fi
+#endif
+#ifndef ENDLESS
     :: else -> break
+#endif
     od;
     n_done++
 }
-#else
-/* It queues something for each slot, own slot first, and tells them. What waits for a slot already isn't queued again. */
-proctype Toucher(byte own) {
-    LOCALS(false);
-    byte n = 0;
+
+proctype Finisher() {
+    LOCALS;
     do
     :: true ->
-        atomic { (book == 0 && (put[own] == 0
-#if N > 1
-            || (own == 0 && put[1] == 0)
-#endif
-            )) ->
+        PARKED(0);
+end:    atomic {
             if
-            :: put[own] == 0 -> put[own] = 1; n = n | 1
-            :: else
+            :: IS_CALLED(0) ->
+#ifdef M_PARK_LOSES_TOKEN
+                has_taken = true
+#else
+                token[0] = false; again[0] = false
+#endif
+#ifdef FEW
+            :: lw[0] == LANE_LATE && !token[0] && MATTERS(0) -> has_ended = true   /* the socket takes bytes again */
+#endif
             fi;
-#if N > 1
-            if
-            :: own == 0 && put[1] == 0 -> put[1] = 1; n = n | 2
-            :: else
-            fi
-#endif
-            };
+            UNPARKED(0) };
+#ifdef FEW
         if
-        :: n & 1 -> tell(own)
+        :: has_ended -> has_ended = false; deliver_late(0)
+        :: else -> deliver_as(0, FINISHER)
+        fi;
+#else
+        deliver_as(0, FINISHER);
+#endif
+        if
+        :: has -> deliver_owed(0)
         :: else
         fi;
-#if N > 1
-        if
-        :: n & 2 ->
-            if
-            :: true -> tell(1)
-            :: true -> touch_for_writer(1)           /* the round has had its time */
-            fi
-        :: else
-        fi;
+#ifdef M_PARK_LOSES_TOKEN
+        atomic { has_taken = false; token[0] = false };
 #endif
-        n = 0; met_late = false
+        atomic { come_again(0); fin = NOTHING }
     od
-}
-#endif
-
-proctype Writer(byte me) {
-    LOCALS(true);
-    run_writer(me)
 }
 
 init {
-    LOCALS(false);
+    LOCALS;
     byte i = 0;
     atomic {
+        is_open[0] = true; gen[0] = 1; lates[0] = LATES;
+        if
+        :: lw[0] = LANE_IDLE
+        :: lw[0] = LANE_LATE
+        fi;
+        if
+        :: token[0] = false
+        :: token[0] = true
+        fi;
+        core_phase[0] = ASLEEP; seat_phase[0] = ASLEEP; word[0] = ASLEEP;
+        if
+        :: DEAF == 0
+        :: DEAF > 0 -> deaf[0] = true; room[0] = DEAF - 1
+        fi;
+        run Finisher();
         do
-        :: i < N ->
-            is_open[i] = true; gen[i] = 1; lates[i] = LATES;
-            if
-            :: lw[i] = LANE_IDLE
-            :: lw[i] = LANE_LATE
-            fi;
-            if
-            :: token[i] = false
-            :: token[i] = true
-            fi;
-            core_phase[i] = ASLEEP; seat_phase[i] = ASLEEP; word[i] = ASLEEP;
-            if
-            :: DEAF == 0
-            :: DEAF > 0 && i == 0 -> deaf[i] = true; room[i] = DEAF - 1
-            fi;
-            run Writer(i);
-            i++
-        :: else -> break
-        od;
-        i = 0;
-        do
-        :: i < TOUCHERS ->
-#ifdef ENDLESS
-            run Toucher(i % N);
-#else
-            run Toucher();
-#endif
-            i++
+        :: i < TOUCHERS -> run Toucher(); i++
         :: else -> break
         od;
         i = 0
     };
-    begin(0);
-#if N > 1
-    begin(1);
-#endif
+    open_lane(0);
+    if
+    :: has -> deliver_owed(0)
+    :: else
+    fi;
+    fin = NOTHING
 }
 
 #ifndef NO_MONITOR
@@ -176,12 +158,16 @@ end: timeout ->
     assert(n_done == TOUCHERS);
     assert(owners[0] <= 1);
     if
-    :: deaf[0] && has_left[0] ->                   /* the writer waits for a deaf peer */
-        assert(parked[0] == 0 && patient[0] && lw[0] != LANE_IDLE && lw[0] != LANE_LATE)
+    :: deaf[0] && has_left[0] ->                   /* what is left for a deaf peer is the finisher's */
+#ifdef FEW
+        assert(lw[0] == LANE_LATE && again[0])
+#else
+        assert(parked == 0 && patient[0] && lw[0] != LANE_IDLE && lw[0] != LANE_LATE)
+#endif
     :: else ->
         assert(lock[0] == 0);
         assert(lw[0] == LANE_IDLE);
-        assert(parked[0] == 1);
+        assert(parked == 1);
         assert(drained[0] == put[0]);
         assert(word[0] != OWED);
         assert(!has_left[0]);

@@ -1,15 +1,14 @@
-/* One slot that GENS connections have one after another: the control thread opens and starts each (Control::admit, accepting.rt;
- * start, connection.rt), the slot's reader and writer are made with the first and stay (ServerState::run_reader and read, state.rt;
- * Lane::write, lane.rt), and TOUCHERS threads of other connections touch the slot TOUCHES times each, whichever connection has
- * it then. Threads that can't be made, writes that fail, peers that never read or read slowly, slots that are shut by a fault come
- * at any point, within bounds. At the end the threads are dismissed.
- * Ends: each process ends, and the slot can be used again; no deadlock; what was queued when its reader ended a connection its peer
+/* One slot that GENS connections have one after another: the control thread opens and begins each (Control::open and begin, accepting.rt;
+ * prepare, crews.rt), the slot's reader and finisher are made with the first and stay, and TOUCHERS threads of other connections touch
+ * the slot TOUCHES times each, whichever connection has it then. With FEW one I/O thread reads and finishes.
+ * Threads that can't be made, sockets that can't be registered, writes that fail, peers that never read or read slowly, peers that never
+ * close and have their session end by a fault or without memory come at any point, within bounds. At the end the threads are
+ * dismissed.
+ * Ends: each process ends, and the slot can be used again; no deadlock; what was queued when its session was over its peer
  * receives, if it reads. A peer that is late has its connection hung up only once its end was asked for.
- * Order: bytes go to their own connection, in order, once. Stale tokens, flags, words and touches do no harm: a writer ends for its
- * own connection's end only. Only the writer waits.
- * ENDLESS: the threads queue for ever while the slot is open, and each connection ends nevertheless.
- * POLLED: a reading thread has the slot (ServerState::take_reading, read_on and end_reading, reading.rt), and its writer is made where
- * it is needed (make_writers, connection.rt). */
+ * Order: bytes go to their own connection, in order, once. Stale tokens, stages, words and touches do no harm: a connection is let go of
+ * only once nothing is read from it any more, and each slot is closed once.
+ * ENDLESS: the threads queue for ever while the slot is open, and each connection ends nevertheless. */
 #ifndef GENS
 #define GENS 2
 #endif
@@ -31,17 +30,17 @@
 #ifndef FAILS
 #define FAILS 0
 #endif
+#ifndef STAYS
+#define STAYS 0          /* 1: peers may never close */
+#endif
 #ifndef PEERS
 #define PEERS 0          /* 0: all read; 1: all are deaf; 2: all are slow; 3: they read or are deaf; 4: any of these */
 #endif
+#define WANTS 0
 #ifdef ENDLESS
-#define ON_RELEASE(s) skip
+#define ON_RELEASE(s) assert(may_end[s])
 #else
-#define ON_RELEASE(s) assert(faulted[s] || received[s] >= at_end[s])
-#endif
-#define ON_LAST(s) assert(!is_last || !stream[s] || may_end)    /* the flag is this connection's */
-#ifdef POLLED
-#define ON_GONE(s) wr = false; finish_slot(); wr = true
+#define ON_RELEASE(s) assert(may_end[s]); assert(faulted[s] || received[s] >= at_end[s])
 #endif
 #define CHOOSE_PEER(s) \
     if \
@@ -49,139 +48,43 @@
     :: PEERS == 1 || PEERS >= 3 -> deaf[s] = true \
     :: PEERS == 1 || PEERS >= 3 -> deaf[s] = true; room[s] = 1 \
     :: PEERS == 2 || PEERS == 4 -> slow[s] = true \
+    fi; \
+    if \
+    :: STAYS -> stays[s] = true \
+    :: stays[s] = false \
     fi
-byte at_end[1];
-bool may_end = false;    /* this connection's reader is at its end */
+#define MAY_FAIL(s) (STAYS || units[s] > 0)
+/* A packet, or PRE_SLEEP, for which no slot is touched */
+#define ANY_UNIT(s) \
+    if \
+    :: QUEUE(s); todo = 1 << s \
+    :: core_phase[s] == AWAKE -> core_phase[s] = ASLEEP; seat_phase[s] = ASLEEP; word[s] = ASLEEP \
+    fi
 #include "lane.h"
-#ifdef ENDLESS
-#define QUEUE put[0] = 1
-#else
-#define QUEUE put[0]++
-#endif
+#include "serving.h"
 
-bit  desk = 0;
-byte connections = 0;
-byte fails = FAILS;      /* how many threads can't be made */
+byte fails = FAILS;
 bool is_done = false;
 bool ended = false;
-byte touchers = 0;
 
-/* ServerState::touch (state.rt): a thread that isn't the slot's writer looks itself, or leaves it to the writer, as its round
- * is over. */
-inline tell(s) {
-    if
-    :: true -> touch(s)
-    :: true -> touch_for_writer(s)
-    fi;
-    met_late = false
+proctype Reader(byte me) {
+    SERVES;
+    run_reader(me)
 }
 
-/* OwnDesk::apply (own_desk.rt), Event::Close, in one critical section: a NOOP that is owed is withdrawn, what waits goes with the
- * connection */
-inline book_close() {
-    atomic { (book == 0) ->
-        assert(is_open[0]);
-        is_open[0] = false; shut[0] = false; put[0] = 0; drained[0] = 0;
-        core_phase[0] = AWAKE; seat_phase[0] = AWAKE; word[0] = AWAKE }
+proctype Finisher(byte me) {
+    SERVES;
+    run_finisher(me)
 }
 
-/* ServerState::finish_slot (state.rt) */
-inline finish_slot() {
-    LOCK(desk);
-    book_close(); tell(0);
-    UNLOCK(desk);
-    connections--
+proctype Thread(byte me) {
+    SERVES; bool is_turn = false; bool is_called = false;
+    run_few()
 }
 
-/* Lane::write (lane.rt): in a last look the flag is this connection's. */
-proctype Writer() {
-    LOCALS(true);
-    run_writer(0)
-}
-
-#ifdef POLLED
-#define TURN_BEGINS LOCK(desk)
-#define TURN_ENDS   UNLOCK(desk)
-#else
-#define TURN_BEGINS skip
-#define TURN_ENDS   skip
-#endif
-
-/* ServerState::run_reader and read (state.rt), with the session of a peer that sends UNITS units at most */
-proctype Reader() {
-    LOCALS(false);
-    byte n = 0;
-    do
-#ifdef POLLED
-    :: is_done -> break
-    :: atomic { crew_stream[0] -> crew_stream[0] = false };    /* Lane::take_stream, where its peer sends or goes */
-#else
-    :: true ->
-        next_stream(0);
-        if
-        :: !has -> break
-        :: else -> has = false
-        fi;
-        LOCK(desk);
-#endif
-        begin(0);
-        n = 0;
-        do
-        :: n < UNITS && !down[0] ->
-            n++;
-            TURN_BEGINS;
-            if
-            :: atomic { (book == 0) ->
-                    assert(is_open[0] && gen[0] == stream_gen[0]);
-                    QUEUE };
-                tell(0)
-            :: atomic { (book == 0) ->                 /* PRE_SLEEP: no slot is touched */
-                    if
-                    :: core_phase[0] == AWAKE -> core_phase[0] = ASLEEP; seat_phase[0] = ASLEEP; word[0] = ASLEEP
-                    :: else
-                    fi }
-            :: atomic { (book == 0) ->                 /* a fault: its text, and the slot is shut */
-                    QUEUE; shut[0] = true; at_end[0] = put[0] };
-                tell(0)
-            fi;
-            TURN_ENDS;
-            if
-            :: shut[0] -> break
-            :: else
-            fi
-        :: true ->                                     /* the peer is gone, or the socket was shut down */
-            if
-            :: !shut[0] -> at_end[0] = put[0]
-            :: else
-            fi;
-            break
-        od;
-        n = 0;
-        may_end = true;
-#ifdef POLLED
-        end_at_once(0);
-        if
-        :: gone -> finish_slot()
-        :: else
-        fi;
-        gone = false
-#else
-#ifdef M_CLOSE_FIRST
-        book_close(); tell(0);
-        end_lane(0);
-#else
-        end_lane(0);
-        book_close(); tell(0);
-#endif
-        UNLOCK(desk);
-        connections--
-#endif
-    od
-}
-
-/* A reader of another connection, which completes jobs of this slot's client, or submits some for this slot's worker */
+/* A thread that serves another connection, which completes jobs of this slot's client, or submits some for this slot's worker */
 proctype Toucher() {
-    LOCALS(false);
+    LOCALS;
     byte n = 0; bool told = false;
     do
 #ifdef ENDLESS
@@ -192,106 +95,103 @@ proctype Toucher() {
 #endif
         atomic { (book == 0) ->
             if
-            :: is_open[0] -> QUEUE; told = true
+            :: is_open[0] -> QUEUE(0); told = true
             :: is_open[0] && core_phase[0] == ASLEEP -> core_phase[0] = OWED; seat_phase[0] = OWED; word[0] = OWED; told = true
             :: !is_open[0] -> told = false
             fi };
         if
-        :: told -> tell(0)
+        :: told -> touch_word(0)
+        :: told -> touch_for_finisher(0)           /* the round is over */
         :: else
         fi;
-        told = false
+        if
+        :: has -> deliver_owed(0)
+        :: else
+        fi;
+        atomic { told = false; fin = NOTHING }
 #ifdef ENDLESS
     :: is_done -> break
 #else
     :: true -> break
 #endif
-    od;
-    touchers--
+    od
 }
 
-/* Control::admit (accepting.rt), start (connection.rt), ServerState::close_slot (state.rt) */
+/* Control::open and begin (accepting.rt), prepare and dismiss (crews.rt) */
 active proctype Control() {
-    LOCALS(false);
-    byte g = 0; bool has_reader = false; bool has_writer = false; bool is_made = false;
+    byte me = 0;
+    SERVES;
+    byte g = 0; byte at = 0; byte made = 0;
     faults = FAULTS;
     atomic {
         do
-        :: g < TOUCHERS -> run Toucher(); touchers++; g++
+        :: g < TOUCHERS -> run Toucher(); g++
         :: else -> break
         od };
     g = 0;
-#ifdef POLLED
-    run Reader();
+#ifdef FEW
+    run Thread(0);
+#endif
     do
-    :: atomic { (g < GENS && book == 0 && !is_open[0]) ->
-            g++; is_open[0] = true; gen[0] = g };
-        tell(0);
-        may_end = false; at_end[0] = 0;
-        connections++;                             /* ServerState::give_to_reading_thread (reading.rt) */
-        arrive(0)
-    :: demand[0] == NEEDED ->                      /* make_writers (connection.rt) */
+    :: true ->
         if
-        :: run Writer() -> demand[0] = MADE
-        :: atomic { fails > 0 -> fails-- };
-            cut(0);                                /* ServerState::cut (reading.rt) */
+        :: at == 0 && g == GENS -> break
+        :: at == 0 && g < GENS ->
+            atomic { (book == 0 && !is_open[0]) -> /* Event::Open; while no slot is free, connections are refused */
+                g++; is_open[0] = true; gen[0] = g; may_end[0] = false; at_end[0] = 0; units[0] = UNITS;
+                todo = 1; at = 1 }
+        :: at == 1 ->
+            connections++;
+#ifndef FEW
             if
-            :: gone -> finish_slot()
+            :: made == 0 ->
+                if
+                :: run Finisher(0) -> made = 1
+                :: fails > 0 -> at = 3
+                fi
             :: else
             fi;
-            gone = false
-        fi
-    :: g == GENS && connections == 0 -> break
-    od;
-#else
-    do
-    :: g < GENS ->
-        g++;
-        atomic { (book == 0 && !is_open[0]) ->     /* Event::Open; while no slot is free, connections are refused */
-            is_open[0] = true; gen[0] = g };
-        tell(0);
-        may_end = false; at_end[0] = 0;
-        /* connection.rt: start */
-        is_made = true;
-        if
-        :: has_writer
-        :: !has_writer ->
             if
-            :: run Writer() -> has_writer = true
-            :: atomic { fails > 0 -> fails--; is_made = false }
-            fi
-        fi;
-        if
-        :: !is_made || has_reader
-        :: is_made && !has_reader ->
+            :: at == 1 && made == 1 ->
+                if
+                :: run Reader(0) -> made = 2
+                :: fails > 0 -> at = 3
+                fi
+            :: else
+            fi;
+#endif
             if
-            :: run Reader() -> has_reader = true
-            :: atomic { fails > 0 -> fails--; is_made = false }
+            :: at == 3 -> fails--; LOCK(talk[0]); holds = true; fin = GONE; cur = 0   /* closed without a connection */
+            :: else -> open_lane(0); at = 2
             fi
+        :: at == 2 ->
+            LOCK(talk[0]);
+            talking[0] = READING;                  /* Talk::begin */
+            if                                     /* Crews::begin */
+#ifdef FEW
+            :: fails > 0 -> atomic { fails--; talking[0] = TALK_ENDED; may_end[0] = true; to = ENDED; holds = true; at = 3 }
+#endif
+            :: true ->
+#ifndef M_NO_NOTIFY_OF_ARRIVAL
+                waiting[0] = false;
+#endif
+                UNLOCK(talk[0]); at = 0
+            fi
+        :: at == 3 -> UNLOCK(talk[0]); holds = false; at = 0
         fi;
-        if
-        :: is_made ->
-            connections++;
-            arrive(0)
-        :: else ->
-            LOCK(desk);                            /* close_slot */
-            book_close(); tell(0);
-            UNLOCK(desk)
-        fi
-    :: else -> break
+        at_lane()
     od;
     (connections == 0);
-#endif
     is_done = true;
-    dismiss(0);
+    dismiss();
 #ifdef ENDLESS
     (_nr_pr == 2);                                 /* spin's process of the formula */
 #else
     (_nr_pr == 1);                                 /* the scope, and the touchers */
 #endif
     ended = true;
-    assert(!is_open[0] && !stream[0] && !crew_stream[0]);
-    assert(book == 0 && lock[0] == 0 && desk == 0 && parker[0] == 0);
+    assert(!is_open[0] && line[0] == NO_LINE && talking[0] == NO_TALK);
+    assert(book == 0 && lock[0] == 0 && talk[0] == 0);
     assert(owners[0] == 0 && (lw[0] == LANE_LATE || lw[0] == LANE_IDLE));
     assert(word[0] == AWAKE)
 }

@@ -1,9 +1,10 @@
 /* A worker (slot 0) that sleeps between jobs, and a client (slot 1) that submits JOBS foreground jobs; each with its reader
- * and its writer (Applier::unload and take_piece, session.rt; Booked::hold, resolve_noop and follow, book.rt; sync_word, words.rt;
- * ServerState::deliver, state.rt; lane.rt). A reader tells after a unit of its choice (a millisecond, a line) and after the piece.
+ * and its finisher, or with FEW with one I/O thread (Applier::step, take_turn and unload, applier.rt; Booked::hold, resolve_noop and
+ * follow, book.rt; sync_word, words.rt; ServerState::deliver, state.rt; lane.rt). A turn ends after a unit of its choice, or with the last
+ * one. Then others are notified.
  * The worker's peer is that of libgearman: GRAB_JOB until NO_JOB, then PRE_SLEEP, then nothing until a NOOP; IMPATIENT times
  * it may also ask by itself, and DROWSY times it answers a NOOP by another PRE_SLEEP. It goes by the order of its stream; a NOOP that
- * comes while it is awake is passed over. With SECONDS the clock goes on so often, the control thread and the worker's reader tell
+ * comes while it is awake is passed over. With SECONDS the clock goes on so often, the control thread and the worker's reader hand in
  * the time (ServerState::update_time and tick, state.rt), and a tick may end a running job.
  * NOOPs: in every quiescent state each job was done and its end sent, the worker sleeps, and nothing waits or is left; each NOOP owed
  * is sent once or withdrawn once. No deadlock, with batch_lock and long_piece_lock, the control desk and the book. Order.
@@ -25,9 +26,7 @@
 #ifndef LATES1
 #define LATES1 0         /*   and to the client */
 #endif
-#define PARKED(s)   parked++
-#define UNPARKED(s) parked--
-byte parked = 0;
+byte parked = 0;         /* finishers that wait to be woken */
 
 #define NOTE_NOOP(s) if :: s == 0 -> noop_at[noops[0]] = received[0] :: else fi
 #include "lane.h"
@@ -35,12 +34,6 @@ byte parked = 0;
 #ifndef SECONDS
 #define SECONDS 0
 #endif
-#ifdef ROUNDS
-#define MAY_LEAVE_TO_WRITER(mask, own) (mask & (1 << own))
-#else
-#define MAY_LEAVE_TO_WRITER(mask, own) (false)
-#endif
-
 #define GRAB      1
 #define PRE_SLEEP 2
 #define COMPLETE  3
@@ -106,7 +99,7 @@ inline resolve_noop(s, takes_back) {
 inline core_apply(s, unit) {
         if
         :: unit == GRAB ->
-            assert(book_second >= read_second);    /* ticks: told before the grab */
+            assert(book_second >= read_second);    /* ticks: handed in before the grab */
             message[put[0]] = (waiting > 0 -> JOB_ASSIGN : NO_JOB);
             if
             :: waiting > 0 -> waiting--; running++
@@ -169,7 +162,7 @@ inline hold(s, unit) {
     found = 0
 }
 
-/* Applier::apply_unit and apply (session.rt): one critical section, and Effects::add (effects.rt) of what it touched. A look that may
+/* Applier::apply_unit and apply (applier.rt): one critical section, and Effects::add (effects.rt) of what it touched. A look that may
  * be followed by a withdrawal is a transition of its own. No pen can tell the other steps at words apart: AWAKE and ASLEEP are the
  * same to it. */
 inline apply(s, unit) {
@@ -180,35 +173,50 @@ inline apply(s, unit) {
     fi
 }
 
-/* ServerState::deliver and touch (state.rt): one's own slot first. A slot may be left to its writer for the time from the second
- * on. */
-inline deliver_to(mask, own) {
+/* What is to be done at lanes: the slots of `todo` are touched (ServerState::deliver and touch, state.rt), one's own first. The
+ * others may be left to their finishers for the time, from the second on (Round::is_over, state.rt). */
+inline at_lane() {
+    do
+    :: has -> deliver_owed(cur)
+    :: !has && todo != 0 ->
+        atomic { cur = (todo & (1 << own) -> own : (todo & 1 -> 0 : 1)); todo = todo & ~(1 << cur); touch_word(cur); is_later = true }
+#ifdef ROUNDS
+    :: !has && todo != 0 && is_later ->
+        atomic { cur = (todo & 1 -> 0 : 1); todo = 0 };
+        touch_for_finisher(cur)
+#endif
+    :: else -> break
+    od;
+    is_later = false
+}
+
+/* Batch::admit (batch.rt): each unit after the free ones waits for batch_lock, in a long turn behind long_piece_lock. */
+inline admit() {
+#ifdef LONG
     if
-    :: mask & (1 << own) -> touch(own)
-    :: else
-    fi;
-    if
-    :: mask & (1 << (1 - own)) -> touch(1 - own)
-    :: (mask & (1 << (1 - own))) && MAY_LEAVE_TO_WRITER(mask, own) -> touch_for_writer(1 - own)
-    :: else
-    fi;
-    mask = 0; met_late = false
+    :: alone
+    :: !alone
+    :: !alone -> LOCK(batch_lock); alone = true
+    :: !alone -> LOCK(long_piece_lock); queued = true; LOCK(batch_lock); alone = true
+    fi
+#else
+    skip
+#endif
 }
 
 /* ServerState::update_time and tick (state.rt). A tick may end a job that runs: its client is sent WORK_FAIL. */
 inline update_time() {
-#if SECONDS > 0
     read_second = clock;
+#if SECONDS > 0
+#ifndef M_TIME_AFTER_THE_GRAB
     if
     :: second < read_second ->
         LOCK(control);
         if
-#ifndef M_SECOND_NOT_READ_AGAIN
-        :: read_second <= second
-#endif
 #ifdef M_SECOND_NOT_READ_AGAIN
         :: true ->
 #else
+        :: read_second <= second
         :: else ->
 #endif
 #ifdef M_SECOND_BEFORE_THE_TICK
@@ -218,144 +226,152 @@ inline update_time() {
                 assert(read_second > book_second);     /* ticks: each second once, in order */
                 book_second = read_second;
                 if
-                :: running > 0 -> running--; given_up++; put[1]++; tick_told = 2
+                :: running > 0 -> running--; given_up++; put[1]++; todo = 2
                 :: true
                 fi };
 #ifndef M_SECOND_BEFORE_THE_TICK
             second = read_second
 #endif
         fi;
-        UNLOCK(control);
-#ifdef M_TICK_TELLS_NOBODY
-        tick_told = 0;
-#endif
-        deliver_to(tick_told, 0)
+        UNLOCK(control)
     :: else
     fi
-#else
-    skip
+#endif
 #endif
 }
 
-/* Batch::admit (session.rt): each unit after the free ones waits for batch_lock, in a long piece behind long_piece_lock. */
-inline admit() {
-#ifdef LONG
-    if
-    :: alone
-    :: !alone
-    :: !alone -> LOCK(batch_lock); alone = true
-    :: !alone -> LOCK(long_piece_lock); turn = true; LOCK(batch_lock); alone = true
-    fi
-#else
-    skip
-#endif
-}
-
-/* Applier::unload (session.rt), as a batch is over: its locks are released, and what came of it is told. */
-inline turn_ends(own) {
+/* Applier::take_turn (applier.rt), as a turn ends: the locks are released, and others notified. */
+inline end_turn() {
     if
     :: alone -> UNLOCK(batch_lock); alone = false
     :: else
     fi;
     if
-    :: turn -> UNLOCK(long_piece_lock); turn = false
+    :: queued -> UNLOCK(long_piece_lock); queued = false
     :: else
     fi;
-    deliver_to(told, own)
+    todo = told; told = 0
 }
 
 /* The next item of the worker's stream is a NOOP, or a message. */
 #define NOOP_NEXT    (noops_read < noops[0] && noop_at[noops_read] <= read)
 #define MESSAGE_NEXT (!NOOP_NEXT && read < received[0])
 
-#ifdef M_TIME_AFTER_THE_GRAB
-#define UPDATE_TIME read_second = clock
+/* What a reader does next: it waits for what its peer sends, lets a unit in, or hands it in. */
+#define NEXT  0
+#define ADMIT 1
+#define APPLY 2
+
+#define READS(slot) \
+    LOCALS; byte own = slot; byte cur = 0; byte todo = 0; byte told = 0; byte unit = 0; byte read_second = 0; byte step = 0; \
+    bool alone = false; bool queued = false; bool is_later = false
+
+/* With FEW a slot's thread is its finisher too, between its turns. */
+#ifdef FEW
+#define FINISHES(s) \
+        :: atomic { step == NEXT && IS_CALLED(s) -> token[s] = false; again[s] = false }; \
+            cur = s; deliver_as(s, HURRIES)
 #else
-#define UPDATE_TIME update_time()
+#define FINISHES(s)
 #endif
 
-/* Applier::run and step (session.rt) of the worker, with its peer */
+/* Applier::step (applier.rt) of the worker, with its peer */
 proctype WorkerReader() {
-    LOCALS(false);
-    byte told = 0; bool alone = false; bool turn = false; byte tick_told = 0; byte read_second = 0;
-    byte read = 0; byte noops_read = 0; byte tries = 0; byte dozes = 0;
-    byte job = 0; bool again = false;
-ask:
-    admit(); UPDATE_TIME; apply(0, GRAB); turn_ends(0);
-await:
+    READS(0);
+    byte read = 0; byte noops_read = 0; byte tries = 0; byte dozes = 0; byte job = 0;
+    unit = GRAB; step = ADMIT;
     do
-    :: NOOP_NEXT -> noops_read++
-    :: atomic { MESSAGE_NEXT -> job = message[read]; read++; break }
-    od;
-    if
-    :: job == JOB_ASSIGN ->
-        admit();
-        apply(0, COMPLETE);
-        if
-        :: true                                   /* WORK_COMPLETE and GRAB_JOB in one turn, or in two */
-        :: turn_ends(0)
+    :: true ->
+end_next: if
+        FINISHES(0)
+        :: step == ADMIT ->
+            admit(); step = APPLY;
+            if
+            :: unit == GRAB -> update_time()
+            :: else
+            fi
+        :: step == APPLY ->
+            apply(0, unit);
+            if
+            :: unit == COMPLETE -> unit = GRAB; step = ADMIT   /* in this turn, or the next */
+            :: unit == COMPLETE -> unit = GRAB; step = ADMIT; end_turn()
+            :: else -> step = NEXT; end_turn()
+            fi
+        :: atomic { step == NEXT && unit == GRAB && NOOP_NEXT -> noops_read++ }
+        :: atomic { step == NEXT && unit == GRAB && MESSAGE_NEXT ->
+                job = message[read]; read++;
+                if
+                :: job == JOB_ASSIGN -> unit = COMPLETE; step = ADMIT
+                :: job == ERROR                    /* its job was given up by then */
+                :: job == NO_JOB -> unit = PRE_SLEEP; step = ADMIT
+                fi }
+        :: atomic { step == NEXT && unit == PRE_SLEEP && NOOP_NEXT -> noops_read++; step = ADMIT;
+                if
+                :: unit = GRAB
+                :: dozes < DROWSY -> dozes++
+                fi }
+        :: atomic { step == NEXT && unit == PRE_SLEEP && tries < IMPATIENT -> tries++; unit = GRAB; step = ADMIT }
         fi;
-        admit();
-        UPDATE_TIME;
-        apply(0, GRAB);
-        turn_ends(0);
-        goto await
-    :: job == ERROR -> goto await                 /* its job was given up by then */
-    :: job == NO_JOB
-    fi;
-doze:
-    admit(); apply(0, PRE_SLEEP); turn_ends(0);
-    asleep_peer = true;
-end_worker:
-    atomic {
-        if
-        :: NOOP_NEXT -> noops_read++
-        :: NOOP_NEXT && dozes < DROWSY -> noops_read++; dozes++; again = true
-        :: tries < IMPATIENT -> tries++
-        fi;
-        asleep_peer = false
-    }
-    if
-    :: again -> again = false; goto doze
-    :: else -> goto ask
-    fi
+        asleep_peer = (step == NEXT && unit == PRE_SLEEP);
+        at_lane();
+        atomic { come_again(0); fin = NOTHING }
+    od
 }
 
-/* Applier::run and step (session.rt) of the client */
+/* Applier::step (applier.rt) of the client */
 proctype ClientReader() {
-    LOCALS(false);
-    byte told = 0; bool alone = false; bool turn = false; byte read_second = 0;
+    READS(1);
     byte n = 0;
+    unit = SUBMIT;
     do
-    :: n < JOBS ->
-        admit();
-        apply(1, SUBMIT); n++;
-        if
-        :: n < JOBS -> admit(); apply(1, SUBMIT); n++
-        :: true
+    :: true ->
+end_next: if
+        FINISHES(1)
+        :: step == NEXT && n < JOBS -> n++; step = ADMIT
+        :: step == ADMIT -> admit(); step = APPLY
+        :: step == APPLY ->
+            apply(1, SUBMIT); step = NEXT;
+            if
+            :: n < JOBS -> n++; step = ADMIT
+            :: end_turn()
+            fi
         fi;
-        turn_ends(1)
-    :: else -> break
+        at_lane();
+        atomic { come_again(1); fin = NOTHING }
     od
 }
 
 #if SECONDS > 0
-/* Control::take_all (accepting.rt): it tells the time. The clock goes on. */
+/* Control::take_all (accepting.rt): it hands in the time. The clock goes on. */
 proctype Control() {
-    LOCALS(false);
-    byte tick_told = 0; byte read_second = 0;
+    READS(0);
 end_control:
     do
-    :: clock < SECONDS -> clock++
-    :: second < clock -> update_time()
+    :: true ->
+        if
+        :: clock < SECONDS -> clock++
+        :: second < clock -> update_time()
+        fi;
+        at_lane();
+        fin = NOTHING
     od
 }
 #endif
 
-/* Lane::write (lane.rt) */
-proctype Writer(byte me) {
-    LOCALS(true);
-    run_writer(me)
+/* run_finisher (crews.rt) */
+proctype Finisher(byte me) {
+    LOCALS;
+    do
+    :: true ->
+        parked++;
+end_finisher: atomic { IS_CALLED(me) -> token[me] = false; again[me] = false; parked-- };
+        deliver_as(me, WAITS);
+        if
+        :: has -> deliver_owed(me)
+        :: else
+        fi;
+        atomic { come_again(me); fin = NOTHING }
+    od
 }
 
 init {
@@ -363,12 +379,15 @@ init {
         byte i = 0;
         do
         :: i < N ->
-            is_open[i] = true; gen[i] = 1; stream[i] = true; stream_gen[i] = 1;
+            is_open[i] = true; gen[i] = 1; line[i] = OPEN; line_gen[i] = 1;
             lates[i] = (i == 0 -> LATES0 : LATES1);
             i++
         :: else -> break
         od;
-        run WorkerReader(); run ClientReader(); run Writer(0); run Writer(1);
+        run WorkerReader(); run ClientReader();
+#ifndef FEW
+        run Finisher(0); run Finisher(1);
+#endif
 #if SECONDS > 0
         run Control()
 #endif
@@ -381,7 +400,9 @@ end: timeout ->
     assert(book == 0 && batch_lock == 0 && long_piece_lock == 0 && control == 0);
     assert(book_second == SECONDS);
     assert(lock[0] == 0 && lock[1] == 0 && lw[0] == LANE_IDLE && lw[1] == LANE_IDLE);
+#ifndef FEW
     assert(parked == 2);
+#endif
     assert(submitted == JOBS);
     assert(drained[0] == put[0] && drained[1] == put[1]);
     assert(!has_left[0] && !has_left[1]);

@@ -1,14 +1,17 @@
-/* What the models share: a slot's lane (lane.rt) over its word (gm_lane_word), its outbox (outbox.rt, message.rt), its pen
- * (gm_shared, gm_word) and the book. A comment before each inline names the function that it mirrors, and the file where that is.
+/* What the models share: a slot's lane (lane.rt, sender.rt, socket.rt, ending.rt of gm_delivery) over its word (gm_lane_word), its outbox
+ * (gm_outbox), its pen (gm_shared, gm_word) and the book. A comment before each inline names the function that it mirrors, and its file.
+ *
+ * Modes. By default a slot's finisher waits in a write (Pairs of crews.rt). With -DFEW it is the I/O thread that also reads, and never
+ * waits for a peer (Few, --io-threads).
  *
  * Units. A message is some bytes: `put` counts those that were queued for a slot since it was opened, `drained` those
  * that a pen took out, `received` those that the socket took. What waits is the interval (drained, put], a message of the code the
  * interval (l_next, l_to] and then a NOOP if l_noop. So order, loss and doubling are one assertion at the socket.
  *
- * Grain. A transition is one step on what is shared without a lock (a lane's word, a sleep word, a token, a flag, one message
- * to the socket) or one critical section of the book, with what the process does under a lock that it has, and with the taking of a
+ * Grain. A transition is one step on what is shared without a lock (a lane's word, a sleep word, a token, a stage) or one critical
+ * section of the book, with what the process does under a lane's lock, writes included, and with the taking of a
  * lock before and its release after. What a lock guards the code reaches through the Mutex's guard only, so no other thread
- * sees it in between. A crew's lock is held for one short block each time: one transition.
+ * sees it in between.
  *
  * A mutant is one -DM_..: models/run says which line of the code it turns. */
 
@@ -29,24 +32,39 @@
 #ifndef ON_RELEASE
 #define ON_RELEASE(s) skip
 #endif
-#ifndef ON_LAST
-#define ON_LAST(s) skip
-#endif
-#ifndef ON_GONE
-#define ON_GONE(s) skip
-#endif
 #ifndef ON_SENT
 #define ON_SENT(s) skip
 #endif
 #ifndef CHOOSE_PEER
 #define CHOOSE_PEER(s) skip
 #endif
+#ifndef PARKED
+#define PARKED(s) skip
+#define UNPARKED(s) skip
+#endif
 
-/* Delivery (message.rt), and SEND: a message is left to write */
+/* Delivery (outbox.rt), and SEND: the outbox is still to drain */
 #define DONE 0
 #define LATE 1
 #define OVER 2
-#define SEND 3
+#define SHUT 3
+#define SEND 4
+
+/* Finish (lane.rt) */
+#define NOTHING 0        /* Finish::Idle */
+#define PENDING 1
+#define GONE    2
+
+/* Deliverer (lane.rt); the finisher waits, or not */
+#define OTHER   0
+#define READER  1
+#define HURRIES 2
+#define WAITS   3
+#ifdef FEW
+#define FINISHER HURRIES
+#else
+#define FINISHER WAITS
+#endif
 
 /* a lane's word (word.rt of gm_lane_word) */
 #define LANE_IDLE 0
@@ -54,24 +72,28 @@
 #define LANE_OWED 2
 #define LANE_LATE 3
 
-/* Demand (demand.rt): whether a slot has a writer. Without -DPOLLED each has one before its first connection comes. */
-#define NEEDED 1
-#define MADE   2
+/* sender.connection: none, or its LineState (sender.rt) */
+#define NO_LINE  0
+#define OPEN     1
+#define FINISHED 2
+#define CUT      3
 
-/* Stage (ending.rt) of a connection */
-#define SERVING  0
-#define ENDING   1
-#define STOPPING 2
+/* ReadStage (ending.rt) of a connection */
+#define SERVING 0
+#define ENDING  1
+#define ENDED   2
+
+/* ServerStage (stage.rt); the first three are those of Mode (gm_notes) too */
+#define RUNNING      0
+#define GRACEFUL     1
+#define STOPPED      2
+#define FAILED       3
+#define SERVER_ENDED 4
 
 /* a sleep word, and Phase (gm_word) */
 #define AWAKE  0
 #define ASLEEP 1
 #define OWED   2
-
-/* Mode (gm_notes) */
-#define RUNNING  0
-#define GRACEFUL 1
-#define STOPPED  2
 
 #define NONE 255
 
@@ -91,31 +113,27 @@ byte seat_phase[N];
 /* -- the words, which no lock guards */
 byte word[N];            /* sleep words */
 byte lw[N];              /* lane words */
+byte stage[N];
+byte server_stage = RUNNING;
 
 /* -- Lane. The Mutex<Sender>, and what it guards */
 bit  lock[N];
-bool stream[N];          /* sender.connection is Some, */
-byte stream_gen[N];      /*   of this connection */
+byte line[N];            /* sender.connection, */
+byte line_gen[N];        /*   of this opening */
+byte lingers[N];         /*   and how often `finished` was looked at */
 bool has_left[N];        /* sender.outbox.left is Some */
 byte l_gen[N];
 byte l_next[N];
 byte l_to[N];
 bool l_noop[N];
-bool patient[N];         /* the writer delivers, and waits for a slow peer */
-byte end_begun[N];       /* its end: for how many looks `begun` runs, */
+bool patient[N];         /* its finisher waits in a write */
+byte end_begun[N];       /* its End: for how many looks `begun` runs, */
 byte end_stalled[N];     /*   `stalled` runs, */
 bool end_over[N];        /*   and deadline_passed */
-/* the parker's lock and token, and the stage; no lock guards these */
-bit  parker[N];
+
+/* -- the finisher's parker, or its mark and waker: it was woken; and it comes again in a while */
 bool token[N];
-byte stage[N];
-byte demand[N];
-/* Mutex<Crew> */
-bool crew_stream[N];
-bool crew_over[N];
-/* Condvars `released` and `arrived`: counts of the notifications */
-byte released[N];
-byte arrived[N];
+bool again[N];
 
 /* -- sockets, by the slot whose lane has the connection */
 bool down[N];            /* shut down by hang_up: reads end, writes fail */
@@ -132,7 +150,7 @@ byte noops[N];           /* NOOPs that the socket took */
 byte takes[N];           /* NOOPs that the pen took */
 byte withdrawals[N];     /* that the book withdrew */
 byte wakes[N];           /* that were owed */
-bool faulted[N];         /* the connection was hung up for a fault, or because its peer had its time */
+bool faulted[N];         /* the connection was hung up for a fault, or because it had its time */
 byte owners[N];          /* how many have the lane */
 
 #ifdef UNBOUNDED
@@ -143,33 +161,49 @@ byte owners[N];          /* how many have the lane */
 #define COUNT_LATE(s)  lates[s]--
 #endif
 
-/* What the inlines work with, in each process that uses them; `wr`: it is a writer. */
-#define LOCALS(writer) \
-    bool wr = writer; byte res = 0; bool took = false; bool is_shut = false; bool e = false; \
-    bool is_last = false; bool gone = false; byte seen = 0; bool had_left = false; bool has = false; \
-    byte found = 0; byte looks = 0; bool met_late = false; bool has_taken = false
+/* is_ending (ending.rt) */
+#define IS_ENDING(s) (stage[s] != SERVING || server_stage >= STOPPED)
+#ifdef M_TIME_BEFORE_THE_END
+#define ENDS(s) true
+#else
+#define ENDS(s) IS_ENDING(s)
+#endif
+
+/* Where the peer takes no more and the connection isn't to end, a finisher's look changes nothing: it comes again once that changed. */
+#define MATTERS(s) (!(line[s] == OPEN && deaf[s] && room[s] == 0) || ENDS(s) || end_over[s])
+/* The finisher comes: it was woken; or to a connection that isn't done with, in a while, when no thread has the lane any more. */
+#define IS_CALLED(s) (token[s] || (again[s] && owners[s] == 0 && MATTERS(s)))
+
+/* What the inlines work with, in each process that uses them */
+#define LOCALS \
+    byte who = OTHER; byte res = 0; byte fin = 0; byte found = 0; byte looks = 0; \
+    bool had_left = false; bool is_shut = false; bool took = false; bool has_ended = false; bool is_ending = false; bool has = false; bool has_taken = false
 
 /* Outbox::forget (outbox.rt) */
 inline forget(s) {
     has_left[s] = false; l_gen[s] = 0; l_next[s] = 0; l_to[s] = 0; l_noop[s] = false
 }
 
-/* Sender::hang_up (lane.rt), under the lane's lock */
+/* Connection::go_on (sender.rt) to Cut, and hang_up (socket.rt), under the lane's lock */
+inline cut(s) {
+    line[s] = CUT; down[s] = true; faulted[s] = true
+}
+
+/* Sender::hang_up and Connection::hang_up (sender.rt), under the lane's lock */
 inline hang_up(s) {
-    if
-    :: stream[s] -> down[s] = true
-    :: else
-    fi;
-#ifdef M_KEEP_LEFT
-    skip
-#else
-    forget(s)
+#ifndef M_KEEP_LEFT
+    forget(s);
 #endif
+    if
+    :: line[s] == FINISHED -> down[s] = true
+    :: line[s] == OPEN || line[s] == CUT -> cut(s)
+    :: else
+    fi
 }
 
 /* End::look (ending.rt), under the lane's lock. For a peer that reads in time neither time runs out. Each look of
  * another peer's end takes one unit of the time. */
-inline look_at_end(s, has_taken) {
+inline look_at_end(s) {
     if
     :: deaf[s] || slow[s] ->
         if
@@ -180,7 +214,7 @@ inline look_at_end(s, has_taken) {
 #ifdef M_NO_MOST_TIME
         :: false
 #else
-        :: end_begun[s] >= (stage[s] == STOPPING -> ENDING_TIME : MOST_ENDING_TIME) -> end_over[s] = true
+        :: end_begun[s] >= (server_stage >= STOPPED -> ENDING_TIME : MOST_ENDING_TIME) -> end_over[s] = true
 #endif
         :: else ->
 #ifndef M_NO_MOST_TIME
@@ -195,42 +229,16 @@ inline look_at_end(s, has_taken) {
     fi
 }
 
-/* Sender::let_go (lane.rt), under the lane's lock: gone if there was a connection */
-inline let_go(s) {
-    gone = stream[s];
-    if
-    :: gone ->
-        ON_RELEASE(s);
-#ifdef M_RELEASE_WITHOUT_HANG_UP
-        forget(s);
-#else
-        hang_up(s);
-#endif
-        stream[s] = false;
-        /* ghosts, which end with the connection */
-        received[s] = 0; noops[s] = 0; takes[s] = 0; faulted[s] = false;
-        deaf[s] = false; room[s] = 0; slow[s] = false; was_late[s] = false; lates[s] = 0
-    :: else
-    fi
-}
-
-#ifdef M_TIME_BEFORE_THE_END
-#define IS_ENDING(s) true
-#else
-#define IS_ENDING(s) (stage[s] != SERVING)
-#endif
-
-/* Message::send (outbox.rt) with write_once (message.rt), for one message of what is left, and Socket::write (lane.rt),
- * under the lane's lock. Afterwards res is SEND if more is left to write, DONE, LATE or OVER. */
+/* One write of Message::send (outbox.rt), with write_once (message.rt) and WriteHalf::write_by (socket.rt), under the lane's lock.
+ * Afterwards res is SEND if more is left to write, DONE, LATE or OVER. */
 inline write_one(s) {
-    assert(stream[s]);
-    assert(l_gen[s] == stream_gen[s]);             /* order: bytes of a connection go to no other */
-    assert(patient[s] -> wr : true);               /* only the writer waits */
+    assert(line[s] == OPEN);
+    assert(l_gen[s] == line_gen[s]);               /* order: bytes of a connection go to no other */
     if
     :: end_over[s] -> res = LATE
     :: else ->
         if
-        :: down[s] -> faulted[s] = true; res = OVER
+        :: down[s] -> res = OVER
         :: !down[s] && (deaf[s] -> room[s] > 0 : (slow[s] -> was_late[s] : true)) ->
             if
             :: deaf[s] -> room[s]--
@@ -271,24 +279,14 @@ inline write_one(s) {
         :: !down[s] && deaf[s] && room[s] == 0 -> res = LATE
         :: !down[s] && slow[s] && !was_late[s] -> was_late[s] = true; res = LATE
         :: !down[s] && MAY_BE_LATE(s) -> COUNT_LATE(s); res = LATE
-        :: !down[s] && faults > 0 -> faults--; faulted[s] = true; res = OVER
+        :: !down[s] && faults > 0 -> faults--; res = OVER
         fi;
         if
-        :: IS_ENDING(s) -> look_at_end(s, has_taken)
+        :: ENDS(s) -> look_at_end(s)
         :: else
         fi;
         has_taken = false
-    fi;
-    if
-    :: res == OVER -> hang_up(s)
-    :: else
     fi
-#ifdef M_LEFT_IS_DROPPED
-    ; if
-    :: res == LATE -> forget(s)
-    :: else
-    fi
-#endif
 }
 
 /* Pen::take (shared.rt) and PenSeat::take (pen.rt of gm_word): one compare-exchange, and no lock */
@@ -304,16 +302,13 @@ inline take(s) {
     fi
 }
 
-/* Pen::drain (shared.rt), Booked::drain_into (book.rt), one critical section, and what Outbox::deliver makes of it: res is
- * SEND, DONE or OVER then. */
+/* Pen::drain (shared.rt) and Booked::drain_into (book.rt), one critical section: res is SEND where there is a message to send. */
 inline drain(s) {
     (book == 0);
     if
-    :: faults > 0 -> faults--; faulted[s] = true; hang_up(s); res = OVER   /* with a tape: out of memory for the entry */
-    :: !is_open[s] ->
-        assert(false);                             /* a lane that has a stream has an open slot */
-        hang_up(s); res = OVER
-    :: is_open[s] ->
+    :: faults > 0 -> faults--; cut(s); res = OVER   /* with a tape: out of memory for the entry */
+    :: true ->
+        assert(is_open[s] && gen[s] == line_gen[s]);   /* a lane that has a connection has an open slot */
         is_shut = shut[s];
         if
         :: took || drained[s] < put[s] ->
@@ -342,152 +337,189 @@ inline drain(s) {
     took = false
 }
 
-/* The end of Outbox::deliver and of Sender::deliver: a slot that is shut, of which all is sent. The lock is released,
- * unless the writer goes on. */
-inline end_delivery(s) {
+/* Sender::let_go (sender.rt) and let_go (lane.rt), under the lane's lock */
+inline let_go(s) {
     if
-    :: is_shut && res == DONE ->
-#ifdef M_SHUT_STAYS
-        skip
-#else
-        hang_up(s); res = OVER
+#ifndef M_OTHER_LETS_GO
+    :: who == OTHER -> fin = PENDING
 #endif
+    :: else ->
+#ifdef M_LETS_GO_OF_NONE
+        fin = GONE;
+#else
+        fin = (line[s] != NO_LINE -> GONE : NOTHING);
+#endif
+        if
+        :: line[s] != NO_LINE ->
+            ON_RELEASE(s);
+            line[s] = NO_LINE;
+#ifndef M_KEEP_LEFT
+            forget(s);
+#endif
+            /* ghosts, which end with the connection */
+            received[s] = 0; noops[s] = 0; takes[s] = 0; faulted[s] = false;
+            deaf[s] = false; room[s] = 0; slow[s] = false; was_late[s] = false; lates[s] = 0
+        :: else
+        fi
+    fi
+}
+
+/* linger (lane.rt), under the lane's lock. The time is over at the second look. */
+inline linger(s) {
+    fin = PENDING;
+#ifndef M_NO_FINISH
+    if
+    :: line[s] == OPEN && !has_left[s] -> line[s] = FINISHED
     :: else
     fi;
-    is_shut = false;
+#endif
     if
+    :: line[s] == FINISHED && lingers[s] > 0 ->
+#ifndef M_LINGERS_FOR_EVER
+        hang_up(s); fin = NOTHING
+#endif
+    :: line[s] == FINISHED && lingers[s] == 0 -> lingers[s] = 1
+    :: line[s] == CUT || line[s] == NO_LINE
+    :: line[s] == OPEN
+    fi
+}
+
 #ifdef M_LATE_IS_PATIENT
-    :: res == LATE -> patient[s] = true;
-        if
-        :: wr
-        :: else -> UNLOCK(lock[s])
-        fi
-    :: else ->
+#define IS_PATIENT true
 #else
-    :: wr && res == LATE -> patient[s] = true
-    :: else ->
+#define IS_PATIENT (who == WAITS)
 #endif
-        patient[s] = false;
-        /* the last look of Lane::deliver_patiently, or that of Lane::end_at_once */
-        if
-        :: is_last && (wr || res != LATE) -> let_go(s)
-        :: else
-        fi;
-        UNLOCK(lock[s])
-    fi
-}
 
-/* The first step of Sender::deliver (lane.rt), under the lane's lock, with the take if nothing was left */
-inline start_delivery(s) {
+/* The rest of Lane::send and Lane::look (lane.rt), once a delivery ended; under the lane's lock, which is released unless the finisher
+ * waits. */
+inline end_delivery(s) {
+#ifdef M_FLAG_AFTER_DELIVERY
+    has_ended = (stage[s] == ENDED); is_ending = IS_ENDING(s);
+#endif
     if
-    :: !stream[s] -> res = OVER; end_delivery(s)
-    :: stream[s] && has_left[s] -> res = SEND; had_left = true
-    :: else -> res = DONE; take(s)
-    fi
-}
-
-/* The rest of Sender::deliver, and Outbox::deliver (outbox.rt): send_left, take, drain, send_next */
-inline deliver(s) {
-    if
-    :: had_left ->
-        do
-        :: res == SEND ->
-            atomic { write_one(s);
-                if
-                :: res == SEND || res == DONE
-                :: else -> end_delivery(s)
-                fi }
-        :: else -> break
-        od;
-        had_left = false;
-#ifdef M_LEFT_ENDS_DELIVERY
-        if
-        :: res == DONE -> res = NONE; atomic { UNLOCK(lock[s]); patient[s] = false }
-        :: else
-        fi
+#ifndef M_NEVER_GIVE_UP
+    :: res == LATE && end_over[s] ->
+        assert(IS_ENDING(s));                      /* an end is asked for, */
+        assert(deaf[s] || slow[s]);                /*   and the peer had its time */
+#ifdef M_TIME_OVER_WITHOUT_HANG_UP
+        forget(s); faulted[s] = true; line[s] = CUT;
 #else
-        if
-        :: res == DONE -> atomic { take(s) }
-        :: else
-        fi
+        hang_up(s);
+#endif
+        res = OVER
 #endif
     :: else
     fi;
+    patient[s] = (res == LATE && IS_PATIENT);
+    assert(patient[s] -> who == WAITS : true);     /* only the finisher waits */
     if
-    :: res == DONE ->
-        atomic { drain(s);
-            if
-            :: res != SEND -> end_delivery(s)
-            :: else
-            fi };
-        do
-        :: res == SEND ->
-            atomic { write_one(s);
-                if
-                :: res != SEND -> end_delivery(s)
-                :: else
-                fi }
-        :: else -> break
-        od
-    :: else
-    fi
-}
-
-/* Lane::wake_writer (lane.rt) and Demand::need (demand.rt) */
-inline wake_writer(s) {
-#ifdef POLLED
-#ifndef M_NEEDS_NOTHING
-    demand[s] = (demand[s] > NEEDED -> demand[s] : NEEDED);
-#endif
-#endif
-    token[s] = true
-}
-
-/* Owed::hand_over (owed.rt) and Looking::hand_over (looking.rt), with a waking of the writer */
-inline hand_over(s) {
-    atomic {
-        assert(lw[s] == LANE_BUSY || lw[s] == LANE_OWED);
-        owners[s]--;
-        lw[s] = LANE_LATE };
-#ifndef M_NO_WAKE_AT_HAND_OVER
-    wake_writer(s)
-#endif
-}
-
-/* Lane::deliver_owed (lane.rt), by a thread that isn't the writer; met_late: it found the peer slow */
-inline deliver_owed(s) {
-    looks = 0; met_late = false;
-    do
-    :: true ->
-#ifdef M_FLAG_BEFORE_LOOK
-        e = (stage[s] != SERVING);
-#endif
-#ifndef M_LOOK_AFTER_DELIVERY
-        atomic { assert(lw[s] == LANE_OWED); lw[s] = LANE_BUSY };   /* Owed::look: swap */
-#endif
-#ifndef M_FLAG_BEFORE_LOOK
-        e = (stage[s] != SERVING);
-#endif
-        atomic { (lock[s] == 0) -> lock[s] = 1;
-            assert(!patient[s]);                   /* the writer lets go of the lane first */
-            start_delivery(s) };
-        deliver(s);
-#ifdef M_LOOK_AFTER_DELIVERY
-        lw[s] = LANE_BUSY;
-#endif
-#ifdef M_ENDING_IGNORED
-        e = false;
-#endif
-        met_late = (res == LATE);
+    :: patient[s]
+    :: !patient[s] ->
         if
 #ifdef M_NO_HAND_OVER_WHEN_LATE
-        :: e ->
+        :: res == LATE -> fin = NOTHING
 #else
-        :: e || met_late ->
+        :: res == LATE -> fin = PENDING
 #endif
-            hand_over(s); break
+        :: res != LATE && has_ended -> let_go(s)
+#ifdef M_ENDING_IGNORED
+        :: res == DONE && !has_ended -> fin = NOTHING
+#else
+        :: res == DONE && !has_ended && is_ending -> linger(s)
+        :: res == DONE && !has_ended && !is_ending -> fin = NOTHING
+#endif
+        :: res == SHUT && !has_ended -> linger(s)
+        :: res == OVER && !has_ended -> fin = NOTHING
+        fi;
+        has_ended = false; is_ending = false;
+        UNLOCK(lock[s])
+    fi;
+    res = 0; is_shut = false; had_left = false
+}
+
+/* Owed::look (owed.rt) and Lane::look (lane.rt), with Sender::deliver, deliver_on (sender.rt) and Outbox::deliver (outbox.rt): what was
+ * left, the take, the drain, and one write after another until all is sent, or one is late or fails. A jump from one atomic block
+ * into another goes on without a step of others. */
+inline look(s) {
+#ifndef M_LOOK_AFTER_DELIVERY
+    atomic { assert(lw[s] == LANE_OWED); lw[s] = LANE_BUSY };   /* swap */
+#endif
+#ifdef M_FLAG_BEFORE_LOCK
+    atomic { has_ended = (stage[s] == ENDED); is_ending = IS_ENDING(s) };
+#endif
+    atomic { (lock[s] == 0) -> lock[s] = 1;
+        assert(!patient[s]);                       /* a finisher that waits has the lane */
+#ifndef M_FLAG_BEFORE_LOCK
+        has_ended = (stage[s] == ENDED); is_ending = IS_ENDING(s);
+#endif
+starts: if
+        :: line[s] == NO_LINE || line[s] == CUT -> res = OVER; goto ends
+        :: line[s] == FINISHED -> res = SHUT; goto ends
+        :: line[s] == OPEN && has_left[s] -> had_left = true; goto sends
+        :: line[s] == OPEN && !has_left[s]
+        fi;
+take_noop: take(s) };
+    atomic { drain(s);
+        if
+        :: res == SEND
+        :: else -> goto sent
+        fi;
+sends:  res = SEND;
+        do
+        :: res == SEND -> write_one(s)
+        :: else -> break
+        od;
+        if
+        :: res == OVER -> forget(s); cut(s)
+#ifdef M_LEFT_IS_DROPPED
+        :: res == LATE && had_left -> forget(s)
+#endif
+        :: res == DONE && had_left ->
+            had_left = false;
+#ifndef M_LEFT_ENDS_DELIVERY
+            goto take_noop
+#endif
+        :: else
+        fi;
+sent:   if
+        :: res == DONE && is_shut -> line[s] = FINISHED; res = SHUT
+        :: else
+        fi;
+#ifdef M_FLAG_AFTER_DELIVERY
+        skip };
+    has_taken = false;                             /* others may come between */
+    atomic {
+#endif
+ends:   end_delivery(s) };
+    if
+    :: patient[s] ->
+end_waits: (MATTERS(s));
+        atomic { goto starts }
+    :: else
+    fi
+#ifdef M_LOOK_AFTER_DELIVERY
+    ; lw[s] = LANE_BUSY
+#endif
+}
+
+/* Lane::deliver_owed (lane.rt), with Owed::hand_over, Looking::hand_over and finish, and Lane::wake_for; fin says what came of it. */
+inline deliver_owed(s) {
+    looks = 0;
+    do
+    :: true ->
+        look(s);
+        if
+        :: fin != NOTHING ->
+            atomic { assert(lw[s] == LANE_BUSY || lw[s] == LANE_OWED); owners[s]--; lw[s] = LANE_LATE };
+#ifndef M_NO_WAKE_AT_HAND_OVER
+            if
+            :: fin == PENDING && who < HURRIES -> token[s] = true
+            :: else
+            fi;
+#endif
+            break
         :: else ->
-            /* Looking::finish: compare-exchange */
+            /* compare-exchange */
             atomic { found = lw[s];
                 if
 #ifdef M_FINISH_BLINDLY
@@ -506,21 +538,22 @@ inline deliver_owed(s) {
 #ifdef M_GIVES_UP
                 atomic { lw[s] = LANE_IDLE; owners[s]-- };
 #else
-                hand_over(s);
+                atomic { lw[s] = LANE_LATE; owners[s]-- };
+                token[s] = true;
 #endif
                 break
             :: else
             fi
         fi
     od;
-    res = 0; e = false; looks = 0; found = 0
+    looks = 0; found = 0; has = false
 }
 
-/* LaneWord::touch (word.rt): mine if the caller has the lane now. Its load, if it finds LANE_OWED or more, is as the fetch_max at
+/* LaneWord::touch (word.rt): `has` if the caller has the lane now. Its load, if it finds LANE_OWED or more, is as the fetch_max at
  * that moment would be; so there is one step. */
-inline touch_word(s, mine) {
+inline touch_word(s) {
     atomic {
-        mine = (lw[s] == LANE_IDLE);
+        has = (lw[s] == LANE_IDLE);
         if
 #ifdef M_BUSY_IS_ENOUGH
         :: lw[s] == LANE_IDLE -> lw[s] = LANE_OWED
@@ -530,297 +563,104 @@ inline touch_word(s, mine) {
         :: else
         fi;
         if
-        :: mine -> owners[s]++; assert(owners[s] == 1)
-        :: else
-        fi }
-}
-
-/* Lane::touch (lane.rt) */
-inline touch(s) {
-    touch_word(s, has);
-    met_late = false;
-    if
-    :: has -> deliver_owed(s)
-    :: else
-    fi;
-    has = false
-}
-
-/* Lane::touch_for_writer (lane.rt) */
-inline touch_for_writer(s) {
-    touch_word(s, has);
-    if
-    :: has -> hand_over(s)
-    :: else
-    fi;
-    has = false
-}
-
-/* LaneWord::take_over (word.rt): swap */
-inline take_over(s) {
-    atomic {
-        found = lw[s];
-        lw[s] = LANE_OWED;
-#ifdef M_LATE_NOT_TAKEN_OVER
-        has = (found == LANE_IDLE);
-#else
-        has = (found == LANE_IDLE || found == LANE_LATE);
-#endif
-        if
         :: has -> owners[s]++; assert(owners[s] == 1)
         :: else
         fi;
-        found = 0 }
+        who = OTHER; fin = NOTHING }
 }
 
-/* Lane::deliver_patiently (lane.rt): is_last if it let go of the connection. If the peer is deaf and the connection isn't to end, a round changes nothing: so the
- * writer waits for the stage in place of such rounds. */
-inline deliver_patiently(s) {
-    gone = false;
-    atomic { (lock[s] == 0) -> lock[s] = 1;
-        assert(!patient[s]);
-#ifndef M_FLAG_AFTER_DELIVERY
-        is_last = (stage[s] != SERVING);
-        ON_LAST(s);
-#endif
-        start_delivery(s) };
-    deliver(s);
-    do
-    :: res == LATE ->
-end_deaf:   atomic {
-            (!(deaf[s] && room[s] == 0) || IS_ENDING(s) || end_over[s]);
-            start_delivery(s) };
-        deliver(s);
-        if
-#ifndef M_NEVER_GIVE_UP
-        :: res == LATE && end_over[s] ->
-            atomic {
-                assert(stage[s] != SERVING);       /* an end is asked for, */
-                assert(deaf[s] || slow[s]);        /*   and the peer had its time */
-                faulted[s] = true; hang_up(s); res = OVER; end_delivery(s) }
-#endif
-        :: else
-        fi
-    :: else -> break
-    od;
-#ifndef M_LETS_GO_OF_NONE
-    is_last = gone;
-#endif
-    res = 0
-}
-
-/* Lane::write_owed (lane.rt): is_last if that was the connection's last look */
-inline write_owed(s) {
-    do
-    :: true ->
-        atomic { assert(lw[s] == LANE_OWED); lw[s] = LANE_BUSY };
-        deliver_patiently(s);
-#ifdef M_FLAG_AFTER_DELIVERY
-        atomic { (lock[s] == 0) ->
-            is_last = (stage[s] != SERVING);
-            if
-            :: is_last -> let_go(s); is_last = gone
-            :: else
-            fi };
-#endif
-        if
-        :: is_last ->
-            atomic { lw[s] = LANE_LATE; owners[s]-- };
-#ifndef M_NO_NOTIFY
-            released[s] = (released[s] + 1) % 4;
-#endif
-            break
-        :: else ->
-            atomic { found = lw[s];
-                if
-                :: found == LANE_BUSY -> lw[s] = LANE_IDLE; owners[s]--
-                :: else
-                fi };
-            if
-            :: found == LANE_BUSY -> break
-            :: else
-            fi
-        fi
-    od;
-    found = 0
-}
-
-/* Lane::request_close (lane.rt) and Stage::end (ending.rt) */
-inline request_close(s) {
-#ifdef M_WAKE_BEFORE_FLAG
-    token[s] = true;
-    stage[s] = (stage[s] > ENDING -> stage[s] : ENDING)
-#else
-    stage[s] = (stage[s] > ENDING -> stage[s] : ENDING);
-#ifdef M_REQUEST_WITHOUT_WAKE
-    skip
-#else
-    token[s] = true
-#endif
-#endif
-}
-
-/* Lane::end_at_once (lane.rt): gone if it let go of the connection */
-inline end_at_once(s) {
-    gone = false;
-    stage[s] = (stage[s] > ENDING -> stage[s] : ENDING);
-    take_over(s);
+/* Lane::touch_for_finisher (lane.rt) */
+inline touch_for_finisher(s) {
+    touch_word(s);
     if
     :: has ->
-        atomic { assert(lw[s] == LANE_OWED); lw[s] = LANE_BUSY };
-        atomic { (lock[s] == 0) -> lock[s] = 1;
-            assert(!patient[s]);
-            is_last = true;
-            start_delivery(s) };
-        deliver(s);
-        if
-        :: res == LATE -> hand_over(s)
-        :: else -> atomic { lw[s] = LANE_LATE; owners[s]-- }
-        fi;
-        is_last = false; res = 0
-    :: else
-    fi;
-    has = false
-}
-
-/* Lane::cut (lane.rt): gone if it let go of the connection */
-inline cut(s) {
-    gone = false;
-    atomic { (lock[s] == 0) -> faulted[s] = true; hang_up(s) };
-    if
-    :: stage[s] != SERVING -> end_at_once(s)
+        atomic { has = false; lw[s] = LANE_LATE; owners[s]-- };
+#ifndef M_LEFT_UNTOLD
+        token[s] = true
+#endif
     :: else
     fi
 }
 
-/* Lane::hasten (lane.rt) and Stage::hasten (ending.rt) */
-inline hasten(s) {
-    stage[s] = (stage[s] == ENDING -> STOPPING : stage[s]);
-    token[s] = true
-}
-
-/* Lane::stop (lane.rt) and Stage::stop (ending.rt) */
-inline stop_lane(s) {
-    stage[s] = STOPPING;
-    token[s] = true
-}
-
-/* Lane::end (lane.rt): Condvar::wait_while over Condvar::wait, which reads the count under the lock, and may end with no
- * notification */
-inline end_lane(s) {
-#ifndef M_END_WITHOUT_REQUEST
-    request_close(s);
-#endif
-    do
-    :: atomic { (lock[s] == 0 && !stream[s]) -> break }
-    :: atomic { (lock[s] == 0 && stream[s]) -> seen = released[s] };
-        if
-        :: released[s] != seen
-#ifdef M_WAIT_ONCE
-        :: true                                    /* with no notification */
-#endif
-        fi;
-#ifdef M_WAIT_ONCE
-        LOCK(lock[s]); UNLOCK(lock[s]); break
-#endif
-    od;
-    seen = 0
-}
-
-/* Lane::arrive (lane.rt) and Stage::serve (ending.rt) */
-inline arrive(s) {
-#ifndef M_KEEP_ENDING
-    stage[s] = SERVING;
-#endif
-    atomic { crew_stream[s] = true };
-#ifndef M_NO_NOTIFY_OF_ARRIVAL
-    arrived[s] = (arrived[s] + 1) % 4
-#endif
-}
-
-/* Lane::next_stream (lane.rt): has, or none comes any more. Lane::take_stream is one step of it. */
-inline next_stream(s) {
-    do
-    :: atomic { (crew_stream[s] || crew_over[s]) -> has = crew_stream[s]; crew_stream[s] = false; break }
-    :: atomic { (!crew_stream[s] && !crew_over[s]) -> seen = arrived[s] };
-        (arrived[s] != seen)
-    od;
-    seen = 0
-}
-
-/* Lane::dismiss (lane.rt) */
-inline dismiss(s) {
-#ifdef M_DISMISS_WAKES_FIRST
-    token[s] = true;
-    crew_over[s] = true;
-    arrived[s] = (arrived[s] + 1) % 4
+/* LaneWord::take_over (word.rt): swap; `has` if the caller has the lane now */
+inline take_over(s) {
+    found = lw[s];
+    lw[s] = LANE_OWED;
+#ifdef M_LATE_NOT_TAKEN_OVER
+    has = (found == LANE_IDLE);
 #else
-    crew_over[s] = true;
-    arrived[s] = (arrived[s] + 1) % 4;
-    token[s] = true
+    has = (found == LANE_IDLE || found == LANE_LATE);
+#endif
+    if
+    :: has -> owners[s]++; assert(owners[s] == 1)
+    :: else
+    fi;
+    found = 0
+}
+
+/* Lane::deliver (lane.rt), up to deliver_owed, which follows where it has the lane */
+inline deliver_as(s, deliverer) {
+    atomic { take_over(s); who = deliverer; fin = (has -> NOTHING : PENDING) };
+    if
+    :: !has && who < HURRIES -> token[s] = true     /* Lane::wake_for */
+    :: else
+    fi
+}
+
+/* Lane::deliver_late (lane.rt) and LaneWord::take_over_late (word.rt), up to deliver_owed. Between its two steps another thread may take
+ * the lane over. */
+inline deliver_late(s) {
+    fin = NOTHING;
+    if
+    :: lw[s] == LANE_LATE -> atomic { take_over(s); who = HURRIES }
+    :: else
+    fi
+}
+
+/* Lane::end and Stage::rise, up to deliver_owed: to this stage, unless it has come so far */
+inline end_lane(s, to) {
+    fin = NOTHING;
+#ifdef M_RISE_AFTER_LOOK
+    deliver_as(s, READER);
+    rises = to
+#else
+    atomic { has_taken = (stage[s] < to); stage[s] = (has_taken -> to : stage[s]) };
+    if
+    :: has_taken -> has_taken = false; deliver_as(s, READER)
+    :: else
+    fi
 #endif
 }
 
-/* Lane::open, begin and Sender::begin (lane.rt). The model chooses the peer. */
-inline begin(s) {
-#ifdef M_RESET_AT_BEGIN
-    stage[s] = SERVING;
+/* Lane::open, Sender::begin and Outbox::begin, up to deliver_owed. The model chooses the peer. */
+inline open_lane(s) {
+#ifndef M_RESTART_AFTER_BEGIN
+#ifndef M_KEEP_ENDING
+    stage[s] = SERVING;                            /* Stage::restart */
+#endif
 #endif
     atomic { (lock[s] == 0) ->
-#ifndef M_KEEP_LEFT
-        forget(s);
-#endif
-        stream[s] = true; stream_gen[s] = gen[s];
+        assert(line[s] == NO_LINE);
+        line[s] = OPEN; line_gen[s] = gen[s]; lingers[s] = 0;
 #ifndef M_KEEP_THE_TIME
         end_begun[s] = 0; end_stalled[s] = 0; end_over[s] = false;
 #endif
-        patient[s] = false;
         down[s] = false;
         CHOOSE_PEER(s) };
+#ifdef M_RESTART_AFTER_BEGIN
+    stage[s] = SERVING;
+#endif
 #ifndef M_BEGIN_WITHOUT_LOOK
-    take_over(s);
-    if
-    :: has -> deliver_owed(s)
-    :: else
-    fi;
-    has = false
+    atomic { take_over(s); who = OTHER; fin = NOTHING }
 #endif
 }
 
-/* Lane::write (lane.rt) */
-#ifndef PARKED
-#define PARKED(s) skip
-#define UNPARKED(s) skip
+/* Whether the finisher comes again in a while: park_timeout in run_finisher (crews.rt), is_again in ServerState::visit (serving.rt). What is
+ * to be looked at again stays so until it is. */
+inline come_again(s) {
+#ifndef M_NOT_AGAIN
+    again[s] = again[s] || (fin == PENDING)
+#else
+    skip
 #endif
-inline run_writer(s) {
-    LOCK(parker[s]);
-    do
-    :: true ->
-        is_last = false;
-        atomic { (lock[s] == 0) -> has = stream[s] };
-        if
-        :: !has ->
-            if
-            :: atomic { crew_over[s] -> break }
-            :: atomic { !crew_over[s] -> skip }
-            fi
-        :: has ->
-            take_over(s);
-            if
-            :: has -> write_owed(s)
-            :: else
-            fi
-        fi;
-        has = false;
-        if
-        :: is_last -> is_last = false; ON_GONE(s)      /* ServerState::run_writer */
-        :: else ->
-#ifdef M_PARK_LOSES_TOKEN
-            token[s] = false;
-#endif
-            PARKED(s);
-end:        atomic { token[s] -> token[s] = false; UNPARKED(s) }
-        fi
-    od;
-    UNLOCK(parker[s])
 }

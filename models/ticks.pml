@@ -1,9 +1,9 @@
-/* READERS workers' readers, which each grab GRABS times, the control thread, and a clock that goes on SECONDS times. Each reader tells
- * the time before a grab, and the control thread before each connection that it takes (ServerState::update_time and tick, state.rt;
- * Applier::apply_unit, session.rt; Control::take_all and admit, accepting.rt). With LONG a reader may hold its batch's locks over
- * its unit. What a tick queues is a count, and a slot's touch notes it (deliver.pml has what comes of a touch).
- * Ticks: each second is told once, in order; a grab comes only once the book was told the second that its reader read; the last
- * second is told; each slot that a tick touched is told. No deadlock. */
+/* READERS threads that read from workers, which each grab GRABS times, the control thread, and a clock that goes on SECONDS times. Each of
+ * them hands in the time before a grab, and the control thread before each connection that it takes (ServerState::update_time and tick,
+ * state.rt; Applier::apply_unit, applier.rt; Control::take_all and admit, accepting.rt). With LONG a thread may hold its batch's locks
+ * over its unit. What a tick queues is a count, and a slot's touch notes it (deliver.pml has what comes of a touch).
+ * Ticks: each second is handed in once, in order; a grab comes only once the second that its thread read was; the last
+ * second is; each slot that a tick touched is touched. No deadlock. */
 #ifndef READERS
 #define READERS 2
 #endif

@@ -24,7 +24,7 @@ impl Stage {
 
     /// Goes on to this stage, unless it is there already, or further. It says whether it did.
     pub fn rise(&self, code: u8) -> bool {
-        // Modelled in models/lane.h and shutdown.pml.
+        // Modelled in models/lane.h.
         self.code.fetch_max(code, Ordering::SeqCst) < code
     }
 

@@ -74,6 +74,7 @@ impl Hub {
 
     /// Has what comes at this descriptor reported to the slot's thread, and that it takes bytes again, until it is closed.
     pub fn register(&self, slot: u32, fd: RawFd) -> io::Result<()> {
+        // Modelled in models/polling.pml.
         // Urgent data end a read, so what is behind them has to be reported again.
         let interests = Interest::READABLE | Interest::WRITABLE | Interest::PRIORITY;
         match self.seat(slot) {
@@ -87,7 +88,7 @@ impl Hub {
 
     /// Has the slot's thread look at it.
     pub fn wake(&self, slot: u32) {
-        // Modelled in models/lane.h.
+        // Modelled in models/polling.pml.
         let Some(seat) = self.seat(slot) else {
             return;
         };
@@ -113,7 +114,7 @@ impl Hub {
 
     /// Takes the marks of 64 of a thread's places, from the place 64 times `at` on: a bit for each.
     pub(crate) fn take_marks(&self, thread: u32, at: usize) -> u64 {
-        // Modelled in models/lane.h.
+        // Modelled in models/polling.pml.
         let Some(seat) = self.seats.get(thread as usize) else {
             return 0;
         };

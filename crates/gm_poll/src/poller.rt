@@ -106,7 +106,7 @@ impl Poller {
 
     /// Waits until there are slots to serve, or for a second.
     pub fn wait(&mut self, rt: &impl Clock, hub: &Hub) {
-        // Modelled in models/lane.h.
+        // Modelled in models/polling.pml.
         let time = if !self.ready.is_empty() {
             0
         } else if !self.again.is_empty() {
@@ -127,6 +127,7 @@ impl Poller {
 
     /// Takes the marks that others made.
     fn take_marks(&mut self, hub: &Hub) {
+        // Modelled in models/polling.pml.
         for at in 0..self.places.len().div_ceil(MARKS) {
             let marks = hub.take_marks(self.thread, at);
             if marks != 0 {
@@ -146,6 +147,7 @@ impl Poller {
 
     /// A slot is to be served, though its socket wasn't reported.
     fn call(&mut self, at: usize) {
+        // Modelled in models/polling.pml.
         let Some(place) = self.places.get_mut(at) else {
             return;
         };
@@ -158,6 +160,7 @@ impl Poller {
 
     /// Looks again at those that are to be, where it is time.
     fn look_again(&mut self, rt: &impl Clock) {
+        // Modelled in models/polling.pml.
         if self.again.is_empty() || !self.is_time(rt) {
             return;
         }
@@ -174,6 +177,7 @@ impl Poller {
 
     /// Whether it is a while since they were looked at. It is where the clock can't be read.
     fn is_time(&mut self, rt: &impl Clock) -> bool {
+        // Modelled in models/polling.pml.
         let now = Instant::now(rt).ok();
         let is_time = match (&self.looked, &now) {
             (Some(looked), Some(now)) => {
@@ -189,6 +193,7 @@ impl Poller {
 
     /// The next slot to serve, if there is one.
     pub fn next(&mut self) -> Option<Call> {
+        // Modelled in models/polling.pml.
         let at = self.ready.pop_front()?;
         let place = self.places.get_mut(at)?;
         let is_woken = place.is_woken;
@@ -203,6 +208,7 @@ impl Poller {
 
     /// A slot was served, and is to be served next then.
     pub fn put_back(&mut self, slot: u32, next: Next) {
+        // Modelled in models/polling.pml.
         let at = (slot / self.count.max(1)) as usize;
         let Some(place) = self.places.get_mut(at) else {
             return;
@@ -221,6 +227,7 @@ impl Poller {
 
 /// The slot of an event is to be served.
 fn note_event(places: &mut Vec<Place>, ready: &mut VecDeque<usize>, count: u32, event: &Event) {
+    // Modelled in models/polling.pml.
     let at = event.token().0 / count.max(1) as usize;
     let Some(place) = places.get_mut(at) else {
         return;

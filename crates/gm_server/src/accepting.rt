@@ -151,7 +151,7 @@ impl<'s, K: BookName + Send + Sync> Control<'s, K> {
         halves: Halves,
         peer: SocketAddr,
     ) -> Result<(), Refusal> {
-        // Modelled in models/endings.pml and shutdown.pml.
+        // Modelled in models/endings.pml, polling.pml and shutdown.pml.
         let state = self.state;
         let Halves { reading, writing } = halves;
         let fd = reading.source().descriptor();
@@ -209,7 +209,7 @@ impl<'s, K: BookName + Send + Sync> Control<'s, K> {
         stream: TcpStream,
         peer: SocketAddr,
     ) {
-        // Modelled in models/endings.pml, shutdown.pml, ticks.pml.
+        // Modelled in models/ticks.pml.
         let Ok(()) = prepare(&stream, self.peer_timeout) else {
             return;
         };

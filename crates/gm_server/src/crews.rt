@@ -94,7 +94,7 @@ impl Crews {
 
     /// Has all finishers look at their lanes.
     pub(crate) fn wake_all(&self) {
-        // Modelled in models/shutdown.pml.
+        // Modelled in models/serving.h.
         match self {
             Crews::Pairs(pairs) => {
                 for pair in pairs {
@@ -150,7 +150,7 @@ pub(crate) fn prepare<'s, E, K: BookName + Send + Sync, G: Gate, R: Threads + Wa
     gate: &'s G,
     slot: &'s Slot<K>,
 ) -> bool {
-    // Modelled in models/endings.pml.
+    // Modelled in models/endings.pml and shutdown.pml.
     let Crews::Pairs(pairs) = &state.crews else {
         return true;
     };
@@ -180,7 +180,7 @@ pub(crate) fn prepare<'s, E, K: BookName + Send + Sync, G: Gate, R: Threads + Wa
 
 /// Has all threads leave, which have no connection any more.
 pub(crate) fn dismiss<K: BookName>(rt: &impl Wait, state: &ServerState<K>) {
-    // Modelled in models/shutdown.pml.
+    // Modelled in models/serving.h.
     state.stage.rise(ServerStage::Ended as u8);
     state.crews.wake_all();
     if let Crews::Pairs(pairs) = &state.crews {
@@ -201,7 +201,7 @@ fn run_reader<K: BookName, G: Gate, R: Wait + Clock>(
     slot: &Slot<K>,
     pair: &Pair,
 ) {
-    // Modelled in models/endings.pml and shutdown.pml.
+    // Modelled in models/serving.h.
     for _ in rt.forever() {
         let mut talk = pair.arrived.wait_while(rt, slot.talk.lock(rt), |talk| {
             !talk.is_reading() && !state.has_ended()
@@ -221,6 +221,7 @@ fn read_on<K: BookName, G: Gate, R: Wait + Clock>(
     slot: &Slot<K>,
     talk: &mut Talk<K, ReadHalf>,
 ) {
+    // Modelled in models/polling.pml and serving.h.
     for _ in rt.forever() {
         if state.turn(rt, gate, slot, talk, Patience::Waits) == Then::Ends {
             break;
@@ -235,7 +236,7 @@ fn run_finisher<K: BookName, R: Wait + Clock>(
     slot: &Slot<K>,
     pair: &Pair,
 ) {
-    // Modelled in models/endings.pml and shutdown.pml.
+    // Modelled in models/deliver.pml and serving.h.
     let parker = pair.parker.lock(rt);
     let mut finish = Finish::Idle;
     for _ in rt.forever() {
@@ -257,6 +258,7 @@ fn serve_round<K: BookName, G: Gate, R: Wait + Clock>(
     gate: &G,
     poller: &mut Poller,
 ) {
+    // Modelled in models/polling.pml.
     for _ in 0..poller.ready() {
         let Some(call) = poller.next() else {
             break;
@@ -274,7 +276,7 @@ fn run_few<K: BookName, G: Gate, R: Wait + Clock>(
     hub: &Hub,
     poller: Poller,
 ) {
-    // Modelled in models/endings.pml and shutdown.pml.
+    // Modelled in models/polling.pml and serving.h.
     let mut poller = poller;
     for _ in rt.forever() {
         poller.wait(rt, hub);

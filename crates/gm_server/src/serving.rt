@@ -32,6 +32,7 @@ pub(crate) enum Then {
 
 /// What is to come after a turn that has taken all units. Where it didn't read, what came meanwhile isn't reported again.
 fn then_of<K: BookName>(talk: &Talk<K, ReadHalf>, has_read: bool) -> Then {
+    // Modelled in models/polling.pml.
     match talk.source() {
         Some(_) if !has_read => Then::More,
         Some(source) => match source.left() {
@@ -46,6 +47,7 @@ fn then_of<K: BookName>(talk: &Talk<K, ReadHalf>, has_read: bool) -> Then {
 /// Reads what a connection still sends that is to end, and drops it: before its socket is closed, as the system else forgets what the
 /// peer hasn't read yet.
 fn discard<K: BookName>(talk: &mut Talk<K, ReadHalf>, patience: Patience) -> Then {
+    // Modelled in models/polling.pml.
     let mut room = [0; DROPPED];
     match talk.discard(&patience, &mut room) {
         Ok(0) => Then::Ends,
@@ -76,7 +78,7 @@ impl<K: BookName> ServerState<K> {
         talk: &mut Talk<K, ReadHalf>,
         patience: Patience,
     ) -> Then {
-        // Modelled in models/endings.pml and shutdown.pml.
+        // Modelled in models/serving.h.
         let then = self.read(rt, gate, slot, talk, patience);
         if then == Then::Ends {
             self.end(rt, slot, talk);
@@ -92,7 +94,7 @@ impl<K: BookName> ServerState<K> {
         talk: &mut Talk<K, ReadHalf>,
         patience: Patience,
     ) -> Then {
-        // Modelled in models/endings.pml and shutdown.pml.
+        // Modelled in models/polling.pml and serving.h.
         let has_read = !talk.has_units();
         let outcome = if self.stage.has_reached(ServerStage::Stopped as u8) {
             Err(SessionEnd::Shut)
@@ -133,7 +135,7 @@ impl<K: BookName> ServerState<K> {
         slot: &Slot<K>,
         talk: &mut Talk<K, ReadHalf>,
     ) {
-        // Modelled in models/endings.pml and shutdown.pml.
+        // Modelled in models/serving.h.
         talk.end();
         if slot.lane.end(rt, self, ReadStage::Ended) == Finish::Gone {
             self.close(rt, talk);
@@ -147,7 +149,7 @@ impl<K: BookName> ServerState<K> {
         slot: &Slot<K>,
         patience: Patience,
     ) -> Finish {
-        // Modelled in models/endings.pml and shutdown.pml.
+        // Modelled in models/serving.h.
         let finish = slot.lane.deliver(rt, self, Deliverer::Finisher(patience));
         self.close_if_gone(rt, slot, finish);
         finish
@@ -155,6 +157,7 @@ impl<K: BookName> ServerState<K> {
 
     /// Closes a slot whose connection was let go of.
     fn close_if_gone<R: Wait + Clock>(&self, rt: &R, slot: &Slot<K>, finish: Finish) {
+        // Modelled in models/serving.h.
         if finish == Finish::Gone {
             self.close(rt, &mut slot.talk.lock(rt));
         }
@@ -163,7 +166,7 @@ impl<K: BookName> ServerState<K> {
     /// Closes the slot of a connection that is gone. With a tape there may be no memory for that. Then the slot stays open in the book, and
     /// the server ends.
     pub(crate) fn close<R: Wait + Clock>(&self, rt: &R, talk: &mut Talk<K, ReadHalf>) {
-        // Modelled in models/endings.pml and shutdown.pml.
+        // Modelled in models/serving.h.
         let mut effects = Effects::new(None);
         if let Err(ApplyError::Memory) = talk.close(rt, &self.shared, &mut effects) {
             self.stage.rise(ServerStage::Failed as u8);
@@ -174,7 +177,7 @@ impl<K: BookName> ServerState<K> {
 
     /// Serves a slot without waiting, as the thread that has many.
     pub(crate) fn visit<R: Wait + Clock, G: Gate>(&self, rt: &R, gate: &G, call: Call) -> Next {
-        // Modelled in models/endings.pml and shutdown.pml.
+        // Modelled in models/polling.pml and serving.h.
         let Some(slot) = self.slot(call.slot) else {
             return Next {
                 is_now: false,

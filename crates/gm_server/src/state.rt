@@ -199,7 +199,7 @@ impl<K: BookName> ServerState<K> {
 
     /// Counts a connection that is gone.
     pub(crate) fn end_connection(&self) {
-        // Modelled in models/shutdown.pml.
+        // Modelled in models/serving.h.
         self.connections.fetch_sub(1, Ordering::SeqCst);
     }
 
@@ -212,7 +212,7 @@ impl<K: BookName> ServerState<K> {
 
     /// Follows the book's mode.
     fn follow(&self, mode: Mode) {
-        // Modelled in models/shutdown.pml.
+        // Modelled in models/serving.h.
         match mode {
             Mode::Running => {}
             Mode::Graceful => {
@@ -229,7 +229,7 @@ impl<K: BookName> ServerState<K> {
     /// Touches the lane to whose slot something is due, and delivers where nobody else does; or has its finisher do so, where the round
     /// is over.
     fn touch<R: Wait + Clock>(&self, rt: &R, due: Due, round: &mut Round) {
-        // Modelled in models/deliver.pml and endings.pml.
+        // Modelled in models/deliver.pml.
         let Some(slot) = self.slot(due.slot()) else {
             due.without_lane(self);
             return;
@@ -248,7 +248,7 @@ impl<K: BookName> ServerState<K> {
         ensures mode { effects.new.mode ≡ effects.old.mode }
         ensures nothing { (slot : ℕ) → has effects.new.touched slot ≡ false }
     {
-        // Modelled in models/jobs.pml and shutdown.pml.
+        // Modelled in models/jobs.pml and serving.h.
         let mut round = Round::new();
         if let Some(due) = effects.take_own() {
             self.touch(rt, due, &mut round);
@@ -376,7 +376,7 @@ impl<K: BookName, R: Wait + Clock> Notify<R> for ServerState<K> {
     }
 
     fn notify(&self, rt: &R, effects: &mut Effects) {
-        // Modelled in models/deliver.pml and shutdown.pml.
+        // Modelled in models/deliver.pml and serving.h.
         self.follow(effects.take_mode());
         self.deliver(rt, effects);
     }

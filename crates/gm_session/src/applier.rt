@@ -213,7 +213,7 @@ impl<'s, K: BookName, R: Wait, G: Gate, N: Notify<R>> Applier<'s, K, R, G, N> {
         ensures number { desk.new.number ≡ desk.old.number }
         ensures slot { self.new.slot ≡ self.old.slot }
     {
-        // Modelled in models/jobs.pml.
+        // Modelled in models/jobs.pml and polling.pml.
         let around = self.around;
         let length = session.feeder.pending().len();
         let mut batch = Batch::new(session.free_units(length), length);
@@ -264,7 +264,7 @@ impl<'s, K: BookName, R: Wait, G: Gate, N: Notify<R>> Applier<'s, K, R, G, N> {
         ensures number { desk.new.number ≡ desk.old.number }
         ensures slot { self.new.slot ≡ self.old.slot }
     {
-        // Modelled in models/jobs.pml.
+        // Modelled in models/jobs.pml and polling.pml.
         session.fill(source, by)?;
         let turn = self.take_turn(session, desk)?;
         session.has_units = turn == Turn::Cut;

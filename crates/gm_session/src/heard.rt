@@ -97,6 +97,7 @@ impl<I: Source<Patience>> Source<Patience> for LoggedSource<I> {
     ghost heard = { λ r. Some r.2 };
 
     fn read_by(&mut self, by: &Patience, room: &mut [u8]) -> io::Result<usize> {
+        // Modelled in models/polling.pml.
         match self.source.read_by(by, room) {
             Ok(count) => {
                 self.log.add(&room[..count]);

@@ -60,7 +60,7 @@ impl<K: BookName> OwnDesk<K> {
         ensures memory { NeedsNoMemory K.taped (step_of event.entry) → IsErrOf result ApplyError.Memory → ⊥ }
         ensures number { self.new.desk.number ≡ self.old.desk.number }
     {
-        // Modelled in models/endings.pml and ticks.pml.
+        // Modelled in models/serving.h and ticks.pml.
         let mut touched = SlotSet::new();
         hand_in(rt, shared, &mut self.desk, event, &mut touched, effects)
     }

@@ -88,6 +88,7 @@ impl Session {
         ensures ended { IfErr result (λ end. end ≡ SessionEnd.Ended → IsAtEnd (S.remaining source.new)) }
         ensures units { self.new.has_units ≡ self.old.has_units }
     {
+        // Modelled in models/polling.pml.
         if self.has_units {
             return Ok(());
         }
@@ -105,6 +106,7 @@ fn read_piece<E, S: Source<E>>(
     ensures piece { IsPiece (S.remaining source.old) (S.remaining source.new) (S.heard source.old) (S.heard source.new) feeder.old feeder.new result }
     ensures ended { IfErr result (λ end. end ≡ SessionEnd.Ended → IsAtEnd (S.remaining source.new)) }
 {
+    // Modelled in models/polling.pml.
     match feeder.read_from(source, by) {
         Ok(0) => Err(SessionEnd::Ended),
         Ok(len) => Ok(len),

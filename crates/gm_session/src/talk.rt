@@ -143,6 +143,7 @@ impl<K: BookName, I: Source<Patience> + Drop> Talk<K, I> {
         requires { source.2 ≡ [] }
         ensures { MatchBool result (self.new ≡ begun self.old) (self.new ≡ self.old) }
     {
+        // Modelled in models/serving.h.
         if self.talking.is_some() {
             return false;
         }
@@ -157,6 +158,7 @@ impl<K: BookName, I: Source<Patience> + Drop> Talk<K, I> {
 
     /// Whether there is a connection from which more may be read.
     pub fn is_reading(&self) -> bool {
+        // Modelled in models/serving.h.
         match &self.talking {
             Some(talking) => !talking.has_ended,
             None => false,
@@ -175,6 +177,7 @@ impl<K: BookName, I: Source<Patience> + Drop> Talk<K, I> {
     pub fn end(&mut self)
         ensures { self.new ≡ self.old }
     {
+        // Modelled in models/serving.h.
         match &mut self.talking {
             Some(talking) => talking.has_ended = true,
             None => {}
@@ -197,6 +200,7 @@ impl<K: BookName, I: Source<Patience> + Drop> Talk<K, I> {
     ) -> Result<Turn, SessionEnd>
         ensures { StepsOn self.old.talking K.settings K.taped result self.old self.new }
     {
+        // Modelled in models/polling.pml.
         match &mut self.talking {
             Some(talking) if !talking.is_over => step_on(&mut self.desk, talking, around, by),
             _ => Err(SessionEnd::Shut),
@@ -224,7 +228,7 @@ impl<K: BookName, I: Source<Patience> + Drop> Talk<K, I> {
         ensures keeps { Keeps K.settings K.taped (Close self.old.number) self.old.number result self.old.seen self.new.seen effects.old effects.new }
         ensures memory { NeedsNoMemory K.taped (Close self.old.number) → IsErrOf result ApplyError.Memory → ⊥ }
     {
-        // Modelled in models/endings.pml.
+        // Modelled in models/serving.h.
         let slot = self.desk.number();
         let answer = self.desk.apply(rt, shared, Event::Close { slot }, effects);
         if answer.is_ok() {
