@@ -487,8 +487,7 @@ sent:   if
         fi;
 #ifdef M_FLAG_AFTER_DELIVERY
         skip };
-    has_taken = false;                             /* others may come between */
-    atomic {
+    atomic { has_taken = false;                    /* others may come between */
 #endif
 ends:   end_delivery(s) };
     if

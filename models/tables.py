@@ -16,7 +16,7 @@ RUNS = [
     ("delivery", "deliver", "all", "-DDEAF=2", "set", "a peer that takes one message and then none"),
     ("delivery", "deliver", "all", "-DDEAF=2 -DFEW", "set", "the same, with an I/O thread"),
     ("forever", "deliver", "ends", "-DNO_MONITOR -DLATES=1 -DTOUCHES=1", "set", "no infinite run, with a late write"),
-    ("forever", "deliver", "ends", "-DNO_MONITOR -DLATES=1 -DTOUCHES=1 -DFEW", "set", "the same, with an I/O thread"),
+    ("forever", "deliver", "ends", "-DNO_MONITOR -DLATES=1 -DTOUCHES=1 -DFEW", "all", "the same, with an I/O thread"),
     ("forever", "deliver", "ends", "-DNO_MONITOR -DLATES=2 -DTOUCHES=1", "all", "with 2 late writes"),
     ("forever", "deliver", "ltl", "-DENDLESS -DNO_MONITOR -DLATES=1", "set", "2 threads touch for ever: each infinite run delivers for ever"),
     ("noops", "jobs", "all", "-DJOBS=2", "all", "2 jobs, a worker that sleeps"),
