@@ -161,7 +161,10 @@ active proctype Control() {
             fi;
 #endif
             if
-            :: at == 3 -> fails--; LOCK(talk[0]); holds = true; fin = GONE; cur = 0   /* closed without a connection */
+            :: at == 3 -> fails--; LOCK(talk[0]); holds = true; cur = 0;   /* closed without a connection */
+#ifndef M_UNMADE_STAYS
+                fin = GONE
+#endif
             :: else -> open_lane(0); at = 2
             fi
         :: at == 2 ->
@@ -169,7 +172,11 @@ active proctype Control() {
             talking[0] = READING;                  /* Talk::begin */
             if                                     /* Crews::begin */
 #ifdef FEW
-            :: fails > 0 -> atomic { fails--; talking[0] = TALK_ENDED; may_end[0] = true; to = ENDED; holds = true; at = 3 }
+            :: fails > 0 -> atomic { fails--; talking[0] = TALK_ENDED; may_end[0] = true; holds = true; at = 3;
+#ifndef M_UNREGISTERED_STAYS
+                to = ENDED                         /* ServerState::end */
+#endif
+                }
 #endif
             :: true ->
 #ifndef M_NO_NOTIFY_OF_ARRIVAL

@@ -19,12 +19,13 @@ bool stays[N];           /* the peer never closes */
 byte connections = 0;
 byte wants = WANTS;      /* how many closings find no memory */
 byte mode = RUNNING;     /* of the core, under the book's lock */
+bool no_memory = false;  /* ghost: a closing found none */
 bool may_end[N];         /* ghost: nothing is read from this connection any more */
 byte at_end[N];          /* ghost: what was queued for it when its session was over */
 
 #define SERVES \
     LOCALS; byte cur = 0; byte own = me; byte todo = 0; byte to = SERVING; byte told_mode = RUNNING; \
-    bool holds = false; bool closing = false; bool stops = false; byte rises = SERVING
+    bool holds = false; bool closing = false; bool stops = false; byte rises = SERVING; bool fails_later = false
 
 /* Crews::wake_all (crews.rt) */
 inline wake_all() {
@@ -71,9 +72,13 @@ inline at_lane() {
         atomic { (book == 0) ->                    /* Talk::close (talk.rt), and OwnDesk::apply (own_desk.rt) */
             closing = true; fin = NOTHING;
             if
-            :: wants > 0 -> wants--;
+            :: wants > 0 -> wants--; no_memory = true;
+#ifdef M_COUNT_BEFORE_FAILED
+                fails_later = true
+#else
 #ifndef M_MEMORY_IS_FORGOTTEN
                 RISE(FAILED)
+#endif
 #endif
             :: true ->
 #ifndef M_CLOSE_FIRST
@@ -115,6 +120,12 @@ inline at_lane() {
         :: else
         fi;
         atomic { connections--; closing = false; fin = NOTHING }     /* ServerState::end_connection */
+#ifdef M_COUNT_BEFORE_FAILED
+        if
+        :: fails_later -> fails_later = false; RISE(FAILED)
+        :: else
+        fi
+#endif
     :: else
     fi;
     cur = 0

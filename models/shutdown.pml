@@ -169,7 +169,7 @@ active proctype Control() {
             talking[own] = READING;                /* Talk::begin */
             if                                     /* Crews::begin */
 #ifdef FEW
-            :: fails > 0 -> atomic { fails--; talking[own] = TALK_ENDED; may_end[own] = true; to = ENDED; holds = true; at = 3 }
+            :: fails > 0 -> atomic { fails--; talking[own] = TALK_ENDED; may_end[own] = true; to = ENDED; holds = true; at = 3 }   /* state.end */
 #endif
             :: true -> waiting[own] = false; UNLOCK(talk[own]); at = 0
             fi
@@ -189,14 +189,13 @@ active proctype Control() {
 #ifndef M_NO_WAIT_FOR_ENDS
     (!errored || connections == 0);                /* wait_for_ends (accepting.rt) */
 #endif
-    atomic { listen_failed = listen_failed || server_stage == FAILED };   /* ghost: it answers an error */
     dismiss();
     (threads == 0);                                /* the scope */
     ended = true;
     assert(connections == 0);
     assert(line[0] == NO_LINE && talk[0] == 0 && lock[0] == 0 && book == 0 && talking[0] != READING && talking[0] != IS_OVER);
     assert(!is_open[0] || errored);
-    assert(!listen_failed || errored)              /* its status says so */
+    assert(!listen_failed && !no_memory || errored)   /* its status says so */
 }
 
 /* In a quiescent state a connection that lives has got all, and a slot whose connection ended was closed. */

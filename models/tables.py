@@ -142,6 +142,8 @@ MUTANTS = [
     ("ends", ENDINGS, "M_OTHER_LETS_GO", "let_go", "if matches!(deliverer, Deliverer::Other)", "left out"),
     ("ends", ENDINGS, "M_LETS_GO_OF_NONE", "let_go", "None => Finish::Idle", "Finish::Gone"),
     ("ends", ENDINGS, "M_NO_NOTIFY_OF_ARRIVAL", "Crews::begin", "pair.arrived.notify_one()", "left out"),
+    ("ends", ("endings", "all", "-DTOUCHES=1 -DFAILS=1"), "M_UNMADE_STAYS", "Control::open", "state.close(rt, &mut slot.talk.lock(rt))", "left out"),
+    ("ends", ("endings", "all", "-DTOUCHES=1 -DFAILS=1 -DFEW"), "M_UNREGISTERED_STAYS", "Control::begin", "state.end(rt, slot, &mut talk)", "left out"),
     ("ends", ENDINGS, "M_DISMISS_WAKES_FIRST", "dismiss", "state.stage.rise(ServerStage::Ended as u8)", "after wake_all"),
     ("ends", ENDINGS, "M_DISMISS_WITHOUT_LOCK", "dismiss", "let talk = slot.talk.lock(rt)", "left out"),
     ("ends", ("endings", "ends", "-DTOUCHES=1 -DUNITS=0"), "M_LATE_NOT_TAKEN_OVER", "LaneWord::take_over", "if found == IDLE || found == LATE", "if found == IDLE"),
@@ -161,6 +163,7 @@ MUTANTS = [
     ("server", FAILED, "M_NO_WAIT_FOR_ENDS", "Control::run", "wait_for_ends(rt, self.state)", "left out"),
     ("server", FAILED, "M_ENDING_IGNORED", "Lane::look", "Delivery::Done if is_ending => linger(rt, &mut sender)", "Finish::Idle"),
     ("server", ("shutdown", "quiet", "-DCALLS=2 -DADMIN=0 -DWANTS=1"), "M_MEMORY_IS_FORGOTTEN", "ServerState::close", "self.stage.rise(ServerStage::Failed as u8)", "left out"),
+    ("server", ("shutdown", "quiet", "-DCALLS=1 -DADMIN=2 -DWANTS=1"), "M_COUNT_BEFORE_FAILED", "ServerState::close", "self.end_connection()", "before the close"),
 ]
 
 # Mutants (their property and name) that simulated executions hardly find: they are searched at once.
