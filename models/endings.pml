@@ -85,7 +85,7 @@ proctype Thread(byte me) {
 /* A thread that serves another connection, which completes jobs of this slot's client, or submits some for this slot's worker */
 proctype Toucher() {
     LOCALS;
-    byte n = 0; bool told = false;
+    byte n = 0; bool is_due = false;
     do
 #ifdef ENDLESS
     :: is_open[0] && put[0] == 0 ->
@@ -95,20 +95,20 @@ proctype Toucher() {
 #endif
         atomic { (book == 0) ->
             if
-            :: is_open[0] -> QUEUE(0); told = true
-            :: is_open[0] && core_phase[0] == ASLEEP -> core_phase[0] = OWED; seat_phase[0] = OWED; word[0] = OWED; told = true
-            :: !is_open[0] -> told = false
+            :: is_open[0] -> QUEUE(0); is_due = true
+            :: is_open[0] && core_phase[0] == ASLEEP -> core_phase[0] = OWED; seat_phase[0] = OWED; word[0] = OWED; is_due = true
+            :: !is_open[0] -> is_due = false
             fi };
         if
-        :: told -> touch_word(0)
-        :: told -> touch_for_finisher(0)           /* the round is over */
+        :: is_due -> touch_word(0)
+        :: is_due -> touch_for_finisher(0)           /* the round is over */
         :: else
         fi;
         if
         :: has -> deliver_owed(0)
         :: else
         fi;
-        atomic { told = false; fin = NOTHING }
+        atomic { is_due = false; fin = NOTHING }
 #ifdef ENDLESS
     :: is_done -> break
 #else

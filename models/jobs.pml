@@ -8,8 +8,7 @@
  * the time (ServerState::update_time and tick, state.rt), and a tick may end a running job.
  * NOOPs: in every quiescent state each job was done and its end sent, the worker sleeps, and nothing waits or is left; each NOOP owed
  * is sent once or withdrawn once. No deadlock, with batch_lock and long_piece_lock, the control desk and the book. Order.
- * Ticks: each second is told once, in order, and a job is handed out only once the book was told the second that its worker's reader
- * read. */
+ * Ticks: each second is handed in once, in order, and a job is handed out only once the second that its worker's thread read was. */
 #define N 2
 #ifndef JOBS
 #define JOBS 2
@@ -149,13 +148,13 @@ inline hold(s, unit) {
     :: touched_by_core & 2 -> sync_word(1)
     :: else
     fi;
-#ifdef M_TOLD_LAST_UNIT
-    told = touched_by_core;
+#ifdef M_ONLY_LAST_UNIT
+    touched = touched_by_core;
 #else
-#ifdef M_TOLD_OWN_SLOT
-    told = told | (touched_by_core & (1 << s));
+#ifdef M_ONLY_OWN_SLOT
+    touched = touched | (touched_by_core & (1 << s));
 #else
-    told = told | touched_by_core;
+    touched = touched | touched_by_core;
 #endif
 #endif
     touched_by_core = 0;
@@ -250,7 +249,7 @@ inline end_turn() {
     :: queued -> UNLOCK(long_piece_lock); queued = false
     :: else
     fi;
-    todo = told; told = 0
+    todo = touched; touched = 0
 }
 
 /* The next item of the worker's stream is a NOOP, or a message. */
@@ -263,7 +262,7 @@ inline end_turn() {
 #define APPLY 2
 
 #define READS(slot) \
-    LOCALS; byte own = slot; byte cur = 0; byte todo = 0; byte told = 0; byte unit = 0; byte read_second = 0; byte step = 0; \
+    LOCALS; byte own = slot; byte cur = 0; byte todo = 0; byte touched = 0; byte unit = 0; byte read_second = 0; byte step = 0; \
     bool alone = false; bool queued = false; bool is_later = false
 
 /* With FEW a slot's thread is its finisher too, between its turns. */
@@ -345,10 +344,9 @@ end_next: if
 /* Control::take_all (accepting.rt): it hands in the time. The clock goes on. */
 proctype Control() {
     READS(0);
-end_control:
     do
     :: true ->
-        if
+end_control: if
         :: clock < SECONDS -> clock++
         :: second < clock -> update_time()
         fi;

@@ -574,7 +574,7 @@ inline touch_for_finisher(s) {
     if
     :: has ->
         atomic { has = false; lw[s] = LANE_LATE; owners[s]-- };
-#ifndef M_LEFT_UNTOLD
+#ifndef M_LEFT_UNWOKEN
         token[s] = true
 #endif
     :: else

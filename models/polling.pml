@@ -1,5 +1,5 @@
 /* How an I/O thread reads the connections of SLOTS slots (run_few and serve_round, crews.rt; Poller and Hub, gm_poll; ServerState::visit,
- * turn, read and then_of, serving.rt; Session::fill, Applier::step and unload, gm_session): by edges that the system reports once, marks
+ * turn, read and then_of, serving.rt; Session::fill, Applier::step and unload, gm_session): by edges, which the system reports once, marks
  * that others make, what it put back, and the endings that it looks at again. Each slot has GENS connections one after another. A
  * connection's peer sends up to SENDS units at any time, and may then send no more or stay; a unit may be a fault, and the end of a
  * connection may have to wait for its peer. WAKES times others wake a slot's finisher.
@@ -168,10 +168,14 @@ inline look_again_at(s) {
 #define EACH(what) what(0)
 #endif
 
-/* Poller::wait (poller.rt): some milliseconds pass while it waits, or a slot is to be looked at again. */
+/* Poller::wait (poller.rt): until there is something to report or to serve, or it is time to look again. */
 inline wait() {
     atomic {
+#ifdef M_READY_WAITS
+        (ANY(edge) || waker || ANY(is_again)) ->
+#else
         (nempty(ready) || ANY(edge) || waker || ANY(is_again)) ->
+#endif
         waker = false;
         EACH(note_event) };
     EACH(take_mark);
@@ -371,7 +375,7 @@ proctype Thread() {
     bool woken = false; bool odd = false; bool is_now = false;
     do
     :: true ->
-wait();
+        wait();
         round = len(ready);
         do
         :: round > 0 -> round--; visit(s)

@@ -24,7 +24,7 @@ bool may_end[N];         /* ghost: nothing is read from this connection any more
 byte at_end[N];          /* ghost: what was queued for it when its session was over */
 
 #define SERVES \
-    LOCALS; byte cur = 0; byte own = me; byte todo = 0; byte to = SERVING; byte told_mode = RUNNING; \
+    LOCALS; byte cur = 0; byte own = me; byte todo = 0; byte to = SERVING; byte receipt_mode = RUNNING; \
     bool holds = false; bool closing = false; bool stops = false; byte rises = SERVING; bool fails_later = false
 
 /* Crews::wake_all (crews.rt) */
@@ -41,11 +41,11 @@ inline wake_all() {
 /* ServerState::follow (state.rt) */
 inline follow() {
 #ifdef M_GRACEFUL_FORGETS
-    told_mode = (told_mode == GRACEFUL -> RUNNING : told_mode);
+    receipt_mode = (receipt_mode == GRACEFUL -> RUNNING : receipt_mode);
 #endif
     atomic {
-        stops = (told_mode == STOPPED && server_stage < STOPPED);
-        RISE(told_mode); told_mode = RUNNING };
+        stops = (receipt_mode == STOPPED && server_stage < STOPPED);
+        RISE(receipt_mode); receipt_mode = RUNNING };
     if
     :: stops -> stops = false; wake_all()
     :: else
@@ -85,19 +85,19 @@ inline at_lane() {
                 assert(is_open[cur]);
                 book_close(cur);
 #endif
-                talking[cur] = NO_TALK; todo = 1 << cur; told_mode = mode
+                talking[cur] = NO_TALK; todo = 1 << cur; receipt_mode = mode
             fi }
-    :: !has && fin != GONE && told_mode != RUNNING -> follow()
-    :: !has && fin != GONE && told_mode == RUNNING && todo != 0 ->
+    :: !has && fin != GONE && receipt_mode != RUNNING -> follow()
+    :: !has && fin != GONE && receipt_mode == RUNNING && todo != 0 ->
         atomic {
             cur = (todo & (1 << own) -> own : (todo & 1 -> 0 : 1)); todo = todo & ~(1 << cur);
             touch_word(cur) }
 #ifdef ROUNDS
-    :: !has && fin != GONE && told_mode == RUNNING && todo != 0 ->
+    :: !has && fin != GONE && receipt_mode == RUNNING && todo != 0 ->
         atomic { cur = (todo & (1 << own) -> own : (todo & 1 -> 0 : 1)); todo = todo & ~(1 << cur) };
         touch_for_finisher(cur)
 #endif
-    :: !has && fin != GONE && told_mode == RUNNING && todo == 0 && to != SERVING ->
+    :: !has && fin != GONE && receipt_mode == RUNNING && todo == 0 && to != SERVING ->
         cur = own;
 #ifdef M_CLOSE_FIRST
         if
@@ -108,24 +108,24 @@ inline at_lane() {
         end_lane(cur, to);
         to = SERVING
 #ifdef M_RISE_AFTER_LOOK
-    :: !has && fin != GONE && told_mode == RUNNING && todo == 0 && to == SERVING && rises != SERVING ->
+    :: !has && fin != GONE && receipt_mode == RUNNING && todo == 0 && to == SERVING && rises != SERVING ->
         stage[own] = rises; rises = SERVING
 #endif
     :: else -> break
     od;
     if
     :: closing ->
-        if
-        :: !holds -> UNLOCK(talk[own])
-        :: else
-        fi;
-        atomic { connections--; closing = false; fin = NOTHING }     /* ServerState::end_connection */
+        atomic { connections--; closing = false; fin = NOTHING };    /* ServerState::end_connection */
 #ifdef M_COUNT_BEFORE_FAILED
         if
         :: fails_later -> fails_later = false; RISE(FAILED)
         :: else
-        fi
+        fi;
 #endif
+        if
+        :: !holds -> UNLOCK(talk[own])
+        :: else
+        fi
     :: else
     fi;
     cur = 0
@@ -152,7 +152,7 @@ inline turn(s, waits) {
             fi }
         :: atomic { (MAY_FAIL(s) && !down[s] && book == 0) ->
             if                                     /* a fault: its text, and the slot is shut; or out of memory */
-            :: !shut[s] -> QUEUE(s); shut[s] = true; todo = 1 << s; told_mode = mode
+            :: !shut[s] -> QUEUE(s); shut[s] = true; todo = 1 << s; receipt_mode = mode
             :: true
             fi;
             to = ENDING; at_end[s] = put[s] }

@@ -62,7 +62,7 @@
     :: admins > 0 && ADMIN == 2 -> admins = 0; mode = (mode == RUNNING -> GRACEFUL : mode) \
     :: admins > 0 && ADMIN == 1 -> admins = 0; mode = STOPPED; shut[s] = true SHUT_OTHER(s) \
     fi; \
-    told_mode = mode
+    receipt_mode = mode
 byte admins = (ADMIN > 0 -> 1 : 0);
 #include "lane.h"
 #include "serving.h"
@@ -136,7 +136,7 @@ active proctype Control() {
                 if
                 :: at == 1 ->
                     is_open[own] = true; gen[own]++; may_end[own] = false; units[own] = UNITS;
-                    todo = 1 << own; told_mode = mode
+                    todo = 1 << own; receipt_mode = mode
                 :: else -> UNLOCK(control)
                 fi }
         :: at == 1 ->

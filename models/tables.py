@@ -29,13 +29,13 @@ RUNS = [
     ("noops", "jobs", "ends", "-DJOBS=1 -DNO_MONITOR", "set", "no infinite run"),
     ("noops", "jobs", "ends", "-DJOBS=1 -DLATES0=1 -DIMPATIENT=1 -DNO_MONITOR -DFEW", "set", "the same, with 2 I/O threads and a late write"),
     ("noops", "jobs", "ends", "-DJOBS=1 -DLATES0=1 -DNO_MONITOR", "all", "and with a late write"),
-    ("ticks", "ticks", "all", "-DREADERS=2 -DGRABS=2", "set", "2 workers grab twice, 3 seconds pass"),
-    ("ticks", "ticks", "all", "-DREADERS=2 -DGRABS=2 -DSECONDS=2 -DLONG", "set", "2 seconds pass, with the locks of batches"),
-    ("ticks", "ticks", "all", "-DREADERS=3 -DGRABS=1 -DSECONDS=2 -DLONG", "all", "3 workers grab once"),
+    ("ticks", "ticks", "all", "-DTHREADS=2 -DGRABS=2", "set", "2 workers grab twice, 3 seconds pass"),
+    ("ticks", "ticks", "all", "-DTHREADS=2 -DGRABS=2 -DSECONDS=2 -DLONG", "set", "2 seconds pass, with the locks of batches"),
+    ("ticks", "ticks", "all", "-DTHREADS=3 -DGRABS=1 -DSECONDS=2 -DLONG", "all", "3 workers grab once"),
     ("ticks", "jobs", "all", "-DJOBS=1 -DSECONDS=1", "all", "a second passes, handed in by the control thread or before a grab"),
     ("ticks", "jobs", "all", "-DJOBS=1 -DSECONDS=1 -DFEW", "all", "the same, with 2 I/O threads"),
     ("reading", "polling", "quiet", "", "set", "an I/O thread, a slot that two connections have, a fault, a waking"),
-    ("reading", "polling", "quiet", "-DSLOTS=2 -DGENS=1 -DSENDS=2", "all", "two slots"),
+    ("reading", "polling", "quiet", "-DSLOTS=2 -DGENS=1 -DSENDS=1 -DFAULTS=0", "all", "two slots"),
     ("reading", "polling", "quiet", "-DGENS=3 -DSENDS=2 -DWAKES=2", "all", "three connections, two wakings"),
     ("reading", "polling", "quiet", "-DPAIRS -DFAULTS=0 -DWAKES=0", "set", "a reader that waits in its read"),
     ("reading", "polling", "ltl", "-DSLOTS=2 -DGENS=1 -DSENDS=1 -DFLOOD -DFAULTS=0 -DWAKES=0", "set", "what one connection sends is taken while another sends for ever"),
@@ -72,7 +72,7 @@ RUNS = [
 DELIVER = ("deliver", "all", "-DUNBOUNDED")
 FOREVER = ("deliver", "ltl", "-DENDLESS -DNO_MONITOR -DLATES=1")
 JOBS = ("jobs", "all", "-DJOBS=1 -DDROWSY=1")
-TICKS = ("ticks", "all", "-DREADERS=2 -DGRABS=2")
+TICKS = ("ticks", "all", "-DTHREADS=2 -DGRABS=2")
 POLLING = ("polling", "quiet", "")
 ENDINGS = ("endings", "all", "-DTOUCHES=1")
 STAYS = ("endings", "all", "-DTOUCHES=1 -DPEERS=4 -DSTAYS=1 -DUNITS=0")
@@ -85,7 +85,7 @@ MUTANTS = [
     ("delivery", DELIVER, "M_NO_WAKE_AT_HAND_OVER", "Lane::deliver_owed", "looking.hand_over(|_| self.wake_for(server, finish, deliverer))", "the finisher isn't woken"),
     ("delivery", DELIVER, "M_NO_HAND_OVER_WHEN_LATE", "Lane::look", "Delivery::Late => Finish::Pending", "Finish::Idle"),
     ("delivery", DELIVER, "M_GIVES_UP", "Lane::deliver_owed", "owed.hand_over(|_| server.wake_finisher(self.slot))", "the lane is idle after MOST_LOOKS"),
-    ("delivery", DELIVER, "M_LEFT_UNTOLD", "Lane::touch_for_finisher", "owed.hand_over(|_| server.wake_finisher(self.slot))", "the finisher isn't woken"),
+    ("delivery", DELIVER, "M_LEFT_UNWOKEN", "Lane::touch_for_finisher", "owed.hand_over(|_| server.wake_finisher(self.slot))", "the finisher isn't woken"),
     ("delivery", DELIVER, "M_FINISH_BLINDLY", "Looking::finish", "compare_exchange::<Finish>(&mut seat, 0, BUSY, IDLE)", "a plain store"),
     ("delivery", DELIVER, "M_BUSY_IS_ENOUGH", "LaneWord::touch", "if found >= OWED", "if found >= BUSY"),
     ("delivery", DELIVER, "M_LATE_NOT_TAKEN_OVER", "LaneWord::take_over", "if found == IDLE || found == LATE", "if found == IDLE"),
@@ -107,8 +107,8 @@ MUTANTS = [
     ("order", ENDINGS, "M_CLOSE_FIRST", "ServerState::end", "if slot.lane.end(rt, self, ReadStage::Ended) == Finish::Gone", "after self.close"),
     ("noops", JOBS, "M_NO_LOOK", "Booked::resolve_noop", "if self.seat.look(table, slot)", "left out"),
     ("noops", JOBS, "M_SLEEP_BESIDE_WORK", "Core::pre_sleep", "if beside", "left out"),
-    ("noops", JOBS, "M_TOLD_LAST_UNIT", "Effects::add", "self.touched.union(touched)", "only the last unit's slots"),
-    ("noops", JOBS, "M_TOLD_OWN_SLOT", "ServerState::deliver", "while let Some(due) = effects.take_next(from)", "only of one's own slot"),
+    ("noops", JOBS, "M_ONLY_LAST_UNIT", "Effects::add", "self.touched.union(touched)", "only the last unit's slots"),
+    ("noops", JOBS, "M_ONLY_OWN_SLOT", "ServerState::deliver", "while let Some(due) = effects.take_next(from)", "only of one's own slot"),
     ("noops", JOBS, "M_FINISH_BLINDLY", "Looking::finish", "compare_exchange::<Finish>(&mut seat, 0, BUSY, IDLE)", "a plain store"),
     ("noops", JOBS, "M_TAKE_LEAVES_THE_WORD", "PenSeat::take", "compare_exchange::<Take>(&mut self.seat, self.slot as usize, OWED, AWAKE)", "a load"),
     ("noops", JOBS, "M_NOOP_FORGOTTEN", "Outbox::deliver", "self.send_next(Message::new(bytes, took), w, by)", "Message::new(bytes, false)"),
@@ -118,7 +118,7 @@ MUTANTS = [
     ("ticks", TICKS, "M_SECOND_BEFORE_THE_TICK", "ServerState::tick", "self.second.store(now, Ordering::SeqCst)", "before desk.apply"),
     ("ticks", TICKS, "M_SECOND_NOT_READ_AGAIN", "ServerState::tick", "if self.last_second() < now", "left out"),
     ("ticks", TICKS, "M_SECOND_NEVER_STORED", "ServerState::tick", "self.second.store(now, Ordering::SeqCst)", "left out"),
-    ("ticks", TICKS, "M_TICK_TELLS_NOBODY", "ServerState::tick", "self.notify_all(rt, effects)", "left out"),
+    ("ticks", TICKS, "M_TICK_NOTIFIES_NOBODY", "ServerState::tick", "self.notify_all(rt, effects)", "left out"),
     ("reading", POLLING, "M_EDGE_DURING_TURNS", "then_of", "Some(_) if !has_read => Then::More", "left out: the edge of what came meanwhile is missed"),
     ("reading", POLLING, "M_FULL_READ_IS_LAST", "then_of", "Left::Perhaps => Then::More", "Then::Nothing: the edge of what is left is missed"),
     ("reading", POLLING, "M_ODD_IS_FORGOTTEN", "ServerState::visit", "Then::Little => call.is_odd", "false: the edge of the peer's end is missed"),
@@ -127,6 +127,7 @@ MUTANTS = [
     ("reading", POLLING, "M_REGISTER_FIRST", "Control::begin", "talk.begin(state.alloc, reading)", "after crews.begin, without the lock: nobody takes the edge"),
     ("reading", POLLING, "M_NOT_AGAIN", "ServerState::visit", "is_again: finish == Finish::Pending", "false: nobody looks again at an ending connection"),
     ("reading", POLLING, "M_AGAIN_UNCALLED", "Poller::look_again", "self.call(at)", "left out"),
+    ("reading", POLLING, "M_READY_WAITS", "Poller::wait", "if !self.ready.is_empty()", "left out: it waits beside slots that it put back"),
     ("reading", POLLING, "M_WAKE_FIRST", "Hub::wake", "if word.fetch_or(bit, Ordering::SeqCst) & bit == 0", "after seat.wake"),
     ("reading", POLLING, "M_MARKS_ARE_LOST", "Hub::take_marks", "word.swap(0, Ordering::SeqCst)", "a load and a store"),
     ("reading", POLLING, "M_CUT_IS_FORGOTTEN", "ServerState::read", "Ok(Turn::Cut) => Then::More", "Then::Nothing: what is left in the feeder is forgotten"),

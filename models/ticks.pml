@@ -1,11 +1,11 @@
-/* READERS threads that read from workers, which each grab GRABS times, the control thread, and a clock that goes on SECONDS times. Each of
+/* THREADS threads that read from workers, which each grab GRABS times, the control thread, and a clock that goes on SECONDS times. Each of
  * them hands in the time before a grab, and the control thread before each connection that it takes (ServerState::update_time and tick,
  * state.rt; Applier::apply_unit, applier.rt; Control::take_all and admit, accepting.rt). With LONG a thread may hold its batch's locks
  * over its unit. What a tick queues is a count, and a slot's touch notes it (deliver.pml has what comes of a touch).
  * Ticks: each second is handed in once, in order; a grab comes only once the second that its thread read was; the last
  * second is; each slot that a tick touched is touched. No deadlock. */
-#ifndef READERS
-#define READERS 2
+#ifndef THREADS
+#define THREADS 2
 #endif
 #ifndef GRABS
 #define GRABS 2
@@ -61,7 +61,7 @@ inline update_time() {
 #endif
         fi;
         UNLOCK(control);
-#ifdef M_TICK_TELLS_NOBODY
+#ifdef M_TICK_NOTIFIES_NOBODY
         is_first = false;
 #endif
         if
@@ -72,7 +72,7 @@ inline update_time() {
     fi
 }
 
-proctype Reader() {
+proctype Thread() {
     byte now = 0; bool is_first = false; byte n = 0; bool alone = false; bool turn = false;
     do
     :: n < GRABS ->
@@ -121,7 +121,7 @@ init {
     byte i = 0;
     atomic {
         do
-        :: i < READERS -> run Reader(); i++
+        :: i < THREADS -> run Thread(); i++
         :: else -> break
         od }
 }
