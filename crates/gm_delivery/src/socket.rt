@@ -119,7 +119,7 @@ impl WriteHalf {
     }
 }
 
-/// Who writes: a thread with a clock, at a connection of a server, which waits for a slow peer or not.
+/// The thread that writes: it has a clock, is at a connection of a server, and waits for a slow peer or not.
 #[derive(Drop)]
 pub(crate) struct Writing<'a, K, R, S> {
     pub(crate) rt: &'a R,

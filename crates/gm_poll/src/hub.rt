@@ -94,7 +94,7 @@ impl Hub {
         };
         let place = slot as usize / self.seats.len().max(1);
         if let Some(word) = seat.marks.get(place / MARKS) {
-            // Whoever marked it before woke the thread, which hasn't taken the marks since.
+            // A thread that marked it before woke the seat's, which hasn't taken the marks since.
             let bit = 1 << (place % MARKS);
             if word.fetch_or(bit, Ordering::SeqCst) & bit == 0 {
                 seat.wake();

@@ -12,7 +12,7 @@ use Rattle.gm_server.specs.Connections.{AreServed}
 use Rattle.gm_server.specs.declared.slot.Account.{Account}
 
 -- The desk of this number, which had seen this of the history, handed in what was read from the slot's connections; and to each was written what the pen of
--- this slot gave for it, when it had seen this and taken so many NOOPs.
+-- this slot gave for it, when it had seen this and taken this count of NOOPs.
 pub record IsAccount (desk : ℕ × List Entry) (pen : ℕ × List Entry × ℕ) (limits : Limits) (heard : Hearings) (sent : Sent) : Type 0 where
   pub talking : Option TalkingState
   pub are_heard : AreHeard desk.0 limits heard.past heard.since

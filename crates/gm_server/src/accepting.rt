@@ -32,7 +32,7 @@ const ENFILE: i32 = 23;
 /// The error of a socket that doesn't listen in this way (accept(2)).
 const EOPNOTSUPP: i32 = 95;
 
-/// How long a write waits that may wait. Whoever writes looks then whether the connection is to end.
+/// How long a write waits that may wait. The thread that writes looks then whether the connection is to end.
 const WRITE_TIMEOUT_MS: u64 = 250;
 
 /// Has `accept` return where no connection comes for a while.

@@ -9,7 +9,7 @@ pub struct Report {
     pub slots: u32,
     /// How many connections were refused since the start.
     pub refused: u64,
-    /// How many were cut since then for want of memory.
+    /// How many were cut since then as there was no memory.
     pub cut: u64,
 }
 

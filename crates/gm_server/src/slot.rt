@@ -12,7 +12,7 @@ use std::sync::Mutex;
 /// What a slot has of its own.
 #[derive(Drop)]
 pub(crate) struct Slot<K: BookName> {
-    /// What its connection says. Whoever reads from it has it meanwhile.
+    /// What its connection says. The thread that reads from it has it meanwhile.
     pub(crate) talk: Mutex<Talk<K, ReadHalf>>,
     /// What its connection is sent.
     pub(crate) lane: Lane<K>,

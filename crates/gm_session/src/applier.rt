@@ -25,7 +25,7 @@ use std::sync::Wait;
 /// The most pieces that a session reads.
 const MOST_PIECES: u64 = 1_099_511_627_776;
 
-/// What is around a session: the book at which its units are handed in, what they pass before, and who notifies others.
+/// What is around a session: the book at which its units are handed in, what they pass before, and the server that notifies others.
 #[derive(Drop)]
 pub struct Around<'s, K: BookName, R, G, N> {
     pub alloc: Global,

@@ -132,7 +132,7 @@ pub trait Audience {
     ghost is_nobody: { Bool } = { false };
 }
 
-/// What a session meets that operators are told of.
+/// What a session meets that is said to operators.
 #[derive(Clone, Copy, Debug, PartialEq, Eq)]
 pub enum Oddity {
     /// A packet of this type, which isn't a request's.
