@@ -66,7 +66,7 @@ RUNS = [
     ("server", "shutdown", "quiet", "-DCALLS=1 -DADMIN=0 -DWANTS=1 -DLISTEN=1 -DDEAF=3", "set", "memory and the listener fail; one call, a peer may be slow"),
     ("server", "shutdown", "quiet", "-DN=2 -DCALLS=2 -DDEAF=2 -DFEW", "all", "two slots, an I/O thread"),
     ("server", "shutdown", "bits", "-DN=2 -DCALLS=2 -DDEAF=0", "all", "two slots: a connection is opened and begun while stop() runs"),
-    ("server", "shutdown", "bits", "-DN=2 -DCALLS=2 -DADMIN=2 -DDEAF=0", "all", "shutdown graceful, two slots"),
+    ("server", "shutdown", "bits", "-DN=2 -DCALLS=2 -DADMIN=2 -DDEAF=2", "all", "shutdown graceful, two slots"),
 ]
 
 DELIVER = ("deliver", "all", "-DUNBOUNDED")
