@@ -1,5 +1,7 @@
 """Plays a script on a running gmd, and compares what each connection reads with what gm_play prints for the script."""
+import contextlib
 import re
+import socket
 import subprocess
 import time
 
@@ -86,10 +88,12 @@ class Peer(Client):
         self.compare()
 
     def ends(self):
-        """The same, and then the server ends it without a further byte."""
+        """The same, and then the server ends it without a further byte. It waits then for the peer's end."""
         while self.take():
             pass
         self.compare()
+        with contextlib.suppress(OSError):
+            self.socket.shutdown(socket.SHUT_WR)
 
     def lists(self):
         """The lines that `workers` gets."""

@@ -1,10 +1,10 @@
 /* A library to be preloaded in a program: it lets one call of the program fail, the Nth of its kind.
  *
- * The variable FAIL is KIND:N, or KIND:N.. for the Nth and all that follow. KIND is growth (malloc, calloc and realloc),
- * read (read and recv), write (write and writev), or send (send and sendmsg). Where a call failed, a byte is written to the
- * descriptor of the variable FAIL_TOLD. Where KIND is accept, each accept after the Nth connection fails as that of a
- * listener that failed. Where FAIL is options, no call fails: before each send that descriptor gets six numbers, to which
- * the socket's options are set (OPTION_NAMES).
+ * The variable FAIL is KIND:N, or KIND:N.. for the Nth and all that follow. KIND is growth (malloc, calloc and realloc), late
+ * (growths behind the first of 16 MiB), read (read and recv), write (write and writev), send (send and sendmsg), or setting
+ * (setsockopt). Where a call failed, a byte is written to the descriptor of the variable FAIL_TOLD. Where KIND is accept, each
+ * accept after the Nth connection fails with the error of the variable FAIL_ERROR, a number. Where FAIL is options, no call fails:
+ * before each send that descriptor gets six numbers, to which the socket's options are set (OPTION_NAMES).
  *
  * A test asks for it itself: a growth to 2^47 + N bytes, which succeeds nowhere else, has the Nth growth after it refused, and
  * one to 2^47 bytes ends that, and succeeds where one was refused. */
@@ -18,14 +18,14 @@ extern long syscall(long, ...);
 extern char *getenv(const char *);
 extern int *__errno_location(void);
 
-enum { NONE, GROWTH, READ, WRITE, SEND, ACCEPT, OPTIONS };
-enum { SYS_READ = 0, SYS_WRITE = 1, SYS_WRITEV = 20, SYS_SENDTO = 44, SYS_RECVFROM = 45, SYS_SENDMSG = 46, SYS_GETSOCKOPT = 55,
-       SYS_ACCEPT4 = 288 };
+enum { NONE, GROWTH, LATE, READ, WRITE, SEND, SETTING, ACCEPT, OPTIONS };
+enum { SYS_READ = 0, SYS_WRITE = 1, SYS_WRITEV = 20, SYS_SENDTO = 44, SYS_RECVFROM = 45, SYS_SENDMSG = 46, SYS_SETSOCKOPT = 54,
+       SYS_GETSOCKOPT = 55, SYS_ACCEPT4 = 288 };
 enum { SOL_SOCKET = 1, SO_KEEPALIVE = 9, IPPROTO_TCP = 6, TCP_NODELAY = 1, TCP_KEEPIDLE = 4, TCP_KEEPINTVL = 5, TCP_KEEPCNT = 6,
        TCP_USER_TIMEOUT = 18 };
-enum { EIO = 5, ENOMEM = 12, EINVAL = 22 };
+enum { EIO = 5, ENOMEM = 12 };
 
-static const size_t ASKED = 1ul << 47;
+static const size_t ASKED = 1ul << 47, LONG = 1ul << 24;
 
 static const int OPTION_NAMES[][2] = {{SOL_SOCKET, SO_KEEPALIVE}, {IPPROTO_TCP, TCP_KEEPIDLE}, {IPPROTO_TCP, TCP_KEEPINTVL},
                                       {IPPROTO_TCP, TCP_KEEPCNT}, {IPPROTO_TCP, TCP_USER_TIMEOUT}, {IPPROTO_TCP, TCP_NODELAY}};
@@ -34,7 +34,9 @@ static int kind;     /* which calls are counted */
 static int forever;  /* whether all fail from the Nth on */
 static long left;    /* how many succeed before the first that fails */
 static int has_failed;
+static int is_late; /* whether there was a growth of this length */
 static int told = -1;
+static int accept_error;
 
 static long number_at(const char *text) {
     long number = 0;
@@ -51,10 +53,12 @@ static const char *after(const char *text, const char *word) {
 }
 
 __attribute__((constructor)) static void read_settings(void) {
-    static const char *const KINDS[] = {"", "growth:", "read:", "write:", "send:", "accept:", "options"};
+    static const char *const KINDS[] = {"", "growth:", "late:", "read:", "write:", "send:", "setting:", "accept:", "options"};
     const char *text = getenv("FAIL"), *number;
     if (getenv("FAIL_TOLD"))
         told = number_at(getenv("FAIL_TOLD"));
+    if (getenv("FAIL_ERROR"))
+        accept_error = number_at(getenv("FAIL_ERROR"));
     for (int at = GROWTH; text && at <= OPTIONS; at++)
         if ((number = after(text, KINDS[at]))) {
             left = number_at(number);
@@ -75,6 +79,17 @@ static int fails(int of, int error) {
         syscall(SYS_WRITE, told, "x", 1);
     *__errno_location() = error;
     return 1;
+}
+
+/* Whether this growth is to fail. */
+static int fails_growth(size_t size) {
+    if (kind != LATE)
+        return fails(GROWTH, ENOMEM);
+    if (__atomic_load_n(&is_late, __ATOMIC_SEQ_CST))
+        return fails(LATE, ENOMEM);
+    if (size >= LONG)
+        __atomic_store_n(&is_late, 1, __ATOMIC_SEQ_CST);
+    return 0;
 }
 
 /* Tells what a socket's options are set to. */
@@ -102,15 +117,15 @@ static int is_granted(size_t number) {
 void *malloc(size_t size) {
     if (size >= ASKED && size - ASKED < 1ul << 32)
         return is_granted(size - ASKED) ? __libc_malloc(1) : 0;
-    return fails(GROWTH, ENOMEM) ? 0 : __libc_malloc(size);
+    return fails_growth(size) ? 0 : __libc_malloc(size);
 }
 
 void *calloc(size_t count, size_t size) {
-    return fails(GROWTH, ENOMEM) ? 0 : __libc_calloc(count, size);
+    return fails_growth(count * size) ? 0 : __libc_calloc(count, size);
 }
 
 void *realloc(void *block, size_t size) {
-    return fails(GROWTH, ENOMEM) ? 0 : __libc_realloc(block, size);
+    return fails_growth(size) ? 0 : __libc_realloc(block, size);
 }
 
 long read(int fd, void *bytes, size_t size) {
@@ -145,9 +160,13 @@ long sendmsg(int fd, const void *message, int flags) {
     return fails(SEND, EIO) ? -1 : syscall(SYS_SENDMSG, fd, message, flags);
 }
 
+int setsockopt(int fd, int level, int name, const void *value, unsigned size) {
+    return fails(SETTING, EIO) ? -1 : syscall(SYS_SETSOCKOPT, fd, level, name, value, size);
+}
+
 int accept4(int fd, void *address, void *size, int flags) {
     if (kind == ACCEPT && left <= 0) {
-        *__errno_location() = EINVAL;
+        *__errno_location() = accept_error;
         return -1;
     }
     long taken = syscall(SYS_ACCEPT4, fd, address, size, flags);

@@ -1,8 +1,10 @@
 """A gmd that runs, and connections to it over loopback."""
 import contextlib
 import os
+import re
 import socket
 import subprocess
+import time
 
 from trials import ROOM_PATH, Wrong
 
@@ -57,19 +59,21 @@ def on_free_port(start):
     raise Wrong("each port is taken by another")
 
 
-# Options that each server is given besides: tests/serve and others try the same with `EXTRA="--readers 2"`.
+# Options that each server is given besides: tests/serve and others try the same with `EXTRA="--io-threads 2"`.
 EXTRA = os.environ.get("EXTRA", "").split()
+# How many threads serve all connections; with 0 each has two of its own.
+IO_THREADS = int(EXTRA[EXTRA.index("--io-threads") + 1]) if "--io-threads" in EXTRA else 0
 
 
 class Server:
     """A server in the background, which listens or has ended."""
 
-    def __init__(self, program, *options, under=(), env=None, told=()):
+    def __init__(self, program, *options, under=(), env=None, told=(), extra=tuple(EXTRA)):
         self.error = open(ROOM_PATH / "error", "w+b")
 
         def start(port):
             self.port = port
-            self.process = subprocess.Popen([*under, program, "--listen", "127.0.0.1", "--port", str(port), *options, *EXTRA], env=env,
+            self.process = subprocess.Popen([*under, program, "--listen", "127.0.0.1", "--port", str(port), *options, *extra], env=env,
                                             stdin=subprocess.DEVNULL, stdout=subprocess.PIPE, stderr=self.error, pass_fds=told)
             try:
                 self.said = self.process.stdout.readline()
@@ -106,6 +110,20 @@ class Server:
             return self.process.wait(PATIENCE) == status and line in self.errors()
         except subprocess.TimeoutExpired:
             raise Wrong("the server doesn't end") from None
+
+    def says(self, text):
+        """Whether this comes on standard error, which a thread of its own writes."""
+        begun = time.monotonic()
+        while text not in self.errors():
+            if time.monotonic() > begun + PATIENCE:
+                return False
+            time.sleep(0.01)
+        return True
+
+    def threads(self):
+        """How many threads it has."""
+        with open(f"/proc/{self.process.pid}/status", encoding="ascii") as status:
+            return int(re.search("^Threads:\t([0-9]+)$", status.read(), re.M)[1])
 
     def ended(self, status, line=""):
         """It ends so."""
