@@ -4,15 +4,14 @@ import bisect
 import itertools
 import re
 
-from loopback import (ECHO_REQ, ECHO_RES, JOB_ASSIGN, JOB_ASSIGN_UNIQ, SUBMIT_JOB, SUBMIT_JOB_BG, SUBMIT_JOB_HIGH, SUBMIT_JOB_HIGH_BG,
-                      SUBMIT_JOB_LOW, SUBMIT_JOB_LOW_BG, WORK_COMPLETE, WORK_DATA, WORK_EXCEPTION, WORK_WARNING, kind_of, unit_end)
+import packets
+from packets import kind_of, unit_end
 
 SIZES = [65_535, 65_536, 65_537, 1_048_576]
 LONGEST = 16_777_216  # bytes of a script
 # How many arguments a packet has before its body, which may be of any length.
-REQUESTS = {ECHO_REQ: 0, WORK_COMPLETE: 1, WORK_EXCEPTION: 1, WORK_DATA: 1, WORK_WARNING: 1, SUBMIT_JOB: 2, SUBMIT_JOB_BG: 2,
-            SUBMIT_JOB_HIGH: 2, SUBMIT_JOB_HIGH_BG: 2, SUBMIT_JOB_LOW: 2, SUBMIT_JOB_LOW_BG: 2}
-ANSWERS = {ECHO_RES: 0, WORK_COMPLETE: 1, WORK_EXCEPTION: 1, WORK_DATA: 1, WORK_WARNING: 1, JOB_ASSIGN: 2, JOB_ASSIGN_UNIQ: 3}
+REQUESTS, ANSWERS = ({kind: len(arguments) - 1 for kind, (_, arguments) in table.items() if arguments.endswith("b")}
+                     for table in (packets.REQUESTS, packets.RESPONSES))
 FILLER = bytes(range(256))
 
 

@@ -1,14 +1,17 @@
 """Scripts for gm_play, made at random."""
-from loopback import packet
+from packets import (CAN_DO, CAN_DO_TIMEOUT, GET_STATUS, GRAB_JOB, GRAB_JOB_UNIQ, PRE_SLEEP, REQUESTS, SUBMIT_JOB, SUBMIT_JOB_BG,
+                     WORK_COMPLETE, packet)
 
-# The packet types of requests, each with a letter for each argument; what jobs live on is there more than once.
-KINDS = """1f 1f 2f 3 4 4 4 7fub 7fub 9 9 9 12hnn 13hb 13hb 14h 15h 15h 16b 18fub 18fub 21fub 22b 23fn 23fn 25hb 26o 28hb 29hb 30 30
-    32fub 33fub 34fub""".split()
+# What jobs live on is there more than once.
+OFTEN = {PRE_SLEEP: 3, GRAB_JOB: 3} | dict.fromkeys(
+    (CAN_DO, SUBMIT_JOB, WORK_COMPLETE, GET_STATUS, SUBMIT_JOB_BG, CAN_DO_TIMEOUT, GRAB_JOB_UNIQ), 2)
+KINDS = [kind for kind in REQUESTS for _ in range(OFTEN.get(kind, 1))]
 # Few words of each kind, so that they meet.
 WORDS = {
     "f": [b"f", b"g", b"h", b"i"],
     "u": [b"-", b"", b"a", b"b"],
     "b": [b"", b"x", b"yz"],
+    "i": [b"", b"x", b"yz"],
     "h": [b"H:gmd:%d" % n for n in (1, 2, 3, 5, 8, 13, 21, 0)] + [b"H:gmd"],
     "n": [b"1", b"2", b"0"],
     "o": [b"exceptions", b"x"],
@@ -21,8 +24,8 @@ def random_piece(dice, words):
     if dice.randrange(16) == 0:
         return dice.choice(LINES) + b"\n"
     kind = dice.choice(KINDS)
-    letters = kind.lstrip("0123456789")
-    return packet(int(kind[: len(kind) - len(letters)]), *(dice.choice(words[letter]) for letter in letters))
+    _, arguments = REQUESTS[kind]
+    return packet(kind, *(dice.choice(words[letter]) for letter in arguments))
 
 
 def with_ticks(dice):
@@ -45,7 +48,7 @@ def without_ticks(dice, most, length):
     """A script of this length in which no time limit is reached and slot 0 stays open: at first there is half of the connections
     that may be, now and then a body is long, and a connection that breaks the protocol is closed."""
     bodies = [b"", b"x", b"yz"] * 20 + [bytes([65 + n]) * size for n, size in enumerate((65_535, 65_536, 70_000))]
-    words = {**WORDS, "b": bodies, "n": [b"0", b"4294967295"]}
+    words = {**WORDS, "b": bodies, "i": bodies, "n": [b"0", b"4294967295"]}
     lines = ["open 127.0.0.1"] * max(2, most // 2)
     for _ in range(length):
         event = dice.randrange(32)

@@ -6,45 +6,13 @@ import socket
 import subprocess
 import time
 
+from packets import *  # pylint: disable=wildcard-import,unused-wildcard-import
 from trials import ROOM_PATH, Wrong
 
 PATIENCE = 60  # seconds, after which something doesn't come any more
 LISTENING = b"gmd: listening\n"
 TAKEN = "(os error 98)"  # in what a server says whose port another has
-CAN_DO, CANT_DO, RESET_ABILITIES, PRE_SLEEP, NOOP, SUBMIT_JOB, JOB_CREATED, GRAB_JOB, NO_JOB, JOB_ASSIGN = 1, 2, 3, 4, 6, 7, 8, 9, 10, 11
-WORK_STATUS, WORK_COMPLETE, WORK_FAIL, GET_STATUS, ECHO_REQ, ECHO_RES, SUBMIT_JOB_BG, ERROR, STATUS_RES = 12, 13, 14, 15, 16, 17, 18, 19, 20
-SUBMIT_JOB_HIGH, SET_CLIENT_ID, CAN_DO_TIMEOUT, ALL_YOURS, WORK_EXCEPTION, WORK_DATA, WORK_WARNING = 21, 22, 23, 24, 25, 28, 29
-GRAB_JOB_UNIQ, JOB_ASSIGN_UNIQ, SUBMIT_JOB_HIGH_BG, SUBMIT_JOB_LOW, SUBMIT_JOB_LOW_BG = 30, 31, 32, 33, 34
 MEBIBYTE = 1_048_576
-
-
-def packet(kind, *arguments, magic=b"\0REQ"):
-    data = b"\0".join(arguments)
-    return magic + kind.to_bytes(4, "big") + len(data).to_bytes(4, "big") + data
-
-
-def kind_of(unit):
-    """A packet's type, or None of a line."""
-    return None if unit[0] else int.from_bytes(unit[4:8], "big")
-
-
-def unit_end(stream, begin=0):
-    """Where the unit ends that begins here in a stream, or None where bytes of it are missing."""
-    if begin == len(stream):
-        return None
-    if stream[begin]:
-        return stream.find(b"\n", begin) + 1 or None
-    end = begin + 12 + int.from_bytes(stream[begin + 8 : begin + 12], "big")
-    return end if begin + 12 <= len(stream) and end <= len(stream) else None
-
-
-def units_of(stream):
-    """The whole units of a stream, and the bytes behind them."""
-    units, begin = [], 0
-    while end := unit_end(stream, begin):
-        units.append(bytes(stream[begin:end]))
-        begin = end
-    return units, bytes(stream[begin:])
 
 
 def on_free_port(start):
