@@ -79,10 +79,10 @@ class Server:
         except subprocess.TimeoutExpired:
             raise Wrong("the server doesn't end") from None
 
-    def says(self, text):
-        """Whether this comes on standard error, which a thread of its own writes."""
+    def says(self, text, count=1):
+        """Whether this comes on standard error so often, which a thread of its own writes."""
         begun = time.monotonic()
-        while text not in self.errors():
+        while self.errors().count(text) < count:
             if time.monotonic() > begun + PATIENCE:
                 return False
             time.sleep(0.01)
