@@ -7,7 +7,8 @@ use std::sync::Wait;
 use std::time::{Clock, Duration, Instant};
 
 /// How long a connection that is to end has for what it is still to be sent: while its peer takes nothing, or the server ends,
-/// from when that was first looked at. So long too what its peer still sends is read and dropped once all is sent.
+/// from when that was first looked at. So long too what its peer still sends is read and dropped once all is sent; where the server ends,
+/// both have this time together.
 pub(crate) const ENDING_TIME_MS: u64 = 2_000;
 
 /// How long it has for what it is still to be sent where its peer takes some.
@@ -49,7 +50,7 @@ pub(crate) fn is_ending<K: BookName>(server: &impl Server<K>, stage: &Stage) -> 
 #[derive(Clone, Copy)]
 pub(crate) struct End {
     /// When it was first looked at.
-    begun: Option<Instant>,
+    pub(crate) begun: Option<Instant>,
     /// When the peer was first seen to take nothing, since it last took some.
     stalled: Option<Instant>,
     /// The connection has had its time.

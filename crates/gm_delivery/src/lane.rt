@@ -223,8 +223,8 @@ impl<K: BookName> Lane<K> {
         match self.send(rt, server, &mut sender, deliverer) {
             Delivery::Late => Finish::Pending,
             _ if has_ended => let_go(&mut sender, deliverer),
-            Delivery::Done if is_ending => linger(rt, &mut sender),
-            Delivery::Shut => linger(rt, &mut sender),
+            Delivery::Done if is_ending => linger(rt, server, &mut sender),
+            Delivery::Shut => linger(rt, server, &mut sender),
             Delivery::Done | Delivery::Over => Finish::Idle,
         }
     }
@@ -255,7 +255,7 @@ impl<K: BookName> Lane<K> {
             if delivery != Delivery::Late {
                 return delivery;
             }
-            if sender.has_had_its_time(rt) {
+            if sender.has_had_its_time(rt, server.is_stopping()) {
                 sender.hang_up();
                 return Delivery::Over;
             }
@@ -273,10 +273,10 @@ impl<K: BookName> Lane<K> {
 
 /// Tells the peer that no more is sent. What it still sends is read and dropped for a while: closing a socket before that would have the
 /// system forget what the peer hasn't read yet.
-fn linger<K: BookName>(rt: &impl Clock, sender: &mut Sender<K>) -> Finish {
+fn linger<K: BookName>(rt: &impl Clock, server: &impl Server<K>, sender: &mut Sender<K>) -> Finish {
     // Modelled in models/lane.h.
     sender.finish();
-    if sender.has_had_its_time(rt) {
+    if sender.has_had_its_time(rt, server.is_stopping()) {
         sender.hang_up();
         return Finish::Idle;
     }

@@ -86,8 +86,8 @@ impl Connection {
         }
     }
 
-    /// Whether it is to end, and has had its time.
-    fn has_had_its_time(&mut self, rt: &impl Clock) -> bool
+    /// Whether it is to end, and has had its time. Where the server ends, that is the time of the whole end.
+    fn has_had_its_time(&mut self, rt: &impl Clock, is_stopping: bool) -> bool
         ensures state { self.new.state ≡ self.old.state }
         ensures half { self.new.half ≡ self.old.half }
         ensures opening { self.new.opening ≡ self.old.opening }
@@ -96,6 +96,9 @@ impl Connection {
         match self.state {
             LineState::Open => self.half.has_had_its_time(),
             LineState::Finished => {
+                if is_stopping && self.finished.is_none() {
+                    self.finished = self.half.end_begun();
+                }
                 has_passed(
                     rt,
                     &mut self.finished,
@@ -249,12 +252,12 @@ impl<K: BookName> Sender<K> {
     }
 
     /// Whether the connection is to end, and has had its time: to take what was left for it, or since all was sent to it.
-    pub(crate) fn has_had_its_time(&mut self, rt: &impl Clock) -> bool
+    pub(crate) fn has_had_its_time(&mut self, rt: &impl Clock, is_stopping: bool) -> bool
         ensures { self.new ≡ self.old }
     {
         // Modelled in models/lane.h.
         match &mut self.connection {
-            Some(connection) => connection.has_had_its_time(rt),
+            Some(connection) => connection.has_had_its_time(rt, is_stopping),
             None => false,
         }
     }

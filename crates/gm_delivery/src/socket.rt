@@ -16,7 +16,7 @@ use std::marker::PhantomData;
 use std::net::{Shutdown, TcpStream};
 use std::os::fd::{AsRawFd, RawFd};
 use std::sync::{Arc, Wait};
-use std::time::Clock;
+use std::time::{Clock, Instant};
 
 /// What is read from a connection's socket.
 #[derive(Drop)]
@@ -111,6 +111,11 @@ impl WriteHalf {
     /// Whether the connection is to end, and has had its time.
     pub(crate) fn has_had_its_time(&self) -> bool {
         self.end.deadline_passed
+    }
+
+    /// When its end was first looked at.
+    pub(crate) fn end_begun(&self) -> Option<Instant> {
+        self.end.begun
     }
 
     /// Whether the last write took all, so that the next one may take some at once.

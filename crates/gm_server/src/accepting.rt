@@ -191,13 +191,14 @@ impl<'s, K: BookName + Send + Sync> Control<'s, K> {
         let Some((slot, opening)) = opened else {
             return Err(Refusal::new(state.want_of_slot()));
         };
-        self.opened = self.opened.saturating_add(1);
         state.begin_connection();
         if !crews::prepare(scope, rt, state, gate, slot) {
             state.close(rt, &mut slot.talk.lock(rt));
             return Err(Refusal::new(Trouble::Threads));
         }
-        self.begin(rt, slot, opening, halves, peer)
+        self.begin(rt, slot, opening, halves, peer)?;
+        self.opened = self.opened.saturating_add(1);
+        Ok(())
     }
 
     /// Takes a connection that came, unless it is gone, or refuses it, and has that said. After a graceful stop each is refused.

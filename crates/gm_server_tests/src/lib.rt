@@ -25,3 +25,5 @@ mod room;
 mod sessions;
 #[cfg(test)]
 mod tapes;
+#[cfg(test)]
+mod words;
