@@ -5,17 +5,22 @@ import socket
 import subprocess
 import time
 
-from loopback import (ALL_YOURS, CAN_DO, CAN_DO_TIMEOUT, CANT_DO, ECHO_REQ, ECHO_RES, GRAB_JOB, GRAB_JOB_UNIQ, PATIENCE, PRE_SLEEP,
-                      RESET_ABILITIES, SET_CLIENT_ID, WORK_COMPLETE, WORK_DATA, WORK_EXCEPTION, WORK_FAIL, WORK_STATUS, WORK_WARNING,
+from loopback import (ALL_YOURS, CAN_DO, CAN_DO_TIMEOUT, CANT_DO, ECHO_REQ, ECHO_RES, GRAB_JOB, GRAB_JOB_UNIQ, NO_JOB, PATIENCE,
+                      PRE_SLEEP, RESET_ABILITIES, SET_CLIENT_ID, WORK_COMPLETE, WORK_DATA, WORK_EXCEPTION, WORK_FAIL, WORK_STATUS, WORK_WARNING,
                       Client, Server, kind_of, packet, unit_end, units_of)
 from trials import Wrong
 
 NOOP = packet(6, magic=b"\0RES")
-ORDER = re.compile(r"open [^ ]+|close [0-9]{1,10}|bytes [0-9]{1,10} ([0-9a-fA-F]{2})+")
+ORDER = re.compile(r"open [^ ]+|close [0-9]{1,10}|tick [0-9]{1,20}|bytes [0-9]{1,10} ([0-9a-fA-F]{2})+")
 # The types that are answered at their own slot perhaps not at all.
 UNANSWERED = {CAN_DO, CANT_DO, RESET_ABILITIES, PRE_SLEEP, SET_CLIENT_ID, CAN_DO_TIMEOUT, ALL_YOURS, WORK_STATUS, WORK_COMPLETE,
               WORK_FAIL, WORK_EXCEPTION, WORK_DATA, WORK_WARNING}
 MARK = b"driver"
+TRIES = 20  # of a script with ticks, whose orders are to be over in time
+
+
+class Late(Exception):
+    """The server's second is over in which an order is to be played."""
 
 
 def steps_of(gm_play, options, script):
@@ -116,11 +121,33 @@ def noops_of(units, noops):
     return 0 if has_grab else noops, max(noops, kinds.count(PRE_SLEEP) + 1) if len(kinds) > 1 else noops
 
 
+class Seconds:
+    """The seconds of a server, of which the first began when the server was started, or as late as it was heard to listen. All up to
+    a tick of the script is played in one of them, and what comes behind it in a later one."""
+
+    def __init__(self, server):
+        self.begun, self.heard = server.begun, server.heard
+        self.second = 0
+        self.moment = 0  # the script's
+
+    def tick(self, moment):
+        """Waits for the second of this tick, which is a later one."""
+        self.second += max(1, moment - self.moment)
+        self.moment = max(moment, self.moment)
+        time.sleep(max(0, self.heard + self.second - time.monotonic()))
+
+    def check(self):
+        """The second isn't over."""
+        if time.monotonic() >= self.begun + self.second + 1:
+            raise Late
+
+
 class Player:
     """Plays on a server that was just started."""
 
     def __init__(self, server, bytewise=False):
         self.server = server
+        self.seconds = Seconds(server)
         self.bytewise = bytewise
         self.peers = {}  # by slot
         self.served = 0
@@ -140,6 +167,8 @@ class Player:
         self.is_over = self.is_over or len(shut) > 1 or any(told.get(slot, (b"",))[0].endswith(b"OK\n") for slot in shut)
         if word == "open":
             self.open(rest[0], printed)
+        elif word == "tick":
+            self.tick(int(rest[0]), told)
         elif (slot := int(rest[0])) in self.peers and word == "close":
             self.close(slot, told)
         elif slot in self.peers:
@@ -204,6 +233,25 @@ class Player:
         for other in shut:
             self.until_closed(other)
 
+    def tick(self, moment, told):
+        """Each connection reads what comes of it, and an echo behind that. The grab of one more makes sure that it was made."""
+        if not self.served:
+            self.seconds.moment = moment  # the script's clock begins there
+            return
+        self.seconds.tick(moment)
+        grabber = Peer(self.server.port, "127.0.0.1")
+        self.served += 1
+        grabber.request(GRAB_JOB)
+        grabber.wants(packet(NO_JOB, magic=b"\0RES"))
+        grabber.reads()
+        for slot, peer in self.peers.items():
+            more, noops = told.get(slot, (b"", 0))
+            peer.wants(more, noops, noops)
+            self.asks(peer)
+            peer.reads()
+        grabber.close()
+        self.until_closed(next(slot for slot in range(len(self.peers) + 1) if slot not in self.peers))
+
     def close(self, slot, told):
         self.peers.pop(slot).close()
         for other, (more, noops) in told.items():
@@ -253,8 +301,8 @@ class Player:
         self.server.ended(0, f"gmd: ended, connections served: {self.served}\n")
 
 
-def play(gmd, options, steps, bytewise=False):
-    """Plays the steps of a script on a gmd with these options."""
+def play_once(gmd, options, steps, bytewise):
+    has_ticks = any(order.startswith("tick") for order, _ in steps)
     with Server(gmd, *options) as server:
         if not server.is_listening():
             raise Wrong(server.errors())
@@ -264,6 +312,17 @@ def play(gmd, options, steps, bytewise=False):
                 player.play(order, printed)
             except (Wrong, OSError) as wrong:
                 raise Wrong(f"{' '.join(options)}: order {number}, {order[:100]}: {wrong}") from None
+            finally:
+                if has_ticks:
+                    player.seconds.check()
         player.finish()
         if "--tape" in options and "gmd: the tape agrees with what the connections were told, entries: " not in server.errors():
             raise Wrong(server.errors())
+
+
+def play(gmd, options, steps, bytewise=False):
+    """Plays the steps of a script on a gmd with these options."""
+    for _ in range(TRIES):
+        with contextlib.suppress(Late):
+            return play_once(gmd, options, steps, bytewise)
+    raise Wrong(f"{' '.join(options)}: in {TRIES} plays orders were over too late")

@@ -4,6 +4,7 @@ import os
 import re
 import socket
 import subprocess
+import tempfile
 import time
 
 from packets import *  # pylint: disable=wildcard-import,unused-wildcard-import
@@ -37,21 +38,21 @@ class Server:
     """A server in the background, which listens or has ended."""
 
     def __init__(self, program, *options, under=(), env=None, told=(), extra=tuple(EXTRA)):
-        self.error = open(ROOM_PATH / "error", "w+b")
-
         def start(port):
             self.port = port
+            self.error = tempfile.TemporaryFile(dir=ROOM_PATH)
+            self.begun = time.monotonic()
             self.process = subprocess.Popen([*under, program, "--listen", "127.0.0.1", "--port", str(port), *options, *extra], env=env,
                                             stdin=subprocess.DEVNULL, stdout=subprocess.PIPE, stderr=self.error, pass_fds=told)
             try:
                 self.said = self.process.stdout.readline()
+                self.heard = time.monotonic()
                 is_taken = not self.is_listening() and self.process.wait(PATIENCE) == 3 and TAKEN in self.errors()
             except BaseException:
                 self.__exit__()
                 raise
             if is_taken:
-                self.process.stdout.close()
-                self.error.truncate(0)
+                self.__exit__()
             return None, is_taken
 
         on_free_port(start)
@@ -69,8 +70,8 @@ class Server:
         return self.said == LISTENING
 
     def errors(self):
-        self.error.seek(0)
-        return self.error.read().decode(errors="replace")
+        # A seek would move where the server writes.
+        return os.pread(self.error.fileno(), os.fstat(self.error.fileno()).st_size, 0).decode(errors="replace")
 
     def has_ended(self, status, line=""):
         """Whether it ended with this status, and said this on standard error."""
