@@ -1,0 +1,71 @@
+"""A server that is shut down when a trial is done with it, and what its clients and workers do."""
+import contextlib
+import time
+
+from loopback import CAN_DO, GRAB_JOB, JOB_CREATED, PATIENCE, SUBMIT_JOB, Client, Server
+from trials import Wrong, program, same
+
+GMD = program("gmd", "gmd")
+
+
+@contextlib.contextmanager
+def serving(*options, connections):
+    """A server's port. When the test is done with it, it is shut down, ends with status 0, and says how many connections it served."""
+    with Server(GMD, *options) as server:
+        if not server.is_listening():
+            raise Wrong(server.errors())
+        yield server.port
+        last = Client(server.port)
+        same("shutdown", last.lines(b"shutdown"), ["OK"])
+        last.close()
+        server.ended(0, f"gmd: ended, connections served: {connections + 1}\n")
+
+
+def drip(client, most, is_over):
+    """Takes 16 KiB each 4 ms, until it is over. Whether it was over before this many bytes had come."""
+    taken = 0
+    while taken < most and not is_over.is_set():
+        try:
+            piece = client.socket.recv(16_384)
+        except ConnectionResetError:
+            piece = b""
+        if not piece:
+            return True
+        taken += len(piece)
+        time.sleep(0.004)
+    return taken < most
+
+
+def grabbed(worker):
+    worker.request(GRAB_JOB)
+    return worker.answer()[1]
+
+
+def client_and_worker(port, room=None):
+    """A client whose job, the first, runs at the worker."""
+    client, worker = Client(port, room=room), Client(port)
+    client.request(SUBMIT_JOB, b"f", b"", b"")
+    same("a job", client.answer(), (JOB_CREATED, b"H:gmd:1"))
+    worker.request(CAN_DO, b"f")
+    same("the worker's job", grabbed(worker), b"H:gmd:1")
+    return client, worker
+
+
+def comes_between(what, begun, least, most):
+    """Not so many seconds passed since then, nor more than so many."""
+    passed = time.monotonic() - begun
+    if not least <= passed <= most:
+        raise Wrong(f"{what} comes after {passed:.2f} s, and not after {least} to {most}")
+
+
+def comes_in(client, seconds):
+    """The next byte if it comes in so many seconds: none where the connection is closed."""
+    client.socket.settimeout(max(seconds, 0.001))
+    try:
+        return client.socket.recv(1)
+    except TimeoutError:
+        return None
+    except ConnectionError:
+        return b""
+    finally:
+        client.socket.settimeout(PATIENCE)
