@@ -99,6 +99,11 @@ impl<K: BookName> Room<K> {
         refuse(self.alloc, self.growth);
     }
 
+    /// From now on none is. It answers whether one was.
+    pub fn allow_growth(&self) -> bool {
+        refuse(self.alloc, 0)
+    }
+
     /// Keeps the first desk back, or the first pen.
     pub fn lose(&mut self, desk: bool, pen: bool) {
         if desk && self.desks.len() > 0 {

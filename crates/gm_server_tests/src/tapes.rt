@@ -111,8 +111,15 @@ impl Scene for Goes {
         };
         room.apply(rt, 1, line)?;
         room.refuse_growth();
-        if let Err(error) = room.try_apply(rt, 1, Event::Close { slot: 1 }) {
-            same(rt, "a closing", &error, &ApplyError::Memory);
+        let error = room.try_apply(rt, 1, Event::Close { slot: 1 }).err();
+        let is_refused = room.allow_growth();
+        same(
+            rt,
+            "a closing",
+            &error,
+            &is_refused.then_some(ApplyError::Memory),
+        );
+        if is_refused {
             room.try_apply(rt, 1, Event::Close { slot: 1 })?;
         }
         Ok(())
