@@ -161,7 +161,7 @@ inline hold(s, unit) {
     found = 0
 }
 
-/* Applier::apply_unit and apply (applier.rt): one critical section, and Effects::add (effects.rt) of what it touched. A look that may
+/* Applier::apply_unit and apply (applier.rt): one critical section, which adds what it touched to the effects. A look that may
  * be followed by a withdrawal is a transition of its own. No pen can tell the other steps at words apart: AWAKE and ASLEEP are the
  * same to it. */
 inline apply(s, unit) {

@@ -17,6 +17,7 @@ use Rattle.gm_notes.specs.Settings.{Settings}
 use Rattle.gm_notes.specs.Past.{Past, refuse}
 use Rattle.gm_notes.specs.Submissions.{Submission, submit}
 use Rattle.gm_notes.specs.Workers.{work}
+use Rattle.gm_notes.specs.Withdrawals.{is_grab}
 use Rattle.gm_packet.specs.Packets.{Fits}
 use Rattle.gm_actions.specs.Actions.{serve, unread, ReportFits}
 use Rattle.gm_actions.specs.Carried.{HasCome}
@@ -91,6 +92,28 @@ served_work k c (WorkComplete h b) s past is =
 served_work k c (WorkFail h) s past is =
     let same : s ≡ record { handle = h.now; work = ending (work_fail h.now) } = cc in ap (λ (x : SaidOf). work k c x.handle x.work past) same
 served_work k c r s past is = absurd cc
+
+-- none of them asks for a job
+pub no_grab_foreground : (r : Request) (s : Submission) → Some s ≡ foreground_by r → is_grab (asked_of r).kind ≡ false
+no_grab_foreground (SubmitJob f u b) s is = refl
+no_grab_foreground (SubmitJobHigh f u b) s is = refl
+no_grab_foreground (SubmitJobLow f u b) s is = refl
+no_grab_foreground r s is = absurd cc
+
+pub no_grab_background : (r : Request) (s : Submission) → Some s ≡ background_by r → is_grab (asked_of r).kind ≡ false
+no_grab_background (SubmitJobBg f u b) s is = refl
+no_grab_background (SubmitJobHighBg f u b) s is = refl
+no_grab_background (SubmitJobLowBg f u b) s is = refl
+no_grab_background r s is = absurd cc
+
+pub no_grab_work : (r : Request) (s : SaidOf) → Some s ≡ said_by r → is_grab (asked_of r).kind ≡ false
+no_grab_work (WorkStatus h a b) s is = refl
+no_grab_work (WorkData h b) s is = refl
+no_grab_work (WorkWarning h b) s is = refl
+no_grab_work (WorkException h b) s is = refl
+no_grab_work (WorkComplete h b) s is = refl
+no_grab_work (WorkFail h) s is = refl
+no_grab_work r s is = absurd cc
 
 stripped_short : (bytes : List ℕ) → length (strip_last 0 bytes) ≤ length bytes
 stripped_short bytes = go (ends_with_byte 0 bytes) where

@@ -5,3 +5,4 @@ pub mod Bodies
 pub mod Groups
 pub mod Lines
 pub mod Refusals
+pub mod ReadEvents

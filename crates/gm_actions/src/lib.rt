@@ -5,6 +5,7 @@
 mod actions;
 mod answers;
 mod deadlines;
+mod events;
 mod faults;
 mod handles;
 mod lines;
@@ -14,6 +15,7 @@ mod refusal;
 pub use actions::{About, Action, Report, Said, Submission};
 pub use answers::{JobView, assignment, known_status, unknown_status};
 pub use deadlines::deadline_after;
+pub use events::ReadEvent;
 pub use faults::append_fault;
 pub use handles::{handle, number_in};
 pub use lines::read_line;

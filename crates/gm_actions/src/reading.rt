@@ -6,12 +6,15 @@ ghost use Rattle.std.specs.Str.{bytes_eq};
 ghost use Rattle.std.specs.Prelude.{codes};
 ghost use Rattle.gm_packet.specs.Answers.{answer_of};
 ghost use Rattle.gm_packet.specs.Kinds.{kind_of};
+ghost use Rattle.gm_packet.specs.Requests.{request_of};
 ghost use Rattle.gm_packet.specs.Views.{asked_of};
 ghost use Rattle.gm_notes.specs.Settings.{Settings};
 ghost use Rattle.gm_notes.specs.Past.{Past};
 ghost use Rattle.gm_notes.specs.Requests.{packet_of, set_option};
 ghost use Rattle.gm_notes.specs.Submissions.{is_bad_name, submit};
 ghost use Rattle.gm_notes.specs.Workers.{can_do, cant_do};
+ghost use Rattle.gm_notes.specs.Withdrawals.{is_grab, asks_a_job};
+ghost use Rattle.gm_actions.specs.ReadEvents.{grabs};
 ghost use Rattle.gm_actions.specs.Actions.{acted, serve, unread, submission_of, needs_no_memory, NeedsNoMemory, IsNamed};
 ghost use Rattle.gm_actions.specs.Actions.{CanBeTold, ActsWithoutMemory};
 ghost use Rattle.gm_actions.specs.Carried.{HasCome, IsCarried};
@@ -230,6 +233,7 @@ fn read_work<'a>(request: &Request<'a>, bytes: &Data<'a>) -> Option<About<'a>>
 fn check_can_do<'a>(function: &'a [u8], timeout: u32) -> Result<Action<'a>, Refusal>
     ensures does { (k : Settings) (c : ℕ) (past : Past) → acted k c result past ≡ can_do k c function.now timeout past }
     ensures named { IfOk result IsNamed }
+    ensures no_grab { grabs result ≡ false }
     ensures told { IfOk result CanBeTold }
 {
     if is_bad_name(function) {
@@ -243,6 +247,7 @@ fn check_can_do<'a>(function: &'a [u8], timeout: u32) -> Result<Action<'a>, Refu
 fn check_cant_do<'a>(function: &'a [u8]) -> Result<Action<'a>, Refusal>
     ensures does { (k : Settings) (c : ℕ) (past : Past) → acted k c result past ≡ cant_do c function.now past }
     ensures named { IfOk result IsNamed }
+    ensures no_grab { grabs result ≡ false }
     ensures told { IfOk result CanBeTold }
 {
     if is_bad_name(function) {
@@ -256,6 +261,7 @@ fn check_cant_do<'a>(function: &'a [u8]) -> Result<Action<'a>, Refusal>
 fn check_option<'a>(name: &'a [u8]) -> Result<Action<'a>, Refusal>
     ensures does { (k : Settings) (c : ℕ) (past : Past) → acted k c result past ≡ set_option c name.now past }
     ensures named { IfOk result IsNamed }
+    ensures no_grab { grabs result ≡ false }
     ensures told { IfOk result CanBeTold }
 {
     if is_option(name) {
@@ -269,6 +275,7 @@ fn check_option<'a>(name: &'a [u8]) -> Result<Action<'a>, Refusal>
 fn check_submission<'a>(asked: Submission<'a>) -> Result<Action<'a>, Refusal>
     ensures does { (k : Settings) (c : ℕ) (past : Past) → acted k c result past ≡ submit k c (submission_of asked.entry) past }
     ensures named { IfOk result IsNamed }
+    ensures no_grab { grabs result ≡ false }
     ensures told { IsCarried asked.entry.function.now asked.entry.unique.now asked.entry.body.bytes.now → IfOk result CanBeTold }
 {
     if is_bad_name(asked.function) {
@@ -288,6 +295,7 @@ fn read_other<'a>(request: &Request<'a>, bytes: &Data<'a>) -> Result<Action<'a>,
     ensures named { IfOk result IsNamed }
     ensures told { HasCome (asked_of request.now) → IfOk result CanBeTold }
     ensures memory { needs_no_memory (asked_of request.now).kind ≡ true → ActsWithoutMemory result }
+    ensures grab { grabs result ≡ is_grab (asked_of request.now).kind }
 {
     match *request {
         Request::CanDo { function } => check_can_do(function, 0),
@@ -315,6 +323,7 @@ fn read_request<'a>(request: &Request<'a>, bytes: &Data<'a>) -> Result<Action<'a
     ensures named { IfOk result IsNamed }
     ensures told { HasCome (asked_of request.now) → IfOk result CanBeTold }
     ensures memory { needs_no_memory (asked_of request.now).kind ≡ true → ActsWithoutMemory result }
+    ensures grab { grabs result ≡ is_grab (asked_of request.now).kind }
 {
     if let Some(found) = read_foreground(request, bytes) {
         return check_submission(found);
@@ -335,6 +344,7 @@ impl<'a> Action<'a> {
         ensures named { IfOk result IsNamed }
         ensures told { length bytes.now.bytes.now ≤ 1073741824 → IfOk result CanBeTold }
         ensures memory { NeedsNoMemory kind bytes.now.bytes.now → ActsWithoutMemory result }
+        ensures grab { grabs result ≡ asks_a_job (request_of kind bytes.now.bytes.now) }
     {
         match Request::read(kind, bytes.as_slice()) {
             Ok(request) => read_request(&request, bytes),

@@ -86,16 +86,6 @@ impl SlotSet {
         }
     }
 
-    /// Puts each slot of the other set in.
-    pub fn union(&mut self, other: &SlotSet)
-        ensures { (i : ℕ) → has self.new i ≡ (has self.old i || has other.now i) }
-    {
-        for at in 0..WORDS {
-            self.words[at as usize] |= other.words[at as usize];
-        }
-        self.used |= other.used;
-    }
-
     /// The least slot of the set from `from` on.
     pub fn next(&self, from: u32) -> Option<u32>
         ensures found { IfSome result (λ r. (from ≤ r) × (r < 1024) × IsTrue (has self.now r)) }

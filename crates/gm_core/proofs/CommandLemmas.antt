@@ -134,7 +134,7 @@ goes_limit old new name f size only at changes =
     goes_functions old new (with_note (Limit name size)) only
     (λ p keeps.
     let same : record old.functions { limits = new.functions.limits } ≡ new.functions =
-    (λ i. record { most = sym changes.most i; names = sym changes.names i; limits = new.functions.limits; queues = sym changes.queues i }) in
+    (λ i. record { seed = sym changes.seed i; most = sym changes.most i; names = sym changes.names i; limits = new.functions.limits; queues = sym changes.queues i }) in
     record {
       conns = subst (λ (l : List (List ℕ)). HoldsConns old.config old.conns l (conn_facts p.notes) (λ c. waiting c p.flow)) (sym changes.names) keeps.conns;
       functions = functions_limited old.functions new.functions name f size at changes old.config p.notes keeps.functions;

@@ -17,7 +17,7 @@ none_made : (first n : ℕ) → (nat_le first n && nat_lt n first) ≡ false
 none_made first n = grind (arith, nat_tests)
 
 pub holds_nothing : (k : Settings) (seed : RandomState) (table : Table) → length table.conns ≡ k.slots → ((c : ℕ) → conn table c ≡ closed) → k.first_job ≤ 2 ^ 64 → 0 < k.first_job
-    → Holds k table (no_functions k.max_functions) (no_jobs seed k.first_job) 0 Running nothing
+    → Holds k table (no_functions seed k.max_functions) (no_jobs seed k.first_job) 0 Running nothing
 holds_nothing k seed table slots ends fits positive = record {
   conns = record {
     slots = slots;

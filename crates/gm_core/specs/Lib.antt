@@ -1,4 +1,5 @@
 pub mod Facts
+pub mod Freed
 pub mod Holds
 pub mod Listings
 pub mod Telling

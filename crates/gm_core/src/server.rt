@@ -26,6 +26,7 @@ mod waking;
 mod working;
 
 use crate::written::Written;
+use gm_actions::{Action, ReadEvent};
 use gm_bytes::{ByteQueue, Data, SharedBytes};
 use gm_conns::Conns;
 use gm_jobs::Jobs;
@@ -60,10 +61,13 @@ impl Core {
     ghost use Rattle.gm_core.specs.Holds.{outbox, Holds, Goes, Does, AllTouched, CoreAgrees};
     ghost use Rattle.gm_core.specs.Writing.{IsLight};
     ghost use Rattle.gm_core.specs.NoMemory.{NeedsNoMemory};
+    ghost use Rattle.gm_core.specs.Freed.{Frees};
+    ghost use Rattle.gm_actions.specs.ReadEvents.{ReadsEvent};
 
     /// A server to which nothing has happened. Names and ids come from strangers, so its tables hash with this seed.
     pub fn new(alloc: Global, seed: RandomState, config: Config) -> Result<Core, AllocError>
-        ensures { IfOk result (λ core. CoreAgrees core config []) }
+        ensures agrees { IfOk result (λ core. CoreAgrees core config []) }
+        ensures seed { IfOk result (λ core. (core.functions.seed ≡ seed) × (core.jobs.seed ≡ seed)) }
     {
         let conns = Conns::new(alloc, config.slots())?;
         let functions = Functions::new(alloc, seed, config.max_functions())?;
@@ -104,42 +108,46 @@ impl Core {
         self.conns.take_touched()
     }
 
-    /// As `apply`, for a caller with a lock: where a job ends whose body is shared, `freed` becomes an owner of it, so that it
+    /// As `apply`, for a caller with a lock: where a worker ends its job, and the body is shared, `freed` becomes an owner of it, so that it
     /// can be freed later, as it may be long. Whatever it answers, it keeps no long text that it wrote.
     pub fn apply_locked(
         &mut self,
-        event: &Event<'_>,
+        read: &ReadEvent<'_>,
         freed: &mut Option<SharedBytes>,
     ) -> Result<Done, ApplyError>
-        requires size { IsSized event.now }
+        requires size { IsSized read.now.event }
+        requires reads { ReadsEvent read.now.event read.now.action }
         ensures answers { (k : Settings) (steps : List Step) → CoreAgrees self.old k steps
-            → Answers k steps (step_of event.now) result
-            × CoreAgrees self.new k (steps_after result (step_of event.now) steps) }
-        ensures memory { NeedsNoMemory self.old event.now → IsErrOf result ApplyError.Memory → ⊥ }
+            → Answers k steps (step_of read.now.event) result
+            × CoreAgrees self.new k (steps_after result (step_of read.now.event) steps) }
+        ensures memory { NeedsNoMemory self.old read.now.event → IsErrOf result ApplyError.Memory → ⊥ }
         ensures touched { AllTouched self.old.conns self.new.conns }
+        ensures freed { Frees self.old.jobs self.new.jobs freed.old freed.new }
         ensures light { IsLight self.new.text }
     {
-        let answer = self.take(event, freed);
+        let answer = self.take(read, freed);
         self.text.let_go();
         answer
     }
 
-    /// Takes an event.
+    /// Takes an event, which was read.
     fn take(
         &mut self,
-        event: &Event<'_>,
+        read: &ReadEvent<'_>,
         freed: &mut Option<SharedBytes>,
     ) -> Result<Done, ApplyError>
-        requires size { IsSized event.now }
+        requires size { IsSized read.now.event }
+        requires reads { ReadsEvent read.now.event read.now.action }
         ensures answers { (k : Settings) (steps : List Step) → CoreAgrees self.old k steps
-            → Answers k steps (step_of event.now) result
-            × CoreAgrees self.new k (steps_after result (step_of event.now) steps) }
-        ensures memory { NeedsNoMemory self.old event.now → IsErrOf result ApplyError.Memory → ⊥ }
+            → Answers k steps (step_of read.now.event) result
+            × CoreAgrees self.new k (steps_after result (step_of read.now.event) steps) }
+        ensures memory { NeedsNoMemory self.old read.now.event → IsErrOf result ApplyError.Memory → ⊥ }
         ensures touched { AllTouched self.old.conns self.new.conns }
+        ensures freed { Frees self.old.jobs self.new.jobs freed.old freed.new }
     {
-        match *event {
+        match read.event {
             Event::Open { addr } => self.open(addr),
-            Event::Packet { slot, kind, bytes } => self.packet(slot, kind, &bytes, freed),
+            Event::Packet { slot, .. } => self.packet(slot, &read.action, freed),
             Event::Line { slot, bytes } => self.line(slot, bytes),
             Event::Fault { slot, fault } => self.fault(slot, fault),
             Event::Close { slot } => self.close(slot),
@@ -167,9 +175,18 @@ impl JobServer for Core {
             && let Some(copy) = bytes.copy_long(self.alloc)
         {
             let bytes = Data::shared(&copy);
-            return self.apply_locked(&Event::Packet { slot, kind, bytes }, &mut None);
+            let event = Event::Packet { slot, kind, bytes };
+            let action = Action::of_event(&event);
+            return self.apply_locked(&ReadEvent { event, action }, &mut None);
         }
-        self.apply_locked(event, &mut None)
+        let action = Action::of_event(event);
+        self.apply_locked(
+            &ReadEvent {
+                event: *event,
+                action,
+            },
+            &mut None,
+        )
     }
 
     fn owed(&self, slot: u32) -> bool {

@@ -34,8 +34,9 @@ module _ {A : Type 0} (d : A) where
 
 -- a function more
 pub with_function : (t : Table) (name : List ℕ)
-    → ChangesNames (t.names ++ name ∷ []) t (record { most = t.most; names = t.names ++ name ∷ []; limits = t.limits ++ 0 ∷ []; queues = t.queues ++ no_jobs ∷ no_jobs ∷ no_jobs ∷ [] })
+    → ChangesNames (t.names ++ name ∷ []) t (record { seed = t.seed; most = t.most; names = t.names ++ name ∷ []; limits = t.limits ++ 0 ∷ []; queues = t.queues ++ no_jobs ∷ no_jobs ∷ no_jobs ∷ [] })
 with_function t name = record {
+  seed = refl;
   most = refl;
   names = refl;
   limits = λ g. padded 0 t.limits (0 ∷ []) (one 0) g;
@@ -57,8 +58,9 @@ module _ (t : Table) (last : ℕ) (limits : length t.limits ≡ last + 1) (queue
       elim (cases_lt last g) [ inl above ↦ get_or_past t.queues (3 * g + rank q) no_jobs (omega arith) | inr same ↦ (let e : g ≡ last = omega arith in rw e (free.queues q)) ]
 
   -- a function less
-  pub without_function : ChangesNames (take last t.names) t (record { most = t.most; names = take last t.names; limits = take last t.limits; queues = take (3 * last) t.queues })
+  pub without_function : ChangesNames (take last t.names) t (record { seed = t.seed; most = t.most; names = take last t.names; limits = take last t.limits; queues = take (3 * last) t.queues })
   without_function = record {
+    seed = refl;
     most = refl;
     names = refl;
     limits = λ g. cut 0 t.limits last g (no_limit g);

@@ -2,14 +2,16 @@
 use Rattle.std.specs.Prelude.{◌≡◌, ℕ, ◌+◌, ◌*◌, ◌<◌, ◌==◌, Bool, false, ◌&&◌, if◌then◌else◌, Option}
 use Rattle.std.specs.Prelude.{List, [], ◌++◌, length, position, slice_index, slice_index_or}
 use Rattle.std.specs.Str.{bytes_eq}
+use Rattle.std.specs.declared.hash.RandomState.{RandomState}
 use Rattle.gm_notes.specs.declared.states.Priority.{Priority}
 use Rattle.gm_notes.specs.declared.states.Priority.TheVariants.{High, Normal, Low}
 use Rattle.gm_notes.specs.Jobs.{same_priority}
 use Rattle.gm_queues.specs.Queues.{Queue, Leaves, no_jobs, idle}
 
--- How many functions there may be; their names in the order of mention; their limits; and their queues, three for
--- each function, as `queue` finds them.
+-- The seed with which it hashes; how many functions there may be; their names in the order of mention; their limits; and their
+-- queues, three for each function, as `queue` finds them.
 pub record Table : Type 0 where
+  pub seed : RandomState
   pub most : ℕ
   pub names : List (List ℕ)
   pub limits : List ℕ
@@ -21,8 +23,8 @@ rank Normal = 1
 rank Low = 2
 
 -- no functions, with this bound on their number
-abbrev pub no_functions : ℕ → Table
-no_functions most = record { most = most; names = []; limits = []; queues = [] }
+abbrev pub no_functions : RandomState → ℕ → Table
+no_functions seed most = record { seed = seed; most = most; names = []; limits = []; queues = [] }
 
 -- the number of the function of this name
 abbrev pub number_of : List ℕ → Table → Option ℕ
@@ -53,6 +55,7 @@ is_queue f p g q = f == g && same_priority p q
 
 -- The queue of this function and priority is what the change makes of it, and nothing else changes.
 pub record ChangesQueue (f : ℕ) (p : Priority) (change : Queue → Queue) (old new : Table) : Type 0 where
+  pub seed : new.seed ≡ old.seed
   pub most : new.most ≡ old.most
   pub names : new.names ≡ old.names
   pub limits : new.limits ≡ old.limits
@@ -60,6 +63,7 @@ pub record ChangesQueue (f : ℕ) (p : Priority) (change : Queue → Queue) (old
 
 -- The job left the queue of this function and priority, and nothing else changes.
 pub record ForgetsJob (f : ℕ) (p : Priority) (job : ℕ) (old new : Table) : Type 0 where
+  pub seed : new.seed ≡ old.seed
   pub most : new.most ≡ old.most
   pub names : new.names ≡ old.names
   pub limits : new.limits ≡ old.limits
@@ -68,6 +72,7 @@ pub record ForgetsJob (f : ℕ) (p : Priority) (job : ℕ) (old new : Table) : T
 
 -- The function has this limit, and nothing else changes.
 pub record SetsLimit (f size : ℕ) (old new : Table) : Type 0 where
+  pub seed : new.seed ≡ old.seed
   pub most : new.most ≡ old.most
   pub names : new.names ≡ old.names
   pub limits : (g : ℕ) → limit new g ≡ (if f == g then size else limit old g)
@@ -76,6 +81,7 @@ pub record SetsLimit (f size : ℕ) (old new : Table) : Type 0 where
 -- These are the functions now. Each has the limit and the queues that it had; one that is new, or gone,
 -- has none.
 pub record ChangesNames (now : List (List ℕ)) (old new : Table) : Type 0 where
+  pub seed : new.seed ≡ old.seed
   pub most : new.most ≡ old.most
   pub names : new.names ≡ now
   pub limits : (g : ℕ) → limit new g ≡ limit old g

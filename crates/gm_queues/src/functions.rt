@@ -6,7 +6,7 @@ ghost use Rattle.std.specs.Prelude.{[], ◌∷◌, ◌++◌, length, map, filter
 ghost use Rattle.std.specs.Str.{bytes_eq};
 ghost use Rattle.gm_queues.specs.Queues.{no_jobs, with_reserved_one, without_reserved_one, with_job, without_first};
 ghost use Rattle.std.specs.Vec.{vec_len, vec_capacity};
-ghost use Rattle.indexmap.specs.IndexSet.{spare};
+ghost use Rattle.indexmap.specs.IndexSet.{spare, hasher_of};
 ghost use Rattle.gm_queues.specs.FunctionTables.{no_functions, rank, number_of, limit, queue, waiting_for, running_of, HasIdleRoom};
 ghost use Rattle.gm_queues.specs.FunctionTables.{ChangesQueue, ForgetsJob, SetsLimit, ChangesNames, IsFree};
 
@@ -60,11 +60,12 @@ pub struct Functions {
 
 impl Model for Functions {
     ghost use Rattle.std.specs.Prelude.{◌≡◌, ◌*◌, ◌^◌, ◌<◌, ◌≤◌, length, map};
+    ghost use Rattle.indexmap.specs.IndexSet.{hasher_of};
     ghost use Rattle.gm_queues.specs.FunctionTables.{Table};
 
     ghost Value = { Table };
 
-    ghost view = { λ t. record { most = t.most; names = map (λ v. v.items) t.names.keys; limits = t.limits.items; queues = t.rings.items } };
+    ghost view = { λ t. record { seed = (hasher_of t.names).seed; most = t.most; names = map (λ v. v.items) t.names.keys; limits = t.limits.items; queues = t.rings.items } };
 
     ghost invariant = { λ t. (length t.names.keys ≤ t.most)
         × (length t.limits.items ≡ length t.names.keys)
@@ -92,6 +93,7 @@ fn make_room(
     rings: &mut Vec<Ring>,
 ) -> Result<(), AllocError>
     ensures names { names.new.keys ≡ names.old.keys }
+    ensures hasher { hasher_of names.new ≡ hasher_of names.old }
     ensures limits { limits.new.items ≡ limits.old.items }
     ensures rings { rings.new.items ≡ rings.old.items }
     ensures ok { OnOk result ((0 < spare names.new) × (vec_len limits.new < vec_capacity limits.new) × (vec_len rings.new + 3 ≤ vec_capacity rings.new)) }
@@ -105,7 +107,8 @@ fn make_room(
 fn add_name(names: &mut IndexSet<Vec<u8>, NameHash>, name: Vec<u8>)
     requires room { 0 < spare names.old }
     requires fresh { position (λ v. bytes_eq name.items v.items) names.old.keys ≡ None }
-    ensures { map (λ v. v.items) names.new.keys ≡ map (λ v. v.items) names.old.keys ++ name.items ∷ [] }
+    ensures names { map (λ v. v.items) names.new.keys ≡ map (λ v. v.items) names.old.keys ++ name.items ∷ [] }
+    ensures hasher { hasher_of names.new ≡ hasher_of names.old }
 {
     let _is_new = names.insert(name);
 }
@@ -123,7 +126,7 @@ fn add_rings(alloc: Global, rings: &mut Vec<Ring>)
 impl Functions {
     /// No functions, of at most `most`. The names are untrusted input, so their table hashes with this seed.
     pub fn new(alloc: Global, seed: RandomState, most: u32) -> Result<Functions, AllocError>
-        ensures { IfOk result (λ table. table ≡ no_functions most) }
+        ensures { IfOk result (λ table. table ≡ no_functions seed most) }
     {
         Ok(Functions {
             alloc,

@@ -16,7 +16,10 @@ pub(crate) struct NameHash {
 }
 
 impl NameHash {
-    pub(crate) fn new(seed: RandomState) -> NameHash {
+    /// With this seed.
+    pub(crate) fn new(seed: RandomState) -> NameHash
+        ensures { result.seed ≡ seed }
+    {
         NameHash { seed }
     }
 }

@@ -6,6 +6,7 @@ ghost use Rattle.std.specs.Prelude.{◌≡◌};
 
 use crate::checks::{must, same};
 use crate::growths::{MOST, refuse};
+use gm_actions::{Action, ReadEvent};
 use gm_conns::SlotSet;
 use gm_notes::{ApplyError, Config, Event};
 use gm_shared::{
@@ -69,7 +70,11 @@ pub fn apply<K: BookName, R: Wait + Abort>(
         must(rt, bytes.as_slice().len() <= 1_073_741_824);
     }
     match touched {
-        Some(touched) => desk.apply_with(rt, shared, event, touched),
+        Some(touched) => {
+            *touched = SlotSet::new();
+            let action = Action::of_event(&event);
+            desk.apply_with(rt, shared, &ReadEvent { event, action }, touched)
+        }
         None => desk.apply(rt, shared, event),
     }
 }

@@ -1,5 +1,5 @@
 -- What came of events, for the threads that are notified.
-use Rattle.std.specs.Prelude.{◌≡◌, ◌<◌, ◌≤◌, ℕ, ◌==◌, Bool, true, false, not, ◌&&◌, ◌||◌, List, [], Option, Some, None, Result, Ok, Err}
+use Rattle.std.specs.Prelude.{◌≡◌, ◌<◌, ◌≤◌, ℕ, ◌==◌, Bool, true, false, not, ◌&&◌, List, [], Option, Some, None, Result, Ok, Err}
 use Rattle.gm_conns.specs.Slots.{has}
 use Rattle.gm_lane_word.specs.declared.due.Due.{Due}
 use Rattle.gm_notes.specs.declared.event.ApplyError.{ApplyError}
@@ -9,6 +9,7 @@ use Rattle.gm_notes.specs.Settings.{Settings}
 use Rattle.gm_notes.specs.Steps.{Step}
 use Rattle.gm_shared.specs.declared.receipt.Receipt.{Receipt}
 use Rattle.gm_shared.specs.declared.tape.Entry.{Entry}
+use Rattle.gm_shared.specs.Books.{KeepsSlots}
 use Rattle.gm_shared.specs.Calls.{DeskCalled, HandedIn}
 use Rattle.gm_session.specs.declared.effects.Effects.{Effects}
 use Rattle.gm_session.specs.declared.session.SessionEnd.{SessionEnd}
@@ -18,22 +19,21 @@ pub record IsNothing (effects : Effects) : Type 0 where
   pub touched : (c : ℕ) → has effects.touched c ≡ false
   pub mode : effects.mode ≡ Running
 
--- These slots are touched beside those that were, and this is the server's mode now.
-pub record Collects (touched : List ℕ) (mode : Mode) (old new : Effects) : Type 0 where
+-- No touched slot is lost, and this is the server's mode now.
+pub record Collects (mode : Mode) (old new : Effects) : Type 0 where
   pub own : new.own ≡ old.own
-  pub slots : (c : ℕ) → has new.touched c ≡ (has old.touched c || has touched c)
+  pub slots : KeepsSlots old.touched new.touched
   pub mode_is : new.mode ≡ mode
 
 -- what came of an event is kept; where it was refused, nothing came of it
-abbrev pub Kept : Result Receipt ApplyError → List ℕ → Effects → Effects → Type 0
-Kept (Ok receipt) touched old new = Collects touched receipt.mode old new
-Kept (Err refused) touched old new = new ≡ old
+abbrev pub Kept : Result Receipt ApplyError → Effects → Effects → Type 0
+Kept (Ok receipt) old new = Collects receipt.mode old new
+Kept (Err refused) old new = new ≡ old
 
--- An event was handed in at the desk, and of the slots that it touched none is lost to the threads that are notified.
+-- An event was handed in at the desk, and no slot that it touched, or that was touched before, is lost to the threads that are notified.
 pub record Keeps (k : Settings) (taped : Bool) (s : Step) (desk : ℕ) (answer : Result Receipt ApplyError) (before after : List Entry) (old new : Effects) : Type 0 where
-  pub touched : List ℕ
-  pub called : DeskCalled k taped s desk answer touched before after
-  pub kept : Kept answer touched old new
+  pub called : DeskCalled k taped s desk answer new.touched before after
+  pub kept : Kept answer old new
 
 -- the same for a session, which is over where the event was refused
 abbrev pub KeepsUnit : Settings → Bool → Step → ℕ → Result (Unit {0}) SessionEnd → List Entry → List Entry → Effects → Effects → Type 0

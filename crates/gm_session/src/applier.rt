@@ -2,6 +2,7 @@
 
 ghost use Rattle.std.specs.Prelude.{◌≡◌, ◌≤◌, [], IfOk, IfErr, length, drop};
 ghost use Rattle.std.specs.Io.KnownBytes.{IsAtEnd};
+ghost use Rattle.gm_actions.specs.ReadEvents.{ReadsEvent};
 ghost use Rattle.gm_notes.specs.Servers.{step_of, IsSized};
 ghost use Rattle.gm_notes.specs.Steps.{Packet};
 ghost use Rattle.gm_session.specs.Effects.{IsNothing, KeepsUnit, Gathers};
@@ -11,12 +12,11 @@ use crate::batch::Batch;
 use crate::effects::{Effects, Notify, Oddity, hand_in};
 use crate::gate::Gate;
 use crate::session::{FIRST_UNITS, Session, SessionEnd, Turn};
+use gm_actions::{Action, ReadEvent, Refusal};
 use gm_bytes::{Data, LONG, SharedBytes};
-use gm_conns::SlotSet;
 use gm_feeder::{OwnedPacket, Source};
 use gm_front::{Next, next_event};
 use gm_notes::{ApplyError, Event};
-use gm_packet::Kind;
 use gm_shared::{BookName, Desk, Shared};
 use std::alloc::{AllocError, Global};
 use std::io::Read;
@@ -57,8 +57,6 @@ pub(crate) struct Applier<'s, K: BookName, R, G, N> {
     slot: u32,
     /// What came of the events since others were notified last.
     effects: Effects,
-    /// What the last event touched. It is made once, as a set is too large to be made and moved for each event.
-    touched: SlotSet,
 }
 
 impl<'s, K: BookName, R, G, N> Applier<'s, K, R, G, N> {
@@ -70,7 +68,6 @@ impl<'s, K: BookName, R, G, N> Applier<'s, K, R, G, N> {
             around,
             slot,
             effects: Effects::new(Some(slot)),
-            touched: SlotSet::new(),
         }
     }
 
@@ -82,7 +79,6 @@ impl<'s, K: BookName, R, G, N> Applier<'s, K, R, G, N> {
             around: _,
             slot: _,
             effects,
-            touched: _,
         } = self;
         effects.end();
     }
@@ -90,10 +86,11 @@ impl<'s, K: BookName, R, G, N> Applier<'s, K, R, G, N> {
 
 impl<'s, K: BookName, R: Wait, G: Gate, N: Notify<R>> Applier<'s, K, R, G, N> {
     /// Applies an event. Where it is refused, the session is over.
-    fn apply(&mut self, desk: &mut Desk<K>, event: Event<'_>) -> Result<(), SessionEnd>
-        requires { IsSized event }
-        ensures applies { Applies K.settings K.taped desk.old.number (step_of event.entry) result desk.old.front.seen desk.new.front.seen }
-        ensures keeps { KeepsUnit K.settings K.taped (step_of event.entry) desk.old.number result
+    fn apply(&mut self, desk: &mut Desk<K>, read: &ReadEvent<'_>) -> Result<(), SessionEnd>
+        requires size { IsSized read.now.event }
+        requires reads { ReadsEvent read.now.event read.now.action }
+        ensures applies { Applies K.settings K.taped desk.old.number (step_of read.now.event) result desk.old.front.seen desk.new.front.seen }
+        ensures keeps { KeepsUnit K.settings K.taped (step_of read.now.event) desk.old.number result
             desk.old.front.seen desk.new.front.seen self.old.effects self.new.effects }
         ensures number { desk.new.number ≡ desk.old.number }
         ensures slot { self.new.slot ≡ self.old.slot }
@@ -103,8 +100,7 @@ impl<'s, K: BookName, R: Wait, G: Gate, N: Notify<R>> Applier<'s, K, R, G, N> {
             self.around.rt,
             self.around.shared,
             desk,
-            event,
-            &mut self.touched,
+            read,
             &mut self.effects,
         ) {
             Ok(_) => Ok(()),
@@ -130,16 +126,15 @@ impl<'s, K: BookName, R: Wait, G: Gate, N: Notify<R>> Applier<'s, K, R, G, N> {
         // Modelled in models/jobs.pml and ticks.pml.
         let around = self.around;
         around.gate.pass(around.rt, self.slot, index);
-        if let Event::Packet { kind, .. } = &event {
-            match Kind::of(*kind) {
-                Some(Kind::GrabJob | Kind::GrabJobUniq) => around.server.update_time(around.rt),
-                Some(_) => {}
-                None => around
-                    .server
-                    .note(around.rt, self.slot, Oddity::UnknownType(*kind)),
-            }
+        let action = Action::of_event(&event);
+        match (&action, event) {
+            (Ok(Action::Grab { .. }), _) => around.server.update_time(around.rt),
+            (Err(Refusal::UnknownCommand), Event::Packet { kind, .. }) => around
+                .server
+                .note(around.rt, self.slot, Oddity::UnknownType(kind)),
+            _ => {}
         }
-        self.apply(desk, event)
+        self.apply(desk, &ReadEvent { event, action })
     }
 
     /// Takes the next unit in the feeder, or the fault there. A long packet is taken with its
@@ -176,7 +171,9 @@ impl<'s, K: BookName, R: Wait, G: Gate, N: Notify<R>> Applier<'s, K, R, G, N> {
             Next::Wait => Ok(Taken::Nothing),
             Next::Fault(fault) => {
                 around.server.note(around.rt, slot, Oddity::Fault);
-                self.apply(desk, Event::Fault { slot, fault })?;
+                let event = Event::Fault { slot, fault };
+                let action = Action::of_event(&event);
+                self.apply(desk, &ReadEvent { event, action })?;
                 Err(SessionEnd::Shut)
             }
         }

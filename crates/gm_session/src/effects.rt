@@ -2,14 +2,16 @@
 
 ghost use Rattle.std.specs.Prelude.{◌≡◌, true};
 ghost use Rattle.std.specs.Result.{IsErrOf};
+ghost use Rattle.gm_actions.specs.ReadEvents.{ReadsEvent};
 ghost use Rattle.gm_notes.specs.Servers.{step_of, IsSized};
 ghost use Rattle.gm_shared.specs.Books.{NeedsNoMemory};
 ghost use Rattle.gm_shared.specs.Calls.{HandedIn, if_taken};
-ghost use Rattle.gm_session.specs.Effects.{IsNothing, Collects, Keeps, TakesDue, TakesOwn};
+ghost use Rattle.gm_session.specs.Effects.{IsNothing, Keeps, TakesDue, TakesOwn};
 
+use gm_actions::ReadEvent;
 use gm_conns::SlotSet;
 use gm_lane_word::Due;
-use gm_notes::{ApplyError, Event, Mode};
+use gm_notes::{ApplyError, Mode};
 use gm_shared::{BookName, Desk, Receipt, Shared};
 use std::sync::{Mutex, Wait};
 use std::time::Instant;
@@ -35,15 +37,6 @@ impl Effects {
             touched: SlotSet::new(),
             mode: Mode::Running,
         }
-    }
-
-    /// Takes the slots that an event touched, and the mode in its receipt.
-    pub(crate) fn add(&mut self, touched: &SlotSet, mode: Mode)
-        ensures { Collects touched.now mode self.old self.new }
-    {
-        // Modelled in models/jobs.pml.
-        self.mode = mode;
-        self.touched.union(touched);
     }
 
     /// Takes whether the server goes on.
@@ -101,27 +94,25 @@ impl Effects {
     }
 }
 
-/// Hands in an event at a desk, and adds what came of it. `touched` becomes the slots that it touched, as `Desk::apply_with` says.
+/// Hands in an event at a desk, and adds what came of it.
 pub(crate) fn hand_in<K: BookName>(
     rt: &impl Wait,
     shared: &Shared<K>,
     desk: &mut Desk<K>,
-    event: Event<'_>,
-    touched: &mut SlotSet,
+    read: &ReadEvent<'_>,
     effects: &mut Effects,
 ) -> Result<Receipt, ApplyError>
-    requires { IsSized event }
-    ensures keeps { Keeps K.settings K.taped (step_of event.entry) desk.old.number result desk.old.front.seen desk.new.front.seen effects.old effects.new }
-    ensures hands { HandedIn desk.old.number (if_taken (step_of event.entry) result) desk.old.front.seen desk.new.front.seen }
-    ensures memory { NeedsNoMemory K.taped (step_of event.entry) → IsErrOf result ApplyError.Memory → ⊥ }
+    requires size { IsSized read.now.event }
+    requires reads { ReadsEvent read.now.event read.now.action }
+    ensures keeps { Keeps K.settings K.taped (step_of read.now.event) desk.old.number result desk.old.front.seen desk.new.front.seen effects.old effects.new }
+    ensures hands { HandedIn desk.old.number (if_taken (step_of read.now.event) result) desk.old.front.seen desk.new.front.seen }
+    ensures memory { NeedsNoMemory K.taped (step_of read.now.event) → IsErrOf result ApplyError.Memory → ⊥ }
     ensures number { desk.new.number ≡ desk.old.number }
 {
     // Modelled in models/jobs.pml.
-    let answer = desk.apply_with(rt, shared, event, touched);
-    if let Ok(receipt) = &answer {
-        effects.add(touched, receipt.mode);
-    }
-    answer
+    let receipt = desk.apply_with(rt, shared, read, &mut effects.touched)?;
+    effects.mode = receipt.mode;
+    Ok(receipt)
 }
 
 /// Whom a session notifies.

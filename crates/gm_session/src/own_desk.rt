@@ -14,7 +14,7 @@ use crate::applier::{Applier, Around};
 use crate::effects::{Effects, Notify, hand_in};
 use crate::gate::Gate;
 use crate::session::{Session, SessionEnd, Turn};
-use gm_conns::SlotSet;
+use gm_actions::{Action, ReadEvent};
 use gm_feeder::Source;
 use gm_notes::{ApplyError, Event};
 use gm_shared::{BookName, Desk, Receipt, Shared};
@@ -61,8 +61,9 @@ impl<K: BookName> OwnDesk<K> {
         ensures number { self.new.desk.number ≡ self.old.desk.number }
     {
         // Modelled in models/serving.h and ticks.pml.
-        let mut touched = SlotSet::new();
-        hand_in(rt, shared, &mut self.desk, event, &mut touched, effects)
+        let action = Action::of_event(&event);
+        let read = ReadEvent { event, action };
+        hand_in(rt, shared, &mut self.desk, &read, effects)
     }
 
     /// The number of the desk, which is its slot's; the control desk has the number after the last slot's.

@@ -1,5 +1,5 @@
 -- What a book agrees with, and what one holding of it does.
-use Rattle.std.specs.Prelude.{◌≡◌, ℕ, ◌+◌, ◌<◌, Bool, true, false, ◌==◌, if◌then◌else◌, List, [], ◌∷◌, Option, Some, None, Result, Ok, Err}
+use Rattle.std.specs.Prelude.{◌≡◌, ℕ, ◌+◌, ◌<◌, Bool, true, false, ◌==◌, ◌||◌, if◌then◌else◌, List, [], ◌∷◌, Option, Some, None, Result, Ok, Err}
 use Rattle.gm_notes.specs.declared.event.ApplyError.{ApplyError}
 use Rattle.gm_notes.specs.declared.event.ApplyError.TheVariants.{Memory, NotOpen}
 use Rattle.gm_notes.specs.declared.states.Phase.{Phase}
@@ -135,18 +135,32 @@ Drains k steps pen slot (Err refused) old new told =
 
 -- ---- following the core
 
+-- nothing is missing of a set of slots
+abbrev pub KeepsSlots : List ℕ → List ℕ → Type 0
+KeepsSlots old new = (c : ℕ) → has old c ≡ true → has new c ≡ true
+
+-- these slots are in the set too
+abbrev pub AddsSlots : (ℕ → Bool) → List ℕ → List ℕ → Type 0
+AddsSlots these old new = (c : ℕ) → has new c ≡ (these c || has old c)
+
 -- These slots are some of those that were touched, and their words follow the core; each other word is as it was.
-pub record FollowsAt (touched : List ℕ) (old new : Booked) : Type 0 where
+pub record FollowsAt (these : ℕ → Bool) (old new : Booked) : Type 0 where
   pub slots : new.slots ≡ old.slots
   pub table : new.seat.table ≡ old.seat.table
   pub lanes : (c : ℕ) → outbox (conn new.core.conns c) ≡ outbox (conn old.core.conns c)
   pub agrees : (k : Settings) (steps : List Step) → CoreAgrees old.core k steps → CoreAgrees new.core k steps
-  pub here : (c : ℕ) → has touched c ≡ true → Follows (conn old.core.conns c).phase (line_at c old.seat.lines) (line_at c new.seat.lines)
-  pub there : (c : ℕ) → has touched c ≡ true → (k : Settings) (steps : List Step) → CoreAgrees old.core k steps → (conn old.core.conns c).phase ≡ phase c (run k steps).notes
-  pub elsewhere : (c : ℕ) → has touched c ≡ false → line_at c new.seat.lines ≡ line_at c old.seat.lines
+  pub here : (c : ℕ) → these c ≡ true → Follows (conn old.core.conns c).phase (line_at c old.seat.lines) (line_at c new.seat.lines)
+  pub there : (c : ℕ) → these c ≡ true → (k : Settings) (steps : List Step) → CoreAgrees old.core k steps → (conn old.core.conns c).phase ≡ phase c (run k steps).notes
+  pub elsewhere : (c : ℕ) → these c ≡ false → line_at c new.seat.lines ≡ line_at c old.seat.lines
 
--- No touched slot is missed, and no slot that was closed.
-pub record FollowsCore (s : Step) (touched : List ℕ) (old new : Booked) : Type 0 where
-  pub follows : FollowsAt touched old new
-  pub missed : (c : ℕ) → c < old.slots → has touched c ≡ false → is_touched old.core.conns c ≡ false
-  pub closed : (c : ℕ) → c < old.slots → s ≡ Close c → has touched c ≡ true
+-- No touched slot is missed, and each is in the set now.
+pub record FollowsTouched (old new : Booked) (before after : List ℕ) : Type 0 where
+  pub these : ℕ → Bool
+  pub follows : FollowsAt these old new
+  pub missed : (c : ℕ) → c < old.slots → these c ≡ false → is_touched old.core.conns c ≡ false
+  pub adds : AddsSlots these before after
+
+-- Nor is a slot that was closed.
+pub record FollowsCore (s : Step) (old new : Booked) (before after : List ℕ) : Type 0 where
+  pub touched : FollowsTouched old new before after
+  pub closed : (c : ℕ) → c < old.slots → s ≡ Close c → touched.these c ≡ true

@@ -1,8 +1,7 @@
 //! The book.
 
-ghost use Rattle.std.specs.Prelude.{◌≡◌, ◌<◌, ◌≤◌, ◌++◌, ℕ, [], List, IfOk, IfErr, true, false, length, replicate, None};
-ghost use Rattle.gm_conns.specs.Slots.{has};
-ghost use Rattle.gm_conns.specs.ConnTables.{conn, is_touched};
+ghost use Rattle.std.specs.Prelude.{◌≡◌, ◌<◌, ◌≤◌, ◌++◌, ℕ, [], List, IfOk, IfErr, length, replicate, None};
+ghost use Rattle.gm_conns.specs.ConnTables.{conn};
 ghost use Rattle.gm_word.specs.Seats.{fresh_pens};
 ghost use Rattle.gm_notes.specs.Settings.{Settings};
 ghost use Rattle.gm_notes.specs.Steps.{Step, run};
@@ -11,11 +10,12 @@ ghost use Rattle.gm_core.specs.Holds.{AllTouched, CoreAgrees, outbox};
 ghost use Rattle.std.specs.Result.{IsErrOf, MatchResult};
 ghost use Rattle.gm_shared.specs.Openings.{count_at, counted_up, told_opening};
 
-use crate::events::{Noop, asks_a_job, slot_of};
+use crate::events::{Noop, is_grab, slot_of};
 use crate::openings::Openings;
 use crate::receipt::{Drained, Receipt};
 use crate::tape::{Entry, Tape, TapeMode, Told};
 use crate::words::sync_word;
+use gm_actions::ReadEvent;
 use gm_bytes::SharedBytes;
 use gm_conns::SlotSet;
 use gm_core::Core;
@@ -41,9 +41,10 @@ pub struct Booked {
 }
 
 impl Booked {
-    ghost use Rattle.gm_shared.specs.Books.{Holds, BookedAgrees, Held, NeedsNoMemory, Drains, AsksWord, FollowsAt, FollowsCore};
+    ghost use Rattle.gm_shared.specs.Books.{Holds, BookedAgrees, Held, NeedsNoMemory, Drains, AsksWord, KeepsSlots, FollowsTouched, FollowsCore};
     ghost use Rattle.gm_shared.specs.Events.{slot_of, MayFind, entered};
     ghost use Rattle.gm_notes.specs.Withdrawals.{withdraws_noop};
+    ghost use Rattle.gm_actions.specs.ReadEvents.{ReadsEvent};
     ghost use Rattle.gm_shared.specs.Tapes.{is_on};
 
     /// The book of a server to which nothing has happened, the table of its sleep words, and a pen for each slot, in
@@ -82,8 +83,8 @@ impl Booked {
 
     /// `apply`, which adds to the desk's share what it entered on the tape.
     ///
-    /// `touched` becomes the slots whose waiting bytes, phase or shut changed, and perhaps more: it is for them that a writer
-    /// may have something to do. Where the event is refused there are none.
+    /// Each slot whose waiting bytes, phase or shut changed is put into `touched`, and perhaps more: it is for them that a writer
+    /// may have something to do. A refused event adds none.
     /// The set is the caller's, and not a part of the receipt, because a receipt is moved at each return. `freed` becomes what
     /// is to be freed once no lock is held: the body of a job that ended. `found` becomes what was found of the slot's NOOP, also
     /// where the event is refused.
@@ -91,34 +92,35 @@ impl Booked {
         &mut self,
         table: &SleepTable,
         desk: u32,
-        event: &Event<'_>,
+        read: &ReadEvent<'_>,
         share: &mut Vec<Told>,
         touched: &mut SlotSet,
         freed: &mut Option<SharedBytes>,
         found: &mut Noop,
     ) -> Result<Receipt, ApplyError>
-        requires size { IsSized event.now }
+        requires size { IsSized read.now.event }
+        requires reads { ReadsEvent read.now.event read.now.action }
         requires table { self.old.seat.table ≡ table.now }
         ensures holding { (k : Settings) (steps : List Step) → BookedAgrees self.old k steps
             → (told : List Told) × (share.new.items ≡ share.old.items ++ told)
-            × Held k steps (step_of event.now) desk found.new result touched.new self.old self.new told }
-        ensures refused { IfErr result (λ _. (c : ℕ) → has touched.new c ≡ false) }
-        ensures memory { NeedsNoMemory self.old.tape.on (step_of event.now) → IsErrOf result ApplyError.Memory → ⊥ }
+            × Held k steps (step_of read.now.event) desk found.new result touched.new self.old self.new told }
+        ensures refused { IfErr result (λ _. touched.new ≡ touched.old) }
+        ensures kept { KeepsSlots touched.old touched.new }
+        ensures memory { NeedsNoMemory self.old.tape.on (step_of read.now.event) → IsErrOf result ApplyError.Memory → ⊥ }
         ensures table { self.new.seat.table ≡ self.old.seat.table }
         ensures opened { MatchResult result (λ receipt. (self.new.openings ≡ counted_up receipt.done.opened self.old.openings)
             × (receipt.opening ≡ told_opening receipt.done.opened self.new.openings)) (λ _. self.new.openings ≡ self.old.openings) }
     {
         // Modelled in models/deliver.pml and jobs.pml.
-        *touched = SlotSet::new();
         *found = Noop::Left;
-        let copies = self.tape.room_for(self.alloc, share, event)?;
-        let noop = self.resolve_noop(table, event);
+        let copies = self.tape.room_for(self.alloc, share, &read.event)?;
+        let noop = self.resolve_noop(table, read);
         *found = noop;
         self.tape.enter_noop(share, desk, noop);
-        let done = self.core.apply_locked(event, freed)?;
+        let done = self.core.apply_locked(read, freed)?;
         let opening = self.openings.note(&done);
         let at = self.tape.enter_event(share, desk, copies, done);
-        self.follow(table, event, touched);
+        self.follow(table, &read.event, touched);
         Ok(Receipt {
             at,
             done,
@@ -169,32 +171,33 @@ impl Booked {
     }
 
     /// Whether an event withdraws the NOOP that its slot is still owed.
-    fn is_withdrawal(&self, event: &Event<'_>) -> bool
-        ensures { (k : Settings) (steps : List Step) → CoreAgrees self.now.core k steps → result ≡ withdraws_noop (step_of event.now) (run k steps) }
+    fn is_withdrawal(&self, read: &ReadEvent<'_>) -> bool
+        requires { ReadsEvent read.now.event read.now.action }
+        ensures { (k : Settings) (steps : List Step) → CoreAgrees self.now.core k steps → result ≡ withdraws_noop (step_of read.now.event) (run k steps) }
     {
         // Modelled in models/jobs.pml.
-        match *event {
+        match read.event {
             Event::Close { .. } => true,
-            Event::Packet { slot, kind, bytes } => asks_a_job(kind, bytes.as_slice())
-                && !self.core.shut(slot),
+            Event::Packet { slot, .. } => is_grab(&read.action) && !self.core.shut(slot),
             _ => false,
         }
     }
 
     /// Looks at the word of the event's slot, and enters what it finds of the NOOP that is owed there.
-    fn resolve_noop(&mut self, table: &SleepTable, event: &Event<'_>) -> Noop
-        requires { self.old.seat.table ≡ table.now }
+    fn resolve_noop(&mut self, table: &SleepTable, read: &ReadEvent<'_>) -> Noop
+        requires table { self.old.seat.table ≡ table.now }
+        requires reads { ReadsEvent read.now.event read.now.action }
         ensures found { (k : Settings) (steps : List Step) → Holds self.old k steps
-            → MayFind result (step_of event.now) (run k steps) × Holds self.new k (entered result steps) }
+            → MayFind result (step_of read.now.event) (run k steps) × Holds self.new k (entered result steps) }
         ensures asks { (k : Settings) (steps : List Step) → Holds self.old k steps
-            → AsksWord (slot_of (step_of event.now)) (run k steps) self.old.seat.lines self.new.seat.lines }
+            → AsksWord (slot_of (step_of read.now.event)) (run k steps) self.old.seat.lines self.new.seat.lines }
         ensures touched { AllTouched self.old.core.conns self.new.core.conns }
         ensures table { self.new.seat.table ≡ self.old.seat.table }
         ensures tape { self.new.tape ≡ self.old.tape }
         ensures openings { self.new.openings ≡ self.old.openings }
     {
         // Modelled in models/jobs.pml.
-        let Some(slot) = slot_of(event) else {
+        let Some(slot) = slot_of(&read.event) else {
             return Noop::Left;
         };
         if slot >= self.slots {
@@ -204,7 +207,7 @@ impl Booked {
             let _taken = self.core.took(slot);
             return Noop::Taken(slot);
         }
-        if self.seat.phase(slot) != Phase::Owed || !self.is_withdrawal(event) {
+        if self.seat.phase(slot) != Phase::Owed || !self.is_withdrawal(read) {
             return Noop::Left;
         }
         if self.seat.withdraw(table, slot) {
@@ -216,17 +219,14 @@ impl Booked {
         }
     }
 
-    /// Makes the words of the touched slots follow the core. `touched` becomes the slots that were touched since they were
-    /// last taken.
+    /// Makes the words of the slots follow the core that were touched since they were last taken, and puts them into the set.
     fn follow_touched(&mut self, table: &SleepTable, touched: &mut SlotSet)
         requires { self.old.seat.table ≡ table.now }
-        ensures follows { FollowsAt touched.new self.old self.new }
+        ensures follows { FollowsTouched self.old self.new touched.old touched.new }
         ensures tape { self.new.tape ≡ self.old.tape }
         ensures openings { self.new.openings ≡ self.old.openings }
-        ensures missed { (c : ℕ) → c < self.old.slots → has touched.new c ≡ false → is_touched self.old.core.conns c ≡ false }
     {
         // Modelled in models/jobs.pml.
-        *touched = SlotSet::new();
         for _at in 0..self.slots {
             let Some(slot) = self.core.take_touched() else {
                 return;
@@ -240,10 +240,10 @@ impl Booked {
         }
     }
 
-    /// Makes the words follow the core after an event. `touched` becomes the slots that were touched.
+    /// Makes the words follow the core after an event, and puts the slots that it touched into the set.
     fn follow(&mut self, table: &SleepTable, event: &Event<'_>, touched: &mut SlotSet)
         requires { self.old.seat.table ≡ table.now }
-        ensures follows { FollowsCore (step_of event.now) touched.new self.old self.new }
+        ensures follows { FollowsCore (step_of event.now) self.old self.new touched.old touched.new }
         ensures tape { self.new.tape ≡ self.old.tape }
         ensures openings { self.new.openings ≡ self.old.openings }
     {

@@ -1,10 +1,10 @@
 //! What the lock guards.
 
-ghost use Rattle.std.specs.Prelude.{◌≡◌, ◌+◌, ◌*◌, ℕ, List, [], IfErr, false};
-ghost use Rattle.gm_conns.specs.Slots.{has};
+ghost use Rattle.std.specs.Prelude.{◌≡◌, ◌+◌, ◌*◌, ℕ, List, [], IfErr};
+ghost use Rattle.gm_actions.specs.ReadEvents.{ReadsEvent};
 ghost use Rattle.gm_notes.specs.Steps.{Step};
 ghost use Rattle.gm_notes.specs.Servers.{step_of, IsSized};
-ghost use Rattle.gm_shared.specs.Books.{BookedAgrees, Held, NeedsNoMemory, Drains};
+ghost use Rattle.gm_shared.specs.Books.{BookedAgrees, Held, NeedsNoMemory, Drains, KeepsSlots};
 ghost use Rattle.gm_shared.specs.Tokens.{sees};
 ghost use Rattle.gm_shared.specs.Tapes.{share_of};
 ghost use Rattle.gm_shared.specs.Calls.{DeskCalled, PenCalled, done_in};
@@ -20,9 +20,10 @@ use crate::name::BookName;
 use crate::receipt::{Drained, Receipt};
 use crate::tape::Told;
 use crate::what::What;
+use gm_actions::ReadEvent;
 use gm_bytes::SharedBytes;
 use gm_conns::SlotSet;
-use gm_notes::{ApplyError, Done, Event};
+use gm_notes::{ApplyError, Done};
 use gm_word::SleepTable;
 use std::marker::{Model, PhantomData};
 
@@ -77,33 +78,35 @@ impl<K: BookName> Guarded<K> {
         history: &History,
         front: &mut Front,
         desk: u32,
-        event: &Event<'_>,
+        read: &ReadEvent<'_>,
         share: &mut Vec<Told>,
         touched: &mut SlotSet,
         freed: &mut Option<SharedBytes>,
     ) -> Result<Receipt, ApplyError>
-        requires size { IsSized event.now }
+        requires size { IsSized read.now.event }
+        requires reads { ReadsEvent read.now.event read.now.action }
         requires table { table.now ≡ K.table }
         requires history { history.now ≡ K.history }
         requires front { front.old.table ≡ K.history }
         requires who { front.old.who ≡ 2 * desk }
         requires told { share.old.items ≡ share_of K.taped (actors.Desk desk) front.old.seen }
-        ensures called { DeskCalled K.settings K.taped (step_of event.now) desk result touched.new front.old.seen front.new.seen }
+        ensures called { DeskCalled K.settings K.taped (step_of read.now.event) desk result touched.new front.old.seen front.new.seen }
         ensures told { share.new.items ≡ share_of K.taped (actors.Desk desk) front.new.seen }
         ensures front { front.new ≡ sees self.new.log front.old }
         ensures holding { (steps : List Step) → BookedAgrees self.old.booked K.settings steps
-            → (told : List Told) × (noop : Noop) × Held K.settings steps (step_of event.now) desk noop result touched.new self.old.booked self.new.booked told }
-        ensures refused { IfErr result (λ _. (c : ℕ) → has touched.new c ≡ false) }
-        ensures memory { NeedsNoMemory K.taped (step_of event.now) → IsErrOf result ApplyError.Memory → ⊥ }
+            → (told : List Told) × (noop : Noop) × Held K.settings steps (step_of read.now.event) desk noop result touched.new self.old.booked self.new.booked told }
+        ensures refused { IfErr result (λ _. touched.new ≡ touched.old) }
+        ensures kept { KeepsSlots touched.old touched.new }
+        ensures memory { NeedsNoMemory K.taped (step_of read.now.event) → IsErrOf result ApplyError.Memory → ⊥ }
     {
         // Modelled in models/deliver.pml.
         let mut noop = Noop::Left;
         let result = self
             .booked
-            .hold(table, desk, event, share, touched, freed, &mut noop);
+            .hold(table, desk, read, share, touched, freed, &mut noop);
         let done = done_in(&result);
         self.keeper
-            .enter(history, front, desk, What::Call(noop, *event, done));
+            .enter(history, front, desk, What::Call(noop, read.event, done));
         result
     }
 

@@ -1,11 +1,11 @@
 //! The book that threads share, and what each of them has of its own: desks, at which events are handed in, and pens,
 //! which take out what waits for a slot.
 
-ghost use Rattle.std.specs.Prelude.{◌≡◌, ◌+◌, ◌*◌, ℕ, IfOk, IfErr, OnOk, MatchBool, map, All, [], true, false};
+ghost use Rattle.std.specs.Prelude.{◌≡◌, ◌+◌, ◌*◌, IfOk, IfErr, OnOk, MatchBool, map, All, [], true};
+ghost use Rattle.gm_actions.specs.ReadEvents.{ReadsEvent};
 ghost use Rattle.gm_notes.specs.Servers.{step_of, IsSized};
-ghost use Rattle.gm_conns.specs.Slots.{has};
 ghost use Rattle.gm_word.specs.Seats.{fresh_pens};
-ghost use Rattle.gm_shared.specs.Books.{NeedsNoMemory};
+ghost use Rattle.gm_shared.specs.Books.{NeedsNoMemory, KeepsSlots};
 ghost use Rattle.gm_shared.specs.Tapes.{drains_alone, share_of};
 ghost use Rattle.gm_shared.specs.declared.tape.Actor.TheVariants as actors;
 ghost use Rattle.gm_shared.specs.Histories.{calls_by};
@@ -19,8 +19,9 @@ use crate::history::{Front, History, Keeper};
 use crate::name::BookName;
 use crate::receipt::{Drained, Receipt};
 use crate::tape::Told;
+use gm_actions::ReadEvent;
 use gm_conns::SlotSet;
-use gm_notes::{ApplyError, Event};
+use gm_notes::ApplyError;
 use gm_word::{PenSeat, SleepTable};
 use std::alloc::{AllocError, Global};
 use std::marker::PhantomData;
@@ -122,20 +123,22 @@ impl<K: BookName> Desk<K> {
         self.number
     }
 
-    /// As `apply`. `touched` becomes the slots whose waiting bytes, phase or shut changed and to which something is to be delivered,
-    /// and perhaps more: it is for them that a writer may have something to do. Where the event is refused there are none.
+    /// As `apply`. Each slot whose waiting bytes, phase or shut changed and to which something is to be delivered is put into `touched`,
+    /// and perhaps more: it is for them that a writer may have something to do. A refused event adds none.
     pub fn apply_with(
         &mut self,
         rt: &impl Wait,
         shared: &Shared<K>,
-        event: Event<'_>,
+        read: &ReadEvent<'_>,
         touched: &mut SlotSet,
     ) -> Result<Receipt, ApplyError>
-        requires { IsSized event }
-        ensures called { DeskCalled K.settings K.taped (step_of event.entry) self.old.number result touched.new self.old.front.seen self.new.front.seen }
-        ensures refused { IfErr result (λ _. (c : ℕ) → has touched.new c ≡ false) }
-        ensures hands { HandedIn self.old.number (if_taken (step_of event.entry) result) self.old.front.seen self.new.front.seen }
-        ensures memory { NeedsNoMemory K.taped (step_of event.entry) → IsErrOf result ApplyError.Memory → ⊥ }
+        requires size { IsSized read.now.event }
+        requires reads { ReadsEvent read.now.event read.now.action }
+        ensures called { DeskCalled K.settings K.taped (step_of read.now.event) self.old.number result touched.new self.old.front.seen self.new.front.seen }
+        ensures refused { IfErr result (λ _. touched.new ≡ touched.old) }
+        ensures kept { KeepsSlots touched.old touched.new }
+        ensures hands { HandedIn self.old.number (if_taken (step_of read.now.event) result) self.old.front.seen self.new.front.seen }
+        ensures memory { NeedsNoMemory K.taped (step_of read.now.event) → IsErrOf result ApplyError.Memory → ⊥ }
         ensures number { self.new.number ≡ self.old.number }
     {
         // Modelled in models/deliver.pml.
@@ -146,7 +149,7 @@ impl<K: BookName> Desk<K> {
             &shared.history,
             &mut self.front,
             self.number,
-            &event,
+            read,
             share,
             touched,
             &mut freed,

@@ -16,6 +16,7 @@ use crate::events::Noop;
 use crate::name::BookName;
 use crate::receipt::{Drained, Receipt};
 use crate::shared::{Desk, Shared};
+use gm_actions::{Action, ReadEvent};
 use gm_conns::SlotSet;
 use gm_laws::laws::may_be_taken_later;
 use gm_notes::{ApplyError, Event};
@@ -49,10 +50,14 @@ impl Booked {
         let mut share = Vec::new(self.alloc);
         let mut touched = SlotSet::new();
         let mut noop = Noop::Left;
+        let action = Action::of_event(event);
         self.hold(
             table,
             desk,
-            event,
+            &ReadEvent {
+                event: *event,
+                action,
+            },
             &mut share,
             &mut touched,
             &mut None,
@@ -91,6 +96,7 @@ impl<K: BookName> Desk<K> {
         ensures number { self.new.number ≡ self.old.number }
     {
         let mut touched = SlotSet::new();
-        self.apply_with(rt, shared, event, &mut touched)
+        let action = Action::of_event(&event);
+        self.apply_with(rt, shared, &ReadEvent { event, action }, &mut touched)
     }
 }

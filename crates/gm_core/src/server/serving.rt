@@ -1,19 +1,18 @@
 //! Requests as they come.
 
-ghost use Rattle.std.specs.Prelude.{IsErrOf, OnErr, ◌≡◌, ◌↔◌, ◌^◌, List, true};
+ghost use Rattle.std.specs.Prelude.{IsErrOf, OnErr, IfOk, ◌≡◌, ◌↔◌, ◌^◌, ℕ, List, true};
 ghost use Rattle.std.specs.Option.{unwrap_or};
-ghost use Rattle.gm_packet.specs.Kinds.{kind_of};
 ghost use Rattle.gm_packet.specs.Answers.{echo_res};
 ghost use Rattle.gm_conns.specs.ConnTables.{IsOpen};
 ghost use Rattle.gm_notes.specs.Past.{give};
-ghost use Rattle.gm_notes.specs.Requests.{packet_of};
 ghost use Rattle.gm_notes.specs.Servers.{Answers, steps_after};
 ghost use Rattle.gm_notes.specs.Settings.{Settings};
 ghost use Rattle.gm_notes.specs.Steps.{Step, Packet};
-ghost use Rattle.gm_actions.specs.Actions.{act, IsNamed, acts_without_memory, NeedsNoMemory};
+ghost use Rattle.gm_actions.specs.Actions.{act, acted, IsNamed, acts_without_memory, ActsWithoutMemory};
+ghost use Rattle.gm_actions.specs.ReadEvents.{ReadsPacket};
 
 use super::Core;
-use gm_actions::Action;
+use gm_actions::{Action, Refusal};
 use gm_bytes::{Data, SharedBytes};
 use gm_notes::{ApplyError, Done};
 use gm_packet::Response;
@@ -31,26 +30,28 @@ fn is_same(one: Option<u64>, other: Option<u64>) -> bool
 }
 
 impl Core {
+    ghost use Rattle.gm_core.specs.Freed.{Frees};
     ghost use Rattle.gm_core.specs.Holds.{Does, AllTouched, CoreAgrees};
 
-    /// A packet of a slot.
+    /// A packet of a slot, which asks this.
     pub(super) fn packet(
         &mut self,
         slot: u32,
-        kind: u32,
-        bytes: &Data<'_>,
+        action: &Result<Action<'_>, Refusal>,
         freed: &mut Option<SharedBytes>,
     ) -> Result<Done, ApplyError>
-        ensures answers { (k : Settings) (steps : List Step) → CoreAgrees self.old k steps
-            → Answers k steps (Packet slot kind bytes.now.bytes.now) result × CoreAgrees self.new k (steps_after result (Packet slot kind bytes.now.bytes.now) steps) }
-        ensures memory { NeedsNoMemory kind bytes.now.bytes.now → IsErrOf result ApplyError.Memory → ⊥ }
+        requires named { IfOk action.now IsNamed }
+        ensures answers { (kind : ℕ) (bytes : List ℕ) → ReadsPacket kind bytes action.now → (k : Settings) (steps : List Step) → CoreAgrees self.old k steps
+            → Answers k steps (Packet slot kind bytes) result × CoreAgrees self.new k (steps_after result (Packet slot kind bytes) steps) }
+        ensures memory { ActsWithoutMemory action.now → IsErrOf result ApplyError.Memory → ⊥ }
         ensures touched { AllTouched self.old.conns self.new.conns }
+        ensures freed { Frees self.old.jobs self.new.jobs freed.old freed.new }
     {
         if !self.can_take_units(slot) {
             return Err(ApplyError::NotOpen);
         }
         let before = self.jobs.next_number();
-        self.read(slot, kind, bytes, freed)?;
+        self.serve(slot, action, freed)?;
         let created = if is_same(self.jobs.next_number(), before) {
             None
         } else {
@@ -62,21 +63,22 @@ impl Core {
         })
     }
 
-    /// Does what a packet of a slot asks.
-    fn read(
+    /// Does what a packet of a slot asks, or refuses it.
+    fn serve(
         &mut self,
         slot: u32,
-        kind: u32,
-        bytes: &Data<'_>,
+        action: &Result<Action<'_>, Refusal>,
         freed: &mut Option<SharedBytes>,
     ) -> Result<(), AllocError>
         requires open { IsOpen self.old.conns slot }
-        ensures does { Does self.old result self.new (packet_of self.old.config slot (kind_of kind) bytes.now.bytes.now) }
-        ensures memory { NeedsNoMemory kind bytes.now.bytes.now → OnErr result ⊥ }
+        requires named { IfOk action.now IsNamed }
+        ensures does { Does self.old result self.new (acted self.old.config slot action.now) }
+        ensures memory { ActsWithoutMemory action.now → OnErr result ⊥ }
+        ensures freed { Frees self.old.jobs self.new.jobs freed.old freed.new }
     {
-        match Action::read(kind, bytes) {
-            Ok(action) => self.act(slot, &action, freed),
-            Err(refusal) => self.refuse(slot, refusal),
+        match action {
+            Ok(action) => self.act(slot, action, freed),
+            Err(refusal) => self.refuse(slot, *refusal),
         }
     }
 
@@ -91,6 +93,7 @@ impl Core {
         requires named { IsNamed action.now }
         ensures does { Does self.old result self.new (act self.old.config slot action.now) }
         ensures memory { acts_without_memory action.now ≡ true → OnErr result ⊥ }
+        ensures freed { Frees self.old.jobs self.new.jobs freed.old freed.new }
     {
         match *action {
             Action::CanDo { function, timeout } => self.can_do(slot, function, timeout),

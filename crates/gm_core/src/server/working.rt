@@ -1,6 +1,6 @@
 //! What workers say of their jobs.
 
-ghost use Rattle.std.specs.Prelude.{◌≡◌, ℕ, ◌<◌, ◌≤◌, Some, IfSome, IfNone, OnOk, filter, length};
+ghost use Rattle.std.specs.Prelude.{◌≡◌, ◌⊎◌, ℕ, ◌<◌, ◌≤◌, Some, None, IfSome, IfNone, OnOk, filter, length};
 ghost use Rattle.std.specs.Option.{option_map};
 ghost use Rattle.gm_queues.specs.FunctionTables.{HasIdleRoom};
 ghost use Rattle.gm_packet.specs.Answers.{answer_of};
@@ -15,6 +15,7 @@ ghost use Rattle.gm_actions.specs.Actions.{said_report, work_of};
 ghost use Rattle.gm_core.specs.Ticks.{OthersStay};
 ghost use Rattle.gm_core.specs.Telling.{hears, needed, IsRunning, running_there};
 ghost use Rattle.gm_core.specs.Writing.{IsFor};
+ghost use Rattle.gm_core.specs.Freed.{body_at, Frees};
 
 use super::Core;
 use crate::telling::{put_each, reserve_each};
@@ -36,7 +37,8 @@ impl Core {
         freed: &mut Option<SharedBytes>,
     ) -> Result<(), AllocError>
         requires open { IsOpen self.old.conns slot }
-        ensures { Does self.old result self.new (work self.old.config slot handle.now (work_of said.now)) }
+        ensures does { Does self.old result self.new (work self.old.config slot handle.now (work_of said.now)) }
+        ensures freed { Frees self.old.jobs self.new.jobs freed.old freed.new }
     {
         match self.running_at(slot, handle) {
             Some(job) => self.tell_work(job, said, freed),
@@ -81,6 +83,7 @@ impl Core {
         ensures conns { self.new.conns ≡ self.old.conns }
         ensures text { self.new.text ≡ self.old.text }
         ensures listeners { listeners_of (job_of self.new.jobs job) ≡ listeners_of (job_of self.old.jobs job) }
+        ensures body { body_at job self.new.jobs ≡ body_at job self.old.jobs }
         ensures runs { IsRunning (job_of self.old.jobs job) → IsRunning (job_of self.new.jobs job) }
     {
         match report {
@@ -110,7 +113,8 @@ impl Core {
         freed: &mut Option<SharedBytes>,
     ) -> Result<(), AllocError>
         requires runs { IsRunning (job_of self.old.jobs job) }
-        ensures { Does self.old result self.new (tell_work (work_of said.now) job) }
+        ensures does { Does self.old result self.new (tell_work (work_of said.now) job) }
+        ensures freed { Frees self.old.jobs self.new.jobs freed.old freed.new }
     {
         self.prepare_each(job, said)?;
         self.keep_report(job, said.report)?;
@@ -122,7 +126,8 @@ impl Core {
     /// A running job ends, if so. It needs no memory. The caller that frees its body later owns it too.
     fn end_if(&mut self, job: u64, ends: bool, freed: &mut Option<SharedBytes>)
         requires { IsRunning (job_of self.old.jobs job) }
-        ensures { Goes self.old self.new (end_if ends job) }
+        ensures goes { Goes self.old self.new (end_if ends job) }
+        ensures freed { (freed.new ≡ freed.old) ⊎ IfSome freed.new (λ body. (body_at job self.old.jobs ≡ Some body) × (job_of self.new.jobs job ≡ None)) }
     {
         if ends {
             *freed = self.body_of(job);
@@ -137,15 +142,19 @@ impl Core {
         ensures conns { self.new.conns ≡ self.old.conns }
         ensures moment { self.new.moment ≡ self.old.moment }
         ensures jobs { OthersStay job self.old.jobs self.new.jobs }
+        ensures ended { job_of self.new.jobs job ≡ None }
     {
-        if let Some((f, priority)) = self.queue_of_running(job) {
+        let queue = self.queue_of_running(job);
+        self.jobs.end(job);
+        if let Some((f, priority)) = queue {
             self.functions.release(f, priority);
-            self.jobs.end(job);
         }
     }
 
     /// The body of a job, if that is shared.
-    fn body_of(&self, job: u64) -> Option<SharedBytes> {
+    fn body_of(&self, job: u64) -> Option<SharedBytes>
+        ensures { IfSome result (λ body. body_at job self.now.jobs ≡ Some body) }
+    {
         self.jobs.by_number(job)?.data().share()
     }
 

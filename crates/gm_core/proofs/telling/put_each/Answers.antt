@@ -1,11 +1,11 @@
-use Rattle.std.proofs.Common.{◌≡◌, ◌+◌, ◌≤◌, ◌==◌, ◌++◌, ℕ, true, false, if◌then◌else◌, List, length, drop, filter, get_or}
+use Rattle.std.proofs.Common.{◌≡◌, ◌+◌, ◌≤◌, ◌==◌, ◌++◌, ℕ, true, false, if◌then◌else◌, List, drop, filter, get_or}
 use Rattle.std.proofs.Common.{sym, ap, subst, ◌∙◌, arith}
 use Rattle.std.proofs.Math.ListN.{drop_of_length-le}
 use Rattle.gm_conns.specs.Connections.{with_bytes}
 use Rattle.gm_conns.specs.ConnTables.{conn, Changes}
 use Rattle.gm_core.specs.Holds.{HoldsConns}
 use Rattle.gm_core.specs.Telling.{hears, poured, needed}
-use Rattle.gm_core.specs.Writing.{Text, IsFor}
+use Rattle.gm_core.specs.Writing.{Text}
 use Rattle.gm_core.proofs.ConnLemmas.{touched_then, touched_told}
 use Rattle.gm_core.proofs.TellLemmas.{text_put, owned_put, text_same, owned_same, put_hears, put_room, put_left, put_holds, heard_next, unheard_next}
 use Rattle.gm_core.proofs.telling.put_each.Goals as goal

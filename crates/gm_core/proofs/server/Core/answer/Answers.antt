@@ -1,4 +1,4 @@
-use Rattle.std.proofs.Common.{List, ℕ, length, refl, ap}
+use Rattle.std.proofs.Common.{List, ℕ, refl, ap}
 use Rattle.gm_packet.specs.Answers.{answer_of}
 use Rattle.gm_notes.specs.Past.{give, with_output}
 use Rattle.gm_core.proofs.CoreLemmas.{goes_as, goes_then, goes_room}

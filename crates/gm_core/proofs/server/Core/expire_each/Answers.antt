@@ -1,4 +1,4 @@
-use Rattle.std.proofs.Common.{◌≡◌, ◌∷◌, length, subst, arith}
+use Rattle.std.proofs.Common.{subst, arith}
 use Rattle.std.proofs.lemmas.List.{nil_from_length}
 use Rattle.gm_core.proofs.TickLemmas.{Expiring, expiring_begins, expiring_on, expiring_done, late_now, late_text, late_room}
 use Rattle.gm_core.proofs.server.Core.expire_each.Goals as goal

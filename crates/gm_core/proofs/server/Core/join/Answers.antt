@@ -1,4 +1,4 @@
-use Rattle.std.proofs.Common.{◌≡◌, ℕ, List, Some, ap, ◌∙◌}
+use Rattle.std.proofs.Common.{ℕ, List, Some, ap, ◌∙◌}
 use Rattle.gm_notes.specs.Past.{with_output}
 use Rattle.gm_notes.specs.Submissions.{join_or_make, keep_or_listen}
 use Rattle.gm_actions.specs.Actions.{submission_of}

@@ -1,4 +1,4 @@
-use Rattle.std.proofs.Common.{◌≡◌, ◌<◌, ◌^◌, true, false, None, Some, refl, sym, ◌∙◌}
+use Rattle.std.proofs.Common.{◌≡◌, ◌<◌, ◌^◌, true, false, None, refl, sym, ◌∙◌}
 use Rattle.gm_notes.specs.Submissions.{is_full, join_or_make}
 use Rattle.gm_actions.specs.Actions.{submission_of}
 use Rattle.gm_core.specs.Facts.{conn_facts}

@@ -10,15 +10,15 @@ use Rattle.gm_core.specs.Holds.{Holds}
 use Rattle.gm_core.proofs.StartLemmas.{holds_nothing, begins_above}
 use Rattle.gm_core.proofs.server.Core.new.Goals as goal
 
-pub returns : goal.returns
-returns c =
+pub returns-clause-agrees : goal.returns-clause-agrees
+returns-clause-agrees c =
     let k = c.args.config in
-    let functions = c.in_ok-functions.ensures ∙ ap no_functions c.max_functions.ensures.value in
+    let functions = c.in_ok-functions.ensures ∙ ap (no_functions c.args.seed) c.max_functions.ensures.value in
     let live = c.in_ok-jobs.ensures ∙ ap (no_jobs c.args.seed) c.first_job.ensures.value in
     let held = holds_nothing k c.args.seed c.in_ok-conns.conns (c.in_ok-conns.ensures.slots ∙ c.slots.ensures.value) c.in_ok-conns.ensures.closed (subst (λ n. n ≤ 2 ^ 64) c.first_job.ensures.value c.first_job.ensures.fits)
     (begins_above k (subst (λ (x : Settings). config_fault x ≡ None) c.config.view_is c.config.invariant)) in
     record {
       settings = refl;
       past = subst (λ (q : queues.Table). Holds k c.in_ok-conns.conns q c.in_ok-jobs.jobs 0 Running nothing) (sym functions)
-          (subst (λ (j : jobs.Table). Holds k c.in_ok-conns.conns (no_functions k.max_functions) j 0 Running nothing) (sym live) held);
+          (subst (λ (j : jobs.Table). Holds k c.in_ok-conns.conns (no_functions c.args.seed k.max_functions) j 0 Running nothing) (sym live) held);
     }

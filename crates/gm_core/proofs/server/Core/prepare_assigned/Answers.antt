@@ -1,4 +1,4 @@
-use Rattle.std.proofs.Common.{◌≡◌, [], length, refl, sym, ap, ◌∙◌}
+use Rattle.std.proofs.Common.{◌≡◌, [], refl, sym, ap, ◌∙◌}
 use Rattle.gm_packet.specs.Answers.{answer_packet}
 use Rattle.gm_notes.specs.Workers.{assignment}
 use Rattle.gm_jobs.specs.Live.{Live}

@@ -1,4 +1,4 @@
-use Rattle.std.proofs.Common.{length, refl}
+use Rattle.std.proofs.Common.{refl}
 use Rattle.gm_core.proofs.CoreLemmas.{goes_room}
 use Rattle.gm_core.proofs.server.Core.prepare_created.Goals as goal
 

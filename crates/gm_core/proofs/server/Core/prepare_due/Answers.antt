@@ -1,4 +1,4 @@
-use Rattle.std.proofs.Common.{◌≡◌, ◌+◌, ◌≤◌, ◌++◌, ◌∷◌, [], ℕ, List, false, filter, length, append-nil, refl, sym, subst, ◌∙◌}
+use Rattle.std.proofs.Common.{◌≡◌, ◌+◌, ◌≤◌, ◌++◌, ◌∷◌, [], ℕ, List, false, filter, append-nil, refl, sym, subst, ◌∙◌}
 use Rattle.gm_packet.specs.Answers.{answer_packet, work_fail}
 use Rattle.gm_notes.specs.Jobs.{handle}
 use Rattle.gm_conns.specs.ConnTables.{conn}

@@ -1,4 +1,4 @@
-use Rattle.std.proofs.Common.{◌≡◌, ◌<◌, ◌^◌, ℕ, true, false, if◌then◌else◌, None, Some, codes, refl, sym, ◌∙◌}
+use Rattle.std.proofs.Common.{◌≡◌, ◌<◌, ◌^◌, ℕ, true, false, if◌then◌else◌, None, codes, refl, sym, ◌∙◌}
 use Rattle.gm_notes.specs.Jobs.{next_number}
 use Rattle.gm_notes.specs.Past.{Past, refuse}
 use Rattle.gm_notes.specs.Submissions.{Submission, is_bad_name, is_one_too_many, make, submit}

@@ -1,4 +1,4 @@
-use Rattle.std.proofs.Common.{◌≡◌, ℕ, true, List, length, refl, sym, ap, ◌∙◌}
+use Rattle.std.proofs.Common.{◌≡◌, ℕ, true, List, refl, sym, ap, ◌∙◌}
 use Rattle.gm_packet.specs.Answers.{status_res, answer_packet}
 use Rattle.gm_notes.specs.Jobs.{job_state, report}
 use Rattle.gm_notes.specs.JobStates.{is_running}

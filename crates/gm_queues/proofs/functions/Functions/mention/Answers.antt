@@ -1,6 +1,8 @@
 use Rattle.std.proofs.Common.{◌≡◌, [], ◌∷◌, ◌++◌, length, map, position, None, Some, IsOk, refl, sym, ap, subst, ◌∙◌}
 use Rattle.std.specs.Str.{bytes_eq}
 use Rattle.std.proofs.lemmas.Slice.Eq.{bytes_eq-Decides}
+use Rattle.indexmap.specs.IndexSet.{hasher_of}
+use Rattle.gm_queues.specs.declared.name_hash.NameHash.{NameHash}
 use Rattle.gm_queues.specs.Queues.{no_jobs}
 use Rattle.gm_queues.specs.FunctionTables.{Table, number_of, ChangesNames}
 use Rattle.gm_queues.proofs.PositionLemmas.{position-map, position-push}
@@ -14,7 +16,7 @@ missing c = ap (number_of c.args.name.now) c.self.view_is ∙ sym c.find.ensures
 
 names_after : (c : After-add_rings) → map (λ v. v.items) c.add_name.new.names.keys ≡ map (λ v. v.items) c.self.inside.names.keys ++ c.args.name.now ∷ []
 names_after c =
-    c.add_name.ensures ∙ (λ j. map (λ v. v.items) (c.in_ok-make_room.ensures.names j) ++ (c.in_ok-copy.ensures.items j) ∷ [])
+    c.add_name.ensures.names ∙ (λ j. map (λ v. v.items) (c.in_ok-make_room.ensures.names j) ++ (c.in_ok-copy.ensures.items j) ∷ [])
 
 pub add_name-requires-clause-fresh : goal.add_name-requires-clause-fresh
 add_name-requires-clause-fresh c =
@@ -36,6 +38,7 @@ returns-clause-fresh c = λ _.
     let names = names_after d in
     let ok : IsOk c.push-added.result = c.push-added.ensures.succeeds c.in_ok-make_room.ensures.ok.1 in
     let limits = (rw ok at c.push-added.ensures.items) ∙ ap (λ xs. xs ++ 0 ∷ []) c.in_ok-make_room.ensures.limits in
+    let seed = ap (λ (h : NameHash). h.seed) (c.add_name.ensures.hasher ∙ c.in_ok-make_room.ensures.hasher) in
     let queues = c.add_rings.ensures ∙ ap (λ qs. qs ++ no_jobs ∷ no_jobs ∷ no_jobs ∷ []) c.in_ok-make_room.ensures.rings in
-    subst (λ (t : Table). ChangesNames (t.names ++ c.args.name.now ∷ []) t (record { most = c.self.inside.most; names = map (λ v. v.items) c.add_name.new.names.keys; limits = c.push-added.new.self.items; queues = c.add_rings.new.rings.items })) c.self.view_is
-    (rw (names, limits, queues) (with_function (record { most = c.self.inside.most; names = map (λ v. v.items) c.self.inside.names.keys; limits = c.self.inside.limits.items; queues = c.self.inside.rings.items }) c.args.name.now))
+    subst (λ (t : Table). ChangesNames (t.names ++ c.args.name.now ∷ []) t (record { seed = (hasher_of c.add_name.new.names).seed; most = c.self.inside.most; names = map (λ v. v.items) c.add_name.new.names.keys; limits = c.push-added.new.self.items; queues = c.add_rings.new.rings.items })) c.self.view_is
+    (rw (names, limits, queues, seed) (with_function (record { seed = (hasher_of c.self.inside.names).seed; most = c.self.inside.most; names = map (λ v. v.items) c.self.inside.names.keys; limits = c.self.inside.limits.items; queues = c.self.inside.rings.items }) c.args.name.now))

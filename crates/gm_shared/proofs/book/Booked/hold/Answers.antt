@@ -11,12 +11,12 @@ use Rattle.gm_shared.specs.Tapes.{AreCopies, tape_step, noop_entries, event_entr
 use Rattle.gm_shared.proofs.Taping.{grows_none, grows_same, grows_twice, place_after, tape_same, tape_after, noop_tape, event_tape}
 use Rattle.gm_shared.proofs.Keeping.{held_so}
 use Rattle.gm_shared.proofs.Noops.{asks_still}
-use Rattle.gm_shared.proofs.Applying.{closes_calm, asked_before, agrees_after, touches}
+use Rattle.gm_shared.proofs.Applying.{closes_calm, asked_before, agrees_after, touches, keeps_added}
 use Rattle.gm_shared.proofs.book.Booked.hold.Goals as goal
 
 pub returns-in_err-done-clause-holding : goal.returns-in_err-done-clause-holding
 returns-in_err-done-clause-holding c = λ k steps h.
-    let event = c.args.event.now in
+    let event = c.args.read.now.event in
     let desk = c.args.desk in
     let noop = c.resolve_noop-noop.result in
     let old = c.args.self.now.tape in
@@ -48,7 +48,7 @@ returns-in_err-done-clause-holding c = λ k steps h.
 
 pub returns-clause-holding : goal.returns-clause-holding
 returns-clause-holding c = λ k steps h.
-    let event = c.args.event.now in
+    let event = c.args.read.now.event in
     let desk = c.args.desk in
     let noop = c.resolve_noop-noop.result in
     let old = c.args.self.now.tape in
@@ -76,19 +76,22 @@ returns-clause-holding c = λ k steps h.
       asked (record {
         asks = asks_still (slot_of (step_of event)) k steps c.args.self.now.seat.lines c.resolve_noop-noop.new.self.seat.lines c.follow.new.self.seat.lines
             (c.resolve_noop-noop.ensures.asks k steps (record { core = h.holds.core; slots = h.holds.slots; words = h.holds.words }))
-            (asked_before k event before c.resolve_noop-noop.new.self _ c.follow.new.self c.follow.new.touched found.1 refl refl answer.1 c.in_ok-done.ensures.touched c.follow.ensures.follows calm);
+            (asked_before k event before c.resolve_noop-noop.new.self _ c.follow.new.self _ _ found.1 refl refl answer.1 c.in_ok-done.ensures.touched c.follow.ensures.follows calm);
         found = found.0;
         event = record {
           taken = answer.0.0;
           done_is = answer.0.1;
-          mode_is = c.mode.ensures k _ (c.follow.ensures.follows.follows.agrees k _ answer.1);
+          mode_is = c.mode.ensures k _ (c.follow.ensures.follows.touched.follows.agrees k _ answer.1);
           agrees = record {
-            holds = agrees_after k event before c.resolve_noop-noop.new.self _ c.follow.new.self c.follow.new.touched found.1 refl refl answer.1 c.in_ok-done.ensures.touched c.follow.ensures.follows calm;
+            holds = agrees_after k event before c.resolve_noop-noop.new.self _ c.follow.new.self _ _ found.1 refl refl answer.1 c.in_ok-done.ensures.touched c.follow.ensures.follows calm;
             tape = all_kept;
           };
-          touches = touches k event before c.resolve_noop-noop.new.self _ c.follow.new.self c.follow.new.touched found.1 refl refl answer.1 c.in_ok-done.ensures.touched c.follow.ensures.follows calm c.args.self.now steps noop refl h.holds.core c.resolve_noop-noop.ensures.touched;
+          touches = touches k event before c.resolve_noop-noop.new.self _ c.follow.new.self _ _ found.1 refl refl answer.1 c.in_ok-done.ensures.touched c.follow.ensures.follows calm c.args.self.now steps noop refl h.holds.core c.resolve_noop-noop.ensures.touched;
         };
         tape = grows_twice (noop_entries desk noop) _ old then_ new _ _ noop_all last;
         place = c.enter_event-at.ensures.place (tape_step (step_of event)) copies ∙ place_after _ old then_ _ noop_all;
       }),
     )
+
+pub returns-clause-kept : goal.returns-clause-kept
+returns-clause-kept c = keeps_added c.follow.ensures.follows.touched.these _ _ c.follow.ensures.follows.touched.adds

@@ -19,7 +19,7 @@ pub enter-requires : goal.enter-requires
 enter-requires g c =
     let desk = c.args.desk in
     let noop = c.hold-result.new.found in
-    let s = step_of c.args.event.now in
+    let s = step_of c.args.read.now.event in
     let is = ap (λ d. if_done desk s d (noop_entries desk noop)) c.done_in-done.ensures in
     record {
       keeper = c.self.invariant.1 ∙ sym c.requires.history;
@@ -32,12 +32,12 @@ invariant_of-self g c =
     let i = c.self.invariant.0 in
     let desk = c.args.desk in
     let noop = c.hold-result.new.found in
-    let s = step_of c.args.event.now in
+    let s = step_of c.args.read.now.event in
     let log = c.self.inside.keeper.log in
     let h = c.hold-result.ensures.holding _ (steps_of log) i.agrees in
     let is = ap (λ k. k.log) c.enter.ensures.keeper ∙ ap (λ d. if_done desk s d (noop_entries desk noop) ++ log) c.done_in-done.ensures in (
       subst (IsGuarded g.K.BookName.table g.K.BookName.settings g.K.BookName.taped c.hold-result.new.self) (sym is)
-          (held_guarded _ c.args.event.now desk noop _ _ _ _ log i.legal g.K.BookName.taped i.on i.recorded c.hold-result.result h.2 g.K.BookName.table (c.hold-result.ensures.table ∙ i.table_is) c.hold-result.ensures.opened i.counts
+          (held_guarded _ c.args.read.now.event desk noop _ _ _ _ log i.legal g.K.BookName.taped i.on i.recorded c.hold-result.result h.2 g.K.BookName.table (c.hold-result.ensures.table ∙ i.table_is) c.hold-result.ensures.opened i.counts
           (subst (λ (z : ℕ × Option Done). AreBelow z.0 (if_done desk s z.1 (noop_entries desk noop) ++ log)) (λ j. (c.self.invariant.2 j, c.done_in-done.ensures j)) c.enter.ensures.whose)),
       ap (λ k. k.table) c.enter.ensures.keeper ∙ c.self.invariant.1,
       ap (λ k. k.made) c.enter.ensures.keeper ∙ c.self.invariant.2,
@@ -48,17 +48,17 @@ returns-clause-called g c =
     let i = c.self.invariant.0 in
     let desk = c.args.desk in
     let noop = c.hold-result.new.found in
-    let s = step_of c.args.event.now in
+    let s = step_of c.args.read.now.event in
     let log = c.self.inside.keeper.log in
     let h = c.hold-result.ensures.holding _ (steps_of log) i.agrees in
     let is = ap (λ f. f.seen) c.enter.ensures.front ∙ ap (λ d. if_done desk s d (noop_entries desk noop) ++ log) c.done_in-done.ensures in
     record {
       before = log;
       knows = subst (λ who. Knows log who c.args.front.now.seen) c.requires.who c.enter.ensures.knows;
-      legal = subst (Legal g.K.BookName.settings) (sym is) (held_log _ c.args.event.now desk noop _ _ _ _ log i.legal c.hold-result.result h.2).1;
+      legal = subst (Legal g.K.BookName.settings) (sym is) (held_log _ c.args.read.now.event desk noop _ _ _ _ log i.legal c.hold-result.result h.2).1;
       noop = noop;
       calls = subst (Calls g.K.BookName.settings g.K.BookName.taped s desk noop c.hold-result.result c.hold-result.new.touched log) (sym is)
-          (held_calls _ c.args.event.now desk noop _ _ _ _ log i.legal g.K.BookName.taped i.on i.recorded i.counts c.hold-result.result c.hold-result.ensures.opened h.2);
+          (held_calls _ c.args.read.now.event desk noop _ _ _ _ log i.legal g.K.BookName.taped i.on i.recorded i.counts c.hold-result.result c.hold-result.ensures.opened h.2);
     }
 
 pub returns-clause-told : goal.returns-clause-told
@@ -66,16 +66,16 @@ returns-clause-told g c =
     let i = c.self.invariant.0 in
     let desk = c.args.desk in
     let noop = c.hold-result.new.found in
-    let s = step_of c.args.event.now in
+    let s = step_of c.args.read.now.event in
     let log = c.self.inside.keeper.log in
     let h = c.hold-result.ensures.holding _ (steps_of log) i.agrees in
     let is = ap (λ f. f.seen) c.enter.ensures.front ∙ ap (λ d. if_done desk s d (noop_entries desk noop) ++ log) c.done_in-done.ensures in
-    held_shares _ c.args.event.now desk noop _ _ _ _ log i.legal g.K.BookName.taped i.on i.recorded c.hold-result.result h.2 c.args.front.now.seen
+    held_shares _ c.args.read.now.event desk noop _ _ _ _ log i.legal g.K.BookName.taped i.on i.recorded c.hold-result.result h.2 c.args.front.now.seen
     (subst (λ who. Knows log who c.args.front.now.seen) c.requires.who c.enter.ensures.knows) _ _ c.requires.told h.1
     ∙ ap (share_of g.K.BookName.taped (actors.Desk desk)) (sym is)
 
 pub returns-clause-holding : goal.returns-clause-holding
 returns-clause-holding g c =
     subst (λ (x : GuardedState). (steps : List Step) → BookedAgrees x.booked g.K.BookName.settings steps
-    → (told : List Told) × (noop : Noop) × Held g.K.BookName.settings steps (step_of c.args.event.now) c.args.desk noop c.hold-result.result c.hold-result.new.touched x.booked c.hold-result.new.self told) c.self.view_is
+    → (told : List Told) × (noop : Noop) × Held g.K.BookName.settings steps (step_of c.args.read.now.event) c.args.desk noop c.hold-result.result c.hold-result.new.touched x.booked c.hold-result.new.self told) c.self.view_is
     (λ steps h. let done = c.hold-result.ensures.holding _ steps h in (done.0, c.hold-result.new.found, done.2))

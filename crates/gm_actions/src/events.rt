@@ -1,0 +1,29 @@
+//! Events whose packets are read.
+
+ghost use Rattle.gm_actions.specs.ReadEvents.{ReadsEvent};
+
+use crate::actions::Action;
+use crate::refusal::Refusal;
+use gm_notes::Event;
+
+/// An event, and what its packet asks, or why that is refused whatever the server holds. A packet is read once, before any lock is
+/// taken.
+#[derive(Clone, Copy)]
+pub struct ReadEvent<'a> {
+    /// The event.
+    pub event: Event<'a>,
+    /// What its packet asks; of an event without one it says nothing.
+    pub action: Result<Action<'a>, Refusal>,
+}
+
+impl<'a> Action<'a> {
+    /// What an event's packet asks, or why it is refused; `Nothing` of an event without one.
+    pub fn of_event(event: &Event<'a>) -> Result<Action<'a>, Refusal>
+        ensures { ReadsEvent event.now result }
+    {
+        match event {
+            Event::Packet { kind, bytes, .. } => Action::read(*kind, bytes),
+            _ => Ok(Action::Nothing),
+        }
+    }
+}
