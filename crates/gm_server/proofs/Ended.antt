@@ -15,13 +15,14 @@ use Rattle.gm_core.specs.Holds.{CoreAgrees}
 use Rattle.gm_server.specs.Owners.{AreOwn}
 use Rattle.gm_server.specs.declared.slot.Account.{Account}
 use Rattle.gm_server.specs.Accounts.{AreAccounted}
-use Rattle.gm_server.specs.declared.error.ServeError.{ServeError}
 use Rattle.gm_server.specs.declared.settings.Served.{Served}
-use Rattle.gm_server.specs.Served.{HasEverybody, IsWhole, SettledSo, DiffersSo, EndsSo}
+use Rattle.gm_server.specs.Served.{HasEverybody, IsWhole, SettledSo, EndsSo}
 use Rattle.gm_server.proofs.Owning.{map_twice}
 
-pub ends_as : (k asked : Settings) (taped kept : Bool) (result : Result Served ServeError) → k ≡ asked → taped ≡ kept → EndsSo k taped result → EndsSo asked kept result
-ends_as k asked taped kept result settings tape ends = subst (λ t. EndsSo asked t result) tape (subst (λ s. EndsSo s taped result) settings ends)
+-- the settings of the blank book are those that were asked for
+pub ends_as : (k asked : Settings) (taped kept : Bool) (history : TableId) (served : Served) → k ≡ asked → taped ≡ kept → SettledSo k taped history served.book served.accounts.items → EndsSo asked kept served
+ends_as k asked taped kept history served settings tape so =
+    (history, subst (λ t. SettledSo asked t history served.book served.accounts.items) tape (subst (λ s. SettledSo s taped history served.book served.accounts.items) settings so))
 
 -- the history that is handed out is that of which all this is known
 pub whole_of : (k : Settings) (taped : Bool) (history : TableId) (settled : Settled) (accounts : List Account) (log : List Entry) → settled.history.log ≡ log → settled.history.table ≡ history
@@ -47,8 +48,3 @@ not_settled k taped history accounts Memory shares fronts why = tt
 not_settled k taped history accounts (Differs settled) shares fronts why = λ all.
     let first : Actor × List Told → Actor = λ share. share.0 in
     why.missing (ap (map first) (sym why.ended.shares_are) ∙ (map_twice told_by first settled.shares.items ∙ all))
-
--- and so a server ends
-pub ends_differing : (k : Settings) (taped : Bool) (history : TableId) (accounts : List Account) (error : SettleError) (settled : Settled) → error ≡ Differs settled → SettledSo k taped history (Err error) accounts
-    → DiffersSo k
-ends_differing k taped history accounts error settled is so = record { settled = settled; is = subst (λ e. SettledSo k taped history (Err e) accounts) is so }

@@ -4,3 +4,5 @@ mod Promised
 mod Ended
 mod Lives
 mod Accounted
+mod Options
+mod Outcomes

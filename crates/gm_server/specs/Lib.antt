@@ -1,3 +1,4 @@
+pub mod Options
 pub mod Arguments
 pub mod Owners
 pub mod Promise
@@ -5,3 +6,4 @@ pub mod Connections
 pub mod Accounts
 pub mod Served
 pub mod Statuses
+pub mod Outcomes

@@ -1,5 +1,5 @@
 -- How a server ended.
-use Rattle.std.specs.Prelude.{◌≡◌, Bool, if◌then◌else◌, List, [], map, reverse, Result, Ok, Err, vec_len}
+use Rattle.std.specs.Prelude.{◌≡◌, ℕ, Bool, if◌then◌else◌, List, [], map, reverse, Result, Ok, Err, vec_len}
 use Rattle.atomic_table.specs.Seated.{TableId}
 use Rattle.gm_notes.specs.Settings.{Settings as BookSettings}
 use Rattle.gm_shared.specs.declared.settling.Settled.{Settled}
@@ -15,6 +15,7 @@ use Rattle.gm_server.specs.Accounts.{AreAccounted}
 use Rattle.gm_server.specs.declared.error.ServeError.{ServeError}
 use Rattle.gm_server.specs.declared.error.ServeError.TheVariants as errors
 use Rattle.gm_server.specs.declared.settings.Served.{Served}
+use Rattle.gm_server.specs.declared.settings.Summary.{Summary}
 
 -- Everybody's share is there.
 abbrev pub HasEverybody : BookSettings → Settled → Type 0
@@ -42,21 +43,12 @@ SettledSo k taped history (Ok settled) accounts = IsWhole k taped history settle
 SettledSo k taped history (Err of_book.Memory) accounts = Unit {0}
 SettledSo k taped history (Err (of_book.Differs settled)) accounts = LacksAShare k settled
 
--- the same of what a server tells in the end: how many entries its tape has
-pub record ServedSo (k : BookSettings) (taped : Bool) (served : Served) : Type 0 where
-  pub history : TableId
-  pub settled : Settled
-  pub accounts : List Account
-  pub is : IsWhole k taped history settled accounts
-  pub entries : served.entries ≡ vec_len settled.tape
+-- a server with these settings served, and its book was settled so: the one history is that which is handed out
+abbrev pub EndsSo : BookSettings → Bool → Served → Type 0
+EndsSo k taped served = (history : TableId) × SettledSo k taped history served.book served.accounts.items
 
-pub record DiffersSo (k : BookSettings) : Type 0 where
-  pub settled : Settled
-  pub is : LacksAShare k settled
-
-abbrev pub EndsSo : BookSettings → Bool → Result Served ServeError → Type 0
-EndsSo k taped (Ok served) = ServedSo k taped served
-EndsSo k taped (Err errors.Differs) = DiffersSo k
-EndsSo k taped (Err errors.Memory) = Unit {0}
-EndsSo k taped (Err errors.Listen) = Unit {0}
-EndsSo k taped (Err errors.Threads) = Unit {0}
+-- what is said of that: how many entries its tape has
+abbrev pub summary_of : ℕ → Result Settled SettleError → Result Summary ServeError
+summary_of connections (Ok settled) = Ok (record { connections = connections; entries = vec_len settled.tape })
+summary_of connections (Err of_book.Memory) = Err errors.Memory
+summary_of connections (Err (of_book.Differs settled)) = Err errors.Differs

@@ -1,11 +1,16 @@
 -- The numbers of errors, and the statuses that the program ends with.
-use Rattle.std.specs.Prelude.{◌≡◌, ℕ, Result, Ok, Err}
+use Rattle.std.specs.Prelude.{ℕ, Result, Ok, Err}
 use Rattle.gm_server.specs.declared.error.ServeError.{ServeError}
 use Rattle.gm_server.specs.declared.error.ServeError.TheVariants as errors
 use Rattle.gm_server.specs.declared.error.ControlError.{ControlError}
 use Rattle.gm_server.specs.declared.error.ControlError.TheVariants as of_control
-use Rattle.gm_server.specs.declared.run.RunError.{RunError}
-use Rattle.gm_server.specs.declared.run.RunError.TheVariants as errors_of_run
+use Rattle.gm_server.specs.declared.outcome.RunError.{RunError}
+use Rattle.gm_server.specs.declared.outcome.RunError.TheVariants as errors_of_run
+use Rattle.gm_server.specs.declared.outcome.Outcome.{Outcome}
+use Rattle.gm_server.specs.declared.outcome.Outcome.TheVariants as outcomes
+use Rattle.gm_server.specs.declared.settings.Served.{Served}
+use Rattle.gm_server.specs.declared.settings.Summary.{Summary}
+use Rattle.gm_server.specs.Served.{summary_of}
 
 -- why it couldn't serve
 abbrev pub error_of_control : ControlError → ServeError
@@ -38,11 +43,17 @@ run_status errors_of_run.Output = 3
 run_status (errors_of_run.Serve error) = 3
 run_status (errors_of_run.Ended error) = serve_error_status error
 
--- however the program ended
-abbrev pub ended_status : Result (Unit {0}) RunError → ℕ
-ended_status (Ok served) = 0
-ended_status (Err error) = run_status error
+-- of what is said of a server
+abbrev pub summary_status : Result Summary ServeError → ℕ
+summary_status (Ok summary) = 0
+summary_status (Err error) = serve_error_status error
 
--- a status that the program may end with
-abbrev pub IsStatus : ℕ → Type 0
-IsStatus status = (ended : Result (Unit {0}) RunError) × (status ≡ ended_status ended)
+-- of a server that served
+abbrev pub served_status : Served → ℕ
+served_status served = summary_status (summary_of served.connections served.book)
+
+-- however the program ended
+abbrev pub ended_status : Result Outcome RunError → ℕ
+ended_status (Ok outcomes.Said) = 0
+ended_status (Ok (outcomes.Served served)) = served_status served
+ended_status (Err error) = run_status error

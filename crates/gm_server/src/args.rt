@@ -1,6 +1,9 @@
 //! The arguments of `gmd`.
 
-ghost use Rattle.std.specs.Prelude.{◌≤◌, IfOk};
+ghost use Rattle.std.specs.Prelude.{◌≡◌, IfOk, map};
+ghost use Rattle.clap.specs.Words.{app_of, FailsBy};
+ghost use Rattle.gm_server.specs.Options.{gmd_app, fault_in, Reads};
+ghost use Rattle.gm_server.specs.Options.{with_address_rules, with_name_rule, with_timeout_rule, with_threads_rule, with_flag_rules};
 
 use clap::parser::ValueSource;
 use clap::{ArgMatches, Command, Error};
@@ -29,7 +32,9 @@ pub(crate) struct Args<'a> {
 }
 
 /// The command with the options of where it listens. Their letters are those of gearmand(8).
-fn with_address<'a>(alloc: Global, command: Command<'a>) -> Result<Command<'a>, AllocError> {
+fn with_address<'a>(alloc: Global, command: Command<'a>) -> Result<Command<'a>, AllocError>
+    ensures { IfOk result (λ made. app_of made ≡ with_address_rules (app_of command.entry)) }
+{
     command
         .arg(number(alloc, "port", 1, 65_535, "4730", "The port to listen on").short('p'))?
         .arg(text(
@@ -43,7 +48,9 @@ fn with_address<'a>(alloc: Global, command: Command<'a>) -> Result<Command<'a>, 
 }
 
 /// The command with the option of what it is called.
-fn with_name<'a>(alloc: Global, command: Command<'a>) -> Result<Command<'a>, AllocError> {
+fn with_name<'a>(alloc: Global, command: Command<'a>) -> Result<Command<'a>, AllocError>
+    ensures { IfOk result (λ made. app_of made ≡ with_name_rule (app_of command.entry)) }
+{
     command.arg(text(
         alloc,
         "name",
@@ -54,7 +61,9 @@ fn with_name<'a>(alloc: Global, command: Command<'a>) -> Result<Command<'a>, All
 }
 
 /// The command with the option of when a peer that vanished is found out.
-fn with_peer_timeout<'a>(alloc: Global, command: Command<'a>) -> Result<Command<'a>, AllocError> {
+fn with_peer_timeout<'a>(alloc: Global, command: Command<'a>) -> Result<Command<'a>, AllocError>
+    ensures { IfOk result (λ made. app_of made ≡ with_timeout_rule (app_of command.entry)) }
+{
     command.arg(number(
         alloc,
         "peer-timeout",
@@ -67,7 +76,9 @@ fn with_peer_timeout<'a>(alloc: Global, command: Command<'a>) -> Result<Command<
 }
 
 /// The command with the option of how many threads there are.
-fn with_io_threads<'a>(alloc: Global, command: Command<'a>) -> Result<Command<'a>, AllocError> {
+fn with_io_threads<'a>(alloc: Global, command: Command<'a>) -> Result<Command<'a>, AllocError>
+    ensures { IfOk result (λ made. app_of made ≡ with_threads_rule (app_of command.entry)) }
+{
     command.arg(number(
         alloc,
         "io-threads",
@@ -79,7 +90,9 @@ fn with_io_threads<'a>(alloc: Global, command: Command<'a>) -> Result<Command<'a
 }
 
 /// The command with the options that take nothing.
-fn with_flags<'a>(alloc: Global, command: Command<'a>) -> Result<Command<'a>, AllocError> {
+fn with_flags<'a>(alloc: Global, command: Command<'a>) -> Result<Command<'a>, AllocError>
+    ensures { IfOk result (λ made. app_of made ≡ with_flag_rules (app_of command.entry)) }
+{
     command
         .arg(flag(
             alloc,
@@ -90,7 +103,9 @@ fn with_flags<'a>(alloc: Global, command: Command<'a>) -> Result<Command<'a>, Al
 }
 
 /// The program's command: its options, with the range and the default of each.
-fn command<'a>(alloc: Global) -> Result<Command<'a>, AllocError> {
+fn command<'a>(alloc: Global) -> Result<Command<'a>, AllocError>
+    ensures { IfOk result (λ made. app_of made ≡ gmd_app) }
+{
     let command = Command::new(alloc, "gmd")
         .version(VERSION)
         .about("A Gearman job server");
@@ -105,7 +120,10 @@ fn is_given(matches: &ArgMatches<'_>, option: &str) -> bool {
 }
 
 /// What the arguments ask for, of which the first is the program's name.
-pub(crate) fn parse_args<'a, S: AsStr>(alloc: Global, args: &'a [S]) -> Result<Args<'a>, Error> {
+pub(crate) fn parse_args<'a, S: AsStr>(alloc: Global, args: &'a [S]) -> Result<Args<'a>, Error>
+    ensures kinds { FailsBy (fault_in (map S.text args.entry.now)) result }
+    ensures reads { IfOk result (Reads (map S.text args.entry.now)) }
+{
     let matches = command(alloc)?.try_get_matches_from(args)?;
     Ok(Args {
         port: matches.get_one::<u16>("port").unwrap_or(4730),

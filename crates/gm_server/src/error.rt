@@ -1,7 +1,7 @@
 //! Why a server can't serve.
 
 ghost use Rattle.std.specs.Prelude.{◌≡◌};
-ghost use Rattle.gm_server.specs.Statuses.{serve_error_number};
+ghost use Rattle.gm_server.specs.Statuses.{serve_error_number, serve_error_status};
 
 use std::alloc::AllocError;
 use thiserror::Error;
@@ -30,6 +30,16 @@ impl ServeError {
         ensures { result ≡ serve_error_number self }
     {
         self as u8
+    }
+
+    /// The status that a program ends with whose server ended so.
+    pub(crate) fn status(self) -> u8
+        ensures { result ≡ serve_error_status self }
+    {
+        match self {
+            ServeError::Differs => 4,
+            ServeError::Memory | ServeError::Listen | ServeError::Threads => 3,
+        }
     }
 }
 

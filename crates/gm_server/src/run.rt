@@ -1,23 +1,26 @@
 //! Runs the program on its arguments.
 
-ghost use Rattle.std.specs.Prelude.{◌≡◌, ◌↔◌, None, false, true, IfOk, IsOk, IsErr, OnOk, OnErr};
+ghost use Rattle.std.specs.Prelude.{◌≡◌, ◌↔◌, Some, None, Ok, false, true, IfOk, IfErr, is_ok, map};
 ghost use Rattle.std.specs.Result.{IsErrOf};
-ghost use Rattle.gm_notes.specs.Settings.{config_fault};
+ghost use Rattle.clap.specs.Words.{kind_of};
 ghost use Rattle.gm_server.specs.Arguments.{asked_settings};
-ghost use Rattle.gm_server.specs.Statuses.{run_status, ended_status, IsStatus};
+ghost use Rattle.gm_server.specs.Served.{EndsSo};
+ghost use Rattle.gm_server.specs.Outcomes.{is_of_words, said_as, SaysSo, FailsSo, DoesSo, EndsAs};
 
 use crate::args::{Args, parse_args};
 use crate::crews::Crews;
-use crate::error::ServeError;
+use crate::error::{ControlError, ServeError};
+use crate::outcome::{Outcome, RunError, report};
 use crate::ready::{Ready, Report};
 use crate::server::{Service, serve_with};
-use crate::settings::Settings;
+use crate::settings::{Served, Settings};
 use crate::speaking::Speaker;
 use crate::systemd::{Systemd, first_socket, handed_sockets};
 use clap::error::ErrorKind;
 use gm_notes::{Config, MAX_FUNCTIONS};
 use gm_session::OpenGate;
 use std::alloc::{AllocError, Global};
+use std::convert::AsStr;
 use std::env::Env;
 use std::hash::RandomState;
 use std::io;
@@ -27,86 +30,13 @@ use std::random::RandomSource;
 use std::sync::{Arc, Wait};
 use std::thread::Threads;
 use std::time::Clock;
-use thiserror::Error;
 
-/// Why the program ends early.
-#[derive(Debug, Drop, Error)]
-enum RunError {
-    /// The arguments are invalid, and that was said.
-    #[error("invalid arguments")]
-    Arguments,
-    /// The name can't be part of a job handle.
-    #[error("invalid --name: use 1 to 40 letters, digits, dots and hyphens")]
-    Name,
-    /// A port or an address is given, and a socket is handed over.
-    #[error("invalid arguments: a socket from systemd has its own address, so leave out --port and --listen")]
-    AddressBesideSocket,
-    /// Several sockets are handed over, or the environment gives no number of them.
-    #[error("invalid LISTEN_FDS: gmd takes one socket from systemd")]
-    SocketCount,
-    /// It can't listen on the socket that is handed over.
-    #[error("can't listen on the socket from systemd: {0}")]
-    Socket(io::Error),
-    /// It can't listen.
-    #[error("can't listen on {0}: {1}")]
-    Listen(String, io::Error),
-    /// The system gives no random bytes.
-    #[error("can't get a random seed")]
-    Seed,
-    /// It can't wait for many connections at once.
-    #[error("can't wait for many connections at once, for --io-threads: {0}")]
-    Events(io::Error),
-    /// Standard output can't be written.
-    #[error("can't write to standard output")]
-    Output,
-    /// It can't serve.
-    #[error("{0}")]
-    Serve(ServeError),
-    /// It stopped serving, and that was said.
-    #[error("{0}")]
-    Ended(ServeError),
-}
-
-impl RunError {
-    /// The status that the program ends with.
-    fn status(&self) -> u8
-        ensures { result ≡ run_status self.now }
-    {
-        match self {
-            RunError::Arguments
-            | RunError::Name
-            | RunError::AddressBesideSocket
-            | RunError::SocketCount => 2,
-            RunError::Ended(ServeError::Differs) => 4,
-            RunError::Socket(_)
-            | RunError::Listen(..)
-            | RunError::Seed
-            | RunError::Events(_)
-            | RunError::Output
-            | RunError::Serve(_)
-            | RunError::Ended(_) => 3,
-        }
-    }
-}
-
-impl From<AllocError> for RunError {
-    ghost use Rattle.gm_server.specs.declared.error.ServeError.TheVariants.{Memory};
-    ghost use Rattle.gm_server.specs.declared.run.RunError.TheVariants.{Serve};
-
-    ghost from_gives = { λ _ e. e ≡ Serve Memory };
-
-    fn from(_e: AllocError) -> RunError {
-        RunError::Serve(ServeError::Memory)
-    }
-}
-
-/// The outcome of a write to standard output.
-fn written(outcome: io::Result<()>) -> Result<(), RunError>
-    ensures ok { OnOk result (IsOk outcome) }
-    ensures err { OnErr result (IsErr outcome) }
+/// How the program ended that only wrote to standard output.
+fn said(outcome: io::Result<()>) -> Result<Outcome, RunError>
+    ensures { result ≡ said_as (is_ok outcome) }
 {
     match outcome {
-        Ok(()) => Ok(()),
+        Ok(()) => Ok(Outcome::Said),
         Err(_) => Err(RunError::Output),
     }
 }
@@ -116,7 +46,9 @@ fn print_help_or_error<W: Write>(
     rt: &impl Eprint,
     error: &clap::Error,
     w: &mut W,
-) -> Result<(), RunError> {
+) -> Result<Outcome, RunError>
+    ensures { SaysSo (kind_of error.now) result }
+{
     if error.kind() == ErrorKind::OutOfMemory {
         return Err(RunError::Serve(ServeError::Memory));
     }
@@ -125,13 +57,13 @@ fn print_help_or_error<W: Write>(
         let _ = rt.eprint(error);
         return Err(RunError::Arguments);
     }
-    written(write!(w, "{error}"))
+    said(write!(w, "{error}"))
 }
 
 /// The settings that are asked for.
 fn settings_of(alloc: Global, args: Args<'_>) -> Result<Settings, RunError>
     ensures config { IfOk result (λ settings. settings.config ≡ asked_settings args.entry) }
-    ensures name { IsErrOf result RunError.Name → config_fault (asked_settings args.entry) ≡ None → ⊥ }
+    ensures fails { IfErr result (FailsSo args.entry) }
     ensures limits { IfOk result (λ settings. settings.limits ≡ args.entry.server.limits) }
     ensures tape { IfOk result (λ settings. settings.tape ≡ args.entry.tape) }
 {
@@ -211,6 +143,7 @@ impl<'w, R: Wait, W: Write> Ready for Listening<'w, R, W> {
 
 /// Whether it takes a socket that is handed over, where this many are. If not, it makes one at its own address.
 fn takes_socket(sockets: Option<u32>, has_address: bool) -> Result<bool, RunError>
+    ensures fails { IfErr result (λ error. is_of_words error ≡ false) }
     ensures own { (result ≡ Ok false) ↔ (sockets ≡ Some 0) }
     ensures taken { (result ≡ Ok true) ↔ ((sockets ≡ Some 1) × (has_address ≡ false)) }
     ensures address { IsErrOf result RunError.AddressBesideSocket ↔ ((sockets ≡ Some 1) × (has_address ≡ true)) }
@@ -228,7 +161,9 @@ fn takes_socket(sockets: Option<u32>, has_address: bool) -> Result<bool, RunErro
 fn open_listener<R: Net<Listener = TcpListener, Stream = TcpStream> + Env + AllocGlobal>(
     rt: &R,
     args: Args<'_>,
-) -> Result<TcpListener, RunError> {
+) -> Result<TcpListener, RunError>
+    ensures { IfErr result (λ error. is_of_words error ≡ false) }
+{
     let Args { port, listen, .. } = args;
     if takes_socket(handed_sockets(rt), args.has_address)? {
         return match first_socket() {
@@ -247,7 +182,9 @@ fn open_listener<R: Net<Listener = TcpListener, Stream = TcpStream> + Env + Allo
 }
 
 /// What the threads wait at that serve connections, as the arguments ask.
-fn crews_of(rt: &impl Net, alloc: Global, args: Args<'_>) -> Result<Crews, RunError> {
+fn crews_of(rt: &impl Net, alloc: Global, args: Args<'_>) -> Result<Crews, RunError>
+    ensures { IfErr result (λ error. is_of_words error ≡ false) }
+{
     let slots = args.server.slots;
     if args.io_threads == 0 {
         return Ok(Crews::pairs(alloc, slots)?);
@@ -256,6 +193,28 @@ fn crews_of(rt: &impl Net, alloc: Global, args: Args<'_>) -> Result<Crews, RunEr
         Ok(crews) => Ok(crews),
         Err(error) if error.kind() == io::ErrorKind::OutOfMemory => Err(RunError::from(AllocError)),
         Err(error) => Err(RunError::Events(error)),
+    }
+}
+
+/// Says how the server ended.
+fn tell_end(
+    rt: &(impl Wait + Clock + Eprint),
+    speaker: &Speaker,
+    ended: Result<Served, ControlError>,
+) -> Result<Served, RunError>
+    ensures served { IfOk result (λ served. ended ≡ Ok served) }
+    ensures fails { IfErr result (λ error. is_of_words error ≡ false) }
+{
+    match ended {
+        Ok(served) => {
+            speaker.end(rt, served.summary());
+            Ok(served)
+        }
+        Err(error) => {
+            let error = ServeError::from(error);
+            speaker.end(rt, Err(error));
+            Err(RunError::Ended(error))
+        }
     }
 }
 
@@ -274,7 +233,10 @@ fn serve_on<
         + Sync
         + 'static,
     W: Write,
->(rt: &R, args: Args<'_>, settings: Settings, w: &mut W) -> Result<(), RunError> {
+>(rt: &R, args: Args<'_>, settings: Settings, w: &mut W) -> Result<Served, RunError>
+    ensures ends { IfOk result (EndsSo settings.config settings.tape) }
+    ensures fails { IfErr result (λ error. is_of_words error ≡ false) }
+{
     let Ok(seed) = RandomState::new(rt) else {
         return Err(RunError::Seed);
     };
@@ -294,7 +256,7 @@ fn serve_on<
         systemd: Systemd::new(rt),
         speaker: Arc::try_clone(&speaker)?,
     };
-    let outcome = serve_with(
+    let ended = serve_with(
         rt,
         alloc,
         seed,
@@ -304,16 +266,15 @@ fn serve_on<
         &OpenGate,
         &mut listening,
     );
-    written(listening.told)?;
-    speaker.end(rt, outcome);
-    match outcome {
-        Ok(_) => Ok(()),
-        Err(error) => Err(RunError::Ended(error)),
+    if listening.told.is_err() {
+        drop(ended);
+        return Err(RunError::Output);
     }
+    tell_end(rt, &speaker, ended)
 }
 
-/// Does what the arguments ask for.
-fn run<
+/// Does what these arguments ask for.
+fn run_args<
     R: Threads
         + Wait
         + Clock
@@ -327,46 +288,20 @@ fn run<
         + Sync
         + 'static,
     W: Write,
->(rt: &R, words: &[String], w: &mut W) -> Result<(), RunError> {
-    let args = match parse_args(rt.alloc(), words) {
-        Ok(args) => args,
-        Err(error) => return print_help_or_error(rt, &error, w),
-    };
+>(rt: &R, args: Args<'_>, w: &mut W) -> Result<Outcome, RunError>
+    ensures { DoesSo args.entry result }
+{
     let settings = settings_of(rt.alloc(), args)?;
     if args.check {
-        return written(print_settings(args, w));
+        return said(print_settings(args, w));
     }
-    serve_on(rt, args, settings, w)
+    Ok(Outcome::Served(serve_on(rt, args, settings, w)?))
 }
 
-/// How the program ended: the status that it is to end with.
-fn status_of(ended: &Result<(), RunError>) -> u8
-    ensures { result ≡ ended_status ended.now }
-{
-    match ended {
-        Ok(()) => 0,
-        Err(error) => error.status(),
-    }
-}
-
-/// Says on standard error why the program ended, where that wasn't said. Where that fails, there is nobody left to tell.
-fn report<R: Eprint>(rt: &R, ended: &Result<(), RunError>) {
-    match ended {
-        Ok(()) | Err(RunError::Arguments | RunError::Ended(_)) => {}
-        Err(error) => {
-            let _ = eprintln!(rt; "gmd: {error}");
-        }
-    }
-}
-
-/// Runs the program on its arguments, of which the first is its name, with this standard output. It answers the status
-/// that the program is to end with: 0 after a shutdown, a check, the help or the version; 2 for invalid arguments, also
-/// for an address beside a socket from systemd, and where it is handed other than one; 3 where it can't listen, the system
-/// gives no random seed, no descriptor or no thread, standard output can't be written, or memory ran out at the start or, with a tape, at
-/// the end of a connection or of the server; 4 where the tape differs from what the connections were told.
-///
-/// The options are those of gearmand(8) of the same names, `--io-threads`, `--peer-timeout`, `--tape` and `--check`.
+/// Runs the program on its arguments, of which the first is its name, with this standard output, and answers how it ended
+/// (`status_of`). The options are those of gearmand(8) of the same names, `--io-threads`, `--peer-timeout`, `--tape` and `--check`.
 pub fn run_words<
+    S: AsStr,
     R: Threads
         + Wait
         + Clock
@@ -380,10 +315,13 @@ pub fn run_words<
         + Sync
         + 'static,
     W: Write,
->(rt: &R, words: &[String], w: &mut W) -> u8
-    ensures { IsStatus result }
+>(rt: &R, words: &[S], w: &mut W) -> Result<Outcome, RunError>
+    ensures { EndsAs (map S.text words.now) result }
 {
-    let ended = run(rt, words, w);
+    let ended = match parse_args(rt.alloc(), words) {
+        Ok(args) => run_args(rt, args, w),
+        Err(error) => print_help_or_error(rt, &error, w),
+    };
     report(rt, &ended);
-    status_of(&ended)
+    ended
 }

@@ -1,10 +1,7 @@
 //! Serves.
 
-ghost use Rattle.std.specs.Prelude.{◌≡◌, Bool, List, IfOk};
-ghost use Rattle.atomic_table.specs.Seated.{TableId};
-ghost use Rattle.gm_notes.specs.Settings.{Settings as BookSettings};
+ghost use Rattle.std.specs.Prelude.{◌≡◌, IfOk, IsOk};
 ghost use Rattle.gm_shared.specs.Tapes.{is_on};
-ghost use Rattle.gm_server.specs.declared.slot.Account.{Account};
 ghost use Rattle.gm_server.specs.Served.{SettledSo, EndsSo};
 
 use crate::accepting::{Control, set_accept_timeout};
@@ -13,12 +10,11 @@ use crate::ending::{BookEnd, settle_state};
 use crate::error::{ControlError, ServeError};
 use crate::ready::{Ready, Report};
 use crate::settings::{Served, Settings};
-use crate::slot::Account;
 use crate::speaking::Speaker;
 use crate::state::{ServerState, new_slots};
 use gm_feeder::Limits;
 use gm_session::{Gate, OwnDesk};
-use gm_shared::{Blank, BookName, SettleError, Settled, Shared, TapeMode};
+use gm_shared::{Blank, BookName, Shared, TapeMode};
 use std::alloc::Global;
 use std::hash::RandomState;
 use std::marker::Brand;
@@ -52,17 +48,6 @@ fn mode(tape: bool) -> TapeMode
     if tape { TapeMode::On } else { TapeMode::Off }
 }
 
-/// How a server ended.
-#[derive(Drop)]
-pub struct Ended {
-    /// How many connections were opened; at the greatest `u64` it stays there.
-    pub connections: u64,
-    /// What its book was, and whether the shares of its connections add up.
-    pub book: Result<Settled, SettleError>,
-    /// What each slot's connections read and were written, in the slots' order, which only proofs know.
-    pub accounts: Vec<Account>,
-}
-
 /// How a server serves: how its book is opened, what serves its connections, and when a peer is given up.
 #[derive(Drop)]
 pub struct Service {
@@ -92,12 +77,12 @@ pub(crate) fn serve_book<
     service: Service,
     gate: &G,
     ready: &mut T,
-) -> Result<Ended, ControlError>
+) -> Result<Served, ControlError>
     requires table { blank.table ≡ K.table }
     requires history { blank.history ≡ K.history }
     requires settings { blank.settings ≡ K.settings }
     requires taped { blank.taped ≡ K.taped }
-    ensures { IfOk result (λ ended. SettledSo K.settings K.taped K.history ended.book ended.accounts.items) }
+    ensures { IfOk result (λ served. SettledSo K.settings K.taped K.history served.book served.accounts.items) }
 {
     let Service {
         limits,
@@ -114,28 +99,11 @@ pub(crate) fn serve_book<
     );
     let connections = run_control(rt, &state, listener, peer_timeout, gate, ready)?;
     let BookEnd { book, accounts } = settle_state(state)?;
-    Ok(Ended {
+    Ok(Served {
         connections,
         book,
         accounts,
     })
-}
-
-/// What is answered of a server that ended so.
-fn served(connections: u64, book: &Result<Settled, SettleError>) -> Result<Served, ServeError>
-    ensures ends { (k : BookSettings) (taped : Bool) (history : TableId) (accounts : List Account) → SettledSo k taped history book.now accounts → EndsSo k taped result }
-    ensures connections { IfOk result (λ served. served.connections ≡ connections) }
-{
-    match book {
-        Ok(settled) => Ok(Served {
-            connections,
-            entries: settled.tape.len() as u64,
-        }),
-        Err(error) => match error {
-            SettleError::Memory => Err(ServeError::Memory),
-            SettleError::Differs(_) => Err(ServeError::Differs),
-        },
-    }
 }
 
 /// Nobody is told.
@@ -166,7 +134,8 @@ pub fn serve<R: Threads + Wait + Clock + Eprint + Copy + Send + Sync + 'static, 
     settings: Settings,
     gate: &G,
 ) -> Result<Served, ServeError>
-    ensures { EndsSo settings.config settings.tape result }
+    ensures ends { IfOk result (EndsSo settings.config settings.tape) }
+    ensures settled { IfOk result (λ served. IsOk served.book) }
 {
     let slots = settings.config.slots();
     let service = Service {
@@ -175,7 +144,7 @@ pub fn serve<R: Threads + Wait + Clock + Eprint + Copy + Send + Sync + 'static, 
         crews: Crews::pairs(alloc, slots)?,
         speaker: Speaker::start(rt, alloc, slots)?,
     };
-    serve_with(
+    let served = serve_with(
         rt,
         alloc,
         seed,
@@ -184,7 +153,14 @@ pub fn serve<R: Threads + Wait + Clock + Eprint + Copy + Send + Sync + 'static, 
         service,
         gate,
         &mut Untold,
-    )
+    )?;
+    match served.summary() {
+        Ok(_) => Ok(served),
+        Err(error) => {
+            drop(served);
+            Err(error)
+        }
+    }
 }
 
 /// The same (`serve`), with this service, which is told how it is.
@@ -197,14 +173,13 @@ pub(crate) fn serve_with<R: Threads + Wait + Clock + Sync, G: Gate, T: Ready>(
     service: Service,
     gate: &G,
     ready: &mut T,
-) -> Result<Served, ServeError>
-    ensures { EndsSo settings.config settings.tape result }
+) -> Result<Served, ControlError>
+    ensures { IfOk result (EndsSo settings.config settings.tape) }
 {
     let Settings { config, tape, .. } = settings;
     let Ok(()) = set_accept_timeout(&listener) else {
-        return Err(ServeError::Listen);
+        return Err(ControlError::Listen);
     };
     let blank = Blank::new(alloc, seed, config, mode(tape))?;
-    let ended = serve_book::<Brand, R, G, T>(rt, alloc, blank, &listener, service, gate, ready)?;
-    served(ended.connections, &ended.book)
+    serve_book::<Brand, R, G, T>(rt, alloc, blank, &listener, service, gate, ready)
 }

@@ -2,7 +2,7 @@
 //! that.
 
 use crate::error::ServeError;
-use crate::settings::Served;
+use crate::settings::Summary;
 use crossbeam_utils::sync::{Parker, Unparker};
 use gm_delivery::has_passed;
 use std::alloc::{AllocError, Global};
@@ -93,7 +93,7 @@ struct Notes {
     /// There is something to be said.
     is_due: bool,
     /// How the server ended.
-    outcome: Option<Result<Served, ServeError>>,
+    outcome: Option<Result<Summary, ServeError>>,
 }
 
 impl Notes {
@@ -236,7 +236,7 @@ impl Speaker {
     pub(crate) fn end<R: Wait + Clock + Eprint>(
         &self,
         rt: &R,
-        outcome: Result<Served, ServeError>,
+        outcome: Result<Summary, ServeError>,
     ) {
         self.notes.lock(rt).outcome = Some(outcome);
         if self.has_thread.load(Ordering::SeqCst) {
@@ -345,7 +345,7 @@ fn say_trouble(rt: &impl Eprint, at: usize, note: &Note, slots: u32) {
 }
 
 /// Says how the server ended.
-fn say_end(rt: &impl Eprint, outcome: &Result<Served, ServeError>, counts: Counts) {
+fn say_end(rt: &impl Eprint, outcome: &Result<Summary, ServeError>, counts: Counts) {
     let Counts {
         refused,
         cut,
@@ -359,7 +359,7 @@ fn say_end(rt: &impl Eprint, outcome: &Result<Served, ServeError>, counts: Count
     }
     match outcome {
         Ok(
-            Served {
+            Summary {
                 connections,
                 entries,
             },

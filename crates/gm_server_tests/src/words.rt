@@ -1,7 +1,7 @@
 //! What the program answers to its arguments.
 
 use crate::checks::same;
-use gm_server::run_words;
+use gm_server::{run_words, status_of};
 use std::alloc::{AllocGlobal, Global};
 use std::env::Env;
 use std::io::Eprint;
@@ -46,7 +46,7 @@ fn run<
         owned.push(String::from_str(alloc, word)?)?;
     }
     let mut printed = Vec::new(alloc);
-    let status = run_words(rt, &owned, &mut printed);
+    let status = status_of(run_words(rt, &owned, &mut printed));
     Ok((status, printed))
 }
 

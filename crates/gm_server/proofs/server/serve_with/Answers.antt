@@ -1,7 +1,8 @@
 use Rattle.std.proofs.Common.{◌∙◌}
+use Rattle.std.proofs.lemmas.Result.{IfOk-weaker}
 use Rattle.gm_server.proofs.Ended.{ends_as}
 use Rattle.gm_server.proofs.server.serve_with.Goals as goal
 
 pub returns : goal.returns
 returns g c =
-    ends_as _ _ _ _ c.served.result c.in_ok-blank.ensures.settings (c.in_ok-blank.ensures.taped ∙ c.mode.ensures) (c.served.ensures.ends _ _ _ _ c.in_ok-ended.ensures)
+    IfOk-weaker c.serve_book.result _ _ (λ served so. ends_as _ _ _ _ _ served c.in_ok-blank.ensures.settings (c.in_ok-blank.ensures.taped ∙ c.mode.ensures) so) c.serve_book.ensures

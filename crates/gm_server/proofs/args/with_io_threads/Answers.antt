@@ -1,0 +1,10 @@
+use Rattle.std.proofs.Common.{rules, ap, ◌≡◌, ◌∙◌, pos, codes}
+use Rattle.std.proofs.lemmas.Result.{IfOk-weaker}
+use Rattle.clap.specs.Words.{app_of, rule_of, with_rule}
+use Rattle.gm_options.specs.Options.{number_rule}
+use Rattle.gm_server.proofs.args.with_io_threads.Goals as goal
+
+pub returns : goal.returns
+returns c =
+    let rule : rule_of c.number.result ≡ number_rule (codes "io-threads") (pos 0) (pos 64) (codes "0") = search rules in
+    IfOk-weaker c.arg.result _ _ (λ made adds. adds.shape c.number.ensures.local ∙ ap (with_rule (app_of c.args.command)) rule) c.arg.ensures
