@@ -17,10 +17,11 @@ UNANSWERED = {CAN_DO, CANT_DO, RESET_ABILITIES, PRE_SLEEP, SET_CLIENT_ID, CAN_DO
               WORK_FAIL, WORK_EXCEPTION, WORK_DATA, WORK_WARNING}
 MARK = b"driver"
 TRIES = 20  # of a script with ticks, whose orders are to be over in time
+SHORT = 5  # seconds, after which nothing comes any more that is to come within one
 
 
-class Late(Exception):
-    """The server's second is over in which an order is to be played."""
+class Late(Wrong):
+    """What was found wrong when the server's second was over in which an order is to be played."""
 
 
 def steps_of(gm_play, options, script):
@@ -136,17 +137,17 @@ class Seconds:
         self.moment = max(moment, self.moment)
         time.sleep(max(0, self.heard + self.second - time.monotonic()))
 
-    def check(self):
-        """The second isn't over."""
-        if time.monotonic() >= self.begun + self.second + 1:
-            raise Late
+    def is_over(self):
+        """Whether the second may be over."""
+        return time.monotonic() >= self.begun + self.second + 1
 
 
 class Player:
     """Plays on a server that was just started."""
 
-    def __init__(self, server, bytewise=False):
+    def __init__(self, server, bytewise, has_ticks):
         self.server = server
+        self.patience = SHORT if has_ticks else PATIENCE
         self.seconds = Seconds(server)
         self.bytewise = bytewise
         self.peers = {}  # by slot
@@ -174,10 +175,15 @@ class Player:
         elif slot in self.peers:
             self.send(slot, bytes.fromhex(rest[1]), told, shut)
 
+    def connect(self, address="127.0.0.1"):
+        peer = Peer(self.server.port, address)
+        peer.socket.settimeout(self.patience)
+        return peer
+
     def open(self, address, printed):
         """Opens a connection. One that is refused is closed without a byte."""
         try:
-            peer = Peer(self.server.port, address)
+            peer = self.connect(address)
         except (ConnectionRefusedError, ConnectionResetError):  # reset, where the program ends as the connection comes
             if printed != ["refused 13"] or not self.is_over:
                 raise Wrong("it doesn't listen") from None
@@ -239,7 +245,7 @@ class Player:
             self.seconds.moment = moment  # the script's clock begins there
             return
         self.seconds.tick(moment)
-        grabber = Peer(self.server.port, "127.0.0.1")
+        grabber = self.connect()
         self.served += 1
         grabber.request(GRAB_JOB)
         grabber.wants(packet(NO_JOB, magic=b"\0RES"))
@@ -276,7 +282,7 @@ class Player:
         begun = time.monotonic()
         while not self.is_over:
             if not (peer := self.asker()):
-                peer = Peer(self.server.port, "127.0.0.1")
+                peer = self.connect()
                 peer.send(packet(ECHO_REQ, MARK))
                 if not peer.take():
                     peer.close()
@@ -295,6 +301,7 @@ class Player:
         again. The server says how many connections there were."""
         self.shut_down()
         for peer in self.peers.values():
+            peer.socket.settimeout(PATIENCE)
             peer.wants(b"", 0, 1)
             peer.ends()
             peer.close()
@@ -306,23 +313,25 @@ def play_once(gmd, options, steps, bytewise):
     with Server(gmd, *options) as server:
         if not server.is_listening():
             raise Wrong(server.errors())
-        player = Player(server, bytewise)
+        player = Player(server, bytewise, has_ticks)
         for number, (order, printed) in enumerate(steps):
             try:
                 player.play(order, printed)
+                if has_ticks and player.seconds.is_over():
+                    raise Wrong("it takes too long")
             except (Wrong, OSError) as wrong:
-                raise Wrong(f"{' '.join(options)}: order {number}, {order[:100]}: {wrong}") from None
-            finally:
-                if has_ticks:
-                    player.seconds.check()
+                is_late = has_ticks and player.seconds.is_over()
+                raise (Late if is_late else Wrong)(f"{' '.join(options)}: order {number}, {order[:100]}: {wrong}") from None
         player.finish()
         if "--tape" in options and "gmd: the tape agrees with what the connections were told, entries: " not in server.errors():
             raise Wrong(server.errors())
 
 
 def play(gmd, options, steps, bytewise=False):
-    """Plays the steps of a script on a gmd with these options."""
-    for _ in range(TRIES):
-        with contextlib.suppress(Late):
+    """Plays the steps of a script on a gmd with these options, and again where something was found wrong too late."""
+    for left in reversed(range(TRIES)):
+        try:
             return play_once(gmd, options, steps, bytewise)
-    raise Wrong(f"{' '.join(options)}: in {TRIES} plays orders were over too late")
+        except Late:
+            if not left:
+                raise
