@@ -2,7 +2,7 @@
 import contextlib
 import time
 
-from loopback import CAN_DO, GRAB_JOB, JOB_CREATED, PATIENCE, SUBMIT_JOB, Client, Server
+from loopback import CAN_DO, GRAB_JOB, JOB_CREATED, PATIENCE, SUBMIT_JOB, SUBMIT_JOB_BG, Client, Server, packet
 from trials import Wrong, program, same
 
 GMD = program("gmd", "gmd")
@@ -46,6 +46,16 @@ def client_and_worker(port, room=None):
     client, worker = Client(port, room=room), Client(port)
     client.request(SUBMIT_JOB, b"f", b"", b"")
     same("a job", client.answer(), (JOB_CREATED, b"H:gmd:1"))
+    worker.request(CAN_DO, b"f")
+    same("the worker's job", grabbed(worker), b"H:gmd:1")
+    return client, worker
+
+
+def listener_and_worker(port):
+    """A client that listens 20,000 times to a job, and the worker that has it."""
+    client, worker = Client(port, room=4096), Client(port)
+    client.send(packet(SUBMIT_JOB, b"f", b"id", b"") * 20_000 + packet(SUBMIT_JOB_BG, b"last", b"", b""))
+    same("whether all is taken", any("last\t1\t0\t0" in worker.lines(b"status") for _ in range(100_000)), True)
     worker.request(CAN_DO, b"f")
     same("the worker's job", grabbed(worker), b"H:gmd:1")
     return client, worker
