@@ -1,8 +1,14 @@
 #!/bin/sh
-# Puts gmd and Debian's gearmand (package gearman-job-server), the latter with one thread and with four, under the same loads in turn,
-# and prints a line for each load and server: bench/load.sh [OPTIONS of load.rs], at the top of the repository, once gmd is built.
-# GMD and GEARMAND name other programs, PORT the first of three ports. Figures of one run alone can be compared.
+# Puts gmd, gmd with two I/O threads, and Debian's gearmand (package gearman-job-server) with one thread and with four under the same loads
+# in turn, and prints the figures of the run: bench/load.sh [ROUNDS [LOADS [OPTIONS of load.rs]]], at the top of the repository, once gmd is
+# built. bench/picture takes what it prints. Five rounds of all loads take some ten minutes, one takes two.
+# GMD and GEARMAND name other programs, PORT the first of four ports. Figures of one run alone can be compared.
 set -eu
+busy=$(cut -d ' ' -f 1 /proc/loadavg)
+rounds=${1:-5}
+loads=${2:-memory,echo,submit,fg,many,drain,connect,large_echo,large_job,idle,echo_idle}
+[ $# -lt 2 ] || shift
+[ $# -lt 1 ] || shift
 gmd=${GMD:-crates/gmd/out/gmd}
 gearmand=${GEARMAND:-$(PATH=$PATH:/usr/sbin command -v gearmand)}
 port=${PORT:-24730}
@@ -14,26 +20,28 @@ end() {
 }
 trap end EXIT
 trap 'exit 1' INT TERM
-# Starts a server, and adds it to those that load is told of.
+# Starts a server, and adds it to those that load is given.
 servers=
 serve() {
     label=$1
     shift
-    "$@" >"$work/$label" 2>&1 &
+    "$@" --listen 127.0.0.1 --port "$port" >"$work/$label" 2>&1 &
     pids="$pids $!"
     servers="$servers $label=127.0.0.1:$port@$!"
     port=$((port + 1))
 }
 rustc --edition 2021 -O -o "$work/load" bench/load.rs
-serve gmd "$gmd" --listen 127.0.0.1 --port "$port" --slots 1024
+serve gmd "$gmd" --slots 1024
+serve gmd-io "$gmd" --slots 1024 --io-threads 2
 for threads in 1 4; do
-    serve "gearmand-$threads" "$gearmand" --listen 127.0.0.1 --port "$port" --threads "$threads" --log-file none
+    serve "gearmand-$threads" "$gearmand" --threads "$threads" --log-file none
 done
 sleep 1
 for pid in $pids; do
     kill -0 "$pid" || { cat "$work"/g*; exit 1; }
 done
-# Those that matter most, if none are asked for.
-[ $# -gt 0 ] || set -- --only echo,submit,fg,drain,idle,echo_idle,scale
+echo "# $("$gmd" --version), gearmand $("$gearmand" --version | grep -o '[0-9.]*' | head -n 1), $(nproc) processors" \
+    "($(sed -n 's/^model name.*: //p' /proc/cpuinfo | head -n 1)), medians of $rounds in turn, $(date +%F), load average before it $busy"
+printf '# load\tserver\toperations a second\tprocessor us an operation\tp50 us\tp99 us\n'
 # shellcheck disable=SC2086
-"$work/load" multi $servers "$@"
+"$work/load" multi $servers --only "$loads" --cap 3 --rounds "$rounds" "$@"
