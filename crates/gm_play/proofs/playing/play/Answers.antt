@@ -8,4 +8,4 @@ returns-then-plain-clause-text g c =
 
 pub returns-clause-text : goal.returns-clause-text
 returns-clause-text g c =
-    on_ok c.play_on-2.result _ _ (λ h. h c.args.settings.config (sym c.slots-slots.ensures.value) (omega (arith, c.slots-slots.ensures.value, c.slots-slots.ensures.bound)) c.in_ok-server-2.ensures) c.play_on-2.ensures.text
+    on_ok c.play_on-2.result _ _ (λ h. h c.args.settings.config (sym c.slots-slots.ensures.value) (omega (arith, c.slots-slots.ensures.value, c.slots-slots.ensures.bound)) c.in_ok-server-2.ensures.agrees) c.play_on-2.ensures.text
