@@ -4,7 +4,7 @@ use crate::checks::same;
 use crate::client::{Client, joined};
 use gm_feeder::Limits;
 use gm_notes::Config;
-use gm_server::{Gate, Served, Settings, serve};
+use gm_server::{Gate, Settings, serve};
 use std::alloc::Global;
 use std::hash::RandomState;
 use std::net::{Net, SocketAddr, TcpListener, TcpStream};
@@ -17,13 +17,13 @@ use std::thread::{Threads, join};
 use std::time::Clock;
 use std::{io, thread};
 
-/// Serves with two slots until a shutdown; `None` where it can't.
+/// Serves with two slots until a shutdown, and answers how many connections there were; `None` where it can't.
 fn served<R: Threads + Wait + Clock + RandomSource + Eprint + Copy + Send + Sync + 'static>(
     rt: &R,
     alloc: Global,
     listener: TcpListener,
     hold: &Hold,
-) -> Option<Served> {
+) -> Option<u64> {
     let seed = RandomState::new(rt).ok()?;
     let name = Vec::from_slice(alloc, b"gmd").ok()?;
     let settings = Settings {
@@ -34,7 +34,10 @@ fn served<R: Threads + Wait + Clock + RandomSource + Eprint + Copy + Send + Sync
         },
         tape: false,
     };
-    serve(rt, alloc, seed, listener, settings, hold).ok()
+    let served = serve(rt, alloc, seed, listener, settings, hold).ok()?;
+    let connections = served.connections;
+    drop(served);
+    Some(connections)
 }
 
 /// Holds what slot 0 sends, from one of its units on, until the client of slot 1 has read its answer, but not for ever.
@@ -189,7 +192,7 @@ fn beside<
     alloc: Global,
     hold: &Hold,
     script: Script<'_>,
-) -> io::Result<(Option<Served>, io::Result<bool>)> {
+) -> io::Result<(Option<u64>, io::Result<bool>)> {
     let listener = TcpListener::bind(rt, "127.0.0.1:0")?;
     let addr = listener.local_addr()?;
     let both = join(
@@ -216,8 +219,7 @@ fn goes_right<
 >(rt: &R, alloc: Global, hold: &Hold, script: Script<'_>, connections: u64) -> Result<(), Fail> {
     let (served, right) = beside(rt, alloc, hold, script)?;
     same(rt, "the answers", &right?, &true);
-    let served = served.ok_or("it served")?;
-    same(rt, "the connections", &served.connections, &connections);
+    same(rt, "the connections", &served, &Some(connections));
     same(rt, "gave up", &hold.gave_up.load(Ordering::SeqCst), &false);
     Ok(())
 }
