@@ -1,8 +1,2 @@
-mod Numbering
-mod Owning
-mod Promised
-mod Ended
-mod Lives
-mod Accounted
 mod Options
 mod Outcomes

@@ -1,56 +1,23 @@
--- The numbers of errors, and the statuses that the program ends with.
+-- The statuses that the program ends with.
 use Rattle.std.specs.Prelude.{ℕ, Result, Ok, Err}
-use Rattle.gm_server.specs.declared.error.ServeError.{ServeError}
-use Rattle.gm_server.specs.declared.error.ServeError.TheVariants as errors
-use Rattle.gm_server.specs.declared.error.ControlError.{ControlError}
-use Rattle.gm_server.specs.declared.error.ControlError.TheVariants as of_control
+use Rattle.gm_threads.specs.Statuses.{serve_error_status, served_status}
 use Rattle.gm_server.specs.declared.outcome.RunError.{RunError}
-use Rattle.gm_server.specs.declared.outcome.RunError.TheVariants as errors_of_run
+use Rattle.gm_server.specs.declared.outcome.RunError.TheVariants as errors
 use Rattle.gm_server.specs.declared.outcome.Outcome.{Outcome}
 use Rattle.gm_server.specs.declared.outcome.Outcome.TheVariants as outcomes
-use Rattle.gm_server.specs.declared.settings.Served.{Served}
-use Rattle.gm_server.specs.declared.settings.Summary.{Summary}
-use Rattle.gm_server.specs.Served.{summary_of}
-
--- why it couldn't serve
-abbrev pub error_of_control : ControlError → ServeError
-error_of_control of_control.Memory = errors.Memory
-error_of_control of_control.Listen = errors.Listen
-error_of_control of_control.Threads = errors.Threads
-
-abbrev pub serve_error_number : ServeError → ℕ
-serve_error_number errors.Memory = 6
-serve_error_number errors.Differs = 16
-serve_error_number errors.Listen = 21
-serve_error_number errors.Threads = 22
-
-abbrev pub serve_error_status : ServeError → ℕ
-serve_error_status errors.Memory = 3
-serve_error_status errors.Differs = 4
-serve_error_status errors.Listen = 3
-serve_error_status errors.Threads = 3
 
 abbrev pub run_status : RunError → ℕ
-run_status errors_of_run.Arguments = 2
-run_status errors_of_run.Name = 2
-run_status errors_of_run.AddressBesideSocket = 2
-run_status errors_of_run.SocketCount = 2
-run_status (errors_of_run.Socket error) = 3
-run_status (errors_of_run.Listen address error) = 3
-run_status errors_of_run.Seed = 3
-run_status (errors_of_run.Events error) = 3
-run_status errors_of_run.Output = 3
-run_status (errors_of_run.Serve error) = 3
-run_status (errors_of_run.Ended error) = serve_error_status error
-
--- of what is said of a server
-abbrev pub summary_status : Result Summary ServeError → ℕ
-summary_status (Ok summary) = 0
-summary_status (Err error) = serve_error_status error
-
--- of a server that served
-abbrev pub served_status : Served → ℕ
-served_status served = summary_status (summary_of served.connections served.book)
+run_status errors.Arguments = 2
+run_status errors.Name = 2
+run_status errors.AddressBesideSocket = 2
+run_status errors.SocketCount = 2
+run_status (errors.Socket error) = 3
+run_status (errors.Listen address error) = 3
+run_status errors.Seed = 3
+run_status (errors.Events error) = 3
+run_status errors.Output = 3
+run_status (errors.Serve error) = 3
+run_status (errors.Ended error) = serve_error_status error
 
 -- however the program ended
 abbrev pub ended_status : Result Outcome RunError → ℕ

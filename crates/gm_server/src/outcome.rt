@@ -3,8 +3,7 @@
 ghost use Rattle.std.specs.Prelude.{◌≡◌};
 ghost use Rattle.gm_server.specs.Statuses.{run_status, ended_status};
 
-use crate::error::ServeError;
-use crate::settings::Served;
+use gm_threads::{ServeError, Served};
 use std::alloc::AllocError;
 use std::io;
 use thiserror::Error;
@@ -78,7 +77,7 @@ pub enum Outcome {
 }
 
 impl From<AllocError> for RunError {
-    ghost use Rattle.gm_server.specs.declared.error.ServeError.TheVariants.{Memory};
+    ghost use Rattle.gm_threads.specs.declared.error.ServeError.TheVariants.{Memory};
     ghost use Rattle.gm_server.specs.declared.outcome.RunError.TheVariants.{Serve};
 
     ghost from_gives = { λ _ e. e ≡ Serve Memory };

@@ -4,21 +4,18 @@ ghost use Rattle.std.specs.Prelude.{◌≡◌, ◌↔◌, Some, None, Ok, false,
 ghost use Rattle.std.specs.Result.{IsErrOf};
 ghost use Rattle.clap.specs.Words.{kind_of};
 ghost use Rattle.gm_server.specs.Arguments.{asked_settings};
-ghost use Rattle.gm_server.specs.Served.{EndsSo};
+ghost use Rattle.gm_threads.specs.Served.{EndsSo};
 ghost use Rattle.gm_server.specs.Outcomes.{is_of_words, said_as, SaysSo, FailsSo, DoesSo, EndsAs};
 
 use crate::args::{Args, parse_args};
-use crate::crews::Crews;
-use crate::error::{ControlError, ServeError};
 use crate::outcome::{Outcome, RunError, report};
-use crate::ready::{Ready, Report};
-use crate::server::{Service, serve_with};
-use crate::settings::{Served, Settings};
-use crate::speaking::Speaker;
 use crate::systemd::{Systemd, first_socket, handed_sockets};
 use clap::error::ErrorKind;
 use gm_notes::{Config, MAX_FUNCTIONS};
 use gm_session::OpenGate;
+use gm_threads::{
+    ControlError, Crews, Ready, Report, ServeError, Served, Service, Settings, Speaker, serve_with,
+};
 use std::alloc::{AllocError, Global};
 use std::convert::AsStr;
 use std::env::Env;
@@ -207,12 +204,12 @@ fn tell_end(
 {
     match ended {
         Ok(served) => {
-            speaker.end(rt, served.summary());
+            speaker.remark_end(rt, served.summary());
             Ok(served)
         }
         Err(error) => {
             let error = ServeError::from(error);
-            speaker.end(rt, Err(error));
+            speaker.remark_end(rt, Err(error));
             Err(RunError::Ended(error))
         }
     }

@@ -3,8 +3,7 @@
 
 ghost use Rattle.std.specs.Prelude.{◌≤◌};
 
-use crate::ready::Report;
-use crate::speaking::{Speaker, Trouble};
+use gm_threads::{Report, Speaker, Trouble};
 use libc::getpid;
 use libc::net::{
     _SS_SIZE, AF_UNIX, MSG_DONTWAIT, MSG_NOSIGNAL, SOCK_CLOEXEC, SOCK_DGRAM, listen, sendto, socket,
@@ -148,7 +147,7 @@ impl Systemd {
                 true
             }
             Err(error) => {
-                speaker.note(rt, Trouble::Notify, error.raw_os_error().unwrap_or(0));
+                speaker.remark(rt, Trouble::Notify, error.raw_os_error().unwrap_or(0));
                 false
             }
         }

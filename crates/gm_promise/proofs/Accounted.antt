@@ -1,0 +1,213 @@
+-- The accounts that a server hands out.
+use Rattle.std.proofs.Common.{◌≡◌, ◌≢◌, ℕ, zero, suc, ◌+◌, ◌*◌, ◌<◌, List, [], ◌∷◌, ◌++◌, length, map, All, Option, Some, None, refl, sym, ap, ap₂, subst, ◌∙◌, arith, length-append}
+use Rattle.std.specs.Prelude.{slice_get}
+use Rattle.std.specs.List.{AllByRecursion as ByRecursion}
+use Rattle.std.proofs.lemmas.List.{append-nil, map-append, length-map}
+use Rattle.std.proofs.lemmas.List.Elements.{recursion_from_All}
+use Rattle.gm_feeder.specs.declared.units.Limits.{Limits}
+use Rattle.gm_notes.specs.Settings.{Settings}
+use Rattle.gm_shared.specs.declared.tape.Actor.{Actor}
+use Rattle.gm_shared.specs.declared.tape.Actor.TheVariants.{Desk, Pen}
+use Rattle.gm_shared.specs.declared.tape.Entry.{Entry}
+use Rattle.gm_shared.specs.declared.tape.Share.{Share}
+use Rattle.gm_shared.specs.declared.tape.Told.{Told}
+use Rattle.gm_shared.specs.Tapes.{Legal}
+use Rattle.gm_shared.specs.Histories.{Knows}
+use Rattle.gm_shared.specs.Tokens.{WitnessState}
+use Rattle.gm_shared.specs.Shared.{told_by, HasSeenOwn, numbers_below, everybody}
+use Rattle.gm_session.specs.Hearings.{AreHeard}
+use Rattle.gm_session.specs.Talks.{IsTalking}
+use Rattle.gm_delivery.specs.Accounts.{ArePast}
+use Rattle.gm_promise.specs.Owners.{AreOwn}
+use Rattle.gm_promise.specs.declared.account.Account.{Account}
+use Rattle.gm_promise.specs.Connections.{AreServed}
+use Rattle.gm_promise.specs.Accounts.{IsAccount, AreAccounts, AreAccounted}
+use Rattle.gm_promise.proofs.Lives.{are_served}
+use Rattle.gm_promise.proofs.Owning.{map_twice, left, right}
+
+abbrev pub DeskSeen : Type 0
+DeskSeen = ℕ × List Entry
+
+abbrev pub PenSeen : Type 0
+PenSeen = ℕ × List Entry × ℕ
+
+-- ---- as slots are taken apart
+
+pub one_account_more : (desks : List DeskSeen) (pens : List PenSeen) (accounts : List Account) (desk : DeskSeen) (pen : PenSeen) (account : Account)
+    → length desks ≡ length accounts → length pens ≡ length accounts → AreAccounts desks pens accounts → IsAccount desk pen account.limits account.heard account.sent
+    → AreAccounts (desks ++ desk ∷ []) (pens ++ pen ∷ []) (accounts ++ account ∷ [])
+one_account_more [] [] [] desk pen account d p are is = (is, tt)
+one_account_more (x ∷ desks) [] [] desk pen account d p are is = absurd (omega (arith, d))
+one_account_more [] (x ∷ pens) [] desk pen account d p are is = absurd (omega (arith, p))
+one_account_more (x ∷ desks) (y ∷ pens) [] desk pen account d p are is = absurd (omega (arith, d))
+one_account_more [] pens (a ∷ accounts) desk pen account d p are is = absurd (omega (arith, d))
+one_account_more (x ∷ desks) [] (a ∷ accounts) desk pen account d p are is = absurd (omega (arith, p))
+one_account_more (x ∷ desks) (y ∷ pens) (a ∷ accounts) desk pen account d p are is =
+    (are.0, one_account_more desks pens accounts desk pen account (omega (arith, d)) (omega (arith, p)) are.1 is)
+
+pub one_desk_more : (desks : List DeskSeen) (pens : List PenSeen) (accounts : List Account) (desk : DeskSeen) → AreAccounts desks pens accounts → AreAccounts (desks ++ desk ∷ []) pens accounts
+one_desk_more desks pens [] desk are = tt
+one_desk_more [] pens (a ∷ accounts) desk are = absurd are
+one_desk_more (x ∷ desks) [] (a ∷ accounts) desk are = absurd are
+one_desk_more (x ∷ desks) (y ∷ pens) (a ∷ accounts) desk are = (are.0, one_desk_more desks pens accounts desk are.1)
+
+pub account_pushed : {A B : Type 0} (f : A → DeskSeen) (h : B → PenSeen) (desks all : List A) (pens all_pens : List B) (accounts all_accounts : List Account) (desk given : A) (pen : B) (account : Account)
+    → all ≡ desks ++ desk ∷ [] → all_pens ≡ pens ++ pen ∷ [] → all_accounts ≡ accounts ++ account ∷ [] → length desks ≡ length accounts → length pens ≡ length accounts
+    → AreAccounts (map f desks) (map h pens) accounts → desk ≡ given → IsAccount (f given) (h pen) account.limits account.heard account.sent → AreAccounts (map f all) (map h all_pens) all_accounts
+account_pushed f h desks all pens all_pens accounts all_accounts desk given pen account d p a long wide are same is =
+    subst (λ l. AreAccounts (map f all) (map h all_pens) l) (sym a)
+    (subst (λ l. AreAccounts (map f all) l (accounts ++ account ∷ [])) (sym (ap (map h) p ∙ map-append h pens (pen ∷ [])))
+    (subst (λ l. AreAccounts l (map h pens ++ h pen ∷ []) (accounts ++ account ∷ [])) (sym (ap (map f) d ∙ map-append f desks (desk ∷ [])))
+    (one_account_more (map f desks) (map h pens) accounts (f desk) (h pen) account (length-map desks f ∙ long) (length-map pens h ∙ wide) are
+    (subst (λ x. IsAccount (f x) (h pen) account.limits account.heard account.sent) (sym same) is))))
+
+pub desk_pushed : {A : Type 0} (f : A → DeskSeen) (desks all : List A) (pens : List PenSeen) (accounts : List Account) (desk : A) → all ≡ desks ++ desk ∷ [] → AreAccounts (map f desks) pens accounts → AreAccounts (map f all) pens accounts
+desk_pushed f desks all pens accounts desk d are =
+    subst (λ l. AreAccounts l pens accounts) (sym (ap (map f) d ∙ map-append f desks (desk ∷ []))) (one_desk_more (map f desks) pens accounts (f desk) are)
+
+-- one more on each side
+pub longer : {A B : Type 0} (xs all : List A) (x : A) (ys more : List B) (y : B) → all ≡ xs ++ x ∷ [] → more ≡ ys ++ y ∷ [] → length xs ≡ length ys → length all ≡ length more
+longer xs all x ys more y is also same = omega (arith, ap length is, length-append xs (x ∷ []), ap length also, length-append ys (y ∷ []), same)
+
+-- ---- whose they are
+
+-- the desks' and the pens' numbers among actors
+desks_in : List Actor → List ℕ
+desks_in [] = []
+desks_in (Desk n ∷ actors) = n ∷ desks_in actors
+desks_in (Pen n ∷ actors) = desks_in actors
+
+pens_in : List Actor → List ℕ
+pens_in [] = []
+pens_in (Desk n ∷ actors) = pens_in actors
+pens_in (Pen n ∷ actors) = n ∷ pens_in actors
+
+module _ {A : Type 0} (f : A → ℕ) where
+  desks_first : (xs : List A) (ys : List Actor) → desks_in (map (λ x. Desk (f x)) xs ++ ys) ≡ map f xs ++ desks_in ys
+  unfolding desks_in
+  desks_first [] ys = refl
+  desks_first (x ∷ xs) ys = ap (λ l. f x ∷ l) (desks_first xs ys)
+
+  no_desks : (xs : List A) → desks_in (map (λ x. Pen (f x)) xs) ≡ []
+  unfolding desks_in
+  no_desks [] = refl
+  no_desks (x ∷ xs) = no_desks xs
+
+  pens_behind : (xs : List A) (ys : List Actor) → pens_in (map (λ x. Desk (f x)) xs ++ ys) ≡ pens_in ys
+  unfolding pens_in
+  pens_behind [] ys = refl
+  pens_behind (x ∷ xs) ys = pens_behind xs ys
+
+  all_pens : (xs : List A) → pens_in (map (λ x. Pen (f x)) xs) ≡ map f xs
+  unfolding pens_in
+  all_pens [] = refl
+  all_pens (x ∷ xs) = ap (λ l. f x ∷ l) (all_pens xs)
+
+map_id : (xs : List ℕ) → map (λ x. x) xs ≡ xs
+map_id [] = refl
+map_id (x ∷ xs) = ap (λ l. x ∷ l) (map_id xs)
+
+-- so many numbers from this one on
+abbrev counting : ℕ → ℕ → List ℕ
+counting c zero = []
+counting c (suc n) = c ∷ counting (suc c) n
+
+counting_more : (c n : ℕ) → counting c n ++ (c + n) ∷ [] ≡ counting c (suc n)
+counting_more c zero = let same : c + 0 ≡ c = omega arith in ap (λ (m : ℕ). m ∷ []) same
+counting_more c (suc n) = let same : c + suc n ≡ suc c + n = omega arith in ap (λ (m : ℕ). c ∷ (counting (suc c) n ++ m ∷ [])) same ∙ ap (λ l. c ∷ l) (counting_more (suc c) n)
+
+below_is : (n : ℕ) → numbers_below n ≡ counting 0 n
+below_is zero = refl
+below_is (suc n) = let same : n ≡ 0 + n = omega arith in ap (λ l. l ++ n ∷ []) (below_is n) ∙ (ap (λ (m : ℕ). counting 0 n ++ m ∷ []) same ∙ counting_more 0 n)
+
+-- everybody's numbers
+module _ {A B : Type 0} (number : A → ℕ) (slot : B → ℕ) (slots : ℕ) (desks : List A) (pens : List B)
+    (all : map (λ desk. Desk (number desk)) desks ++ map (λ pen. Pen (slot pen)) pens ≡ everybody slots) where
+  pub desk_numbers : map number desks ≡ counting 0 slots ++ slots ∷ []
+  unfolding desks_in
+  desk_numbers =
+      sym (desks_first number desks (map (λ pen. Pen (slot pen)) pens) ∙ (ap (λ l. map number desks ++ l) (no_desks slot pens) ∙ append-nil (map number desks)))
+      ∙ (ap desks_in all ∙ (desks_first (λ n. n) (numbers_below slots) (Desk slots ∷ map Pen (numbers_below slots))
+      ∙ ap₂ (λ xs ys. xs ++ slots ∷ ys) (map_id (numbers_below slots) ∙ below_is slots) (no_desks (λ n. n) (numbers_below slots))))
+
+  pub pen_numbers : map slot pens ≡ counting 0 slots
+  unfolding pens_in
+  pen_numbers =
+      sym (pens_behind number desks (map (λ pen. Pen (slot pen)) pens) ∙ all_pens slot pens)
+      ∙ (ap pens_in all ∙ (pens_behind (λ n. n) (numbers_below slots) (Desk slots ∷ map Pen (numbers_below slots))
+      ∙ (all_pens (λ n. n) (numbers_below slots) ∙ (map_id (numbers_below slots) ∙ below_is slots))))
+
+-- ---- what they say
+
+module _ (k : Settings) (log : List Entry) (legal : Legal k log) (own : AreOwn log) where
+  served_so : (c : ℕ) (desk : DeskSeen) (pen : PenSeen) (account : Account) → desk.0 ≡ c → pen.0 ≡ c → Knows log (2 * desk.0) desk.1 → Knows log (2 * pen.0 + 1) pen.1
+      → IsAccount desk pen account.limits account.heard account.sent → AreServed k account.limits log c account.heard.past account.sent.past
+  served_so c desk pen account d p seen gave is =
+      are_served k account.limits log legal own c pen.2 account.heard.past account.sent.past account.heard.since desk.1 pen.1 is.talking
+      (subst (λ (n : ℕ). AreHeard n account.limits account.heard.past account.heard.since) d is.are_heard)
+      (subst (λ (n : ℕ). IsTalking n account.limits account.heard.since desk.1 is.talking) d is.talks)
+      (subst (λ (n : ℕ). Knows log (2 * n) desk.1) d seen)
+      (subst (λ (n : ℕ). ArePast n account.sent.past pen.1 pen.2) p is.past) is.rise
+      (subst (λ (n : ℕ). Knows log (2 * n + 1) pen.1) p gave)
+
+  each_from : (c n : ℕ) (desks : List DeskSeen) (pens : List PenSeen) (accounts : List Account) (rest : List ℕ) → map (λ d. d.0) desks ≡ counting c n ++ rest → map (λ p. p.0) pens ≡ counting c n
+      → ByRecursion (λ d. Knows log (2 * d.0) d.1) desks → ByRecursion (λ p. Knows log (2 * p.0 + 1) p.1) pens → AreAccounts desks pens accounts
+      → (i : ℕ) (account : Account) → slice_get accounts i ≡ Some account → AreServed k account.limits log (c + i) account.heard.past account.sent.past
+  each_from c n desks pens [] rest d p seen gave are i account is = absurd cc
+  each_from c n [] pens (a ∷ accounts) rest d p seen gave are i account is = absurd are
+  each_from c n (x ∷ desks) [] (a ∷ accounts) rest d p seen gave are i account is = absurd are
+  each_from c zero (x ∷ desks) (y ∷ pens) (a ∷ accounts) rest d p seen gave are i account is = absurd cc
+  each_from c (suc n) (x ∷ desks) (y ∷ pens) (a ∷ accounts) rest d p seen gave are zero account is =
+      let same : a ≡ account = cc in
+      let number : x.0 ≡ c = cc in
+      let slot : y.0 ≡ c = cc in
+      let here : c ≡ c + 0 = omega arith in
+      subst (λ (m : ℕ). AreServed k account.limits log m account.heard.past account.sent.past) here
+      (subst (λ (b : Account). AreServed k b.limits log c b.heard.past b.sent.past) same (served_so c x y a number slot seen.0 gave.0 are.0))
+  each_from c (suc n) (x ∷ desks) (y ∷ pens) (a ∷ accounts) rest d p seen gave are (suc i) account is =
+      let next : suc c + i ≡ c + suc i = omega arith in
+      let more : map (λ d. d.0) desks ≡ counting (suc c) n ++ rest = cc in
+      let others : map (λ p. p.0) pens ≡ counting (suc c) n = cc in
+      subst (λ (m : ℕ). AreServed k account.limits log m account.heard.past account.sent.past) next
+      (each_from (suc c) n desks pens accounts rest more others seen.1 gave.1 are.1 i account is)
+
+-- What a server hands out, once each share is there.
+pub accounted : {A B : Type 0} (number : A → ℕ) (desk_share : A → List Told) (desk_witness : A → WitnessState) (slot : B → ℕ) (pen_share : B → List Told) (pen_witness : B → WitnessState) (takes : B → ℕ)
+    (k : Settings) (log : List Entry) → Legal k log → AreOwn log → (desks : List A) (pens : List B) (shares : List Share) (accounts : List Account)
+    → map told_by shares ≡ map (λ desk. (Desk (number desk), desk_share desk)) desks ++ map (λ pen. (Pen (slot pen), pen_share pen)) pens
+    → All (HasSeenOwn log) (map desk_witness desks ++ map pen_witness pens) → All (λ desk. (desk_witness desk).who ≡ 2 * number desk) desks → All (λ pen. (pen_witness pen).who ≡ 2 * slot pen + 1) pens
+    → map (λ (share : Share). share.actor) shares ≡ everybody k.slots
+    → AreAccounts (map (λ desk. (number desk, (desk_witness desk).seen)) desks) (map (λ pen. (slot pen, (pen_witness pen).seen, takes pen)) pens) accounts → length accounts ≡ k.slots
+    → AreAccounted k log accounts
+accounted {A} {B} number desk_share desk_witness slot pen_share pen_witness takes k log legal own desks pens shares accounts are seen desk_who pen_who all accounts_are count =
+    let first : Actor × List Told → Actor = λ pair. pair.0 in
+    let names : map (λ desk. Desk (number desk)) desks ++ map (λ pen. Pen (slot pen)) pens ≡ everybody k.slots =
+    sym (sym (map_twice told_by first shares) ∙ (ap (map first) are
+    ∙ (map-append first (map (λ desk. (Desk (number desk), desk_share desk)) desks) (map (λ pen. (Pen (slot pen), pen_share pen)) pens)
+    ∙ ap₂ (λ xs ys. xs ++ ys) (map_twice (λ desk. (Desk (number desk), desk_share desk)) first desks) (map_twice (λ pen. (Pen (slot pen), pen_share pen)) first pens)))) ∙ all in
+    let known = recursion_from_All (HasSeenOwn log) (map desk_witness desks ++ map pen_witness pens) seen in
+    record {
+      all = count;
+      each = λ c account is. subst (λ (m : ℕ). AreServed k account.limits log m account.heard.past account.sent.past) (let same : 0 + c ≡ c = omega arith in same)
+          (each_from k log legal own 0 k.slots (map desk_seen desks) (map pen_seen pens) accounts (k.slots ∷ [])
+          (map_twice desk_seen (λ d. d.0) desks ∙ desk_numbers number slot k.slots desks pens names) (map_twice pen_seen (λ p. p.0) pens ∙ pen_numbers number slot k.slots desks pens names)
+          (of_desks desks (left (HasSeenOwn log) (map desk_witness desks) (map pen_witness pens) known) (recursion_from_All (λ desk. (desk_witness desk).who ≡ 2 * number desk) desks desk_who))
+          (of_pens pens (right (HasSeenOwn log) (map desk_witness desks) (map pen_witness pens) known) (recursion_from_All (λ pen. (pen_witness pen).who ≡ 2 * slot pen + 1) pens pen_who))
+          accounts_are c account is);
+    }
+  where
+    desk_seen : A → DeskSeen
+    desk_seen desk = (number desk, (desk_witness desk).seen)
+
+    pen_seen : B → PenSeen
+    pen_seen pen = (slot pen, (pen_witness pen).seen, takes pen)
+
+    of_desks : (desks : List A) → ByRecursion (HasSeenOwn log) (map desk_witness desks) → ByRecursion (λ desk. (desk_witness desk).who ≡ 2 * number desk) desks
+        → ByRecursion (λ (d : DeskSeen). Knows log (2 * d.0) d.1) (map desk_seen desks)
+    of_desks [] seen who = tt
+    of_desks (desk ∷ desks) seen who = (subst (λ (n : ℕ). Knows log n (desk_witness desk).seen) who.0 seen.0, of_desks desks seen.1 who.1)
+
+    of_pens : (pens : List B) → ByRecursion (HasSeenOwn log) (map pen_witness pens) → ByRecursion (λ pen. (pen_witness pen).who ≡ 2 * slot pen + 1) pens
+        → ByRecursion (λ (p : PenSeen). Knows log (2 * p.0 + 1) p.1) (map pen_seen pens)
+    of_pens [] seen who = tt
+    of_pens (pen ∷ pens) seen who = (subst (λ (n : ℕ). Knows log n (pen_witness pen).seen) who.0 seen.0, of_pens pens seen.1 who.1)

@@ -1,0 +1,4 @@
+pub mod Owning
+mod Promised
+mod Lives
+pub mod Accounted

@@ -1,0 +1,561 @@
+-- Connections' lives, of the histories that desks and pens have seen.
+use Rattle.std.proofs.Common.{◌≡◌, ◌≢◌, ℕ, zero, suc, ◌+◌, ◌*◌, ◌<◌, ◌≤◌, Bool, true, false, if◌then◌else◌, List, [], ◌∷◌, ◌++◌, length, All}
+use Rattle.std.proofs.Common.{Option, Some, None, refl, sym, ap, ap₂, subst, ◌∙◌, arith, append_assoc, eq-eqb, eqb-true, ne_eqb}
+use Rattle.std.specs.Prelude.{◌==◌, ◌&&◌, not, reverse, map, IfSome, unwrap_or}
+use Rattle.std.specs.List.{AllByRecursion as ByRecursion}
+use Rattle.std.proofs.lemmas.List.{append-nil, reverse-append}
+use Rattle.std.proofs.lemmas.List.Elements.{All-head, All-tail, All-from_recursion}
+use Rattle.std.proofs.lemmas.Bool.{eqb-false}
+use Rattle.gm_feeder.specs.declared.units.Limits.{Limits}
+use Rattle.gm_feeder.specs.Units.{Item, APacket, ALine}
+use Rattle.gm_front.specs.Units.{step_of_unit, fault_steps, steps_of as steps_of_units}
+use Rattle.gm_notes.specs.declared.event.UnitFault.{UnitFault}
+use Rattle.gm_notes.specs.declared.event.ApplyError.{ApplyError}
+use Rattle.gm_notes.specs.declared.states.Mode.{Mode}
+use Rattle.gm_notes.specs.declared.states.Mode.TheVariants.{Running, Graceful, Stopped}
+use Rattle.gm_notes.specs.declared.note.Note.TheVariants as notes
+use Rattle.gm_notes.specs.Settings.{Settings}
+use Rattle.gm_notes.specs.Notes.{is_open, mode}
+use Rattle.gm_notes.specs.Flow.{sent, waiting}
+use Rattle.gm_notes.specs.Past.{Past as PastOf}
+use Rattle.gm_notes.specs.Closings.{close}
+use Rattle.gm_notes.specs.Steps.{Step, Open, Packet, Line, Fault, Close, Tick, Took, Withdrew, Drain, if_accepted, refusal, unless, add, opening, free_slot, run}
+use Rattle.gm_notes.proofs.FreeSlots.{free_is}
+use Rattle.gm_laws.specs.Laws.{IsPrefix}
+use Rattle.gm_laws.specs.History.{History}
+use Rattle.gm_laws.proofs.ByteLaws.{inner_open, close_closes}
+use Rattle.gm_laws.proofs.StepsKeep.{add_keeps, run_history, takes_open, units_open}
+use Rattle.gm_shared.specs.declared.tape.Actor.{Actor}
+use Rattle.gm_shared.specs.declared.tape.Actor.TheVariants.{Desk, Pen}
+use Rattle.gm_shared.specs.declared.tape.TapeStep.{TapeStep}
+use Rattle.gm_shared.specs.declared.tape.TapeStep.TheVariants as tape
+use Rattle.gm_shared.specs.declared.tape.Answer.{Answer}
+use Rattle.gm_shared.specs.declared.tape.Answer.TheVariants as answers
+use Rattle.gm_shared.specs.declared.tape.Entry.{Entry}
+use Rattle.gm_shared.specs.Events.{slot_of}
+use Rattle.gm_shared.specs.Tapes.{actor_code, step_in, steps_of, answer_to, is_drain_of, Legal}
+use Rattle.gm_shared.specs.Histories.{calls_by, Knows}
+use Rattle.gm_shared.specs.Openings.{if_one_more, opened_by, openings}
+use Rattle.gm_shared.specs.Calls.{events_in, events_of, past_of}
+use Rattle.gm_shared.proofs.Logs.{calls_known}
+use Rattle.gm_shared.proofs.Sharing.{events_of_more, itself}
+use Rattle.gm_session.specs.declared.heard.Heard.{Heard}
+use Rattle.gm_session.specs.Hearings.{IsHeard, AreHeard}
+use Rattle.gm_session.specs.Sessions.{Adds}
+use Rattle.gm_session.specs.Talks.{TalkingState, IsTalking, IsTalkingBy}
+use Rattle.gm_delivery.specs.declared.account.Past.{Past}
+use Rattle.gm_delivery.specs.Accounts.{bytes_in, given_at, Turn, sent_by, given_in, WrittenTo, ArePast, Rise}
+use Rattle.gm_promise.specs.Owners.{is_own, AreOwn}
+use Rattle.gm_promise.specs.Promise.{says, said_at, if_opened, given_by, given, GivenSo}
+use Rattle.gm_promise.specs.Connections.{sent_at, said_since, IsHandedIn, AreHandedIn, IsSent, AreServed}
+use Rattle.gm_promise.proofs.Owning.{said_own, drain_own}
+use Rattle.gm_promise.proofs.Promised.{all_given}
+
+-- ---- what a pen gave at an opening
+
+more_or_same : (c n : ℕ) (o : Option ℕ) → n ≤ if_one_more c o n
+more_or_same c n None = omega arith
+more_or_same c n (Some d) = by (c == d)
+  where
+    by : (t : Bool) → n ≤ (if t then n + 1 else n)
+    by true = omega arith
+    by false = omega arith
+
+grows : (c n : ℕ) (s : TapeStep) (a : Answer) → n ≤ opened_by c s a n
+grows c n (tape.Open addr) (answers.Done done) = more_or_same c n done.opened
+grows c n s a = omega arith
+
+-- an entry that isn't of slot c's pen gives nothing
+module _ (n c : ℕ) (e : Entry) (older : List Entry) where
+  of_another : (2 * c + 1 == actor_code e.actor) ≡ false → given_at n c (e ∷ older) ≡ given_at n c older
+  of_another other = ap (λ (b : Bool). given_at n c older ++ (if b then (if openings c older == n then bytes_in e.answer else []) else [])) other ∙ append-nil (given_at n c older)
+
+  -- and what one gives at another opening
+  at_another : (openings c older == n) ≡ false → given_at n c (e ∷ older) ≡ given_at n c older
+  at_another other = by (2 * c + 1 == actor_code e.actor)
+    where
+      by : (t : Bool) → given_at n c older ++ (if t then (if openings c older == n then bytes_in e.answer else []) else []) ≡ given_at n c older
+      by true = ap (λ (b : Bool). given_at n c older ++ (if b then bytes_in e.answer else [])) other ∙ append-nil (given_at n c older)
+      by false = append-nil (given_at n c older)
+
+  of_its_pen : (2 * c + 1 == actor_code e.actor) ≡ true → (openings c older == n) ≡ true → given_at n c (e ∷ older) ≡ given_at n c older ++ bytes_in e.answer
+  of_its_pen own now =
+      ap (λ (b : Bool). given_at n c older ++ (if b then (if openings c older == n then bytes_in e.answer else []) else [])) own
+      ∙ ap (λ (b : Bool). given_at n c older ++ (if b then bytes_in e.answer else [])) now
+
+-- an opening that is to come gave nothing
+none_yet : (n c : ℕ) (log : List Entry) → openings c log < n → given_at n c log ≡ []
+none_yet n c [] less = refl
+none_yet n c (e ∷ older) less =
+    let before = grows c (openings c older) e.step e.answer in
+    at_another n c e older (ne_eqb (openings c older) n (λ is. absurd (omega (arith, before, less, is)))) ∙ none_yet n c older (omega (arith, before, less))
+
+same_code : (c d : ℕ) → (c == d) ≡ true → (2 * c + 1 == 2 * d + 1) ≡ true
+same_code c d is = let same = eqb-true c d is in eq-eqb (2 * c + 1) (2 * d + 1) (omega arith)
+
+other_code : (c d : ℕ) → (c == d) ≡ false → (2 * c + 1 == 2 * d + 1) ≡ false
+other_code c d other = let apart = eqb-false c d other in ne_eqb (2 * c + 1) (2 * d + 1) (λ is. apart (omega arith))
+
+-- a step that is no drain isn't a pen's
+not_pens : (c : ℕ) (actor : Actor) (step : TapeStep) → is_own actor step ≡ true → ((d : ℕ) → is_drain_of d step ≡ true → ⊥) → (2 * c + 1 == actor_code actor) ≡ false
+not_pens c (Desk n) step own still = ne_eqb (2 * c + 1) (2 * n) (λ is. absurd (omega arith))
+not_pens c (Pen n) step own still = absurd (still n own)
+
+-- What was given since the last opening is what the slot's pen was given at that.
+module _ (c : ℕ) (e : Entry) (older : List Entry) (own : is_own e.actor e.step ≡ true) (last : given c older ≡ given_at (openings c older) c older) where
+  kept : ((d : ℕ) → is_drain_of d e.step ≡ true → ⊥) → given c older ≡ given_at (openings c older) c (e ∷ older)
+  kept still = last ∙ sym (of_another (openings c older) c e older (not_pens c e.actor e.step own still))
+
+  opens : (o : Option ℕ) → ((d : ℕ) → is_drain_of d e.step ≡ true → ⊥) → if_opened c o (given c older) ≡ given_at (if_one_more c o (openings c older)) c (e ∷ older)
+  opens None still = kept still
+  opens (Some d) still = by (c == d)
+    where
+      by : (t : Bool) → (if t then [] else given c older) ≡ given_at (if t then openings c older + 1 else openings c older) c (e ∷ older)
+      by true = sym (of_another (openings c older + 1) c e older (not_pens c e.actor e.step own still) ∙ none_yet (openings c older + 1) c older (omega arith))
+      by false = kept still
+
+  drains : (d : ℕ) → e.actor ≡ Pen d → (t : Bool) → (c == d) ≡ t → (if t then given c older ++ bytes_in e.answer else given c older) ≡ given_at (openings c older) c (e ∷ older)
+  drains d pen true same =
+      ap (λ l. l ++ bytes_in e.answer) last
+      ∙ sym (of_its_pen (openings c older) c e older (ap (λ a. 2 * c + 1 == actor_code a) pen ∙ same_code c d same) (itself (openings c older)))
+  drains d pen false other = last ∙ sym (of_another (openings c older) c e older (ap (λ a. 2 * c + 1 == actor_code a) pen ∙ other_code c d other))
+
+  drained : (d : ℕ) → e.actor ≡ Pen d → (a : Answer) → e.answer ≡ a → given_by c (tape.Drain d) a (given c older) ≡ given_at (opened_by c (tape.Drain d) a (openings c older)) c (e ∷ older)
+  drained d pen (answers.Drained bytes) is =
+      subst (λ a. (if c == d then given c older ++ bytes_in a else given c older) ≡ given_at (openings c older) c (e ∷ older)) is (drains d pen (c == d) refl)
+  drained d pen (answers.Done done) is = by (c == d) (drains d pen (c == d) refl)
+    where
+      by : (t : Bool) → (if t then given c older ++ bytes_in e.answer else given c older) ≡ given_at (openings c older) c (e ∷ older) → given c older ≡ given_at (openings c older) c (e ∷ older)
+      by true h = sym (ap (λ a. given c older ++ bytes_in a) is ∙ append-nil (given c older)) ∙ h
+      by false h = h
+
+  opened : (a : Answer) (addr : List ℕ) → ((d : ℕ) → is_drain_of d e.step ≡ true → ⊥)
+      → given_by c (tape.Open addr) a (given c older) ≡ given_at (opened_by c (tape.Open addr) a (openings c older)) c (e ∷ older)
+  opened (answers.Done done) addr still = opens done.opened still
+  opened (answers.Drained bytes) addr still = kept still
+
+  given_next : (s : TapeStep) → e.step ≡ s → given_by c s e.answer (given c older) ≡ given_at (opened_by c s e.answer (openings c older)) c (e ∷ older)
+  given_next (tape.Open addr) is = opened e.answer addr (λ d h. let bad : is_drain_of d (tape.Open addr) ≡ true = ap (is_drain_of d) (sym is) ∙ h in absurd cc)
+  given_next (tape.Packet d kind bytes) is = kept (λ x h. let bad : is_drain_of x (tape.Packet d kind bytes) ≡ true = ap (is_drain_of x) (sym is) ∙ h in absurd cc)
+  given_next (tape.Line d bytes) is = kept (λ x h. let bad : is_drain_of x (tape.Line d bytes) ≡ true = ap (is_drain_of x) (sym is) ∙ h in absurd cc)
+  given_next (tape.Fault d fault) is = kept (λ x h. let bad : is_drain_of x (tape.Fault d fault) ≡ true = ap (is_drain_of x) (sym is) ∙ h in absurd cc)
+  given_next (tape.Close d) is = kept (λ x h. let bad : is_drain_of x (tape.Close d) ≡ true = ap (is_drain_of x) (sym is) ∙ h in absurd cc)
+  given_next (tape.Tick now) is = kept (λ x h. let bad : is_drain_of x (tape.Tick now) ≡ true = ap (is_drain_of x) (sym is) ∙ h in absurd cc)
+  given_next (tape.Took d) is = kept (λ x h. let bad : is_drain_of x (tape.Took d) ≡ true = ap (is_drain_of x) (sym is) ∙ h in absurd cc)
+  given_next (tape.Withdrew d) is = kept (λ x h. let bad : is_drain_of x (tape.Withdrew d) ≡ true = ap (is_drain_of x) (sym is) ∙ h in absurd cc)
+  given_next (tape.Drain d) is = drained d (drain_own d e.actor e.step own is) e.answer refl
+
+own_first : (e : Entry) (older : List Entry) → AreOwn (e ∷ older) → is_own e.actor e.step ≡ true
+own_first e older own = All-head (λ (e : Entry). is_own e.actor e.step ≡ true) e older own
+
+own_rest : (e : Entry) (older : List Entry) → AreOwn (e ∷ older) → AreOwn older
+own_rest e older own = All-tail (λ (e : Entry). is_own e.actor e.step ≡ true) e older own
+
+given_last : (c : ℕ) (log : List Entry) → AreOwn log → given c log ≡ given_at (openings c log) c log
+given_last c [] own = refl
+given_last c (e ∷ older) own = given_next c e older (own_first e older own) (given_last c older (own_rest e older own)) e.step refl
+
+-- ---- a prefix of what was sent
+
+prefix_of : (t : Bool) (gave : List ℕ) (c : ℕ) (past : PastOf) → GivenSo t gave c past.flow → IsPrefix gave (sent c past.flow)
+prefix_of true gave c past so = (waiting c past.flow, so)
+prefix_of false gave c past so = so.1
+
+-- an entry of a pen opens nothing
+pens_open : (c n : ℕ) (actor : Actor) (step : TapeStep) (a : Answer) → is_own actor step ≡ true → (2 * c + 1 == actor_code actor) ≡ true → opened_by c step a n ≡ n
+pens_open c n actor (tape.Open addr) a own is = let apart = not_pens c actor (tape.Open addr) own (λ d h. absurd cc) in let bad : true ≡ false = sym is ∙ apart in absurd cc
+pens_open c n actor step a own is = refl
+
+prefix_given : (k : Settings) (n c : ℕ) (log : List Entry) → Legal k log → AreOwn log → IsPrefix (given_at n c log) (sent_at k n c log)
+prefix_given k n c [] legal own = ([], refl)
+prefix_given k n c (e ∷ older) legal own = by (openings c (e ∷ older) == n) refl (prefix_given k n c older legal.2 (own_rest e older own))
+  where
+    here : n ≡ openings c (e ∷ older) → given_at n c (e ∷ older) ≡ given c (e ∷ older)
+    here is = ap (λ (m : ℕ). given_at m c (e ∷ older)) is ∙ sym (given_last c (e ∷ older) own)
+
+    -- given at another opening
+    apart : (openings c (e ∷ older) == n) ≡ false → (t : Bool) → (2 * c + 1 == actor_code e.actor) ≡ t → given_at n c (e ∷ older) ≡ given_at n c older
+    apart other true is =
+        at_another n c e older (ap (λ (m : ℕ). m == n) (sym (pens_open c (openings c older) e.actor e.step e.answer (own_first e older own) is)) ∙ other)
+    apart other false is = of_another n c e older is
+
+    by : (t : Bool) → (openings c (e ∷ older) == n) ≡ t → IsPrefix (given_at n c older) (sent_at k n c older)
+        → IsPrefix (given_at n c (e ∷ older)) (if t then sent c (past_of k (e ∷ older)).flow else sent_at k n c older)
+    by true is rest =
+        let same : n ≡ openings c (e ∷ older) = sym (eqb-true (openings c (e ∷ older)) n is) in
+        let so = prefix_of (is_open c (past_of k (e ∷ older)).notes) (given c (e ∷ older)) c (past_of k (e ∷ older)) (all_given k (e ∷ older) legal c) in
+        (so.0, so.1 ∙ ap (λ l. l ++ so.0) (sym (here same)))
+    by false other rest = (rest.0, rest.1 ∙ ap (λ l. l ++ rest.0) (sym (apart other (2 * c + 1 == actor_code e.actor) refl)))
+
+-- more of the history gives more
+given_grows : (n c : ℕ) (newer until : List Entry) → IsPrefix (given_at n c until) (given_at n c (newer ++ until))
+given_grows n c [] until = ([], sym (append-nil (given_at n c until)))
+given_grows n c (e ∷ newer) until =
+    let rest = given_grows n c newer until in
+    let more = if 2 * c + 1 == actor_code e.actor then (if openings c (newer ++ until) == n then bytes_in e.answer else []) else [] in
+    (rest.0 ++ more, ap (λ l. l ++ more) rest.1 ∙ append_assoc (given_at n c until) rest.0 more)
+
+prefix_then : (xs ys zs : List ℕ) → IsPrefix xs ys → IsPrefix ys zs → IsPrefix xs zs
+prefix_then xs ys zs f g = (f.0 ++ g.0, g.1 ∙ (ap (λ l. l ++ g.0) f.1 ∙ append_assoc xs f.0 g.0))
+
+are_sent : (k : Settings) (log : List Entry) → Legal k log → AreOwn log → (c : ℕ) (past : List Past) (seen : List Entry) (takes : ℕ) (newer : List Entry) → log ≡ newer ++ seen → ArePast c past seen takes
+    → ByRecursion (IsSent k log c) past
+are_sent k log legal own c [] seen takes newer is are = tt
+are_sent k log legal own c (p ∷ older) seen takes newer is are =
+    let w = are.2.is_written in
+    let until : log ≡ newer ++ p.until = is ∙ ap (λ l. newer ++ l) are.0 in
+    let since : log ≡ (newer ++ w.are.newer) ++ p.since = until ∙ (ap (λ l. newer ++ l) w.are.goes_on ∙ sym (append_assoc newer w.are.newer p.since)) in (
+      record {
+        turns = w.turns;
+        rest = are.2.rest;
+        written = w.whole;
+        whole = are.2.whole;
+        given = subst (λ l. IsPrefix l (sent_at k p.opening c log)) w.are.given
+            (prefix_then (given_at p.opening c p.until) (given_at p.opening c log) (sent_at k p.opening c log)
+            (subst (λ l. IsPrefix (given_at p.opening c p.until) (given_at p.opening c l)) (sym until) (given_grows p.opening c newer p.until))
+            (prefix_given k p.opening c log legal own));
+      },
+      are_sent k log legal own c older p.since p.takes (newer ++ w.are.newer) since are.3,
+    )
+
+-- ---- openings and closings
+
+-- how often slot c's closing is among these steps
+abbrev closings : ℕ → List Step → ℕ
+closings c [] = 0
+closings c (Close d ∷ older) = if c == d then closings c older + 1 else closings c older
+closings c (s ∷ older) = closings c older
+
+module _ (k : Settings) (c : ℕ) (past : PastOf) (history : History k past.notes) where
+  -- whatever opens nothing, and doesn't close slot c, leaves it as it is
+  still_open : (s : Step) → ((addr : List ℕ) → s ≡ Open addr → ⊥) → (s ≡ Close c → ⊥) → refusal k s past ≡ None → is_open c (add k s past).notes ≡ is_open c past.notes
+  still_open s opens closes taken =
+      (add_keeps {k = k} {I = λ p. is_open c p.notes ≡ is_open c past.notes} past s
+      (record {
+        by_note = λ note p inner allowed cause h i. inner_open note p.notes c inner ∙ i;
+        by_opening = λ d addr p allowed cause h i. absurd (opens addr cause);
+        by_closing = λ d p opened cause h i. by (c == d) refl (is_open c p.notes) i cause;
+        by_saying = λ d bytes p opened may h i. i;
+      })
+      (λ d is h i. i) taken (history, refl)).1
+    where
+      by : {d : ℕ} (t : Bool) → (c == d) ≡ t → (older : Bool) → older ≡ is_open c past.notes → s ≡ Close d → unwrap_or (if t then Some false else None) older ≡ is_open c past.notes
+      by {d} true is older i cause = absurd (closes (cause ∙ ap Close (sym (eqb-true c d is))))
+      by false is older i cause = i
+
+abbrev one_if : Bool → ℕ
+one_if t = if t then 1 else 0
+
+-- a slot was opened as often as it was closed, and once more while it is open
+module _ (k : Settings) (c : ℕ) (e : Entry) (older : List Entry) (legal : Legal k (e ∷ older)) (so_far : openings c older ≡ closings c (said_at c (steps_of older)) + one_if (is_open c (past_of k older).notes)) where
+  abbrev past : PastOf
+  past = past_of k older
+
+  abbrev said : List Step
+  said = said_at c (steps_of older)
+
+  abbrev after : PastOf
+  after = past_of k (e ∷ older)
+
+  taken_as : (s : Step) → step_in e.step ≡ s → refusal k s past ≡ None
+  taken_as s is = ap (λ s. refusal k s past) (sym is) ∙ legal.0
+
+  after_is : (s : Step) → step_in e.step ≡ s → after ≡ add k s past
+  after_is s is = ap (λ o. unless o (add k (step_in e.step) past) past) legal.0 ∙ ap (λ s. add k s past) is
+
+  -- neither an opening nor slot c's closing
+  balanced : (s : Step) → step_in e.step ≡ s → ((addr : List ℕ) → s ≡ Open addr → ⊥) → (s ≡ Close c → ⊥) → ((steps : List Step) → closings c (s ∷ steps) ≡ closings c steps)
+      → openings c older ≡ closings c (said_at c (s ∷ steps_of older)) + one_if (is_open c after.notes)
+  balanced s is opens closes same =
+      let stays : is_open c after.notes ≡ is_open c past.notes =
+      ap (λ (p : PastOf). is_open c p.notes) (after_is s is) ∙ still_open k c past (run_history k (steps_of older)) s opens closes (taken_as s is) in
+      so_far ∙ ap₂ (λ (n : ℕ) (t : Bool). n + one_if t) (by (says c (slot_of s))) (sym stays)
+    where
+      by : (t : Bool) → closings c said ≡ closings c (if t then s ∷ said else said)
+      by true = sym (same said)
+      by false = refl
+
+  no_slot : (m : Mode) → if_accepted m None ≡ None → ⊥
+  no_slot Running taken = absurd cc
+  no_slot Graceful taken = absurd cc
+  no_slot Stopped taken = absurd cc
+
+  opening_balanced : (o : Option ℕ) (addr : List ℕ) → free_slot k past ≡ o → step_in e.step ≡ Open addr → if_one_more c o (openings c older) ≡ closings c said + one_if (is_open c after.notes)
+  opening_balanced None addr free is = absurd (no_slot (mode past.notes) (ap (if_accepted (mode past.notes)) (sym free) ∙ taken_as (Open addr) is))
+  opening_balanced (Some d) addr free is = by (c == d) refl
+    where
+      now : after.notes ≡ notes.Opened d addr ∷ past.notes
+      now = ap (λ (p : PastOf). p.notes) (after_is (Open addr) is ∙ ap (λ o. opening o addr past) free)
+
+      was : is_open d past.notes ≡ false
+      was = (free_is 0 k.slots past.notes d free).1
+
+      by : (t : Bool) → (c == d) ≡ t → (if t then openings c older + 1 else openings c older) ≡ closings c said + one_if (is_open c after.notes)
+      by true same =
+          let before : is_open c past.notes ≡ false = subst (λ (x : ℕ). is_open x past.notes ≡ false) (sym (eqb-true c d same)) was in
+          let count : openings c older ≡ closings c said + 0 = so_far ∙ ap (λ t. closings c said + one_if t) before in
+          let opened : is_open c after.notes ≡ true = ap (is_open c) now ∙ ap (λ t. unwrap_or (if t then Some true else None) (is_open c past.notes)) same in
+          rw opened (omega (arith, count))
+      by false other =
+          let stays : is_open c after.notes ≡ is_open c past.notes = ap (is_open c) now ∙ ap (λ t. unwrap_or (if t then Some true else None) (is_open c past.notes)) other in
+          so_far ∙ ap (λ t. closings c said + one_if t) (sym stays)
+
+  closing_balanced : (d : ℕ) → step_in e.step ≡ Close d → (t : Bool) → (c == d) ≡ t → openings c older ≡ closings c (if d == c then Close d ∷ said else said) + one_if (is_open c after.notes)
+  closing_balanced d is true same =
+      let at : c ≡ d = eqb-true c d same in
+      let here : (d == c) ≡ true = eq-eqb d c (sym at) in
+      let was : is_open c past.notes ≡ true = subst (λ (x : ℕ). is_open x past.notes ≡ true) (sym at) (takes_open (is_open d past.notes) (taken_as (Close d) is)) in
+      let shut : is_open c after.notes ≡ false =
+      ap (λ (p : PastOf). is_open c p.notes) (after_is (Close d) is ∙ ap (λ (x : ℕ). close k x past) (sym at)) ∙ close_closes k c past (run_history k (steps_of older)) was in
+      let count : openings c older ≡ closings c said + 1 = so_far ∙ ap (λ t. closings c said + one_if t) was in
+      rw (here, shut, same) (omega (arith, count))
+  closing_balanced d is false other =
+      let apart = eqb-false c d other in
+      let away : (d == c) ≡ false = ne_eqb d c (λ same. apart (sym same)) in
+      let stays : is_open c after.notes ≡ is_open c past.notes =
+      ap (λ (p : PastOf). is_open c p.notes) (after_is (Close d) is)
+      ∙ still_open k c past (run_history k (steps_of older)) (Close d) (λ addr same. absurd cc) (λ same. apart (sym (let x : d ≡ c = cc in x))) (taken_as (Close d) is) in
+      rw away (so_far ∙ ap (λ t. closings c said + one_if t) (sym stays))
+
+  answered : (step : TapeStep) → e.step ≡ step → opened_by c step e.answer (openings c older) ≡ closings c (said_at c (step_in step ∷ steps_of older)) + one_if (is_open c after.notes)
+  answered (tape.Open addr) is =
+      let answer : e.answer ≡ answer_to k (Open addr) past = legal.1 ∙ ap (λ s. answer_to k (step_in s) past) is in
+      ap (λ a. opened_by c (tape.Open addr) a (openings c older)) answer ∙ opening_balanced (free_slot k past) addr refl (ap step_in is)
+  answered (tape.Close d) is = closing_balanced d (ap step_in is) (c == d) refl
+  answered (tape.Packet d kind bytes) is = balanced (Packet d kind bytes) (ap step_in is) (λ addr x. absurd cc) (λ x. absurd cc) (λ steps. refl)
+  answered (tape.Line d bytes) is = balanced (Line d bytes) (ap step_in is) (λ addr x. absurd cc) (λ x. absurd cc) (λ steps. refl)
+  answered (tape.Fault d fault) is = balanced (Fault d fault) (ap step_in is) (λ addr x. absurd cc) (λ x. absurd cc) (λ steps. refl)
+  answered (tape.Tick now) is = balanced (Tick now) (ap step_in is) (λ addr x. absurd cc) (λ x. absurd cc) (λ steps. refl)
+  answered (tape.Took d) is = balanced (Took d) (ap step_in is) (λ addr x. absurd cc) (λ x. absurd cc) (λ steps. refl)
+  answered (tape.Withdrew d) is = balanced (Withdrew d) (ap step_in is) (λ addr x. absurd cc) (λ x. absurd cc) (λ steps. refl)
+  answered (tape.Drain d) is = balanced (Drain d) (ap step_in is) (λ addr x. absurd cc) (λ x. absurd cc) (λ steps. refl)
+
+balance : (k : Settings) (c : ℕ) (log : List Entry) → Legal k log → openings c log ≡ closings c (said_at c (steps_of log)) + one_if (is_open c (past_of k log).notes)
+balance k c [] legal = refl
+balance k c (e ∷ older) legal = answered k c e older legal (balance k c older legal.2) e.step refl
+
+-- ---- what was said since an opening
+
+-- a slot that says something is open
+said_open : (k : Settings) (c : ℕ) (s : Step) (past : PastOf) → says c (slot_of s) ≡ true → refusal k s past ≡ None → is_open c past.notes ≡ true
+said_open k c (Packet d kind bytes) past is taken = subst (λ (x : ℕ). is_open x past.notes ≡ true) (eqb-true d c is) (units_open d past.notes taken)
+said_open k c (Line d bytes) past is taken = subst (λ (x : ℕ). is_open x past.notes ≡ true) (eqb-true d c is) (units_open d past.notes taken)
+said_open k c (Fault d fault) past is taken = subst (λ (x : ℕ). is_open x past.notes ≡ true) (eqb-true d c is) (units_open d past.notes taken)
+said_open k c (Close d) past is taken = subst (λ (x : ℕ). is_open x past.notes ≡ true) (eqb-true d c is) (takes_open (is_open d past.notes) taken)
+said_open k c (Open addr) past is taken = absurd cc
+said_open k c (Tick now) past is taken = absurd cc
+said_open k c (Took d) past is taken = absurd cc
+said_open k c (Withdrew d) past is taken = absurd cc
+said_open k c (Drain d) past is taken = absurd cc
+
+-- the steps behind so many closings of slot c, and before the next
+abbrev block : ℕ → ℕ → List Step → List Step
+block m c [] = []
+block m c (s ∷ older) = if closings c older == m then s ∷ block m c older else block m c older
+
+same_test : (a b m : ℕ) → a ≡ b + 1 → (a == m + 1) ≡ (b == m)
+same_test a b m is = by (b == m) refl
+  where
+    by : (t : Bool) → (b == m) ≡ t → (a == m + 1) ≡ (b == m)
+    by true same = let e = eqb-true b m same in eq-eqb a (m + 1) (omega (arith, is, e)) ∙ sym same
+    by false other = let apart = eqb-false b m other in ne_eqb a (m + 1) (λ e. apart (omega (arith, is, e))) ∙ sym other
+
+since_is : (k : Settings) (m c : ℕ) (log : List Entry) → Legal k log → said_since (m + 1) c log ≡ block m c (said_at c (steps_of log))
+since_is k m c [] legal = refl
+since_is k m c (e ∷ older) legal = by (says c (slot_of (step_in e.step))) refl (since_is k m c older legal.2)
+  where
+    by : (t : Bool) → says c (slot_of (step_in e.step)) ≡ t → said_since (m + 1) c older ≡ block m c (said_at c (steps_of older))
+        → (if t && (openings c older == m + 1) then step_in e.step ∷ said_since (m + 1) c older else said_since (m + 1) c older)
+        ≡ block m c (if t then step_in e.step ∷ said_at c (steps_of older) else said_at c (steps_of older))
+    by true is rest =
+        let opened = said_open k c (step_in e.step) (past_of k older) is legal.0 in
+        let count : openings c older ≡ closings c (said_at c (steps_of older)) + 1 = balance k c older legal.2 ∙ ap (λ t. closings c (said_at c (steps_of older)) + one_if t) opened in
+        ap₂ (λ (t : Bool) (l : List Step). if t then step_in e.step ∷ l else l) (same_test (openings c older) (closings c (said_at c (steps_of older))) m count) rest
+    by false is rest = rest
+
+-- ---- sessions' events
+
+-- slot c says it, and it is no closing
+record IsUnit (c : ℕ) (s : Step) : Type 0 where
+  pub said : says c (slot_of s) ≡ true
+  pub closes_none : (older : List Step) → closings c (s ∷ older) ≡ closings c older
+
+unit_is : (c : ℕ) (item : Item) → IsUnit c (step_of_unit c item)
+unit_is c (APacket kind bytes) = record { said = itself c; closes_none = λ older. refl }
+unit_is c (ALine bytes) = record { said = itself c; closes_none = λ older. refl }
+
+units_are : (c : ℕ) (items : List Item) → ByRecursion (IsUnit c) (map (step_of_unit c) items)
+units_are c [] = tt
+units_are c (item ∷ items) = (unit_is c item, units_are c items)
+
+joined : (c : ℕ) (xs ys : List Step) → ByRecursion (IsUnit c) xs → ByRecursion (IsUnit c) ys → ByRecursion (IsUnit c) (xs ++ ys)
+joined c [] ys a b = b
+joined c (x ∷ xs) ys a b = (a.0, joined c xs ys a.1 b)
+
+turned : (c : ℕ) (xs : List Step) → ByRecursion (IsUnit c) xs → ByRecursion (IsUnit c) (reverse xs)
+turned c [] a = tt
+turned c (x ∷ xs) a = subst (ByRecursion (IsUnit c)) (sym (reverse-append (x ∷ []) xs)) (joined c (reverse xs) (x ∷ []) (turned c xs a.1) (a.0, tt))
+
+session_units : (c : ℕ) (items : List Item) (fault : Option UnitFault) → ByRecursion (IsUnit c) (reverse (steps_of_units c items fault))
+session_units c items fault = turned c (steps_of_units c items fault) (joined c (map (step_of_unit c) items) (fault_steps c fault) (units_are c items) (by fault))
+  where
+    by : (fault : Option UnitFault) → ByRecursion (IsUnit c) (fault_steps c fault)
+    by None = tt
+    by (Some fault) = (record { said = itself c; closes_none = λ older. refl }, tt)
+
+module _ (c : ℕ) where
+  closings_units : (xs ys : List Step) → ByRecursion (IsUnit c) xs → closings c (xs ++ ys) ≡ closings c ys
+  closings_units [] ys a = refl
+  closings_units (x ∷ xs) ys a = a.0.closes_none (xs ++ ys) ∙ closings_units xs ys a.1
+
+  block_units : (m : ℕ) (t : Bool) (xs ys : List Step) → ByRecursion (IsUnit c) xs → (closings c ys == m) ≡ t → block m c (xs ++ ys) ≡ (if t then xs ++ block m c ys else block m c ys)
+  block_units m true [] ys a is = refl
+  block_units m false [] ys a is = refl
+  block_units m true (x ∷ xs) ys a is =
+      ap (λ (n : ℕ). if n == m then x ∷ block m c (xs ++ ys) else block m c (xs ++ ys)) (closings_units xs ys a.1)
+      ∙ (ap (λ (t : Bool). if t then x ∷ block m c (xs ++ ys) else block m c (xs ++ ys)) is ∙ ap (λ l. x ∷ l) (block_units m true xs ys a.1 is))
+  block_units m false (x ∷ xs) ys a is =
+      ap (λ (n : ℕ). if n == m then x ∷ block m c (xs ++ ys) else block m c (xs ++ ys)) (closings_units xs ys a.1)
+      ∙ (ap (λ (t : Bool). if t then x ∷ block m c (xs ++ ys) else block m c (xs ++ ys)) is ∙ block_units m false xs ys a.1 is)
+
+  said_units : (xs ys : List Step) → ByRecursion (IsUnit c) xs → said_at c (xs ++ ys) ≡ xs ++ said_at c ys
+  said_units [] ys a = refl
+  said_units (x ∷ xs) ys a = ap (λ (t : Bool). if t then x ∷ said_at c (xs ++ ys) else said_at c (xs ++ ys)) a.0.said ∙ ap (λ l. x ∷ l) (said_units xs ys a.1)
+
+  closing_counts : (steps : List Step) → closings c (Close c ∷ steps) ≡ closings c steps + 1
+  closing_counts steps = ap (λ (t : Bool). if t then closings c steps + 1 else closings c steps) (itself c)
+
+  said_closing : (steps : List Step) → said_at c (Close c ∷ steps) ≡ Close c ∷ said_at c steps
+  said_closing steps = ap (λ (t : Bool). if t then Close c ∷ said_at c steps else said_at c steps) (itself c)
+
+  closings_more : (s : Step) (steps : List Step) → closings c steps ≤ closings c (s ∷ steps)
+  closings_more (Close d) steps = by (c == d)
+    where
+      by : (t : Bool) → closings c steps ≤ (if t then closings c steps + 1 else closings c steps)
+      by true = omega arith
+      by false = omega arith
+  closings_more s steps = omega arith
+
+  closings_grow : (xs ys : List Step) → closings c ys ≤ closings c (xs ++ ys)
+  closings_grow [] ys = omega arith
+  closings_grow (x ∷ xs) ys = let rest = closings_grow xs ys in let first = closings_more x (xs ++ ys) in omega (arith, rest, first)
+
+  -- what is behind more closings isn't in the block
+  later : (m : ℕ) (xs ys : List Step) → m < closings c ys → block m c (xs ++ ys) ≡ block m c ys
+  later m [] ys less = refl
+  later m (x ∷ xs) ys less =
+      let grown = closings_grow xs ys in
+      let other : (closings c (xs ++ ys) == m) ≡ false = ne_eqb (closings c (xs ++ ys)) m (λ is. absurd (omega (arith, is, grown, less))) in
+      ap (λ (t : Bool). if t then x ∷ block m c (xs ++ ys) else block m c (xs ++ ys)) other ∙ later m xs ys less
+
+  -- ---- the connections that are closed
+
+  abbrev heard_events : (limits : Limits) (heard : List Heard) (since : List Entry) → AreHeard c limits heard since → List Step
+  heard_events limits [] since are = []
+  heard_events limits (h ∷ older) since are = Close c ∷ (reverse (steps_of_units c are.1.items are.1.fault) ++ heard_events limits older h.since are.2)
+
+  events_are : (limits : Limits) (heard : List Heard) (since : List Entry) (are : AreHeard c limits heard since) → events_of c since ≡ heard_events limits heard since are
+  events_are limits [] since are = ap (events_of c) are
+  events_are limits (h ∷ older) since are =
+      let steps = steps_of_units c are.1.items are.1.fault in
+      ap (events_of c) (are.0 ∙ are.1.adds.goes_on)
+      ∙ (events_of_more c are.1.adds.newer h.since
+      ∙ ap₂ (λ xs ys. xs ++ ys) (are.1.adds.events_are ∙ reverse-append steps (Close c ∷ [])) (events_are limits older h.since are.2))
+
+  closings_heard : (limits : Limits) (heard : List Heard) (since : List Entry) (are : AreHeard c limits heard since) → closings c (heard_events limits heard since are) ≡ length heard
+  closings_heard limits [] since are = refl
+  closings_heard limits (h ∷ older) since are =
+      let units = reverse (steps_of_units c are.1.items are.1.fault) in
+      let rest = heard_events limits older h.since are.2 in
+      let first = closing_counts (units ++ rest) in
+      let among = closings_units units rest (session_units c are.1.items are.1.fault) in
+      let before = closings_heard limits older h.since are.2 in
+      omega (arith, first, among, before)
+
+  said_heard : (limits : Limits) (heard : List Heard) (since : List Entry) (are : AreHeard c limits heard since) → said_at c (heard_events limits heard since are) ≡ heard_events limits heard since are
+  said_heard limits [] since are = refl
+  said_heard limits (h ∷ older) since are =
+      let units = reverse (steps_of_units c are.1.items are.1.fault) in
+      let rest = heard_events limits older h.since are.2 in
+      said_closing (units ++ rest)
+      ∙ ap (λ l. Close c ∷ l) (said_units units rest (session_units c are.1.items are.1.fault) ∙ ap (λ l. units ++ l) (said_heard limits older h.since are.2))
+
+  -- there are no more blocks than closings
+  none_later : (limits : Limits) (heard : List Heard) (since : List Entry) (are : AreHeard c limits heard since) (m : ℕ) → length heard ≤ m → block m c (heard_events limits heard since are) ≡ []
+  none_later limits [] since are m less = refl
+  none_later limits (h ∷ older) since are m less =
+      let units = reverse (steps_of_units c are.1.items are.1.fault) in
+      let rest = heard_events limits older h.since are.2 in
+      let long : closings c rest ≡ length older = closings_heard limits older h.since are.2 in
+      let other : (closings c rest == m) ≡ false = ne_eqb (closings c rest) m (λ is. absurd (omega (arith, is, long, less))) in
+      let among : closings c (units ++ rest) ≡ closings c rest = closings_units units rest (session_units c are.1.items are.1.fault) in
+      ap (λ (n : ℕ). if n == m then Close c ∷ block m c (units ++ rest) else block m c (units ++ rest)) among
+      ∙ (ap (λ (t : Bool). if t then Close c ∷ block m c (units ++ rest) else block m c (units ++ rest)) other
+      ∙ (block_units m false units rest (session_units c are.1.items are.1.fault) other ∙ none_later limits older h.since are.2 m (omega (arith, less))))
+
+  -- the block of a connection
+  its_block : (limits : Limits) (h : Heard) (older : List Heard) (since : List Entry) (are : AreHeard c limits (h ∷ older) since)
+      → block (length older) c (heard_events limits (h ∷ older) since are) ≡ Close c ∷ reverse (steps_of_units c are.1.items are.1.fault)
+  its_block limits h older since are =
+      let m = length older in
+      let units = reverse (steps_of_units c are.1.items are.1.fault) in
+      let rest = heard_events limits older h.since are.2 in
+      let here : (closings c rest == m) ≡ true = eq-eqb (closings c rest) m (closings_heard limits older h.since are.2) in
+      let among : closings c (units ++ rest) ≡ closings c rest = closings_units units rest (session_units c are.1.items are.1.fault) in
+      ap (λ (n : ℕ). if n == m then Close c ∷ block m c (units ++ rest) else block m c (units ++ rest)) among
+      ∙ (ap (λ (t : Bool). if t then Close c ∷ block m c (units ++ rest) else block m c (units ++ rest)) here
+      ∙ ap (λ l. Close c ∷ l) (block_units m true units rest (session_units c are.1.items are.1.fault) here
+      ∙ (ap (λ l. units ++ l) (none_later limits older h.since are.2 m (omega arith)) ∙ append-nil units)))
+
+  handed_in : (k : Settings) (limits : Limits) (log : List Entry) → Legal k log → (heard : List Heard) (since : List Entry) (are : AreHeard c limits heard since) (newer : List Step)
+      → said_at c (steps_of log) ≡ newer ++ heard_events limits heard since are → AreHandedIn limits log c heard
+  handed_in k limits log legal [] since are newer is = tt
+  handed_in k limits log legal (h ∷ older) since are newer is =
+      let m = length older in
+      let events = heard_events limits (h ∷ older) since are in
+      let units = reverse (steps_of_units c are.1.items are.1.fault) in
+      let rest = heard_events limits older h.since are.2 in
+      let count = closings_heard limits (h ∷ older) since are in (
+        record {
+          items = are.1.items;
+          rest = are.1.rest;
+          fault = are.1.fault;
+          begins = are.1.begins;
+          stands = are.1.stands;
+          said = since_is k m c log legal ∙ (ap (block m c) is ∙ (later m newer events (omega (arith, count)) ∙ its_block limits h older since are));
+        },
+        handed_in k limits log legal older h.since are.2 (newer ++ Close c ∷ units) (is ∙ sym (append_assoc newer (Close c ∷ units) rest)),
+      )
+
+-- what the present connection said, if there is one
+record Lead (c : ℕ) (since until : List Entry) : Type 0 where
+  pub items : List Item
+  pub fault : Option UnitFault
+  pub adds : Adds c (steps_of_units c items fault) since until
+
+lead_of : (c : ℕ) (limits : Limits) (since until : List Entry) (talking : Option TalkingState) → IsTalking c limits since until talking → Lead c since until
+lead_of c limits since until None is = record { items = []; fault = None; adds = is }
+lead_of c limits since until (Some t) is = by t.is_over is
+  where
+    by : (b : Bool) → IsTalkingBy b c limits since until t → Lead c since until
+    by false so = record { items = so.hands.items; fault = None; adds = so.hands.adds }
+    by true so = record { items = so.hands.items; fault = so.fault; adds = so.hands.adds }
+
+pub are_served : (k : Settings) (limits : Limits) (log : List Entry) → Legal k log → AreOwn log → (c takes : ℕ) (heard : List Heard) (past : List Past)
+    (since heard_until given_until : List Entry) (talking : Option TalkingState)
+    → AreHeard c limits heard since → IsTalking c limits since heard_until talking → Knows log (2 * c) heard_until
+    → ArePast c past given_until takes → Rise past → Knows log (2 * c + 1) given_until
+    → AreServed k limits log c heard past
+are_served k limits log legal own c takes heard past since heard_until given_until talking are talks knows are_past rise gave =
+    let lead = lead_of c limits since heard_until talking talks in
+    let units = reverse (steps_of_units c lead.items lead.fault) in
+    let events = heard_events c limits heard since are in
+    let all : events_of c log ≡ units ++ events =
+    ap events_in (calls_known log (2 * c) heard_until knows)
+    ∙ (ap (events_of c) lead.adds.goes_on ∙ (events_of_more c lead.adds.newer since ∙ ap₂ (λ xs ys. xs ++ ys) lead.adds.events_are (events_are c limits heard since are))) in
+    record {
+      handed_in = handed_in c k limits log legal heard since are units
+          (said_own c log own ∙ (ap (said_at c) all ∙ (said_units c units events (session_units c lead.items lead.fault) ∙ ap (λ l. units ++ l) (said_heard c limits heard since are))));
+      sent = All-from_recursion (IsSent k log c) past (are_sent k log legal own c past given_until takes gave.newer gave.goes_on are_past);
+      rise = rise;
+    }

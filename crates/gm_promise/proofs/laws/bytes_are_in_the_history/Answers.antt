@@ -1,0 +1,5 @@
+use Rattle.gm_promise.proofs.Promised.{all_given}
+use Rattle.gm_promise.proofs.laws.bytes_are_in_the_history.Goals as goal
+
+pub returns : goal.returns
+returns c = all_given

@@ -1,0 +1,82 @@
+-- A connection's whole life: what was read from it, and what was written to it, said of the one history of all calls. Its newest entry is the
+-- first. A slot has one connection after another, each from an opening of the slot on.
+use Rattle.std.specs.Prelude.{◌≡◌, ℕ, ◌+◌, ◌*◌, ◌==◌, ◌&&◌, if◌then◌else◌, true, List, [], ◌∷◌, ◌++◌, All, reverse, length, Option, IfSome}
+use Rattle.gm_feeder.specs.declared.units.Limits.{Limits}
+use Rattle.gm_feeder.specs.Units.{Item}
+use Rattle.gm_front.specs.Units.{steps_of as steps_of_units, IsFaultAt, BeginsWith}
+use Rattle.gm_notes.specs.declared.event.UnitFault.{UnitFault}
+use Rattle.gm_notes.specs.Settings.{Settings}
+use Rattle.gm_notes.specs.Flow.{sent}
+use Rattle.gm_notes.specs.Steps.{Step, Close}
+use Rattle.gm_laws.specs.Laws.{IsPrefix}
+use Rattle.gm_shared.specs.declared.tape.Entry.{Entry}
+use Rattle.gm_shared.specs.Events.{slot_of}
+use Rattle.gm_shared.specs.Tapes.{step_in, Legal}
+use Rattle.gm_shared.specs.Histories.{Knows}
+use Rattle.gm_shared.specs.Calls.{past_of}
+use Rattle.gm_shared.specs.Openings.{openings}
+use Rattle.gm_session.specs.declared.heard.Heard.{Heard}
+use Rattle.gm_session.specs.Hearings.{AreHeard}
+use Rattle.gm_session.specs.Talks.{TalkingState, IsTalking}
+use Rattle.gm_delivery.specs.declared.account.Past.{Past}
+use Rattle.gm_delivery.specs.Accounts.{Turn, sent_by, given_in, ArePast, Rise}
+use Rattle.gm_promise.specs.Owners.{AreOwn}
+use Rattle.gm_promise.specs.Promise.{says}
+
+-- ---- an opening
+
+-- what the abstract server sent to slot c since its n-th opening, up to the next one
+abbrev pub sent_at : Settings → ℕ → ℕ → List Entry → List ℕ
+sent_at k n c [] = []
+sent_at k n c (e ∷ older) = if openings c (e ∷ older) == n then sent c (past_of k (e ∷ older)).flow else sent_at k n c older
+
+-- what slot c said since its n-th opening, up to the next one, and was taken: its units, faults and closing, the newest first
+abbrev pub said_since : ℕ → ℕ → List Entry → List Step
+said_since n c [] = []
+said_since n c (e ∷ older) = if says c (slot_of (step_in e.step)) && (openings c older == n) then step_in e.step ∷ said_since n c older else said_since n c older
+
+-- ---- what was read
+
+-- The connection of the n-th opening of slot c is closed, and this was read from it: what the slot said are the first units of that, in order, then the
+-- fault behind them or none, and the closing.
+pub record IsHandedIn (limits : Limits) (log : List Entry) (c n : ℕ) (read : List ℕ) : Type 0 where
+  pub items : List Item
+  pub rest : List ℕ
+  pub fault : Option UnitFault
+  pub begins : BeginsWith limits read items rest
+  pub stands : IfSome fault (λ fault. IsFaultAt limits rest fault)
+  pub said : said_since n c log ≡ Close c ∷ reverse (steps_of_units c items fault)
+
+-- so it is of each connection that is closed, the newest first; the last of them is of the first opening
+abbrev pub AreHandedIn : Limits → List Entry → ℕ → List Heard → Type 0
+AreHandedIn limits log c [] = Unit {0}
+AreHandedIn limits log c (heard ∷ older) = IsHandedIn limits log c (length older + 1) heard.read × AreHandedIn limits log c older
+
+-- ---- what was written
+
+-- To the connection of this opening of slot c a prefix of what turns send was written, all of it where that is said: in each turn the bytes that were
+-- drained, and behind them a NOOP where one was taken. The bytes of all turns are a prefix of what the abstract server sent since that opening.
+pub record IsSent (k : Settings) (log : List Entry) (c : ℕ) (p : Past) : Type 0 where
+  pub turns : List Turn
+  pub rest : List ℕ
+  pub written : sent_by turns ≡ p.log ++ rest
+  pub whole : p.is_whole ≡ true → rest ≡ []
+  pub given : IsPrefix (given_in turns) (sent_at k p.opening c log)
+
+-- ---- the law
+
+-- What was read from each connection of slot c that is closed is handed in, and what was written to each that is gone was sent to it. No two that were
+-- written to are of one opening.
+pub record AreServed (k : Settings) (limits : Limits) (log : List Entry) (c : ℕ) (heard : List Heard) (past : List Past) : Type 0 where
+  pub handed_in : AreHandedIn limits log c heard
+  pub sent : All (IsSent k log c) past
+  pub rise : Rise past
+
+-- It is so of any legal history in which each entry is its desk's or pen's own, and of any slot: if `heard` is the account of what the slot's desk handed
+-- in, and `past` of what its pen gave, and the history has nothing of that desk and that pen that they haven't seen.
+abbrev pub ConnectionsAreServed : Type 0
+ConnectionsAreServed = (k : Settings) (limits : Limits) (log : List Entry) → Legal k log → AreOwn log → (c takes : ℕ) (heard : List Heard) (past : List Past)
+    (since heard_until given_until : List Entry) (talking : Option TalkingState)
+    → AreHeard c limits heard since → IsTalking c limits since heard_until talking → Knows log (2 * c) heard_until
+    → ArePast c past given_until takes → Rise past → Knows log (2 * c + 1) given_until
+    → AreServed k limits log c heard past

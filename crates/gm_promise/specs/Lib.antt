@@ -1,0 +1,4 @@
+pub mod Owners
+pub mod Promise
+pub mod Connections
+pub mod Accounts

@@ -1,0 +1,13 @@
+//! What a server that ended hands out of a slot's connections.
+
+use gm_delivery::Ledger;
+use gm_feeder::Limits;
+use gm_session::HearingLedger;
+
+/// What was read from a slot's connections, whose units were within these limits, and what was written to them. Only proofs know that.
+#[derive(Drop)]
+pub struct Account {
+    pub limits: Limits,
+    pub heard: HearingLedger,
+    pub sent: Ledger,
+}

@@ -1,0 +1,95 @@
+//! The promise, out to the threads: what the one history of a server's calls says. A server ends with such a history, with a tape or
+//! without; it is said for every number of connections, and however their threads interleaved. Each function here is a law: its body
+//! does nothing, and its contract is the law.
+
+ghost use Rattle.gm_promise.specs.Promise.{NoSlotSpeaksForAnother, SessionsAreInTheHistory, BytesAreInTheHistory};
+ghost use Rattle.gm_promise.specs.Promise.{InEachEntry, WhatIsSubmittedIsWorkedOn, ClientsAreTold};
+ghost use Rattle.gm_promise.specs.Promise.{JobsEndOnce, NoWorkerSleepsBesideItsWork, WaitingJobsAreWanted};
+ghost use Rattle.gm_promise.specs.Connections.{ConnectionsAreServed};
+ghost use Rattle.gm_laws.specs.Laws.{WorkersAndClocksEndJobs};
+ghost use Rattle.gm_laws.specs.Limits.{LimitsHold};
+ghost use Rattle.gm_laws.specs.Listeners.{AnswersStayHome, EachListenerIsTold};
+ghost use Rattle.gm_laws.specs.Submitted.{SubmissionsAreAnswered};
+ghost use Rattle.gm_laws.specs.Waiting.{FirstComeFirstServed};
+
+/// The units, faults and closings of each slot, in their order, are those that its desk handed in; and what waited for it, its pen
+/// drained. No other desk or pen has a part in it.
+pub fn no_slot_speaks_for_another()
+    ensures { NoSlotSpeaksForAnother }
+{}
+
+/// What a session handed in, the units of what it read up to a cut and perhaps the fault behind them, is in the history, in order.
+pub fn sessions_are_in_the_history()
+    ensures { SessionsAreInTheHistory }
+{}
+
+/// What a slot's pen was given since the slot was opened, followed by what waits still, is what the abstract server sends; once the slot
+/// is closed, a prefix of that.
+pub fn bytes_are_in_the_history()
+    ensures { BytesAreInTheHistory }
+{}
+
+/// A connection's whole life: what was handed in of it are the first units of what was read from it, and what was written to it is a prefix of
+/// what the abstract server sent to it, each NOOP behind the bytes that were drained with it.
+pub fn connections_are_served()
+    ensures { ConnectionsAreServed }
+{}
+
+/// A job ends once: when it has ended, it is in no other state at any later moment.
+pub fn a_job_ends_once()
+    ensures { JobsEndOnce }
+{}
+
+/// In the step that ends a job, each connection gets it exactly as often as it listened to the job just before.
+pub fn listeners_are_told()
+    ensures { InEachEntry EachListenerIsTold }
+{}
+
+/// Each submission of a slot that takes units gets one answer, and nobody else gets any: JOB_CREATED of a job that waits or runs, or an ERROR,
+/// and then nothing happened.
+pub fn submissions_are_answered()
+    ensures { InEachEntry SubmissionsAreAnswered }
+{}
+
+/// Each job is what one of the entries submitted, and the slot that is given it is told just this.
+pub fn what_is_submitted_is_worked_on()
+    ensures { WhatIsSubmittedIsWorkedOn }
+{}
+
+/// The job that a slot is given goes before each other of its function that waits: its priority is higher, or the same and it came to wait
+/// earlier. While a job waits, no other gets in before it.
+pub fn first_come_first_served()
+    ensures { InEachEntry FirstComeFirstServed }
+{}
+
+/// WORK_COMPLETE and WORK_FAIL of the slot where a job runs end it, unless the slot is shut; so does a tick that reaches its deadline.
+pub fn workers_and_clocks_end_jobs()
+    ensures { InEachEntry WorkersAndClocksEndJobs }
+{}
+
+/// What a slot asks is answered to it alone. Others get only what the worker of a job reports of it, and WORK_FAIL in a tick, if they listen to
+/// the job.
+pub fn answers_stay_home()
+    ensures { InEachEntry AnswersStayHome }
+{}
+
+/// No entry leaves a function with more jobs than before and than its limit, if it has one. Only `maxqueue` changes a limit.
+pub fn limits_hold()
+    ensures { InEachEntry LimitsHold }
+{}
+
+/// A client that submitted a job in the foreground and was told its handle: as long as its connection isn't closed, the job waits
+/// or runs, or a later step told the client of its end.
+pub fn clients_are_told()
+    ensures { ClientsAreTold }
+{}
+
+/// At no moment does a worker sleep that can do a job that waits.
+pub fn no_worker_sleeps_beside_its_work()
+    ensures { NoWorkerSleepsBesideItsWork }
+{}
+
+/// At each moment each job that waits is wanted: a background submission keeps it, or a slot listens to it.
+pub fn waiting_jobs_are_wanted()
+    ensures { WaitingJobsAreWanted }
+{}

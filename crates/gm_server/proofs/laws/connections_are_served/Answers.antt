@@ -1,5 +1,0 @@
-use Rattle.gm_server.proofs.Lives.{are_served}
-use Rattle.gm_server.proofs.laws.connections_are_served.Goals as goal
-
-pub returns : goal.returns
-returns c = are_served

@@ -1,5 +1,0 @@
-use Rattle.gm_server.proofs.Promised.{in_order}
-use Rattle.gm_server.proofs.laws.sessions_are_in_the_history.Goals as goal
-
-pub returns : goal.returns
-returns c = λ desk slot limits bytes rest fault seen after newer h. (h.items, h.begins, in_order desk slot limits bytes rest fault seen after newer h)

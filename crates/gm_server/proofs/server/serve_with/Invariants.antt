@@ -1,4 +1,0 @@
-use Rattle.gm_server.proofs.server.serve_with.Given as goal
-
-abbrev pub ghosts-serve_book : goal.ghosts-serve_book
-ghosts-serve_book g a = record { table = a.blank.table; history = a.blank.history; settings = a.blank.settings; taped = a.blank.taped }

@@ -1,0 +1,321 @@
+//! The control thread: it takes connections, and hands in ticks.
+
+ghost use Rattle.std.specs.Prelude.{◌≡◌, []};
+
+use crate::crews;
+use crate::error::ControlError;
+use crate::keepalive::set_peer_timeout;
+use crate::ready::{Ready, Report};
+use crate::slot::Slot;
+use crate::speaking::Trouble;
+use crate::stage::ServerStage;
+use crate::state::ServerState;
+use gm_delivery::{ReadHalf, WriteHalf, split};
+use gm_session::{Gate, LoggedSource};
+use gm_shared::BookName;
+use libc::{EBADF, EINVAL, EMFILE, ENOTSOCK};
+use std::alloc::{AllocError, Global};
+use std::io::ErrorKind;
+use std::net::{SocketAddr, TcpListener, TcpStream};
+use std::os::fd::OwnedFd;
+use std::sync::Wait;
+use std::thread::{Scope, Threads};
+use std::time::{Clock, Duration};
+use std::{io, thread};
+
+/// How long the control thread waits for a connection. A tick and the end may be late by this.
+const ACCEPT_TIMEOUT_MS: u64 = 50;
+
+/// The error of a system that is out of file descriptors (errno(3)).
+const ENFILE: i32 = 23;
+
+/// The error of a socket that doesn't listen in this way (accept(2)).
+const EOPNOTSUPP: i32 = 95;
+
+/// How long a write waits that may wait. The thread that writes looks then whether the connection is to end.
+const WRITE_TIMEOUT_MS: u64 = 250;
+
+/// Has `accept` return where no connection comes for a while.
+pub(crate) fn set_accept_timeout(listener: &TcpListener) -> io::Result<()> {
+    let same = listener.try_clone()?;
+    TcpStream::from(OwnedFd::from(same)).set_read_timeout(Some(Duration::from_millis(
+        ACCEPT_TIMEOUT_MS,
+    )))
+}
+
+/// Sets up an accepted socket, which has its listener's timeout at first.
+fn prepare(stream: &TcpStream, peer_timeout: u16) -> io::Result<()> {
+    stream.set_read_timeout(None)?;
+    stream.set_write_timeout(Some(Duration::from_millis(WRITE_TIMEOUT_MS)))?;
+    set_peer_timeout(stream, peer_timeout);
+    stream.set_nodelay(true)
+}
+
+/// Whether this error says that the listener itself failed. Other errors of `accept` come from one connection, or from
+/// others that are open, and pass.
+fn is_fatal(error: &io::Error) -> bool {
+    // Modelled in models/shutdown.pml.
+    match error.raw_os_error() {
+        Some(code) => { code == EINVAL || code == EBADF || code == ENOTSOCK || code == EOPNOTSUPP }
+        None => false,
+    }
+}
+
+/// Whether no connection came, or the one that did is gone.
+fn is_usual(error: &io::Error) -> bool {
+    matches!(
+        error.kind(),
+        ErrorKind::WouldBlock
+            | ErrorKind::TimedOut
+            | ErrorKind::Interrupted
+            | ErrorKind::ConnectionAborted
+    )
+}
+
+/// Waits until each connection has ended.
+fn wait_for_ends<K: BookName>(rt: &(impl Wait + Clock), state: &ServerState<K>) {
+    // Modelled in models/shutdown.pml.
+    for _ in rt.forever() {
+        if state.connections() == 0 {
+            return;
+        }
+        thread::sleep(rt, Duration::from_millis(ACCEPT_TIMEOUT_MS));
+    }
+}
+
+/// Why a connection is refused, with the system's error where there is one.
+struct Refusal {
+    trouble: Trouble,
+    error: i32,
+}
+
+impl Refusal {
+    fn new(trouble: Trouble) -> Refusal {
+        Refusal { trouble, error: 0 }
+    }
+}
+
+impl From<AllocError> for Refusal {
+    fn from(_e: AllocError) -> Refusal {
+        Refusal::new(Trouble::Memory)
+    }
+}
+
+/// The halves of a connection's socket, of which nothing was read or written yet.
+#[derive(Drop)]
+struct Halves {
+    reading: LoggedSource<ReadHalf>,
+    writing: WriteHalf,
+    ghost unread: { reading.2 ≡ [] },
+    ghost unwritten: { writing.socket.2 ≡ [] },
+}
+
+impl Halves {
+    fn new(alloc: Global, stream: TcpStream) -> Result<Halves, AllocError> {
+        let (reading, writing) = split(alloc, stream)?;
+        Ok(Halves {
+            reading: LoggedSource::new(alloc, reading)?,
+            writing,
+        })
+    }
+}
+
+/// What the control thread works with.
+#[derive(Drop)]
+pub(crate) struct Control<'s, K: BookName> {
+    state: &'s ServerState<K>,
+    /// After how many seconds a peer that vanished is found out.
+    peer_timeout: u16,
+    /// How many connections were opened.
+    opened: u64,
+    /// The second in which it was last told how the server is.
+    told: u64,
+}
+
+impl<'s, K: BookName + Send + Sync> Control<'s, K> {
+    pub(crate) fn new(state: &'s ServerState<K>, peer_timeout: u16) -> Control<'s, K> {
+        Control {
+            state,
+            peer_timeout,
+            opened: 0,
+            told: 0,
+        }
+    }
+
+    /// Gives a connection to its slot, and has it served.
+    fn begin<R: Wait + Clock>(
+        &self,
+        rt: &R,
+        slot: &Slot<K>,
+        opening: u64,
+        halves: Halves,
+        peer: SocketAddr,
+    ) -> Result<(), Refusal> {
+        // Modelled in models/endings.pml, polling.pml and shutdown.pml.
+        let state = self.state;
+        let Halves { reading, writing } = halves;
+        let fd = reading.source().descriptor();
+        *slot.peer.lock(rt) = Some(peer);
+        slot.lane.open(rt, state, opening, writing);
+        // Under the lock, so that the connection isn't over before its socket is known.
+        let mut talk = slot.talk.lock(rt);
+        talk.begin(state.alloc, reading);
+        if let Err(error) = state.crews.begin(slot.lane.number(), fd) {
+            state.end(rt, slot, &mut talk);
+            return Err(Refusal {
+                trouble: Trouble::Events,
+                error: error.raw_os_error().unwrap_or(0),
+            });
+        }
+        Ok(())
+    }
+
+    /// Opens a connection, and has it served. One that is refused is closed without a byte.
+    fn open<E, R: Threads + Wait + Clock + Sync, G: Gate>(
+        &mut self,
+        scope: &Scope<'s, E>,
+        rt: &'s R,
+        gate: &'s G,
+        stream: TcpStream,
+        peer: SocketAddr,
+    ) -> Result<(), Refusal> {
+        // Modelled in models/endings.pml and shutdown.pml.
+        let state = self.state;
+        let ip = peer.ip();
+        let addr = format!(in state.alloc; "{ip}")?;
+        let halves = Halves::new(state.alloc, stream)?;
+        let mut desk = state.control.lock(rt);
+        let opened = state.open(rt, &mut desk, addr.as_bytes());
+        drop(desk);
+        let opened = opened.and_then(|(number, opening)| Some((state.slot(number)?, opening)));
+        let Some((slot, opening)) = opened else {
+            return Err(Refusal::new(state.want_of_slot()));
+        };
+        state.begin_connection();
+        if !crews::prepare(scope, rt, state, gate, slot) {
+            state.close(rt, &mut slot.talk.lock(rt));
+            return Err(Refusal::new(Trouble::Threads));
+        }
+        self.begin(rt, slot, opening, halves, peer)?;
+        self.opened = self.opened.saturating_add(1);
+        Ok(())
+    }
+
+    /// Takes a connection that came, unless it is gone, or refuses it, and has that said. After a graceful stop each is refused.
+    fn admit<E, R: Threads + Wait + Clock + Sync, G: Gate>(
+        &mut self,
+        scope: &Scope<'s, E>,
+        rt: &'s R,
+        gate: &'s G,
+        stream: TcpStream,
+        peer: SocketAddr,
+    ) {
+        // Modelled in models/ticks.pml.
+        let Ok(()) = prepare(&stream, self.peer_timeout) else {
+            return;
+        };
+        let speaker = &self.state.speaker;
+        match self.open(scope, rt, gate, stream, peer) {
+            Ok(()) => speaker.clear(rt),
+            Err(Refusal { trouble, error }) => {
+                if self.state.is_running() {
+                    speaker.remark(rt, trouble, error);
+                }
+            }
+        }
+    }
+
+    /// Waits if no connection can be taken at present, and has that said: other connections have to be closed first.
+    fn hold_on(&self, rt: &(impl Wait + Clock), error: &io::Error) {
+        let code = error.raw_os_error().unwrap_or(0);
+        let trouble = if code == EMFILE || code == ENFILE {
+            Trouble::Descriptors
+        } else {
+            Trouble::Accept
+        };
+        self.state.speaker.remark(rt, trouble, code);
+        thread::sleep(rt, Duration::from_millis(ACCEPT_TIMEOUT_MS));
+    }
+
+    /// Tells how the server is, once in a second.
+    fn tell(&mut self, rt: &impl Wait, ready: &mut impl Ready) {
+        let second = self.state.last_second();
+        if self.told != second {
+            self.told = second;
+            let counts = self.state.speaker.counts(rt);
+            ready.go_on(Report {
+                connections: self.state.connections(),
+                slots: self.state.slot_count,
+                refused: counts.refused,
+                cut: counts.cut,
+            });
+        }
+    }
+
+    /// Takes connections and hands in ticks until the server can end.
+    fn take_all<E, R: Threads + Wait + Clock + Sync, G: Gate>(
+        &mut self,
+        scope: &Scope<'s, E>,
+        rt: &'s R,
+        gate: &'s G,
+        listener: &TcpListener,
+        ready: &mut impl Ready,
+    ) -> Result<(), ControlError> {
+        // Modelled in models/shutdown.pml and ticks.pml.
+        for _ in rt.forever() {
+            self.state.update_time(rt);
+            self.tell(rt, ready);
+            match listener.accept() {
+                Ok((stream, peer)) => self.admit(scope, rt, gate, stream, peer),
+                Err(error) if is_usual(&error) => {}
+                Err(error) if is_fatal(&error) => return Err(ControlError::Listen),
+                Err(error) => self.hold_on(rt, &error),
+            }
+            if self.state.can_end() {
+                break;
+            }
+        }
+        if self.state.stage.has_reached(ServerStage::Failed as u8) {
+            return Err(ControlError::Memory);
+        }
+        Ok(())
+    }
+
+    /// Starts the threads that are there from the start, says that the server is ready, and takes connections until it can end.
+    fn serve<E, R: Threads + Wait + Clock + Sync, G: Gate>(
+        &mut self,
+        scope: &Scope<'s, E>,
+        rt: &'s R,
+        gate: &'s G,
+        listener: &TcpListener,
+        ready: &mut impl Ready,
+    ) -> Result<(), ControlError> {
+        if !crews::start(scope, rt, self.state, gate) {
+            return Err(ControlError::Threads);
+        }
+        if !ready.announce() {
+            return Ok(());
+        }
+        self.take_all(scope, rt, gate, listener, ready)
+    }
+
+    /// Serves until the server can end, and has each connection end that is left. It answers how many connections were opened.
+    pub(crate) fn run<E, R: Threads + Wait + Clock + Sync, G: Gate>(
+        mut self,
+        scope: &Scope<'s, E>,
+        rt: &'s R,
+        gate: &'s G,
+        listener: &TcpListener,
+        ready: &mut impl Ready,
+    ) -> Result<u64, ControlError> {
+        // Modelled in models/shutdown.pml.
+        let outcome = self.serve(scope, rt, gate, listener, ready);
+        if outcome.is_err() {
+            self.state.stop();
+            wait_for_ends(rt, self.state);
+        }
+        crews::dismiss(rt, self.state);
+        outcome?;
+        Ok(self.opened)
+    }
+}

@@ -1,0 +1,292 @@
+//! The threads that serve connections: how they wait, and how they are woken. What they do then is one for both ways (`serving`).
+
+use crate::serving::Then;
+use crate::slot::Slot;
+use crate::stage::ServerStage;
+use crate::state::ServerState;
+use crossbeam_utils::sync::{Parker, Unparker};
+use gm_delivery::{Finish, ReadHalf};
+use gm_feeder::Patience;
+use gm_poll::{Hub, Poller};
+use gm_session::{Gate, Talk};
+use gm_shared::BookName;
+use std::alloc::{AllocError, Global};
+use std::net::Net;
+use std::os::fd::RawFd;
+use std::sync::atomic::{AtomicU8, Ordering};
+use std::sync::{Condvar, Mutex, Wait};
+use std::thread::{Scope, Threads};
+use std::time::{Clock, Duration};
+use std::{io, mem};
+
+/// After how long a finisher comes again to a connection that isn't done with.
+const AGAIN_MS: u64 = 250;
+
+/// What the two threads of a slot wait at.
+#[derive(Drop)]
+pub struct Pair {
+    /// The finisher's.
+    parker: Mutex<Parker>,
+    unparker: Unparker,
+    /// A connection came to the slot, or none comes any more.
+    arrived: Condvar,
+    /// How many of the two were made: the finisher is the first.
+    made: AtomicU8,
+}
+
+impl Pair {
+    fn new(alloc: Global) -> Result<Pair, AllocError> {
+        let parker = Parker::new(alloc)?;
+        let unparker = parker.unparker().clone()?;
+        Ok(Pair {
+            parker: Mutex::new(parker),
+            unparker,
+            arrived: Condvar::new(),
+            made: AtomicU8::new(0),
+        })
+    }
+}
+
+/// What the threads wait at that serve connections.
+#[derive(Drop)]
+pub enum Crews {
+    /// Two for each slot, made when its first connection comes: its reader, and its finisher.
+    Pairs(Vec<Pair>),
+    /// A few for all slots, each for its own: they read and finish.
+    Few {
+        hub: Hub,
+        /// Of those that aren't started yet.
+        pollers: Mutex<Vec<Poller>>,
+    },
+}
+
+impl Crews {
+    /// Two threads for each of this many slots.
+    pub fn pairs(alloc: Global, slots: u32) -> Result<Crews, AllocError> {
+        let mut pairs = Vec::with_capacity(alloc, slots as usize)?;
+        for _ in 0..slots {
+            pairs.push(Pair::new(alloc)?)?;
+        }
+        Ok(Crews::Pairs(pairs))
+    }
+
+    /// This many threads for all of this many slots. An error says which call of the system's failed, or that there was no memory.
+    pub fn few(rt: &impl Net, alloc: Global, count: u32, slots: u32) -> io::Result<Crews> {
+        let (hub, pollers) = Hub::new(rt, alloc, count, slots)?;
+        Ok(Crews::Few {
+            hub,
+            pollers: Mutex::new(pollers),
+        })
+    }
+
+    /// Has the slot's finisher look at its lane.
+    pub(crate) fn wake(&self, slot: u32) {
+        // Modelled in models/lane.h.
+        match self {
+            Crews::Pairs(pairs) => {
+                if let Some(pair) = pairs.get(slot as usize) {
+                    pair.unparker.unpark();
+                }
+            }
+            Crews::Few { hub, .. } => hub.wake(slot),
+        }
+    }
+
+    /// Has all finishers look at their lanes.
+    pub(crate) fn wake_all(&self) {
+        // Modelled in models/serving.h.
+        match self {
+            Crews::Pairs(pairs) => {
+                for pair in pairs {
+                    pair.unparker.unpark();
+                }
+            }
+            Crews::Few { hub, .. } => hub.wake_all(),
+        }
+    }
+
+    /// Has the slot's connection read, which came to it and has this descriptor.
+    pub(crate) fn begin(&self, slot: u32, fd: RawFd) -> io::Result<()> {
+        // Modelled in models/endings.pml.
+        match self {
+            Crews::Pairs(pairs) => {
+                if let Some(pair) = pairs.get(slot as usize) {
+                    pair.arrived.notify_one();
+                }
+                Ok(())
+            }
+            Crews::Few { hub, .. } => hub.register(slot, fd),
+        }
+    }
+}
+
+/// Starts the threads that are there from the start, and says whether it could.
+pub(crate) fn start<'s, E, K: BookName + Send + Sync, G: Gate, R: Threads + Wait + Clock + Sync>(
+    scope: &Scope<'s, E>,
+    rt: &'s R,
+    state: &'s ServerState<K>,
+    gate: &'s G,
+) -> bool {
+    let Crews::Few { hub, pollers } = &state.crews else {
+        return true;
+    };
+    let pollers = mem::replace(&mut *pollers.lock(rt), Vec::new(state.alloc));
+    for poller in pollers {
+        if scope
+            .spawn(move || run_few(rt, state, gate, hub, poller))
+            .is_err()
+        {
+            return false;
+        }
+    }
+    true
+}
+
+/// Starts the threads of a slot that it has not, and says whether it could.
+pub(crate) fn prepare<'s, E, K: BookName + Send + Sync, G: Gate, R: Threads + Wait + Clock + Sync>(
+    scope: &Scope<'s, E>,
+    rt: &'s R,
+    state: &'s ServerState<K>,
+    gate: &'s G,
+    slot: &'s Slot<K>,
+) -> bool {
+    // Modelled in models/endings.pml and shutdown.pml.
+    let Crews::Pairs(pairs) = &state.crews else {
+        return true;
+    };
+    let Some(pair) = pairs.get(slot.lane.number() as usize) else {
+        return false;
+    };
+    if pair.made.load(Ordering::SeqCst) < 1 {
+        if scope
+            .spawn(move || run_finisher(rt, state, slot, pair))
+            .is_err()
+        {
+            return false;
+        }
+        pair.made.store(1, Ordering::SeqCst);
+    }
+    if pair.made.load(Ordering::SeqCst) < 2 {
+        if scope
+            .spawn(move || run_reader(rt, state, gate, slot, pair))
+            .is_err()
+        {
+            return false;
+        }
+        pair.made.store(2, Ordering::SeqCst);
+    }
+    true
+}
+
+/// Has all threads leave, which have no connection any more.
+pub(crate) fn dismiss<K: BookName>(rt: &impl Wait, state: &ServerState<K>) {
+    // Modelled in models/serving.h.
+    state.stage.rise(ServerStage::Ended as u8);
+    state.crews.wake_all();
+    if let Crews::Pairs(pairs) = &state.crews {
+        for (slot, pair) in state.slots.iter().zip(pairs.iter()) {
+            // Under the lock, so that its reader waits already or sees the stage.
+            let talk = slot.talk.lock(rt);
+            pair.arrived.notify_one();
+            drop(talk);
+        }
+    }
+}
+
+/// Reads connection after connection of a slot, until none comes any more.
+fn run_reader<K: BookName, G: Gate, R: Wait + Clock>(
+    rt: &R,
+    state: &ServerState<K>,
+    gate: &G,
+    slot: &Slot<K>,
+    pair: &Pair,
+) {
+    // Modelled in models/serving.h.
+    for _ in rt.forever() {
+        let mut talk = pair.arrived.wait_while(rt, slot.talk.lock(rt), |talk| {
+            !talk.is_reading() && !state.has_ended()
+        });
+        if !talk.is_reading() {
+            break;
+        }
+        read_on(rt, state, gate, slot, &mut talk);
+    }
+}
+
+/// Reads a connection to its end.
+fn read_on<K: BookName, G: Gate, R: Wait + Clock>(
+    rt: &R,
+    state: &ServerState<K>,
+    gate: &G,
+    slot: &Slot<K>,
+    talk: &mut Talk<K, ReadHalf>,
+) {
+    // Modelled in models/polling.pml and serving.h.
+    for _ in rt.forever() {
+        if state.turn(rt, gate, slot, talk, Patience::Waits) == Then::Ends {
+            break;
+        }
+    }
+}
+
+/// Does what others leave of a slot's lane, until no connection comes any more.
+fn run_finisher<K: BookName, R: Wait + Clock>(
+    rt: &R,
+    state: &ServerState<K>,
+    slot: &Slot<K>,
+    pair: &Pair,
+) {
+    // Modelled in models/deliver.pml and serving.h.
+    let parker = pair.parker.lock(rt);
+    let mut finish = Finish::Idle;
+    for _ in rt.forever() {
+        match finish {
+            Finish::Pending => parker.park_timeout(rt, Duration::from_millis(AGAIN_MS)),
+            Finish::Idle | Finish::Gone => parker.park(rt),
+        }
+        if state.has_ended() {
+            break;
+        }
+        finish = state.finish(rt, slot, Patience::Waits);
+    }
+}
+
+/// Serves each slot once that is called, up to one whose turn was long.
+fn serve_round<K: BookName, G: Gate, R: Wait + Clock>(
+    rt: &R,
+    state: &ServerState<K>,
+    gate: &G,
+    poller: &mut Poller,
+) {
+    // Modelled in models/polling.pml.
+    for _ in 0..poller.ready() {
+        let Some(call) = poller.next() else {
+            break;
+        };
+        let next = state.visit(rt, gate, call);
+        poller.put_back(call.slot, next);
+        if next.is_now {
+            // What came during a long turn is heard of before the next, and so waits once for the turns of the others.
+            break;
+        }
+    }
+}
+
+/// Serves the slots of a thread that has many, until no connection comes any more.
+fn run_few<K: BookName, G: Gate, R: Wait + Clock>(
+    rt: &R,
+    state: &ServerState<K>,
+    gate: &G,
+    hub: &Hub,
+    poller: Poller,
+) {
+    // Modelled in models/polling.pml and serving.h.
+    let mut poller = poller;
+    for _ in rt.forever() {
+        poller.wait(rt, hub);
+        if state.has_ended() {
+            break;
+        }
+        serve_round(rt, state, gate, &mut poller);
+    }
+}

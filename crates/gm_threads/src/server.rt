@@ -1,0 +1,185 @@
+//! Serves.
+
+ghost use Rattle.std.specs.Prelude.{◌≡◌, IfOk, IsOk};
+ghost use Rattle.gm_shared.specs.Tapes.{is_on};
+ghost use Rattle.gm_threads.specs.Served.{SettledSo, EndsSo};
+
+use crate::accepting::{Control, set_accept_timeout};
+use crate::crews::Crews;
+use crate::ending::{BookEnd, settle_state};
+use crate::error::{ControlError, ServeError};
+use crate::ready::{Ready, Report};
+use crate::settings::{Served, Settings};
+use crate::speaking::Speaker;
+use crate::state::{ServerState, new_slots};
+use gm_feeder::Limits;
+use gm_session::{Gate, OwnDesk};
+use gm_shared::{Blank, BookName, Shared, TapeMode};
+use std::alloc::Global;
+use std::hash::RandomState;
+use std::marker::Brand;
+use std::net::TcpListener;
+use std::sync::{Arc, Wait};
+use std::thread;
+use std::thread::Threads;
+use std::time::Clock;
+
+/// Runs the control thread, and answers how many connections were opened. All other threads have ended then.
+fn run_control<'x, K: BookName + Send + Sync, R: Threads + Wait + Clock + Sync, G: Gate, T: Ready>(
+    rt: &'x R,
+    state: &'x ServerState<K>,
+    listener: &'x TcpListener,
+    peer_timeout: u16,
+    gate: &'x G,
+    ready: &'x mut T,
+) -> Result<u64, ControlError> {
+    let control = Control::new(state, peer_timeout);
+    thread::scope(
+        thread::scope_env(),
+        rt,
+        |scope| control.run(scope, rt, gate, listener, ready),
+    )
+}
+
+/// Whether a tape is kept.
+fn mode(tape: bool) -> TapeMode
+    ensures { is_on result ≡ tape }
+{
+    if tape { TapeMode::On } else { TapeMode::Off }
+}
+
+/// How a server serves: how its book is opened, what serves its connections, and when a peer is given up.
+#[derive(Drop)]
+pub struct Service {
+    /// How large a unit may be.
+    pub limits: Limits,
+    /// After about how many seconds, up to 32,767, a peer is disconnected that vanished or leaves what was sent to it unread; at 0
+    /// the system decides.
+    pub peer_timeout: u16,
+    /// What the threads wait at that serve connections.
+    pub crews: Crews,
+    /// What is said while the server runs.
+    pub speaker: Arc<Speaker, Global>,
+}
+
+/// Serves the connections that a listener takes, with a book that has a name, and settles the book in the end: `serve`,
+/// which hands back the history, the tape, the share of each desk and pen, and the account of each connection.
+pub(crate) fn serve_book<
+    K: BookName + Send + Sync,
+    R: Threads + Wait + Clock + Sync,
+    G: Gate,
+    T: Ready,
+>(
+    rt: &R,
+    alloc: Global,
+    blank: Blank,
+    listener: &TcpListener,
+    service: Service,
+    gate: &G,
+    ready: &mut T,
+) -> Result<Served, ControlError>
+    requires table { blank.table ≡ K.table }
+    requires history { blank.history ≡ K.history }
+    requires settings { blank.settings ≡ K.settings }
+    requires taped { blank.taped ≡ K.taped }
+    ensures { IfOk result (λ served. SettledSo K.settings K.taped K.history served.book served.accounts.items) }
+{
+    let Service {
+        limits,
+        peer_timeout,
+        crews,
+        speaker,
+    } = service;
+    let slot_count = blank.slots();
+    let (shared, desks, pens, control) = Shared::<K>::open(alloc, blank)?;
+    let slots = new_slots(alloc, desks, pens, limits)?;
+    let control = OwnDesk::new(control);
+    let state = ServerState::new(
+        rt, alloc, shared, slots, control, slot_count, crews, speaker,
+    );
+    let connections = run_control(rt, &state, listener, peer_timeout, gate, ready)?;
+    let BookEnd { book, accounts } = settle_state(state)?;
+    Ok(Served {
+        connections,
+        book,
+        accounts,
+    })
+}
+
+/// Nobody is told.
+#[derive(Clone, Copy)]
+struct Untold;
+
+impl Ready for Untold {
+    fn announce(&mut self) -> bool {
+        true
+    }
+
+    fn go_on(&mut self, _report: Report) {}
+}
+
+/// Serves the connections that a listener takes, until one of them asks for a shutdown (the Gearman PROTOCOL document,
+/// "Administrative Protocol") and all are closed. Names and ids come from strangers, so the book's tables hash with this
+/// seed. Each unit passes the gate. Where the settings ask for a tape, every accepted call is kept on it, and in the end
+/// it is compared with what each connection's desk and pen were told.
+///
+/// `Memory` comes if there is no memory for the book or for its end, and with a tape if there is none to enter the end
+/// of a connection, which stops the server; `Differs` where the tape differs from what was told; `Listen`
+/// where the listener fails. With a tape it answers `Ok` exactly where the two agree.
+pub fn serve<R: Threads + Wait + Clock + Eprint + Copy + Send + Sync + 'static, G: Gate>(
+    rt: &R,
+    alloc: Global,
+    seed: RandomState,
+    listener: TcpListener,
+    settings: Settings,
+    gate: &G,
+) -> Result<Served, ServeError>
+    ensures ends { IfOk result (EndsSo settings.config settings.tape) }
+    ensures settled { IfOk result (λ served. IsOk served.book) }
+{
+    let slots = settings.config.slots();
+    let service = Service {
+        limits: settings.limits,
+        peer_timeout: 0,
+        crews: Crews::pairs(alloc, slots)?,
+        speaker: Speaker::start(rt, alloc, slots)?,
+    };
+    let served = serve_with(
+        rt,
+        alloc,
+        seed,
+        listener,
+        settings,
+        service,
+        gate,
+        &mut Untold,
+    )?;
+    match served.summary() {
+        Ok(_) => Ok(served),
+        Err(error) => {
+            drop(served);
+            Err(error)
+        }
+    }
+}
+
+/// The same (`serve`), with this service, which is told how it is.
+pub fn serve_with<R: Threads + Wait + Clock + Sync, G: Gate, T: Ready>(
+    rt: &R,
+    alloc: Global,
+    seed: RandomState,
+    listener: TcpListener,
+    settings: Settings,
+    service: Service,
+    gate: &G,
+    ready: &mut T,
+) -> Result<Served, ControlError>
+    ensures { IfOk result (EndsSo settings.config settings.tape) }
+{
+    let Settings { config, tape, .. } = settings;
+    let Ok(()) = set_accept_timeout(&listener) else {
+        return Err(ControlError::Listen);
+    };
+    let blank = Blank::new(alloc, seed, config, mode(tape))?;
+    serve_book::<Brand, R, G, T>(rt, alloc, blank, &listener, service, gate, ready)
+}

@@ -1,0 +1,383 @@
+//! What all threads of a server share.
+
+ghost use Rattle.std.specs.Prelude.{◌≡◌, ◌≤◌, ℕ, All, [], true, false, None, IfSome, IfNone, IfOk, length, map};
+ghost use Rattle.gm_conns.specs.Slots.{has};
+ghost use Rattle.gm_shared.specs.Shared.{numbers_below};
+ghost use Rattle.gm_session.specs.Owners.{Opens};
+
+use crate::crews::Crews;
+use crate::slot::Slot;
+use crate::speaking::{Speaker, Trouble};
+use crate::stage::ServerStage;
+use gm_delivery::{Lane, Server, Stage, has_passed};
+use gm_feeder::Limits;
+use gm_lane_word::{Due, Lanes};
+use gm_notes::{Event, Mode};
+use gm_session::{Audience, Effects, Notify, Oddity, OwnDesk, Talk};
+use gm_shared::{BookName, Desk, Pen, Shared};
+use std::alloc::{AllocError, Global};
+use std::sync::atomic::{AtomicU64, Ordering};
+use std::sync::{Arc, Mutex, Wait};
+use std::time::{Clock, Duration, Instant};
+
+/// How long a thread goes on writing to others. The slots' finishers do the rest.
+const DELIVERING_TIME_MS: u64 = 10;
+
+/// How long a turn of a session may be.
+const TURN_TIME_US: u64 = 250;
+
+/// What all threads of a server share.
+#[derive(Drop)]
+pub(crate) struct ServerState<K: BookName> {
+    pub(crate) alloc: Global,
+    pub(crate) shared: Shared<K>,
+    // What the threads wait at that serve connections.
+    pub(crate) crews: Crews,
+    pub(crate) slots: Vec<Slot<K>>,
+    // How many slots the book has.
+    pub(crate) slot_count: u32,
+    // Where connections are opened, and ticks handed in.
+    pub(crate) control: Mutex<OwnDesk<K>>,
+    // What is said while the server runs.
+    pub(crate) speaker: Arc<Speaker, Global>,
+    // When the server began, if the clock could be read.
+    begun: Option<Instant>,
+    // The last second since then that was handed in.
+    second: AtomicU64,
+    // Long pieces pass it one after another.
+    long_piece_lock: Mutex<()>,
+    // So do batches, of long pieces and of others.
+    batch_lock: Mutex<()>,
+    // How many connections are open.
+    connections: AtomicU64,
+    pub(crate) stage: Stage,
+    ghost sized: { slot_count ≡ K.settings.slots },
+    ghost numbered: { map (λ slot. slot.lane.slot) slots.items ≡ numbers_below slot_count },
+}
+
+/// How far a thread is that delivers to others.
+#[derive(Drop)]
+struct Round {
+    has_begun: bool,
+    /// When the clock was first read: a round of one slot doesn't read it.
+    begun: Option<Instant>,
+}
+
+impl Round {
+    fn new() -> Round
+        ensures begun { result.has_begun ≡ false }
+        ensures clock { result.begun ≡ None }
+    {
+        Round {
+            has_begun: false,
+            begun: None,
+        }
+    }
+
+    /// Whether the rest is for the finishers. It is asked before each slot.
+    fn is_over(&mut self, rt: &impl Clock) -> bool
+        ensures begun { self.new.has_begun ≡ true }
+        ensures first { self.old.has_begun ≡ false → result ≡ false }
+    {
+        // Modelled in models/jobs.pml.
+        let is_first = !self.has_begun;
+        self.has_begun = true;
+        let time = Duration::from_millis(DELIVERING_TIME_MS);
+        !is_first && has_passed(rt, &mut self.begun, time)
+    }
+}
+
+/// What each slot has of its own, in their order.
+pub(crate) fn new_slots<K: BookName>(
+    alloc: Global,
+    desks: Vec<Desk<K>>,
+    pens: Vec<Pen<K>>,
+    limits: Limits,
+) -> Result<Vec<Slot<K>>, AllocError>
+    requires nothing_seen { All (λ desk. desk.witness.seen ≡ []) desks.items }
+    requires nothing_given { All (λ pen. (pen.witness.seen ≡ []) × (pen.seat.takes ≡ 0)) pens.items }
+    requires paired { length desks.items ≡ length pens.items }
+    ensures { IfOk result (λ slots. map (λ slot. slot.lane.slot) slots.items ≡ map (λ pen. pen.slot) pens.items) }
+{
+    let mut slots = Vec::with_capacity(alloc, pens.len())?;
+    let mut desks_left = desks.into_iter();
+    for pen in pens {
+        let Some(desk) = desks_left.next() else {
+            unreachable!()
+        };
+        slots.push(Slot {
+            talk: Mutex::new(Talk::new(alloc, desk, limits)?),
+            lane: Lane::new(alloc, pen)?,
+            peer: Mutex::new(None),
+        })?;
+    }
+    Ok(slots)
+}
+
+impl<K: BookName> ServerState<K> {
+    /// What the threads of a new server share.
+    pub(crate) fn new(
+        rt: &impl Clock,
+        alloc: Global,
+        shared: Shared<K>,
+        slots: Vec<Slot<K>>,
+        control: OwnDesk<K>,
+        slot_count: u32,
+        crews: Crews,
+        speaker: Arc<Speaker, Global>,
+    ) -> ServerState<K>
+        requires sized { slot_count ≡ K.settings.slots }
+        requires numbered { map (λ slot. slot.lane.slot) slots.items ≡ numbers_below slot_count }
+    {
+        ServerState {
+            alloc,
+            shared,
+            crews,
+            slots,
+            slot_count,
+            control: Mutex::new(control),
+            speaker,
+            begun: Instant::now(rt).ok(),
+            second: AtomicU64::new(0),
+            long_piece_lock: Mutex::new(()),
+            batch_lock: Mutex::new(()),
+            connections: AtomicU64::new(0),
+            stage: Stage::new(),
+        }
+    }
+
+    pub(crate) fn slot(&self, number: u32) -> Option<&Slot<K>>
+        ensures some { IfSome result (λ slot. slot.now.lane.slot ≡ number) }
+        ensures none { IfNone result (length self.now.slots.items ≤ number) }
+    {
+        self.slots.get(number as usize)
+    }
+
+    /// Whether the server takes no new connections, and has none; or has failed.
+    pub(crate) fn can_end(&self) -> bool {
+        // Modelled in models/shutdown.pml.
+        self.stage.has_reached(ServerStage::Failed as u8)
+            || !self.is_running() && self.connections() == 0
+    }
+
+    /// Whether the server takes connections.
+    pub(crate) fn is_running(&self) -> bool {
+        !self.stage.has_reached(ServerStage::Graceful as u8)
+    }
+
+    /// Why a connection was refused for which there was no slot.
+    pub(crate) fn want_of_slot(&self) -> Trouble {
+        if self.connections() < self.slot_count as u64 {
+            Trouble::Memory
+        } else {
+            Trouble::Slots
+        }
+    }
+
+    /// The last second that was handed in.
+    pub(crate) fn last_second(&self) -> u64 {
+        self.second.load(Ordering::SeqCst)
+    }
+
+    /// Whether there are no connections any more, and none comes.
+    pub(crate) fn has_ended(&self) -> bool {
+        // Modelled in models/shutdown.pml.
+        self.stage.has_reached(ServerStage::Ended as u8)
+    }
+
+    /// How many connections are open, or about to start.
+    pub(crate) fn connections(&self) -> u64 {
+        // Modelled in models/shutdown.pml.
+        self.connections.load(Ordering::SeqCst)
+    }
+
+    /// Counts a connection that is about to start.
+    pub(crate) fn begin_connection(&self) {
+        // Modelled in models/shutdown.pml.
+        self.connections.fetch_add(1, Ordering::SeqCst);
+    }
+
+    /// Counts a connection that is gone.
+    pub(crate) fn end_connection(&self) {
+        // Modelled in models/serving.h.
+        self.connections.fetch_sub(1, Ordering::SeqCst);
+    }
+
+    /// Has each connection end.
+    pub(crate) fn stop(&self) {
+        // Modelled in models/shutdown.pml.
+        self.stage.rise(ServerStage::Stopped as u8);
+        self.crews.wake_all();
+    }
+
+    /// Follows the book's mode.
+    fn follow(&self, mode: Mode) {
+        // Modelled in models/serving.h.
+        match mode {
+            Mode::Running => {}
+            Mode::Graceful => {
+                self.stage.rise(ServerStage::Graceful as u8);
+            }
+            Mode::Stopped => {
+                if self.stage.rise(ServerStage::Stopped as u8) {
+                    self.crews.wake_all();
+                }
+            }
+        }
+    }
+
+    /// Touches the lane to whose slot something is due, and delivers where nobody else does; or has its finisher do so, where the round
+    /// is over.
+    fn touch<R: Wait + Clock>(&self, rt: &R, due: Due, round: &mut Round) {
+        // Modelled in models/deliver.pml.
+        let Some(slot) = self.slot(due.slot()) else {
+            due.without_lane(self);
+            return;
+        };
+        if round.is_over(rt) {
+            slot.lane.touch_for_finisher(self, due);
+        } else {
+            slot.lane.touch(rt, self, due);
+        }
+    }
+
+    /// Touches the lane of each touched slot, and delivers where nobody else does, until the time is over; then it has the
+    /// finishers do so. One's own connection is answered first: there may be a thousand others.
+    fn deliver<R: Wait + Clock>(&self, rt: &R, effects: &mut Effects)
+        ensures own { effects.new.own ≡ effects.old.own }
+        ensures mode { effects.new.mode ≡ effects.old.mode }
+        ensures nothing { (slot : ℕ) → has effects.new.touched slot ≡ false }
+    {
+        // Modelled in models/jobs.pml and serving.h.
+        let mut round = Round::new();
+        if let Some(due) = effects.take_own() {
+            self.touch(rt, due, &mut round);
+        }
+        let mut from = 0;
+        while let Some(due) = effects.take_next(from) {
+            from = due.slot() + 1;
+            self.touch(rt, due, &mut round);
+        }
+    }
+
+    /// Notifies others of what came of an event.
+    pub(crate) fn notify_all<R: Wait + Clock>(&self, rt: &R, mut effects: Effects) {
+        // Modelled in models/jobs.pml and ticks.pml.
+        self.notify(rt, &mut effects);
+        effects.discharge();
+    }
+
+    /// Opens a connection from this address, and answers its slot, and how often that was opened with it; none where it is refused.
+    pub(crate) fn open<R: Wait + Clock>(
+        &self,
+        rt: &R,
+        desk: &mut OwnDesk<K>,
+        addr: &[u8],
+    ) -> Option<(u32, u64)>
+        ensures opens { Opens K.settings K.taped desk.old.desk.number addr.now result desk.old.desk.witness.seen desk.new.desk.witness.seen }
+        ensures number { desk.new.desk.number ≡ desk.old.desk.number }
+    {
+        // Modelled in models/shutdown.pml and ticks.pml.
+        let mut effects = Effects::new(None);
+        let answer = desk.apply(rt, &self.shared, Event::Open { addr }, &mut effects);
+        self.notify_all(rt, effects);
+        let receipt = answer.ok()?;
+        Some((receipt.done.opened?, receipt.opening))
+    }
+
+    /// How many seconds the server has run, if the clock can be read.
+    fn seconds(&self, rt: &impl Clock) -> Option<u64> {
+        // Modelled in models/ticks.pml.
+        let elapsed = self.begun.as_ref()?.elapsed(rt).ok()?;
+        Some(elapsed.as_secs())
+    }
+
+    /// Hands in the present second, if it is later than the last that was. Where the clock can't be read, there is no tick.
+    pub(crate) fn update_time<R: Wait + Clock>(&self, rt: &R) {
+        // Modelled in models/jobs.pml and ticks.pml.
+        if let Some(now) = self.seconds(rt) {
+            if self.last_second() < now {
+                self.tick(rt, now);
+            }
+        }
+    }
+
+    /// Hands in this second, unless another thread was first. If there is no memory for that, the book gets the next
+    /// second.
+    fn tick<R: Wait + Clock>(&self, rt: &R, now: u64) {
+        // Modelled in models/jobs.pml and ticks.pml.
+        let mut effects = Effects::new(None);
+        let mut desk = self.control.lock(rt);
+        if self.last_second() < now {
+            let _ = desk.apply(rt, &self.shared, Event::Tick { now }, &mut effects);
+            // Only now: a thread that reads it hands in a grab without a tick.
+            self.second.store(now, Ordering::SeqCst);
+        }
+        drop(desk);
+        self.notify_all(rt, effects);
+    }
+}
+
+impl<K: BookName> Lanes for ServerState<K> {
+    ghost use Rattle.std.specs.Prelude.{length};
+
+    ghost count = { λ s. length s.slots.items };
+}
+
+impl<K: BookName> Server<K> for ServerState<K> {
+    fn shared(&self) -> &Shared<K> {
+        &self.shared
+    }
+
+    fn wake_finisher(&self, slot: u32) {
+        self.crews.wake(slot);
+    }
+
+    fn is_stopping(&self) -> bool {
+        // Modelled in models/shutdown.pml.
+        self.stage.has_reached(ServerStage::Stopped as u8)
+    }
+
+    fn count_timed_out(&self, rt: &impl Wait) {
+        self.speaker.count_timed_out(rt);
+    }
+}
+
+impl<K: BookName> Audience for ServerState<K> {}
+
+impl<K: BookName, R: Wait + Clock> Notify<R> for ServerState<K> {
+    fn long_piece_lock(&self) -> &Mutex<()> {
+        &self.long_piece_lock
+    }
+
+    fn batch_lock(&self) -> &Mutex<()> {
+        &self.batch_lock
+    }
+
+    fn is_time(&self, rt: &R, begun: &mut Option<Instant>) -> bool {
+        has_passed(rt, begun, Duration::from_micros(TURN_TIME_US))
+    }
+
+    fn update_time(&self, rt: &R) {
+        ServerState::update_time(self, rt);
+    }
+
+    fn remark(&self, rt: &R, slot: u32, oddity: Oddity) {
+        match oddity {
+            Oddity::UnknownType(kind) => {
+                let peer = match self.slot(slot) {
+                    Some(slot) => *slot.peer.lock(rt),
+                    None => None,
+                };
+                self.speaker.remark_type(rt, kind, peer);
+            }
+            Oddity::Fault => self.speaker.count_faulty(rt),
+        }
+    }
+
+    fn notify(&self, rt: &R, effects: &mut Effects) {
+        // Modelled in models/deliver.pml and serving.h.
+        self.follow(effects.take_mode());
+        self.deliver(rt, effects);
+    }
+}
