@@ -11,12 +11,12 @@ use Rattle.gm_shared.specs.Histories.{calls_by}
 use Rattle.gm_shared.specs.Openings.{openings, counted}
 use Rattle.gm_shared.specs.Calls.{PenCalled}
 use Rattle.gm_outbox.specs.declared.outbox.Delivery.{Delivery}
-use Rattle.gm_outbox.specs.declared.outbox.Delivery.TheVariants.{Done, Late, Shut, Over}
+use Rattle.gm_outbox.specs.declared.outbox.Delivery.TheVariants.{Done, Blocked, Shut, Over}
 use Rattle.gm_outbox.specs.Turns.{turn_of, most_openings, BeginsIf}
 use Rattle.gm_outbox.specs.Deliveries.{Takes, Gives, unasked, given, elsewhere, refused, Tells, Delivers}
 use Rattle.gm_delivery.specs.declared.account.Account.{Account}
 use Rattle.gm_delivery.specs.declared.account.Past.{Past}
-use Rattle.gm_delivery.specs.Accounts.{bytes_in, given_at, Turn, given_in, takes_in, AreTurns, IsWritten, IsFrontWritten, WrittenTo, AreBefore, Rise, closed}
+use Rattle.gm_delivery.specs.Accounts.{bytes_in, given_at, Turn, given_in, takes_in, AreTurns, IsWritten, IsPrefixWritten, WrittenTo, AreBefore, Rise, closed}
 use Rattle.gm_delivery.specs.declared.sender.LineState.{LineState}
 use Rattle.gm_delivery.specs.declared.sender.LineState.TheVariants.{Open, Finished, Cut}
 use Rattle.gm_delivery.specs.Sendings.{Line, SenderState, state_of, IsNewest, IsOfItsOwn, IsLineSo, IsUnused, IsSender, after_sending, IsFinished, cut_state, cut, state_if}
@@ -142,7 +142,7 @@ module _ (k : Settings) (taped : Bool) (slot opening opening_after takes takes_a
         turns = record { took = d.took; gave = d.gave } ∷ s.turns;
         are = turns_more opening slot account.takes account.since takes seen s.turns s.are k taped opening opening_after takes_after after d.gave_shut d.took d.gave refl below d.gives;
         whole = ap (λ l. l ++ turn) s.whole ∙ (append_assoc log left turn
-            ∙ (ap (λ l. log ++ l) d.whole ∙ (sym (append_assoc log d.front d.rest) ∙ ap (λ l. l ++ d.rest) (sym d.written))));
+            ∙ (ap (λ l. log ++ l) d.whole ∙ (sym (append_assoc log d.part d.rest) ∙ ap (λ l. l ++ d.rest) (sym d.written))));
       }
 
   -- and so the sending goes on, is finished or broke off
@@ -160,7 +160,7 @@ module _ (k : Settings) (taped : Bool) (slot opening opening_after takes takes_a
     stands_after Done same =
         let tells = subst (λ r. Tells r d.gave_shut d.rest left_after) same d.tells in
         (subst (λ l. IsWritten opening slot account.since account.takes after takes_after more l) (tells.1 ∙ sym tells.2) now, goes_on (λ over. let bad = sym same ∙ over in absurd cc))
-    stands_after Late same =
+    stands_after Blocked same =
         let tells = subst (λ r. Tells r d.gave_shut d.rest left_after) same d.tells in
         (subst (λ l. IsWritten opening slot account.since account.takes after takes_after more l) (sym tells.0) now, goes_on (λ over. let bad = sym same ∙ over in absurd cc))
     stands_after Shut same =
@@ -184,11 +184,11 @@ module _ (k : Settings) (taped : Bool) (slot opening opening_after takes takes_a
 
 -- ---- what the lock guards
 
--- a front, however far the sending is
-front_of : (s : SenderState) (line : Line) (state : LineState) → IsLineSo s line state → IsFrontWritten line.opening s.slot s.account.since s.account.takes s.seen s.takes line.log
-front_of s line Open so = (s.left, so.0)
-front_of s line Finished so = ([], so.0)
-front_of s line Cut so = so.0
+-- a prefix, however far the sending is
+part_of : (s : SenderState) (line : Line) (state : LineState) → IsLineSo s line state → IsPrefixWritten line.opening s.slot s.account.since s.account.takes s.seen s.takes line.log
+part_of s line Open so = (s.left, so.0)
+part_of s line Finished so = ([], so.0)
+part_of s line Cut so = so.0
 
 -- its opening
 own_of : (s : SenderState) (line : Line) (state : LineState) → IsLineSo s line state → IsOfItsOwn s line
@@ -202,7 +202,7 @@ cut_line : (slot newest takes : ℕ) (seen : List Entry) (left : List ℕ) (line
     (record { opening = line.opening; state = cut_state state; log = line.log }) (cut_state state)
 cut_line slot newest takes seen left line account Open so =
     let s = state_of slot newest seen takes left (Some line) account in
-    (front_of s line Open so, refl, own_of s line Open so)
+    (part_of s line Open so, refl, own_of s line Open so)
 cut_line slot newest takes seen left line account Finished so = (so.0, refl, so.2)
 cut_line slot newest takes seen left line account Cut so = (so.0, refl, so.2)
 

@@ -54,19 +54,19 @@ pub record IsWritten (n c : ℕ) (since : List Entry) (takes : ℕ) (until : Lis
   pub are : AreTurns n c since takes until takes_after turns
   pub whole : sent_by turns ≡ written ++ rest
 
--- A front of what the turns send was written.
-abbrev pub IsFrontWritten : ℕ → ℕ → List Entry → ℕ → List Entry → ℕ → List ℕ → Type 0
-IsFrontWritten n c since takes until takes_after written = (rest : List ℕ) × IsWritten n c since takes until takes_after written rest
+-- A prefix of what the turns send was written.
+abbrev pub IsPrefixWritten : ℕ → ℕ → List Entry → ℕ → List Entry → ℕ → List ℕ → Type 0
+IsPrefixWritten n c since takes until takes_after written = (rest : List ℕ) × IsWritten n c since takes until takes_after written rest
 
 -- ---- connections that are gone
 
--- A front of what the turns send was written; all of it, where that is said.
+-- A prefix of what the turns send was written; all of it, where that is said.
 pub record WrittenTo (c : ℕ) (p : Past) : Type 0 where
   pub rest : List ℕ
   pub is_written : IsWritten p.opening c p.since p.takes p.until p.takes_after p.log rest
   pub whole : p.is_whole ≡ true → rest ≡ []
 
--- Each connection was written a front of what the pen was given at its opening. The first began when the pen had taken no NOOP and seen nothing of
+-- Each connection was written a prefix of what the pen was given at its opening. The first began when the pen had taken no NOOP and seen nothing of
 -- the history, each next one where the one before it ended, and the last ended here.
 abbrev pub ArePast : ℕ → List Past → List Entry → ℕ → Type 0
 ArePast c [] seen takes = (seen ≡ []) × (takes ≡ 0)

@@ -3,13 +3,13 @@ use Rattle.std.specs.Prelude.{◌≡◌, ◌<◌, ◌≤◌, ◌⊎◌, ◌+◌,
 use Rattle.gm_notes.specs.Settings.{Settings}
 use Rattle.gm_shared.specs.declared.tape.Entry.{Entry}
 use Rattle.gm_outbox.specs.declared.outbox.Delivery.{Delivery}
-use Rattle.gm_outbox.specs.declared.outbox.Delivery.TheVariants.{Done, Late, Shut, Over}
+use Rattle.gm_outbox.specs.declared.outbox.Delivery.TheVariants.{Done, Blocked, Shut, Over}
 use Rattle.gm_outbox.specs.Turns.{most_openings, BeginsIf}
 use Rattle.gm_outbox.specs.Deliveries.{Delivers}
 use Rattle.gm_delivery.specs.declared.account.Account.{Account}
 use Rattle.gm_delivery.specs.declared.sender.LineState.{LineState}
 use Rattle.gm_delivery.specs.declared.sender.LineState.TheVariants.{Open, Finished, Cut}
-use Rattle.gm_delivery.specs.Accounts.{given_at, IsWritten, IsFrontWritten, ArePast, AreBefore, Rise, closed}
+use Rattle.gm_delivery.specs.Accounts.{given_at, IsWritten, IsPrefixWritten, ArePast, AreBefore, Rise, closed}
 
 -- a connection: how often its slot had been opened with it, how far the sending to it is, and all that was written to it
 pub record Line : Type 0 where
@@ -42,11 +42,11 @@ abbrev pub IsOfItsOwn : SenderState → Line → Type 0
 IsOfItsOwn s line = (line.log ≡ []) ⊎ ((line.opening ≤ s.newest) × AreBefore line.opening s.account.past)
 
 -- What was written to the connection, and then what is left, is what the pen was given at its opening; where the sending is finished, it is all of
--- that, and where it broke off, a front.
+-- that, and where it broke off, a prefix.
 abbrev pub IsLineSo : SenderState → Line → LineState → Type 0
 IsLineSo s line Open = IsWritten line.opening s.slot s.account.since s.account.takes s.seen s.takes line.log s.left × IsNewest s line.opening
 IsLineSo s line Finished = IsWritten line.opening s.slot s.account.since s.account.takes s.seen s.takes line.log [] × (s.left ≡ []) × IsOfItsOwn s line
-IsLineSo s line Cut = IsFrontWritten line.opening s.slot s.account.since s.account.takes s.seen s.takes line.log × (s.left ≡ []) × IsOfItsOwn s line
+IsLineSo s line Cut = IsPrefixWritten line.opening s.slot s.account.since s.account.takes s.seen s.takes line.log × (s.left ≡ []) × IsOfItsOwn s line
 
 -- With no connection the pen is given nothing.
 abbrev pub IsLine : SenderState → Option Line → Type 0
@@ -69,7 +69,7 @@ pub record IsSender (s : SenderState) : Type 0 where
 -- how far the sending is after a delivery
 abbrev pub after_sending : Delivery → LineState
 after_sending Done = Open
-after_sending Late = Open
+after_sending Blocked = Open
 after_sending Shut = Finished
 after_sending Over = Cut
 

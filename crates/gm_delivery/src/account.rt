@@ -75,8 +75,8 @@ impl Ledger {
         _half: &WriteHalf,
         _is_whole: bool,
     )
-        requires { E.worth ≡ closed _outbox.now.pen.front.seen _outbox.now.pen.seat.takes _opening _half.now.socket.2 _is_whole self.old }
-        ensures { self.new ≡ closed _outbox.now.pen.front.seen _outbox.now.pen.seat.takes _opening _half.now.socket.2 _is_whole self.old }
+        requires { E.worth ≡ closed _outbox.now.pen.witness.seen _outbox.now.pen.seat.takes _opening _half.now.socket.2 _is_whole self.old }
+        ensures { self.new ≡ closed _outbox.now.pen.witness.seen _outbox.now.pen.seat.takes _opening _half.now.socket.2 _is_whole self.old }
     {
         self.cell.set::<E>();
     }
@@ -89,7 +89,7 @@ impl Ledger {
         half: &WriteHalf,
         is_whole: bool,
     )
-        ensures { self.new ≡ closed outbox.now.pen.front.seen outbox.now.pen.seat.takes opening half.now.socket.2 is_whole self.old }
+        ensures { self.new ≡ closed outbox.now.pen.witness.seen outbox.now.pen.seat.takes opening half.now.socket.2 is_whole self.old }
     {
         self.close_as::<K, Brand>(outbox, opening, half, is_whole)
     }

@@ -67,7 +67,7 @@ impl End {
     }
 
     /// Looks at the time after a write, where the connection is to end: a peer that takes some has more, unless the server ends.
-    pub(crate) fn look(&mut self, rt: &impl Clock, is_stopping: bool, has_taken: bool) {
+    pub(crate) fn update(&mut self, rt: &impl Clock, is_stopping: bool, has_taken: bool) {
         // Modelled in models/lane.h.
         if has_taken {
             self.stalled = None;

@@ -9,7 +9,7 @@ use crate::sender::Sender;
 use crate::socket::{WriteHalf, Writing};
 use crate::stage::Stage;
 use gm_feeder::Patience;
-use gm_lane_word::{Due, LaneWord, Looking, Owed};
+use gm_lane_word::{Attempt, Claim, Due, LaneWord};
 use gm_outbox::Delivery;
 use gm_shared::{BookName, Pen};
 use std::alloc::{AllocError, Global};
@@ -17,8 +17,8 @@ use std::marker::PhantomData;
 use std::sync::{Mutex, Wait};
 use std::time::Clock;
 
-/// How often a thread looks in a row, where the lane is touched again and again.
-const MOST_LOOKS: u32 = 16;
+/// How many attempts a thread makes in a row, where the lane is touched again and again.
+const MOST_ATTEMPTS: u32 = 16;
 
 /// Which thread delivers.
 #[derive(Clone, Copy)]
@@ -55,7 +55,7 @@ pub struct Lane<K: BookName> {
 impl<K: BookName> Lane<K> {
     /// A lane with this pen, which was given nothing yet, and no connection.
     pub fn new(alloc: Global, pen: Pen<K>) -> Result<Lane<K>, AllocError>
-        requires { (pen.front.seen ≡ []) × (pen.seat.takes ≡ 0) }
+        requires { (pen.witness.seen ≡ []) × (pen.seat.takes ≡ 0) }
         ensures { IfOk result (λ lane. lane.slot ≡ pen.slot) }
     {
         // Modelled in models/lane.h.
@@ -76,14 +76,14 @@ impl<K: BookName> Lane<K> {
 
     /// The slot's pen, and the account of all its connections.
     pub fn into_parts(self) -> (Pen<K>, Ledger)
-        ensures past { ArePast result.0.slot result.1.past result.0.front.seen result.0.seat.takes }
+        ensures past { ArePast result.0.slot result.1.past result.0.witness.seen result.0.seat.takes }
         ensures rise { Rise result.1.past }
     {
         let Lane { sender, .. } = self;
         sender.into_inner().into_parts()
     }
 
-    /// Takes the connection for which the slot was opened this often. The last one left the lane late, so a thread has to look before touches
+    /// Takes the connection for which the slot was opened this often. The last one left the lane to its finisher, so a thread has to try before touches
     /// count.
     pub fn open<R: Wait + Clock, S: Server<K>>(
         &self,
@@ -97,30 +97,30 @@ impl<K: BookName> Lane<K> {
         // Modelled in models/lane.h.
         self.stage.restart();
         self.sender.lock(rt).begin(opening, half);
-        if let Ok(owed) = self.word.take_over() {
-            self.deliver_owed(rt, server, owed, Deliverer::Other);
+        if let Ok(claim) = self.word.take_over() {
+            self.deliver_claimed(rt, server, claim, Deliverer::Other);
         }
     }
 
-    /// Tells the lane that there may be something to send, and sends it, unless another thread has the lane and so looks after
+    /// Tells the lane that there may be something to send, and sends it, unless another thread has the lane and so tries after
     /// this.
     pub fn touch<R: Wait + Clock, S: Server<K>>(&self, rt: &R, server: &S, due: Due)
         requires { due.slot ≡ self.now.slot }
     {
         // Modelled in models/lane.h.
-        if let Ok(owed) = self.word.touch(due) {
-            self.deliver_owed(rt, server, owed, Deliverer::Other);
+        if let Ok(claim) = self.word.touch(due) {
+            self.deliver_claimed(rt, server, claim, Deliverer::Other);
         }
     }
 
-    /// Tells the lane that there may be something to send, which is left to the finisher, or to the thread that looks anyway.
+    /// Tells the lane that there may be something to send, which is left to the finisher, or to the thread that tries anyway.
     pub fn touch_for_finisher<S: Server<K>>(&self, server: &S, due: Due)
         requires { due.slot ≡ self.now.slot }
     {
         // Modelled in models/lane.h.
-        // An error means that another thread looks after this touch.
-        if let Ok(owed) = self.word.touch(due) {
-            let _tally = owed.hand_over(|_| server.wake_finisher(self.slot));
+        // An error means that another thread tries after this touch.
+        if let Ok(claim) = self.word.touch(due) {
+            let _tally = claim.hand_over(|_| server.wake_finisher(self.slot));
         }
     }
 
@@ -140,7 +140,7 @@ impl<K: BookName> Lane<K> {
     }
 
     /// Sends what there is to send, and does what else is to be done for the connection; or leaves that to the thread that has the lane,
-    /// which looks after this.
+    /// which tries after this.
     pub fn deliver<R: Wait + Clock, S: Server<K>>(
         &self,
         rt: &R,
@@ -149,7 +149,7 @@ impl<K: BookName> Lane<K> {
     ) -> Finish {
         // Modelled in models/lane.h.
         match self.word.take_over() {
-            Ok(owed) => self.deliver_owed(rt, server, owed, deliverer),
+            Ok(claim) => self.deliver_claimed(rt, server, claim, deliverer),
             Err(_) => {
                 self.wake_for(server, Finish::Pending, deliverer);
                 Finish::Pending
@@ -158,41 +158,43 @@ impl<K: BookName> Lane<K> {
     }
 
     /// The same as the finisher, which doesn't wait, where others left something to it.
-    pub fn deliver_late<R: Wait + Clock, S: Server<K>>(&self, rt: &R, server: &S) -> Finish {
+    pub fn deliver_left<R: Wait + Clock, S: Server<K>>(&self, rt: &R, server: &S) -> Finish {
         // Modelled in models/lane.h.
-        match self.word.take_over_late() {
-            Ok(owed) => {
+        match self.word.take_over_left() {
+            Ok(claim) => {
                 let finisher = Deliverer::Finisher(Patience::Hurries);
-                self.deliver_owed(rt, server, owed, finisher)
+                self.deliver_claimed(rt, server, claim, finisher)
             }
             Err(_) => Finish::Idle,
         }
     }
 
-    /// Looks, and again where the lane was touched since.
-    fn deliver_owed<'a, R: Wait + Clock, S: Server<K>>(
+    /// Makes an attempt, and another where the lane was touched since.
+    fn deliver_claimed<'a, R: Wait + Clock, S: Server<K>>(
         &'a self,
         rt: &R,
         server: &S,
-        owed: Owed<'a>,
+        claim: Claim<'a>,
         deliverer: Deliverer,
     ) -> Finish
-        requires { owed.lane ≡ self.now.word }
+        requires { claim.lane ≡ self.now.word }
     {
         // Modelled in models/lane.h.
-        let mut owed = owed;
-        for _ in 0..MOST_LOOKS {
-            let (looking, finish) = owed.look(|looking| self.look(rt, server, looking, deliverer));
+        let mut claim = claim;
+        for _ in 0..MOST_ATTEMPTS {
+            let (attempt, finish) = claim.attempt(|attempt| self.attempt(
+                rt, server, attempt, deliverer,
+            ));
             if finish != Finish::Idle {
-                let _tally = looking.hand_over(|_| self.wake_for(server, finish, deliverer));
+                let _tally = attempt.hand_over(|_| self.wake_for(server, finish, deliverer));
                 return finish;
             }
-            match looking.finish() {
+            match attempt.finish() {
                 Ok(_) => return Finish::Idle,
-                Err(again) => owed = again,
+                Err(again) => claim = again,
             }
         }
-        let _tally = owed.hand_over(|_| server.wake_finisher(self.slot));
+        let _tally = claim.hand_over(|_| server.wake_finisher(self.slot));
         Finish::Idle
     }
 
@@ -205,14 +207,14 @@ impl<K: BookName> Lane<K> {
     }
 
     /// Sends what there is to send. Where the connection is to end, tells the peer so, and lets go of it once nothing is read any more.
-    fn look<R: Wait + Clock, S: Server<K>>(
+    fn attempt<R: Wait + Clock, S: Server<K>>(
         &self,
         rt: &R,
         server: &S,
-        _looking: &Looking<'_>,
+        _attempt: &Attempt<'_>,
         deliverer: Deliverer,
     ) -> Finish
-        requires { _looking.now.lane ≡ self.now.word }
+        requires { _attempt.now.lane ≡ self.now.word }
     {
         // Modelled in models/lane.h.
         let mut sender = self.sender.lock(rt);
@@ -221,7 +223,7 @@ impl<K: BookName> Lane<K> {
         let has_ended = self.stage.has_reached(ReadStage::Ended as u8);
         let is_ending = is_ending(server, &self.stage);
         match self.send(rt, server, &mut sender, deliverer) {
-            Delivery::Late => Finish::Pending,
+            Delivery::Blocked => Finish::Pending,
             _ if has_ended => let_go(&mut sender, deliverer),
             Delivery::Done if is_ending => linger(rt, server, &mut sender),
             Delivery::Shut => linger(rt, server, &mut sender),
@@ -252,7 +254,7 @@ impl<K: BookName> Lane<K> {
         };
         for _ in rt.forever() {
             let delivery = sender.deliver(rt, server.shared(), &by);
-            if delivery != Delivery::Late {
+            if delivery != Delivery::Blocked {
                 return delivery;
             }
             if sender.has_had_its_time(rt, server.is_stopping()) {
@@ -267,7 +269,7 @@ impl<K: BookName> Lane<K> {
         if sender.takes_more() {
             server.wake_finisher(self.slot);
         }
-        Delivery::Late
+        Delivery::Blocked
     }
 }
 

@@ -138,7 +138,7 @@ where
     WriteHalf: Wire<E>,
     ensures idle { (connection.old.state ≡ LineState.Open → ⊥) → (result ≡ idle_in connection.old.state) × (connection.new ≡ connection.old) × (outbox.new ≡ outbox.old) }
     ensures delivers { connection.old.state ≡ LineState.Open → Delivers K.settings K.taped result outbox.old.pen.slot outbox.old.opening outbox.new.opening outbox.old.pen.seat.takes outbox.new.pen.seat.takes
-        outbox.old.pen.front.seen outbox.new.pen.front.seen (Some connection.old.half.socket.2) (Some connection.new.half.socket.2) (left_in outbox.old.left) (left_in outbox.new.left) }
+        outbox.old.pen.witness.seen outbox.new.pen.witness.seen (Some connection.old.half.socket.2) (Some connection.new.half.socket.2) (left_in outbox.old.left) (left_in outbox.new.left) }
     ensures state { connection.old.state ≡ LineState.Open → connection.new.state ≡ after_sending result }
     ensures slot { outbox.new.pen.slot ≡ outbox.old.pen.slot }
     ensures opening { connection.new.opening ≡ connection.old.opening }
@@ -151,7 +151,7 @@ where
     }
     let delivery = outbox.deliver(rt, shared, &mut connection.half, by);
     match delivery {
-        Delivery::Done | Delivery::Late => {}
+        Delivery::Done | Delivery::Blocked => {}
         Delivery::Shut => connection.go_on(LineState::Finished),
         Delivery::Over => connection.go_on(LineState::Cut),
     }
@@ -174,17 +174,17 @@ impl<K: BookName> Model for Sender<K> {
 
     ghost Value = { SenderState };
 
-    ghost view = { λ s. state_of s.outbox.pen.slot s.outbox.opening s.outbox.pen.front.seen s.outbox.pen.seat.takes (left_in s.outbox.left)
+    ghost view = { λ s. state_of s.outbox.pen.slot s.outbox.opening s.outbox.pen.witness.seen s.outbox.pen.seat.takes (left_in s.outbox.left)
         (option_map (λ c. record { opening = c.opening; state = c.state; log = c.half.socket.2 }) s.connection) s.ledger };
 
-    ghost invariant = { λ s. IsSender (state_of s.outbox.pen.slot s.outbox.opening s.outbox.pen.front.seen s.outbox.pen.seat.takes (left_in s.outbox.left)
+    ghost invariant = { λ s. IsSender (state_of s.outbox.pen.slot s.outbox.opening s.outbox.pen.witness.seen s.outbox.pen.seat.takes (left_in s.outbox.left)
         (option_map (λ c. record { opening = c.opening; state = c.state; log = c.half.socket.2 }) s.connection) s.ledger) };
 }
 
 impl<K: BookName> Sender<K> {
     /// A pen that was given nothing yet, and no connection.
     pub fn new(alloc: Global, pen: Pen<K>) -> Result<Sender<K>, AllocError>
-        requires { (pen.front.seen ≡ []) × (pen.seat.takes ≡ 0) }
+        requires { (pen.witness.seen ≡ []) × (pen.seat.takes ≡ 0) }
         ensures { IfOk result (λ sender. (sender.slot ≡ pen.slot) × (sender.line ≡ None) × (sender.account ≡ blank_account)) }
     {
         let ledger = Ledger::new(alloc)?;
@@ -288,9 +288,9 @@ impl<K: BookName> Sender<K> {
         Some(is_whole)
     }
 
-    /// The pen, and the account of all connections: to each was written a front of what the pen was given at its opening of the slot.
+    /// The pen, and the account of all connections: to each was written a prefix of what the pen was given at its opening of the slot.
     pub fn into_parts(self) -> (Pen<K>, Ledger)
-        ensures past { ArePast result.0.slot result.1.past result.0.front.seen result.0.seat.takes }
+        ensures past { ArePast result.0.slot result.1.past result.0.witness.seen result.0.seat.takes }
         ensures rise { Rise result.1.past }
         ensures slot { result.0.slot ≡ self.slot }
     {

@@ -155,7 +155,7 @@ impl<'a, K: BookName, R: Wait + Clock, S: Server<K>> Wire<Writing<'a, K, R, S>> 
         }
         if is_ending(by.server, by.stage) {
             let has_taken = matches!(outcome, Ok(count) if count > 0);
-            self.end.look(by.rt, by.server.is_stopping(), has_taken);
+            self.end.update(by.rt, by.server.is_stopping(), has_taken);
         }
         outcome
     }

@@ -1,13 +1,13 @@
--- Each kind of step keeps the word rule, and what the rule says of touches and looks.
+-- Each kind of step keeps the word rule, and what the rule says of touches and attempts.
 use Rattle.std.proofs.Common.{◌≡◌, ◌≢◌, ◌⊎◌, ℕ, zero, suc, ◌+◌, ◌-◌, ◌<◌, ◌≤◌, max, List, [], ◌∷◌, ◌++◌, set, refl, ap, inl, inr, arith, lit<}
 use Rattle.std.specs.Prelude.{slice_set}
 use mathlib.Core.Option.{some}
 use lib.ListN.{get_elem?}
-use Rattle.gm_lane_word.specs.declared.view.Hold.TheVariants.{Free, Owes, Looks}
+use Rattle.gm_lane_word.specs.declared.view.Hold.TheVariants.{Free, Claims, Attempts}
 use Rattle.gm_lane_word.specs.declared.view.View.{View}
-use Rattle.gm_lane_word.specs.Lane.{fresh_view, entered, touched, taken_over, looked, finished, after_finish, handed_over, has, owes, taken, touches_of, answers_of, looks_of}
+use Rattle.gm_lane_word.specs.Lane.{fresh_view, entered, touched, taken_over, attempted, finished, after_finish, handed_over, has, owes, taken, touches_of, answers_of, attempts_of}
 use Rattle.gm_lane_word.specs.Lane.{owing_of}
-use Rattle.gm_lane_word.specs.Steps.{Step, enters, touches, takes_over, looks, finishes, hands_over, Reached, opens, steps, Keeps, IsOwed, by_owner, by_finisher}
+use Rattle.gm_lane_word.specs.Steps.{Step, enters, touches, takes_over, attempts, finishes, hands_over, Reached, opens, steps, Keeps, IsClaimed, by_owner, by_finisher}
 use Rattle.gm_lane_word.proofs.Totals.{total-set, total-push, total-has, has_one, owing_among_owners, owner_is}
 
 -- a seat comes
@@ -87,9 +87,9 @@ owner_one (suc zero) views k seat view at is = refl
 owner_one (suc (suc zero)) views k seat view at is = refl
 owner_one (suc (suc (suc word))) views k seat view at is = let one = total-has (λ v. has v.hold) views seat view at in let owner = k.owner in absurd (omega arith)
 
-looks_keep : (word : ℕ) (views : List View) (seat : ℕ) (view : View) → Keeps word views → get_elem? views seat ≡ some view → view.hold ≡ Owes
-    → Keeps 1 (slice_set views seat (looked (touches_of views - answers_of views) view))
-looks_keep word views seat view k at hold =
+attempts_keep : (word : ℕ) (views : List View) (seat : ℕ) (view : View) → Keeps word views → get_elem? views seat ≡ some view → view.hold ≡ Claims
+    → Keeps 1 (slice_set views seat (attempted (touches_of views - answers_of views) view))
+attempts_keep word views seat view k at hold =
     let is_one = ap has hold in
     let is_owing = ap owes hold in
     let one = total-has (λ v. has v.hold) views seat view at in
@@ -98,9 +98,9 @@ looks_keep word views seat view k at hold =
     let owner = k.owner in
     let le = k.answered in
     let taken_is : taken word ≡ 1 = owner_one word views k seat view at (omega arith) in
-    replaced word 1 views seat view (looked (touches_of views - answers_of views) view) at k (lit< tt) (omega arith) (λ _. omega arith) (omega arith) (λ _. omega arith)
+    replaced word 1 views seat view (attempted (touches_of views - answers_of views) view) at k (lit< tt) (omega arith) (λ _. omega arith) (omega arith) (λ _. omega arith)
 
-finishes_keep : (word : ℕ) (views : List View) (seat : ℕ) (view : View) → Keeps word views → get_elem? views seat ≡ some view → view.hold ≡ Looks
+finishes_keep : (word : ℕ) (views : List View) (seat : ℕ) (view : View) → Keeps word views → get_elem? views seat ≡ some view → view.hold ≡ Attempts
     → Keeps (finished word) (slice_set views seat (after_finish word view))
 finishes_keep zero views seat view k at hold = let is = ap has hold in let no = owner_one 0 views k seat view at is in absurd (omega arith)
 finishes_keep (suc zero) views seat view k at hold =
@@ -127,7 +127,7 @@ pub step_keeps : (word : ℕ) (views : List View) (next : ℕ) (after : List Vie
 step_keeps word views _ _ k enters = enters_keep word views k
 step_keeps word views _ _ k (touches seat view at) = touches_keep word views seat view k at
 step_keeps word views _ _ k takes_over = takes_over_keep word views k
-step_keeps word views _ _ k (looks seat view at hold) = looks_keep word views seat view k at hold
+step_keeps word views _ _ k (attempts seat view at hold) = attempts_keep word views seat view k at hold
 step_keeps word views _ _ k (finishes seat view at hold) = finishes_keep word views seat view k at hold
 step_keeps word views _ _ k (hands_over seat view at hold) = hands_over_keep word views seat view k at hold
 
@@ -138,33 +138,33 @@ pub reached_keeps : (word : ℕ) (views : List View) → Reached word views → 
 reached_keeps _ _ opens = opening_keeps
 reached_keeps _ _ (steps word views next after reached step) = step_keeps word views next after (reached_keeps word views reached) step
 
--- no touch is without a look, or somebody owes one
-pub followed_or_owed : (word : ℕ) (views : List View) → Keeps word views → (touches_of views ≡ answers_of views) ⊎ IsOwed word views
+-- no touch is without an attempt, or somebody owes one
+pub followed_or_owed : (word : ℕ) (views : List View) → Keeps word views → (touches_of views ≡ answers_of views) ⊎ IsClaimed word views
 followed_or_owed zero views k = inl (k.all_answered (lit< tt))
 followed_or_owed (suc zero) views k = inl (k.all_answered (lit< tt))
 followed_or_owed (suc (suc zero)) views k = let owner = k.owner in let o = owner_is views (omega arith) in inr (by_owner o.0 o.1 o.2 o.3 refl)
 followed_or_owed (suc (suc (suc zero))) views k = inr (by_finisher refl)
 followed_or_owed (suc (suc (suc (suc word)))) views k = let small = k.small in absurd (omega arith)
 
--- a step leaves the touches that were followed, or is a look, which follows all so far
+-- a step leaves the touches that were followed, or is an attempt, which follows all so far
 entered_answers : (word : ℕ) → (entered word).answers ≡ 0
 entered_answers zero = refl
 entered_answers (suc zero) = refl
 entered_answers (suc (suc word)) = refl
 
-pub followed_by_looks : (word : ℕ) (views : List View) (next : ℕ) (after : List View) → Keeps word views → Step word views next after
-    → (answers_of after ≡ answers_of views) ⊎ ((looks_of after ≡ looks_of views + 1) × (answers_of after ≡ touches_of views))
-followed_by_looks word views _ _ k enters = let a = total-push (λ v. v.answers) views (entered word) in let none = entered_answers word in inl (omega arith)
-followed_by_looks word views _ _ k (touches seat view at) = let a = total-set (λ v. v.answers) views seat view (touched word view) at in inl (omega arith)
-followed_by_looks word views _ _ k takes_over = let a = total-push (λ v. v.answers) views (taken_over word) in inl (omega arith)
-followed_by_looks word views _ _ k (looks seat view at hold) =
-    let w : View = looked (touches_of views - answers_of views) view in
+pub followed_by_attempts : (word : ℕ) (views : List View) (next : ℕ) (after : List View) → Keeps word views → Step word views next after
+    → (answers_of after ≡ answers_of views) ⊎ ((attempts_of after ≡ attempts_of views + 1) × (answers_of after ≡ touches_of views))
+followed_by_attempts word views _ _ k enters = let a = total-push (λ v. v.answers) views (entered word) in let none = entered_answers word in inl (omega arith)
+followed_by_attempts word views _ _ k (touches seat view at) = let a = total-set (λ v. v.answers) views seat view (touched word view) at in inl (omega arith)
+followed_by_attempts word views _ _ k takes_over = let a = total-push (λ v. v.answers) views (taken_over word) in inl (omega arith)
+followed_by_attempts word views _ _ k (attempts seat view at hold) =
+    let w : View = attempted (touches_of views - answers_of views) view in
     let a = total-set (λ v. v.answers) views seat view w at in
-    let l = total-set (λ v. v.looks) views seat view w at in
+    let l = total-set (λ v. v.attempts) views seat view w at in
     let le = k.answered in
     inr (omega arith, omega arith)
-followed_by_looks word views _ _ k (finishes seat view at hold) = let a = total-set (λ v. v.answers) views seat view (after_finish word view) at in inl (omega arith)
-followed_by_looks word views _ _ k (hands_over seat view at hold) = let a = total-set (λ v. v.answers) views seat view (handed_over view) at in inl (omega arith)
+followed_by_attempts word views _ _ k (finishes seat view at hold) = let a = total-set (λ v. v.answers) views seat view (after_finish word view) at in inl (omega arith)
+followed_by_attempts word views _ _ k (hands_over seat view at hold) = let a = total-set (λ v. v.answers) views seat view (handed_over view) at in inl (omega arith)
 
 pub taken-le : (word : ℕ) → taken word ≤ 1
 taken-le zero = omega arith

@@ -2,10 +2,10 @@
 use Rattle.std.proofs.Common.{◌≡◌, ◌≢◌, ℕ, ◌-◌, ◌<◌, max, List, [], ◌∷◌, ◌++◌, set, refl, sym, ap, subst}
 use Rattle.std.specs.Prelude.{slice_index, slice_set}
 use Rattle.atomic_table.specs.Table.{State, Me, keeps, Allows, Enters, Arrives}
-use Rattle.gm_lane_word.specs.declared.view.Hold.TheVariants.{Free, Owes, Looks}
+use Rattle.gm_lane_word.specs.declared.view.Hold.TheVariants.{Free, Claims, Attempts}
 use Rattle.gm_lane_word.specs.declared.view.View.{View}
-use Rattle.gm_lane_word.specs.Lane.{entered, touched, taken_over, looked, finished, after_finish, handed_over, touches_of, answers_of}
-use Rattle.gm_lane_word.specs.Steps.{Step, enters, touches, takes_over, looks, finishes, hands_over, Reached, steps, IsLane}
+use Rattle.gm_lane_word.specs.Lane.{entered, touched, taken_over, attempted, finished, after_finish, handed_over, touches_of, answers_of}
+use Rattle.gm_lane_word.specs.Steps.{Step, enters, touches, takes_over, attempts, finishes, hands_over, Reached, steps, IsLane}
 use Rattle.gm_lane_word.proofs.Keeping.{reached_keeps}
 
 abbrev pub Sat : Type 0
@@ -59,18 +59,18 @@ take_over_moves slots s lane _ _ = (
   ((let k = reached_keeps lane.word s.views lane.reached in subst (λ (n : ℕ). n < 4) (sym (found_is s.words s.views lane)) k.small), refl),
 )
 
-pub look_moves : (slots id : ℕ) (me : Sat) → me.0.hold ≡ Owes
-    → Allows IsReached slots id me 0 (λ _. 1) (λ found after. (unanswered : ℕ) × (after ≡ (looked unanswered me.0, me.1)))
-look_moves slots id me hold s lane _ at _ =
+pub attempt_moves : (slots id : ℕ) (me : Sat) → me.0.hold ≡ Claims
+    → Allows IsReached slots id me 0 (λ _. 1) (λ found after. (unanswered : ℕ) × (after ≡ (attempted unanswered me.0, me.1)))
+attempt_moves slots id me hold s lane _ at _ =
     let unanswered : ℕ = touches_of s.views - answers_of s.views in (
-      looked unanswered me.0,
+      attempted unanswered me.0,
       keeps,
       tt,
-      moved s.words s.views (λ _. 1) (λ _. set s.views id (looked unanswered me.0)) lane (λ word. looks id me.0 at hold),
+      moved s.words s.views (λ _. 1) (λ _. set s.views id (attempted unanswered me.0)) lane (λ word. attempts id me.0 at hold),
       (unanswered, refl),
     )
 
-pub finish_moves : (slots id : ℕ) (me : Sat) → me.0.hold ≡ Looks
+pub finish_moves : (slots id : ℕ) (me : Sat) → me.0.hold ≡ Attempts
     → Allows IsReached slots id me 0 finished (λ found after. after ≡ (after_finish found me.0, me.1))
 finish_moves slots id me hold s lane _ at _ = (
   after_finish (slice_index s.words 0) me.0,

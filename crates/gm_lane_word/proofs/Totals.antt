@@ -3,7 +3,7 @@ use Rattle.std.proofs.Common.{◌≡◌, ◌≢◌, ◌⊎◌, ℕ, zero, suc, �
 use mathlib.Core.Option.{some, some-injective, some-ne-none}
 use lib.ListN.{get_elem?}
 use Rattle.gm_lane_word.specs.declared.view.Hold.{Hold}
-use Rattle.gm_lane_word.specs.declared.view.Hold.TheVariants.{Free, Owes, Looks}
+use Rattle.gm_lane_word.specs.declared.view.Hold.TheVariants.{Free, Claims, Attempts}
 use Rattle.gm_lane_word.specs.declared.view.View.{View}
 use Rattle.gm_lane_word.specs.Lane.{has, owes, total, owners_of, owing_of}
 
@@ -27,19 +27,19 @@ total-has f (x ∷ xs) (suc i) v at = let r = total-has f xs i v at in omega ari
 -- a seat has the lane or not
 pub is_free : (hold : Hold) → (hold ≡ Free) ⊎ (hold ≢ Free)
 is_free Free = inl refl
-is_free Owes = inr (λ e. cc)
-is_free Looks = inr (λ e. cc)
+is_free Claims = inr (λ e. cc)
+is_free Attempts = inr (λ e. cc)
 
 pub has_one : (hold : Hold) → hold ≢ Free → has hold ≡ 1
 has_one Free other = absurd (other refl)
-has_one Owes other = refl
-has_one Looks other = refl
+has_one Claims other = refl
+has_one Attempts other = refl
 
--- who owes a look has the lane
+-- who owes an attempt has the lane
 owes-has : (hold : Hold) → owes hold ≤ has hold
 owes-has Free = omega arith
-owes-has Owes = omega arith
-owes-has Looks = omega arith
+owes-has Claims = omega arith
+owes-has Attempts = omega arith
 
 pub owing_among_owners : (views : List View) → owing_of views ≤ owners_of views
 owing_among_owners [] = omega arith

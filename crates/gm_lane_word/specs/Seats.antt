@@ -5,25 +5,25 @@ use Rattle.atomic_table.specs.declared.shared.Seat.{Seat}
 use Rattle.gm_lane_word.specs.declared.view.Hold.{Hold}
 use Rattle.gm_lane_word.specs.declared.view.View.{View}
 
--- what a thread did at a lane: touches, those among them that were take-overs, looks that were begun, and hand-overs
+-- what a thread did at a lane: touches, those among them that were take-overs, attempts that were begun, and hand-overs
 pub record Count : Type 0 where
   pub lane : TableId
   pub touches : ℕ
   pub take_overs : ℕ
-  pub looks : ℕ
+  pub attempts : ℕ
   pub hand_overs : ℕ
 
 -- one touch
 abbrev pub one_touch : TableId → Count
-one_touch lane = record { lane = lane; touches = 1; take_overs = 0; looks = 0; hand_overs = 0 }
+one_touch lane = record { lane = lane; touches = 1; take_overs = 0; attempts = 0; hand_overs = 0 }
 
 -- one touch, which was a take-over
 abbrev pub one_take_over : TableId → Count
-one_take_over lane = record { lane = lane; touches = 1; take_overs = 1; looks = 0; hand_overs = 0 }
+one_take_over lane = record { lane = lane; touches = 1; take_overs = 1; attempts = 0; hand_overs = 0 }
 
--- one look more
-abbrev pub with_look : Count → Count
-with_look count = record count { looks = count.looks + 1 }
+-- one attempt more
+abbrev pub with_attempt : Count → Count
+with_attempt count = record count { attempts = count.attempts + 1 }
 
 -- one hand-over more
 abbrev pub with_hand_over : Count → Count
@@ -32,7 +32,7 @@ with_hand_over count = record count { hand_overs = count.hand_overs + 1 }
 -- what a seat has counted
 abbrev pub count_of : Seat (Unit {0}) View → Count
 count_of seat =
-    record { lane = seat.table_id; touches = seat.me.0.touches; take_overs = seat.me.0.take_overs; looks = seat.me.0.looks; hand_overs = seat.me.0.hand_overs }
+    record { lane = seat.table_id; touches = seat.me.0.touches; take_overs = seat.me.0.take_overs; attempts = seat.me.0.attempts; hand_overs = seat.me.0.hand_overs }
 
 -- the seat is at the lane, and has this of it
 pub record SitsAt (hold : Hold) (lane : TableId) (seat : Seat (Unit {0}) View) : Type 0 where

@@ -1,6 +1,6 @@
 //! The rule of a lane's word, and what each kind of step tells the seat that makes it.
 
-ghost use Rattle.gm_lane_word.specs.Steps.{IsLane, TellsEnter, TellsTouch, TellsTakeOver, TellsLook, TellsFinish, TellsHandOver};
+ghost use Rattle.gm_lane_word.specs.Steps.{IsLane, TellsEnter, TellsTouch, TellsTakeOver, TellsAttempt, TellsFinish, TellsHandOver};
 ghost use Rattle.gm_lane_word.specs.Lane.{fresh_view};
 
 use crate::view::View;
@@ -15,7 +15,7 @@ impl TableRule<(), View, ()> for LaneRule {
     ghost first = { λ _. fresh_view };
 }
 
-/// A new seat comes, and has touched the lane where a look was owed anyway.
+/// A new seat comes, and has touched the lane where an attempt was owed anyway.
 pub(crate) struct Enter;
 
 impl Play<(), View> for Enter {
@@ -29,21 +29,21 @@ impl Play<(), View> for Touch {
     ghost then = { TellsTouch };
 }
 
-/// A new seat touches the lane, and has it where nobody had it or it was late.
+/// A new seat touches the lane, and has it where nobody had it or it was left.
 pub(crate) struct TakeOver;
 
 impl Play<(), View> for TakeOver {
     ghost then = { TellsTakeOver };
 }
 
-/// The thread that has the lane begins a look.
-pub(crate) struct Look;
+/// The thread that has the lane begins an attempt.
+pub(crate) struct StartAttempt;
 
-impl Play<(), View> for Look {
-    ghost then = { TellsLook };
+impl Play<(), View> for StartAttempt {
+    ghost then = { TellsAttempt };
 }
 
-/// The thread that has the lane gives it up, unless it was touched since the look began.
+/// The thread that has the lane gives it up, unless it was touched since the attempt began.
 pub(crate) struct Finish;
 
 impl Play<(), View> for Finish {

@@ -4,10 +4,10 @@
 pub enum Hold {
     /// Nothing.
     Free,
-    /// It has the lane, and is yet to begin a look.
-    Owes,
-    /// It has the lane, and has begun a look.
-    Looks,
+    /// It has the lane, and is yet to begin an attempt.
+    Claims,
+    /// It has the lane, and has begun an attempt.
+    Attempts,
 }
 
 /// What a seat knows: what it has done at the lane so far, and what it has of it.
@@ -16,11 +16,11 @@ pub struct View {
     pub touches: u64,
     /// How many of these were take-overs.
     pub take_overs: u64,
-    /// How many looks it began.
-    pub looks: u64,
+    /// How many attempts it began.
+    pub attempts: u64,
     /// How often it left the lane to the finisher.
     pub hand_overs: u64,
-    /// How many touches, of whichever seat, its looks were the first to follow.
+    /// How many touches, of whichever seat, its attempts were the first to follow.
     pub answers: u64,
     pub hold: Hold,
 }

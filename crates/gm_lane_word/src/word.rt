@@ -4,8 +4,8 @@ ghost use Rattle.std.specs.Prelude.{◌≡◌};
 ghost use Rattle.std.specs.Result.{MatchResult};
 ghost use Rattle.gm_lane_word.specs.Seats.{one_touch, one_take_over};
 
+use crate::claim::Claim;
 use crate::due::Due;
-use crate::owed::Owed;
 use crate::rule::{Enter, LaneRule, TakeOver, Touch};
 use crate::tally::Tally;
 use crate::view::View;
@@ -13,17 +13,17 @@ use atomic_table::Table;
 use std::alloc::{AllocError, Global};
 use std::marker::Model;
 
-// Nobody has the lane, and no touch is without a look.
+// Nobody has the lane, and no touch is without an attempt.
 pub(crate) const IDLE: u64 = 0;
 
-// Somebody has the lane, and began a look after the last touch.
+// Somebody has the lane, and began an attempt after the last touch.
 pub(crate) const BUSY: u64 = 1;
 
-// Somebody has the lane, and is yet to begin a look.
-pub(crate) const OWED: u64 = 2;
+// Somebody has the lane, and is yet to begin an attempt.
+pub(crate) const CLAIMED: u64 = 2;
 
 // The slot's finisher is to take the lane over.
-pub(crate) const LATE: u64 = 3;
+pub(crate) const LEFT: u64 = 3;
 
 /// The word of one lane, which all threads share. Contracts see which one it is.
 #[derive(Drop)]
@@ -53,46 +53,46 @@ impl LaneWord {
     }
 
     /// Touches the lane, after something was queued for its connection. Where no thread had the lane, the caller has it now,
-    /// and owes it a look. An error means that another thread looks, after this touch.
-    pub fn touch<'a>(&'a self, due: Due) -> Result<Owed<'a>, Tally>
-        ensures { MatchResult result (λ owed. owed ≡ one_touch self.now) (λ tally. tally ≡ one_touch self.now) }
+    /// and owes it an attempt. An error means that another thread tries, after this touch.
+    pub fn touch<'a>(&'a self, due: Due) -> Result<Claim<'a>, Tally>
+        ensures { MatchResult result (λ claim. claim ≡ one_touch self.now) (λ tally. tally ≡ one_touch self.now) }
     {
         // Modelled in models/lane.h.
         let Due { slot: _ } = due;
         let (found, mut seat) = self.table.shared.load_new_seat::<Enter>(0);
-        if found >= OWED {
+        if found >= CLAIMED {
             return Err(Tally { seat });
         }
-        let found = self.table.shared.fetch_max::<Touch>(&mut seat, 0, OWED);
+        let found = self.table.shared.fetch_max::<Touch>(&mut seat, 0, CLAIMED);
         if found == IDLE {
-            Ok(Owed { word: self, seat })
+            Ok(Claim { word: self, seat })
         } else {
             Err(Tally { seat })
         }
     }
 
-    /// Touches the lane as the slot's finisher, which has it now where no thread had it or it was late: when it
-    /// starts, since the last connection may have left the lane late, and whenever it is woken. An error means that
-    /// another thread looks, after this touch.
-    pub fn take_over<'a>(&'a self) -> Result<Owed<'a>, Tally>
-        ensures { MatchResult result (λ owed. owed ≡ one_take_over self.now) (λ tally. tally ≡ one_take_over self.now) }
+    /// Touches the lane as the slot's finisher, which has it now where no thread had it or it was left: when it
+    /// starts, since the last connection may have left the lane to its finisher, and whenever it is woken. An error means that
+    /// another thread tries, after this touch.
+    pub fn take_over<'a>(&'a self) -> Result<Claim<'a>, Tally>
+        ensures { MatchResult result (λ claim. claim ≡ one_take_over self.now) (λ tally. tally ≡ one_take_over self.now) }
     {
         // Modelled in models/lane.h.
-        let (found, seat) = self.table.shared.swap_new_seat::<TakeOver>(0, OWED);
-        if found == IDLE || found == LATE {
-            Ok(Owed { word: self, seat })
+        let (found, seat) = self.table.shared.swap_new_seat::<TakeOver>(0, CLAIMED);
+        if found == IDLE || found == LEFT {
+            Ok(Claim { word: self, seat })
         } else {
             Err(Tally { seat })
         }
     }
 
-    /// The same, where the lane was left late. An error means that it wasn't, or that another thread has taken it over since.
-    pub fn take_over_late<'a>(&'a self) -> Result<Owed<'a>, Tally>
-        ensures { MatchResult result (λ owed. owed ≡ one_take_over self.now) (λ tally. tally.lane ≡ self.now) }
+    /// The same, where the lane was left to it. An error means that it wasn't, or that another thread has taken it over since.
+    pub fn take_over_left<'a>(&'a self) -> Result<Claim<'a>, Tally>
+        ensures { MatchResult result (λ claim. claim ≡ one_take_over self.now) (λ tally. tally.lane ≡ self.now) }
     {
         // Modelled in models/lane.h.
         let (found, seat) = self.table.shared.load_new_seat::<Enter>(0);
-        if found != LATE {
+        if found != LEFT {
             return Err(Tally { seat });
         }
         self.take_over()

@@ -11,7 +11,7 @@ use Rattle.gm_shared.specs.declared.tape.Entry.{Entry}
 use Rattle.gm_shared.specs.Calls.{PenCalled}
 use Rattle.gm_outbox.specs.declared.message.Sent.TheVariants as sent
 use Rattle.gm_outbox.specs.declared.outbox.Delivery.{Delivery}
-use Rattle.gm_outbox.specs.declared.outbox.Delivery.TheVariants.{Done, Late, Shut, Over}
+use Rattle.gm_outbox.specs.declared.outbox.Delivery.TheVariants.{Done, Blocked, Shut, Over}
 use Rattle.gm_outbox.specs.Turns.{turn_of}
 use Rattle.gm_outbox.specs.Deliveries.{Sends, Tells, Takes, Gives, unasked, given, elsewhere, refused, Delivers}
 
@@ -28,14 +28,14 @@ called_as k taped slot same result seen after from to e f g h =
 
 module _ (k : Settings) (taped : Bool) (slot opening opening_after takes takes_after : ℕ) (seen after : List Entry) (old mid : Option (List ℕ)) (left between : List ℕ) where
   -- what was left couldn't all be sent
-  delivers_left : (delivery : Delivery) → opening_after ≡ opening → takes_after ≡ takes → after ≡ seen → (front rest : List ℕ) → Appends old mid front → left ≡ front ++ rest → Tells delivery None rest between
+  delivers_left : (delivery : Delivery) → opening_after ≡ opening → takes_after ≡ takes → after ≡ seen → (part rest : List ℕ) → Appends old mid part → left ≡ part ++ rest → Tells delivery None rest between
       → Delivers k taped delivery slot opening opening_after takes takes_after seen after old mid left between
-  delivers_left delivery o t s front rest written whole tells = record {
+  delivers_left delivery o t s part rest written whole tells = record {
     gave_shut = None;
     took = false;
     gave = [];
     gives = unasked o t s;
-    front = front;
+    part = part;
     rest = rest;
     written = written;
     whole = append-nil left ∙ whole;
@@ -43,15 +43,15 @@ module _ (k : Settings) (taped : Bool) (slot opening opening_after takes takes_a
     here = λ _. o;
   }
 
-  pub delivers_some : opening_after ≡ opening → takes_after ≡ takes → after ≡ seen → Sends sent.Some old mid left between → Delivers k taped Late slot opening opening_after takes takes_after seen after old mid left between
-  delivers_some o t s sends = delivers_left Late o t s sends.front sends.rest sends.written sends.whole sends.leaves
+  pub delivers_some : opening_after ≡ opening → takes_after ≡ takes → after ≡ seen → Sends sent.Some old mid left between → Delivers k taped Blocked slot opening opening_after takes takes_after seen after old mid left between
+  delivers_some o t s sends = delivers_left Blocked o t s sends.part sends.rest sends.written sends.whole sends.leaves
 
   pub delivers_failed : opening_after ≡ opening → takes_after ≡ takes → after ≡ seen → Sends sent.Failed old mid left between → Delivers k taped Over slot opening opening_after takes takes_after seen after old mid left between
-  delivers_failed o t s sends = delivers_left Over o t s sends.front sends.rest sends.written sends.whole sends.leaves.0
+  delivers_failed o t s sends = delivers_left Over o t s sends.part sends.rest sends.written sends.whole sends.leaves.0
 
   module _ (sends : Sends sent.All old mid left between) (took : Bool) (takes_so : Takes took takes takes_after) where
-    all_sent : left ≡ sends.front
-    all_sent = sends.whole ∙ (ap (λ rest. sends.front ++ rest) sends.leaves.0 ∙ append-nil sends.front)
+    all_sent : left ≡ sends.part
+    all_sent = sends.whole ∙ (ap (λ rest. sends.part ++ rest) sends.leaves.0 ∙ append-nil sends.part)
 
     -- the connection is over: the pen gave nothing to send
     delivers_nothing : Gives k taped slot opening opening_after takes takes_after seen after None took [] → Delivers k taped Over slot opening opening_after takes takes_after seen after old mid left between
@@ -60,10 +60,10 @@ module _ (k : Settings) (taped : Bool) (slot opening opening_after takes takes_a
       took = took;
       gave = [];
       gives = gives;
-      front = sends.front;
+      part = sends.part;
       rest = turn_of took [];
       written = sends.written;
-      whole = ap (λ front. front ++ turn_of took []) all_sent;
+      whole = ap (λ part. part ++ turn_of took []) all_sent;
       tells = sends.leaves.1;
       here = λ no. absurd (no refl);
     }
@@ -77,29 +77,29 @@ module _ (k : Settings) (taped : Bool) (slot opening opening_after takes takes_a
 
     module _ (drained : Drained) (same : drained.opening ≡ opening) (o : opening_after ≡ opening) (called : PenCalled k taped slot slot (Ok drained) seen after) (new : Option (List ℕ)) (due left_after : List ℕ) (is_due : due ≡ turn_of took drained.bytes.bytes) where
       -- it gave, and that was sent as far as the peer took it
-      delivers_given : (delivery : Delivery) (front rest : List ℕ) → Appends mid new front → due ≡ front ++ rest → Tells delivery (Some drained.shut) rest left_after
+      delivers_given : (delivery : Delivery) (part rest : List ℕ) → Appends mid new part → due ≡ part ++ rest → Tells delivery (Some drained.shut) rest left_after
           → Delivers k taped delivery slot opening opening_after takes takes_after seen after old new left left_after
-      delivers_given delivery front rest written whole tells = record {
+      delivers_given delivery part rest written whole tells = record {
         gave_shut = Some drained.shut;
         took = took;
         gave = drained.bytes.bytes;
         gives = given took drained same o takes_so called;
-        front = sends.front ++ front;
+        part = sends.part ++ part;
         rest = rest;
-        written = Appends-trans old mid new sends.front front sends.written written;
-        whole = ap (λ bytes. bytes ++ turn_of took drained.bytes.bytes) all_sent ∙ (ap (λ bytes. sends.front ++ bytes) (sym is_due ∙ whole) ∙ sym (append_assoc sends.front front rest));
+        written = Appends-trans old mid new sends.part part sends.written written;
+        whole = ap (λ bytes. bytes ++ turn_of took drained.bytes.bytes) all_sent ∙ (ap (λ bytes. sends.part ++ bytes) (sym is_due ∙ whole) ∙ sym (append_assoc sends.part part rest));
         tells = tells;
         here = λ _. o;
       }
 
       pub given_all : drained.shut ≡ false → Sends sent.All mid new due left_after → Delivers k taped Done slot opening opening_after takes takes_after seen after old new left left_after
-      given_all unshut more = delivers_given Done more.front more.rest more.written more.whole (ap Some unshut, more.leaves.0, more.leaves.1)
+      given_all unshut more = delivers_given Done more.part more.rest more.written more.whole (ap Some unshut, more.leaves.0, more.leaves.1)
 
       pub given_last : drained.shut ≡ true → Sends sent.All mid new due left_after → Delivers k taped Shut slot opening opening_after takes takes_after seen after old new left left_after
-      given_last shut more = delivers_given Shut more.front more.rest more.written more.whole (ap Some shut, more.leaves.0, more.leaves.1)
+      given_last shut more = delivers_given Shut more.part more.rest more.written more.whole (ap Some shut, more.leaves.0, more.leaves.1)
 
-      pub given_some : Sends sent.Some mid new due left_after → Delivers k taped Late slot opening opening_after takes takes_after seen after old new left left_after
-      given_some more = delivers_given Late more.front more.rest more.written more.whole more.leaves
+      pub given_some : Sends sent.Some mid new due left_after → Delivers k taped Blocked slot opening opening_after takes takes_after seen after old new left left_after
+      given_some more = delivers_given Blocked more.part more.rest more.written more.whole more.leaves
 
       pub given_failed : Sends sent.Failed mid new due left_after → Delivers k taped Over slot opening opening_after takes takes_after seen after old new left left_after
-      given_failed more = delivers_given Over more.front more.rest more.written more.whole more.leaves.0
+      given_failed more = delivers_given Over more.part more.rest more.written more.whole more.leaves.0

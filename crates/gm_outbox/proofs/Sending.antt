@@ -7,10 +7,10 @@ use Rattle.std.proofs.KnownBytes.{Appends-nil, Appends-trans}
 use Rattle.std.specs.Io.KnownBytes.{Appends}
 use Rattle.gm_outbox.specs.declared.message.Sent.{Sent}
 use Rattle.gm_outbox.specs.declared.message.Sent.TheVariants as sent
-use Rattle.gm_outbox.specs.Deliveries.{SendsFront}
+use Rattle.gm_outbox.specs.Deliveries.{SendsPrefix}
 use Rattle.gm_outbox.specs.Turns.{noop_if, Writes}
 
--- a front of what was due is sent, and this is left
+-- a prefix of what was due is sent, and this is left
 pub record Sending (old now : Option (List ℕ)) (due left : List ℕ) : Type 0 where
   pub sent : List ℕ
   pub written : Appends old now sent
@@ -20,8 +20,8 @@ pub sending_none : (old : Option (List ℕ)) (due : List ℕ) → Sending old ol
 sending_none old due = record { sent = []; written = Appends-nil old; whole = refl }
 
 -- some is left
-pub sending_late : (old now : Option (List ℕ)) (due left : List ℕ) → Sending old now due left → (left ≡ [] → ⊥) → SendsFront sent.Some old now due left
-sending_late old now due left so_far some = record { front = so_far.sent; written = so_far.written; whole = so_far.whole; all = λ is. absurd cc; unless_all = λ is. absurd (some is) }
+pub sending_blocked : (old now : Option (List ℕ)) (due left : List ℕ) → Sending old now due left → (left ≡ [] → ⊥) → SendsPrefix sent.Some old now due left
+sending_blocked old now due left so_far some = record { part = so_far.sent; written = so_far.written; whole = so_far.whole; all = λ is. absurd cc; unless_all = λ is. absurd (some is) }
 
 module _ (old now new : Option (List ℕ)) (due left after : List ℕ) (so_far : Sending old now due left) where
   joined : (sent : List ℕ) → left ≡ sent ++ after → due ≡ (so_far.sent ++ sent) ++ after
@@ -35,11 +35,11 @@ module _ (old now new : Option (List ℕ)) (due left after : List ℕ) (so_far :
   }
 
   -- the last write
-  pub sending_last : (outcome : Sent) → SendsFront outcome now new left after → SendsFront outcome old new due after
+  pub sending_last : (outcome : Sent) → SendsPrefix outcome now new left after → SendsPrefix outcome old new due after
   sending_last outcome last = record {
-    front = so_far.sent ++ last.front;
-    written = Appends-trans old now new so_far.sent last.front so_far.written last.written;
-    whole = joined last.front last.whole;
+    part = so_far.sent ++ last.part;
+    written = Appends-trans old now new so_far.sent last.part so_far.written last.written;
+    whole = joined last.part last.whole;
     all = last.all;
     unless_all = last.unless_all;
   }
@@ -57,9 +57,9 @@ module _ (old now new : Option (List ℕ)) (due bytes chunk rest moved noop : Li
       (ap (λ l. l ++ noop) (sym (take-append-drop count bytes)) ∙ (append_assoc (take count bytes) (drop count bytes) noop ∙ (λ j. taken j ++ (sym after j ++ noop))))
 
   -- the peer takes no more
-  pub chunk_stops : (stopped : Sent) → outcome ≡ stopped → (stopped ≡ sent.All → ⊥) → SendsFront stopped old new due (moved ++ noop)
+  pub chunk_stops : (stopped : Sent) → outcome ≡ stopped → (stopped ≡ sent.All → ⊥) → SendsPrefix stopped old new due (moved ++ noop)
   chunk_stops stopped is_stopped not_all = record {
-    front = chunk_sent.sent;
+    part = chunk_sent.sent;
     written = chunk_sent.written;
     whole = chunk_sent.whole;
     all = λ is. absurd (not_all is);
@@ -101,9 +101,9 @@ module _ (old new : Option (List ℕ)) (took : Bool) (sent count : ℕ) (outcome
   none_left : drop (sent + count) (noop_if took) ≡ [] → count ≡ length noop_rest
   none_left is = omega (arith, writes.within, sym (ap length (moves ∙ is)) ∙ length-drop count noop_rest)
 
-  pub noop_sent : (bytes : List ℕ) → bytes ≡ [] → SendsFront outcome old new (bytes ++ noop_rest) (bytes ++ drop (sent + count) (noop_if took))
+  pub noop_sent : (bytes : List ℕ) → bytes ≡ [] → SendsPrefix outcome old new (bytes ++ noop_rest) (bytes ++ drop (sent + count) (noop_if took))
   noop_sent _ none = rw none record {
-    front = take count noop_rest;
+    part = take count noop_rest;
     written = writes.written;
     whole = sym (take-append-drop count noop_rest) ∙ ap (λ l. take count noop_rest ++ l) moves;
     all = λ is. sym moves ∙ drop_of_length-le noop_rest (omega (arith, writes.all is));

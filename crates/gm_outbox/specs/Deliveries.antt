@@ -9,7 +9,7 @@ use Rattle.gm_shared.specs.Calls.{PenCalled}
 use Rattle.gm_outbox.specs.declared.message.Sent.{Sent}
 use Rattle.gm_outbox.specs.declared.message.Sent.TheVariants as sent
 use Rattle.gm_outbox.specs.declared.outbox.Delivery.{Delivery}
-use Rattle.gm_outbox.specs.declared.outbox.Delivery.TheVariants.{Done, Late, Shut, Over}
+use Rattle.gm_outbox.specs.declared.outbox.Delivery.TheVariants.{Done, Blocked, Shut, Over}
 use Rattle.gm_outbox.specs.declared.outbox.Message.{Message}
 use Rattle.gm_outbox.specs.Turns.{noop_if, turn_of}
 
@@ -25,11 +25,11 @@ abbrev pub left_in : Option Message → List ℕ
 left_in None = []
 left_in (Some message) = unsent message
 
--- A front of what was due was sent, and this is left; nothing exactly where all was.
-pub record SendsFront (outcome : Sent) (old new : Option (List ℕ)) (due left : List ℕ) : Type 0 where
-  pub front : List ℕ
-  pub written : Appends old new front
-  pub whole : due ≡ front ++ left
+-- A prefix of what was due was sent, and this is left; nothing exactly where all was.
+pub record SendsPrefix (outcome : Sent) (old new : Option (List ℕ)) (due left : List ℕ) : Type 0 where
+  pub part : List ℕ
+  pub written : Appends old new part
+  pub whole : due ≡ part ++ left
   pub all : outcome ≡ sent.All → left ≡ []
   pub unless_all : left ≡ [] → outcome ≡ sent.All
 
@@ -40,12 +40,12 @@ Leaves sent.All rest left = (rest ≡ []) × (left ≡ [])
 Leaves sent.Some rest left = (left ≡ rest) × (rest ≡ [] → ⊥)
 Leaves sent.Failed rest left = (left ≡ []) × (rest ≡ [] → ⊥)
 
--- A front of what was due was sent.
+-- A prefix of what was due was sent.
 pub record Sends (outcome : Sent) (old new : Option (List ℕ)) (due left : List ℕ) : Type 0 where
-  pub front : List ℕ
+  pub part : List ℕ
   pub rest : List ℕ
-  pub written : Appends old new front
-  pub whole : due ≡ front ++ rest
+  pub written : Appends old new part
+  pub whole : due ≡ part ++ rest
   pub leaves : Leaves outcome rest left
 
 -- ---- a delivery
@@ -69,7 +69,7 @@ pub data Gives (k : Settings) (taped : Bool) (slot opening opening_after takes t
 -- connection is over, and what wasn't sent is forgotten.
 abbrev pub Tells : Delivery → Option Bool → List ℕ → List ℕ → Type 0
 Tells Done gave_shut rest left = (gave_shut ≡ Some false) × (rest ≡ []) × (left ≡ [])
-Tells Late gave_shut rest left = (left ≡ rest) × (rest ≡ [] → ⊥)
+Tells Blocked gave_shut rest left = (left ≡ rest) × (rest ≡ [] → ⊥)
 Tells Shut gave_shut rest left = (gave_shut ≡ Some true) × (rest ≡ []) × (left ≡ [])
 Tells Over gave_shut rest left = left ≡ []
 
@@ -80,9 +80,9 @@ pub record Delivers (k : Settings) (taped : Bool) (delivery : Delivery) (slot op
   pub took : Bool
   pub gave : List ℕ
   pub gives : Gives k taped slot opening opening_after takes takes_after before after gave_shut took gave
-  pub front : List ℕ
+  pub part : List ℕ
   pub rest : List ℕ
-  pub written : Appends old new front
-  pub whole : left ++ turn_of took gave ≡ front ++ rest
+  pub written : Appends old new part
+  pub whole : left ++ turn_of took gave ≡ part ++ rest
   pub tells : Tells delivery gave_shut rest left_after
   pub here : (delivery ≡ Over → ⊥) → opening_after ≡ opening

@@ -21,7 +21,7 @@ pub enum Sent {
 }
 
 /// Whether a write only came too early.
-fn is_late(error: &Error) -> bool {
+fn is_blocked(error: &Error) -> bool {
     // Modelled in models/lane.h.
     let kind = error.kind();
     kind == ErrorKind::WouldBlock || kind == ErrorKind::TimedOut || kind == ErrorKind::Interrupted
@@ -49,7 +49,7 @@ pub(crate) fn write_once<E, W: Wire<E>>(bytes: &[u8], w: &mut W, by: &E) -> (usi
         Ok(count) => (count, Sent::Some),
         Err(error) => (
             0,
-            if is_late(&error) {
+            if is_blocked(&error) {
                 Sent::Some
             } else {
                 Sent::Failed

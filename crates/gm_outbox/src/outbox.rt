@@ -15,7 +15,7 @@ pub enum Delivery {
     /// All was sent.
     Done,
     /// The peer takes no more at present, or was sent as much as it is at a time; what is left waits in the outbox.
-    Late,
+    Blocked,
     /// All was sent, and the slot is shut: it is to be sent no more.
     Shut,
     /// There is no connection to send to.
@@ -42,7 +42,7 @@ pub struct Message {
 
 impl Message {
     ghost use Rattle.gm_outbox.specs.Turns.{turn_of};
-    ghost use Rattle.gm_outbox.specs.Deliveries.{noop_left, unsent, SendsFront};
+    ghost use Rattle.gm_outbox.specs.Deliveries.{noop_left, unsent, SendsPrefix};
 
     /// These bytes, and a NOOP where one was taken.
     pub fn new(bytes: ByteQueue, took: bool) -> Message
@@ -72,9 +72,9 @@ impl Message {
         &first[..first.len().min(MOST_WRITTEN)]
     }
 
-    /// Sends what isn't sent yet, the bytes in as many writes as it takes, and then the NOOP. After `MOST_WRITES` it is late.
+    /// Sends what isn't sent yet, the bytes in as many writes as it takes, and then the NOOP. After `MOST_WRITES` the rest waits.
     pub fn send<E, W: Wire<E>>(&mut self, w: &mut W, by: &E) -> Sent
-        ensures { SendsFront result (W.contents w.old) (W.contents w.new) (unsent self.old) (unsent self.new) }
+        ensures { SendsPrefix result (W.contents w.old) (W.contents w.new) (unsent self.old) (unsent self.new) }
     {
         // Modelled in models/lane.h.
         let mut writes_left = MOST_WRITES;
@@ -100,7 +100,7 @@ impl Message {
     /// Sends what isn't sent yet of the NOOP, where all of the bytes are.
     fn send_noop<E, W: Wire<E>>(&mut self, w: &mut W, by: &E) -> Sent
         requires { self.old.bytes.bytes ≡ [] }
-        ensures { SendsFront result (W.contents w.old) (W.contents w.new) (unsent self.old) (unsent self.new) }
+        ensures { SendsPrefix result (W.contents w.old) (W.contents w.new) (unsent self.old) (unsent self.new) }
     {
         // Modelled in models/lane.h.
         let (count, sent) = write_once(self.noop(), w, by);
@@ -208,7 +208,7 @@ impl<K: BookName> Outbox<K> {
         sent
     }
 
-    /// Sends a message, where nothing is left of the last one, and keeps what the peer is late to take.
+    /// Sends a message, where nothing is left of the last one, and keeps what the peer takes no more of at present.
     fn send_next<E, W: Wire<E>>(&mut self, mut message: Message, w: &mut W, by: &E) -> Sent
         requires { left_in self.old.left ≡ [] }
         ensures sends { Sends result (W.contents w.old) (W.contents w.new) (unsent message) (left_in self.new.left) }
@@ -233,13 +233,13 @@ impl<K: BookName> Outbox<K> {
         by: &E,
     ) -> Delivery
         ensures delivers { Delivers K.settings K.taped result self.old.pen.slot self.old.opening self.new.opening self.old.pen.seat.takes self.new.pen.seat.takes
-            self.old.pen.front.seen self.new.pen.front.seen (W.contents w.old) (W.contents w.new) (left_in self.old.left) (left_in self.new.left) }
+            self.old.pen.witness.seen self.new.pen.witness.seen (W.contents w.old) (W.contents w.new) (left_in self.old.left) (left_in self.new.left) }
         ensures slot { self.new.pen.slot ≡ self.old.pen.slot }
     {
         // Modelled in models/lane.h.
         match self.send_left(w, by) {
             Sent::All => {}
-            Sent::Some => return Delivery::Late,
+            Sent::Some => return Delivery::Blocked,
             Sent::Failed => return Delivery::Over,
         }
         let took = self.pen.take(shared);
@@ -258,7 +258,7 @@ impl<K: BookName> Outbox<K> {
         }
         match self.send_next(Message::new(bytes, took), w, by) {
             Sent::All => { if shut { Delivery::Shut } else { Delivery::Done } }
-            Sent::Some => Delivery::Late,
+            Sent::Some => Delivery::Blocked,
             Sent::Failed => Delivery::Over,
         }
     }

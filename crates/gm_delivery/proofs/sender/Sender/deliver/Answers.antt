@@ -8,6 +8,6 @@ pub invariant_of-self : goal.invariant_of-self
 invariant_of-self g c =
     let e = c.deliver_on.ensures in
     deliver_from (λ x. record { opening = x.opening; state = x.state; log = x.half.socket.2 }) _ _ c.deliver_on.result _ _ _ _ _ _ _ _ _ _ _ _ _ _ c.self.invariant c.in-Some.is
-    (λ t. let same = e.idle t in λ i. state_of (same.2 i).pen.slot (same.2 i).opening (same.2 i).pen.front.seen (same.2 i).pen.seat.takes (left_in (same.2 i).left)
+    (λ t. let same = e.idle t in λ i. state_of (same.2 i).pen.slot (same.2 i).opening (same.2 i).pen.witness.seen (same.2 i).pen.seat.takes (left_in (same.2 i).left)
     (Some record { opening = (same.1 i).opening; state = (same.1 i).state; log = (same.1 i).half.socket.2 }) c.self.inside.ledger)
     e.delivers e.state e.slot e.opening

@@ -2,7 +2,7 @@ use Rattle.gm_outbox.specs.declared.message.Sent.TheVariants as sent
 use Rattle.std.proofs.Common.{◌<◌, length, ap, arith, length-append}
 use Rattle.std.proofs.lemmas.Bool.Decides.{nat_tests}
 use Rattle.gm_outbox.specs.Deliveries.{noop_left}
-use Rattle.gm_outbox.proofs.Sending.{sending_none, sending_last, sending_late, chunk_sent, chunk_stops}
+use Rattle.gm_outbox.proofs.Sending.{sending_none, sending_last, sending_blocked, chunk_sent, chunk_stops}
 use Rattle.gm_outbox.proofs.outbox.Message.send.Goals as goal
 
 pub returns-then-is_empty : goal.returns-then-is_empty
@@ -31,5 +31,5 @@ returns-then-writes_left-eq0 g c =
     let chunk = c.next_chunk-chunk.result.now in
     let some : 0 < length chunk = (let is = c.is_empty.ensures in let there = c.if-is_empty.false in grind (arith, nat_tests)) in
     let first = c.next_chunk-chunk.ensures.first in
-    sending_late _ _ _ _ c.loop-chunk.invariant
+    sending_blocked _ _ _ _ c.loop-chunk.invariant
     (λ is. absurd (omega (arith, some, ap length is, length-append bytes (noop_left c.loop-chunk.self), ap length first.1, length-append chunk first.0)))

@@ -1,5 +1,0 @@
-use Rattle.std.proofs.Common.{◌≡◌}
-use Rattle.gm_delivery.proofs.lane.Lane.deliver_owed.Given as goal
-
-abbrev pub invariant-loop : goal.invariant-loop
-invariant-loop g l = l.owed.lane ≡ l.fn.self.word
