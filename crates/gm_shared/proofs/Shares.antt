@@ -9,7 +9,7 @@ use Rattle.gm_shared.specs.declared.tape.Entry.{Entry}
 use Rattle.gm_shared.specs.declared.tape.Told.{Told}
 use Rattle.gm_shared.specs.Tapes.{actor_is, actor_code, share_from, share_of, told_from, AreShares, AddUp, told_in_all}
 use Rattle.gm_shared.specs.Histories.{calls_by, Knows, AreOf, AreBelow}
-use Rattle.gm_shared.specs.Tokens.{FrontState}
+use Rattle.gm_shared.specs.Tokens.{WitnessState}
 use Rattle.gm_shared.specs.Shared.{numbers_below, everybody, actor_count, HasSeenOwn, IsShareOf}
 use Rattle.gm_shared.proofs.Places.{told_as, same_code, other_code}
 
@@ -204,9 +204,9 @@ everybody_adds_up slots taped log entries shares is below exact all =
 -- ---- the shares of those that are given back
 
 -- Where actors have seen all of themselves, the share of each is what the history has of it.
-pub exact_of : {A : Type 0} (taped : Bool) (log : List Entry) (actor : A → Actor) (share : A → List Told) (front : A → FrontState)
-    → ((x : A) → share x ≡ share_of taped (actor x) (front x).seen) → ((x : A) → (front x).who ≡ actor_code (actor x)) → (xs : List A)
-    → All (λ x. HasSeenOwn log (front x)) xs → All (λ x. share x ≡ share_of taped (actor x) log) xs
-exact_of taped log actor share front told who xs seen i none lt =
+pub exact_of : {A : Type 0} (taped : Bool) (log : List Entry) (actor : A → Actor) (share : A → List Told) (witness : A → WitnessState)
+    → ((x : A) → share x ≡ share_of taped (actor x) (witness x).seen) → ((x : A) → (witness x).who ≡ actor_code (actor x)) → (xs : List A)
+    → All (λ x. HasSeenOwn log (witness x)) xs → All (λ x. share x ≡ share_of taped (actor x) log) xs
+exact_of taped log actor share witness told who xs seen i none lt =
     let x = slice_index_or xs i none in
-    told x ∙ sym (share_known taped (actor x) log (front x).seen (subst (λ n. Knows log n (front x).seen) (who x) (seen i none lt)))
+    told x ∙ sym (share_known taped (actor x) log (witness x).seen (subst (λ n. Knows log n (witness x).seen) (who x) (seen i none lt)))

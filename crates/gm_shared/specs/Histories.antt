@@ -8,7 +8,7 @@ use Rattle.gm_shared.specs.Tapes.{actor_code}
 use Rattle.gm_shared.specs.declared.view.Note.{Note}
 use Rattle.gm_shared.specs.declared.view.Page.{Page}
 use Rattle.gm_shared.specs.declared.view.View.{View}
-use Rattle.gm_shared.specs.declared.view.View.TheVariants.{Keeper, Front, Spent}
+use Rattle.gm_shared.specs.declared.view.View.TheVariants.{Keeper, Witness, Spent}
 
 -- the entries of one actor
 abbrev pub calls_by : ℕ → List Entry → List Entry
@@ -36,7 +36,7 @@ AreBelow n (e ∷ es) = (actor_code e.actor < n) × AreBelow n es
 -- the note that a seat has
 abbrev pub note_of : View → Option Note
 note_of (Keeper page) = page.held
-note_of (Front note) = Some note
+note_of (Witness note) = Some note
 note_of Spent = None
 
 pub record Fits (page : Page) (note : Note) : Type 0 where
@@ -65,19 +65,19 @@ abbrev pub with_held : Option Note → Page → Page
 with_held held page = record { log = page.log; made = page.made; held = held }
 
 abbrev pub holding : View → View → View
-holding (Keeper page) (Front note) = Keeper (with_held (Some note) page)
+holding (Keeper page) (Witness note) = Keeper (with_held (Some note) page)
 holding view other = view
 
 abbrev pub let_go : View → View
 let_go (Keeper page) = Keeper (with_held None page)
 let_go view = view
 
-abbrev pub front_if : Option Note → View
-front_if (Some note) = Front note
-front_if None = Spent
+abbrev pub witness_if : Option Note → View
+witness_if (Some note) = Witness note
+witness_if None = Spent
 
 abbrev pub given : View → View
-given (Keeper page) = front_if page.held
+given (Keeper page) = witness_if page.held
 given view = Spent
 
 abbrev pub with_next : View → View
@@ -85,7 +85,7 @@ with_next (Keeper page) = Keeper record { log = page.log; made = page.made + 1; 
 with_next view = view
 
 abbrev pub next : View → View
-next (Keeper page) = Front record { who = page.made; seen = page.log }
+next (Keeper page) = Witness record { who = page.made; seen = page.log }
 next view = Spent
 
 -- the keeper's page, once these entries are added for the actor of a note

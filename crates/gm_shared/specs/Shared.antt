@@ -19,7 +19,7 @@ use Rattle.gm_shared.specs.Tapes.{AddUp, share_of, steps_of, Legal}
 use Rattle.gm_shared.specs.Books.{takings, BookedAgrees}
 use Rattle.gm_shared.specs.Histories.{Knows, AreBelow}
 use Rattle.gm_shared.specs.Openings.{Counts}
-use Rattle.gm_shared.specs.Tokens.{KeeperState, FrontState}
+use Rattle.gm_shared.specs.Tokens.{KeeperState, WitnessState}
 
 -- a book that nobody shares yet, the settings under which it serves, and whether it keeps a tape
 pub record BlankState : Type 0 where
@@ -36,7 +36,7 @@ pub record IsBlank (table : TableId) (k : Settings) (slots : ℕ) (booked : Book
   pub seats_are : seats ≡ fresh_pens table slots
   pub unopened : booked.openings ≡ replicate slots 0
 
--- a count of fronts were made of a history without an entry
+-- a count of witnesses were made of a history without an entry
 pub record HasMade (count : ℕ) (history : TableId) (keeper : KeeperState) : Type 0 where
   pub history_is : keeper.table ≡ history
   pub empty : keeper.log ≡ []
@@ -67,9 +67,9 @@ pub record GuardedState : Type 0 where
 
 -- ---- the end
 
--- the history has nothing of a front's actor that it hasn't seen
-abbrev pub HasSeenOwn : List Entry → FrontState → Type 0
-HasSeenOwn log front = Knows log front.who front.seen
+-- the history has nothing of a witness's actor that it hasn't seen
+abbrev pub HasSeenOwn : List Entry → WitnessState → Type 0
+HasSeenOwn log witness = Knows log witness.who witness.seen
 
 -- a pen took the NOOPs that were entered as taken, or one more, where its slot is said to be owed one still
 abbrev pub TookThose : Settings → List Step → PenState → Type 0
@@ -95,8 +95,8 @@ IsShareOf taped log share = share.1 ≡ share_of taped share.0 log
 
 -- What a book was when it ended: the history that is handed out is legal, the core agrees with its steps, and the tape, if one was kept, is it.
 -- Each entry is of an actor of this book. These are the shares of the desks and pens that were given back, each what the history has of its
--- own, and these their fronts.
-pub record IsEnded (k : Settings) (taped : Bool) (settled : Settled) (shares : List (Actor × List Told)) (fronts : List FrontState) : Type 0 where
+-- own, and these their witnesses.
+pub record IsEnded (k : Settings) (taped : Bool) (settled : Settled) (shares : List (Actor × List Told)) (witnesses : List WitnessState) : Type 0 where
   pub log : List Entry
   pub log_is : settled.history.log ≡ log
   pub legal : Legal k log
@@ -105,23 +105,23 @@ pub record IsEnded (k : Settings) (taped : Bool) (settled : Settled) (shares : L
   pub whose : AreBelow (actor_count k.slots) log
   pub shares_are : map told_by settled.shares.items ≡ shares
   pub exact : All (IsShareOf taped log) shares
-  pub seen : All (HasSeenOwn log) fronts
+  pub seen : All (HasSeenOwn log) witnesses
 
 -- The shares add up, and the pens took what was entered.
-pub record IsSettled (k : Settings) (taped : Bool) (settled : Settled) (shares : List (Actor × List Told)) (fronts : List FrontState) (pens : List PenState) : Type 0 where
-  pub ended : IsEnded k taped settled shares fronts
+pub record IsSettled (k : Settings) (taped : Bool) (settled : Settled) (shares : List (Actor × List Told)) (witnesses : List WitnessState) (pens : List PenState) : Type 0 where
+  pub ended : IsEnded k taped settled shares witnesses
   pub up : AddUp settled.tape.items shares
   pub takes : All (TookThose k (steps_of ended.log)) pens
 
 -- The shares don't add up, and one is missing.
-pub record IsUnsettled (k : Settings) (taped : Bool) (settled : Settled) (shares : List (Actor × List Told)) (fronts : List FrontState) : Type 0 where
-  pub ended : IsEnded k taped settled shares fronts
+pub record IsUnsettled (k : Settings) (taped : Bool) (settled : Settled) (shares : List (Actor × List Told)) (witnesses : List WitnessState) : Type 0 where
+  pub ended : IsEnded k taped settled shares witnesses
   pub apart : AddUp settled.tape.items shares → ⊥
   pub missing : map (λ (share : Actor × List Told). share.0) shares ≡ everybody k.slots → ⊥
 
-abbrev pub WhySo : Settings → Bool → SettleError → List (Actor × List Told) → List FrontState → Type 0
-WhySo k taped Memory shares fronts = Unit {0}
-WhySo k taped (Differs settled) shares fronts = IsUnsettled k taped settled shares fronts
+abbrev pub WhySo : Settings → Bool → SettleError → List (Actor × List Told) → List WitnessState → Type 0
+WhySo k taped Memory shares witnesses = Unit {0}
+WhySo k taped (Differs settled) shares witnesses = IsUnsettled k taped settled shares witnesses
 
 -- what holds of a book that ended, whether its shares add up or not
 abbrev pub IfSettled : (Settled → Type 0) → Result Settled SettleError → Type 0

@@ -11,7 +11,7 @@ use Rattle.gm_shared.specs.declared.what.What.TheVariants as whats
 use Rattle.gm_shared.specs.declared.view.Note.{Note}
 use Rattle.gm_shared.specs.declared.view.Page.{Page}
 use Rattle.gm_shared.specs.declared.view.View.{View}
-use Rattle.gm_shared.specs.declared.view.View.TheVariants.{Keeper, Front, Spent}
+use Rattle.gm_shared.specs.declared.view.View.TheVariants.{Keeper, Witness, Spent}
 use Rattle.gm_shared.specs.Tapes.{tape_step, noop_entries, event_entry, drain_entry}
 
 -- ---- what is entered
@@ -55,12 +55,12 @@ pub record SitsAtKeeper (seat : Seat (Unit {0}) View) : Type 0 where
 abbrev pub kept_more : List Entry → KeeperState → KeeperState
 kept_more es keeper = record { table = keeper.table; log = es ++ keeper.log; made = keeper.made }
 
-abbrev pub one_front_more : KeeperState → KeeperState
-one_front_more keeper = record { table = keeper.table; log = keeper.log; made = keeper.made + 1 }
+abbrev pub one_witness_more : KeeperState → KeeperState
+one_witness_more keeper = record { table = keeper.table; log = keeper.log; made = keeper.made + 1 }
 
--- ---- the front
+-- ---- the witness
 
-pub record FrontState : Type 0 where
+pub record WitnessState : Type 0 where
   pub table : TableId
   pub who : ℕ
   pub seen : List Entry
@@ -71,17 +71,17 @@ no_note = record { who = 0; seen = [] }
 abbrev pub note_in : List View → Note
 note_in [] = no_note
 note_in (Keeper page ∷ views) = no_note
-note_in (Front note ∷ views) = note
+note_in (Witness note ∷ views) = note
 note_in (Spent ∷ views) = no_note
 
-abbrev pub front_state : TableId → List View → FrontState
-front_state table views = record { table = table; who = (note_in views).who; seen = (note_in views).seen }
+abbrev pub witness_state : TableId → List View → WitnessState
+witness_state table views = record { table = table; who = (note_in views).who; seen = (note_in views).seen }
 
 abbrev pub HasNote : List View → Type 0
-HasNote views = (note : Note) × (views ≡ Front note ∷ [])
+HasNote views = (note : Note) × (views ≡ Witness note ∷ [])
 
-abbrev pub sees : List Entry → FrontState → FrontState
-sees log front = record { table = front.table; who = front.who; seen = log }
+abbrev pub sees : List Entry → WitnessState → WitnessState
+sees log witness = record { table = witness.table; who = witness.who; seen = log }
 
-abbrev pub next_front : KeeperState → FrontState
-next_front keeper = record { table = keeper.table; who = keeper.made; seen = keeper.log }
+abbrev pub next_witness : KeeperState → WitnessState
+next_witness keeper = record { table = keeper.table; who = keeper.made; seen = keeper.log }

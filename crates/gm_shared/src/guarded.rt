@@ -15,7 +15,7 @@ ghost use Rattle.std.specs.Result.{IsErrOf};
 
 use crate::book::Booked;
 use crate::events::Noop;
-use crate::history::{Front, History, Keeper};
+use crate::history::{History, Keeper, Witness};
 use crate::name::BookName;
 use crate::receipt::{Drained, Receipt};
 use crate::tape::Told;
@@ -76,7 +76,7 @@ impl<K: BookName> Guarded<K> {
         &mut self,
         table: &SleepTable,
         history: &History,
-        front: &mut Front,
+        witness: &mut Witness,
         desk: u32,
         read: &ReadEvent<'_>,
         share: &mut Vec<Told>,
@@ -87,12 +87,12 @@ impl<K: BookName> Guarded<K> {
         requires reads { ReadsEvent read.now.event read.now.action }
         requires table { table.now ≡ K.table }
         requires history { history.now ≡ K.history }
-        requires front { front.old.table ≡ K.history }
-        requires who { front.old.who ≡ 2 * desk }
-        requires told { share.old.items ≡ share_of K.taped (actors.Desk desk) front.old.seen }
-        ensures called { DeskCalled K.settings K.taped (step_of read.now.event) desk result touched.new front.old.seen front.new.seen }
-        ensures told { share.new.items ≡ share_of K.taped (actors.Desk desk) front.new.seen }
-        ensures front { front.new ≡ sees self.new.log front.old }
+        requires witness { witness.old.table ≡ K.history }
+        requires who { witness.old.who ≡ 2 * desk }
+        requires told { share.old.items ≡ share_of K.taped (actors.Desk desk) witness.old.seen }
+        ensures called { DeskCalled K.settings K.taped (step_of read.now.event) desk result touched.new witness.old.seen witness.new.seen }
+        ensures told { share.new.items ≡ share_of K.taped (actors.Desk desk) witness.new.seen }
+        ensures witness { witness.new ≡ sees self.new.log witness.old }
         ensures holding { (steps : List Step) → BookedAgrees self.old.booked K.settings steps
             → (told : List Told) × (noop : Noop) × Held K.settings steps (step_of read.now.event) desk noop result touched.new self.old.booked self.new.booked told }
         ensures refused { IfErr result (λ _. touched.new ≡ touched.old) }
@@ -106,7 +106,7 @@ impl<K: BookName> Guarded<K> {
             .hold(table, desk, read, share, touched, freed, &mut noop);
         let done = done_in(&result);
         self.keeper
-            .enter(history, front, desk, What::Call(noop, read.event, done));
+            .enter(history, witness, desk, What::Call(noop, read.event, done));
         result
     }
 
@@ -114,18 +114,18 @@ impl<K: BookName> Guarded<K> {
     pub(crate) fn drain(
         &mut self,
         history: &History,
-        front: &mut Front,
+        witness: &mut Witness,
         pen: u32,
         slot: u32,
         share: &mut Vec<Told>,
     ) -> Result<Drained, ApplyError>
         requires history { history.now ≡ K.history }
-        requires front { front.old.table ≡ K.history }
-        requires who { front.old.who ≡ 2 * pen + 1 }
-        requires told { share.old.items ≡ share_of K.taped (actors.Pen pen) front.old.seen }
-        ensures called { PenCalled K.settings K.taped pen slot result front.old.seen front.new.seen }
-        ensures told { share.new.items ≡ share_of K.taped (actors.Pen pen) front.new.seen }
-        ensures front { front.new ≡ sees self.new.log front.old }
+        requires witness { witness.old.table ≡ K.history }
+        requires who { witness.old.who ≡ 2 * pen + 1 }
+        requires told { share.old.items ≡ share_of K.taped (actors.Pen pen) witness.old.seen }
+        ensures called { PenCalled K.settings K.taped pen slot result witness.old.seen witness.new.seen }
+        ensures told { share.new.items ≡ share_of K.taped (actors.Pen pen) witness.new.seen }
+        ensures witness { witness.new ≡ sees self.new.log witness.old }
         ensures drains { (steps : List Step) → BookedAgrees self.old.booked K.settings steps
             → (told : List Told) × Drains K.settings steps pen slot result self.old.booked self.new.booked told }
     {
@@ -135,18 +135,18 @@ impl<K: BookName> Guarded<K> {
             Ok(drained) => What::Drain(slot, &drained.bytes),
             Err(_) => What::Nothing,
         };
-        self.keeper.enter(history, front, pen, what);
+        self.keeper.enter(history, witness, pen, what);
         result
     }
 
-    /// The end of an actor that has this front: the history has nothing of it that is newer.
-    pub(crate) fn give_back(&mut self, history: &History, front: &mut Front)
+    /// The end of an actor that has this witness: the history has nothing of it that is newer.
+    pub(crate) fn give_back(&mut self, history: &History, witness: &mut Witness)
         requires history { history.now ≡ K.history }
-        requires front { front.old.table ≡ K.history }
-        ensures seen { HasSeenOwn self.old.log front.old }
+        requires witness { witness.old.table ≡ K.history }
+        ensures seen { HasSeenOwn self.old.log witness.old }
         ensures kept { self.new ≡ self.old }
     {
-        self.keeper.enter(history, front, 0, What::Nothing);
+        self.keeper.enter(history, witness, 0, What::Nothing);
     }
 
     /// The book, which is under no lock any more, and the keeper of its history.

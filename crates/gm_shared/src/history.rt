@@ -2,7 +2,7 @@
 
 ghost use Rattle.std.specs.Prelude.{◌≡◌, ◌+◌, ◌++◌, [], IfOk};
 ghost use Rattle.gm_shared.specs.Histories.{Knows, AreBelow, AreOf};
-ghost use Rattle.gm_shared.specs.Tokens.{entries_of, kept_more, sees, next_front, one_front_more};
+ghost use Rattle.gm_shared.specs.Tokens.{entries_of, kept_more, sees, next_witness, one_witness_more};
 
 use crate::rule::{Enter, Entered, Hands, HistoryRule, Makes};
 use crate::view::View;
@@ -49,16 +49,16 @@ impl Model for Keeper {
 
 /// What one actor, a desk or a pen, has seen of the history. It has no bytes. There is one for each actor.
 #[derive(Drop)]
-pub struct Front {
+pub struct Witness {
     badge: Badge<View>,
 }
 
-impl Model for Front {
-    ghost use Rattle.gm_shared.specs.Tokens.{FrontState, front_state, HasNote};
+impl Model for Witness {
+    ghost use Rattle.gm_shared.specs.Tokens.{WitnessState, witness_state, HasNote};
 
-    ghost Value = { FrontState };
+    ghost Value = { WitnessState };
 
-    ghost view = { λ f. front_state f.badge.table_id f.badge.views };
+    ghost view = { λ f. witness_state f.badge.table_id f.badge.views };
 
     ghost invariant = { λ f. HasNote f.badge.views };
 }
@@ -77,12 +77,12 @@ impl History {
 
 impl Keeper {
     /// The next actor, which has seen what there is.
-    pub(crate) fn new_front(&mut self, history: &History) -> Front
+    pub(crate) fn new_witness(&mut self, history: &History) -> Witness
         requires { self.old.table ≡ history.now }
-        ensures front { result ≡ next_front self.old }
-        ensures keeper { self.new ≡ one_front_more self.old }
+        ensures witness { result ≡ next_witness self.old }
+        ensures keeper { self.new ≡ one_witness_more self.old }
     {
-        Front {
+        Witness {
             badge: history
                 .words
                 .shared
@@ -95,24 +95,24 @@ impl Keeper {
     fn enter_as<E: Entered>(
         &mut self,
         history: &History,
-        front: &mut Front,
+        witness: &mut Witness,
         _number: u32,
         _what: What<'_>,
     )
         requires keeper { self.old.table ≡ history.now }
-        requires front { front.old.table ≡ history.now }
+        requires witness { witness.old.table ≡ history.now }
         requires entries { E.entries ≡ entries_of _number _what }
-        requires own { AreOf front.old.who (entries_of _number _what) }
-        ensures knows { Knows self.old.log front.old.who front.old.seen }
+        requires own { AreOf witness.old.who (entries_of _number _what) }
+        ensures knows { Knows self.old.log witness.old.who witness.old.seen }
         ensures whose { AreBelow self.old.made (entries_of _number _what.entry ++ self.old.log) }
         ensures keeper { self.new ≡ kept_more (entries_of _number _what.entry) self.old }
-        ensures front { front.new ≡ sees (entries_of _number _what.entry ++ self.old.log) front.old }
+        ensures witness { witness.new ≡ sees (entries_of _number _what.entry ++ self.old.log) witness.old }
     {
         let table = &history.words.shared;
-        let badge = mem::replace(&mut front.badge, Badge::blank());
+        let badge = mem::replace(&mut witness.badge, Badge::blank());
         table.join_seat::<Hands>(&mut self.seat, badge.into_seat());
         let _zero = table.load::<Enter<E>>(&mut self.seat, 0);
-        front.badge = table.split_seat::<Hands>(&mut self.seat).into_badge();
+        witness.badge = table.split_seat::<Hands>(&mut self.seat).into_badge();
     }
 
     /// Adds what the actor did, and lets it see the history, which goes on from what it had seen, with nothing of the actor
@@ -120,18 +120,18 @@ impl Keeper {
     pub(crate) fn enter(
         &mut self,
         history: &History,
-        front: &mut Front,
+        witness: &mut Witness,
         number: u32,
         what: What<'_>,
     )
         requires keeper { self.old.table ≡ history.now }
-        requires front { front.old.table ≡ history.now }
-        requires own { AreOf front.old.who (entries_of number what) }
-        ensures knows { Knows self.old.log front.old.who front.old.seen }
+        requires witness { witness.old.table ≡ history.now }
+        requires own { AreOf witness.old.who (entries_of number what) }
+        ensures knows { Knows self.old.log witness.old.who witness.old.seen }
         ensures whose { AreBelow self.old.made (entries_of number what.entry ++ self.old.log) }
         ensures keeper { self.new ≡ kept_more (entries_of number what.entry) self.old }
-        ensures front { front.new ≡ sees (entries_of number what.entry ++ self.old.log) front.old }
+        ensures witness { witness.new ≡ sees (entries_of number what.entry ++ self.old.log) witness.old }
     {
-        self.enter_as::<Brand>(history, front, number, what)
+        self.enter_as::<Brand>(history, witness, number, what)
     }
 }

@@ -15,6 +15,7 @@
 //! desks and the pens were told.
 #![tactic(auto)]
 
+mod adding_up;
 mod blank;
 mod book;
 mod events;

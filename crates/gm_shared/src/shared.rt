@@ -15,7 +15,7 @@ ghost use Rattle.std.specs.Result.{IsErrOf};
 
 use crate::blank::Blank;
 use crate::guarded::Guarded;
-use crate::history::{Front, History, Keeper};
+use crate::history::{History, Keeper, Witness};
 use crate::name::BookName;
 use crate::receipt::{Drained, Receipt};
 use crate::tape::Told;
@@ -44,10 +44,10 @@ pub struct Shared<K: BookName> {
 pub struct Desk<K: BookName> {
     pub(crate) number: u32,
     pub(crate) share: Vec<Told>,
-    pub(crate) front: Front,
+    pub(crate) witness: Witness,
     of: PhantomData<K>,
-    ghost fronted: { (front.table ≡ K.history) × (front.who ≡ 2 * number) },
-    ghost told: { share.items ≡ share_of K.taped (actors.Desk number) front.seen },
+    ghost witnessed: { (witness.table ≡ K.history) × (witness.who ≡ 2 * number) },
+    ghost told: { share.items ≡ share_of K.taped (actors.Desk number) witness.seen },
 }
 
 /// What takes out of the book what waits for one slot: its NOOP, and its bytes. Its number on the tape is its slot's;
@@ -57,13 +57,13 @@ pub struct Pen<K: BookName> {
     pub(crate) slot: u32,
     pub(crate) seat: PenSeat,
     pub(crate) share: Vec<Told>,
-    pub(crate) front: Front,
+    pub(crate) witness: Witness,
     of: PhantomData<K>,
-    ghost fronted: { (front.table ≡ K.history) × (front.who ≡ 2 * slot + 1) },
-    ghost told: { share.items ≡ share_of K.taped (actors.Pen slot) front.seen },
+    ghost witnessed: { (witness.table ≡ K.history) × (witness.who ≡ 2 * slot + 1) },
+    ghost told: { share.items ≡ share_of K.taped (actors.Pen slot) witness.seen },
     ghost named: { seat.table ≡ K.table },
     ghost sits: { seat.slot ≡ slot },
-    ghost own: { drains_alone slot (calls_by (2 * slot + 1) front.seen) ≡ true },
+    ghost own: { drains_alone slot (calls_by (2 * slot + 1) witness.seen) ≡ true },
 }
 
 impl<K: BookName> Shared<K> {
@@ -79,8 +79,8 @@ impl<K: BookName> Shared<K> {
         ensures desks { IfOk result (λ made. map (λ desk. desk.number) made.1.items ≡ numbers_below blank.settings.slots) }
         ensures pens { IfOk result (λ made. map (λ pen. pen.slot) made.2.items ≡ numbers_below blank.settings.slots) }
         ensures control { IfOk result (λ made. made.3.number ≡ blank.settings.slots) }
-        ensures nothing_seen { IfOk result (λ made. All (λ desk. desk.front.seen ≡ []) made.1.items × (made.3.front.seen ≡ [])) }
-        ensures nothing_given { IfOk result (λ made. All (λ pen. (pen.front.seen ≡ []) × (pen.seat.takes ≡ 0)) made.2.items) }
+        ensures nothing_seen { IfOk result (λ made. All (λ desk. desk.witness.seen ≡ []) made.1.items × (made.3.witness.seen ≡ [])) }
+        ensures nothing_given { IfOk result (λ made. All (λ pen. (pen.witness.seen ≡ []) × (pen.seat.takes ≡ 0)) made.2.items) }
     {
         let Blank {
             table,
@@ -91,7 +91,7 @@ impl<K: BookName> Shared<K> {
             slots,
         } = blank;
         let (desks, pens) = new_owners(alloc, &history, &mut keeper, seats, slots)?;
-        let control = Desk::new(alloc, slots, keeper.new_front(&history));
+        let control = Desk::new(alloc, slots, keeper.new_witness(&history));
         let shared = Shared {
             table,
             history,
@@ -102,16 +102,16 @@ impl<K: BookName> Shared<K> {
 }
 
 impl<K: BookName> Desk<K> {
-    fn new(alloc: Global, number: u32, front: Front) -> Desk<K>
-        requires front { (front.table ≡ K.history) × (front.who ≡ 2 * number) }
-        requires nothing_seen { front.seen ≡ [] }
+    fn new(alloc: Global, number: u32, witness: Witness) -> Desk<K>
+        requires witness { (witness.table ≡ K.history) × (witness.who ≡ 2 * number) }
+        requires nothing_seen { witness.seen ≡ [] }
         ensures number { result.number ≡ number }
-        ensures front { result.front ≡ front }
+        ensures witness { result.witness ≡ witness }
     {
         Desk {
             number,
             share: Vec::new(alloc),
-            front,
+            witness,
             of: PhantomData,
         }
     }
@@ -134,10 +134,10 @@ impl<K: BookName> Desk<K> {
     ) -> Result<Receipt, ApplyError>
         requires size { IsSized read.now.event }
         requires reads { ReadsEvent read.now.event read.now.action }
-        ensures called { DeskCalled K.settings K.taped (step_of read.now.event) self.old.number result touched.new self.old.front.seen self.new.front.seen }
+        ensures called { DeskCalled K.settings K.taped (step_of read.now.event) self.old.number result touched.new self.old.witness.seen self.new.witness.seen }
         ensures refused { IfErr result (λ _. touched.new ≡ touched.old) }
         ensures kept { KeepsSlots touched.old touched.new }
-        ensures hands { HandedIn self.old.number (if_taken (step_of read.now.event) result) self.old.front.seen self.new.front.seen }
+        ensures hands { HandedIn self.old.number (if_taken (step_of read.now.event) result) self.old.witness.seen self.new.witness.seen }
         ensures memory { NeedsNoMemory K.taped (step_of read.now.event) → IsErrOf result ApplyError.Memory → ⊥ }
         ensures number { self.new.number ≡ self.old.number }
     {
@@ -147,7 +147,7 @@ impl<K: BookName> Desk<K> {
         let result = shared.book.lock(rt).apply(
             &shared.table,
             &shared.history,
-            &mut self.front,
+            &mut self.witness,
             self.number,
             read,
             share,
@@ -160,19 +160,19 @@ impl<K: BookName> Desk<K> {
 }
 
 impl<K: BookName> Pen<K> {
-    fn new(alloc: Global, slot: u32, seat: PenSeat, front: Front) -> Pen<K>
+    fn new(alloc: Global, slot: u32, seat: PenSeat, witness: Witness) -> Pen<K>
         requires seat { (seat.table ≡ K.table) × (seat.slot ≡ slot) }
-        requires front { (front.table ≡ K.history) × (front.who ≡ 2 * slot + 1) }
-        requires nothing_seen { front.seen ≡ [] }
+        requires witness { (witness.table ≡ K.history) × (witness.who ≡ 2 * slot + 1) }
+        requires nothing_seen { witness.seen ≡ [] }
         ensures slot { result.slot ≡ slot }
         ensures seat { result.seat ≡ seat }
-        ensures front { result.front ≡ front }
+        ensures witness { result.witness ≡ witness }
     {
         Pen {
             slot,
             seat,
             share: Vec::new(alloc),
-            front,
+            witness,
             of: PhantomData,
         }
     }
@@ -189,7 +189,7 @@ impl<K: BookName> Pen<K> {
     pub fn take(&mut self, shared: &Shared<K>) -> bool
         ensures slot { self.new.slot ≡ self.old.slot }
         ensures share { self.new.share ≡ self.old.share }
-        ensures front { self.new.front ≡ self.old.front }
+        ensures witness { self.new.witness ≡ self.old.witness }
         ensures tries { self.new.seat.tries ≡ self.old.seat.tries + 1 }
         ensures takes { MatchBool result (self.new.seat.takes ≡ self.old.seat.takes + 1) (self.new.seat.takes ≡ self.old.seat.takes) }
     {
@@ -202,14 +202,14 @@ impl<K: BookName> Pen<K> {
     /// of it. It may wait for the lock. Without a tape it needs no memory; with one the drain is in the pen's share, and
     /// `Memory` comes where there is none for that, and changes nothing.
     pub fn drain(&mut self, rt: &impl Wait, shared: &Shared<K>) -> Result<Drained, ApplyError>
-        ensures called { PenCalled K.settings K.taped self.old.slot self.old.slot result self.old.front.seen self.new.front.seen }
+        ensures called { PenCalled K.settings K.taped self.old.slot self.old.slot result self.old.witness.seen self.new.witness.seen }
         ensures slot { self.new.slot ≡ self.old.slot }
         ensures seat { self.new.seat ≡ self.old.seat }
     {
         // Modelled in models/lane.h.
         shared.book.lock(rt).drain(
             &shared.history,
-            &mut self.front,
+            &mut self.witness,
             self.slot,
             self.slot,
             &mut self.share,
@@ -230,16 +230,16 @@ fn new_owners<K: BookName>(
     requires new { IsNew K.history keeper.old }
     ensures numbers { IfOk result (λ made. map (λ desk. desk.number) made.0.items ≡ numbers_below slots) }
     ensures slots { IfOk result (λ made. map (λ pen. pen.slot) made.1.items ≡ numbers_below slots) }
-    ensures nothing_seen { IfOk result (λ made. All (λ desk. desk.front.seen ≡ []) made.0.items) }
-    ensures nothing_given { IfOk result (λ made. All (λ pen. (pen.front.seen ≡ []) × (pen.seat.takes ≡ 0)) made.1.items) }
+    ensures nothing_seen { IfOk result (λ made. All (λ desk. desk.witness.seen ≡ []) made.0.items) }
+    ensures nothing_given { IfOk result (λ made. All (λ pen. (pen.witness.seen ≡ []) × (pen.seat.takes ≡ 0)) made.1.items) }
     ensures keeper { OnOk result (HasMade (2 * slots) K.history keeper.new) }
 {
     let mut desks = Vec::with_capacity(alloc, slots as usize)?;
     let mut pens = Vec::with_capacity(alloc, slots as usize)?;
     let mut slot = 0;
     for seat in seats {
-        desks.push_reserved(Desk::new(alloc, slot, keeper.new_front(history)));
-        pens.push_reserved(Pen::new(alloc, slot, seat, keeper.new_front(history)));
+        desks.push_reserved(Desk::new(alloc, slot, keeper.new_witness(history)));
+        pens.push_reserved(Pen::new(alloc, slot, seat, keeper.new_witness(history)));
         slot += 1;
     }
     Ok((desks, pens))

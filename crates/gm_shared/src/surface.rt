@@ -16,7 +16,7 @@ use crate::events::Noop;
 use crate::name::BookName;
 use crate::receipt::{Drained, Receipt};
 use crate::shared::{Desk, Shared};
-use gm_actions::{Action, ReadEvent};
+use gm_actions::ReadEvent;
 use gm_conns::SlotSet;
 use gm_laws::laws::may_be_taken_later;
 use gm_notes::{ApplyError, Event};
@@ -50,14 +50,10 @@ impl Booked {
         let mut share = Vec::new(self.alloc);
         let mut touched = SlotSet::new();
         let mut noop = Noop::Left;
-        let action = Action::of_event(event);
         self.hold(
             table,
             desk,
-            &ReadEvent {
-                event: *event,
-                action,
-            },
+            &ReadEvent::new(*event),
             &mut share,
             &mut touched,
             &mut None,
@@ -90,13 +86,12 @@ impl<K: BookName> Desk<K> {
         event: Event<'_>,
     ) -> Result<Receipt, ApplyError>
         requires { IsSized event }
-        ensures called { Called K.settings K.taped (step_of event.entry) self.old.number result self.old.front.seen self.new.front.seen }
-        ensures hands { HandedIn self.old.number (if_taken (step_of event.entry) result) self.old.front.seen self.new.front.seen }
+        ensures called { Called K.settings K.taped (step_of event.entry) self.old.number result self.old.witness.seen self.new.witness.seen }
+        ensures hands { HandedIn self.old.number (if_taken (step_of event.entry) result) self.old.witness.seen self.new.witness.seen }
         ensures memory { NeedsNoMemory K.taped (step_of event.entry) → IsErrOf result ApplyError.Memory → ⊥ }
         ensures number { self.new.number ≡ self.old.number }
     {
         let mut touched = SlotSet::new();
-        let action = Action::of_event(&event);
-        self.apply_with(rt, shared, &ReadEvent { event, action }, &mut touched)
+        self.apply_with(rt, shared, &ReadEvent::new(event), &mut touched)
     }
 }

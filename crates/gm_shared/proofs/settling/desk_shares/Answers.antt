@@ -10,7 +10,7 @@ loop-desk-preserved g c = record {
   shares_are = moved (λ desk. (actors.Desk desk.number, desk.share.items)) _ _ _ _ _ c.in-Some-desk.desk _ (ap (map told_by) c.push_reserved.ensures.items ∙ map-append told_by c.loop-desk.shares.items _)
       c.in-Some-desk.ensures.steps.0 refl c.loop-desk.invariant.shares_are;
   room = search rules;
-  seen = all_before (λ desk. HasSeenOwn c.args.guarded.now.log desk.front) c.args.desks.items _ _ c.in-Some-desk.desk c.in-Some-desk.ensures.steps.0
-      (subst (λ (x : GuardedState). HasSeenOwn x.log c.in-Some-desk.desk.front) c.loop-desk.invariant.kept c.give_back.ensures.seen) c.loop-desk.invariant.seen;
+  seen = all_before (λ desk. HasSeenOwn c.args.guarded.now.log desk.witness) c.args.desks.items _ _ c.in-Some-desk.desk c.in-Some-desk.ensures.steps.0
+      (subst (λ (x : GuardedState). HasSeenOwn x.log c.in-Some-desk.desk.witness) c.loop-desk.invariant.kept c.give_back.ensures.seen) c.loop-desk.invariant.seen;
   kept = c.give_back.ensures.kept ∙ c.loop-desk.invariant.kept;
 }

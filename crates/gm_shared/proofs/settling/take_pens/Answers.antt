@@ -15,7 +15,7 @@ loop-pen-preserved g c = record {
   shares_are = moved (λ pen. (actors.Pen pen.slot, pen.share.items)) _ _ _ _ _ c.in-Some.pen _ (ap (map told_by) c.push_reserved.ensures.items ∙ map-append told_by c.loop-pen.shares.items _)
       c.in-Some.ensures.steps.0 refl c.loop-pen.invariant.shares_are;
   room_for_shares = search rules;
-  seen = all_before (λ pen. HasSeenOwn c.args.guarded.now.log pen.front) c.args.pens.items _ _ c.in-Some.pen c.in-Some.ensures.steps.0
-      (subst (λ (x : GuardedState). HasSeenOwn x.log c.in-Some.pen.front) c.loop-pen.invariant.kept c.give_back.ensures.seen) c.loop-pen.invariant.seen;
+  seen = all_before (λ pen. HasSeenOwn c.args.guarded.now.log pen.witness) c.args.pens.items _ _ c.in-Some.pen c.in-Some.ensures.steps.0
+      (subst (λ (x : GuardedState). HasSeenOwn x.log c.in-Some.pen.witness) c.loop-pen.invariant.kept c.give_back.ensures.seen) c.loop-pen.invariant.seen;
   kept = c.give_back.ensures.kept ∙ c.loop-pen.invariant.kept;
 }

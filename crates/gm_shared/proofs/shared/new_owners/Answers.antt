@@ -21,11 +21,11 @@ new-requires-in-loop-seat-clause-seat g c =
     (ap (λ p. p.table) next.pen_is, ap (λ p. p.slot) next.pen_is)
 
 pub new-requires-clause-nothing_seen : goal.new-requires-clause-nothing_seen
-new-requires-clause-nothing_seen g c = ap (λ f. f.seen) c.new_front.ensures.front ∙ c.loop-seat.invariant.made.empty
+new-requires-clause-nothing_seen g c = ap (λ f. f.seen) c.new_witness.ensures.witness ∙ c.loop-seat.invariant.made.empty
 
 pub new-requires-in-loop-seat-clause-nothing_seen : goal.new-requires-in-loop-seat-clause-nothing_seen
 new-requires-in-loop-seat-clause-nothing_seen g c =
-    ap (λ f. f.seen) c.new_front-in-loop-seat.ensures.front ∙ (ap (λ k. k.log) c.new_front.ensures.keeper ∙ c.loop-seat.invariant.made.empty)
+    ap (λ f. f.seen) c.new_witness-in-loop-seat.ensures.witness ∙ (ap (λ k. k.log) c.new_witness.ensures.keeper ∙ c.loop-seat.invariant.made.empty)
 
 pub loop-seat-preserved : goal.loop-seat-preserved
 loop-seat-preserved g c =
@@ -33,15 +33,15 @@ loop-seat-preserved g c =
     record {
       desks_are = numbers_grow (λ desk. desk.number) _ _ _ _ c.push_reserved.ensures.items c.loop-seat.invariant.desks_are c.new.ensures.number;
       pens_are = numbers_grow (λ pen. pen.slot) _ _ _ _ c.push_reserved-in-loop-seat.ensures.items c.loop-seat.invariant.pens_are c.new-in-loop-seat.ensures.slot;
-      desks_new = all_more (λ desk. desk.front.seen ≡ []) _ _ _ c.push_reserved.ensures.items c.loop-seat.invariant.desks_new
-          (ap (λ f. f.seen) c.new.ensures.front ∙ (ap (λ f. f.seen) c.new_front.ensures.front ∙ c.loop-seat.invariant.made.empty));
-      pens_new = all_more (λ pen. (pen.front.seen ≡ []) × (pen.seat.takes ≡ 0)) _ _ _ c.push_reserved-in-loop-seat.ensures.items c.loop-seat.invariant.pens_new (
-        ap (λ f. f.seen) c.new-in-loop-seat.ensures.front ∙ (ap (λ f. f.seen) c.new_front-in-loop-seat.ensures.front ∙ (ap (λ k. k.log) c.new_front.ensures.keeper ∙ c.loop-seat.invariant.made.empty)),
+      desks_new = all_more (λ desk. desk.witness.seen ≡ []) _ _ _ c.push_reserved.ensures.items c.loop-seat.invariant.desks_new
+          (ap (λ f. f.seen) c.new.ensures.witness ∙ (ap (λ f. f.seen) c.new_witness.ensures.witness ∙ c.loop-seat.invariant.made.empty));
+      pens_new = all_more (λ pen. (pen.witness.seen ≡ []) × (pen.seat.takes ≡ 0)) _ _ _ c.push_reserved-in-loop-seat.ensures.items c.loop-seat.invariant.pens_new (
+        ap (λ f. f.seen) c.new-in-loop-seat.ensures.witness ∙ (ap (λ f. f.seen) c.new_witness-in-loop-seat.ensures.witness ∙ (ap (λ k. k.log) c.new_witness.ensures.keeper ∙ c.loop-seat.invariant.made.empty)),
         ap (λ p. p.takes) c.new-in-loop-seat.ensures.seat ∙ ap (λ p. p.takes) next.pen_is,
       );
       desk_count = search rules;
       pen_count = search rules;
       room = search rules;
       left = next.left;
-      made = made_more _ _ _ _ _ c.loop-seat.invariant.made c.new_front.ensures.keeper c.new_front-in-loop-seat.ensures.keeper;
+      made = made_more _ _ _ _ _ c.loop-seat.invariant.made c.new_witness.ensures.keeper c.new_witness-in-loop-seat.ensures.keeper;
     }

@@ -23,7 +23,7 @@ enter-requires g c =
     let is = ap (λ d. if_done desk s d (noop_entries desk noop)) c.done_in-done.ensures in
     record {
       keeper = c.self.invariant.1 ∙ sym c.requires.history;
-      front = c.requires.front ∙ sym c.requires.history;
+      witness = c.requires.witness ∙ sym c.requires.history;
       own = subst (λ (z : ℕ × List Entry). AreOf z.0 z.1) (λ j. (sym c.requires.who j, sym is j)) (own_added desk s c.hold-result.result noop);
     }
 
@@ -51,10 +51,10 @@ returns-clause-called g c =
     let s = step_of c.args.read.now.event in
     let log = c.self.inside.keeper.log in
     let h = c.hold-result.ensures.holding _ (steps_of log) i.agrees in
-    let is = ap (λ f. f.seen) c.enter.ensures.front ∙ ap (λ d. if_done desk s d (noop_entries desk noop) ++ log) c.done_in-done.ensures in
+    let is = ap (λ f. f.seen) c.enter.ensures.witness ∙ ap (λ d. if_done desk s d (noop_entries desk noop) ++ log) c.done_in-done.ensures in
     record {
       before = log;
-      knows = subst (λ who. Knows log who c.args.front.now.seen) c.requires.who c.enter.ensures.knows;
+      knows = subst (λ who. Knows log who c.args.witness.now.seen) c.requires.who c.enter.ensures.knows;
       legal = subst (Legal g.K.BookName.settings) (sym is) (held_log _ c.args.read.now.event desk noop _ _ _ _ log i.legal c.hold-result.result h.2).1;
       noop = noop;
       calls = subst (Calls g.K.BookName.settings g.K.BookName.taped s desk noop c.hold-result.result c.hold-result.new.touched log) (sym is)
@@ -69,9 +69,9 @@ returns-clause-told g c =
     let s = step_of c.args.read.now.event in
     let log = c.self.inside.keeper.log in
     let h = c.hold-result.ensures.holding _ (steps_of log) i.agrees in
-    let is = ap (λ f. f.seen) c.enter.ensures.front ∙ ap (λ d. if_done desk s d (noop_entries desk noop) ++ log) c.done_in-done.ensures in
-    held_shares _ c.args.read.now.event desk noop _ _ _ _ log i.legal g.K.BookName.taped i.on i.recorded c.hold-result.result h.2 c.args.front.now.seen
-    (subst (λ who. Knows log who c.args.front.now.seen) c.requires.who c.enter.ensures.knows) _ _ c.requires.told h.1
+    let is = ap (λ f. f.seen) c.enter.ensures.witness ∙ ap (λ d. if_done desk s d (noop_entries desk noop) ++ log) c.done_in-done.ensures in
+    held_shares _ c.args.read.now.event desk noop _ _ _ _ log i.legal g.K.BookName.taped i.on i.recorded c.hold-result.result h.2 c.args.witness.now.seen
+    (subst (λ who. Knows log who c.args.witness.now.seen) c.requires.who c.enter.ensures.knows) _ _ c.requires.told h.1
     ∙ ap (share_of g.K.BookName.taped (actors.Desk desk)) (sym is)
 
 pub returns-clause-holding : goal.returns-clause-holding

@@ -18,7 +18,7 @@ enter-requires g c =
     let same : entries_of c.args.pen c.match-result.what ≡ drained_entries c.args.pen c.args.slot c.drain_into-result.result = elim c.match-result.branch [ in-Ok w ↦ rw (w.what-is, w.in-Ok.is) refl | in-Err w ↦ rw (w.what-is, w.in-Err.is) refl ] in
     record {
       keeper = c.self.invariant.1 ∙ sym c.requires.history;
-      front = c.requires.front ∙ sym c.requires.history;
+      witness = c.requires.witness ∙ sym c.requires.history;
       own = subst (λ (z : ℕ × List Entry). AreOf z.0 z.1) (λ j. (sym c.requires.who j, sym same j)) (own_drained c.args.pen c.args.slot c.drain_into-result.result);
     }
 
@@ -42,10 +42,10 @@ returns-clause-called g c =
     let log = c.self.inside.keeper.log in
     let h = c.drain_into-result.ensures.drains _ (steps_of log) i.agrees in
     let same : entries_of c.args.pen c.match-result.what ≡ drained_entries c.args.pen c.args.slot c.drain_into-result.result = elim c.match-result.branch [ in-Ok w ↦ rw (w.what-is, w.in-Ok.is) refl | in-Err w ↦ rw (w.what-is, w.in-Err.is) refl ] in
-    let is = ap (λ f. f.seen) c.enter.ensures.front ∙ ap (λ es. es ++ log) same in
+    let is = ap (λ f. f.seen) c.enter.ensures.witness ∙ ap (λ es. es ++ log) same in
     record {
       before = log;
-      knows = subst (λ who. Knows log who c.args.front.now.seen) c.requires.who c.enter.ensures.knows;
+      knows = subst (λ who. Knows log who c.args.witness.now.seen) c.requires.who c.enter.ensures.knows;
       legal = subst (Legal g.K.BookName.settings) (sym is)
           (drained_log _ c.args.pen c.args.slot _ _ _ log i.legal c.drain_into-result.result h.2).1;
       gives = drained_gives _ c.args.pen c.args.slot _ _ _ log i.legal g.K.BookName.taped i.on i.counts c.drain_into-result.result c.drain_into-result.ensures.opening h.2;
@@ -58,9 +58,9 @@ returns-clause-told g c =
     let log = c.self.inside.keeper.log in
     let h = c.drain_into-result.ensures.drains _ (steps_of log) i.agrees in
     let same : entries_of c.args.pen c.match-result.what ≡ drained_entries c.args.pen c.args.slot c.drain_into-result.result = elim c.match-result.branch [ in-Ok w ↦ rw (w.what-is, w.in-Ok.is) refl | in-Err w ↦ rw (w.what-is, w.in-Err.is) refl ] in
-    let is = ap (λ f. f.seen) c.enter.ensures.front ∙ ap (λ es. es ++ log) same in
-    drained_shares _ c.args.pen c.args.slot _ _ _ log i.legal g.K.BookName.taped i.on i.recorded c.drain_into-result.result h.2 c.args.front.now.seen
-    (subst (λ who. Knows log who c.args.front.now.seen) c.requires.who c.enter.ensures.knows) _ _ c.requires.told h.1
+    let is = ap (λ f. f.seen) c.enter.ensures.witness ∙ ap (λ es. es ++ log) same in
+    drained_shares _ c.args.pen c.args.slot _ _ _ log i.legal g.K.BookName.taped i.on i.recorded c.drain_into-result.result h.2 c.args.witness.now.seen
+    (subst (λ who. Knows log who c.args.witness.now.seen) c.requires.who c.enter.ensures.knows) _ _ c.requires.told h.1
     ∙ ap (share_of g.K.BookName.taped (actors.Pen c.args.pen)) (sym is)
 
 pub returns-clause-drains : goal.returns-clause-drains

@@ -7,6 +7,6 @@ returns-clause-hands g c = called_hands _ _ c.args.read.now.event _ _ _ _ _ c.ap
 
 pub invariant_of-self : goal.invariant_of-self
 invariant_of-self g c = record {
-  fronted = search rules;
+  witnessed = search rules;
   told = c.apply-result.ensures.told;
 }

@@ -5,6 +5,6 @@ use Rattle.gm_shared.proofs.shared.Desk.new.Goals as goal
 
 pub invariant_of-result : goal.invariant_of-result
 invariant_of-result g c = record {
-  fronted = search rules;
+  witnessed = search rules;
   told = (let none : c.new.result.items ≡ [] = search rules in none) ∙ share_none g.K.BookName.taped (actors.Desk c.args.number) _ c.requires.nothing_seen;
 }

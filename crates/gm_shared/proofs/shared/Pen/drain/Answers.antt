@@ -7,6 +7,6 @@ invariant_of-self g c = record {
   named = search rules;
   sits = search rules;
   own = called_own _ _ _ _ _ _ c.drain.ensures.called c.args.self.now.own;
-  fronted = search rules;
+  witnessed = search rules;
   told = c.drain.ensures.told;
 }

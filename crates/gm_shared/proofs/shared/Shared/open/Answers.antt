@@ -7,6 +7,6 @@ use Rattle.gm_shared.proofs.shared.Shared.open.Goals as goal
 
 pub new-requires-clause-guarded : goal.new-requires-clause-guarded
 new-requires-clause-guarded g c =
-    subst (λ (z : TableId × Settings). IsGuarded z.0 z.1 g.K.BookName.taped c.blank.inside.booked c.new_front.new.self.log)
+    subst (λ (z : TableId × Settings). IsGuarded z.0 z.1 g.K.BookName.taped c.blank.inside.booked c.new_witness.new.self.log)
     (λ i. ((ap (λ b. b.table) c.blank.view_is ∙ c.requires.table) i, (ap (λ b. b.settings) c.blank.view_is ∙ c.requires.settings) i))
-    (opens_guarded _ _ _ _ _ g.K.BookName.taped _ c.blank.invariant.0 (ap (λ k. k.log) c.new_front.ensures.keeper ∙ c.in_ok-desks.ensures.keeper.empty) (ap (λ b. b.taped) c.blank.view_is ∙ c.requires.taped))
+    (opens_guarded _ _ _ _ _ g.K.BookName.taped _ c.blank.invariant.0 (ap (λ k. k.log) c.new_witness.ensures.keeper ∙ c.in_ok-desks.ensures.keeper.empty) (ap (λ b. b.taped) c.blank.view_is ∙ c.requires.taped))
