@@ -20,7 +20,7 @@ use Rattle.gm_actions.specs.declared.actions.Action.TheVariants.{CanDo, CantDo, 
 use Rattle.gm_actions.specs.declared.actions.Action.TheVariants.{GetStatus, Echo, SetClientId, SetOption, Nothing}
 use Rattle.gm_actions.specs.declared.actions.Submission.{Submission as Found}
 use Rattle.gm_actions.specs.declared.actions.Report.{Report}
-use Rattle.gm_actions.specs.declared.answers.JobView.{JobView}
+use Rattle.gm_actions.specs.declared.answers.JobRef.{JobRef}
 use Rattle.gm_actions.specs.declared.actions.Said.{Said}
 use Rattle.gm_actions.specs.declared.refusal.Refusal.{Refusal}
 use Rattle.gm_actions.specs.declared.refusal.Refusal.TheVariants.{UnknownCommand, BadArguments}
@@ -35,7 +35,7 @@ submission_of s =
     record { function = s.function.now; unique = s.unique.now; body = s.body.bytes.now; priority = s.priority; background = s.background }
 
 -- what a job is
-abbrev pub job_of : JobView → Job
+abbrev pub job_of : JobRef → Job
 job_of job = record { function = job.function.now; priority = job.priority; unique = job.unique.now; body = job.body.now }
 
 -- the answer to a worker with a job, whatever text is given as its handle

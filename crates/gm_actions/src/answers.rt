@@ -17,7 +17,7 @@ use gm_packet::Response;
 
 /// A job, wherever its bytes lie.
 #[derive(Clone, Copy, Debug)]
-pub struct JobView<'a> {
+pub struct JobRef<'a> {
     /// The function.
     pub function: &'a [u8],
     /// The priority.
@@ -30,7 +30,7 @@ pub struct JobView<'a> {
 
 /// The answer to a worker with the job that it gets, with its unique id if it asked for that (the Gearman PROTOCOL document,
 /// "JOB_ASSIGN" and "JOB_ASSIGN_UNIQ").
-pub fn assignment<'a>(text: &'a [u8], job: &JobView<'a>, with_unique: bool) -> Response<'a>
+pub fn assignment<'a>(text: &'a [u8], job: &JobRef<'a>, with_unique: bool) -> Response<'a>
     ensures exact { answer_of result ≡ assigned with_unique text.now (job_of job.now) }
     ensures value { (k : Settings) (n : ℕ) → text.now ≡ handle k n → answer_of result ≡ assignment k with_unique n (job_of job.now) }
     ensures fits { has_nul text.now ≡ false → length text.now ≤ 64 → IsCarried job.now.function.now job.now.unique.now job.now.body.now

@@ -1,5 +1,6 @@
 //! Events whose packets are read.
 
+ghost use Rattle.std.specs.Prelude.{◌≡◌};
 ghost use Rattle.gm_actions.specs.ReadEvents.{ReadsEvent};
 
 use crate::actions::Action;
@@ -16,14 +17,16 @@ pub struct ReadEvent<'a> {
     pub action: Result<Action<'a>, Refusal>,
 }
 
-impl<'a> Action<'a> {
-    /// What an event's packet asks, or why it is refused; `Nothing` of an event without one.
-    pub fn of_event(event: &Event<'a>) -> Result<Action<'a>, Refusal>
-        ensures { ReadsEvent event.now result }
+impl<'a> ReadEvent<'a> {
+    /// Reads an event's packet, if it has one.
+    pub fn new(event: Event<'a>) -> ReadEvent<'a>
+        ensures event { result.event ≡ event.entry }
+        ensures reads { ReadsEvent result.event result.action }
     {
-        match event {
+        let action = match &event {
             Event::Packet { kind, bytes, .. } => Action::read(*kind, bytes),
             _ => Ok(Action::Nothing),
-        }
+        };
+        ReadEvent { event, action }
     }
 }

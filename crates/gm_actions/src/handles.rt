@@ -25,14 +25,14 @@ pub fn handle(alloc: Global, config: &Config, job: u64) -> Result<Vec<u8>, Alloc
 }
 
 /// What follows this head of a text, if it begins so.
-fn behind<'a>(text: &'a [u8], front: &[u8]) -> Option<&'a [u8]>
-    ensures { MatchOption result ((rest : List ℕ) → text.now ≢ front.now ++ rest) (λ rest. text.now ≡ front.now ++ rest.now) }
+fn behind<'a>(text: &'a [u8], head: &[u8]) -> Option<&'a [u8]>
+    ensures { MatchOption result ((rest : List ℕ) → text.now ≢ head.now ++ rest) (λ rest. text.now ≡ head.now ++ rest.now) }
 {
-    if text.len() < front.len() {
+    if text.len() < head.len() {
         return None;
     }
-    let (start, rest) = text.split_at(front.len());
-    if start == front { Some(rest) } else { None }
+    let (start, rest) = text.split_at(head.len());
+    if start == head { Some(rest) } else { None }
 }
 
 /// The digits of a handle, if a text begins as one.

@@ -13,7 +13,7 @@ mod reading;
 mod refusal;
 
 pub use actions::{About, Action, Report, Said, Submission};
-pub use answers::{JobView, assignment, known_status, unknown_status};
+pub use answers::{JobRef, assignment, known_status, unknown_status};
 pub use deadlines::deadline_after;
 pub use events::ReadEvent;
 pub use faults::append_fault;

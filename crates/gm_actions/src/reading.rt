@@ -65,7 +65,7 @@ fn read_foreground<'a>(request: &Request<'a>, bytes: &Data<'a>) -> Option<Submis
         } => Some(Submission {
             function,
             unique,
-            body: bytes.end(body),
+            body: bytes.suffix(body),
             priority: Priority::Normal,
             background: false,
         }),
@@ -76,7 +76,7 @@ fn read_foreground<'a>(request: &Request<'a>, bytes: &Data<'a>) -> Option<Submis
         } => Some(Submission {
             function,
             unique,
-            body: bytes.end(body),
+            body: bytes.suffix(body),
             priority: Priority::High,
             background: false,
         }),
@@ -87,7 +87,7 @@ fn read_foreground<'a>(request: &Request<'a>, bytes: &Data<'a>) -> Option<Submis
         } => Some(Submission {
             function,
             unique,
-            body: bytes.end(body),
+            body: bytes.suffix(body),
             priority: Priority::Low,
             background: false,
         }),
@@ -109,7 +109,7 @@ fn read_background<'a>(request: &Request<'a>, bytes: &Data<'a>) -> Option<Submis
         } => Some(Submission {
             function,
             unique,
-            body: bytes.end(body),
+            body: bytes.suffix(body),
             priority: Priority::Normal,
             background: true,
         }),
@@ -120,7 +120,7 @@ fn read_background<'a>(request: &Request<'a>, bytes: &Data<'a>) -> Option<Submis
         } => Some(Submission {
             function,
             unique,
-            body: bytes.end(body),
+            body: bytes.suffix(body),
             priority: Priority::High,
             background: true,
         }),
@@ -131,7 +131,7 @@ fn read_background<'a>(request: &Request<'a>, bytes: &Data<'a>) -> Option<Submis
         } => Some(Submission {
             function,
             unique,
-            body: bytes.end(body),
+            body: bytes.suffix(body),
             priority: Priority::Low,
             background: true,
         }),
@@ -203,17 +203,21 @@ fn read_work<'a>(request: &Request<'a>, bytes: &Data<'a>) -> Option<About<'a>>
             About { handle, said }
         }
         Request::WorkData { handle, body } => {
-            pass_on(handle, Response::WorkData { handle, body }, bytes.end(body))
+            pass_on(
+                handle,
+                Response::WorkData { handle, body },
+                bytes.suffix(body),
+            )
         }
         Request::WorkWarning { handle, body } => pass_on(
             handle,
             Response::WorkWarning { handle, body },
-            bytes.end(body),
+            bytes.suffix(body),
         ),
         Request::WorkException { handle, body } => {
             let said = Said {
                 response: Response::WorkException { handle, body },
-                body: Some(bytes.end(body)),
+                body: Some(bytes.suffix(body)),
                 exceptions_only: true,
                 report: None,
                 ends: false,
@@ -222,7 +226,7 @@ fn read_work<'a>(request: &Request<'a>, bytes: &Data<'a>) -> Option<About<'a>>
         }
         Request::WorkComplete { handle, body } => {
             let response = Response::WorkComplete { handle, body };
-            end_with(handle, response, Some(bytes.end(body)))
+            end_with(handle, response, Some(bytes.suffix(body)))
         }
         Request::WorkFail { handle } => end_with(handle, Response::WorkFail { handle }, None),
         _ => return None,
@@ -307,7 +311,7 @@ fn read_other<'a>(request: &Request<'a>, bytes: &Data<'a>) -> Result<Action<'a>,
         Request::GrabJobUniq => Ok(Action::Grab { with_unique: true }),
         Request::GetStatus { handle } => Ok(Action::GetStatus { handle }),
         Request::EchoReq { body } => {
-            let body = bytes.end(body);
+            let body = bytes.suffix(body);
             Ok(Action::Echo { body })
         }
         Request::SetClientId { id } => Ok(Action::SetClientId { id }),

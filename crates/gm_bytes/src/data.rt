@@ -46,8 +46,8 @@ impl<'a> Data<'a> {
         self.bytes
     }
 
-    /// This text, in which they end.
-    pub fn end(&self, text: &'a [u8]) -> Data<'a>
+    /// This text, which is the end of them.
+    pub fn suffix(&self, text: &'a [u8]) -> Data<'a>
         requires { EndsIn text.now self.now.bytes.now }
         ensures { result.bytes.now ≡ text.now }
     {

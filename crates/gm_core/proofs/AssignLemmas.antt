@@ -18,7 +18,7 @@ use Rattle.gm_notes.specs.JobStates as states
 use Rattle.gm_queues.specs.Queues.{Queue, without_first}
 use Rattle.gm_queues.specs.FunctionTables.{number_of, queue, is_queue, ChangesQueue}
 use Rattle.gm_queues.specs.FunctionTables as queues
-use Rattle.gm_jobs.specs.declared.job.Stage.TheVariants.{Waiting}
+use Rattle.gm_jobs.specs.declared.job.LivePlace.TheVariants.{Waiting}
 use Rattle.gm_jobs.specs.Live.{Live, assigned}
 use Rattle.gm_jobs.specs.Tables.{Table, job, place_or, is_made, Changes}
 use Rattle.gm_core.specs.Facts.{ConnFacts, FunctionFacts, JobFacts, job_facts, waits_with, runs_with, queued, running_with}
@@ -40,7 +40,7 @@ same_one Low High e = absurd (false≢true e)
 same_one Low Normal e = absurd (false≢true e)
 
 module _ (k : Settings) (functions popped : queues.Table) (old new : Table) (is_open : ℕ → Bool) (notes : List Note) (names : FunctionFacts) (known : HoldsFunctions k functions names)
-    (holds : HoldsJobs k functions old is_open (job_facts notes)) (n c : ℕ) (late : Option ℕ) (found : Live) (at : job old n ≡ Some found) (waits : found.stage ≡ Waiting)
+    (holds : HoldsJobs k functions old is_open (job_facts notes)) (n c : ℕ) (late : Option ℕ) (found : Live) (at : job old n ≡ Some found) (waits : found.live_place ≡ Waiting)
     (rest : List ℕ) (first : (queue functions found.function found.priority).jobs ≡ n ∷ rest) (pops : ChangesQueue found.function found.priority without_first functions popped)
     (changes : Changes n (assigned c late) old new) where
   abbrev facts : JobFacts

@@ -23,9 +23,9 @@ use Rattle.gm_notes.specs.Closings.{give_back_one, return_or_lose}
 use Rattle.gm_queues.specs.Queues.{Queue, Leaves, without_reserved_one, with_job}
 use Rattle.gm_queues.specs.FunctionTables.{number_of, queue, is_queue, HasIdleRoom, ChangesQueue, ForgetsJob}
 use Rattle.gm_queues.specs.FunctionTables as queues
-use Rattle.gm_jobs.specs.declared.job.Stage.{Stage}
-use Rattle.gm_jobs.specs.declared.job.Stage.TheVariants.{Waiting, Running}
-use Rattle.gm_jobs.specs.declared.job.Stage.TheVariants as stages
+use Rattle.gm_jobs.specs.declared.job.LivePlace.{LivePlace}
+use Rattle.gm_jobs.specs.declared.job.LivePlace.TheVariants.{Waiting, Running}
+use Rattle.gm_jobs.specs.declared.job.LivePlace.TheVariants as live_places
 use Rattle.gm_jobs.specs.Live.{Live, lost, returned, given_back as handed_back, is_last_try, waits, runs_at, is_run_by, is_orphan}
 use Rattle.gm_jobs.specs.Tables.{Table, job, passes, Ends, Changes}
 use Rattle.gm_core.specs.declared.server.Core.{Core}
@@ -208,7 +208,7 @@ module _ (k : Settings) (functions : queues.Table) (old : Table) (is_open : ℕ 
   ended_off : (new : Table) → Ends n old new → (m : ℕ) → (m == n) ≡ false → job new m ≡ job old m
   ended_off new ends m e = ends.jobs m ∙ ap (λ t. if t then None else job old m) (turned m n false e)
 
-  module _ (waiting : found.stage ≡ Waiting) where
+  module _ (waiting : found.live_place ≡ Waiting) where
     waited : job_state n notes ≡ states.Waiting
     waited = is.job_state ∙ ap job_state_at waiting
 
@@ -253,12 +253,12 @@ module _ (k : Settings) (functions : queues.Table) (old : Table) (is_open : ℕ 
         jobs_moved k functions old is_open facts names known holds n found at facts.came thrown.job_state thrown.deadline thrown.returns after new ends.first ends.next (λ P. refl) thrown_off (λ m e. refl) (λ m e. refl)
         None (ended_there new ends) (ended_off new ends) (rw thrown_now refl) (λ l e. absurd cc) (λ l e. absurd cc) forgets.names forgets.others others_thrown (left_queue after left) (left_room after forgets.left)
 
-  module _ (runs : waits found.stage ≡ false) where
+  module _ (runs : waits found.live_place ≡ false) where
     ran : is_running (job_state n notes) ≡ true
-    ran = ap is_running is.job_state ∙ (state_runs found.stage ∙ ap not runs)
+    ran = ap is_running is.job_state ∙ (state_runs found.live_place ∙ ap not runs)
 
     waits_not_here : is_waiting (job_state n notes) ≡ false
-    waits_not_here = ap is_waiting is.job_state ∙ (state_waits found.stage ∙ runs)
+    waits_not_here = ap is_waiting is.job_state ∙ (state_waits found.live_place ∙ runs)
 
     waits_was : (other : List ℕ) (q : Priority) → waits_with other q facts n ≡ false
     waits_was other q = ap (λ b. b && is_job_with other q (facts.job n)) waits_not_here
@@ -437,21 +437,21 @@ module _ (k : Settings) (functions : queues.Table) (old : Table) (is_open : ℕ 
 
 -- ---- what a job is
 
-pub orphan_waits : (live : Live) → is_orphan live ≡ true → live.stage ≡ Waiting
-orphan_waits live e = by live.stage e
+pub orphan_waits : (live : Live) → is_orphan live ≡ true → live.live_place ≡ Waiting
+orphan_waits live e = by live.live_place e
   where
-    by : (s : Stage) → (waits s && not live.kept && length live.listeners == 0) ≡ true → s ≡ Waiting
+    by : (s : LivePlace) → (waits s && not live.kept && length live.listeners == 0) ≡ true → s ≡ Waiting
     by Waiting e = refl
     by (Running c) e = absurd (false≢true e)
-    by stages.Lost e = absurd (false≢true e)
+    by live_places.Lost e = absurd (false≢true e)
 
-pub run_there : (slot : ℕ) (live : Live) → is_run_by slot live ≡ true → live.stage ≡ Running slot
-run_there slot live e = by live.stage e
+pub run_there : (slot : ℕ) (live : Live) → is_run_by slot live ≡ true → live.live_place ≡ Running slot
+run_there slot live e = by live.live_place e
   where
-    by : (s : Stage) → runs_at slot s ≡ true → s ≡ Running slot
+    by : (s : LivePlace) → runs_at slot s ≡ true → s ≡ Running slot
     by Waiting e = absurd (false≢true e)
     by (Running c) e = ap (λ (x : ℕ). Running x) (same_number c slot e)
-    by stages.Lost e = absurd (false≢true e)
+    by live_places.Lost e = absurd (false≢true e)
 
 -- ---- jobs and queues of a core that changed
 

@@ -18,8 +18,8 @@ use Rattle.gm_notes.specs.Past.{Past, with_note, with_output}
 use Rattle.gm_notes.specs.Workers.{wake_itself, deadline_after, assignment, tell_assigned}
 use Rattle.gm_packet.specs.Answers.{answer_packet}
 use Rattle.gm_queues.specs.FunctionTables.{Table, queue, waiting_for}
-use Rattle.gm_jobs.specs.declared.job.Stage.{Stage}
-use Rattle.gm_jobs.specs.declared.job.Stage.TheVariants.{Waiting, Running, Lost}
+use Rattle.gm_jobs.specs.declared.job.LivePlace.{LivePlace}
+use Rattle.gm_jobs.specs.declared.job.LivePlace.TheVariants.{Waiting, Running, Lost}
 use Rattle.gm_jobs.specs.Live.{Live}
 use Rattle.gm_jobs.specs.Tables.{place_or, is_made}
 use Rattle.gm_jobs.specs.Tables as jobs
@@ -63,13 +63,13 @@ pub record Given (functions : Table) (table : jobs.Table) (f n : ℕ) : Type 0 w
   pub live : Live
   pub at : jobs.job table n ≡ Some live
   pub function : live.function ≡ f
-  pub waits : live.stage ≡ Waiting
+  pub waits : live.live_place ≡ Waiting
   pub rest : List ℕ
   pub first : (queue functions live.function live.priority).jobs ≡ n ∷ rest
 
 module _ (k : Settings) (functions : Table) (table : jobs.Table) (is_open : ℕ → Bool) (notes : List Note) (names : FunctionFacts) (known : HoldsFunctions k functions names)
     (holds : HoldsJobs k functions table is_open (job_facts notes)) (f n : ℕ) (within : f < length functions.names) where
-  not_at : (s : Stage) → is_waiting (job_state_at s) ≡ true → s ≡ Waiting
+  not_at : (s : LivePlace) → is_waiting (job_state_at s) ≡ true → s ≡ Waiting
   not_at Waiting e = refl
   not_at (Running c) e = absurd (false≢true e)
   not_at Lost e = absurd (false≢true e)
@@ -107,7 +107,7 @@ module _ (k : Settings) (functions : Table) (table : jobs.Table) (is_open : ℕ 
           live = live;
           at = at;
           function = same;
-          waits = not_at live.stage (ap is_waiting (sym is.job_state) ∙ both.0);
+          waits = not_at live.live_place (ap is_waiting (sym is.job_state) ∙ both.0);
           rest = h.rest;
           first = subst (λ g. (queue functions g live.priority).jobs ≡ n ∷ h.rest) (sym same)
               (subst (λ q. (queue functions f q).jobs ≡ n ∷ h.rest) (sym (same_one live.priority h.priority parts.1)) h.is);

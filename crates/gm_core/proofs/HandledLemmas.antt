@@ -9,8 +9,8 @@ use Rattle.gm_notes.specs.Jobs.{made, handle, job_of_handle}
 use Rattle.gm_notes.specs.JobStates.{is_running}
 use Rattle.gm_notes.specs.Places as places
 use Rattle.gm_queues.specs.FunctionTables as queues
-use Rattle.gm_jobs.specs.declared.job.Stage.{Stage}
-use Rattle.gm_jobs.specs.declared.job.Stage.TheVariants.{Waiting, Running, Lost}
+use Rattle.gm_jobs.specs.declared.job.LivePlace.{LivePlace}
+use Rattle.gm_jobs.specs.declared.job.LivePlace.TheVariants.{Waiting, Running, Lost}
 use Rattle.gm_jobs.specs.Live.{Live, place_at}
 use Rattle.gm_jobs.specs.Tables.{Table, job, place, place_or, is_made}
 use Rattle.gm_core.specs.Facts.{job_facts}
@@ -26,9 +26,9 @@ when_none {A} {X} B (Some n) e held = absurd (none-some n (sym e))
 made_at : (o : Option Live) (t : Bool) → ((live : Live) → o ≡ Some live → t ≡ true) → places.is_made (place_or o t) ≡ t
 made_at None true live = refl
 made_at None false live = refl
-made_at (Some l) t live = placed l.stage ∙ sym (live l refl)
+made_at (Some l) t live = placed l.live_place ∙ sym (live l refl)
   where
-    placed : (s : Stage) → places.is_made (place_at s) ≡ true
+    placed : (s : LivePlace) → places.is_made (place_at s) ≡ true
     placed Waiting = refl
     placed (Running c) = refl
     placed Lost = refl
@@ -55,7 +55,7 @@ module _ (k : Settings) (functions : queues.Table) (table : Table) (is_open : �
       ap (λ t. if t then Some n else None) (same ∙ sym (any_made n)) ∙ sym (one_found k text n (made notes) small lt is)
 
 -- whether a live job runs, as the table and the past tell it
-pub runs_same : (s : Stage) → places.is_running (place_at s) ≡ is_running (job_state_at s)
+pub runs_same : (s : LivePlace) → places.is_running (place_at s) ≡ is_running (job_state_at s)
 runs_same Waiting = refl
 runs_same (Running c) = refl
 runs_same Lost = refl

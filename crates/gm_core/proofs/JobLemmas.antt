@@ -17,8 +17,8 @@ use Rattle.gm_notes.specs.JobStates.{JobState, is_waiting, is_running, is_live, 
 use Rattle.gm_notes.specs.JobStates as states
 use Rattle.gm_queues.specs.FunctionTables.{number_of}
 use Rattle.gm_queues.specs.FunctionTables as queues
-use Rattle.gm_jobs.specs.declared.job.Stage.{Stage}
-use Rattle.gm_jobs.specs.declared.job.Stage.TheVariants.{Waiting, Running, Lost}
+use Rattle.gm_jobs.specs.declared.job.LivePlace.{LivePlace}
+use Rattle.gm_jobs.specs.declared.job.LivePlace.TheVariants.{Waiting, Running, Lost}
 use Rattle.gm_jobs.specs.Live.{Live, kept, with_listener, is_named, place_at, waits}
 use Rattle.gm_jobs.specs.Tables.{Table, job, place_or, is_made, passes, IsNamed, Changes}
 use Rattle.gm_core.specs.Facts.{JobFacts, function_facts, job_facts, queued, running_with}
@@ -32,23 +32,23 @@ turned n m t e = grind (arith, nat_tests)
 -- ---- a job changes in what its place and its queue don't depend on
 
 -- where a job is, as the table tells it
-pub state_waits : (s : Stage) → is_waiting (job_state_at s) ≡ waits s
+pub state_waits : (s : LivePlace) → is_waiting (job_state_at s) ≡ waits s
 state_waits Waiting = refl
 state_waits (Running c) = refl
 state_waits Lost = refl
 
-pub state_runs : (s : Stage) → is_running (job_state_at s) ≡ not (waits s)
+pub state_runs : (s : LivePlace) → is_running (job_state_at s) ≡ not (waits s)
 state_runs Waiting = refl
 state_runs (Running c) = refl
 state_runs Lost = refl
 
 -- what a change that is quiet leaves of a job
-abbrev pub left_alone : Live → Stage × ℕ
-left_alone l = (l.stage, l.returns)
+abbrev pub left_alone : Live → LivePlace × ℕ
+left_alone l = (l.live_place, l.returns)
 
 stays_at : (change : Live → Live) → ((l : Live) → left_alone (change l) ≡ left_alone l) → (t made : Bool) (o : Option Live) → place_or (if t then option_map change o else o) made ≡ place_or o made
 stays_at change same true made None = refl
-stays_at change same true made (Some l) = ap (λ (x : Stage × ℕ). place_at x.0) (same l)
+stays_at change same true made (Some l) = ap (λ (x : LivePlace × ℕ). place_at x.0) (same l)
 stays_at change same false made o = refl
 
 -- a job that was live, and what became of it
@@ -96,7 +96,7 @@ module _ {k : Settings} {functions : queues.Table} {old new : Table} {is_open : 
   }
     where
       still : (t : Bool) (l : Live) → (if t then change l else l).returns ≡ l.returns
-      still true l = ap (λ (x : Stage × ℕ). x.1) (same l)
+      still true l = ap (λ (x : LivePlace × ℕ). x.1) (same l)
       still false l = refl
 
       same_queue : (name : List ℕ) (p : Priority) → queued name p facts ≡ queued name p now
@@ -140,7 +140,7 @@ module _ (k : Settings) (functions : queues.Table) (table : Table) (notes : List
   not_live t states.Ended e = refl
   not_live t states.Discarded e = refl
 
-  live_at : (s : Stage) → is_live (job_state_at s) ≡ true
+  live_at : (s : LivePlace) → is_live (job_state_at s) ≡ true
   live_at Waiting = refl
   live_at (Running c) = refl
   live_at Lost = refl
@@ -153,7 +153,7 @@ module _ (k : Settings) (functions : queues.Table) (table : Table) (notes : List
       rw dead refl
   named_so f name unique m (Some found) number e =
       let is = holds.live m found e in
-      let lives : is_live (job_state m notes) ≡ true = ap is_live is.job_state ∙ live_at found.stage in
+      let lives : is_live (job_state m notes) ≡ true = ap is_live is.job_state ∙ live_at found.live_place in
       let within = position-within (bytes_eq name) functions.names f number in
       let same : bytes_eq (name_at functions.names found.function) name ≡ (found.function == f) =
       ap (bytes_eq (name_at functions.names found.function)) (sym (number_is name functions f number)) ∙ apart known found.function f is.function within in
@@ -166,7 +166,7 @@ module _ (k : Settings) (functions : queues.Table) (table : Table) (notes : List
       rw dead refl
   named_none name unique m (Some found) number e =
       let is = holds.live m found e in
-      let lives : is_live (job_state m notes) ≡ true = ap is_live is.job_state ∙ live_at found.stage in
+      let lives : is_live (job_state m notes) ≡ true = ap is_live is.job_state ∙ live_at found.live_place in
       let other = unknown known name found.function number is.function in
       rw (lives, is.job, other) refl
 

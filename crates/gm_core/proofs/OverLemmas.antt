@@ -26,7 +26,7 @@ use Rattle.gm_core.proofs.JobLemmas.{made_same, turned, state_waits, state_runs}
 use Rattle.gm_core.proofs.OnceLemmas.{times, filter_alike, once_down, one_more}
 
 module _ (k : Settings) (functions freed : queues.Table) (old new : Table) (is_open : ℕ → Bool) (notes : List Note) (names : FunctionFacts) (known : HoldsFunctions k functions names)
-    (holds : HoldsJobs k functions old is_open (job_facts notes)) (n : ℕ) (found : Live) (at : job old n ≡ Some found) (runs : waits found.stage ≡ false) where
+    (holds : HoldsJobs k functions old is_open (job_facts notes)) (n : ℕ) (found : Live) (at : job old n ≡ Some found) (runs : waits found.live_place ≡ false) where
   abbrev facts : JobFacts
   facts = job_facts notes
 
@@ -46,10 +46,10 @@ module _ (k : Settings) (functions freed : queues.Table) (old new : Table) (is_o
   itself = grind (arith, nat_tests)
 
   ran : is_running (job_state n notes) ≡ true
-  ran = ap is_running is.job_state ∙ (state_runs found.stage ∙ ap not runs)
+  ran = ap is_running is.job_state ∙ (state_runs found.live_place ∙ ap not runs)
 
   waits_not : is_waiting (job_state n notes) ≡ false
-  waits_not = ap is_waiting is.job_state ∙ (state_waits found.stage ∙ runs)
+  waits_not = ap is_waiting is.job_state ∙ (state_waits found.live_place ∙ runs)
 
   once_made : times n facts.made ≡ 1
   once_made =

@@ -12,8 +12,8 @@ use Rattle.gm_notes.specs.JobStates.{JobState, is_waiting, is_running_at, place_
 use Rattle.gm_notes.specs.JobStates as states
 use Rattle.gm_notes.specs.Past.{Past, with_note}
 use Rattle.gm_notes.specs.Closings.{discard_one, give_back_one, rising}
-use Rattle.gm_jobs.specs.declared.job.Stage.{Stage}
-use Rattle.gm_jobs.specs.declared.job.Stage.TheVariants.{Waiting, Running, Lost}
+use Rattle.gm_jobs.specs.declared.job.LivePlace.{LivePlace}
+use Rattle.gm_jobs.specs.declared.job.LivePlace.TheVariants.{Waiting, Running, Lost}
 use Rattle.gm_jobs.specs.Live.{Live, waits, runs_at, is_run_by, is_orphan}
 use Rattle.gm_jobs.specs.Tables.{job, passes, place_or, is_made, IsNext, IsLast}
 use Rattle.gm_core.specs.declared.server.Core.{Core}
@@ -133,37 +133,37 @@ dead c false states.Lost e = absurd cc
 dead c t states.Ended e = (refl, refl)
 dead c t states.Discarded e = (refl, refl)
 
-not_orphan : (live : Live) → is_orphan live ≡ false → (is_waiting (job_state_at live.stage) && not (live.kept || not (length live.listeners == 0))) ≡ false
-not_orphan live e = by live.stage live.kept (length live.listeners == 0) e
+not_orphan : (live : Live) → is_orphan live ≡ false → (is_waiting (job_state_at live.live_place) && not (live.kept || not (length live.listeners == 0))) ≡ false
+not_orphan live e = by live.live_place live.kept (length live.listeners == 0) e
   where
-    by : (s : Stage) (b t : Bool) → (waits s && not b && t) ≡ false → (is_waiting (job_state_at s) && not (b || not t)) ≡ false
+    by : (s : LivePlace) (b t : Bool) → (waits s && not b && t) ≡ false → (is_waiting (job_state_at s) && not (b || not t)) ≡ false
     by (Running c) b t e = refl
     by Lost b t e = refl
     by Waiting true t e = refl
     by Waiting false false e = refl
     by Waiting false true e = absurd (false≢true (sym e))
 
-an_orphan : (live : Live) → is_orphan live ≡ true → (is_waiting (job_state_at live.stage) && not (live.kept || not (length live.listeners == 0))) ≡ true
-an_orphan live e = by live.stage live.kept (length live.listeners == 0) e
+an_orphan : (live : Live) → is_orphan live ≡ true → (is_waiting (job_state_at live.live_place) && not (live.kept || not (length live.listeners == 0))) ≡ true
+an_orphan live e = by live.live_place live.kept (length live.listeners == 0) e
   where
-    by : (s : Stage) (b t : Bool) → (waits s && not b && t) ≡ true → (is_waiting (job_state_at s) && not (b || not t)) ≡ true
+    by : (s : LivePlace) (b t : Bool) → (waits s && not b && t) ≡ true → (is_waiting (job_state_at s) && not (b || not t)) ≡ true
     by (Running c) b t e = absurd (false≢true e)
     by Lost b t e = absurd (false≢true e)
     by Waiting true t e = absurd (false≢true e)
     by Waiting false false e = absurd (false≢true e)
     by Waiting false true e = refl
 
-not_run : (c : ℕ) (live : Live) → is_run_by c live ≡ false → is_running_at c (job_state_at live.stage) ≡ false
-not_run c live e = by live.stage e
+not_run : (c : ℕ) (live : Live) → is_run_by c live ≡ false → is_running_at c (job_state_at live.live_place) ≡ false
+not_run c live e = by live.live_place e
   where
-    by : (s : Stage) → runs_at c s ≡ false → is_running_at c (job_state_at s) ≡ false
+    by : (s : LivePlace) → runs_at c s ≡ false → is_running_at c (job_state_at s) ≡ false
     by Waiting e = refl
     by Lost e = refl
     by (Running d) e = turned d c false e
 
 module _ (core : Core) (past : Past) (keeps : Keeps core past) (n : ℕ) where
   wanted_at : (live : Live) → job core.jobs n ≡ Some live
-      → (is_waiting (job_state n past.notes) && not (is_wanted n past.notes)) ≡ (is_waiting (job_state_at live.stage) && not (live.kept || not (length live.listeners == 0)))
+      → (is_waiting (job_state n past.notes) && not (is_wanted n past.notes)) ≡ (is_waiting (job_state_at live.live_place) && not (live.kept || not (length live.listeners == 0)))
   wanted_at live at =
       let is = keeps.jobs.live n live at in
       (λ i. is_waiting (is.job_state i) && not (is.kept i || not (length (is.listeners i) == 0)))

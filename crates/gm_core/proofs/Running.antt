@@ -12,7 +12,7 @@ use Rattle.gm_core.proofs.FunctionLemmas.{some_same}
 pub record Runs (table : Table) (n : ℕ) : Type 0 where
   pub live : Live
   pub at : job table n ≡ Some live
-  pub runs : waits live.stage ≡ false
+  pub runs : waits live.live_place ≡ false
 
 pub running : (table : Table) (n : ℕ) → IsRunning (job table n) → Runs table n
 running table n runs = by (job table n) refl runs

@@ -48,7 +48,7 @@ dead t states.Discarded e = refl
 
 pub due_runs : (now : ℕ) (o : Option Live) → passes (is_due now) o ≡ true → IsRunning o
 due_runs now None e = absurd (false≢true e)
-due_runs now (Some live) e = by (waits live.stage) (and_parts (not (waits live.stage)) (is_past now live.deadline) e).0
+due_runs now (Some live) e = by (waits live.live_place) (and_parts (not (waits live.live_place)) (is_past now live.deadline) e).0
   where
     by : (t : Bool) → not t ≡ true → t ≡ false
     by true e = absurd (false≢true e)
@@ -58,7 +58,7 @@ module _ (core : Core) (past : Past) (keeps : Keeps core past) (n : ℕ) where
   late_at : (live : Live) → job core.jobs n ≡ Some live → (is_running (job_state n past.notes) && is_reached (deadline n past.notes) (moment past.notes)) ≡ is_due core.moment live
   late_at live at =
       let is = keeps.jobs.live n live at in
-      (λ i. is_running (is.job_state i) && is_reached (is.deadline i) (sym keeps.moment i)) ∙ (λ i. state_runs live.stage i && reached_same core.moment live.deadline i)
+      (λ i. is_running (is.job_state i) && is_reached (is.deadline i) (sym keeps.moment i)) ∙ (λ i. state_runs live.live_place i && reached_same core.moment live.deadline i)
 
   late_is : (is_running (job_state n past.notes) && is_reached (deadline n past.notes) (moment past.notes)) ≡ passes (is_due core.moment) (job core.jobs n)
   late_is = by (job core.jobs n) refl

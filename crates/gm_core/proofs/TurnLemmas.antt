@@ -17,7 +17,7 @@ use Rattle.gm_queues.specs.FunctionTables.{Table}
 use Rattle.gm_notes.specs.declared.note.Note.{Note}
 use Rattle.gm_notes.specs.declared.states.Pick.{Pick}
 use Rattle.gm_notes.specs.Settings.{Settings}
-use Rattle.gm_notes.specs.Jobs.{Ability, first_of, pick_from, waiting_for, abilities, last_function, behind, up_to, turned, scan, pick}
+use Rattle.gm_notes.specs.Jobs.{Ability, first_of, pick_from, waiting_for, abilities, last_function, behind, up_to, rotated, scan, pick}
 use Rattle.gm_notes.specs.Past.{Past}
 use Rattle.gm_conns.specs.ConnTables.{conn, IsOpen}
 use Rattle.gm_core.specs.declared.server.Core.{Core}
@@ -81,7 +81,7 @@ module _ {k : Settings} {table : Table} {facts : FunctionFacts} (holds : HoldsFu
 
   -- in turn: behind the ability for the function, and then up to it
   pub turned_at : (g i : ℕ) (xs : List (ℕ × ℕ)) → AreFunctions table.names xs → g < length table.names → position (nat_eq g) (keys_of xs) ≡ Some i
-      → turned (Some (name_at table.names g)) (shows xs) ≡ shows (drop (suc i) xs ++ take (suc i) xs)
+      → rotated (Some (name_at table.names g)) (shows xs) ≡ shows (drop (suc i) xs ++ take (suc i) xs)
   turned_at g i xs all within at =
       let found = position-Some (nat_eq g) (keys_of xs) i 0 at in
       let parts = parted g i xs all within found.0 found.1 found.2 in
@@ -89,7 +89,7 @@ module _ {k : Settings} {table : Table} {facts : FunctionFacts} (holds : HoldsFu
       ∙ (ap (λ (l : List Ability). shows (drop (suc i) xs) ++ l) parts.1 ∙ sym (map-append (ability_named table.names) (drop (suc i) xs) (take (suc i) xs)))
 
   pub turned_nowhere : (g : ℕ) (xs : List (ℕ × ℕ)) → AreFunctions table.names xs → g < length table.names → position (nat_eq g) (keys_of xs) ≡ None
-      → turned (Some (name_at table.names g)) (shows xs) ≡ shows xs
+      → rotated (Some (name_at table.names g)) (shows xs) ≡ shows xs
   turned_nowhere g xs all within none =
       let parts = absent g xs all within (list_any-missed (nat_eq g) (keys_of xs) none) in
       ap (λ (l : List Ability). l ++ up_to (name_at table.names g) (shows xs)) parts.0 ∙ parts.1
@@ -125,14 +125,14 @@ module _ (core : Core) (past : Past) (c : ℕ) (keeps : Keeps core past) (opened
   from_the_first = ap named (sym (append-nil all))
 
   pub scans_straight : core.config.round_robin ≡ false → Scans core past c (all ++ [])
-  scans_straight e = not_chosen core.config.round_robin (turned (last_function c past.notes) (abilities c past.notes)) (abilities c past.notes) e ∙ (can ∙ from_the_first)
+  scans_straight e = not_chosen core.config.round_robin (rotated (last_function c past.notes) (abilities c past.notes)) (abilities c past.notes) e ∙ (can ∙ from_the_first)
 
   in_turn : (o : Option ℕ) → core.config.round_robin ≡ true → (conn core.conns c).last ≡ o
-      → scan core.config c past.notes ≡ turned (option_map (name_at core.functions.names) o) (named all)
+      → scan core.config c past.notes ≡ rotated (option_map (name_at core.functions.names) o) (named all)
   in_turn o e is =
-      chosen core.config.round_robin (turned (last_function c past.notes) (abilities c past.notes)) (abilities c past.notes) e
-      ∙ (ap (λ (l : Option (List ℕ)). turned l (abilities c past.notes)) (last ∙ ap (option_map (name_at core.functions.names)) is)
-      ∙ ap (turned (option_map (name_at core.functions.names) o)) can)
+      chosen core.config.round_robin (rotated (last_function c past.notes) (abilities c past.notes)) (abilities c past.notes) e
+      ∙ (ap (λ (l : Option (List ℕ)). rotated l (abilities c past.notes)) (last ∙ ap (option_map (name_at core.functions.names)) is)
+      ∙ ap (rotated (option_map (name_at core.functions.names) o)) can)
 
   pub scans_at_first : core.config.round_robin ≡ true → (conn core.conns c).last ≡ None → Scans core past c (all ++ [])
   scans_at_first e none = in_turn None e none ∙ from_the_first

@@ -20,8 +20,8 @@ use Rattle.gm_queues.specs.FunctionTables as queues
 use Rattle.gm_conns.specs.ConnTables.{conn}
 use Rattle.gm_conns.specs.ConnTables as conns
 use Rattle.gm_notes.specs.Places as places
-use Rattle.gm_jobs.specs.declared.job.Stage.{Stage}
-use Rattle.gm_jobs.specs.declared.job.Stage.TheVariants.{Waiting, Running, Lost}
+use Rattle.gm_jobs.specs.declared.job.LivePlace.{LivePlace}
+use Rattle.gm_jobs.specs.declared.job.LivePlace.TheVariants.{Waiting, Running, Lost}
 use Rattle.gm_jobs.specs.Live.{Live, reported, place_at, waits}
 use Rattle.gm_jobs.specs.Tables.{Table, job, place_or, listeners_of, Changes}
 use Rattle.gm_core.specs.declared.server.Core.{Core}
@@ -115,9 +115,9 @@ module _ (k : Settings) (table : conns.Table) (names : List (List ℕ)) (notes :
 pub runs_from : (c : ℕ) (o : Option Live) (made : Bool) → places.is_running_at c (place_or o made) ≡ true → IsRunning o
 runs_from c None true e = absurd (false≢true e)
 runs_from c None false e = absurd (false≢true e)
-runs_from c (Some l) made e = by l.stage e
+runs_from c (Some l) made e = by l.live_place e
   where
-    by : (s : Stage) → places.is_running_at c (place_at s) ≡ true → waits s ≡ false
+    by : (s : LivePlace) → places.is_running_at c (place_at s) ≡ true → waits s ≡ false
     by Waiting e = absurd (false≢true e)
     by (Running d) e = refl
     by Lost e = absurd (false≢true e)

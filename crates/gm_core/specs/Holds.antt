@@ -20,8 +20,8 @@ use Rattle.gm_conns.specs.ConnTables.{conn, is_touched}
 use Rattle.gm_conns.specs.ConnTables as conns
 use Rattle.gm_queues.specs.FunctionTables.{number_of, limit, queue}
 use Rattle.gm_queues.specs.FunctionTables as queues
-use Rattle.gm_jobs.specs.declared.job.Stage.{Stage}
-use Rattle.gm_jobs.specs.declared.job.Stage.TheVariants.{Waiting, Running, Lost}
+use Rattle.gm_jobs.specs.declared.job.LivePlace.{LivePlace}
+use Rattle.gm_jobs.specs.declared.job.LivePlace.TheVariants.{Waiting, Running, Lost}
 use Rattle.gm_jobs.specs.Live.{Live}
 use Rattle.gm_jobs.specs.Tables.{job, place, is_made}
 use Rattle.gm_jobs.specs.Tables as jobs
@@ -97,7 +97,7 @@ abbrev pub numbers_down : ℕ → ℕ → List ℕ
 numbers_down first zero = []
 numbers_down first (suc n) = (first + n) ∷ numbers_down first n
 
-abbrev pub job_state_at : Stage → JobState
+abbrev pub job_state_at : LivePlace → JobState
 job_state_at Waiting = states.Waiting
 job_state_at (Running c) = states.Running c
 job_state_at Lost = states.Lost
@@ -118,7 +118,7 @@ AreOpen is_open (c ∷ slots) = (is_open c ≡ true) × AreOpen is_open slots
 pub record IsJob (names : List (List ℕ)) (live : Live) (facts : JobFacts) (is_open : ℕ → Bool) (n : ℕ) : Type 0 where
   pub function : live.function < length names
   pub job : facts.job n ≡ Some (described names live)
-  pub job_state : facts.job_state n ≡ job_state_at live.stage
+  pub job_state : facts.job_state n ≡ job_state_at live.live_place
   pub kept : facts.kept n ≡ live.kept
   pub listeners : facts.listeners n ≡ live.listeners
   pub report : facts.report n ≡ unwrap_or live.report (codes "0", codes "0")

@@ -43,4 +43,4 @@ running_there c (Some n) notes = if is_running_at c (job_state n notes) then Som
 -- a live job that runs
 abbrev pub IsRunning : Option Live → Type 0
 IsRunning None = ⊥
-IsRunning (Some live) = waits live.stage ≡ false
+IsRunning (Some live) = waits live.live_place ≡ false

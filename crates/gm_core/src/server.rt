@@ -26,7 +26,7 @@ mod waking;
 mod working;
 
 use crate::written::Written;
-use gm_actions::{Action, ReadEvent};
+use gm_actions::ReadEvent;
 use gm_bytes::{ByteQueue, Data, SharedBytes};
 use gm_conns::Conns;
 use gm_jobs::Jobs;
@@ -176,17 +176,9 @@ impl JobServer for Core {
         {
             let bytes = Data::shared(&copy);
             let event = Event::Packet { slot, kind, bytes };
-            let action = Action::of_event(&event);
-            return self.apply_locked(&ReadEvent { event, action }, &mut None);
+            return self.apply_locked(&ReadEvent::new(event), &mut None);
         }
-        let action = Action::of_event(event);
-        self.apply_locked(
-            &ReadEvent {
-                event: *event,
-                action,
-            },
-            &mut None,
-        )
+        self.apply_locked(&ReadEvent::new(*event), &mut None)
     }
 
     fn owed(&self, slot: u32) -> bool {

@@ -17,7 +17,7 @@ ghost use Rattle.gm_notes.specs.Workers.{deadline_after, assignment, give_out, w
 use super::Core;
 use super::abilities::Choice;
 use super::answering::prepare;
-use gm_actions::{JobView, assignment, deadline_after, handle};
+use gm_actions::{JobRef, assignment, deadline_after, handle};
 use gm_notes::Priority;
 use gm_packet::Response;
 use std::alloc::AllocError;
@@ -51,7 +51,7 @@ impl Core {
         let Some(job) = self.jobs.by_number(found.pick.job) else {
             return Err(AllocError);
         };
-        let view = JobView {
+        let view = JobRef {
             function: self.functions.name(found.function),
             priority: job.p(),
             unique: job.unique(),

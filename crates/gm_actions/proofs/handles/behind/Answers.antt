@@ -5,8 +5,8 @@ use Rattle.gm_actions.proofs.handles.behind.Goals as goal
 
 pub returns-else-eq : goal.returns-else-eq
 returns-else-eq c rest e =
-    let start : c.split_at.result.0.now ≡ c.args.front.now =
-    c.split_at.ensures.front ∙ (ap (take (length c.args.front.now)) e ∙ take-append_seam c.args.front.now rest) in
-    let same : c.eq.result ≡ true = c.eq.ensures ∙ (bytes_eq-Decides c.split_at.result.0.now c.args.front.now).1 start in
+    let start : c.split_at.result.0.now ≡ c.args.head.now =
+    c.split_at.ensures.front ∙ (ap (take (length c.args.head.now)) e ∙ take-append_seam c.args.head.now rest) in
+    let same : c.eq.result ≡ true = c.eq.ensures ∙ (bytes_eq-Decides c.split_at.result.0.now c.args.head.now).1 start in
     let wrong : true ≡ false = sym same ∙ c.if-eq.false in
     absurd cc

@@ -19,7 +19,7 @@ returns c =
     (λ p keeps.
     let is = keeps.jobs.live c.args.job c.in-Some.found.now (sym c.in-Some.ensures) in
     let runs : c.is_running-running.result ≡ is_running (job_state c.args.job p.notes) =
-    c.is_running-running.ensures ∙ (ap places.is_running c.place.ensures ∙ (runs_same c.in-Some.found.now.stage ∙ ap is_running (sym is.job_state))) in
+    c.is_running-running.ensures ∙ (ap places.is_running c.place.ensures ∙ (runs_same c.in-Some.found.now.live_place ∙ ap is_running (sym is.job_state))) in
     let told : report_of c.report_of.result ≡ report c.args.job p.notes = c.report_of.ensures ∙ sym is.report in
     ap (λ (t : List ℕ). with_output c.args.slot t p) (c.in_ok-prepare.ensures.text ∙ ap answer_packet c.known_status-response.ensures)
     ∙ (λ i. with_output c.args.slot (answer_packet (status_res c.args.handle.now true (runs i) (told i).0 (told i).1)) p))
