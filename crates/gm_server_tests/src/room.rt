@@ -6,7 +6,7 @@ ghost use Rattle.std.specs.Prelude.{◌≡◌};
 
 use crate::checks::{must, same};
 use crate::growths::{MOST, refuse};
-use gm_actions::{Action, ReadEvent};
+use gm_actions::ReadEvent;
 use gm_conns::SlotSet;
 use gm_notes::{ApplyError, Config, Event};
 use gm_shared::{
@@ -72,8 +72,7 @@ pub fn apply<K: BookName, R: Wait + Abort>(
     match touched {
         Some(touched) => {
             *touched = SlotSet::new();
-            let action = Action::of_event(&event);
-            desk.apply_with(rt, shared, &ReadEvent { event, action }, touched)
+            desk.apply_with(rt, shared, &ReadEvent::new(event), touched)
         }
         None => desk.apply(rt, shared, event),
     }

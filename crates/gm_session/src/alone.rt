@@ -53,7 +53,7 @@ impl<R> Notify<R> for Alone {
 
     fn update_time(&self, _rt: &R) {}
 
-    fn note(&self, _rt: &R, _slot: u32, _oddity: Oddity) {}
+    fn remark(&self, _rt: &R, _slot: u32, _oddity: Oddity) {}
 
     fn notify(&self, _rt: &R, effects: &mut Effects) {
         effects.forget(self);
@@ -74,7 +74,7 @@ pub fn read_session<'s, K: BookName, R: Wait, I: Read, G: Gate>(
     gate: &'s G,
 ) -> SessionEnd
     ensures ended { result ≡ SessionEnd.Ended → IsAtEnd (I.remaining reader.new) }
-    ensures reads { Reads K.settings K.taped desk.old.number slot limits (I.remaining reader.old) (I.remaining reader.new) result desk.old.front.seen desk.new.front.seen }
+    ensures reads { Reads K.settings K.taped desk.old.number slot limits (I.remaining reader.old) (I.remaining reader.new) result desk.old.witness.seen desk.new.witness.seen }
     ensures number { desk.new.number ≡ desk.old.number }
 {
     let server = Alone::new();
@@ -88,6 +88,6 @@ pub fn read_session<'s, K: BookName, R: Wait, I: Read, G: Gate>(
     let mut applier = Applier::new(&around, slot);
     let mut session = Session::new(alloc, limits);
     let end = applier.run(&mut session, desk, reader);
-    applier.end();
+    applier.discharge();
     end
 }

@@ -72,7 +72,7 @@ impl<'s, K: BookName, R, G, N> Applier<'s, K, R, G, N> {
     }
 
     /// Others were notified of all that came of its units.
-    pub(crate) fn end(self)
+    pub(crate) fn discharge(self)
         requires { IsNothing self.effects }
     {
         let Applier {
@@ -80,7 +80,7 @@ impl<'s, K: BookName, R, G, N> Applier<'s, K, R, G, N> {
             slot: _,
             effects,
         } = self;
-        effects.end();
+        effects.discharge();
     }
 }
 
@@ -89,9 +89,9 @@ impl<'s, K: BookName, R: Wait, G: Gate, N: Notify<R>> Applier<'s, K, R, G, N> {
     fn apply(&mut self, desk: &mut Desk<K>, read: &ReadEvent<'_>) -> Result<(), SessionEnd>
         requires size { IsSized read.now.event }
         requires reads { ReadsEvent read.now.event read.now.action }
-        ensures applies { Applies K.settings K.taped desk.old.number (step_of read.now.event) result desk.old.front.seen desk.new.front.seen }
+        ensures applies { Applies K.settings K.taped desk.old.number (step_of read.now.event) result desk.old.witness.seen desk.new.witness.seen }
         ensures keeps { KeepsUnit K.settings K.taped (step_of read.now.event) desk.old.number result
-            desk.old.front.seen desk.new.front.seen self.old.effects self.new.effects }
+            desk.old.witness.seen desk.new.witness.seen self.old.effects self.new.effects }
         ensures number { desk.new.number ≡ desk.old.number }
         ensures slot { self.new.slot ≡ self.old.slot }
     {
@@ -117,24 +117,24 @@ impl<'s, K: BookName, R: Wait, G: Gate, N: Notify<R>> Applier<'s, K, R, G, N> {
         event: Event<'_>,
     ) -> Result<(), SessionEnd>
         requires { IsSized event }
-        ensures applies { Applies K.settings K.taped desk.old.number (step_of event.entry) result desk.old.front.seen desk.new.front.seen }
+        ensures applies { Applies K.settings K.taped desk.old.number (step_of event.entry) result desk.old.witness.seen desk.new.witness.seen }
         ensures keeps { KeepsUnit K.settings K.taped (step_of event.entry) desk.old.number result
-            desk.old.front.seen desk.new.front.seen self.old.effects self.new.effects }
+            desk.old.witness.seen desk.new.witness.seen self.old.effects self.new.effects }
         ensures number { desk.new.number ≡ desk.old.number }
         ensures slot { self.new.slot ≡ self.old.slot }
     {
         // Modelled in models/jobs.pml and ticks.pml.
         let around = self.around;
         around.gate.pass(around.rt, self.slot, index);
-        let action = Action::of_event(&event);
-        match (&action, event) {
+        let read = ReadEvent::new(event);
+        match (&read.action, &read.event) {
             (Ok(Action::Grab { .. }), _) => around.server.update_time(around.rt),
             (Err(Refusal::UnknownCommand), Event::Packet { kind, .. }) => around
                 .server
-                .note(around.rt, self.slot, Oddity::UnknownType(kind)),
+                .remark(around.rt, self.slot, Oddity::UnknownType(*kind)),
             _ => {}
         }
-        self.apply(desk, &ReadEvent { event, action })
+        self.apply(desk, &read)
     }
 
     /// Takes the next unit in the feeder, or the fault there. A long packet is taken with its
@@ -145,8 +145,8 @@ impl<'s, K: BookName, R: Wait, G: Gate, N: Notify<R>> Applier<'s, K, R, G, N> {
         desk: &mut Desk<K>,
         batch: &mut Batch<'s>,
     ) -> Result<Taken, SessionEnd>
-        ensures takes { TakesNext K.settings K.taped desk.old.number self.old.slot session.old.feeder result desk.old.front.seen desk.new.front.seen session.new.feeder }
-        ensures gathers { Gathers K.settings K.taped desk.old.number desk.old.front.seen self.old.effects desk.new.front.seen self.new.effects }
+        ensures takes { TakesNext K.settings K.taped desk.old.number self.old.slot session.old.feeder result desk.old.witness.seen desk.new.witness.seen session.new.feeder }
+        ensures gathers { Gathers K.settings K.taped desk.old.number desk.old.witness.seen self.old.effects desk.new.witness.seen self.new.effects }
         ensures number { desk.new.number ≡ desk.old.number }
         ensures slot { self.new.slot ≡ self.old.slot }
     {
@@ -170,9 +170,9 @@ impl<'s, K: BookName, R: Wait, G: Gate, N: Notify<R>> Applier<'s, K, R, G, N> {
             }
             Next::Wait => Ok(Taken::Nothing),
             Next::Fault(fault) => {
-                around.server.note(around.rt, slot, Oddity::Fault);
+                around.server.remark(around.rt, slot, Oddity::Fault);
                 let event = Event::Fault { slot, fault };
-                let action = Action::of_event(&event);
+                let action = Ok(Action::Nothing);
                 self.apply(desk, &ReadEvent { event, action })?;
                 Err(SessionEnd::Shut)
             }
@@ -188,9 +188,9 @@ impl<'s, K: BookName, R: Wait, G: Gate, N: Notify<R>> Applier<'s, K, R, G, N> {
     ) -> Result<(), SessionEnd>
         requires { length (drop packet.data_at packet.bytes.items) ≤ 1073741824 }
         ensures applies { Applies K.settings K.taped desk.old.number (Packet self.old.slot packet.kind (drop packet.data_at packet.bytes.items)) result
-            desk.old.front.seen desk.new.front.seen }
+            desk.old.witness.seen desk.new.witness.seen }
         ensures keeps { KeepsUnit K.settings K.taped (Packet self.old.slot packet.kind (drop packet.data_at packet.bytes.items)) desk.old.number result
-            desk.old.front.seen desk.new.front.seen self.old.effects self.new.effects }
+            desk.old.witness.seen desk.new.witness.seen self.old.effects self.new.effects }
         ensures number { desk.new.number ≡ desk.old.number }
         ensures slot { self.new.slot ≡ self.old.slot }
     {
@@ -205,8 +205,8 @@ impl<'s, K: BookName, R: Wait, G: Gate, N: Notify<R>> Applier<'s, K, R, G, N> {
 
     /// Takes units, and the fault after them, until there is none, or their batch has ended. Where the session is over, it says why.
     fn unload(&mut self, session: &mut Session, desk: &mut Desk<K>) -> Result<Turn, SessionEnd>
-        ensures unloads { Unloads K.settings K.taped desk.old.number self.old.slot session.old.feeder result desk.old.front.seen desk.new.front.seen session.new.feeder }
-        ensures gathers { Gathers K.settings K.taped desk.old.number desk.old.front.seen self.old.effects desk.new.front.seen self.new.effects }
+        ensures unloads { Unloads K.settings K.taped desk.old.number self.old.slot session.old.feeder result desk.old.witness.seen desk.new.witness.seen session.new.feeder }
+        ensures gathers { Gathers K.settings K.taped desk.old.number desk.old.witness.seen self.old.effects desk.new.witness.seen self.new.effects }
         ensures number { desk.new.number ≡ desk.old.number }
         ensures slot { self.new.slot ≡ self.old.slot }
     {
@@ -234,7 +234,7 @@ impl<'s, K: BookName, R: Wait, G: Gate, N: Notify<R>> Applier<'s, K, R, G, N> {
         desk: &mut Desk<K>,
     ) -> Result<Turn, SessionEnd>
         ensures nothing { IsNothing self.new.effects }
-        ensures unloads { Unloads K.settings K.taped desk.old.number self.old.slot session.old.feeder result desk.old.front.seen desk.new.front.seen session.new.feeder }
+        ensures unloads { Unloads K.settings K.taped desk.old.number self.old.slot session.old.feeder result desk.old.witness.seen desk.new.witness.seen session.new.feeder }
         ensures number { desk.new.number ≡ desk.old.number }
         ensures slot { self.new.slot ≡ self.old.slot }
     {
@@ -256,7 +256,7 @@ impl<'s, K: BookName, R: Wait, G: Gate, N: Notify<R>> Applier<'s, K, R, G, N> {
         ensures nothing { IsNothing self.new.effects }
         ensures ended { IfErr result (λ end. end ≡ SessionEnd.Ended → IsAtEnd (S.remaining source.new)) }
         ensures steps { Steps K.settings K.taped desk.old.number self.old.slot session.old.feeder session.old.has_units (S.remaining source.old) (S.remaining source.new)
-            (S.heard source.old) (S.heard source.new) result desk.old.front.seen desk.new.front.seen session.new.feeder }
+            (S.heard source.old) (S.heard source.new) result desk.old.witness.seen desk.new.witness.seen session.new.feeder }
         ensures units { IfOk result (λ turn. session.new.has_units ≡ may_leave turn) }
         ensures number { desk.new.number ≡ desk.old.number }
         ensures slot { self.new.slot ≡ self.old.slot }
@@ -280,7 +280,7 @@ impl<'s, K: BookName, R: Wait, G: Gate, N: Notify<R>> Applier<'s, K, R, G, N> {
         ensures nothing { IsNothing self.new.effects }
         ensures ended { result ≡ SessionEnd.Ended → IsAtEnd (I.remaining reader.new) }
         ensures reads { Reads K.settings K.taped desk.old.number self.old.slot session.old.feeder.limits (I.remaining reader.old) (I.remaining reader.new) result
-            desk.old.front.seen desk.new.front.seen }
+            desk.old.witness.seen desk.new.witness.seen }
         ensures number { desk.new.number ≡ desk.old.number }
     {
         let mut pieces_left = MOST_PIECES;

@@ -26,9 +26,9 @@ pub(crate) struct Batch<'s> {
     /// Held over the other units, so that no other session has such a batch. Many units in a row, of several connections at
     /// once, would wake and sleep at the book's lock at each unit.
     alone: Option<MutexGuard<'s, ()>>,
-    /// The turn among the long ones, held with `alone`. So at most one thread with a long turn waits for `alone`, beside those with
+    /// The lock of long pieces, held with `alone`. So at most one thread with a long turn waits for `alone`, beside those with
     /// shorter ones.
-    turn: Option<MutexGuard<'s, ()>>,
+    long_lock: Option<MutexGuard<'s, ()>>,
     pub(crate) units: u32,
     begun: Option<Instant>,
 }
@@ -40,14 +40,14 @@ impl<'s> Batch<'s> {
         ensures units { result.units ≡ 0 }
         ensures long { 2048 < length → result.is_long ≡ true }
         ensures alone { IsNone result.alone }
-        ensures turn { IsNone result.turn }
+        ensures long_lock { IsNone result.long_lock }
         ensures begun { result.begun ≡ None }
     {
         Batch {
             free_units,
             is_long: length > MIDDLE_PIECE,
             alone: None,
-            turn: None,
+            long_lock: None,
             units: 0,
             begun: None,
         }
@@ -59,14 +59,14 @@ impl<'s> Batch<'s> {
         ensures free { self.new.free_units ≡ self.old.free_units }
         ensures units { self.new.units ≡ self.old.units }
         ensures waits { self.old.free_units ≤ self.old.units → IsSome self.new.alone }
-        ensures turn { self.old.free_units ≤ self.old.units → IsNone self.old.alone → self.old.is_long ≡ true → IsSome self.new.turn }
+        ensures long_lock { self.old.free_units ≤ self.old.units → IsNone self.old.alone → self.old.is_long ≡ true → IsSome self.new.long_lock }
         ensures long { self.new.is_long ≡ self.old.is_long }
         ensures begun { self.new.begun ≡ self.old.begun }
     {
         // Modelled in models/jobs.pml.
         if self.units >= self.free_units && self.alone.is_none() {
             if self.is_long {
-                self.turn = Some(server.long_piece_lock().lock(rt));
+                self.long_lock = Some(server.long_piece_lock().lock(rt));
             }
             self.alone = Some(server.batch_lock().lock(rt));
         }

@@ -82,8 +82,8 @@ impl Effects {
         self.mode = Mode::Running;
     }
 
-    /// Ends it, where nothing is due to any slot any more.
-    pub fn end(self)
+    /// Discharges it, where nothing is due to any slot any more.
+    pub fn discharge(self)
         requires { IsNothing self }
     {
         let Effects {
@@ -104,8 +104,8 @@ pub(crate) fn hand_in<K: BookName>(
 ) -> Result<Receipt, ApplyError>
     requires size { IsSized read.now.event }
     requires reads { ReadsEvent read.now.event read.now.action }
-    ensures keeps { Keeps K.settings K.taped (step_of read.now.event) desk.old.number result desk.old.front.seen desk.new.front.seen effects.old effects.new }
-    ensures hands { HandedIn desk.old.number (if_taken (step_of read.now.event) result) desk.old.front.seen desk.new.front.seen }
+    ensures keeps { Keeps K.settings K.taped (step_of read.now.event) desk.old.number result desk.old.witness.seen desk.new.witness.seen effects.old effects.new }
+    ensures hands { HandedIn desk.old.number (if_taken (step_of read.now.event) result) desk.old.witness.seen desk.new.witness.seen }
     ensures memory { NeedsNoMemory K.taped (step_of read.now.event) → IsErrOf result ApplyError.Memory → ⊥ }
     ensures number { desk.new.number ≡ desk.old.number }
 {
@@ -148,7 +148,7 @@ pub trait Notify<R>: Audience {
     fn update_time(&self, rt: &R);
 
     /// The session of this slot's connection met this.
-    fn note(&self, rt: &R, slot: u32, oddity: Oddity);
+    fn remark(&self, rt: &R, slot: u32, oddity: Oddity);
 
     /// Notifies others of what came of some events, with the book's lock let go.
     fn notify(&self, rt: &R, effects: &mut Effects)

@@ -173,15 +173,15 @@ impl HearingLedger {
 
     // The desk is for the proof alone.
     fn close_unheard_as<K: BookName, E: Worth<Hearings>>(&mut self, _desk: &Desk<K>)
-        requires { E.worth ≡ closed _desk.now.front.seen [] self.old }
-        ensures { self.new ≡ closed _desk.now.front.seen [] self.old }
+        requires { E.worth ≡ closed _desk.now.witness.seen [] self.old }
+        ensures { self.new ≡ closed _desk.now.witness.seen [] self.old }
     {
         self.cell.set::<E>();
     }
 
     /// Enters a connection that was closed at this desk before it was read.
     pub(crate) fn close_unheard<K: BookName>(&mut self, desk: &Desk<K>)
-        ensures { self.new ≡ closed desk.now.front.seen [] self.old }
+        ensures { self.new ≡ closed desk.now.witness.seen [] self.old }
     {
         self.close_unheard_as::<K, Brand>(desk)
     }
@@ -192,8 +192,8 @@ impl HearingLedger {
         _desk: &Desk<K>,
         _source: &LoggedSource<I>,
     )
-        requires { E.worth ≡ closed _desk.now.front.seen _source.now.2 self.old }
-        ensures { self.new ≡ closed _desk.now.front.seen _source.now.2 self.old }
+        requires { E.worth ≡ closed _desk.now.witness.seen _source.now.2 self.old }
+        ensures { self.new ≡ closed _desk.now.witness.seen _source.now.2 self.old }
     {
         self.cell.set::<E>();
     }
@@ -204,7 +204,7 @@ impl HearingLedger {
         desk: &Desk<K>,
         source: &LoggedSource<I>,
     )
-        ensures { self.new ≡ closed desk.now.front.seen source.now.2 self.old }
+        ensures { self.new ≡ closed desk.now.witness.seen source.now.2 self.old }
     {
         self.close_as::<K, I, Brand>(desk, source)
     }

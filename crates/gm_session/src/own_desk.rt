@@ -14,7 +14,7 @@ use crate::applier::{Applier, Around};
 use crate::effects::{Effects, Notify, hand_in};
 use crate::gate::Gate;
 use crate::session::{Session, SessionEnd, Turn};
-use gm_actions::{Action, ReadEvent};
+use gm_actions::ReadEvent;
 use gm_feeder::Source;
 use gm_notes::{ApplyError, Event};
 use gm_shared::{BookName, Desk, Receipt, Shared};
@@ -24,13 +24,13 @@ use std::sync::Wait;
 #[derive(Drop)]
 pub struct OwnDesk<K: BookName> {
     pub(crate) desk: Desk<K>,
-    ghost own: { SaysOwn desk.number desk.front.seen },
+    ghost own: { SaysOwn desk.number desk.witness.seen },
 }
 
 impl<K: BookName> OwnDesk<K> {
     /// A desk that has seen nothing yet.
     pub fn new(desk: Desk<K>) -> OwnDesk<K>
-        requires { desk.front.seen ≡ [] }
+        requires { desk.witness.seen ≡ [] }
         ensures { result.desk ≡ desk }
     {
         OwnDesk { desk }
@@ -39,7 +39,7 @@ impl<K: BookName> OwnDesk<K> {
     /// The desk, whose share and history have nothing of other slots' connections.
     pub fn into_desk(self) -> Desk<K>
         ensures desk { result ≡ self.desk }
-        ensures own { SaysOwn result.number result.front.seen }
+        ensures own { SaysOwn result.number result.witness.seen }
     {
         self.desk
     }
@@ -55,15 +55,13 @@ impl<K: BookName> OwnDesk<K> {
         requires size { IsSized event }
         requires own { is_said_by self.old.desk.number (step_of event) ≡ true }
         ensures keeps { Keeps K.settings K.taped (step_of event.entry) self.old.desk.number result
-            self.old.desk.front.seen self.new.desk.front.seen effects.old effects.new }
-        ensures hands { HandedIn self.old.desk.number (if_taken (step_of event.entry) result) self.old.desk.front.seen self.new.desk.front.seen }
+            self.old.desk.witness.seen self.new.desk.witness.seen effects.old effects.new }
+        ensures hands { HandedIn self.old.desk.number (if_taken (step_of event.entry) result) self.old.desk.witness.seen self.new.desk.witness.seen }
         ensures memory { NeedsNoMemory K.taped (step_of event.entry) → IsErrOf result ApplyError.Memory → ⊥ }
         ensures number { self.new.desk.number ≡ self.old.desk.number }
     {
         // Modelled in models/serving.h and ticks.pml.
-        let action = Action::of_event(&event);
-        let read = ReadEvent { event, action };
-        hand_in(rt, shared, &mut self.desk, &read, effects)
+        hand_in(rt, shared, &mut self.desk, &ReadEvent::new(event), effects)
     }
 
     /// The number of the desk, which is its slot's; the control desk has the number after the last slot's.
@@ -84,13 +82,13 @@ impl<K: BookName> OwnDesk<K> {
     ) -> Result<Turn, SessionEnd>
         ensures ended { IfErr result (λ end. end ≡ SessionEnd.Ended → IsAtEnd (S.remaining source.new)) }
         ensures steps { Steps K.settings K.taped self.old.desk.number self.old.desk.number session.old.feeder session.old.has_units (S.remaining source.old) (S.remaining source.new)
-            (S.heard source.old) (S.heard source.new) result self.old.desk.front.seen self.new.desk.front.seen session.new.feeder }
+            (S.heard source.old) (S.heard source.new) result self.old.desk.witness.seen self.new.desk.witness.seen session.new.feeder }
         ensures units { IfOk result (λ turn. session.new.has_units ≡ may_leave turn) }
         ensures number { self.new.desk.number ≡ self.old.desk.number }
     {
         let mut applier = Applier::new(around, self.desk.number());
         let outcome = applier.step(session, &mut self.desk, source, by);
-        applier.end();
+        applier.discharge();
         outcome
     }
 }

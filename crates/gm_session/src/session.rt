@@ -45,7 +45,7 @@ pub struct Session {
     pub(crate) feeder: Feeder,
     /// The next unit's index.
     pub(crate) index: u64,
-    /// Whether the last long turn had many units, as the next one then has: that waits from its first unit on.
+    /// Whether the last turn had many units, as the next one then has: where that is long, it waits from its first unit on.
     pub(crate) is_pipelining: bool,
     /// Whether the last turn may have left whole units.
     pub(crate) has_units: bool,

@@ -57,7 +57,7 @@ impl<K: BookName, I: Source<Patience>> Model for Talk<K, I> {
     ghost view = { λ t. record {
       number = t.desk.desk.number;
       limits = t.limits;
-      seen = t.desk.desk.front.seen;
+      seen = t.desk.desk.witness.seen;
       hearings = t.ledger;
       talking = option_map (λ x. record { stream = x.session.feeder; has_units = x.session.has_units; is_over = x.is_over; heard = x.source.2 }) t.talking;
     } };
@@ -65,7 +65,7 @@ impl<K: BookName, I: Source<Patience>> Model for Talk<K, I> {
     ghost invariant = { λ t. IsTalk (record {
       number = t.desk.desk.number;
       limits = t.limits;
-      seen = t.desk.desk.front.seen;
+      seen = t.desk.desk.witness.seen;
       hearings = t.ledger;
       talking = option_map (λ x. record { stream = x.session.feeder; has_units = x.session.has_units; is_over = x.is_over; heard = x.source.2 }) t.talking;
     }) };
@@ -80,7 +80,7 @@ fn step_on<K: BookName, R: Wait, G: Gate, N: Notify<R>, I: Source<Patience>>(
 ) -> Result<Turn, SessionEnd>
     ensures steps { Steps K.settings K.taped desk.old.desk.number desk.old.desk.number talking.old.session.feeder talking.old.session.has_units
         (I.remaining talking.old.source.0) (I.remaining talking.new.source.0) (Some talking.old.source.2) (Some talking.new.source.2) result
-        desk.old.desk.front.seen desk.new.desk.front.seen talking.new.session.feeder }
+        desk.old.desk.witness.seen desk.new.desk.witness.seen talking.new.session.feeder }
     ensures units { IfOk result (λ turn. talking.new.session.has_units ≡ may_leave turn) }
     ensures over { MatchResult result (λ _. talking.new.is_over ≡ false) (λ _. talking.new.is_over ≡ true) }
     ensures number { desk.new.desk.number ≡ desk.old.desk.number }
@@ -110,7 +110,7 @@ fn discard_on<I: Source<Patience>>(
 impl<K: BookName, I: Source<Patience> + Drop> Talk<K, I> {
     /// A desk that has seen nothing, and no connection. Its connections' units are within these limits.
     pub fn new(alloc: Global, desk: Desk<K>, limits: Limits) -> Result<Talk<K, I>, AllocError>
-        requires { desk.front.seen ≡ [] }
+        requires { desk.witness.seen ≡ [] }
         ensures number { IfOk result (λ talk. talk.number ≡ desk.number) }
         ensures blank { IfOk result (λ talk. (talk.seen ≡ []) × (talk.talking ≡ None) × (talk.hearings ≡ blank)) }
         ensures limits { IfOk result (λ talk. talk.limits ≡ limits) }
@@ -174,7 +174,7 @@ impl<K: BookName, I: Source<Patience> + Drop> Talk<K, I> {
     }
 
     /// Nothing is read from the connection any more.
-    pub fn end(&mut self)
+    pub fn stop_reading(&mut self)
         ensures { self.new ≡ self.old }
     {
         // Modelled in models/serving.h.
@@ -242,7 +242,7 @@ impl<K: BookName, I: Source<Patience> + Drop> Talk<K, I> {
 
     /// The desk, the limits of its connections' units, and the account of what was read from them.
     pub fn into_parts(self) -> (OwnDesk<K>, Limits, HearingLedger)
-        ensures desk { (result.0.desk.number ≡ self.number) × (result.0.desk.front.seen ≡ self.seen) }
+        ensures desk { (result.0.desk.number ≡ self.number) × (result.0.desk.witness.seen ≡ self.seen) }
         ensures limits { result.1 ≡ self.limits }
         ensures hearings { result.2 ≡ self.hearings }
         ensures talk { IsTalk self }

@@ -8,7 +8,7 @@ use Rattle.gm_session.proofs.Handing.{at_home, unloading_none, unloading_more, u
 use Rattle.gm_session.proofs.applier.Applier.unload.Goals as goal
 
 pub loop-batch-init : goal.loop-batch-init
-loop-batch-init g c = record { unloading = unloading_none c.args.desk.now.number c.args.self.now.slot c.args.session.now.feeder c.args.desk.now.front.seen; gathers = nothing; number = refl; slot = refl }
+loop-batch-init g c = record { unloading = unloading_none c.args.desk.now.number c.args.self.now.slot c.args.session.now.feeder c.args.desk.now.witness.seen; gathers = nothing; number = refl; slot = refl }
 
 pub loop-batch-smaller : goal.loop-batch-smaller
 loop-batch-smaller g c =
@@ -19,7 +19,7 @@ pub loop-batch-preserved : goal.loop-batch-preserved
 loop-batch-preserved g c =
     let k = g.K.BookName.settings in
     let taped = g.K.BookName.taped in
-    let t = at_home k taped c.args.desk.now.number c.args.self.now.slot _ _ c.loop-batch.session.feeder c.take_unit.new.session.feeder _ c.take_unit.new.desk.front.seen (Ok (AUnit c.in-Unit.is_line))
+    let t = at_home k taped c.args.desk.now.number c.args.self.now.slot _ _ c.loop-batch.session.feeder c.take_unit.new.session.feeder _ c.take_unit.new.desk.witness.seen (Ok (AUnit c.in-Unit.is_line))
     c.loop-batch.invariant.number c.loop-batch.invariant.slot (rw c.in-Unit.is at c.in_ok-is_line.ensures.takes) in
     record {
       unloading = unloading_more k taped c.args.desk.now.number c.args.self.now.slot _ _ _ _ _ _ c.loop-batch.invariant.unloading c.in-Unit.is_line t;
@@ -36,7 +36,7 @@ returns-in_err-is_line-clause-unloads g c =
     let end = c.in_err-is_line.field-0.0 in
     rw (e.1, e.2)
     (unloads_stops k taped c.args.desk.now.number c.args.self.now.slot _ _ _ _ _ c.take_unit.new.session.feeder c.loop-batch.invariant.unloading end
-    (at_home k taped c.args.desk.now.number c.args.self.now.slot _ _ c.loop-batch.session.feeder c.take_unit.new.session.feeder _ c.take_unit.new.desk.front.seen (Err end)
+    (at_home k taped c.args.desk.now.number c.args.self.now.slot _ _ c.loop-batch.session.feeder c.take_unit.new.session.feeder _ c.take_unit.new.desk.witness.seen (Err end)
     c.loop-batch.invariant.number c.loop-batch.invariant.slot c.in_err-is_line.ensures.takes))
 
 pub returns-in_err-is_line-clause-gathers : goal.returns-in_err-is_line-clause-gathers
@@ -48,7 +48,7 @@ returns-in_default-clause-unloads g c =
     let k = g.K.BookName.settings in
     let taped = g.K.BookName.taped in
     unloads_all k taped c.args.desk.now.number c.args.self.now.slot _ _ _ _ _ c.take_unit.new.session.feeder c.loop-batch.invariant.unloading
-    (at_home k taped c.args.desk.now.number c.args.self.now.slot _ _ c.loop-batch.session.feeder c.take_unit.new.session.feeder _ c.take_unit.new.desk.front.seen (Ok Nothing)
+    (at_home k taped c.args.desk.now.number c.args.self.now.slot _ _ c.loop-batch.session.feeder c.take_unit.new.session.feeder _ c.take_unit.new.desk.witness.seen (Ok Nothing)
     c.loop-batch.invariant.number c.loop-batch.invariant.slot (rw c.in_default.is at c.in_ok-is_line.ensures.takes))
 
 pub returns-in_default-clause-gathers : goal.returns-in_default-clause-gathers
@@ -59,9 +59,9 @@ pub returns-then-has_ended-clause-unloads : goal.returns-then-has_ended-clause-u
 returns-then-has_ended-clause-unloads g c =
     let k = g.K.BookName.settings in
     let taped = g.K.BookName.taped in
-    let t = at_home k taped c.args.desk.now.number c.args.self.now.slot _ _ c.loop-batch.session.feeder c.take_unit.new.session.feeder _ c.take_unit.new.desk.front.seen (Ok (AUnit c.in-Unit.is_line))
+    let t = at_home k taped c.args.desk.now.number c.args.self.now.slot _ _ c.loop-batch.session.feeder c.take_unit.new.session.feeder _ c.take_unit.new.desk.witness.seen (Ok (AUnit c.in-Unit.is_line))
     c.loop-batch.invariant.number c.loop-batch.invariant.slot (rw c.in-Unit.is at c.in_ok-is_line.ensures.takes) in
-    unloads_some k taped c.args.desk.now.number c.args.self.now.slot _ c.args.desk.now.front.seen c.take_unit.new.desk.front.seen c.take_unit.new.session.feeder
+    unloads_some k taped c.args.desk.now.number c.args.self.now.slot _ c.args.desk.now.witness.seen c.take_unit.new.desk.witness.seen c.take_unit.new.session.feeder
     (unloading_more k taped c.args.desk.now.number c.args.self.now.slot _ _ _ _ _ _ c.loop-batch.invariant.unloading c.in-Unit.is_line t)
 
 pub returns-then-has_ended-clause-gathers : goal.returns-then-has_ended-clause-gathers
