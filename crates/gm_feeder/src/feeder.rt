@@ -161,7 +161,7 @@ impl Feeder {
         if let Some(fault) = self.fault {
             return Err(fault);
         }
-        match self.look() {
+        match self.next_head() {
             Head::Incomplete { .. } => {
                 self.let_go();
                 Ok(None)
@@ -240,7 +240,7 @@ impl Feeder {
     }
 
     // The head of the pending bytes. Where that is no unit yet, it remembers how far it has searched.
-    fn look(&mut self) -> Head
+    fn next_head(&mut self) -> Head
         ensures head { IsHead self.old.limits self.old.pending result }
         ensures kept { self.new ≡ self.old }
     {

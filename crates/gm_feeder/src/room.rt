@@ -11,7 +11,7 @@ use std::io;
 const LEAST_ROOM: usize = 1_024;
 
 /// The room for the first read, which doubles whenever a read has filled it.
-const FIRST_PIECE: usize = 4_096;
+const FIRST_PIECE: usize = 2_048;
 
 /// The most room that is made where it isn't known how many bytes are missing.
 const PIECE: usize = 16_384;
