@@ -13,22 +13,22 @@ use std::sync::atomic::{AtomicU64, Ordering};
 /// What a thread's waker is registered as. No slot has this number.
 const WAKER: Token = Token(usize::MAX);
 
-/// One thread's end.
+/// Where others leave word for a thread.
 #[derive(Drop)]
-struct Seat {
+struct Mailbox {
     registry: Registry,
     waker: Waker,
     /// Which of its slots it is to look at, a bit for each.
     marks: Vec<AtomicU64>,
 }
 
-impl Seat {
-    fn new(alloc: Global, poll: &Poll, places: usize) -> io::Result<Seat> {
+impl Mailbox {
+    fn new(alloc: Global, poll: &Poll, slots: usize) -> io::Result<Mailbox> {
         let mut marks = Vec::new(alloc);
-        for _ in 0..places.div_ceil(MARKS) {
+        for _ in 0..slots.div_ceil(MARKS) {
             marks.push(AtomicU64::new(0))?;
         }
-        Ok(Seat {
+        Ok(Mailbox {
             registry: poll.registry().try_clone()?,
             waker: Waker::new(poll.registry(), WAKER)?,
             marks,
@@ -45,7 +45,7 @@ impl Seat {
 /// Wakes threads that wait for many connections, and has connections reported to them.
 #[derive(Drop)]
 pub struct Hub {
-    seats: Vec<Seat>,
+    mailboxes: Vec<Mailbox>,
 }
 
 impl Hub {
@@ -57,19 +57,19 @@ impl Hub {
         count: u32,
         slots: u32,
     ) -> io::Result<(Hub, Vec<Poller>)> {
-        let mut seats = Vec::new(alloc);
+        let mut mailboxes = Vec::new(alloc);
         let mut pollers = Vec::new(alloc);
         for thread in 0..count {
             let poll = Poll::new(rt)?;
-            seats.push(Seat::new(alloc, &poll, slots.div_ceil(count) as usize)?)?;
+            mailboxes.push(Mailbox::new(alloc, &poll, slots.div_ceil(count) as usize)?)?;
             pollers.push(Poller::new(alloc, poll, thread, count, slots)?)?;
         }
-        Ok((Hub { seats }, pollers))
+        Ok((Hub { mailboxes }, pollers))
     }
 
-    fn seat(&self, slot: u32) -> Option<&Seat> {
-        let count = self.seats.len().max(1);
-        self.seats.get(slot as usize % count)
+    fn mailbox(&self, slot: u32) -> Option<&Mailbox> {
+        let count = self.mailboxes.len().max(1);
+        self.mailboxes.get(slot as usize % count)
     }
 
     /// Has what comes at this descriptor reported to the slot's thread, and that it takes bytes again, until it is closed.
@@ -77,9 +77,10 @@ impl Hub {
         // Modelled in models/polling.pml.
         // Urgent data end a read, so what is behind them has to be reported again.
         let interests = Interest::READABLE | Interest::WRITABLE | Interest::PRIORITY;
-        match self.seat(slot) {
-            Some(seat) => {
-                seat.registry
+        match self.mailbox(slot) {
+            Some(mailbox) => {
+                mailbox
+                    .registry
                     .register(&mut SourceFd(&fd), Token(slot as usize), interests)
             }
             None => Err(Error::from(ErrorKind::NotFound)),
@@ -89,36 +90,36 @@ impl Hub {
     /// Has the slot's thread look at it.
     pub fn wake(&self, slot: u32) {
         // Modelled in models/polling.pml.
-        let Some(seat) = self.seat(slot) else {
+        let Some(mailbox) = self.mailbox(slot) else {
             return;
         };
-        let place = slot as usize / self.seats.len().max(1);
-        if let Some(word) = seat.marks.get(place / MARKS) {
-            // A thread that marked it before woke the seat's, which hasn't taken the marks since.
-            let bit = 1 << (place % MARKS);
+        let index = slot as usize / self.mailboxes.len().max(1);
+        if let Some(word) = mailbox.marks.get(index / MARKS) {
+            // A thread that marked it before woke the mailbox's, which hasn't taken the marks since.
+            let bit = 1 << (index % MARKS);
             if word.fetch_or(bit, Ordering::SeqCst) & bit == 0 {
-                seat.wake();
+                mailbox.wake();
             }
         }
     }
 
     /// Has each thread look at all its slots.
     pub fn wake_all(&self) {
-        for seat in &self.seats {
-            for word in &seat.marks {
+        for mailbox in &self.mailboxes {
+            for word in &mailbox.marks {
                 word.store(u64::MAX, Ordering::SeqCst);
             }
-            seat.wake();
+            mailbox.wake();
         }
     }
 
-    /// Takes the marks of 64 of a thread's places, from the place 64 times `at` on: a bit for each.
+    /// Takes the marks of 64 of a thread's slots, from its slot 64 times `at` on: a bit for each.
     pub(crate) fn take_marks(&self, thread: u32, at: usize) -> u64 {
         // Modelled in models/polling.pml.
-        let Some(seat) = self.seats.get(thread as usize) else {
+        let Some(mailbox) = self.mailboxes.get(thread as usize) else {
             return 0;
         };
-        match seat.marks.get(at) {
+        match mailbox.marks.get(at) {
             Some(word) if word.load(Ordering::SeqCst) != 0 => word.swap(0, Ordering::SeqCst),
             _ => 0,
         }

@@ -38,9 +38,9 @@ pub struct Next {
     pub is_again: bool,
 }
 
-/// A slot's place with its thread.
+/// What a thread keeps of a slot that it serves.
 #[derive(Clone, Copy)]
-struct Place {
+struct SlotState {
     slot: u32,
     /// Whether it is among the ready ones.
     is_ready: bool,
@@ -58,7 +58,7 @@ pub struct Poller {
     /// The thread's number, which is its first slot's, and how many threads there are, so how far its slots are apart.
     thread: u32,
     count: u32,
-    places: Vec<Place>,
+    states: Vec<SlotState>,
     // The slots to serve, each once, so that there is room for all.
     ready: VecDeque<usize>,
     // Those to look at again, each once.
@@ -77,9 +77,9 @@ impl Poller {
         slots: u32,
     ) -> Result<Poller, AllocError> {
         let count = count.max(1);
-        let mut places = Vec::new(alloc);
+        let mut states = Vec::new(alloc);
         for slot in (thread..slots).step_by(count as usize) {
-            places.push(Place {
+            states.push(SlotState {
                 slot,
                 is_ready: false,
                 is_woken: false,
@@ -92,9 +92,9 @@ impl Poller {
             events: Events::with_capacity(alloc, EVENTS)?,
             thread,
             count,
-            ready: VecDeque::with_capacity(alloc, places.len())?,
-            again: VecDeque::with_capacity(alloc, places.len())?,
-            places,
+            ready: VecDeque::with_capacity(alloc, states.len())?,
+            again: VecDeque::with_capacity(alloc, states.len())?,
+            states,
             looked: None,
         })
     }
@@ -119,7 +119,7 @@ impl Poller {
             .poll
             .poll(&mut self.events, Some(Duration::from_millis(time)));
         for event in &self.events {
-            note_event(&mut self.places, &mut self.ready, self.count, event);
+            note_event(&mut self.states, &mut self.ready, self.count, event);
         }
         self.take_marks(hub);
         self.look_again(rt);
@@ -128,7 +128,7 @@ impl Poller {
     /// Takes the marks that others made.
     fn take_marks(&mut self, hub: &Hub) {
         // Modelled in models/polling.pml.
-        for at in 0..self.places.len().div_ceil(MARKS) {
+        for at in 0..self.states.len().div_ceil(MARKS) {
             let marks = hub.take_marks(self.thread, at);
             if marks != 0 {
                 self.call_marked(at * MARKS, marks);
@@ -136,7 +136,7 @@ impl Poller {
         }
     }
 
-    /// The marked ones of these places, from the first on, are to be served.
+    /// The marked ones of these, from the first on, are to be served.
     fn call_marked(&mut self, first: usize, marks: u64) {
         for bit in 0..MARKS {
             if marks & 1 << bit != 0 {
@@ -148,12 +148,12 @@ impl Poller {
     /// A slot is to be served, though its socket wasn't reported.
     fn call(&mut self, at: usize) {
         // Modelled in models/polling.pml.
-        let Some(place) = self.places.get_mut(at) else {
+        let Some(state) = self.states.get_mut(at) else {
             return;
         };
-        place.is_woken = true;
-        if !place.is_ready {
-            place.is_ready = true;
+        state.is_woken = true;
+        if !state.is_ready {
+            state.is_ready = true;
             let _ = self.ready.push_back(at);
         }
     }
@@ -168,8 +168,8 @@ impl Poller {
             let Some(at) = self.again.pop_front() else {
                 break;
             };
-            if let Some(place) = self.places.get_mut(at) {
-                place.is_again = false;
+            if let Some(state) = self.states.get_mut(at) {
+                state.is_again = false;
             }
             self.call(at);
         }
@@ -195,14 +195,14 @@ impl Poller {
     pub fn next(&mut self) -> Option<Call> {
         // Modelled in models/polling.pml.
         let at = self.ready.pop_front()?;
-        let place = self.places.get_mut(at)?;
-        let is_woken = place.is_woken;
-        place.is_ready = false;
-        place.is_woken = false;
+        let state = self.states.get_mut(at)?;
+        let is_woken = state.is_woken;
+        state.is_ready = false;
+        state.is_woken = false;
         Some(Call {
-            slot: place.slot,
+            slot: state.slot,
             is_woken,
-            is_odd: place.is_odd,
+            is_odd: state.is_odd,
         })
     }
 
@@ -210,33 +210,33 @@ impl Poller {
     pub fn put_back(&mut self, slot: u32, next: Next) {
         // Modelled in models/polling.pml.
         let at = (slot / self.count.max(1)) as usize;
-        let Some(place) = self.places.get_mut(at) else {
+        let Some(state) = self.states.get_mut(at) else {
             return;
         };
-        place.is_odd = place.is_odd && next.is_now;
-        if next.is_now && !place.is_ready {
-            place.is_ready = true;
+        state.is_odd = state.is_odd && next.is_now;
+        if next.is_now && !state.is_ready {
+            state.is_ready = true;
             let _ = self.ready.push_back(at);
         }
-        if next.is_again && !place.is_again {
-            place.is_again = true;
+        if next.is_again && !state.is_again {
+            state.is_again = true;
             let _ = self.again.push_back(at);
         }
     }
 }
 
 /// The slot of an event is to be served.
-fn note_event(places: &mut Vec<Place>, ready: &mut VecDeque<usize>, count: u32, event: &Event) {
+fn note_event(states: &mut Vec<SlotState>, ready: &mut VecDeque<usize>, count: u32, event: &Event) {
     // Modelled in models/polling.pml.
     let at = event.token().0 / count.max(1) as usize;
-    let Some(place) = places.get_mut(at) else {
+    let Some(state) = states.get_mut(at) else {
         return;
     };
     if event.is_read_closed() || event.is_priority() {
-        place.is_odd = true;
+        state.is_odd = true;
     }
-    if !place.is_ready {
-        place.is_ready = true;
+    if !state.is_ready {
+        state.is_ready = true;
         let _ = ready.push_back(at);
     }
 }
