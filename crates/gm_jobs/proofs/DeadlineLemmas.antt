@@ -52,7 +52,7 @@ pub due_reached : (jobs : List (ℕ × Live)) (waiting : List Pair) (reached : L
     → (d : ℕ) × Contains reached (n, d)
 due_reached jobs waiting reached now n listed later due = by (find_job jobs n) refl due
   where
-    here : (live : Live) → find_job jobs n ≡ Some live → (s : Bool) → waits live.stage ≡ s → (o : Option ℕ) → live.deadline ≡ o → (not s && is_reached now o) ≡ true → (d : ℕ) × Contains reached (n, d)
+    here : (live : Live) → find_job jobs n ≡ Some live → (s : Bool) → waits live.live_place ≡ s → (o : Option ℕ) → live.deadline ≡ o → (not s && is_reached now o) ≡ true → (d : ℕ) × Contains reached (n, d)
     here live e true runs o is h = absurd (false≢true h)
     here live e false runs None is h = absurd (false≢true h)
     here live e false runs (Some d) is h = at (listed n live e refl d runs is)
@@ -63,7 +63,7 @@ due_reached jobs waiting reached now n listed later due = by (find_job jobs n) r
 
     by : (o : Option Live) → find_job jobs n ≡ o → passes (is_due now) o ≡ true → (d : ℕ) × Contains reached (n, d)
     by None e h = absurd (false≢true h)
-    by (Some live) e h = here live e (waits live.stage) refl live.deadline refl h
+    by (Some live) e h = here live e (waits live.live_place) refl live.deadline refl h
 
 pub is_false : (b : Bool) → (b ≡ true → ⊥) → b ≡ false
 is_false true never = absurd (never refl)

@@ -9,7 +9,7 @@ use Rattle.gm_jobs.proofs.ListLemmas.{Contains-from_filter}
 use Rattle.std.proofs.lemmas.Bool.{cases_lt, cases_eq, true≢false, false≢true}
 use Rattle.std.proofs.lemmas.Bool.Decides.{nat_tests}
 use Rattle.gm_notes.specs.Jobs.{joins}
-use Rattle.gm_jobs.specs.declared.job.Stage.TheVariants.{Waiting}
+use Rattle.gm_jobs.specs.declared.job.LivePlace.TheVariants.{Waiting}
 use Rattle.gm_jobs.specs.Live.{Live, is_named, listed, waits, lost, returned, is_last_try, given_back, without_listener}
 use Rattle.gm_jobs.specs.Tables.{Room, find_job, passes}
 use Rattle.gm_jobs.specs.Changes.{ChangesJob, LeavesOne, LeavesSome}
@@ -177,7 +177,7 @@ module _ (b : Beside) (old : List (ℕ × Live)) where
         → (joins made.unique ≡ true → LeadsTo uniques (digest_of b.seed made.function made.unique) b.next)
         → ((d n : ℕ) → LeadsTo b.uniques d n → LeadsTo uniques d n)
         → ((c n : ℕ) → Heard b.listening c n → Heard listening c n) → ((c : ℕ) → Contains made.listeners c → Heard listening c b.next)
-        → made.stage ≡ Waiting
+        → made.live_place ≡ Waiting
         → ((m : ℕ) (live : Live) → joins made.unique ≡ true → find_job old m ≡ Some live → is_named made.function made.unique live ≡ true → ⊥)
         → IsKept (record b { next = b.next + 1; left = left; uniques = uniques; listening = listening }) None spare' new
     kept_made left room r spare spare' uniques listening k y led kept heard first waiting fresh = record {
@@ -204,7 +204,7 @@ module _ (b : Beside) (old : List (ℕ × Live)) where
               spent = omega arith;
               led = λ good. subst (λ i. LeadsTo uniques (digest_of b.seed live.function live.unique) i) (sym is) (subst (λ (l : Live). LeadsTo uniques (digest_of b.seed l.function l.unique) b.next) same (led (ap (λ (l : Live). joins l.unique) same ∙ good)));
               heard = λ c there. subst (λ i. Heard listening c i) (sym is) (first c (subst (λ (l : Live). Contains l.listeners c) (sym same) there));
-              listed = λ whole d runs until. absurd (true≢false (sym (ap waits waiting) ∙ ap (λ (l : Live). waits l.stage) same ∙ runs));
+              listed = λ whole d runs until. absurd (true≢false (sym (ap waits waiting) ∙ ap (λ (l : Live). waits l.live_place) same ∙ runs));
             }
 
         single : (n m : ℕ) (live other : Live) → find_job new n ≡ Some live → find_job new m ≡ Some other → joins live.unique ≡ true → is_named live.function live.unique other ≡ true
@@ -259,8 +259,8 @@ module _ (limit : ℕ) (l : Live) where
       by false = returned_same
 
   -- where it isn't lost it waits
-  pub given_back_waits : is_last_try limit l ≡ false → waits (given_back limit l).stage ≡ true
-  given_back_waits e = ap (λ b. waits (if b then lost l else returned limit l).stage) e
+  pub given_back_waits : is_last_try limit l ≡ false → waits (given_back limit l).live_place ≡ true
+  given_back_waits e = ap (λ b. waits (if b then lost l else returned limit l).live_place) e
 
 -- the deadlines of the others are listed, and it has none that counts
 pub listed_given_back : (n limit : ℕ) (old new : List (ℕ × Live)) (deadlines : DeadlineTable) → ChangesJob n (given_back limit) old new → AllListed old deadlines
@@ -271,7 +271,7 @@ listed_given_back n limit old new deadlines change all more m live found = by (c
     by (inr ne) = listed_others n (given_back limit) old new change deadlines all m live ne found
     by (inl e) = λ whole d runs until.
         let was = mapped n (given_back limit) old new change (find_job old n) live (sym (this_job n (given_back limit) old new change) ∙ ap (find_job new) (sym e) ∙ found) in
-        absurd (true≢false (sym (given_back_waits limit was.0 (sym (ap (passes (is_last_try limit)) was.1) ∙ more)) ∙ ap (λ (x : Live). waits x.stage) was.2 ∙ runs))
+        absurd (true≢false (sym (given_back_waits limit was.0 (sym (ap (passes (is_last_try limit)) was.1) ∙ more)) ∙ ap (λ (x : Live). waits x.live_place) was.2 ∙ runs))
 
 -- ---- a slot leaves
 

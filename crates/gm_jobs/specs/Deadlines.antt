@@ -20,7 +20,7 @@ is_same deadline (Some d) = d == deadline
 
 -- where the job runs until a deadline, that is here or there, unless some are missing
 abbrev pub IsListed : DeadlineTable → ℕ → Live → Type 0
-IsListed deadlines n live = deadlines.whole ≡ true → (d : ℕ) → waits live.stage ≡ false → live.deadline ≡ Some d → Has deadlines.waiting d n ⊎ Contains deadlines.reached (n, d)
+IsListed deadlines n live = deadlines.whole ≡ true → (d : ℕ) → waits live.live_place ≡ false → live.deadline ≡ Some d → Has deadlines.waiting d n ⊎ Contains deadlines.reached (n, d)
 
 -- so it is of each live job
 abbrev pub AllListed : List (ℕ × Live) → DeadlineTable → Type 0

@@ -7,11 +7,11 @@ use Rattle.gm_jobs.specs.declared.lists.Way.{Way}
 use Rattle.gm_jobs.specs.declared.lists.Way.TheVariants.{Up, Down}
 use Rattle.gm_jobs.specs.declared.lists.Spot.{Spot}
 use Rattle.gm_jobs.specs.declared.lists.Spot.TheVariants.{Outside, At}
-use Rattle.gm_jobs.specs.declared.job.Stage.{Stage}
-use Rattle.gm_jobs.specs.declared.job.Stage.TheVariants.{Waiting, Running, Lost}
+use Rattle.gm_jobs.specs.declared.job.LivePlace.{LivePlace}
+use Rattle.gm_jobs.specs.declared.job.LivePlace.TheVariants.{Waiting, Running, Lost}
 use Rattle.gm_jobs.specs.Live.{Live, is_orphan}
 
-abbrev pub list_at : Stage → Bool → Option ℕ
+abbrev pub list_at : LivePlace → Bool → Option ℕ
 list_at (Running slot) orphan = Some (slot % 1024)
 list_at Waiting true = Some 1024
 list_at Waiting false = None
@@ -19,7 +19,7 @@ list_at Lost orphan = None
 
 -- the list in which a job is: one for the slot where it runs, or the one of the orphans
 abbrev pub stands_in : Live → Option ℕ
-stands_in live = list_at live.stage (is_orphan live)
+stands_in live = list_at live.live_place (is_orphan live)
 
 -- ---- keys, and what is there
 

@@ -5,8 +5,8 @@ use Rattle.std.specs.Str.{bytes_eq}
 use Rattle.gm_notes.specs.declared.states.Priority.{Priority}
 use Rattle.gm_notes.specs.declared.states.Place.{Place}
 use Rattle.gm_notes.specs.declared.states.Place.TheVariants as places
-use Rattle.gm_jobs.specs.declared.job.Stage.{Stage}
-use Rattle.gm_jobs.specs.declared.job.Stage.TheVariants.{Waiting, Running, Lost}
+use Rattle.gm_jobs.specs.declared.job.LivePlace.{LivePlace}
+use Rattle.gm_jobs.specs.declared.job.LivePlace.TheVariants.{Waiting, Running, Lost}
 use Rattle.gm_jobs.specs.declared.job.Body.{Body}
 use Rattle.gm_jobs.specs.declared.job.Body.TheVariants.{Own, Shared}
 
@@ -19,7 +19,7 @@ pub record Live : Type 0 where
   pub unique : List ℕ
   pub body : List ℕ
   pub kept : Bool
-  pub stage : Stage
+  pub live_place : LivePlace
   pub returns : ℕ
   pub deadline : Option ℕ
   pub report : Option (List ℕ × List ℕ)
@@ -37,18 +37,18 @@ listed (Some slot) = slot ∷ []
 -- a job as it is made
 abbrev pub fresh : ℕ → Priority → List ℕ → List ℕ → Bool → Option ℕ → Live
 fresh f p unique body kept listener =
-    record { function = f; priority = p; unique = unique; body = body; kept = kept; stage = Waiting; returns = 0; deadline = None; report = None; listeners = listed listener }
+    record { function = f; priority = p; unique = unique; body = body; kept = kept; live_place = Waiting; returns = 0; deadline = None; report = None; listeners = listed listener }
 
 abbrev pub assigned : ℕ → Option ℕ → Live → Live
-assigned slot deadline live = record live { stage = Running slot; deadline = deadline }
+assigned slot deadline live = record live { live_place = Running slot; deadline = deadline }
 
 -- it waits again, and came back once more; without a limit that isn't counted
 abbrev pub returned : ℕ → Live → Live
-returned limit live = record live { stage = Waiting; deadline = None; returns = (if limit == 0 then live.returns else live.returns + 1) }
+returned limit live = record live { live_place = Waiting; deadline = None; returns = (if limit == 0 then live.returns else live.returns + 1) }
 
 -- its last worker went: the next tick fails it
 abbrev pub lost : Live → Live
-lost live = record live { stage = Lost; deadline = Some 0 }
+lost live = record live { live_place = Lost; deadline = Some 0 }
 
 -- its worker is the last that it is given to, where there is a limit; 0 is no limit
 abbrev pub is_last_try : ℕ → Live → Bool
@@ -70,7 +70,7 @@ with_listener slot live = record live { listeners = live.listeners ++ slot ∷ [
 abbrev pub without_listener : ℕ → Live → Live
 without_listener slot live = record live { listeners = filter (λ c. not (c == slot)) live.listeners }
 
-abbrev pub place_at : Stage → Place
+abbrev pub place_at : LivePlace → Place
 place_at Waiting = places.Waiting
 place_at (Running slot) = places.Running slot
 place_at Lost = places.Lost
@@ -80,12 +80,12 @@ place_at Lost = places.Lost
 abbrev pub is_named : ℕ → List ℕ → Live → Bool
 is_named f unique live = live.function == f && bytes_eq live.unique unique
 
-abbrev pub waits : Stage → Bool
+abbrev pub waits : LivePlace → Bool
 waits Waiting = true
 waits (Running slot) = false
 waits Lost = false
 
-abbrev pub runs_at : ℕ → Stage → Bool
+abbrev pub runs_at : ℕ → LivePlace → Bool
 runs_at slot Waiting = false
 runs_at slot (Running c) = c == slot
 runs_at slot Lost = false
@@ -96,12 +96,12 @@ is_reached now (Some deadline) = nat_le deadline now
 
 -- it runs at the slot
 abbrev pub is_run_by : ℕ → Live → Bool
-is_run_by slot live = runs_at slot live.stage
+is_run_by slot live = runs_at slot live.live_place
 
 -- it waits, and nobody wants it
 abbrev pub is_orphan : Live → Bool
-is_orphan live = waits live.stage && not live.kept && length live.listeners == 0
+is_orphan live = waits live.live_place && not live.kept && length live.listeners == 0
 
 -- it doesn't wait, and its deadline is reached
 abbrev pub is_due : ℕ → Live → Bool
-is_due now live = not (waits live.stage) && is_reached now live.deadline
+is_due now live = not (waits live.live_place) && is_reached now live.deadline

@@ -59,7 +59,7 @@ abbrev pub is_made : Table → ℕ → Bool
 is_made table n = nat_le table.first n && nat_lt n table.next
 
 abbrev pub place_or : Option Live → Bool → Place
-place_or (Some live) made = place_at live.stage
+place_or (Some live) made = place_at live.live_place
 place_or None true = Gone
 place_or None false = Unmade
 

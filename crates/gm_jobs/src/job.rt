@@ -58,7 +58,7 @@ struct Report {
 
 /// Whether a job waits or runs.
 #[derive(Clone, Copy)]
-pub(crate) enum Stage {
+pub(crate) enum LivePlace {
     Waiting,
     /// It runs at this slot.
     Running(u32),
@@ -66,14 +66,14 @@ pub(crate) enum Stage {
     Lost,
 }
 
-impl Stage {
+impl LivePlace {
     // Whether it is that of a job that waits.
     fn waits(self) -> bool
         ensures { result ≡ waits self }
     {
         match self {
-            Stage::Waiting => true,
-            Stage::Running(_) | Stage::Lost => false,
+            LivePlace::Waiting => true,
+            LivePlace::Running(_) | LivePlace::Lost => false,
         }
     }
 
@@ -82,8 +82,8 @@ impl Stage {
         ensures { result ≡ runs_at slot self }
     {
         match self {
-            Stage::Running(c) => c == slot,
-            Stage::Waiting | Stage::Lost => false,
+            LivePlace::Running(c) => c == slot,
+            LivePlace::Waiting | LivePlace::Lost => false,
         }
     }
 }
@@ -132,7 +132,7 @@ pub struct Job {
     f: u32,
     p: Priority,
     kept: bool,
-    stage: Stage,
+    live_place: LivePlace,
     // The digest under which its number is found, if its unique id names it.
     digest: u64,
     // How often it came back. Without a limit that isn't counted.
@@ -150,7 +150,7 @@ impl Model for Job {
 
     ghost Value = { Live };
 
-    ghost view = { λ j. record { function = j.f; priority = j.p; unique = j.unique.items; body = body_bytes j.body; kept = j.kept; stage = j.stage; returns = j.returns; deadline = j.deadline; report = option_map (λ r. (r.value.numerator.items, r.value.denominator.items)) j.report; listeners = j.listeners.items } };
+    ghost view = { λ j. record { function = j.f; priority = j.p; unique = j.unique.items; body = body_bytes j.body; kept = j.kept; live_place = j.live_place; returns = j.returns; deadline = j.deadline; report = option_map (λ r. (r.value.numerator.items, r.value.denominator.items)) j.report; listeners = j.listeners.items } };
 }
 
 impl Job {
@@ -202,12 +202,12 @@ impl Job {
     }
 
     pub fn place(&self) -> Place
-        ensures { result ≡ place_at self.now.stage }
+        ensures { result ≡ place_at self.now.live_place }
     {
-        match self.stage {
-            Stage::Waiting => Place::Waiting,
-            Stage::Running(slot) => Place::Running(slot),
-            Stage::Lost => Place::Lost,
+        match self.live_place {
+            LivePlace::Waiting => Place::Waiting,
+            LivePlace::Running(slot) => Place::Running(slot),
+            LivePlace::Lost => Place::Lost,
         }
     }
 
@@ -244,13 +244,13 @@ impl Job {
     pub(crate) fn is_run_by(&self, slot: u32) -> bool
         ensures { result ≡ is_run_by slot self.now }
     {
-        self.stage.runs_at(slot)
+        self.live_place.runs_at(slot)
     }
 
     pub(crate) fn is_orphan(&self) -> bool
         ensures { result ≡ is_orphan self.now }
     {
-        self.stage.waits() && !self.kept && self.listeners.is_empty()
+        self.live_place.waits() && !self.kept && self.listeners.is_empty()
     }
 
     /// The list in which it is, if there is one: of the lists for the slots, which some slots share, or that of the
@@ -259,16 +259,16 @@ impl Job {
         ensures list { result ≡ stands_in self.now }
         ensures within { IfSome result (λ l. l < 1025) }
     {
-        match self.stage {
-            Stage::Running(slot) => Some(slot as usize % ORPHANS),
-            Stage::Waiting => {
+        match self.live_place {
+            LivePlace::Running(slot) => Some(slot as usize % ORPHANS),
+            LivePlace::Waiting => {
                 if self.is_orphan() {
                     Some(ORPHANS)
                 } else {
                     None
                 }
             }
-            Stage::Lost => None,
+            LivePlace::Lost => None,
         }
     }
 
@@ -276,7 +276,7 @@ impl Job {
         ensures { result ≡ is_due now self.now }
     {
         match self.deadline {
-            Some(deadline) => !self.stage.waits() && deadline <= now,
+            Some(deadline) => !self.live_place.waits() && deadline <= now,
             None => false,
         }
     }
@@ -293,11 +293,11 @@ impl Job {
         ensures { self.new ≡ given_back limit self.old }
     {
         if self.is_last_try(limit) {
-            self.stage = Stage::Lost;
+            self.live_place = LivePlace::Lost;
             self.deadline = Some(0);
             return;
         }
-        self.stage = Stage::Waiting;
+        self.live_place = LivePlace::Waiting;
         self.deadline = None;
         if limit != 0 {
             self.returns += 1;
@@ -346,7 +346,7 @@ impl Job {
     {
         match change {
             Change::Assign(slot, deadline) => {
-                self.stage = Stage::Running(slot);
+                self.live_place = LivePlace::Running(slot);
                 self.deadline = deadline;
             }
             Change::GiveBack(limit) => self.give_back(limit),
@@ -444,7 +444,7 @@ impl Reservation {
             f: new.f,
             p: new.p,
             kept: new.kept,
-            stage: Stage::Waiting,
+            live_place: LivePlace::Waiting,
             digest,
             returns: 0,
             deadline: None,

@@ -298,7 +298,7 @@ pub(crate) fn leave(slab: &mut Slab<Entry>, ends: &mut Vec<Ends>, list: Option<u
 }
 
 // Whether a job is what is asked for, and its number is above `after`.
-fn is_wanted(entry: &Entry, query: Query, after: u64) -> bool
+fn is_found(entry: &Entry, query: Query, after: u64) -> bool
     ensures wanted { result ≡ (nat_lt after entry.now.number && meets query entry.now.job) }
     ensures small { entry.now.number < 2 ^ 64 }
 {
@@ -325,7 +325,7 @@ pub(crate) fn find_next(
         let Some(entry) = slab.get(key) else {
             return None;
         };
-        if is_wanted(entry, query, after) {
+        if is_found(entry, query, after) {
             return Some(entry.number);
         }
         at = entry.after;

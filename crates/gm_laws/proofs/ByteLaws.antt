@@ -13,7 +13,7 @@ use Rattle.gm_notes.specs.Past.{Past}
 use Rattle.gm_notes.specs.Closings.{discard_each, disconnect, rising, close}
 use Rattle.gm_notes.specs.Steps.{Step, Close, step, run}
 use Rattle.gm_laws.specs.History.{History}
-use Rattle.gm_laws.specs.Laws.{drained, is_kept_up, IsFront, SentSo, takes_from, OnlyDrainsTake}
+use Rattle.gm_laws.specs.Laws.{drained, is_kept_up, IsPrefix, SentSo, takes_from, OnlyDrainsTake}
 use Rattle.gm_laws.proofs.Finding.{same_number}
 use Rattle.gm_laws.proofs.Keeping.{is_inner, Keeps}
 use Rattle.gm_laws.proofs.StepsKeep.{gone_keeps, discard_each_keeps, give_back_each_keeps, step_keeps, run_history}
@@ -101,21 +101,21 @@ run_sent k (s ∷ steps) c = step_sent k s (run k steps) (run_history k steps) (
 -- ---- what is taken
 
 module _ (c : ℕ) (before : List ℕ) where
-  front_began : (d : ℕ) (flow : List Flow) (t : Bool) → (c == d) ≡ t → (t ≡ true → waiting c flow ≡ []) → IsFront before (waiting c flow) → IsFront before (waiting c (Began d ∷ flow))
-  front_began d flow true is none f = (f.0, rw is (sym (none refl) ∙ f.1))
-  front_began d flow false is none f = (f.0, rw is f.1)
+  prefix_began : (d : ℕ) (flow : List Flow) (t : Bool) → (c == d) ≡ t → (t ≡ true → waiting c flow ≡ []) → IsPrefix before (waiting c flow) → IsPrefix before (waiting c (Began d ∷ flow))
+  prefix_began d flow true is none f = (f.0, rw is (sym (none refl) ∙ f.1))
+  prefix_began d flow false is none f = (f.0, rw is f.1)
 
-  front_emptied : (d : ℕ) (flow : List Flow) (t : Bool) → (c == d) ≡ t → t ≡ false → IsFront before (waiting c flow) → IsFront before (waiting c (Emptied d ∷ flow))
-  front_emptied d flow true is other f = absurd cc
-  front_emptied d flow false is other f = (f.0, rw is f.1)
+  prefix_emptied : (d : ℕ) (flow : List Flow) (t : Bool) → (c == d) ≡ t → t ≡ false → IsPrefix before (waiting c flow) → IsPrefix before (waiting c (Emptied d ∷ flow))
+  prefix_emptied d flow true is other f = absurd cc
+  prefix_emptied d flow false is other f = (f.0, rw is f.1)
 
-  front_drained : (d : ℕ) (flow : List Flow) (t : Bool) → (c == d) ≡ t → t ≡ false → IsFront before (waiting c flow) → IsFront before (waiting c (Drained d ∷ flow))
-  front_drained d flow true is other f = absurd cc
-  front_drained d flow false is other f = (f.0, rw is f.1)
+  prefix_drained : (d : ℕ) (flow : List Flow) (t : Bool) → (c == d) ≡ t → t ≡ false → IsPrefix before (waiting c flow) → IsPrefix before (waiting c (Drained d ∷ flow))
+  prefix_drained d flow true is other f = absurd cc
+  prefix_drained d flow false is other f = (f.0, rw is f.1)
 
-  front_queued : (d : ℕ) (bytes : List ℕ) (flow : List Flow) (t : Bool) → (c == d) ≡ t → IsFront before (waiting c flow) → IsFront before (waiting c (Queued d bytes ∷ flow))
-  front_queued d bytes flow true is f = (f.0 ++ bytes, rw is (ap (λ l. l ++ bytes) f.1 ∙ append_assoc before f.0 bytes))
-  front_queued d bytes flow false is f = (f.0, rw is f.1)
+  prefix_queued : (d : ℕ) (bytes : List ℕ) (flow : List Flow) (t : Bool) → (c == d) ≡ t → IsPrefix before (waiting c flow) → IsPrefix before (waiting c (Queued d bytes ∷ flow))
+  prefix_queued d bytes flow true is f = (f.0 ++ bytes, rw is (ap (λ l. l ++ bytes) f.1 ∙ append_assoc before f.0 bytes))
+  prefix_queued d bytes flow false is f = (f.0, rw is f.1)
 
 -- nothing waits where the slot isn't open
 none_waits : (c d : ℕ) (past : Past) → AllSent past → is_open d past.notes ≡ false → (c == d) ≡ true → waiting c past.flow ≡ []
@@ -125,30 +125,30 @@ none_waits c d past i closed e =
     here.0
 
 module _ (k : Settings) (s : Step) (start : Past) where
-  abbrev Fronts : Past → Type 0
-  Fronts past = AllSent past × ((c : ℕ) → takes_from c s ≡ false → IsFront (waiting c start.flow) (waiting c past.flow))
+  abbrev Prefixes : Past → Type 0
+  Prefixes past = AllSent past × ((c : ℕ) → takes_from c s ≡ false → IsPrefix (waiting c start.flow) (waiting c past.flow))
 
   pub only_drains : History k start.notes → AllSent start → OnlyDrainsTake k start s (step k s start)
   only_drains history all =
-      (step_keeps {k = k} {I = Fronts} start s
+      (step_keeps {k = k} {I = Prefixes} start s
       (record {
         by_note = λ note past inner allowed cause h i. (noted_sent note past inner i.0, i.1);
         by_opening = λ d addr past allowed cause h i. (
           (λ c. began c d past.flow (is_open c past.notes) (c == d) refl (i.0 c)),
-          λ c other. front_began c (waiting c start.flow) d past.flow (c == d) refl (none_waits c d past i.0 allowed.0) (i.1 c other),
+          λ c other. prefix_began c (waiting c start.flow) d past.flow (c == d) refl (none_waits c d past i.0 allowed.0) (i.1 c other),
         );
         by_closing = λ d past opened cause h i. (
           (λ c. emptied c d past.flow (is_open c past.notes) (c == d) refl (i.0 c) (same_slot c d past.notes opened)),
-          λ c other. front_emptied c (waiting c start.flow) d past.flow (c == d) refl (subst (λ x. takes_from c x ≡ false) cause other) (i.1 c other),
+          λ c other. prefix_emptied c (waiting c start.flow) d past.flow (c == d) refl (subst (λ x. takes_from c x ≡ false) cause other) (i.1 c other),
         );
         by_saying = λ d bytes past opened may h i. (
           (λ c. queued c d bytes past.flow (is_open c past.notes) (c == d) refl (i.0 c) (same_slot c d past.notes opened)),
-          λ c other. front_queued c (waiting c start.flow) d bytes past.flow (c == d) refl (i.1 c other),
+          λ c other. prefix_queued c (waiting c start.flow) d bytes past.flow (c == d) refl (i.1 c other),
         );
       })
       (λ d e h i. (
         (λ c. taken c d start.flow (is_open c start.notes) (c == d) refl (i.0 c)),
-        λ c other. front_drained c (waiting c start.flow) d start.flow (c == d) refl (subst (λ x. takes_from c x ≡ false) e other) (i.1 c other),
+        λ c other. prefix_drained c (waiting c start.flow) d start.flow (c == d) refl (subst (λ x. takes_from c x ≡ false) e other) (i.1 c other),
       ))
       (history, (all, λ c other. ([], sym (append-nil (waiting c start.flow)))))).1.1
 

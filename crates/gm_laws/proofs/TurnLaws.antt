@@ -18,7 +18,7 @@ use Rattle.gm_notes.specs.declared.note.Note.TheVariants as notes
 use Rattle.gm_notes.specs.Settings.{Settings}
 use Rattle.gm_notes.specs.Notes.{phase, is_asleep, moment}
 use Rattle.gm_notes.specs.Jobs.{Job, Ability, is_of, job, job_state, is_job_of, abilities, is_able, waiting_for, is_empty}
-use Rattle.gm_notes.specs.Jobs.{first_of, pick_from, pick, last_function, up_to, turned, scan}
+use Rattle.gm_notes.specs.Jobs.{first_of, pick_from, pick, last_function, up_to, rotated, scan}
 use Rattle.gm_notes.specs.JobStates.{JobState, is_waiting}
 use Rattle.gm_notes.specs.JobStates as states
 use Rattle.gm_notes.specs.Past.{Past, with_note}
@@ -234,20 +234,20 @@ turning k c steps s = turning_at k c steps s (asks is_grab c s) refl
 -- ---- turns are fair
 
 module _ (k : Settings) (in_turn : k.round_robin ≡ true) (c : ℕ) (f h : List ℕ) (other : bytes_eq f h ≡ false) where
-  scan_is : (l : List Note) → scan k c l ≡ turned (last_function c l) (abilities c l)
-  scan_is l = ap (λ t. cond t (turned (last_function c l) (abilities c l)) (abilities c l)) in_turn
+  scan_is : (l : List Note) → scan k c l ≡ rotated (last_function c l) (abilities c l)
+  scan_is l = ap (λ t. cond t (rotated (last_function c l) (abilities c l)) (abilities c l)) in_turn
 
-  given_picks : (g : List ℕ) (before after : List Note) → Given k c g before after → Picks g (turned (last_function c before) (abilities c before)) before
+  given_picks : (g : List ℕ) (before after : List Note) → Given k c g before after → Picks g (rotated (last_function c before) (abilities c before)) before
   given_picks g before after gave = subst (λ all. Picks g all before) (scan_is before) (picks g (scan k c before) before gave.found gave.is gave.function)
 
   -- slot c can do h, which comes before f
   abbrev HasTurn : List Note → Type 0
-  HasTurn l = (is_able c h l ≡ true) × Ahead h f (turned (last_function c l) (abilities c l))
+  HasTurn l = (is_able c h l ≡ true) × Ahead h f (rotated (last_function c l) (abilities c l))
 
   same_turn : (before after : List Note) → abilities c after ≡ abilities c before → last_function c after ≡ last_function c before → HasTurn before → HasTurn after
   same_turn before after can last turn = (
     ap (list_any (is_of h)) can ∙ turn.0,
-    ap (λ all. list_any (is_of h) (up_to f (turned (last_function c after) all))) can ∙ ap (λ o. list_any (is_of h) (up_to f (turned o (abilities c before)))) last ∙ turn.1,
+    ap (λ all. list_any (is_of h) (up_to f (rotated (last_function c after) all))) can ∙ ap (λ o. list_any (is_of h) (up_to f (rotated o (abilities c before)))) last ∙ turn.1,
   )
 
   -- the slot was given a job of another function
@@ -256,10 +256,10 @@ module _ (k : Settings) (in_turn : k.round_robin ≡ true) (c : ℕ) (f h : List
       let all = abilities c before in
       let picked = given_picks g before after gave in
       let member = sym (scan_members k c before (is_of g)) ∙ ap (list_any (is_of g)) (scan_is before) ∙ picked.0 in
-      let still = ahead_still h f g (turned (last_function c before) all) (picked.1 h waits apart) turn.1 in
-      let here : Ahead h f (turned (Some g) all) = subst (Ahead h f) (turned_again g (last_function c before) all (abilities_once g c before) member) still in (
+      let still = ahead_still h f g (rotated (last_function c before) all) (picked.1 h waits apart) turn.1 in
+      let here : Ahead h f (rotated (Some g) all) = subst (Ahead h f) (turned_again g (last_function c before) all (abilities_once g c before) member) still in (
         ap (list_any (is_of h)) can ∙ turn.0,
-        ap (λ l. list_any (is_of h) (up_to f (turned (last_function c after) l))) can ∙ ap (λ o. list_any (is_of h) (up_to f (turned o all))) gave.last ∙ here,
+        ap (λ l. list_any (is_of h) (up_to f (rotated (last_function c after) l))) can ∙ ap (λ o. list_any (is_of h) (up_to f (rotated o all))) gave.last ∙ here,
       )
 
   gave_turn : (steps : List Step) (s : Step) (g : List ℕ) (t : Bool) → bytes_eq g h ≡ t → Gives k c g steps s → LeavesAbilities k c steps s → FindsWaiting k c h steps s → HasTurn (run k steps).notes
@@ -285,12 +285,12 @@ module _ (k : Settings) (in_turn : k.round_robin ≡ true) (c : ℕ) (f h : List
   not_given : (steps : List Step) (s : Step) → HasTurn (run k steps).notes → FindsWaiting k c h steps s → Gives k c f steps s → ⊥
   not_given steps s turn finds gave =
       let picked = given_picks f (run k steps).notes (run k (s ∷ steps)).notes (given k c f steps s gave) in
-      both_ways (list_any (is_of h) (up_to f (turned (last_function c (run k steps).notes) (abilities c (run k steps).notes)))) (picked.1 h (finds f gave) other) turn.1
+      both_ways (list_any (is_of h) (up_to f (rotated (last_function c (run k steps).notes) (abilities c (run k steps).notes)))) (picked.1 h (finds f gave) other) turn.1
 
   first_turn : (before : List Step) (first : Step) → Gives k c f before first → is_able c h (run k (first ∷ before)).notes ≡ true → HasTurn (run k (first ∷ before)).notes
   first_turn before first gave able =
       let l = (run k (first ∷ before)).notes in
-      (able, ap (λ o. list_any (is_of h) (up_to f (turned o (abilities c l)))) (given k c f before first gave).last ∙ ahead_after h f (abilities c l) (abilities_once f c l) able)
+      (able, ap (λ o. list_any (is_of h) (up_to f (rotated o (abilities c l)))) (given k c f before first gave).last ∙ ahead_after h f (abilities c l) (abilities_once f c l) able)
 
 pub fair : TurnsAreFair
 fair k c f h before between first again in_turn other able gave gives_again leave find =

@@ -12,7 +12,7 @@ use Rattle.std.proofs.lemmas.List.Folds.{list_any-append}
 use Rattle.std.proofs.lemmas.Slice.Eq.{bytes_eq-Decides}
 use Rattle.gm_notes.specs.declared.note.Note.{Note}
 use Rattle.gm_notes.specs.declared.note.Note.TheVariants as notes
-use Rattle.gm_notes.specs.Jobs.{Ability, is_of, put, abilities, behind, up_to, turned}
+use Rattle.gm_notes.specs.Jobs.{Ability, is_of, put, abilities, behind, up_to, rotated}
 
 -- ---- the parts behind and up to the ability for f, of two lists joined
 
@@ -132,30 +132,30 @@ abilities_apart c (note ∷ older) = abilities_apart c older
 pub abilities_once : (f : List ℕ) (c : ℕ) (l : List Note) → Once f (abilities c l)
 abilities_once f c l = once f (abilities c l) (abilities_apart c l)
 
--- ---- turned and turned again
+-- ---- rotated and rotated again
 
 -- where f is in the first of two lists alone, it doesn't matter which comes first
-swapped : (f : List ℕ) (a b : List Ability) → list_any (is_of f) a ≡ true → list_any (is_of f) b ≡ false → turned (Some f) (a ++ b) ≡ turned (Some f) (b ++ a)
+swapped : (f : List ℕ) (a b : List Ability) → list_any (is_of f) a ≡ true → list_any (is_of f) b ≡ false → rotated (Some f) (a ++ b) ≡ rotated (Some f) (b ++ a)
 swapped f a b here there =
     let p = in_first f a b here in let q = in_second f b a there in
     ap (λ l. l ++ up_to f (a ++ b)) p.0 ∙ ap (λ l. (behind f a ++ b) ++ l) p.1
     ∙ append_assoc (behind f a) b (up_to f a)
     ∙ sym (ap (λ l. l ++ up_to f (b ++ a)) q.0 ∙ ap (λ l. behind f a ++ l) q.1)
 
-swapped_once : (f : List ℕ) (a b : List Ability) (t : Bool) → list_any (is_of f) a ≡ t → Once f (a ++ b) → (t || list_any (is_of f) b) ≡ true → turned (Some f) (b ++ a) ≡ turned (Some f) (a ++ b)
+swapped_once : (f : List ℕ) (a b : List Ability) (t : Bool) → list_any (is_of f) a ≡ t → Once f (a ++ b) → (t || list_any (is_of f) b) ≡ true → rotated (Some f) (b ++ a) ≡ rotated (Some f) (a ++ b)
 swapped_once f a b true here only e =
     let behind_is = sym (list_any-append (is_of f) (behind f a) b) ∙ sym (ap (list_any (is_of f)) (in_first f a b here).0) ∙ only in
     sym (swapped f a b here (or_parts (list_any (is_of f) (behind f a)) (list_any (is_of f) b) behind_is).1)
 swapped_once f a b false here only e = swapped f b a e here
 
--- abilities turned for one function and then for another of theirs are turned for that
-pub turned_again : (f : List ℕ) (last : Option (List ℕ)) (all : List Ability) → Once f all → list_any (is_of f) all ≡ true → turned (Some f) (turned last all) ≡ turned (Some f) all
+-- abilities rotated for one function and then for another of theirs are rotated for that
+pub turned_again : (f : List ℕ) (last : Option (List ℕ)) (all : List Ability) → Once f all → list_any (is_of f) all ≡ true → rotated (Some f) (rotated last all) ≡ rotated (Some f) all
 turned_again f None all only e = refl
 turned_again f (Some g) all only e =
     let whole = joined g all in
     swapped_once f (up_to g all) (behind g all) (list_any (is_of f) (up_to g all)) refl (subst (Once f) (sym whole) only)
     (sym (list_any-append (is_of f) (up_to g all) (behind g all)) ∙ ap (list_any (is_of f)) whole ∙ e)
-    ∙ ap (turned (Some f)) whole
+    ∙ ap (rotated (Some f)) whole
 
 -- ---- whose turn comes first
 
@@ -190,14 +190,14 @@ before_more h f [] b e = absurd cc
 before_more h f (ability ∷ a) b e = more_at h f ability a b (is_of f ability) (before_more h f a b) e
 
 -- right after f, each other function comes first
-pub ahead_after : (h f : List ℕ) (all : List Ability) → Once f all → list_any (is_of h) all ≡ true → Ahead h f (turned (Some f) all)
+pub ahead_after : (h f : List ℕ) (all : List Ability) → Once f all → list_any (is_of h) all ≡ true → Ahead h f (rotated (Some f) all)
 ahead_after h f all only e =
-    let whole : up_to f (turned (Some f) all) ≡ turned (Some f) all = (in_second f (behind f all) (up_to f all) only).1 ∙ ap (λ l. behind f all ++ l) (up_to_again f all) in
+    let whole : up_to f (rotated (Some f) all) ≡ rotated (Some f) all = (in_second f (behind f all) (up_to f all) only).1 ∙ ap (λ l. behind f all ++ l) (up_to_again f all) in
     ap (list_any (is_of h)) whole ∙ list_any-append (is_of h) (behind f all) (up_to f all)
     ∙ or_comm (list_any (is_of h) (behind f all)) (list_any (is_of h) (up_to f all))
     ∙ sym (list_any-append (is_of h) (up_to f all) (behind f all)) ∙ ap (list_any (is_of h)) (joined f all) ∙ e
 
 -- what comes first still does after a turn of one before it
-pub ahead_still : (h f g : List ℕ) (all : List Ability) → list_any (is_of h) (up_to g all) ≡ false → Ahead h f all → Ahead h f (turned (Some g) all)
+pub ahead_still : (h f g : List ℕ) (all : List Ability) → list_any (is_of h) (up_to g all) ≡ false → Ahead h f all → Ahead h f (rotated (Some g) all)
 ahead_still h f g all none e =
     before_more h f (behind g all) (up_to g all) (past_first h f (up_to g all) (behind g all) none (subst (Ahead h f) (sym (joined g all)) e))

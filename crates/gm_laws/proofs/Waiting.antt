@@ -23,10 +23,10 @@ in_last : (n : ℕ) (ms : List ℕ) → In n (ms ++ n ∷ [])
 in_last n [] = inl refl
 in_last n (m ∷ ms) = inr (in_last n ms)
 
-in_front : (n m : ℕ) (ms : List ℕ) → In n ms → In n (ms ++ m ∷ [])
-in_front n m [] i = absurd i
-in_front n m (x ∷ ms) (inl e) = inl e
-in_front n m (x ∷ ms) (inr i) = inr (in_front n m ms i)
+in_longer : (n m : ℕ) (ms : List ℕ) → In n ms → In n (ms ++ m ∷ [])
+in_longer n m [] i = absurd i
+in_longer n m (x ∷ ms) (inl e) = inl e
+in_longer n m (x ∷ ms) (inr i) = inr (in_longer n m ms i)
 
 kept_at : (n x m : ℕ) (rest : List ℕ) (t : Bool) → not (x == m) ≡ t → (n == m) ≡ false → (n ≡ x) ⊎ In n rest → In n (cond t (x ∷ rest) rest)
 kept_at n x m rest true is other i = i
@@ -46,11 +46,11 @@ pub waits_came : (n : ℕ) (l : List Note) → job_state n l ≡ states.Waiting 
 waits_came n [] e = absurd cc
 waits_came n (notes.Made m f p u body ∷ older) e =
     from (moved n m states.Waiting (job_state n older) states.Waiting (n == m) refl e) (λ h. subst (λ x. In n (as_they_came older ++ x ∷ [])) h.0 (in_last n (as_they_came older)))
-    (λ h. in_front n m (as_they_came older) (waits_came n older h.1))
+    (λ h. in_longer n m (as_they_came older) (waits_came n older h.1))
 waits_came n (notes.Returned m ∷ older) e =
     from (moved n m states.Waiting (job_state n older) states.Waiting (n == m) refl e)
     (λ h. subst (λ x. In n (filter (λ y. not (y == m)) (as_they_came older) ++ x ∷ [])) h.0 (in_last n (filter (λ y. not (y == m)) (as_they_came older))))
-    (λ h. in_front n m (filter (λ y. not (y == m)) (as_they_came older)) (in_others n m (as_they_came older) h.0 (waits_came n older h.1)))
+    (λ h. in_longer n m (filter (λ y. not (y == m)) (as_they_came older)) (in_others n m (as_they_came older) h.0 (waits_came n older h.1)))
 waits_came n (notes.Assigned m c late ∷ older) e = from (moved n m (states.Running c) (job_state n older) states.Waiting (n == m) refl e) (λ h. absurd (let x = h.1 in cc)) (λ h. waits_came n older h.1)
 waits_came n (notes.Ended m ∷ older) e = from (moved n m states.Ended (job_state n older) states.Waiting (n == m) refl e) (λ h. absurd (let x = h.1 in cc)) (λ h. waits_came n older h.1)
 waits_came n (notes.Lost m ∷ older) e = from (moved n m states.Lost (job_state n older) states.Waiting (n == m) refl e) (λ h. absurd (let x = h.1 in cc)) (λ h. waits_came n older h.1)

@@ -82,13 +82,13 @@ abbrev pub AllIsSent : Type 0
 AllIsSent = (flow : List Flow) (c : ℕ) → is_kept_up c flow ≡ true → sent c flow ≡ drained c flow ++ waiting c flow
 
 -- between steps: of a slot that is open, what was drained since it was opened, followed by what waits, is what was
--- sent; for one that isn't nothing waits, and what was drained is a front of what was sent
-abbrev pub IsFront : List ℕ → List ℕ → Type 0
-IsFront front whole = (rest : List ℕ) × (whole ≡ front ++ rest)
+-- sent; for one that isn't nothing waits, and what was drained is a prefix of what was sent
+abbrev pub IsPrefix : List ℕ → List ℕ → Type 0
+IsPrefix part whole = (rest : List ℕ) × (whole ≡ part ++ rest)
 
 abbrev pub SentSo : Bool → ℕ → List Flow → Type 0
 SentSo true c flow = sent c flow ≡ drained c flow ++ waiting c flow
-SentSo false c flow = (waiting c flow ≡ []) × IsFront (drained c flow) (sent c flow)
+SentSo false c flow = (waiting c flow ≡ []) × IsPrefix (drained c flow) (sent c flow)
 
 abbrev pub BytesArrive : Type 0
 BytesArrive = (k : Settings) (steps : List Step) (c : ℕ) → SentSo (is_open c (run k steps).notes) c (run k steps).flow
@@ -141,7 +141,7 @@ takes_from c (Close d) = c == d
 takes_from c other = false
 
 abbrev pub OnlyDrainsTake : Settings → Past → Step → Past → Type 0
-OnlyDrainsTake k before s after = (c : ℕ) → takes_from c s ≡ false → IsFront (waiting c before.flow) (waiting c after.flow)
+OnlyDrainsTake k before s after = (c : ℕ) → takes_from c s ≡ false → IsPrefix (waiting c before.flow) (waiting c after.flow)
 
 -- ---- how the server goes on
 

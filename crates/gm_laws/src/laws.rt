@@ -68,7 +68,7 @@ pub fn outputs_are_sent()
 {}
 
 /// Of a slot that is open after any steps, what was drained since it was opened, followed by what waits, is what
-/// was sent; for one that isn't open nothing waits, and what was drained is a front of what was sent.
+/// was sent; for one that isn't open nothing waits, and what was drained is a prefix of what was sent.
 pub fn bytes_arrive()
     ensures { BytesArrive }
 {}

@@ -4,7 +4,7 @@ use Rattle.std.specs.List.{list_any}
 use Rattle.std.proofs.lemmas.List.Folds.{list_any-append}
 use Rattle.gm_notes.specs.declared.note.Note.{Note}
 use Rattle.gm_notes.specs.Settings.{Settings}
-use Rattle.gm_notes.specs.Jobs.{Ability, is_of, abilities, last_function, behind, up_to, turned, scan}
+use Rattle.gm_notes.specs.Jobs.{Ability, is_of, abilities, last_function, behind, up_to, rotated, scan}
 
 or_first : (a b : Bool) → (b || (a || false)) ≡ (a || b)
 or_first true true = refl
@@ -27,12 +27,12 @@ parts_members : (p : Ability → Bool) (f : List ℕ) (all : List Ability) → (
 parts_members p f [] = refl
 parts_members p f (ability ∷ rest) = one_more p f ability rest (is_of f ability) (parts_members p f rest)
 
-turned_members : (p : Ability → Bool) (last : Option (List ℕ)) (all : List Ability) → list_any p (turned last all) ≡ list_any p all
-turned_members p None all = refl
-turned_members p (Some f) all = list_any-append p (behind f all) (up_to f all) ∙ parts_members p f all
+rotated_members : (p : Ability → Bool) (last : Option (List ℕ)) (all : List Ability) → list_any p (rotated last all) ≡ list_any p all
+rotated_members p None all = refl
+rotated_members p (Some f) all = list_any-append p (behind f all) (up_to f all) ∙ parts_members p f all
 
-scanned : (p : Ability → Bool) (t : Bool) (last : Option (List ℕ)) (all : List Ability) → list_any p (cond t (turned last all) all) ≡ list_any p all
-scanned p true last all = turned_members p last all
+scanned : (p : Ability → Bool) (t : Bool) (last : Option (List ℕ)) (all : List Ability) → list_any p (cond t (rotated last all) all) ≡ list_any p all
+scanned p true last all = rotated_members p last all
 scanned p false last all = refl
 
 -- a scan goes over the abilities, each of them and no other

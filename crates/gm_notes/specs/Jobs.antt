@@ -217,14 +217,14 @@ abbrev pub up_to : List ℕ → List Ability → List Ability
 up_to f [] = []
 up_to f (ability ∷ abilities) = if is_of f ability then ability ∷ [] else ability ∷ up_to f abilities
 
--- in turn: those behind the one for f, and then the others up to it; as they are, where none is for f
-abbrev pub turned : Option (List ℕ) → List Ability → List Ability
-turned None abilities = abilities
-turned (Some f) abilities = behind f abilities ++ up_to f abilities
+-- in rotation: those behind the one for f, and then the others up to it; as they are, where none is for f
+abbrev pub rotated : Option (List ℕ) → List Ability → List Ability
+rotated None abilities = abilities
+rotated (Some f) abilities = behind f abilities ++ up_to f abilities
 
--- the abilities of slot c in the order in which they are tried: as they were added, or in turn
+-- the abilities of slot c in the order in which they are tried: as they were added, or in rotation
 abbrev pub scan : Settings → ℕ → List Note → List Ability
-scan k c notes = if k.round_robin then turned (last_function c notes) (abilities c notes) else abilities c notes
+scan k c notes = if k.round_robin then rotated (last_function c notes) (abilities c notes) else abilities c notes
 
 -- the job that a grab of slot c gets
 abbrev pub pick : Settings → ℕ → List Note → Option Pick

@@ -9,7 +9,7 @@ use Rattle.gm_notes.specs.declared.note.Note.{Note}
 use Rattle.gm_notes.specs.declared.note.Note.TheVariants.{Opened, Closed, Made, Listens, Report, Returned}
 use Rattle.gm_notes.specs.Notes.{is_open}
 use Rattle.gm_notes.specs.Jobs.{Job, job, report, listeners, returns}
-use Rattle.gm_actions.specs.declared.answers.JobView.{JobView}
+use Rattle.gm_actions.specs.declared.answers.JobRef.{JobRef}
 use Rattle.gm_actions.specs.Actions.{job_of}
 use Rattle.gm_plain.specs.Searches.{listeners_after, returns_after}
 use Rattle.gm_plain.specs.Logs.{AllFit}
@@ -67,7 +67,7 @@ job_carried slots n [] fit = tt
 job_carried slots n (Made m f p u body ∷ older) fit = job_if (n == m) (record { function = f; priority = p; unique = u; body = body }) (job n older) fit.0.0 (job_carried slots n older fit.1)
 job_carried slots n (note ∷ older) fit = job_carried slots n older fit.1
 
-pub found_carried : (found : Option JobView) (job : Option Job) → option_map job_of found ≡ job → JobFits job
+pub found_carried : (found : Option JobRef) (job : Option Job) → option_map job_of found ≡ job → JobFits job
     → IfSome found (λ f. IsCarried f.function.now f.unique.now f.body.now)
 found_carried None job is fits = tt
 found_carried (Some f) job is fits = subst JobFits (sym is) fits

@@ -8,7 +8,7 @@ use Rattle.std.proofs.lemmas.List.{map-append, reverse-append, take_all}
 use Rattle.std.proofs.Math.ListN.{drop_of_length-le}
 use Rattle.gm_notes.specs.declared.note.Note.{Note}
 use Rattle.gm_notes.specs.declared.note.Note.TheVariants.{Assigned}
-use Rattle.gm_notes.specs.Jobs.{Ability, is_of, job, last_function, behind, up_to, turned}
+use Rattle.gm_notes.specs.Jobs.{Ability, is_of, job, last_function, behind, up_to, rotated}
 use Rattle.gm_plain.proofs.AbilityLemmas.{before, there, nowhere}
 
 -- ---- the function of the last job
@@ -51,7 +51,7 @@ up_to_is view f (x ∷ items) = by (is_of f (view x)) (up_to_is view f items)
 
 -- where there is one, those behind it come first
 pub turned_at : {V : Type 0} (view : V → Ability) (f : List ℕ) (items new : List V) (i : ℕ) → Some i ≡ position (λ x. is_of f (view x)) items
-    → new ≡ drop (i + 1) items ++ take (i + 1) items → map view new ≡ turned (Some f) (map view items)
+    → new ≡ drop (i + 1) items ++ take (i + 1) items → map view new ≡ rotated (Some f) (map view items)
 turned_at view f items new i is rotated =
     let n = before view f items + 1 in
     ap (map view) (rotated ∙ ap (λ m. drop (m + 1) items ++ take (m + 1) items) (there view f items i is).0)
@@ -59,7 +59,7 @@ turned_at view f items new i is rotated =
 
 -- where there is none, nothing changes
 pub turned_nowhere : {V : Type 0} (view : V → Ability) (f : List ℕ) (items : List V) → (let o : Option ℕ = None in o) ≡ position (λ x. is_of f (view x)) items
-    → map view items ≡ turned (Some f) (map view items)
+    → map view items ≡ rotated (Some f) (map view items)
 turned_nowhere view f items is =
     let n = before view f items + 1 in
     let past : length items ≤ n = omega (arith, nowhere view f items is) in

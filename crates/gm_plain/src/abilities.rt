@@ -3,7 +3,7 @@
 ghost use Rattle.std.specs.Prelude.{◌≡◌, Some, true, map, not, ◌&&◌, position, find, IfOk, OnOk, IfSome};
 ghost use Rattle.std.specs.Option.{option_copied};
 ghost use Rattle.gm_notes.specs.Jobs.{job_state, job, is_of, put, abilities, is_able, as_they_came, is_queued, waiting_for, is_empty, pick};
-ghost use Rattle.gm_notes.specs.Jobs.{pick_from, able, last_function, turned, scan};
+ghost use Rattle.gm_notes.specs.Jobs.{pick_from, able, last_function, rotated, scan};
 ghost use Rattle.gm_notes.specs.JobStates.{is_waiting};
 ghost use Rattle.gm_notes.specs.Notes.{is_open, phase, is_asleep};
 ghost use Rattle.gm_plain.specs.Searches.{says_able, ability_of, abilities_after, order_after, head, wakes_for};
@@ -262,8 +262,8 @@ fn last_function(log: &Log, slot: u32) -> Option<&[u8]>
 
 /// Puts the abilities behind the one for a function first, so that this one comes last. Nothing changes where
 /// none is for it.
-fn turn(abilities: &mut Vec<Ability<'_>>, last: &[u8])
-    ensures { map ability_of abilities.new.items ≡ turned (Some last.now) (map ability_of abilities.old.items) }
+fn rotate(abilities: &mut Vec<Ability<'_>>, last: &[u8])
+    ensures { map ability_of abilities.new.items ≡ rotated (Some last.now) (map ability_of abilities.old.items) }
 {
     if let Some(i) = position(abilities, last) {
         abilities.rotate_left(i + 1);
@@ -284,7 +284,7 @@ fn scan<'a>(
     if config.round_robin()
         && let Some(last) = last_function(log, slot)
     {
-        turn(&mut abilities, last);
+        rotate(&mut abilities, last);
     }
     Ok(abilities)
 }

@@ -1,23 +1,22 @@
-//! What notes say of jobs and functions, found by searching them.
+//! What notes say of jobs, found by searching them.
 
 ghost use Rattle.std.specs.Prelude.{◌≡◌, ◌<◌, ◌≤◌, ◌+◌, ◌^◌, ◌==◌, length, not, reverse, slice_get, map, IfSome, IfOk, OnOk};
 ghost use Rattle.std.specs.Option.{option_map};
 ghost use Rattle.std.specs.List.{All};
 ghost use Rattle.gm_notes.specs.Jobs.{says_job_state, job_state, says_job, job, says_kept, is_kept, listeners, is_wanted, says_report};
-ghost use Rattle.gm_notes.specs.Jobs.{report, is_job_of, is_job_with, is_job_named, made, functions, is_mentioned, says_limit, limit};
-ghost use Rattle.gm_notes.specs.Jobs.{is_live_named, joined, next_number, is_live_of, total, running, says_deadline, deadline, returns, is_last_try};
+ghost use Rattle.gm_notes.specs.Jobs.{report, is_job_of, is_job_with, is_job_named, made};
+ghost use Rattle.gm_notes.specs.Jobs.{is_live_named, joined, next_number, says_deadline, deadline, returns, is_last_try};
 ghost use Rattle.gm_notes.specs.JobStates.{is_live, is_waiting, is_running, is_running_at, place_of};
 ghost use Rattle.gm_notes.specs.Closings.{is_reached};
 ghost use Rattle.gm_notes.specs.Notes.{moment};
 ghost use Rattle.gm_actions.specs.Actions.{job_of, report_of};
 ghost use Rattle.gm_actions.specs.Carried.{IsCarried, AreNumbers};
 ghost use Rattle.gm_notes.specs.Steps.{newest};
-ghost use Rattle.gm_notes.specs.Submissions.{is_one_too_many, is_full};
-ghost use Rattle.gm_plain.specs.Searches.{said_place, says_mentioned, listeners_after, returns_after, says_listening, is_listening, is_running_of};
+ghost use Rattle.gm_plain.specs.Searches.{said_place, listeners_after, returns_after, says_listening, is_listening};
 
 use crate::connections::moment;
 use crate::log::{Log, last_said};
-use gm_actions::{JobView, Report};
+use gm_actions::{JobRef, Report};
 use gm_notes::{Config, Note, Place, Priority, is_joining};
 use std::alloc::{AllocError, Global};
 
@@ -70,7 +69,7 @@ pub fn is_running(log: &Log, job: u64) -> bool
     place(log, job).is_running()
 }
 
-fn says_job(note: &Note, job: u64) -> Option<Option<JobView<'_>>>
+fn says_job(note: &Note, job: u64) -> Option<Option<JobRef<'_>>>
     ensures { option_map (option_map job_of) result ≡ says_job job note.now }
 {
     match note {
@@ -80,7 +79,7 @@ fn says_job(note: &Note, job: u64) -> Option<Option<JobView<'_>>>
             priority,
             unique,
             body,
-        } if *n == job => Some(Some(JobView {
+        } if *n == job => Some(Some(JobRef {
             function: function.as_slice(),
             priority: *priority,
             unique: unique.as_slice(),
@@ -91,14 +90,14 @@ fn says_job(note: &Note, job: u64) -> Option<Option<JobView<'_>>>
 }
 
 /// What the job is by these notes, the newest last.
-pub fn job_in(notes: &[Note], number: u64) -> Option<JobView<'_>>
+pub fn job_in(notes: &[Note], number: u64) -> Option<JobRef<'_>>
     ensures { option_map job_of result ≡ job number (reverse notes.now) }
 {
     last_said(notes, None, |note| says_job(note, number))
 }
 
 /// What the job is.
-pub fn job(log: &Log, number: u64) -> Option<JobView<'_>>
+pub fn job(log: &Log, number: u64) -> Option<JobRef<'_>>
     ensures value { option_map job_of result ≡ job number log.now.notes }
     ensures carried { IfSome result (λ found. IsCarried found.function.now found.unique.now found.body.now) }
 {
@@ -366,112 +365,4 @@ pub fn next_number(log: &Log, config: &Config) -> Option<u64>
     ensures { result ≡ next_number config.now log.now.notes }
 {
     config.first_job().checked_add(count_made(log) as u64)
-}
-
-/// Whether a job waits or runs, and is of this function.
-fn is_live_of(log: &Log, number: u64, function: &[u8]) -> bool
-    ensures { result ≡ is_live_of function.now log.now.notes number }
-{
-    is_live(log, number) && is_job_of(log, number, function)
-}
-
-/// How many jobs of a function wait or run.
-pub fn total(log: &Log, function: &[u8]) -> usize
-    ensures { result ≡ total function.now log.now.notes }
-{
-    log.count_made(|job| is_live_of(log, job, function))
-}
-
-/// Whether a job runs, and is of this function.
-fn is_running_of(log: &Log, number: u64, function: &[u8]) -> bool
-    ensures { result ≡ is_running_of function.now log.now.notes number }
-{
-    is_running(log, number) && is_job_of(log, number, function)
-}
-
-/// How many jobs of a function run.
-pub fn running(log: &Log, function: &[u8]) -> usize
-    ensures { result ≡ running function.now log.now.notes }
-{
-    log.count_made(|job| is_running_of(log, job, function))
-}
-
-fn says_limit(note: &Note, function: &[u8]) -> Option<u32>
-    ensures { result ≡ says_limit function.now note.now }
-{
-    match note {
-        Note::Limit {
-            function: limited,
-            size,
-        } if limited.as_slice() == function => Some(*size),
-        _ => None,
-    }
-}
-
-/// How many jobs of a function may be there; 0 is no limit.
-fn limit(log: &Log, function: &[u8]) -> u32
-    ensures { result ≡ limit function.now log.now.notes }
-{
-    log.last_said(0, |note| says_limit(note, function))
-}
-
-/// Whether no more jobs of a function may be there.
-pub fn is_full(log: &Log, function: &[u8]) -> bool
-    ensures { result ≡ is_full function.now log.now.notes }
-{
-    let limit = limit(log, function);
-    limit != 0 && limit as usize <= total(log, function)
-}
-
-fn says_mentioned(note: &Note, function: &[u8]) -> Option<bool>
-    ensures { result ≡ says_mentioned function.now note.now }
-{
-    match note {
-        Note::Mention {
-            function: mentioned,
-        } if mentioned.as_slice() == function => Some(true),
-        _ => None,
-    }
-}
-
-/// Whether a function was mentioned.
-pub fn is_mentioned(log: &Log, function: &[u8]) -> bool
-    ensures { result ≡ is_mentioned function.now log.now.notes }
-{
-    log.last_said(false, |note| says_mentioned(note, function))
-}
-
-/// The functions mentioned, in the order of mention.
-pub fn functions(alloc: Global, log: &Log) -> Result<Vec<&[u8]>, AllocError>
-    ensures { IfOk result (λ found. map (λ name. name.now) found.items ≡ functions log.now.notes) }
-{
-    let notes = log.notes();
-    let mut functions = Vec::new(alloc);
-    for note in notes {
-        if let Note::Mention { function } = note {
-            functions.push(function.as_slice())?;
-        }
-    }
-    Ok(functions)
-}
-
-/// How many functions were mentioned.
-fn count_functions(log: &Log) -> usize
-    ensures { result ≡ length (functions log.now.notes) }
-{
-    let notes = log.notes();
-    let mut count = 0;
-    for note in notes {
-        if let Note::Mention { .. } = note {
-            count += 1;
-        }
-    }
-    count
-}
-
-/// Whether a function can't be known, since there are as many as there may be.
-pub fn is_one_too_many(log: &Log, config: &Config, function: &[u8]) -> bool
-    ensures { result ≡ is_one_too_many config.now function.now log.now.notes }
-{
-    !is_mentioned(log, function) && config.max_functions() as usize <= count_functions(log)
 }

@@ -3,6 +3,7 @@
 
 mod abilities;
 mod connections;
+mod function_facts;
 mod handles;
 mod jobs;
 mod lists;

@@ -9,7 +9,7 @@ ghost use Rattle.gm_plain.specs.Listings.{status_line_of, worker_line_of};
 
 use crate::abilities::{Ability, abilities, able};
 use crate::connections::{addr, id, is_open};
-use crate::jobs::{functions, running, total};
+use crate::function_facts::{functions, running, total};
 use crate::log::Log;
 use gm_admin::{StatusRow, WorkerRow, write_status, write_workers};
 use gm_notes::Config;

@@ -10,7 +10,7 @@ ghost use Rattle.gm_notes.specs.declared.note.Note.TheVariants.{Reset};
 use super::PlainServer;
 use crate::abilities::{pick, wakes_at_once};
 use crate::connections::is_awake;
-use crate::jobs::is_one_too_many;
+use crate::function_facts::is_one_too_many;
 use gm_actions::Refusal;
 use gm_notes::{Note, Text};
 use std::alloc::AllocError;

@@ -18,7 +18,7 @@ ghost use Rattle.gm_actions.specs.Lines.{NamesFunction};
 
 use super::PlainServer;
 use crate::connections::{accepts_connections, can_take_units};
-use crate::jobs::is_one_too_many;
+use crate::function_facts::is_one_too_many;
 use crate::lists::{status_text, workers_text};
 use gm_actions::read_line;
 use gm_admin::{AdminError, Command, write_fault, write_ok, write_version};

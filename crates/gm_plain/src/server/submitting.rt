@@ -12,7 +12,8 @@ ghost use Rattle.gm_plain.specs.Holds.{Goes, Does};
 ghost use Rattle.gm_notes.specs.Submissions.{is_bad_name, keep_or_listen, make, join_or_make, submit};
 
 use super::PlainServer;
-use crate::jobs::{is_full, is_mentioned, is_one_too_many, joined, next_number};
+use crate::function_facts::{is_full, is_mentioned, is_one_too_many};
+use crate::jobs::{joined, next_number};
 use gm_actions::{Refusal, Submission, handle};
 use gm_notes::{Note, Text};
 use gm_packet::Response;

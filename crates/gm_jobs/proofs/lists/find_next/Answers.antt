@@ -9,7 +9,7 @@ use Rattle.gm_jobs.specs.Queries.{meets}
 use Rattle.gm_jobs.specs.Links.{stands_in, card, held, link_of, no_ends, IsFirst, IsNearest}
 use Rattle.gm_jobs.proofs.LinkLemmas.{same_number, same_card, left_after}
 use Rattle.gm_jobs.proofs.lists.find_next.Goals as goal
-use Rattle.gm_jobs.proofs.lists.find_next.Goals.{After-is_wanted}
+use Rattle.gm_jobs.proofs.lists.find_next.Goals.{After-is_found}
 
 both : (a b : Bool) → (a && b) ≡ true → (a ≡ true) × (b ≡ true)
 both true b e = (refl, e)
@@ -29,28 +29,28 @@ loop-at-init c =
       passed = λ k m live e its never. absurd (never tt);
     }
 
-here : (c : After-is_wanted) → held c.args.slab.now c.in-Some.key ≡ Some (c.in-Some-get.entry.now.number, c.in-Some-get.entry.now.job)
+here : (c : After-is_found) → held c.args.slab.now c.in-Some.key ≡ Some (c.in-Some-get.entry.now.number, c.in-Some-get.entry.now.job)
 here c = sym (ap card c.in-Some-get.ensures)
 
-near : (c : After-is_wanted) → IsFirst Up (held c.args.slab.now) c.args.list c.loop-at.invariant.bound c.in-Some.key
+near : (c : After-is_found) → IsFirst Up (held c.args.slab.now) c.args.list c.loop-at.invariant.bound c.in-Some.key
 near c = subst (λ (o : Option ℕ). IsNearest Up (held c.args.slab.now) c.args.list c.loop-at.invariant.bound o) c.in-Some.is c.loop-at.invariant.nearest
 
-its : (c : After-is_wanted) → ((near c).number ≡ c.in-Some-get.entry.now.number) × (stands_in c.in-Some-get.entry.now.job ≡ Some c.args.list)
+its : (c : After-is_found) → ((near c).number ≡ c.in-Some-get.entry.now.number) × (stands_in c.in-Some-get.entry.now.job ≡ Some c.args.list)
 its c = same_number (held c.args.slab.now) c.args.list c.in-Some.key c.in-Some-get.entry.now.number c.in-Some-get.entry.now.job (here c) (near c).number (near c).stands
 
 -- none before it is what is asked for
-before : (c : After-is_wanted) (k m : ℕ) (live : Live) → held c.args.slab.now k ≡ Some (m, live) → stands_in live ≡ Some c.args.list → c.args.after < m → m < (near c).number → meets c.args.query live ≡ false
+before : (c : After-is_found) (k m : ℕ) (live : Live) → held c.args.slab.now k ≡ Some (m, live) → stands_in live ≡ Some c.args.list → c.args.after < m → m < (near c).number → meets c.args.query live ≡ false
 before c k m live e list above below = c.loop-at.invariant.passed k m live e list (λ past. (near c).least k m (record { live = live; there = e; in_list = list }) past below) above
 
-next : (c : After-is_wanted) → IsNearest Up (held c.args.slab.now) c.args.list (Some c.in-Some-get.entry.now.number) c.in-Some-get.entry.now.after
+next : (c : After-is_found) → IsNearest Up (held c.args.slab.now) c.args.list (Some c.in-Some-get.entry.now.number) c.in-Some-get.entry.now.after
 next c =
     subst (λ (o : Option ℕ). IsNearest Up (held c.args.slab.now) c.args.list (Some c.in-Some-get.entry.now.number) o) (sym (ap (link_of Up) c.in-Some-get.ensures))
     ((c.requires.linked Up).links c.args.list c.in-Some.key c.in-Some-get.entry.now.number (record { live = c.in-Some-get.entry.now.job; there = here c; in_list = (its c).1 }))
 
-pub returns-then-is_wanted-clause-next : goal.returns-then-is_wanted-clause-next
-returns-then-is_wanted-clause-next c =
-    let d = (goal.at.returns-then-is_wanted-clause-next c).After-is_wanted in
-    let parts = both (nat_lt c.args.after c.in-Some-get.entry.now.number) (meets c.args.query c.in-Some-get.entry.now.job) (sym c.is_wanted.ensures.wanted ∙ c.if-is_wanted.true) in
+pub returns-then-is_found-clause-next : goal.returns-then-is_found-clause-next
+returns-then-is_found-clause-next c =
+    let d = (goal.at.returns-then-is_found-clause-next c).After-is_found in
+    let parts = both (nat_lt c.args.after c.in-Some-get.entry.now.number) (meets c.args.query c.in-Some-get.entry.now.job) (sym c.is_found.ensures.wanted ∙ c.if-is_found.true) in
     record {
       above = let above = parts.0 in grind (arith, nat_tests);
       key = c.in-Some.key;
@@ -62,7 +62,7 @@ returns-then-is_wanted-clause-next c =
 
 pub loop-at-preserved : goal.loop-at-preserved
 loop-at-preserved c =
-    let d = (goal.at.loop-at-preserved c).After-is_wanted in
+    let d = (goal.at.loop-at-preserved c).After-is_found in
     let number = c.in-Some-get.entry.now.number in
     let passed : (k m : ℕ) (live : Live) → held c.args.slab.now k ≡ Some (m, live) → stands_in live ≡ Some c.args.list → (number < m → ⊥) → c.args.after < m → meets c.args.query live ≡ false =
     λ k m live e list never above.
@@ -76,15 +76,15 @@ loop-at-preserved c =
                 let key = c.requires.unique k c.in-Some.key number live c.in-Some-get.entry.now.job (e ∙ ap (λ i. Some (i, live)) same) (here d) in
                 let job = same_card (m, live) (number, c.in-Some-get.entry.now.job) (sym e ∙ ap (held c.args.slab.now) key ∙ here d) in
                 let wanted : nat_lt c.args.after number ≡ true = grind (arith, nat_tests) in
-                ap (λ (p : ℕ × Live). meets c.args.query p.1) job ∙ other (nat_lt c.args.after number) (meets c.args.query c.in-Some-get.entry.now.job) wanted (sym c.is_wanted.ensures.wanted ∙ c.if-is_wanted.false)
+                ap (λ (p : ℕ × Live). meets c.args.query p.1) job ∙ other (nat_lt c.args.after number) (meets c.args.query c.in-Some-get.entry.now.job) wanted (sym c.is_found.ensures.wanted ∙ c.if-is_found.false)
           ]
     ] in
     record { bound = Some number; nearest = next d; passed = passed }
 
 pub loop-at-smaller : goal.loop-at-smaller
 loop-at-smaller c =
-    let d = (goal.at.loop-at-smaller c).After-is_wanted in
-    left_after (held c.args.slab.now) c.args.list c.loop-at.at c.in-Some-get.entry.now.after c.in-Some.key c.in-Some-get.entry.now.number c.in-Some-get.entry.now.job c.in-Some.is (here d) (let small = c.is_wanted.ensures.small in omega arith) (next d)
+    let d = (goal.at.loop-at-smaller c).After-is_found in
+    left_after (held c.args.slab.now) c.args.list c.loop-at.at c.in-Some-get.entry.now.after c.in-Some.key c.in-Some-get.entry.now.number c.in-Some-get.entry.now.job c.in-Some.is (here d) (let small = c.is_found.ensures.small in omega arith) (next d)
 
 pub returns-clause-last : goal.returns-clause-last
 returns-clause-last c = λ k m live e list above.

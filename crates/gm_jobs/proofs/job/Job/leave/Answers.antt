@@ -8,5 +8,5 @@ pub returns : goal.returns
 returns c =
     let kept : c.retain.new.self.items ≡ filter (λ d. not (d == c.args.slot)) c.self.inside.listeners.items =
     filter_same _ _ _ (λ x b f' k. search rules) _ _ c.retain.ensures.filtered in
-    ap (λ ls. record { function = c.self.inside.f; priority = c.self.inside.p; unique = c.self.inside.unique.items; body = body_bytes c.self.inside.body; kept = c.self.inside.kept; stage = c.self.inside.stage; returns = c.self.inside.returns; deadline = c.self.inside.deadline; report = option_map (λ r. (r.value.numerator.items, r.value.denominator.items)) c.self.inside.report; listeners = ls }) kept
+    ap (λ ls. record { function = c.self.inside.f; priority = c.self.inside.p; unique = c.self.inside.unique.items; body = body_bytes c.self.inside.body; kept = c.self.inside.kept; live_place = c.self.inside.live_place; returns = c.self.inside.returns; deadline = c.self.inside.deadline; report = option_map (λ r. (r.value.numerator.items, r.value.denominator.items)) c.self.inside.report; listeners = ls }) kept
     ∙ ap (without_listener c.args.slot) c.self.view_is

@@ -59,4 +59,4 @@ invariant_of-self c =
     subst (λ i. IsKept (record (beside t) { next = i; left = is_some c.checked_add-self-inside.result; uniques = c.insert-2.new.self; listening = c.begin.new.self }) c.take.new.self c.insert.new.self.room c.insert.new.self.entries) (sym next)
     (subst (λ (r : Option Room). IsKept (record (beside t) { next = (beside t).next + 1; left = is_some c.checked_add-self-inside.result; uniques = c.insert-2.new.self; listening = c.begin.new.self }) r c.insert.new.self.room c.insert.new.self.entries) (sym c.take.ensures.after)
     (kept_made (beside t) t.jobs.entries c.fill-job.result c.insert.new.self.entries (adds d) (is_some c.checked_add-self-inside.result) t.reservation c.unwrap-reservation.result t.jobs.room c.insert.new.self.room c.insert-2.new.self c.begin.new.self
-    c.self.invariant (ready d) (made_led d) c.insert-2.ensures.kept c.begin.ensures.kept (made_heard d) (ap (λ (l : Live). l.stage) c.fill-job.ensures) (made_single d)))
+    c.self.invariant (ready d) (made_led d) c.insert-2.ensures.kept c.begin.ensures.kept (made_heard d) (ap (λ (l : Live). l.live_place) c.fill-job.ensures) (made_single d)))

@@ -1,7 +1,7 @@
 use Rattle.std.proofs.Common.{sym, ◌∙◌}
 use Rattle.gm_plain.specs.Searches.{ability_of}
 use Rattle.gm_plain.proofs.Turns.{turned_at, turned_nowhere}
-use Rattle.gm_plain.proofs.abilities.turn.Goals as goal
+use Rattle.gm_plain.proofs.abilities.rotate.Goals as goal
 
 pub returns-in-Some : goal.returns-in-Some
 returns-in-Some c =

@@ -2,7 +2,7 @@ use Rattle.std.proofs.Common.{rules, false, ◌∙◌, sym}
 use Rattle.gm_plain.specs.Searches.{says_mentioned}
 use Rattle.gm_plain.proofs.LastSaid.{said_is}
 use Rattle.gm_plain.proofs.MadeJobs.{mentioned_said}
-use Rattle.gm_plain.proofs.jobs.is_mentioned.Goals as goal
+use Rattle.gm_plain.proofs.function_facts.is_mentioned.Goals as goal
 
 pub returns : goal.returns
 returns c =

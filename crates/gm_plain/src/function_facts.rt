@@ -1,0 +1,119 @@
+//! What the log says of functions.
+
+ghost use Rattle.std.specs.Prelude.{◌≡◌, length, map, IfOk};
+ghost use Rattle.gm_notes.specs.Jobs.{functions, is_mentioned, says_limit, limit, is_live_of, total, running};
+ghost use Rattle.gm_notes.specs.Submissions.{is_one_too_many, is_full};
+ghost use Rattle.gm_plain.specs.Searches.{says_mentioned, is_running_of};
+
+use crate::jobs::{is_job_of, is_live, is_running};
+use crate::log::Log;
+use gm_notes::{Config, Note};
+use std::alloc::{AllocError, Global};
+
+/// Whether a job waits or runs, and is of this function.
+fn is_live_of(log: &Log, number: u64, function: &[u8]) -> bool
+    ensures { result ≡ is_live_of function.now log.now.notes number }
+{
+    is_live(log, number) && is_job_of(log, number, function)
+}
+
+/// How many jobs of a function wait or run.
+pub fn total(log: &Log, function: &[u8]) -> usize
+    ensures { result ≡ total function.now log.now.notes }
+{
+    log.count_made(|job| is_live_of(log, job, function))
+}
+
+/// Whether a job runs, and is of this function.
+fn is_running_of(log: &Log, number: u64, function: &[u8]) -> bool
+    ensures { result ≡ is_running_of function.now log.now.notes number }
+{
+    is_running(log, number) && is_job_of(log, number, function)
+}
+
+/// How many jobs of a function run.
+pub fn running(log: &Log, function: &[u8]) -> usize
+    ensures { result ≡ running function.now log.now.notes }
+{
+    log.count_made(|job| is_running_of(log, job, function))
+}
+
+fn says_limit(note: &Note, function: &[u8]) -> Option<u32>
+    ensures { result ≡ says_limit function.now note.now }
+{
+    match note {
+        Note::Limit {
+            function: limited,
+            size,
+        } if limited.as_slice() == function => Some(*size),
+        _ => None,
+    }
+}
+
+/// How many jobs of a function may be there; 0 is no limit.
+fn limit(log: &Log, function: &[u8]) -> u32
+    ensures { result ≡ limit function.now log.now.notes }
+{
+    log.last_said(0, |note| says_limit(note, function))
+}
+
+/// Whether no more jobs of a function may be there.
+pub fn is_full(log: &Log, function: &[u8]) -> bool
+    ensures { result ≡ is_full function.now log.now.notes }
+{
+    let limit = limit(log, function);
+    limit != 0 && limit as usize <= total(log, function)
+}
+
+fn says_mentioned(note: &Note, function: &[u8]) -> Option<bool>
+    ensures { result ≡ says_mentioned function.now note.now }
+{
+    match note {
+        Note::Mention {
+            function: mentioned,
+        } if mentioned.as_slice() == function => Some(true),
+        _ => None,
+    }
+}
+
+/// Whether a function was mentioned.
+pub fn is_mentioned(log: &Log, function: &[u8]) -> bool
+    ensures { result ≡ is_mentioned function.now log.now.notes }
+{
+    log.last_said(false, |note| says_mentioned(note, function))
+}
+
+/// The functions mentioned, in the order of mention.
+pub fn functions(alloc: Global, log: &Log) -> Result<Vec<&[u8]>, AllocError>
+    ensures { IfOk result (λ found. map (λ name. name.now) found.items ≡ functions log.now.notes) }
+{
+    let notes = log.notes();
+    let mut functions = Vec::new(alloc);
+    for note in notes {
+        if let Note::Mention { function } = note {
+            functions.push(function.as_slice())?;
+        }
+    }
+    Ok(functions)
+}
+
+/// How many functions were mentioned.
+fn count_functions(log: &Log) -> usize
+    ensures { result ≡ length (functions log.now.notes) }
+{
+    let notes = log.notes();
+    let mut count = 0;
+    for note in notes {
+        if let Note::Mention { .. } = note {
+            count += 1;
+        }
+    }
+    count
+}
+
+/// Whether a function can't be known, since there are as many as there may be.
+pub fn is_one_too_many(log: &Log, config: &Config, function: &[u8]) -> bool
+    ensures { result ≡ is_one_too_many config.now function.now log.now.notes }
+{
+    !is_mentioned(log, function) && config.max_functions() as usize <= count_functions(log)
+}
