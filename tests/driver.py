@@ -189,7 +189,11 @@ class Player:
                 raise Wrong("it doesn't listen") from None
             return
         if printed[0].startswith("refused"):
-            peer.ends()
+            try:
+                peer.ends()
+            except Wrong:  # where the program ended as the connection came, the system may forget it and tell it nothing
+                if not self.is_over or self.server.process.poll() is None or peer.said or peer.left:
+                    raise
             peer.close()
             return
         self.asks(peer)
