@@ -1,10 +1,10 @@
 /* One open connection, its finisher (run_finisher, crews.rt), the control thread that opens its lane (Lane::open), and TOUCHERS threads
- * that queue bytes for it, or bytes and a NOOP, TOUCHES times each, from before the lane is opened. Each touch looks itself or is left
- * to the finisher (ServerState::touch, state.rt). The lane is idle at first, or late, as the last connection leaves it. With FEW the
+ * that queue bytes for it, or bytes and a NOOP, TOUCHES times each, from before the lane is opened. Each touch makes an attempt or is left
+ * to the finisher (ServerState::touch, state.rt). The lane is idle at first, or left, as the last connection leaves it. With FEW the
  * finisher is an I/O thread's part that never waits (ServerState::visit, serving.rt), and the socket may report that it takes bytes.
  * Delivery: in every quiescent state nothing waits, no NOOP is owed and nothing is left, unless the peer is deaf. No deadlock.
  * Order: in the order of the queue, each once. Only the finisher waits, by default.
- * ENDLESS: the threads go on for ever; put is a mark, no count; a peer that reads is late LATES times between two messages at
+ * ENDLESS: the threads go on for ever; put is a mark, no count; writes to a peer that reads are blocked BLOCKS times between two messages at
  * most. Then each infinite run has infinitely many deliveries. */
 #ifndef TOUCHERS
 #define TOUCHERS 2
@@ -12,8 +12,8 @@
 #ifndef TOUCHES
 #define TOUCHES 2
 #endif
-#ifndef LATES
-#define LATES 0
+#ifndef BLOCKS
+#define BLOCKS 0
 #endif
 #ifndef DEAF
 #define DEAF 0
@@ -21,7 +21,7 @@
 #define PARKED(s)   parked = 1
 #define UNPARKED(s) parked = 0
 #ifdef ENDLESS
-#define ON_SENT(s) lates[s] = LATES; flip = 1 - flip
+#define ON_SENT(s) blocks[s] = BLOCKS; flip = 1 - flip
 #endif
 bit  flip = 0;
 bit  parked = 0;
@@ -61,7 +61,7 @@ proctype Toucher() {
         :: touch_for_finisher(0)                   /* the round is over */
         fi;
         if
-        :: has -> deliver_owed(0)
+        :: has -> deliver_claimed(0)
         :: else
         fi;
         fin = NOTHING
@@ -95,20 +95,20 @@ end:    atomic {
                 token[0] = false; again[0] = false
 #endif
 #ifdef FEW
-            :: lw[0] == LANE_LATE && !token[0] && MATTERS(0) -> has_ended = true   /* the socket takes bytes again */
+            :: lw[0] == LANE_LEFT && !token[0] && MATTERS(0) -> has_ended = true   /* the socket takes bytes again */
 #endif
             fi;
             UNPARKED(0) };
 #ifdef FEW
         if
-        :: has_ended -> has_ended = false; deliver_late(0)
+        :: has_ended -> has_ended = false; deliver_left(0)
         :: else -> deliver_as(0, FINISHER)
         fi;
 #else
         deliver_as(0, FINISHER);
 #endif
         if
-        :: has -> deliver_owed(0)
+        :: has -> deliver_claimed(0)
         :: else
         fi;
 #ifdef M_PARK_LOSES_TOKEN
@@ -122,10 +122,10 @@ init {
     LOCALS;
     byte i = 0;
     atomic {
-        is_open[0] = true; gen[0] = 1; lates[0] = LATES;
+        is_open[0] = true; gen[0] = 1; blocks[0] = BLOCKS;
         if
         :: lw[0] = LANE_IDLE
-        :: lw[0] = LANE_LATE
+        :: lw[0] = LANE_LEFT
         fi;
         if
         :: token[0] = false
@@ -145,7 +145,7 @@ init {
     };
     open_lane(0);
     if
-    :: has -> deliver_owed(0)
+    :: has -> deliver_claimed(0)
     :: else
     fi;
     fin = NOTHING
@@ -160,9 +160,9 @@ end: timeout ->
     if
     :: deaf[0] && has_left[0] ->                   /* what is left for a deaf peer is the finisher's */
 #ifdef FEW
-        assert(lw[0] == LANE_LATE && again[0])
+        assert(lw[0] == LANE_LEFT && again[0])
 #else
-        assert(parked == 0 && patient[0] && lw[0] != LANE_IDLE && lw[0] != LANE_LATE)
+        assert(parked == 0 && patient[0] && lw[0] != LANE_IDLE && lw[0] != LANE_LEFT)
 #endif
     :: else ->
         assert(lock[0] == 0);

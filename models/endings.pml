@@ -5,7 +5,7 @@
  * close and have their session end by a fault or without memory come at any point, within bounds. At the end the threads are
  * dismissed.
  * Ends: each process ends, and the slot can be used again; no deadlock; what was queued when its session was over its peer
- * receives, if it reads. A peer that is late has its connection hung up only once its end was asked for.
+ * receives, if it reads. A peer whose writes are blocked has its connection hung up only once its end was asked for.
  * Order: bytes go to their own connection, in order, once. Stale tokens, stages, words and touches do no harm: a connection is let go of
  * only once nothing is read from it any more, and each slot is closed once.
  * ENDLESS: the threads queue for ever while the slot is open, and each connection ends nevertheless. */
@@ -21,8 +21,8 @@
 #ifndef UNITS
 #define UNITS 1
 #endif
-#ifndef LATES
-#define LATES 0
+#ifndef BLOCKS
+#define BLOCKS 0
 #endif
 #ifndef FAULTS
 #define FAULTS 0
@@ -44,7 +44,7 @@
 #endif
 #define CHOOSE_PEER(s) \
     if \
-    :: PEERS == 0 || PEERS >= 3 -> lates[s] = LATES \
+    :: PEERS == 0 || PEERS >= 3 -> blocks[s] = BLOCKS \
     :: PEERS == 1 || PEERS >= 3 -> deaf[s] = true \
     :: PEERS == 1 || PEERS >= 3 -> deaf[s] = true; room[s] = 1 \
     :: PEERS == 2 || PEERS == 4 -> slow[s] = true \
@@ -105,7 +105,7 @@ proctype Toucher() {
         :: else
         fi;
         if
-        :: has -> deliver_owed(0)
+        :: has -> deliver_claimed(0)
         :: else
         fi;
         atomic { is_due = false; fin = NOTHING }
@@ -199,7 +199,7 @@ active proctype Control() {
     ended = true;
     assert(!is_open[0] && line[0] == NO_LINE && talking[0] == NO_TALK);
     assert(book == 0 && lock[0] == 0 && talk[0] == 0);
-    assert(owners[0] == 0 && (lw[0] == LANE_LATE || lw[0] == LANE_IDLE));
+    assert(owners[0] == 0 && (lw[0] == LANE_LEFT || lw[0] == LANE_IDLE));
     assert(word[0] == AWAKE)
 }
 

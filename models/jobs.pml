@@ -19,11 +19,11 @@
 #ifndef IMPATIENT
 #define IMPATIENT 0
 #endif
-#ifndef LATES0
-#define LATES0 0         /* late writes to the worker, */
+#ifndef BLOCKS0
+#define BLOCKS0 0         /* blocked writes to the worker, */
 #endif
-#ifndef LATES1
-#define LATES1 0         /*   and to the client */
+#ifndef BLOCKS1
+#define BLOCKS1 0         /*   and to the client */
 #endif
 byte parked = 0;         /* finishers that wait to be woken */
 
@@ -176,7 +176,7 @@ inline apply(s, unit) {
  * others may be left to their finishers for the time, from the second on (Round::is_over, state.rt). */
 inline at_lane() {
     do
-    :: has -> deliver_owed(cur)
+    :: has -> deliver_claimed(cur)
     :: !has && todo != 0 ->
         atomic { cur = (todo & (1 << own) -> own : (todo & 1 -> 0 : 1)); todo = todo & ~(1 << cur); touch_word(cur); is_later = true }
 #ifdef ROUNDS
@@ -365,7 +365,7 @@ proctype Finisher(byte me) {
 end_finisher: atomic { IS_CALLED(me) -> token[me] = false; again[me] = false; parked-- };
         deliver_as(me, WAITS);
         if
-        :: has -> deliver_owed(me)
+        :: has -> deliver_claimed(me)
         :: else
         fi;
         atomic { come_again(me); fin = NOTHING }
@@ -378,7 +378,7 @@ init {
         do
         :: i < N ->
             is_open[i] = true; gen[i] = 1; line[i] = OPEN; line_gen[i] = 1;
-            lates[i] = (i == 0 -> LATES0 : LATES1);
+            blocks[i] = (i == 0 -> BLOCKS0 : BLOCKS1);
             i++
         :: else -> break
         od;

@@ -18,10 +18,10 @@
 #ifndef N
 #define N 1
 #endif
-#ifndef MOST_LOOKS
-#define MOST_LOOKS 2      /* lane.rt: 16 */
+#ifndef MOST_ATTEMPTS
+#define MOST_ATTEMPTS 2      /* lane.rt: 16 */
 #endif
-/* The time of an end, in looks of `End::look`: ending.rt has 2 s and 30 s. A slow peer is late for less than the first. */
+/* The time of an end, in calls of `End::update`: ending.rt has 2 s and 30 s. A slow peer blocks for less than the first. */
 #define ENDING_TIME 2
 #define MOST_ENDING_TIME 4
 
@@ -45,7 +45,7 @@
 
 /* Delivery (outbox.rt), and SEND: the outbox is still to drain */
 #define DONE 0
-#define LATE 1
+#define BLOCKED 1
 #define OVER 2
 #define SHUT 3
 #define SEND 4
@@ -69,8 +69,8 @@
 /* a lane's word (word.rt of gm_lane_word) */
 #define LANE_IDLE 0
 #define LANE_BUSY 1
-#define LANE_OWED 2
-#define LANE_LATE 3
+#define LANE_CLAIMED 2
+#define LANE_LEFT 3
 
 /* sender.connection: none, or its LineState (sender.rt) */
 #define NO_LINE  0
@@ -127,7 +127,7 @@ byte l_next[N];
 byte l_to[N];
 bool l_noop[N];
 bool patient[N];         /* its finisher waits in a write */
-byte end_begun[N];       /* its End: for how many looks `begun` runs, */
+byte end_begun[N];       /* its End: for how many calls `begun` runs, */
 byte end_stalled[N];     /*   `stalled` runs, */
 bool end_over[N];        /*   and deadline_passed */
 
@@ -139,9 +139,9 @@ bool again[N];
 bool down[N];            /* shut down by hang_up: reads end, writes fail */
 bool deaf[N];            /* the peer never reads: */
 byte room[N];            /*   so many messages go through, and then none */
-bool slow[N];            /* the peer reads, and is late before each message */
-bool was_late[N];        /*   as it was before the next */
-byte lates[N];           /* how often a write to a peer that reads may come late, where that is bounded */
+bool slow[N];            /* the peer reads, and blocks before each message */
+bool was_blocked[N];        /*   as it was before the next */
+byte blocks[N];           /* how often a write to a peer that reads may be blocked, where that is bounded */
 byte faults;             /* how many writes may fail */
 byte received[N];
 byte noops[N];           /* NOOPs that the socket took */
@@ -154,11 +154,11 @@ bool faulted[N];         /* the connection was hung up for a fault, or because i
 byte owners[N];          /* how many have the lane */
 
 #ifdef UNBOUNDED
-#define MAY_BE_LATE(s) (!deaf[s] && !slow[s])
-#define COUNT_LATE(s)  skip
+#define MAY_BLOCK(s) (!deaf[s] && !slow[s])
+#define COUNT_BLOCK(s)  skip
 #else
-#define MAY_BE_LATE(s) (!deaf[s] && !slow[s] && lates[s] > 0)
-#define COUNT_LATE(s)  lates[s]--
+#define MAY_BLOCK(s) (!deaf[s] && !slow[s] && blocks[s] > 0)
+#define COUNT_BLOCK(s)  blocks[s]--
 #endif
 
 /* is_ending (ending.rt) */
@@ -169,14 +169,14 @@ byte owners[N];          /* how many have the lane */
 #define ENDS(s) IS_ENDING(s)
 #endif
 
-/* Where the peer takes no more and the connection isn't to end, a finisher's look changes nothing: it comes again once that changed. */
+/* Where the peer takes no more and the connection isn't to end, a finisher's attempt changes nothing: it comes again once that changed. */
 #define MATTERS(s) (!(line[s] == OPEN && deaf[s] && room[s] == 0) || ENDS(s) || end_over[s])
 /* The finisher comes: it was woken; or to a connection that isn't done with, in a while, when no thread has the lane any more. */
 #define IS_CALLED(s) (token[s] || (again[s] && owners[s] == 0 && MATTERS(s)))
 
 /* What the inlines work with, in each process that uses them */
 #define LOCALS \
-    byte who = OTHER; byte res = 0; byte fin = 0; byte found = 0; byte looks = 0; \
+    byte who = OTHER; byte res = 0; byte fin = 0; byte found = 0; byte attempts = 0; \
     bool had_left = false; bool is_shut = false; bool took = false; bool has_ended = false; bool is_ending = false; bool has = false; bool has_taken = false
 
 /* Outbox::forget (outbox.rt) */
@@ -201,9 +201,9 @@ inline hang_up(s) {
     fi
 }
 
-/* End::look (ending.rt), under the lane's lock. For a peer that reads in time neither time runs out. Each look of
+/* End::update (ending.rt), under the lane's lock. For a peer that reads in time neither time runs out. Each call for
  * another peer's end takes one unit of the time. */
-inline look_at_end(s) {
+inline update_end(s) {
     if
     :: deaf[s] || slow[s] ->
         if
@@ -230,19 +230,19 @@ inline look_at_end(s) {
 }
 
 /* One write of Message::send (outbox.rt), with write_once (message.rt) and WriteHalf::write_by (socket.rt), under the lane's lock.
- * Afterwards res is SEND if more is left to write, DONE, LATE or OVER. */
+ * Afterwards res is SEND if more is left to write, DONE, BLOCKED or OVER. */
 inline write_one(s) {
     assert(line[s] == OPEN);
     assert(l_gen[s] == line_gen[s]);               /* order: bytes of a connection go to no other */
     if
-    :: end_over[s] -> res = LATE
+    :: end_over[s] -> res = BLOCKED
     :: else ->
         if
         :: down[s] -> res = OVER
-        :: !down[s] && (deaf[s] -> room[s] > 0 : (slow[s] -> was_late[s] : true)) ->
+        :: !down[s] && (deaf[s] -> room[s] > 0 : (slow[s] -> was_blocked[s] : true)) ->
             if
             :: deaf[s] -> room[s]--
-            :: else -> was_late[s] = false
+            :: else -> was_blocked[s] = false
             fi;
 #ifdef M_NOOP_FIRST
             if
@@ -264,7 +264,7 @@ inline write_one(s) {
 #ifdef M_SENT_AGAIN
                 if
                 :: l_next[s]++
-                :: res = LATE                      /* a part was taken */
+                :: res = BLOCKED                      /* a part was taken */
                 fi
 #else
                 l_next[s]++
@@ -276,13 +276,13 @@ inline write_one(s) {
             :: l_next[s] == l_to[s] && !l_noop[s] -> forget(s); res = DONE
             :: else
             fi
-        :: !down[s] && deaf[s] && room[s] == 0 -> res = LATE
-        :: !down[s] && slow[s] && !was_late[s] -> was_late[s] = true; res = LATE
-        :: !down[s] && MAY_BE_LATE(s) -> COUNT_LATE(s); res = LATE
+        :: !down[s] && deaf[s] && room[s] == 0 -> res = BLOCKED
+        :: !down[s] && slow[s] && !was_blocked[s] -> was_blocked[s] = true; res = BLOCKED
+        :: !down[s] && MAY_BLOCK(s) -> COUNT_BLOCK(s); res = BLOCKED
         :: !down[s] && faults > 0 -> faults--; res = OVER
         fi;
         if
-        :: ENDS(s) -> look_at_end(s)
+        :: ENDS(s) -> update_end(s)
         :: else
         fi;
         has_taken = false
@@ -358,13 +358,13 @@ inline let_go(s) {
 #endif
             /* ghosts, which end with the connection */
             received[s] = 0; noops[s] = 0; takes[s] = 0; faulted[s] = false;
-            deaf[s] = false; room[s] = 0; slow[s] = false; was_late[s] = false; lates[s] = 0
+            deaf[s] = false; room[s] = 0; slow[s] = false; was_blocked[s] = false; blocks[s] = 0
         :: else
         fi
     fi
 }
 
-/* linger (lane.rt), under the lane's lock. The time is over at the second look. */
+/* linger (lane.rt), under the lane's lock. The time is over at the second attempt. */
 inline linger(s) {
     fin = PENDING;
 #ifndef M_NO_FINISH
@@ -384,13 +384,13 @@ inline linger(s) {
     fi
 }
 
-#ifdef M_LATE_IS_PATIENT
+#ifdef M_BLOCKED_IS_PATIENT
 #define IS_PATIENT true
 #else
 #define IS_PATIENT (who == WAITS)
 #endif
 
-/* The rest of Lane::send and Lane::look (lane.rt), once a delivery ended; under the lane's lock, which is released unless the finisher
+/* The rest of Lane::send and Lane::attempt (lane.rt), once a delivery ended; under the lane's lock, which is released unless the finisher
  * waits. */
 inline end_delivery(s) {
 #ifdef M_FLAG_AFTER_DELIVERY
@@ -398,7 +398,7 @@ inline end_delivery(s) {
 #endif
     if
 #ifndef M_NEVER_GIVE_UP
-    :: res == LATE && end_over[s] ->
+    :: res == BLOCKED && end_over[s] ->
         assert(IS_ENDING(s));                      /* an end is asked for, */
         assert(deaf[s] || slow[s]);                /*   and the peer had its time */
 #ifdef M_TIME_OVER_WITHOUT_HANG_UP
@@ -410,18 +410,18 @@ inline end_delivery(s) {
 #endif
     :: else
     fi;
-    patient[s] = (res == LATE && IS_PATIENT);
+    patient[s] = (res == BLOCKED && IS_PATIENT);
     assert(patient[s] -> who == WAITS : true);     /* only the finisher waits */
     if
     :: patient[s]
     :: !patient[s] ->
         if
-#ifdef M_NO_HAND_OVER_WHEN_LATE
-        :: res == LATE -> fin = NOTHING
+#ifdef M_NO_HAND_OVER_WHEN_BLOCKED
+        :: res == BLOCKED -> fin = NOTHING
 #else
-        :: res == LATE -> fin = PENDING
+        :: res == BLOCKED -> fin = PENDING
 #endif
-        :: res != LATE && has_ended -> let_go(s)
+        :: res != BLOCKED && has_ended -> let_go(s)
 #ifdef M_ENDING_IGNORED
         :: res == DONE && !has_ended -> fin = NOTHING
 #else
@@ -437,12 +437,12 @@ inline end_delivery(s) {
     res = 0; is_shut = false; had_left = false
 }
 
-/* Owed::look (owed.rt) and Lane::look (lane.rt), with Sender::deliver, deliver_on (sender.rt) and Outbox::deliver (outbox.rt): what was
- * left, the take, the drain, and one write after another until all is sent, or one is late or fails. A jump from one atomic block
+/* Claim::attempt (claim.rt) and Lane::attempt (lane.rt), with Sender::deliver, deliver_on (sender.rt) and Outbox::deliver (outbox.rt): what was
+ * left, the take, the drain, and one write after another until all is sent, or one is blocked or fails. A jump from one atomic block
  * into another goes on without a step of others. */
-inline look(s) {
-#ifndef M_LOOK_AFTER_DELIVERY
-    atomic { assert(lw[s] == LANE_OWED); lw[s] = LANE_BUSY };   /* swap */
+inline attempt(s) {
+#ifndef M_ATTEMPT_AFTER_DELIVERY
+    atomic { assert(lw[s] == LANE_CLAIMED); lw[s] = LANE_BUSY };   /* swap */
 #endif
 #ifdef M_FLAG_BEFORE_LOCK
     atomic { has_ended = (stage[s] == ENDED); is_ending = IS_ENDING(s) };
@@ -472,7 +472,7 @@ sends:  res = SEND;
         if
         :: res == OVER -> forget(s); cut(s)
 #ifdef M_LEFT_IS_DROPPED
-        :: res == LATE && had_left -> forget(s)
+        :: res == BLOCKED && had_left -> forget(s)
 #endif
         :: res == DONE && had_left ->
             had_left = false;
@@ -496,20 +496,20 @@ end_waits: (MATTERS(s));
         atomic { goto starts }
     :: else
     fi
-#ifdef M_LOOK_AFTER_DELIVERY
+#ifdef M_ATTEMPT_AFTER_DELIVERY
     ; lw[s] = LANE_BUSY
 #endif
 }
 
-/* Lane::deliver_owed (lane.rt), with Owed::hand_over, Looking::hand_over and finish, and Lane::wake_for; fin says what came of it. */
-inline deliver_owed(s) {
-    looks = 0;
+/* Lane::deliver_claimed (lane.rt), with Claim::hand_over, Attempt::hand_over and finish, and Lane::wake_for; fin says what came of it. */
+inline deliver_claimed(s) {
+    attempts = 0;
     do
     :: true ->
-        look(s);
+        attempt(s);
         if
         :: fin != NOTHING ->
-            atomic { assert(lw[s] == LANE_BUSY || lw[s] == LANE_OWED); owners[s]--; lw[s] = LANE_LATE };
+            atomic { assert(lw[s] == LANE_BUSY || lw[s] == LANE_CLAIMED); owners[s]--; lw[s] = LANE_LEFT };
 #ifndef M_NO_WAKE_AT_HAND_OVER
             if
             :: fin == PENDING && who < HURRIES -> token[s] = true
@@ -530,14 +530,14 @@ inline deliver_owed(s) {
                 fi };
             if
             :: found == LANE_BUSY -> break
-            :: else -> looks++
+            :: else -> attempts++
             fi;
             if
-            :: looks == MOST_LOOKS ->
+            :: attempts == MOST_ATTEMPTS ->
 #ifdef M_GIVES_UP
                 atomic { lw[s] = LANE_IDLE; owners[s]-- };
 #else
-                atomic { lw[s] = LANE_LATE; owners[s]-- };
+                atomic { lw[s] = LANE_LEFT; owners[s]-- };
                 token[s] = true;
 #endif
                 break
@@ -545,19 +545,19 @@ inline deliver_owed(s) {
             fi
         fi
     od;
-    looks = 0; found = 0; has = false
+    attempts = 0; found = 0; has = false
 }
 
-/* LaneWord::touch (word.rt): `has` if the caller has the lane now. Its load, if it finds LANE_OWED or more, is as the fetch_max at
+/* LaneWord::touch (word.rt): `has` if the caller has the lane now. Its load, if it finds LANE_CLAIMED or more, is as the fetch_max at
  * that moment would be; so there is one step. */
 inline touch_word(s) {
     atomic {
         has = (lw[s] == LANE_IDLE);
         if
 #ifdef M_BUSY_IS_ENOUGH
-        :: lw[s] == LANE_IDLE -> lw[s] = LANE_OWED
+        :: lw[s] == LANE_IDLE -> lw[s] = LANE_CLAIMED
 #else
-        :: lw[s] < LANE_OWED -> lw[s] = LANE_OWED
+        :: lw[s] < LANE_CLAIMED -> lw[s] = LANE_CLAIMED
 #endif
         :: else
         fi;
@@ -573,7 +573,7 @@ inline touch_for_finisher(s) {
     touch_word(s);
     if
     :: has ->
-        atomic { has = false; lw[s] = LANE_LATE; owners[s]-- };
+        atomic { has = false; lw[s] = LANE_LEFT; owners[s]-- };
 #ifndef M_LEFT_UNWOKEN
         token[s] = true
 #endif
@@ -584,11 +584,11 @@ inline touch_for_finisher(s) {
 /* LaneWord::take_over (word.rt): swap; `has` if the caller has the lane now */
 inline take_over(s) {
     found = lw[s];
-    lw[s] = LANE_OWED;
-#ifdef M_LATE_NOT_TAKEN_OVER
+    lw[s] = LANE_CLAIMED;
+#ifdef M_LEFT_NOT_TAKEN_OVER
     has = (found == LANE_IDLE);
 #else
-    has = (found == LANE_IDLE || found == LANE_LATE);
+    has = (found == LANE_IDLE || found == LANE_LEFT);
 #endif
     if
     :: has -> owners[s]++; assert(owners[s] == 1)
@@ -597,7 +597,7 @@ inline take_over(s) {
     found = 0
 }
 
-/* Lane::deliver (lane.rt), up to deliver_owed, which follows where it has the lane */
+/* Lane::deliver (lane.rt), up to deliver_claimed, which follows where it has the lane */
 inline deliver_as(s, deliverer) {
     atomic { take_over(s); who = deliverer; fin = (has -> NOTHING : PENDING) };
     if
@@ -606,20 +606,20 @@ inline deliver_as(s, deliverer) {
     fi
 }
 
-/* Lane::deliver_late (lane.rt) and LaneWord::take_over_late (word.rt), up to deliver_owed. Between its two steps another thread may take
+/* Lane::deliver_left (lane.rt) and LaneWord::take_over_left (word.rt), up to deliver_claimed. Between its two steps another thread may take
  * the lane over. */
-inline deliver_late(s) {
+inline deliver_left(s) {
     fin = NOTHING;
     if
-    :: lw[s] == LANE_LATE -> atomic { take_over(s); who = HURRIES }
+    :: lw[s] == LANE_LEFT -> atomic { take_over(s); who = HURRIES }
     :: else
     fi
 }
 
-/* Lane::end and Stage::rise, up to deliver_owed: to this stage, unless it has come so far */
+/* Lane::end and Stage::rise, up to deliver_claimed: to this stage, unless it has come so far */
 inline end_lane(s, to) {
     fin = NOTHING;
-#ifdef M_RISE_AFTER_LOOK
+#ifdef M_RISE_AFTER_ATTEMPT
     deliver_as(s, READER);
     rises = to
 #else
@@ -631,7 +631,7 @@ inline end_lane(s, to) {
 #endif
 }
 
-/* Lane::open, Sender::begin and Outbox::begin, up to deliver_owed. The model chooses the peer. */
+/* Lane::open, Sender::begin and Outbox::begin, up to deliver_claimed. The model chooses the peer. */
 inline open_lane(s) {
 #ifndef M_RESTART_AFTER_BEGIN
 #ifndef M_KEEP_ENDING
@@ -649,7 +649,7 @@ inline open_lane(s) {
 #ifdef M_RESTART_AFTER_BEGIN
     stage[s] = SERVING;
 #endif
-#ifndef M_BEGIN_WITHOUT_LOOK
+#ifndef M_BEGIN_WITHOUT_ATTEMPT
     atomic { take_over(s); who = OTHER; fin = NOTHING }
 #endif
 }

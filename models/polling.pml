@@ -3,9 +3,9 @@
  * that others make, what it put back, and the endings that it looks at again. Each slot has GENS connections one after another. A
  * connection's peer sends up to SENDS units at any time, and may then send no more or stay; a unit may be a fault, and the end of a
  * connection may have to wait for its peer. WAKES times others wake a slot's finisher.
- * A lane is only: its stage, how many looks its end still takes, and that a look was asked for. A read takes up to ROOM units into the
+ * A lane is only: its stage, how many attempts its end still takes, and that one was asked for. A read takes up to ROOM units into the
  * feeder, and a turn MOST_UNITS, or fewer: its time is over at will.
- * Reading: in every quiescent state each unit that came was taken, each look that was asked for was made, and each connection whose peer is
+ * Reading: in every quiescent state each unit that came was taken, each attempt that was asked for was made, and each connection whose peer is
  * gone, or whose session is over, was closed. All that a peer sent before its end is taken. No deadlock.
  * PAIRS: the reader of one slot, which waits in its read (run_reader, crews.rt). FLOOD: the peer of slot 0 sends for ever, and nevertheless
  * what the other one sends is taken. */
@@ -60,13 +60,13 @@ bool edge[SLOTS];
 /* -- the connection: its slot in the book, its lane, the Mutex<Talk> and what it guards */
 bool is_open[SLOTS];
 byte stage[SLOTS];
-byte due[SLOTS];         /* how many looks its end still takes */
+byte due[SLOTS];         /* how many attempts its end still takes */
 bit  talk[SLOTS];
 byte talking[SLOTS];
 byte feeder[SLOTS];
 bool has_units[SLOTS];
 
-/* -- Seat (hub.rt): its marks, and its waker */
+/* -- Mailbox (hub.rt): its marks, and its waker */
 bool mark[SLOTS];
 bool waker = false;
 
@@ -82,7 +82,7 @@ byte wakes = WAKES;
 /* ghosts */
 byte sent[SLOTS];
 byte taken[SLOTS];
-bool asked[SLOTS];       /* a look was asked for and not made yet */
+bool asked[SLOTS];       /* an attempt was asked for and not made yet */
 byte gens[SLOTS];
 
 #ifdef FLOOD
@@ -211,7 +211,7 @@ inline end_lane(s, to, most) {
     fi
 }
 
-/* ServerState::finish (serving.rt), with what a look does (lane.rt) */
+/* ServerState::finish (serving.rt), with what an attempt does (lane.rt) */
 inline finish(s) {
     atomic {
         asked[s] = false; is_pending = false; is_gone = false;
@@ -324,7 +324,7 @@ inline visit(s) {
         :: is_gone -> LOCK(talk[s]); close(s); UNLOCK(talk[s]); is_gone = false
         :: else
         fi
-    :: else                                        /* Lane::deliver_late: sooner than is asked for */
+    :: else                                        /* Lane::deliver_left: sooner than is asked for */
     fi;
     LOCK(talk[s]);
     if
@@ -350,6 +350,10 @@ inline visit(s) {
 #else
         is_odd[s] = is_odd[s] && is_now;
 #endif
+        if
+        :: is_now -> round = 0                     /* serve_round ends */
+        :: else
+        fi;
         if
         :: is_now && !is_ready[s] -> is_ready[s] = true;
 #ifdef M_IN_FRONT
@@ -417,7 +421,7 @@ proctype Peer(byte s) {
     od
 }
 
-/* Others that have the slots' finishers look */
+/* Others that ask the slots' finishers for attempts */
 proctype Waker() {
     bool was_marked = false;
     do

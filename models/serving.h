@@ -63,7 +63,7 @@ inline book_close(s) {
  * state.rt), where a round's time is over at will; and ends the connection, once its session is over. */
 inline at_lane() {
     do
-    :: has -> deliver_owed(cur)
+    :: has -> deliver_claimed(cur)
     :: !has && fin == GONE ->
         if
         :: !holds -> LOCK(talk[cur])
@@ -107,7 +107,7 @@ inline at_lane() {
 #endif
         end_lane(cur, to);
         to = SERVING
-#ifdef M_RISE_AFTER_LOOK
+#ifdef M_RISE_AFTER_ATTEMPT
     :: !has && fin != GONE && receipt_mode == RUNNING && todo == 0 && to == SERVING && rises != SERVING ->
         stage[own] = rises; rises = SERVING
 #endif
@@ -243,7 +243,7 @@ inline run_few() {
             cur = own;
             if
             :: is_called -> deliver_as(own, HURRIES)
-            :: else -> deliver_late(own)
+            :: else -> deliver_left(own)
             fi
         fi;
         at_lane();

@@ -29,12 +29,12 @@
 #ifndef DEAF
 #define DEAF 1           /* 1: peers may be deaf; 2: also after a first message; 3: also slow */
 #endif
-#ifndef LATES
-#define LATES 0
+#ifndef BLOCKS
+#define BLOCKS 0
 #endif
 #define CHOOSE_PEER(s) \
     if \
-    :: lates[s] = LATES \
+    :: blocks[s] = BLOCKS \
     :: DEAF -> deaf[s] = true \
     :: DEAF > 1 -> deaf[s] = true; room[s] = 1 \
     :: DEAF > 2 -> slow[s] = true \

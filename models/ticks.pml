@@ -73,7 +73,7 @@ inline update_time() {
 }
 
 proctype Thread() {
-    byte now = 0; bool is_first = false; byte n = 0; bool alone = false; bool turn = false;
+    byte now = 0; bool is_first = false; byte n = 0; bool alone = false; bool long_lock = false;
     do
     :: n < GRABS ->
         n++;
@@ -81,7 +81,7 @@ proctype Thread() {
         if
         :: true
         :: LOCK(batch_lock); alone = true
-        :: LOCK(long_piece_lock); turn = true; LOCK(batch_lock); alone = true
+        :: LOCK(long_piece_lock); long_lock = true; LOCK(batch_lock); alone = true
         fi;
 #endif
 #ifdef M_TIME_AFTER_THE_GRAB
@@ -95,7 +95,7 @@ proctype Thread() {
         :: else
         fi;
         if
-        :: turn -> UNLOCK(long_piece_lock); turn = false
+        :: long_lock -> UNLOCK(long_piece_lock); long_lock = false
         :: else
         fi
     :: else -> break
