@@ -1,15 +1,16 @@
 //! The table of connections.
 
-ghost use Rattle.std.specs.Prelude.{◌≡◌, ℕ, ◌<◌, ◌≤◌, ◌↔◌, ◌⊎◌, true, false, not, ◌&&◌, ◌==◌, [], ◌++◌, ◌+◌, IsTrue, length, slice_get};
+ghost use Rattle.std.specs.Prelude.{◌≡◌, ℕ, ◌<◌, ◌≤◌, ◌↔◌, ◌⊎◌, true, false, not, ◌&&◌, ◌==◌, [], IsTrue, length, slice_get};
 ghost use Rattle.std.specs.Prelude.{IfSome, IfNone, IfOk, IfErr, OnOk, OnErr, Err};
 ghost use Rattle.gm_conns.specs.Connections.{closed, opened, shut, with_option, with_phase, with_id, with_ability, without_ability};
-ghost use Rattle.gm_conns.specs.Connections.{without_abilities, with_last, with_room, with_bytes, drained, index_of, timeout_of};
+ghost use Rattle.gm_conns.specs.Connections.{without_abilities, with_last, index_of, timeout_of};
 ghost use Rattle.gm_conns.specs.ConnTables.{conn, IsOpen, is_touched, able_count, is_sleeper, Changes, IsLeastFree, IsFull, LosesAbilities};
+
+mod waiting;
 
 use crate::able::{AbleSet, cover};
 use crate::conn::Conn;
 use crate::slot_set::SlotSet;
-use gm_bytes::{ByteQueue, SharedBytes};
 use gm_notes::{ApplyError, Phase};
 use std::alloc::{AllocError, Global};
 use std::marker::Model;
@@ -337,61 +338,6 @@ impl Conns {
             Some(able) => self.asleep.next_in_both(able.slots(), from),
             None => None,
         }
-    }
-
-    /// Makes room for `n` bytes beyond those that wait. Two calls don't add up.
-    pub fn reserve_out(&mut self, slot: u32, n: usize) -> Result<(), AllocError>
-        requires { IsOpen self.old slot }
-        ensures ok { OnOk result (Changes slot (with_room n) false self.old self.new) }
-        ensures err { OnErr result (self.new ≡ self.old) }
-    {
-        let conn = &mut self.conns[slot as usize];
-        conn.reserve(n)
-    }
-
-    /// The bytes wait for the connection, behind the others, in reserved room.
-    pub fn put_out(&mut self, slot: u32, bytes: &[u8])
-        requires open { IsOpen self.old slot }
-        requires room { length bytes.now ≤ (conn self.old slot).room }
-        ensures { Changes slot (with_bytes bytes.now (length bytes.now)) true self.old self.new }
-    {
-        let conn = &mut self.conns[slot as usize];
-        conn.put(bytes);
-        self.touched.insert(slot);
-    }
-
-    /// The head and the tail wait for the connection, behind the others, in reserved room: the tail, which is shared, takes
-    /// `SHARED_ROOM` of it.
-    pub fn put_shared(&mut self, slot: u32, head: &[u8], tail: SharedBytes)
-        requires open { IsOpen self.old slot }
-        requires room { length head.now + 512 ≤ (conn self.old slot).room }
-        ensures { Changes slot (with_bytes (head.now ++ tail) (length head.now + 512)) true self.old self.new }
-    {
-        let conn = &mut self.conns[slot as usize];
-        conn.put_shared(head, tail);
-        self.touched.insert(slot);
-    }
-
-    /// What waits for the connection.
-    pub fn waiting(&self, slot: u32) -> &ByteQueue
-        requires { IsOpen self.now slot }
-        ensures bytes { result.now.bytes ≡ (conn self.now slot).waiting }
-        ensures room { result.now.room ≡ (conn self.now slot).room }
-    {
-        let conn = &self.conns[slot as usize];
-        conn.queue()
-    }
-
-    /// Takes out the bytes that wait. No room is reserved then.
-    pub fn drain(&mut self, slot: u32) -> ByteQueue
-        requires { IsOpen self.old slot }
-        ensures bytes { result.bytes ≡ (conn self.old slot).waiting }
-        ensures rest { Changes slot drained true self.old self.new }
-    {
-        let conn = &mut self.conns[slot as usize];
-        let bytes = conn.drain();
-        self.touched.insert(slot);
-        bytes
     }
 
     /// The least slot that was touched since it was last taken, which is taken out: a slot is touched when

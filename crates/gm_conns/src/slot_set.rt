@@ -86,6 +86,17 @@ impl SlotSet {
         }
     }
 
+    /// Whether a slot is in the set.
+    pub fn contains(&self, slot: u32) -> bool
+        ensures value { result ≡ has self.now slot }
+        ensures within { IsTrue result → slot < 1024 }
+    {
+        match self.words.get(slot as usize / 64) {
+            Some(word) => (*word >> (slot % 64)) % 2 == 1,
+            None => false,
+        }
+    }
+
     /// The least slot of the set from `from` on.
     pub fn next(&self, from: u32) -> Option<u32>
         ensures found { IfSome result (λ r. (from ≤ r) × (r < 1024) × IsTrue (has self.now r)) }
@@ -108,6 +119,9 @@ impl SlotSet {
         ensures least { IfSome result (λ r. (i : ℕ) → from ≤ i → i < r → (has self.now i && has other.now i) ≡ false) }
         ensures none { IfNone result ((i : ℕ) → from ≤ i → (has self.now i && has other.now i) ≡ false) }
     {
+        if self.used & other.used == 0 {
+            return None;
+        }
         let at = from / 64;
         let Some(word) = self.words.get(at as usize) else {
             return None;

@@ -222,7 +222,7 @@ impl Deadlines {
     }
 
     /// The job of a number runs until this deadline, if there is one.
-    pub(crate) fn note(&mut self, jobs: &JobMap, number: u64, deadline: Option<u64>)
+    pub(crate) fn enlist(&mut self, jobs: &JobMap, number: u64, deadline: Option<u64>)
         requires others { (n : ℕ) (live : Live) → n ≢ number → find_job jobs.now.entries n ≡ Some live → IsListed self.old n live }
         requires this { (live : Live) → find_job jobs.now.entries number ≡ Some live → live.deadline ≡ deadline }
         ensures { AllListed jobs.now.entries self.new }

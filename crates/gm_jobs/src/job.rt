@@ -1,16 +1,17 @@
 //! What is known of one job.
 
-ghost use Rattle.std.specs.Prelude.{◌≡◌, ◌≤◌, ◌&&◌, ◌==◌, [], length, false, IsOk, IfSome, ◌<◌, IfOk, OnOk, OnErr, Some, None};
-ghost use Rattle.std.specs.Option.{option_map, unwrap_or};
-ghost use Rattle.std.specs.Vec.{vec_capacity};
-ghost use Rattle.gm_jobs.specs.Live.{Live, body_bytes, fresh, given_back, reported, with_listener, without_listener, place_at, is_named, is_run_by, is_orphan, is_due, is_last_try, waits, runs_at};
+ghost use Rattle.std.specs.Prelude.{◌≡◌, ◌&&◌, ◌==◌, false, IsOk, IfSome, ◌<◌, OnOk, OnErr, Some, None};
+ghost use Rattle.std.specs.Option.{option_map};
+ghost use Rattle.gm_jobs.specs.Live.{Live, body_bytes, given_back, reported, with_listener, without_listener, place_at, is_named, is_run_by, is_orphan, is_due, is_last_try, waits, runs_at};
 ghost use Rattle.gm_jobs.specs.Queries.{meets};
-ghost use Rattle.gm_jobs.specs.Tables.{Room};
 ghost use Rattle.gm_jobs.specs.Changes.{changed, takes_memory};
 ghost use Rattle.gm_jobs.specs.Links.{stands_in};
 
+mod reservation;
+
 use gm_bytes::{Data, SharedBytes};
 use gm_notes::{MAX_SLOTS, Place, Priority};
+pub(crate) use reservation::Reservation;
 use std::alloc::{AllocError, Global};
 use std::marker::Model;
 
@@ -358,100 +359,5 @@ impl Job {
             }
         }
         Ok(())
-    }
-}
-
-/// The memory for one job's texts, and for its first listener.
-#[derive(Drop)]
-pub(crate) struct Reservation {
-    f: u32,
-    unique: Vec<u8>,
-    body: Vec<u8>,
-    listeners: Vec<u32>,
-}
-
-impl Model for Reservation {
-    ghost use Rattle.std.specs.Prelude.{◌≡◌, ◌<◌, []};
-    ghost use Rattle.std.specs.Vec.{vec_capacity};
-    ghost use Rattle.gm_jobs.specs.Tables.{Room};
-
-    ghost Value = { Room };
-
-    ghost view = { λ s. record { function = s.f; unique_len = vec_capacity s.unique; body_len = vec_capacity s.body } };
-
-    ghost invariant = { λ s. (s.unique.items ≡ []) × (s.body.items ≡ []) × (s.listeners.items ≡ []) × (0 < vec_capacity s.listeners) };
-}
-
-// The body: the shared one, if there is one, and otherwise the bytes, in this memory.
-fn fill_body(mut memory: Vec<u8>, bytes: &[u8], shared: Option<SharedBytes>) -> Body
-    requires empty { memory.items ≡ [] }
-    requires room { length bytes.now ≤ vec_capacity memory }
-    ensures { body_bytes result ≡ unwrap_or shared bytes.now }
-{
-    match shared {
-        Some(shared) => Body::Shared(shared),
-        None => {
-            let _body = memory.extend_from_slice(bytes);
-            Body::Own(memory)
-        }
-    }
-}
-
-impl Reservation {
-    pub(crate) fn new(
-        alloc: Global,
-        f: u32,
-        unique_len: usize,
-        body_len: usize,
-    ) -> Result<Reservation, AllocError>
-        ensures { IfOk result (λ room. room ≡ record { function = f; unique_len = unique_len; body_len = body_len }) }
-    {
-        Ok(Reservation {
-            f,
-            unique: Vec::with_capacity(alloc, unique_len)?,
-            body: Vec::with_capacity(alloc, body_len)?,
-            listeners: Vec::with_capacity(alloc, 1)?,
-        })
-    }
-
-    /// The job, in this memory. A shared body takes the place of the one that it says.
-    pub(crate) fn fill(
-        self,
-        alloc: Global,
-        new: NewJob<'_>,
-        shared: Option<SharedBytes>,
-        digest: u64,
-    ) -> Job
-        requires unique { length new.unique.now ≤ self.unique_len }
-        requires body { length new.body.now ≤ self.body_len }
-        ensures { result ≡ fresh new.entry.f new.entry.p new.entry.unique.now (unwrap_or shared new.entry.body.now) new.entry.kept new.entry.listener }
-    {
-        let Reservation {
-            f: _,
-            mut unique,
-            body,
-            mut listeners,
-        } = self;
-        let _unique = unique.extend_from_slice(new.unique);
-        let body = fill_body(body, new.body, shared);
-        match new.listener {
-            Some(slot) => {
-                let _listens = listeners.push(slot);
-            }
-            None => listeners = Vec::new(alloc),
-        }
-        Job {
-            f: new.f,
-            p: new.p,
-            kept: new.kept,
-            live_place: LivePlace::Waiting,
-            digest,
-            returns: 0,
-            deadline: None,
-            unique,
-            body,
-            report: None,
-            listeners,
-        }
     }
 }

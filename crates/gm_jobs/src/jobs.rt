@@ -244,7 +244,7 @@ impl Jobs {
         ensures { Changes n (assigned slot deadline) self.old self.new }
     {
         let _changed = self.jobs.change(n, Change::Assign(slot, deadline));
-        self.deadlines.note(&self.jobs, n, deadline);
+        self.deadlines.enlist(&self.jobs, n, deadline);
     }
 
     // Whether the worker of a live job is the last that it is given to, where there is a limit.
@@ -266,7 +266,7 @@ impl Jobs {
         let is_lost = self.is_last_try(n, limit);
         let _changed = self.jobs.change(n, Change::GiveBack(limit));
         if is_lost {
-            self.deadlines.note(&self.jobs, n, Some(0));
+            self.deadlines.enlist(&self.jobs, n, Some(0));
             Back::Lost
         } else {
             Back::Returned

@@ -2,7 +2,8 @@ use Rattle.std.proofs.Common.{◌≡◌, ◌+◌, ◌*◌, ◌/◌, ◌%◌, ◌
 use Rattle.std.proofs.lemmas.Bool.{cases_lt}
 use Rattle.std.specs.Int.{bit_at}
 use Rattle.gm_conns.specs.Slots.{has}
-use Rattle.gm_conns.proofs.SlotLemmas.{has_both, has_none}
+use Rattle.std.proofs.lemmas.Nat.Bits.{bit_at-zero}
+use Rattle.gm_conns.proofs.SlotLemmas.{has_between, has_both, has_none, past_both}
 use Rattle.gm_conns.proofs.slot_set.SlotSet.next_in_both.Goals as goal
 
 lift_some : (r : Option ℕ) (P Q : ℕ → Type 0) → ((x : ℕ) → P x → Q x) → IfSome r P → IfSome r Q
@@ -19,6 +20,14 @@ module _ (words other : List ℕ) (from word : ℕ) (is : word ≡ get_or words 
   in_word : (i : ℕ) → from ≤ i → i < (from / 64 + 1) * 64 → (has words i && has other i) ≡ false
   in_word i low high =
       has_none words other (from / 64) (from % 64) 64 (omega arith) (λ r l h. ap (λ w. bit_at (bit_and w (get_or other (from / 64) 0)) r) (sym is) ∙ none r l h) i (omega (arith, low)) (omega (arith, high))
+
+pub returns-then-self-other-eq0-clause-none : goal.returns-then-self-other-eq0-clause-none
+returns-then-self-other-eq0-clause-none c = λ i low.
+    (λ j. has (sym c.self.view_is j) i && has (sym c.other.view_is j) i)
+    ∙ elim (cases_lt i 1024) [
+      | inl within ↦ has_between c.self.inside.used c.self.inside.words c.self.invariant.1 c.other.inside.used c.other.inside.words c.other.invariant.1 0 16 (λ at l h. ap (λ u. bit_at u at) c.if-self-other-eq0.true ∙ bit_at-zero at) i (omega arith) (omega (arith, within))
+      | inr past ↦ past_both c.self.inside.words c.other.inside.words i c.self.invariant.0 past
+    ]
 
 pub returns-in-Some-first_bit-clause-found : goal.returns-in-Some-first_bit-clause-found
 returns-in-Some-first_bit-clause-found c =

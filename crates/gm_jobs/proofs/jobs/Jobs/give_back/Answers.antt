@@ -4,17 +4,17 @@ use Rattle.gm_jobs.specs.Tables.{Table, job, passes}
 use Rattle.gm_jobs.proofs.JobLemmas.{beside, kept_changed, listed_of, listed_others, listed_given_back, given_back_same}
 use Rattle.gm_jobs.proofs.jobs.Jobs.give_back.Goals as goal
 
-pub note-requires-clause-others : goal.note-requires-clause-others
-note-requires-clause-others c =
+pub enlist-requires-clause-others : goal.enlist-requires-clause-others
+enlist-requires-clause-others c =
     let t = c.self.inside in
     listed_others c.args.n (given_back c.args.limit) t.jobs.entries c.change-changed.new.self.entries (c.change-changed.ensures.free refl) t.deadlines (listed_of (beside t) t.jobs.entries t.reservation _ c.self.invariant)
 
 pub invariant_of-self : goal.invariant_of-self
 invariant_of-self c =
     let t = c.self.inside in
-    kept_changed (beside t) c.args.n (given_back c.args.limit) t.jobs.entries c.change-changed.new.self.entries t.listening c.note.new.self t.reservation _ _ c.self.invariant (c.change-changed.ensures.free refl)
+    kept_changed (beside t) c.args.n (given_back c.args.limit) t.jobs.entries c.change-changed.new.self.entries t.listening c.enlist.new.self t.reservation _ _ c.self.invariant (c.change-changed.ensures.free refl)
     (λ l. given_back_same c.args.limit l (λ x. x.function) refl refl) (λ l. given_back_same c.args.limit l (λ x. x.unique) refl refl) c.change-changed.ensures.room
-    (λ d m s h. h) (λ l d there. inl (subst (λ ls. Contains ls d) (given_back_same c.args.limit l (λ x. x.listeners) refl refl) there)) (λ e. e) c.note.ensures
+    (λ d m s h. h) (λ l d there. inl (subst (λ ls. Contains ls d) (given_back_same c.args.limit l (λ x. x.listeners) refl refl) there)) (λ e. e) c.enlist.ensures
 
 pub invariant_of-self-else-is_lost : goal.invariant_of-self-else-is_lost
 invariant_of-self-else-is_lost c =

@@ -4,7 +4,7 @@ use Rattle.gm_jobs.specs.Tables.{find_job}
 use Rattle.gm_jobs.specs.MinHeap.{Has}
 use Rattle.gm_jobs.specs.Deadlines.{DeadlineTable, IsListed}
 use Rattle.gm_jobs.proofs.NumberLemmas.{not_some}
-use Rattle.gm_jobs.proofs.deadlines.Deadlines.note.Goals as goal
+use Rattle.gm_jobs.proofs.deadlines.Deadlines.enlist.Goals as goal
 
 number : (x y : ℕ) → Some x ≡ Some y → x ≡ y
 number x y h = cc
