@@ -9,6 +9,7 @@ ghost use Rattle.gm_notes.specs.Past.{Past};
 ghost use Rattle.gm_notes.specs.Lines.{command, maxqueue, fault_error, is_bad_word};
 ghost use Rattle.gm_actions.specs.Lines.{obeyed, NamesFunction};
 
+use crate::reading::MAX_NAME;
 use gm_admin::{AdminError, AdminFault, Command};
 
 /// What is answered to a line that is no command.
@@ -29,11 +30,11 @@ fn has_nul(bytes: &[u8]) -> bool
     bytes.iter().any(|b| *b == 0)
 }
 
-/// Whether a word can't be a function's name: it has over 512 bytes, or a NUL.
+/// Whether a word can't be a function's name: it is too long, or has a NUL.
 fn is_bad_word(word: &[u8]) -> bool
     ensures { result ≡ is_bad_word word.now }
 {
-    word.len() > 512 || has_nul(word)
+    word.len() > MAX_NAME || has_nul(word)
 }
 
 /// The limit of a function, unless the word can't be one's name.

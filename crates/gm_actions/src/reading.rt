@@ -37,11 +37,14 @@ fn find_fault(kind: u32) -> Refusal
     }
 }
 
-/// Whether a function's name is empty, or has over 512 bytes.
+/// The most bytes of a function's name.
+pub(crate) const MAX_NAME: usize = 512;
+
+/// Whether a function's name is empty, or too long.
 fn is_bad_name(function: &[u8]) -> bool
     ensures { result ≡ is_bad_name function.now }
 {
-    function.is_empty() || function.len() > 512
+    function.is_empty() || function.len() > MAX_NAME
 }
 
 /// Whether there is an option of this name: there is one.

@@ -20,7 +20,7 @@ use Rattle.gm_notes.specs.Lines.{shut_one, shut_each, go_graceful, shutdown, com
 use Rattle.gm_admin.specs.Answers.{ok_text}
 use Rattle.gm_notes.specs.Steps.{Step, Open, Line, Fault, free_from, free_slot, opening, if_free, if_accepted, unless, add, step, run}
 use Rattle.gm_notes.specs.Steps.{unless_not_open}
-use Rattle.gm_laws.specs.History.{stage, Allowed, History}
+use Rattle.gm_laws.specs.History.{progress, Allowed, History}
 use Rattle.gm_laws.specs.Causes.{Caused, Commands, closes}
 use Rattle.gm_laws.specs.Laws.{ModesNeverGoBack}
 use Rattle.gm_laws.proofs.Finding.{same_number}
@@ -33,13 +33,13 @@ use Rattle.gm_laws.proofs.StepLaws.{note_law, taken_is}
 
 -- ---- the mode
 
-later_mode : (k : Settings) (first : Mode) (note : Note) (older : List Note) → Allowed k note older → stage first ≤ stage (mode older) → stage first ≤ stage (mode (note ∷ older))
+later_mode : (k : Settings) (first : Mode) (note : Note) (older : List Note) → Allowed k note older → progress first ≤ progress (mode older) → progress first ≤ progress (mode (note ∷ older))
 later_mode k first (notes.Went m) older allowed p = omega arith
 later_mode k first note older allowed p = p
 
 module _ (k : Settings) (s : Step) (start : Past) (history : History k start.notes) where
-  never_back : stage (mode start.notes) ≤ stage (mode (step k s start).notes)
-  never_back = note_law k s start history (λ l. stage (mode start.notes) ≤ stage (mode l)) (λ note older allowed cause h p. later_mode k (mode start.notes) note older allowed p) (omega arith)
+  never_back : progress (mode start.notes) ≤ progress (mode (step k s start).notes)
+  never_back = note_law k s start history (λ l. progress (mode start.notes) ≤ progress (mode l)) (λ note older allowed cause h p. later_mode k (mode start.notes) note older allowed p) (omega arith)
 
   -- a stop comes of the line that says so
   abbrev StoppedSo : List Note → Type 0
@@ -198,13 +198,13 @@ run_shut k (s ∷ steps) stopped = all_shut k (run k steps) (run_history k steps
 
 -- a shutdown line of a slot that takes units
 shutdown_line : (k : Settings) (start : Past) (c : ℕ) (graceful : Bool) (r : Result Commanded AdminFault) → r ≡ Ok (Shutdown graceful)
-    → cond graceful (stage Graceful) (stage Stopped) ≤ stage (mode (command k c r start).notes)
-shutdown_line k start c graceful r is = subst (λ x. cond graceful (stage Graceful) (stage Stopped) ≤ stage (mode (command k c x start).notes)) (sym is) (by graceful)
+    → cond graceful (progress Graceful) (progress Stopped) ≤ progress (mode (command k c r start).notes)
+shutdown_line k start c graceful r is = subst (λ x. cond graceful (progress Graceful) (progress Stopped) ≤ progress (mode (command k c x start).notes)) (sym is) (by graceful)
   where
-    went : (m : Mode) → mode start.notes ≡ m → stage Graceful ≤ stage (mode (go_graceful m start).notes)
+    went : (m : Mode) → mode start.notes ≡ m → progress Graceful ≤ progress (mode (go_graceful m start).notes)
     went Running is = omega arith
-    went Graceful is = subst (λ m. 1 ≤ stage m) (sym is) (omega arith)
-    went Stopped is = subst (λ m. 1 ≤ stage m) (sym is) (omega arith)
+    went Graceful is = subst (λ m. 1 ≤ progress m) (sym is) (omega arith)
+    went Stopped is = subst (λ m. 1 ≤ progress m) (sym is) (omega arith)
 
     shut_mode : (slots : List ℕ) (past : Past) → mode (shut_each slots past).notes ≡ mode past.notes
     shut_mode [] past = refl
@@ -212,16 +212,16 @@ shutdown_line k start c graceful r is = subst (λ x. cond graceful (stage Gracef
         shut_mode slots (shut_one d past)
         ∙ kept_if (λ l. mode l ≡ mode past.notes) (is_open d past.notes && not (is_shut d past.notes)) (with_note (notes.Shut d) past) past refl refl
 
-    by : (t : Bool) → cond t (stage Graceful) (stage Stopped) ≤ stage (mode (shutdown k c t start).notes)
+    by : (t : Bool) → cond t (progress Graceful) (progress Stopped) ≤ progress (mode (shutdown k c t start).notes)
     by true = went (mode start.notes) refl
-    by false = subst (λ m. 2 ≤ stage m) (sym (shut_mode (slots_from 0 k.slots) (with_output c ok_text (with_note (notes.Went Stopped) start)))) (omega arith)
+    by false = subst (λ m. 2 ≤ progress m) (sym (shut_mode (slots_from 0 k.slots) (with_output c ok_text (with_note (notes.Went Stopped) start)))) (omega arith)
 
 shutdown_does : (k : Settings) (s : Step) (start : Past) (c : ℕ) (line : List ℕ) (graceful : Bool) → s ≡ Line c line → Commands s (Shutdown graceful) → takes_units c start.notes ≡ true
-    → cond graceful (stage Graceful) (stage Stopped) ≤ stage (mode (step k s start).notes)
+    → cond graceful (progress Graceful) (progress Stopped) ≤ progress (mode (step k s start).notes)
 shutdown_does k s start c line graceful is asks takes =
     let reads : command_of line ≡ Ok (Shutdown graceful) = subst (λ x. Commands x (Shutdown graceful)) is asks in
-    subst (λ x. cond graceful (stage Graceful) (stage Stopped) ≤ stage (mode (step k x start).notes)) (sym is)
-    (subst (λ (past : Past). cond graceful (stage Graceful) (stage Stopped) ≤ stage (mode past.notes)) (sym (taken_is (takes_units c start.notes) (command k c (command_of line) start) start takes))
+    subst (λ x. cond graceful (progress Graceful) (progress Stopped) ≤ progress (mode (step k x start).notes)) (sym is)
+    (subst (λ (past : Past). cond graceful (progress Graceful) (progress Stopped) ≤ progress (mode past.notes)) (sym (taken_is (takes_units c start.notes) (command k c (command_of line) start) start takes))
     (shutdown_line k start c graceful (command_of line) reads))
 
 -- a free slot is found

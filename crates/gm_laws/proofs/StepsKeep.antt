@@ -52,7 +52,7 @@ use Rattle.gm_notes.specs.Closings.{close, is_reached, expire_one, expire_each, 
 use Rattle.gm_notes.specs.Steps.{Step, Open, Packet, Line, Fault, Close, Tick, Took, Withdrew, Drain, free_slot, opening}
 use Rattle.gm_notes.specs.Steps.{refusal, unless_not_open, unless, add, step, run}
 use Rattle.gm_notes.proofs.FreeSlots.{free_is}
-use Rattle.gm_laws.specs.History.{runs_at_a_slot, stage, Allowed, History}
+use Rattle.gm_laws.specs.History.{runs_at_a_slot, progress, Allowed, History}
 use Rattle.gm_laws.specs.Causes.{is_one_of, asks, is_request, is_submission, is_foreground, is_background, is_enabling}
 use Rattle.gm_laws.specs.Causes.{is_sleeping, is_grab, is_ending, is_closing, closes}
 use Rattle.gm_laws.specs.Causes.{priority_of, seconds_of, Commands, Ends}
@@ -224,7 +224,7 @@ module _ {k : Settings} {before : List Note} {s : Step} {I : Past → Type 0} (K
   shut_each_keeps (d ∷ slots) past may h = shut_each_keeps slots (shut_one d past) may (shut_one_keeps d past may h)
 
   went_keeps : (m : Mode) (past : Past) → mode past.notes ≡ m → Commands s (Shutdown true) → Held k I past → Held k I (go_graceful m past)
-  went_keeps modes.Running past is may h = note_keeps K (notes.Went modes.Graceful) past refl (subst (λ m. stage m ≤ 1) (sym is) (omega arith)) may h
+  went_keeps modes.Running past is may h = note_keeps K (notes.Went modes.Graceful) past refl (subst (λ m. progress m ≤ 1) (sym is) (omega arith)) may h
   went_keeps modes.Graceful past is may h = h
   went_keeps modes.Stopped past is may h = h
 
@@ -233,16 +233,16 @@ module _ {k : Settings} {before : List Note} {s : Step} {I : Past → Type 0} (K
   went_open modes.Graceful past opened = opened
   went_open modes.Stopped past opened = opened
 
-  last_stage : (m : Mode) → stage m ≤ 2
-  last_stage modes.Running = omega arith
-  last_stage modes.Graceful = omega arith
-  last_stage modes.Stopped = omega arith
+  most_progress : (m : Mode) → progress m ≤ 2
+  most_progress modes.Running = omega arith
+  most_progress modes.Graceful = omega arith
+  most_progress modes.Stopped = omega arith
 
   shutdown_keeps : (graceful : Bool) (past : Past) → Commands s (Shutdown graceful) → is_open c past.notes ≡ true → Held k I past → Held k I (shutdown k c graceful past)
   shutdown_keeps true past may opened h = says ok_text (go_graceful (mode past.notes) past) (went_open (mode past.notes) past opened) ok_other (went_keeps (mode past.notes) past refl may h)
   shutdown_keeps false past may opened h =
       shut_each_keeps (slots_from 0 k.slots) (with_output c ok_text (with_note (notes.Went modes.Stopped) past)) may
-      (says ok_text (with_note (notes.Went modes.Stopped) past) opened ok_other (note_keeps K (notes.Went modes.Stopped) past refl (last_stage (mode past.notes)) may h))
+      (says ok_text (with_note (notes.Went modes.Stopped) past) opened ok_other (note_keeps K (notes.Went modes.Stopped) past refl (most_progress (mode past.notes)) may h))
 
   refuses_line : (error : AdminError) (past : Past) → is_open c past.notes ≡ true → Held k I past → Held k I (refuse_line c error past)
   refuses_line error past opened h = says (error_text error) past opened (refusal_other error) h

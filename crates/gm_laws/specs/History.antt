@@ -32,10 +32,10 @@ abbrev pub IsBelowLimit : List ℕ → List Note → Type 0
 IsBelowLimit f notes = (limit f notes ≡ 0) ⊎ (total f notes < limit f notes)
 
 -- the modes in the order in which they come
-abbrev pub stage : Mode → ℕ
-stage modes.Running = 0
-stage modes.Graceful = 1
-stage modes.Stopped = 2
+abbrev pub progress : Mode → ℕ
+progress modes.Running = 0
+progress modes.Graceful = 1
+progress modes.Stopped = 2
 
 -- when a note may be added to the older ones
 abbrev pub Allowed : Settings → Note → List Note → Type 0
@@ -70,7 +70,7 @@ Allowed k (Report n a b) older = runs_at_a_slot (job_state n older) ≡ true
 Allowed k (Mention f) older = (is_mentioned f older ≡ false) × (length (functions older) < k.max_functions)
 Allowed k (Limit f size) older = is_mentioned f older ≡ true
 Allowed k (Now t) older = moment older ≤ t
-Allowed k (Went m) older = stage (mode older) ≤ stage m
+Allowed k (Went m) older = progress (mode older) ≤ progress m
 
 -- every note was allowed when it was added; the newest comes first
 abbrev pub History : Settings → List Note → Type 0

@@ -17,7 +17,7 @@ use Rattle.gm_notes.specs.JobStates as states
 use Rattle.gm_notes.specs.Steps.{Step, Open, Packet, Line, Fault, Close, Took, Withdrew, Drain, refusal, done, step, run}
 use Rattle.gm_notes.specs.Past.{Past}
 use Rattle.gm_notes.specs.Servers.{owes, is_closing as has_shut}
-use Rattle.gm_laws.specs.History.{Gets, stage}
+use Rattle.gm_laws.specs.History.{Gets, progress}
 use Rattle.gm_laws.specs.Causes.{Ends, Commands, AllCaused, AllSaid, asks, is_grab, is_sleeping, is_one_of, is_closing, closes}
 
 -- P holds of the notes after any steps
@@ -148,9 +148,9 @@ OnlyDrainsTake k before s after = (c : ℕ) → takes_from c s ≡ false → IsP
 -- a mode never goes back; `shutdown graceful` of a slot that takes units makes it Graceful at least, and `shutdown` makes it Stopped
 abbrev pub ModesComeInOrder : Past → Step → Past → Type 0
 ModesComeInOrder before s after =
-    (stage (mode before.notes) ≤ stage (mode after.notes))
+    (progress (mode before.notes) ≤ progress (mode after.notes))
     × ((c : ℕ) (line : List ℕ) (graceful : Bool) → s ≡ Line c line → Commands s (Shutdown graceful) → takes_units c before.notes ≡ true →
-    (if graceful then stage Graceful else stage Stopped) ≤ stage (mode after.notes))
+    (if graceful then progress Graceful else progress Stopped) ≤ progress (mode after.notes))
 
 -- only a running server opens connections, and it opens one if a slot is free
 abbrev pub OpensWhileItRuns : Settings → Past → Step → Past → Type 0

@@ -2,6 +2,7 @@
 
 ghost use Rattle.std.specs.Prelude.{◌≡◌, ◌≤◌, false, IfSome, OnOk, OnErr, length};
 ghost use Rattle.gm_packet.specs.Answers.{answer_of, answer_packet};
+ghost use Rattle.gm_packet.specs.Packets.{Fits};
 ghost use Rattle.gm_conns.specs.Connections.{with_room};
 ghost use Rattle.gm_conns.specs.ConnTables.{IsOpen, conn, Changes};
 ghost use Rattle.gm_notes.specs.Past.{with_output, give, refuse};
@@ -14,11 +15,10 @@ use crate::written::Written;
 use gm_actions::Refusal;
 use gm_bytes::Data;
 use gm_conns::Conns;
-use gm_packet::{Response, response_fits};
+use gm_packet::Response;
 use std::alloc::AllocError;
 
-/// Writes a packet, whose last argument may be this body, and makes room for it at a slot. A packet that can't carry its
-/// texts is refused as if out of memory: what came in a packet fits one.
+/// Writes a packet, whose last argument may be this body, and makes room for it at a slot.
 pub(super) fn prepare(
     conns: &mut Conns,
     text: &mut Written,
@@ -27,15 +27,13 @@ pub(super) fn prepare(
     body: Option<&Data<'_>>,
 ) -> Result<(), AllocError>
     requires open { IsOpen conns.old slot }
+    requires fits { Fits (answer_of response.now).arguments }
     requires ends { IfSome body (λ body. EndsWith body.now.bytes.now (answer_of response.now)) }
     ensures text { OnOk result (text.new.bytes ≡ answer_packet (answer_of response.now)) }
     ensures owned { OnOk result (IsFor 1 text.new) }
     ensures conns { OnOk result (Changes slot (with_room text.new.cost) false conns.old conns.new) }
     ensures err { OnErr result (conns.new ≡ conns.old) }
 {
-    if !response_fits(response) {
-        return Err(AllocError);
-    }
     text.write(response, body)?;
     text.own(1)?;
     let cost = text.cost()?;
@@ -79,6 +77,7 @@ impl Core {
         body: Option<&Data<'_>>,
     ) -> Result<(), AllocError>
         requires open { IsOpen self.old.conns slot }
+        requires fits { Fits (answer_of response.now).arguments }
         requires ends { IfSome body (λ body. EndsWith body.now.bytes.now (answer_of response.now)) }
         ensures does { Does self.old result self.new (give slot (answer_of response.now)) }
         ensures open { IsOpen self.new.conns slot }

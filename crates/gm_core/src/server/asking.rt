@@ -5,7 +5,7 @@ ghost use Rattle.std.specs.Option.{unwrap_or};
 ghost use Rattle.gm_conns.specs.ConnTables.{IsOpen};
 ghost use Rattle.gm_notes.specs.Jobs.{job_state, job_of_handle};
 ghost use Rattle.gm_notes.specs.JobStates.{is_live};
-ghost use Rattle.gm_actions.specs.Actions.{report_of};
+ghost use Rattle.gm_actions.specs.Actions.{IsWord, report_of};
 ghost use Rattle.gm_actions.specs.Effects.{known_told, unknown_told};
 ghost use Rattle.gm_notes.specs.Past.{Past};
 ghost use Rattle.gm_notes.specs.Requests.{tell_status};
@@ -14,6 +14,7 @@ use super::Core;
 use super::answering::prepare;
 use gm_actions::{Report, known_status, number_in, unknown_status};
 use gm_jobs::Job;
+use gm_packet::response_fits;
 use std::alloc::AllocError;
 
 /// How far a job is: a numerator and a denominator, `0` and `0` until it is told.
@@ -46,7 +47,8 @@ impl Core {
 
     /// Tells a slot what is known of the job that a handle names.
     pub(super) fn tell_status(&mut self, slot: u32, handle: &[u8]) -> Result<(), AllocError>
-        requires { IsOpen self.old.conns slot }
+        requires open { IsOpen self.old.conns slot }
+        requires word { IsWord handle.now }
         ensures { Does self.old result self.new (λ past. tell_status self.old.config slot handle.now (job_of_handle self.old.config handle.now past.notes) past) }
     {
         let Some(job) = self.job_of_handle(handle) else {
@@ -76,13 +78,17 @@ impl Core {
         };
         let running = found.place().is_running();
         let response = known_status(handle, running, report_of(found));
+        if !response_fits(&response) {
+            return Err(AllocError);
+        }
         prepare(&mut self.conns, &mut self.text, slot, &response, None)?;
         self.send(slot);
         Ok(())
     }
 
     fn tell_unknown(&mut self, slot: u32, handle: &[u8]) -> Result<(), AllocError>
-        requires { IsOpen self.old.conns slot }
+        requires open { IsOpen self.old.conns slot }
+        requires word { IsWord handle.now }
         ensures { Does self.old result self.new (unknown_told slot handle.now) }
     {
         self.answer(slot, &unknown_status(handle), None)

@@ -19,7 +19,7 @@ use super::abilities::Choice;
 use super::answering::prepare;
 use gm_actions::{JobRef, assignment, deadline_after, handle};
 use gm_notes::Priority;
-use gm_packet::Response;
+use gm_packet::{Response, response_fits};
 use std::alloc::AllocError;
 
 impl Core {
@@ -58,6 +58,9 @@ impl Core {
             body: job.body(),
         };
         let response = assignment(&handle, &view, with_unique);
+        if !response_fits(&response) {
+            return Err(AllocError);
+        }
         let body = job.data();
         prepare(
             &mut self.conns,

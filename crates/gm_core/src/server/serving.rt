@@ -1,6 +1,6 @@
 //! Requests as they come.
 
-ghost use Rattle.std.specs.Prelude.{IsErrOf, OnErr, IfOk, ◌≡◌, ◌↔◌, ◌^◌, ℕ, List, true};
+ghost use Rattle.std.specs.Prelude.{IsErrOf, OnErr, IfOk, ◌≡◌, ◌≤◌, ◌↔◌, ◌^◌, ℕ, List, length, true};
 ghost use Rattle.std.specs.Option.{unwrap_or};
 ghost use Rattle.gm_packet.specs.Answers.{echo_res};
 ghost use Rattle.gm_conns.specs.ConnTables.{IsOpen};
@@ -8,7 +8,7 @@ ghost use Rattle.gm_notes.specs.Past.{give};
 ghost use Rattle.gm_notes.specs.Servers.{Answers, steps_after};
 ghost use Rattle.gm_notes.specs.Settings.{Settings};
 ghost use Rattle.gm_notes.specs.Steps.{Step, Packet};
-ghost use Rattle.gm_actions.specs.Actions.{act, acted, IsNamed, acts_without_memory, ActsWithoutMemory};
+ghost use Rattle.gm_actions.specs.Actions.{act, acted, IsNamed, CanBeTold, acts_without_memory, ActsWithoutMemory};
 ghost use Rattle.gm_actions.specs.ReadEvents.{ReadsPacket};
 
 use super::Core;
@@ -41,6 +41,7 @@ impl Core {
         freed: &mut Option<SharedBytes>,
     ) -> Result<Done, ApplyError>
         requires named { IfOk action.now IsNamed }
+        requires told { IfOk action.now CanBeTold }
         ensures answers { (kind : ℕ) (bytes : List ℕ) → ReadsPacket kind bytes action.now → (k : Settings) (steps : List Step) → CoreAgrees self.old k steps
             → Answers k steps (Packet slot kind bytes) result × CoreAgrees self.new k (steps_after result (Packet slot kind bytes) steps) }
         ensures memory { ActsWithoutMemory action.now → IsErrOf result ApplyError.Memory → ⊥ }
@@ -72,6 +73,7 @@ impl Core {
     ) -> Result<(), AllocError>
         requires open { IsOpen self.old.conns slot }
         requires named { IfOk action.now IsNamed }
+        requires told { IfOk action.now CanBeTold }
         ensures does { Does self.old result self.new (acted self.old.config slot action.now) }
         ensures memory { ActsWithoutMemory action.now → OnErr result ⊥ }
         ensures freed { Frees self.old.jobs self.new.jobs freed.old freed.new }
@@ -91,6 +93,7 @@ impl Core {
     ) -> Result<(), AllocError>
         requires open { IsOpen self.old.conns slot }
         requires named { IsNamed action.now }
+        requires told { CanBeTold action.now }
         ensures does { Does self.old result self.new (act self.old.config slot action.now) }
         ensures memory { acts_without_memory action.now ≡ true → OnErr result ⊥ }
         ensures freed { Frees self.old.jobs self.new.jobs freed.old freed.new }
@@ -122,7 +125,8 @@ impl Core {
 
     /// The connection in a slot gets its bytes back.
     fn echo(&mut self, slot: u32, body: &Data<'_>) -> Result<(), AllocError>
-        requires { IsOpen self.old.conns slot }
+        requires open { IsOpen self.old.conns slot }
+        requires sized { length body.now.bytes.now ≤ 1073741824 }
         ensures { Does self.old result self.new (give slot (echo_res body.now.bytes.now)) }
     {
         let response = Response::EchoRes {

@@ -11,7 +11,7 @@ ghost use Rattle.gm_notes.specs.Jobs.{job_of_handle, listeners};
 ghost use Rattle.gm_notes.specs.Past.{Past, with_note, tell_all};
 ghost use Rattle.gm_notes.specs.declared.note.Note.TheVariants.{Ended};
 ghost use Rattle.gm_notes.specs.Workers.{hearers, keep_report, end_if, tell_work, work};
-ghost use Rattle.gm_actions.specs.Actions.{said_report, work_of};
+ghost use Rattle.gm_actions.specs.Actions.{SaidFits, said_report, work_of};
 ghost use Rattle.gm_core.specs.Ticks.{OthersStay};
 ghost use Rattle.gm_core.specs.Telling.{hears, needed, IsRunning, running_there};
 ghost use Rattle.gm_core.specs.Writing.{IsFor};
@@ -22,7 +22,6 @@ use crate::telling::{put_each, reserve_each};
 use gm_actions::{Refusal, Report, Said};
 use gm_bytes::SharedBytes;
 use gm_notes::Priority;
-use gm_packet::response_fits;
 use std::alloc::AllocError;
 
 impl Core {
@@ -37,6 +36,7 @@ impl Core {
         freed: &mut Option<SharedBytes>,
     ) -> Result<(), AllocError>
         requires open { IsOpen self.old.conns slot }
+        requires fits { SaidFits said.now }
         ensures does { Does self.old result self.new (work self.old.config slot handle.now (work_of said.now)) }
         ensures freed { Frees self.old.jobs self.new.jobs freed.old freed.new }
     {
@@ -61,15 +61,13 @@ impl Core {
 
     /// Writes what is said of a job, and makes room for it at each connection that hears it.
     fn prepare_each(&mut self, job: u64, said: &Said<'_>) -> Result<(), AllocError>
+        requires fits { SaidFits said.now }
         ensures goes { Goes self.old self.new (λ past. past) }
         ensures text { OnOk result (self.new.text.bytes ≡ answer_packet (answer_of said.now.response)) }
         ensures owned { OnOk result (IsFor (length (listeners_of (job_of self.new.jobs job))) self.new.text) }
         ensures room { OnOk result ((c : ℕ) → needed self.new.text.cost c (filter (hears self.new.conns said.now.exceptions_only) (listeners_of (job_of self.new.jobs job))) ≤ (conn self.new.conns c).room) }
         ensures jobs { self.new.jobs ≡ self.old.jobs }
     {
-        if !response_fits(&said.response) {
-            return Err(AllocError);
-        }
         self.text.write(&said.response, said.body.as_ref())?;
         let cost = self.text.cost()?;
         let slots = self.jobs.listeners(job);
@@ -113,6 +111,7 @@ impl Core {
         freed: &mut Option<SharedBytes>,
     ) -> Result<(), AllocError>
         requires runs { IsRunning (job_of self.old.jobs job) }
+        requires fits { SaidFits said.now }
         ensures does { Does self.old result self.new (tell_work (work_of said.now) job) }
         ensures freed { Frees self.old.jobs self.new.jobs freed.old freed.new }
     {
