@@ -117,8 +117,8 @@ inline call(s) {
     fi
 }
 
-/* note_event (poller.rt). That no more is sent is reported as it is now. */
-inline note_event(s) {
+/* take_event (poller.rt). That no more is sent is reported as it is now. */
+inline take_event(s) {
     if
     :: edge[s] ->
         edge[s] = false;
@@ -177,7 +177,7 @@ inline wait() {
         (nempty(ready) || ANY(edge) || waker || ANY(is_again)) ->
 #endif
         waker = false;
-        EACH(note_event) };
+        EACH(take_event) };
     EACH(take_mark);
     atomic {
         if                                         /* Poller::look_again */

@@ -170,8 +170,8 @@ impl<K: BookName> Outbox<K> {
         self.left.is_none()
     }
 
-    /// Notes that the slot was opened this often.
-    fn note_opening(&mut self, opening: u64)
+    /// The slot was opened this often, as far as is known.
+    fn raise_opening(&mut self, opening: u64)
         ensures opening { self.new.opening ≡ max self.old.opening opening }
         ensures pen { self.new.pen ≡ self.old.pen }
         ensures left { self.new.left ≡ self.old.left }
@@ -253,7 +253,7 @@ impl<K: BookName> Outbox<K> {
             opening,
         } = drained;
         if opening != self.opening {
-            self.note_opening(opening);
+            self.raise_opening(opening);
             return Delivery::Over;
         }
         match self.send_next(Message::new(bytes, took), w, by) {

@@ -119,7 +119,7 @@ impl Poller {
             .poll
             .poll(&mut self.events, Some(Duration::from_millis(time)));
         for event in &self.events {
-            note_event(&mut self.states, &mut self.ready, self.count, event);
+            take_event(&mut self.states, &mut self.ready, self.count, event);
         }
         self.take_marks(hub);
         self.look_again(rt);
@@ -226,7 +226,7 @@ impl Poller {
 }
 
 /// The slot of an event is to be served.
-fn note_event(states: &mut Vec<SlotState>, ready: &mut VecDeque<usize>, count: u32, event: &Event) {
+fn take_event(states: &mut Vec<SlotState>, ready: &mut VecDeque<usize>, count: u32, event: &Event) {
     // Modelled in models/polling.pml.
     let at = event.token().0 / count.max(1) as usize;
     let Some(state) = states.get_mut(at) else {

@@ -65,11 +65,11 @@ impl Effects {
     {
         // Modelled in models/jobs.pml.
         let own = self.own?;
-        if self.touched.next(own) == Some(own) {
-            self.touched.remove(own);
-            return Some(Due::new(own));
+        if !self.touched.contains(own) {
+            return None;
         }
-        None
+        self.touched.remove(own);
+        Some(Due::new(own))
     }
 
     /// Forgets what is due, of a session that notifies nobody.

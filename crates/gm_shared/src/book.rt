@@ -118,7 +118,7 @@ impl Booked {
         *found = noop;
         self.tape.enter_noop(share, desk, noop);
         let done = self.core.apply_locked(read, freed)?;
-        let opening = self.openings.note(&done);
+        let opening = self.openings.count(&done);
         let at = self.tape.enter_event(share, desk, copies, done);
         self.follow(table, &read.event, touched);
         Ok(Receipt {

@@ -42,7 +42,7 @@ impl Openings {
     }
 
     /// Counts the opening that an event made, if it made one, and answers how often that slot was opened then.
-    pub(crate) fn note(&mut self, done: &Done) -> u64
+    pub(crate) fn count(&mut self, done: &Done) -> u64
         ensures counts { self.new ≡ counted_up done.now.opened self.old }
         ensures tells { result ≡ told_opening done.now.opened self.new }
     {

@@ -24,7 +24,7 @@ pub returns-then-opening-self-clause-delivers : goal.returns-then-opening-self-c
 returns-then-opening-self-clause-delivers g c =
     let pen = c.in-All.ensures.pen in
     let asked = c.take-took.ensures in
-    let noted = c.note_opening.ensures in
+    let noted = c.raise_opening.ensures in
     rw noted.left (delivers_elsewhere _ _ _ _ _ _ _ _ _ _ _ _ _ c.in-All.ensures.sends c.take-took.result
     (takes_as _ _ _ _ _ (ap (λ p. p.seat.takes) pen) (ap (λ s. s.takes) (sym c.in-Ok.ensures.seat) ∙ ap (λ p. p.seat.takes) (sym noted.pen)) asked.takes)
     c.in-Ok.drained (λ same. c.if-opening-self.true (same ∙ sym c.in-All.ensures.opening)) (noted.opening ∙ ap (λ o. max o c.in-Ok.drained.opening) c.in-All.ensures.opening)
