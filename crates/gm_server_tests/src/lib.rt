@@ -22,6 +22,8 @@ mod packets;
 #[cfg(test)]
 mod room;
 #[cfg(test)]
+mod rows;
+#[cfg(test)]
 mod sessions;
 #[cfg(test)]
 mod tapes;

@@ -1,8 +1,9 @@
 //! What settles a tape, and what doesn't.
 
-use crate::calls::{OWED, assert_calls};
+use crate::calls::assert_calls;
 use crate::checks::same;
 use crate::room::{Room, Scene, play_settled, play_to_the_end};
+use crate::rows::OWED;
 use gm_bytes::Data;
 use gm_notes::{ApplyError, Event, Mode};
 use gm_shared::{BookName, TapeMode};
