@@ -19,7 +19,7 @@ ghost use Rattle.gm_core.specs.Freed.{body_at, Frees};
 
 use super::Core;
 use crate::telling::{put_each, reserve_each};
-use gm_actions::{Refusal, Report, Said};
+use gm_actions::{Refusal, Report, Said, number_in};
 use gm_bytes::SharedBytes;
 use gm_notes::Priority;
 use std::alloc::AllocError;
@@ -51,7 +51,9 @@ impl Core {
         ensures value { (past : Past) → Keeps self.now past → result ≡ running_there slot (job_of_handle self.now.config handle.now past.notes) past.notes }
         ensures runs { IfSome result (λ job. IsRunning (job_of self.now.jobs job)) }
     {
-        let job = self.job_of_handle(handle)?;
+        let Some(job) = number_in(&self.config, handle) else {
+            return None;
+        };
         if self.jobs.place(job).is_running_at(slot) {
             Some(job)
         } else {
