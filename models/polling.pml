@@ -72,6 +72,7 @@ bool waker = false;
 
 /* -- Poller (poller.rt): its places */
 chan ready = [SLOTS] of { byte };
+chan behind = [SLOTS] of { byte };
 bool is_ready[SLOTS];
 bool is_woken[SLOTS];
 bool is_odd[SLOTS];
@@ -174,7 +175,7 @@ inline wait() {
 #ifdef M_READY_WAITS
         (ANY(edge) || waker || ANY(is_again)) ->
 #else
-        (nempty(ready) || ANY(edge) || waker || ANY(is_again)) ->
+        (nempty(ready) || nempty(behind) || ANY(edge) || waker || ANY(is_again)) ->
 #endif
         waker = false;
         EACH(take_event) };
@@ -182,7 +183,7 @@ inline wait() {
     atomic {
         if                                         /* Poller::look_again */
         :: ANY(is_again) -> EACH(look_again_at)    /* it is time */
-        :: !ANY(is_again) || nempty(ready) && !IS_FLOOD(0)
+        :: !ANY(is_again) || (nempty(ready) || nempty(behind)) && !IS_FLOOD(0)
         fi }
 }
 
@@ -315,7 +316,10 @@ inline turn(s, waits) {
 
 /* ServerState::visit, serve_round (crews.rt), Poller::next and put_back */
 inline visit(s) {
-    ready ? s;
+    if
+    :: nempty(ready) -> ready ? s
+    :: empty(ready) -> behind ? s
+    fi;
     atomic { woken = is_woken[s]; is_ready[s] = false; is_woken[s] = false; odd = is_odd[s]; is_pending = false; is_now = false };
     if
     :: woken ->
@@ -359,7 +363,7 @@ inline visit(s) {
 #ifdef M_IN_FRONT
             ready !! s                             /* sorted: slot 0 first */
 #else
-            ready ! s
+            behind ! s
 #endif
         :: else
         fi;
@@ -380,7 +384,7 @@ proctype Thread() {
     do
     :: true ->
         wait();
-        round = len(ready);
+        round = len(ready) + len(behind);
         do
         :: round > 0 -> round--; visit(s)
         :: else -> break

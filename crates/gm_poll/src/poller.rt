@@ -32,7 +32,7 @@ pub struct Call {
 /// When a slot is to be served next, but for when it is called.
 #[derive(Clone, Copy)]
 pub struct Next {
-    /// After the others that are called now.
+    /// Once the others were called that are to be called now.
     pub is_now: bool,
     /// In a while.
     pub is_again: bool,
@@ -42,7 +42,7 @@ pub struct Next {
 #[derive(Clone, Copy)]
 struct SlotState {
     slot: u32,
-    /// Whether it is among the ready ones.
+    /// Whether it is among those to serve.
     is_ready: bool,
     is_woken: bool,
     is_odd: bool,
@@ -59,8 +59,10 @@ pub struct Poller {
     thread: u32,
     count: u32,
     states: Vec<SlotState>,
-    // The slots to serve, each once, so that there is room for all.
+    // The slots to serve that were reported or woken, each once, so that there is room for all.
     ready: VecDeque<usize>,
+    // Those that have more to do after their turn, each once, and in none of both twice: they come behind the others.
+    behind: VecDeque<usize>,
     // Those to look at again, each once.
     again: VecDeque<usize>,
     // When they were looked at last.
@@ -93,6 +95,7 @@ impl Poller {
             thread,
             count,
             ready: VecDeque::with_capacity(alloc, states.len())?,
+            behind: VecDeque::with_capacity(alloc, states.len())?,
             again: VecDeque::with_capacity(alloc, states.len())?,
             states,
             looked: None,
@@ -101,13 +104,13 @@ impl Poller {
 
     /// How many slots are to be served now.
     pub fn ready(&self) -> usize {
-        self.ready.len()
+        self.ready.len().saturating_add(self.behind.len())
     }
 
     /// Waits until there are slots to serve, or for a second.
     pub fn wait(&mut self, rt: &impl Clock, hub: &Hub) {
         // Modelled in models/polling.pml.
-        let time = if !self.ready.is_empty() {
+        let time = if self.ready() > 0 {
             0
         } else if !self.again.is_empty() {
             AGAIN_MS
@@ -194,7 +197,10 @@ impl Poller {
     /// The next slot to serve, if there is one.
     pub fn next(&mut self) -> Option<Call> {
         // Modelled in models/polling.pml.
-        let at = self.ready.pop_front()?;
+        let at = match self.ready.pop_front() {
+            Some(at) => at,
+            None => self.behind.pop_front()?,
+        };
         let state = self.states.get_mut(at)?;
         let is_woken = state.is_woken;
         state.is_ready = false;
@@ -216,7 +222,7 @@ impl Poller {
         state.is_odd = state.is_odd && next.is_now;
         if next.is_now && !state.is_ready {
             state.is_ready = true;
-            let _ = self.ready.push_back(at);
+            let _ = self.behind.push_back(at);
         }
         if next.is_again && !state.is_again {
             state.is_again = true;
