@@ -58,7 +58,7 @@ proctype Toucher() {
 #endif
         if
         :: touch_word(0)
-        :: touch_for_finisher(0)                   /* the round is over */
+        :: touch_for_finisher(0)                   /* the time is over */
         fi;
         if
         :: has -> deliver_claimed(0)

@@ -101,7 +101,7 @@ proctype Toucher() {
             fi };
         if
         :: is_due -> touch_word(0)
-        :: is_due -> touch_for_finisher(0)           /* the round is over */
+        :: is_due -> touch_for_finisher(0)           /* the time is over */
         :: else
         fi;
         if

@@ -173,7 +173,7 @@ inline apply(s, unit) {
 }
 
 /* What is to be done at lanes: the slots of `todo` are touched (ServerState::deliver and touch, state.rt), one's own first. The
- * others may be left to their finishers for the time, from the second on (Round::is_over, state.rt). */
+ * others may be left to their finishers for the time, from the second on (Delivering::is_over, state.rt). */
 inline at_lane() {
     do
     :: has -> deliver_claimed(cur)

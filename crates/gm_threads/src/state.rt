@@ -57,18 +57,18 @@ pub(crate) struct ServerState<K: BookName> {
 
 /// How far a thread is that delivers to others.
 #[derive(Drop)]
-struct Round {
+struct Delivering {
     has_begun: bool,
-    /// When the clock was first read: a round of one slot doesn't read it.
+    /// When the clock was first read: for one slot it isn't.
     begun: Option<Instant>,
 }
 
-impl Round {
-    fn new() -> Round
+impl Delivering {
+    fn new() -> Delivering
         ensures begun { result.has_begun ≡ false }
         ensures clock { result.begun ≡ None }
     {
-        Round {
+        Delivering {
             has_begun: false,
             begun: None,
         }
@@ -226,15 +226,15 @@ impl<K: BookName> ServerState<K> {
         }
     }
 
-    /// Touches the lane to whose slot something is due, and delivers where nobody else does; or has its finisher do so, where the round
-    /// is over.
-    fn touch<R: Wait + Clock>(&self, rt: &R, due: Due, round: &mut Round) {
+    /// Touches the lane to whose slot something is due, and delivers where nobody else does; or has its finisher do so, where the
+    /// time for that is over.
+    fn touch<R: Wait + Clock>(&self, rt: &R, due: Due, delivering: &mut Delivering) {
         // Modelled in models/deliver.pml.
         let Some(slot) = self.slot(due.slot()) else {
             due.without_lane(self);
             return;
         };
-        if round.is_over(rt) {
+        if delivering.is_over(rt) {
             slot.lane.touch_for_finisher(self, due);
         } else {
             slot.lane.touch(rt, self, due);
@@ -249,14 +249,14 @@ impl<K: BookName> ServerState<K> {
         ensures nothing { (slot : ℕ) → has effects.new.touched slot ≡ false }
     {
         // Modelled in models/jobs.pml and serving.h.
-        let mut round = Round::new();
+        let mut delivering = Delivering::new();
         if let Some(due) = effects.take_own() {
-            self.touch(rt, due, &mut round);
+            self.touch(rt, due, &mut delivering);
         }
         let mut from = 0;
         while let Some(due) = effects.take_next(from) {
             from = due.slot() + 1;
-            self.touch(rt, due, &mut round);
+            self.touch(rt, due, &mut delivering);
         }
     }
 
