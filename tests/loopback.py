@@ -12,20 +12,17 @@ from trials import ROOM_PATH, Wrong
 
 PATIENCE = 60  # seconds, after which something doesn't come any more
 LISTENING = b"gmd: listening\n"
-TAKEN = "(os error 98)"  # in what a server says whose port another has
 MEBIBYTE = 1_048_576
 
 
-def on_free_port(start):
-    """What this answers for a port that nobody listens on. It says what it answers, and whether another took the port meanwhile."""
-    for _ in range(100):
-        with socket.socket() as probe:
-            probe.bind(("127.0.0.1", 0))
-            port = probe.getsockname()[1]
-        answer, is_taken = start(port)
-        if not is_taken:
-            return answer
-    raise Wrong("each port is taken by another")
+@contextlib.contextmanager
+def own_port():
+    """A port for a server, which nobody else gets meanwhile, neither before it listens nor after its end: a socket that doesn't listen
+    has it too. The system lets both have it, as both say SO_REUSEADDR, and gives it to no other connection or probe."""
+    with socket.socket() as holder:
+        holder.setsockopt(socket.SOL_SOCKET, socket.SO_REUSEADDR, 1)
+        holder.bind(("127.0.0.1", 0))
+        yield holder.getsockname()[1]
 
 
 # Options that each server is given besides: tests/serve and others try the same with `EXTRA="--io-threads 2"`.
@@ -38,33 +35,25 @@ class Server:
     """A server in the background, which listens or has ended."""
 
     def __init__(self, program, *options, under=(), env=None, told=(), extra=tuple(EXTRA)):
-        def start(port):
-            self.port = port
-            self.error = tempfile.TemporaryFile(dir=ROOM_PATH)
+        with contextlib.ExitStack() as stack:
+            self.port = stack.enter_context(own_port())
+            self.error = stack.enter_context(tempfile.TemporaryFile(dir=ROOM_PATH))
             self.begun = time.monotonic()
-            self.process = subprocess.Popen([*under, program, "--listen", "127.0.0.1", "--port", str(port), *options, *extra], env=env,
-                                            stdin=subprocess.DEVNULL, stdout=subprocess.PIPE, stderr=self.error, pass_fds=told)
-            try:
-                self.said = self.process.stdout.readline()
-                self.heard = time.monotonic()
-                is_taken = not self.is_listening() and self.process.wait(PATIENCE) == 3 and TAKEN in self.errors()
-            except BaseException:
-                self.__exit__()
-                raise
-            if is_taken:
-                self.__exit__()
-            return None, is_taken
-
-        on_free_port(start)
+            line = [*under, program, "--listen", "127.0.0.1", "--port", str(self.port), *options, *extra]
+            self.process = stack.enter_context(subprocess.Popen(line, env=env, stdin=subprocess.DEVNULL, stdout=subprocess.PIPE,
+                                                                stderr=self.error, pass_fds=told))
+            stack.callback(self.process.kill)
+            self.said = self.process.stdout.readline()
+            self.heard = time.monotonic()
+            if not self.is_listening():
+                self.process.wait(PATIENCE)
+            self.held = stack.pop_all()
 
     def __enter__(self):
         return self
 
     def __exit__(self, *_):
-        self.process.kill()
-        self.process.wait()
-        self.process.stdout.close()
-        self.error.close()
+        self.held.close()
 
     def is_listening(self):
         return self.said == LISTENING
