@@ -1,4 +1,5 @@
 """Servers, connections to them, and checks: what test-scripts and demo/differs share."""
+import contextlib
 import pathlib
 import re
 import socket
@@ -51,22 +52,30 @@ def within(what, call, seconds=PATIENCE):
         time.sleep(0.02)
 
 
-def free_port():
-    with socket.socket() as probe:
-        probe.bind(("127.0.0.1", 0))
-        return probe.getsockname()[1]
+@contextlib.contextmanager
+def own_port():
+    """A port for servers, which nobody else gets meanwhile: a socket that doesn't listen has it too. The system lets both have it, as
+    both say SO_REUSEADDR."""
+    with socket.socket() as holder:
+        holder.setsockopt(socket.SOL_SOCKET, socket.SO_REUSEADDR, 1)
+        holder.bind(("127.0.0.1", 0))
+        yield holder.getsockname()[1]
 
 
 class Server:
     """A server at a port, that of this command."""
 
     def __init__(self, command, *options, port=None, env=None):
-        self.port = port or free_port()
-        self.log = ROOM_PATH / f"log{self.port}"
-        with self.log.open("wb") as log:
-            self.process = subprocess.Popen([*command, "--listen", "127.0.0.1", "--port", str(self.port), *options],
-                                            stdout=log, stderr=log, stdin=subprocess.DEVNULL, env=env)
-        within("the server listens", self.is_listening)
+        with contextlib.ExitStack() as stack:
+            self.port = port or stack.enter_context(own_port())
+            self.log = ROOM_PATH / f"log{self.port}"
+            with self.log.open("wb") as log:
+                self.process = stack.enter_context(subprocess.Popen(
+                    [*command, "--listen", "127.0.0.1", "--port", str(self.port), *options], stdout=log, stderr=log,
+                    stdin=subprocess.DEVNULL, env=env))
+            stack.callback(self.process.kill)
+            within("the server listens", self.is_listening)
+            self.held = stack.pop_all()
 
     def is_listening(self):
         """Whether it said so, or, as gearmand says nothing, a connection can be made."""
@@ -86,8 +95,7 @@ class Server:
         return self
 
     def __exit__(self, *_):
-        self.process.kill()
-        self.process.wait()
+        self.held.close()
 
 
 class Client:
