@@ -29,7 +29,7 @@ def steps_of(gm_play, options, script):
     orders = [line for line in script.split("\n") if ORDER.fullmatch(line)]
     # A mark prints 'bad line', and no order does.
     marked = "".join(f"{order}\nmark\n" for order in orders)
-    done = subprocess.run([gm_play, *options], input=marked, capture_output=True, text=True, timeout=PATIENCE, check=False)
+    done = subprocess.run([gm_play, *options], input=marked, capture_output=True, text=True, check=False)
     parts = done.stdout.split("bad line\n")
     if done.returncode != 0 or done.stderr or len(parts) != len(orders) + 1:
         raise Wrong(f"gm_play: status {done.returncode}, {done.stderr!r}")
