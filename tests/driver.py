@@ -16,7 +16,7 @@ ORDER = re.compile(r"open [^ ]+|close [0-9]{1,10}|tick [0-9]{1,20}|bytes [0-9]{1
 UNANSWERED = {CAN_DO, CANT_DO, RESET_ABILITIES, PRE_SLEEP, SET_CLIENT_ID, CAN_DO_TIMEOUT, ALL_YOURS, WORK_STATUS, WORK_COMPLETE,
               WORK_FAIL, WORK_EXCEPTION, WORK_DATA, WORK_WARNING}
 MARK = b"driver"
-TRIES = 20  # of a script with ticks, whose orders are to be over in time
+TRYING = 120  # seconds, in which a script with ticks is tried again, whose orders are to be over in time
 SHORT = 5  # seconds, after which nothing comes any more that is to come within one
 
 
@@ -333,9 +333,10 @@ def play_once(gmd, options, steps, bytewise):
 
 def play(gmd, options, steps, bytewise=False):
     """Plays the steps of a script on a gmd with these options, and again where something was found wrong too late."""
-    for left in reversed(range(TRIES)):
+    end = time.monotonic() + TRYING
+    while True:
         try:
             return play_once(gmd, options, steps, bytewise)
         except Late:
-            if not left:
+            if time.monotonic() > end:
                 raise
