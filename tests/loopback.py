@@ -13,6 +13,8 @@ from trials import ROOM_PATH, Wrong
 PATIENCE = 60  # seconds, after which something doesn't come any more
 LISTENING = b"gmd: listening\n"
 MEBIBYTE = 1_048_576
+# Lets connections to different servers share a port, which is taken for a minute after an end (ip(7)). Python names it from 3.12 on.
+IP_BIND_ADDRESS_NO_PORT = 24
 
 
 @contextlib.contextmanager
@@ -99,6 +101,7 @@ class Client:
         if room:
             self.socket.setsockopt(socket.SOL_SOCKET, socket.SO_RCVBUF, room)
         self.socket.setsockopt(socket.IPPROTO_TCP, socket.TCP_NODELAY, 1)
+        self.socket.setsockopt(socket.IPPROTO_IP, IP_BIND_ADDRESS_NO_PORT, 1)
         try:
             self.socket.bind((source, 0))
             self.socket.connect(("127.0.0.1", port))
