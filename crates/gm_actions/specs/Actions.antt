@@ -113,6 +113,7 @@ pub record SaidFits (said : Said) : Type 0 where
 
 -- a packet can carry again what came in one
 abbrev pub CanBeTold : Action → Type 0
+CanBeTold (CanDo function timeout) = has_nul function.now ≡ false
 CanBeTold (Submit asked) = IsCarried asked.function.now asked.unique.now asked.body.bytes.now
 CanBeTold (Tell about) = SaidFits about.said
 CanBeTold (GetStatus handle) = IsWord handle.now

@@ -1,6 +1,6 @@
 //! Answers that say what is known of a job.
 
-ghost use Rattle.std.specs.Prelude.{◌≡◌, ◌≤◌, ℕ, true, false, codes, length};
+ghost use Rattle.std.specs.Prelude.{◌≡◌, ◌+◌, ◌≤◌, ℕ, true, false, codes, length};
 ghost use Rattle.gm_packet.specs.Answers.{answer_of};
 ghost use Rattle.gm_packet.specs.Packets.{has_nul};
 ghost use Rattle.gm_packet.specs.Packets.{Fits};
@@ -8,8 +8,7 @@ ghost use Rattle.gm_packet.specs.Answers.{status_res};
 ghost use Rattle.gm_notes.specs.Settings.{Settings};
 ghost use Rattle.gm_notes.specs.Jobs.{handle};
 ghost use Rattle.gm_notes.specs.Workers.{assignment};
-ghost use Rattle.gm_actions.specs.Actions.{job_of, assigned};
-ghost use Rattle.gm_actions.specs.Carried.{IsCarried};
+ghost use Rattle.gm_actions.specs.Actions.{job_of, assigned, IsWord};
 
 use crate::actions::Report;
 use gm_notes::Priority;
@@ -33,8 +32,8 @@ pub struct JobRef<'a> {
 pub fn assignment<'a>(text: &'a [u8], job: &JobRef<'a>, with_unique: bool) -> Response<'a>
     ensures exact { answer_of result ≡ assigned with_unique text.now (job_of job.now) }
     ensures value { (k : Settings) (n : ℕ) → text.now ≡ handle k n → answer_of result ≡ assignment k with_unique n (job_of job.now) }
-    ensures fits { has_nul text.now ≡ false → length text.now ≤ 64 → IsCarried job.now.function.now job.now.unique.now job.now.body.now
-        → Fits (answer_of result).arguments }
+    ensures fits { has_nul text.now ≡ false → length text.now ≤ 64 → has_nul job.now.function.now ≡ false → length job.now.function.now ≤ 512
+        → has_nul job.now.unique.now ≡ false → length job.now.unique.now + length job.now.body.now ≤ 1073741824 → Fits (answer_of result).arguments }
 {
     if with_unique {
         Response::JobAssignUniq {
@@ -54,7 +53,9 @@ pub fn assignment<'a>(text: &'a [u8], job: &JobRef<'a>, with_unique: bool) -> Re
 
 /// The answer about a live job (the Gearman PROTOCOL document, "STATUS_RES").
 pub fn known_status<'a>(handle: &'a [u8], running: bool, report: Report<'a>) -> Response<'a>
-    ensures { answer_of result ≡ status_res handle.now true running report.entry.numerator.now report.entry.denominator.now }
+    ensures value { answer_of result ≡ status_res handle.now true running report.entry.numerator.now report.entry.denominator.now }
+    ensures fits { IsWord handle.now → has_nul report.entry.numerator.now ≡ false
+        → length report.entry.numerator.now + length report.entry.denominator.now ≤ 1073741824 → Fits (answer_of result).arguments }
 {
     Response::StatusRes {
         handle,

@@ -6,6 +6,7 @@ ghost use Rattle.std.specs.Str.{bytes_eq};
 ghost use Rattle.std.specs.Prelude.{codes};
 ghost use Rattle.gm_packet.specs.Answers.{answer_of};
 ghost use Rattle.gm_packet.specs.Kinds.{kind_of};
+ghost use Rattle.gm_packet.specs.Packets.{has_nul};
 ghost use Rattle.gm_packet.specs.Requests.{request_of};
 ghost use Rattle.gm_packet.specs.Views.{asked_of};
 ghost use Rattle.gm_notes.specs.Settings.{Settings};
@@ -241,7 +242,7 @@ fn check_can_do<'a>(function: &'a [u8], timeout: u32) -> Result<Action<'a>, Refu
     ensures does { (k : Settings) (c : ℕ) (past : Past) → acted k c result past ≡ can_do k c function.now timeout past }
     ensures named { IfOk result IsNamed }
     ensures no_grab { grabs result ≡ false }
-    ensures told { IfOk result CanBeTold }
+    ensures told { has_nul function.now ≡ false → IfOk result CanBeTold }
 {
     if is_bad_name(function) {
         Err(Refusal::BadFunction)

@@ -137,6 +137,14 @@ any_turned : (name : List ℕ) (names : List (List ℕ)) → list_any (λ g. byt
 any_turned name [] = refl
 any_turned name (x ∷ names) = rw (bytes_eq-turned x name) (ap (λ b. bytes_eq name x || b) (any_turned name names))
 
+pub is_none_of : (o : Option ℕ) → o ≡ None → IsNone o
+is_none_of None e = refl
+is_none_of (Some n) e = absurd cc
+
+pub none_of : (o : Option ℕ) → IsNone o → o ≡ None
+none_of None e = refl
+none_of (Some n) e = absurd cc
+
 module _ (k : Settings) (table : Table) (notes : List Note) (holds : HoldsFunctions k table (function_facts notes)) (name : List ℕ) where
   pub known : (f : ℕ) → number_of name table ≡ Some f → is_mentioned name notes ≡ true
   known f e = ap (λ (l : List (List ℕ)). list_any (λ g. bytes_eq g name) l) (sym holds.names) ∙ (any_turned name table.names ∙ list_any-found (bytes_eq name) table.names f [] e)
@@ -171,6 +179,14 @@ module _ (k : Settings) (table : Table) (notes : List Note) (holds : HoldsFuncti
       by : (t : Bool) → nat_le k.max_functions (length (functions notes)) ≡ false → (t && nat_le k.max_functions (length (functions notes))) ≡ false
       by true e = e
       by false e = refl
+
+  -- it is known, or there is room for it
+  pub few_enough : (IsNone (number_of name table) → length table.names ≢ table.most) → is_one_too_many k name notes ≡ false
+  few_enough room = by (number_of name table) refl
+    where
+      by : (o : Option ℕ) → number_of name table ≡ o → is_one_too_many k name notes ≡ false
+      by (Some f) e = not_too_many k table notes holds name f e
+      by None e = not_yet_many (room (is_none_of (number_of name table) e))
 
 -- ---- queues
 
@@ -233,10 +249,6 @@ first_is (x ∷ l) n timeout otherwise e = ap (λ (m : ℕ). Some (record { job 
 pub first_is_other : (l : List ℕ) (timeout : ℕ) (otherwise : Option Pick) → slice_get l 0 ≡ None → first_of l timeout otherwise ≡ otherwise
 first_is_other [] timeout otherwise e = refl
 first_is_other (x ∷ l) timeout otherwise e = absurd cc
-
-pub is_none_of : (o : Option ℕ) → o ≡ None → IsNone o
-is_none_of None e = refl
-is_none_of (Some n) e = absurd cc
 
 -- what is picked, where the first ability's first job is this
 abbrev pub pick_or : Option ℕ → ℕ → Option Pick → Option Pick

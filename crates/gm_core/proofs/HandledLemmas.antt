@@ -5,8 +5,11 @@ use Rattle.std.specs.List.{list_any}
 use Rattle.std.specs.Prelude.{MatchOption}
 use Rattle.gm_notes.specs.declared.note.Note.{Note}
 use Rattle.gm_notes.specs.Settings.{Settings}
-use Rattle.gm_notes.specs.Jobs.{made, handle, job_of_handle}
-use Rattle.gm_notes.specs.JobStates.{is_running}
+use Rattle.gm_notes.specs.Jobs.{made, handle, job_of_handle, job_state}
+use Rattle.gm_notes.specs.JobStates.{is_running, is_live}
+use Rattle.gm_notes.specs.Past.{Past}
+use Rattle.gm_notes.specs.Requests.{tell_status}
+use Rattle.gm_actions.specs.Effects.{known_told, unknown_told}
 use Rattle.gm_notes.specs.Places as places
 use Rattle.gm_queues.specs.FunctionTables as queues
 use Rattle.gm_jobs.specs.declared.job.LivePlace.{LivePlace}
@@ -59,3 +62,38 @@ pub runs_same : (s : LivePlace) → places.is_running (place_at s) ≡ is_runnin
 runs_same Waiting = refl
 runs_same (Running c) = refl
 runs_same Lost = refl
+
+-- what is told of the number in a handle, as the table has it
+module _ (k : Settings) (functions : queues.Table) (table : Table) (is_open : ℕ → Bool) (past : Past) (holds : HoldsJobs k functions table is_open (job_facts past.notes)) (c : ℕ) (text : List ℕ) (n : ℕ) (lt : n < 2 ^ 64) (is : text ≡ handle k n) where
+  asked : (made live : Bool) → places.is_made (place table n) ≡ made → places.is_live (place table n) ≡ live
+      → tell_status k c text (job_of_handle k text past.notes) past ≡ (if made && live then known_told c text n past else unknown_told c text past)
+  asked made live e f =
+      ap (λ o. tell_status k c text o past) (sym (handled_at k functions table is_open past.notes holds text n lt is))
+      ∙ (ap (λ t. tell_status k c text (if t then Some n else None) past) e ∙ by made (ap places.is_live (sym (holds.places n)) ∙ f))
+    where
+      by : (made : Bool) → is_live (job_state n past.notes) ≡ live → tell_status k c text (if made then Some n else None) past ≡ (if made && live then known_told c text n past else unknown_told c text past)
+      by true lives = rw lives refl
+      by false lives = refl
+
+  at_live : (s : LivePlace) → (places.is_made (place_at s) ≡ true) × (places.is_live (place_at s) ≡ true)
+  at_live Waiting = (refl, refl)
+  at_live (Running d) = (refl, refl)
+  at_live Lost = (refl, refl)
+
+  gone : (made : Bool) → places.is_live (place_or None made) ≡ false
+  gone true = refl
+  gone false = refl
+
+  pub told_live : (live : Live) → job table n ≡ Some live → tell_status k c text (job_of_handle k text past.notes) past ≡ known_told c text n past
+  told_live live at =
+      let there : place table n ≡ place_at live.live_place = ap (λ o. place_or o (is_made table n)) at in
+      let both = at_live live.live_place in
+      asked true true (ap places.is_made there ∙ both.0) (ap places.is_live there ∙ both.1)
+
+  pub told_other : job table n ≡ None → tell_status k c text (job_of_handle k text past.notes) past ≡ unknown_told c text past
+  told_other at = last (places.is_made (place table n)) (asked _ false refl (ap places.is_live (ap (λ o. place_or o (is_made table n)) at) ∙ gone (is_made table n)))
+    where
+      last : (made : Bool) → tell_status k c text (job_of_handle k text past.notes) past ≡ (if made && false then known_told c text n past else unknown_told c text past)
+          → tell_status k c text (job_of_handle k text past.notes) past ≡ unknown_told c text past
+      last true e = e
+      last false e = e

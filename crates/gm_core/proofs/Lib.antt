@@ -1,6 +1,7 @@
 mod Running
 pub mod AddLemmas
 pub mod AssignLemmas
+pub mod CarriedLemmas
 pub mod CloseLemmas
 pub mod CommandLemmas
 pub mod ConnLemmas

@@ -167,6 +167,20 @@ pub record AllTouched (old new : conns.Table) : Type 0 where
 abbrev pub TouchesAll : Core → Core → Type 0
 TouchesAll old new = AllTouched old.conns new.conns
 
+-- the functions, the jobs and the moment stay
+pub record KeepsTables (old new : Core) : Type 0 where
+  pub functions : new.functions ≡ old.functions
+  pub jobs : new.jobs ≡ old.jobs
+  pub moment : new.moment ≡ old.moment
+
+-- all stays but the functions and the jobs
+pub record KeepsRest (old new : Core) : Type 0 where
+  pub config : new.config ≡ old.config
+  pub conns : new.conns ≡ old.conns
+  pub text : new.text ≡ old.text
+  pub moment : new.moment ≡ old.moment
+  pub mode : new.mode ≡ old.mode
+
 abbrev pub config_of : Core → Settings
 config_of core = core.config
 

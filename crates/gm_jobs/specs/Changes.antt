@@ -3,7 +3,7 @@ use Rattle.std.specs.Prelude.{◌≡◌, ℕ, ◌==◌, ◌⊎◌, Bool, true, f
 use Rattle.std.specs.Option.{option_map}
 use Rattle.gm_jobs.specs.declared.job.Change.{Change}
 use Rattle.gm_jobs.specs.declared.job.Change.TheVariants.{Assign, GiveBack, Keep, Listen, Leave, Report}
-use Rattle.gm_jobs.specs.Live.{Live, assigned, given_back, kept, reported, with_listener, without_listener}
+use Rattle.gm_jobs.specs.Live.{Live, AreCarried, assigned, given_back, kept, reported, with_listener, without_listener}
 use Rattle.gm_jobs.specs.Tables.{find_job}
 
 abbrev pub changed : Change → Live → Live
@@ -13,6 +13,11 @@ changed Keep live = kept live
 changed (Listen slot) live = with_listener slot live
 changed (Leave slot) live = without_listener slot live
 changed (Report numerator denominator) live = reported numerator.now denominator.now live
+
+-- what is reported can be carried by packets
+abbrev pub CanBeTold : Change → Type 0
+CanBeTold (Report numerator denominator) = AreCarried numerator.now denominator.now
+CanBeTold change = Unit {0}
 
 -- the changes that take memory
 abbrev pub takes_memory : Change → Bool

@@ -1,7 +1,8 @@
 -- What a live job is.
-use Rattle.std.specs.Prelude.{ℕ, Bool, true, false, not, ◌&&◌, ◌==◌, ◌+◌, nat_le, if◌then◌else◌, List, [], ◌∷◌, ◌++◌, length, filter}
+use Rattle.std.specs.Prelude.{◌≡◌, ℕ, Bool, true, false, not, ◌&&◌, ◌==◌, ◌+◌, ◌≤◌, nat_le, if◌then◌else◌, List, [], ◌∷◌, ◌++◌, length, filter}
 use Rattle.std.specs.Prelude.{Option, Some, None}
 use Rattle.std.specs.Str.{bytes_eq}
+use Rattle.gm_packet.specs.Packets.{has_nul}
 use Rattle.gm_notes.specs.declared.states.Priority.{Priority}
 use Rattle.gm_notes.specs.declared.states.Place.{Place}
 use Rattle.gm_notes.specs.declared.states.Place.TheVariants as places
@@ -24,6 +25,11 @@ pub record Live : Type 0 where
   pub deadline : Option ℕ
   pub report : Option (List ℕ × List ℕ)
   pub listeners : List ℕ
+
+-- two texts that packets can carry one behind the other: the first without NUL, and both of at most 1,073,741,824 bytes
+pub record AreCarried (first last : List ℕ) : Type 0 where
+  pub plain : has_nul first ≡ false
+  pub sized : length first + length last ≤ 1073741824
 
 -- the bytes of a body, its own or shared
 abbrev pub body_bytes : Body → List ℕ

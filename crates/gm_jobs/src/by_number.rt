@@ -7,7 +7,7 @@ ghost use Rattle.slab.specs.Slab.{get};
 ghost use Rattle.gm_jobs.specs.declared.lists.Way.{Way};
 ghost use Rattle.gm_jobs.specs.Live.{Live};
 ghost use Rattle.gm_jobs.specs.Tables.{find_job, IsNext, IsLast};
-ghost use Rattle.gm_jobs.specs.Changes.{changed, takes_memory, ChangesJob};
+ghost use Rattle.gm_jobs.specs.Changes.{CanBeTold, changed, takes_memory, ChangesJob};
 ghost use Rattle.gm_jobs.specs.Queries.{meets};
 ghost use Rattle.gm_jobs.specs.Links.{stands_in, held, AllUnique, AllLinked, next_of, link_of};
 ghost use Rattle.gm_jobs.specs.ByNumber.{Changed};
@@ -77,6 +77,7 @@ fn change_job(
     key: usize,
     change: Change<'_>,
 ) -> Result<(), AllocError>
+    requires { CanBeTold change }
     ensures ok { OnOk result (Changed key (changed change.entry) slab.old slab.new) }
     ensures err { OnErr result (Changed key (λ live. live) slab.old slab.new) }
     ensures succeeds { takes_memory change.entry ≡ false → IsOk result }
@@ -97,6 +98,7 @@ fn change_at(
     number: u64,
     change: Change<'_>,
 ) -> Result<(), AllocError>
+    requires told { CanBeTold change }
     requires len { vec_len ends.old ≡ 1025 }
     requires there { (live : Live) × (held slab.old key ≡ Some (number, live)) }
     requires unique { AllUnique (held slab.old) }
@@ -183,6 +185,7 @@ impl JobMap {
 
     /// Changes the job of a number, if it is live.
     pub(crate) fn change(&mut self, number: u64, change: Change<'_>) -> Result<(), AllocError>
+        requires { CanBeTold change }
         ensures ok { OnOk result (ChangesJob number (changed change.entry) self.old.entries self.new.entries) }
         ensures err { OnErr result (self.new.entries ≡ self.old.entries) }
         ensures free { takes_memory change.entry ≡ false → ChangesJob number (changed change.entry) self.old.entries self.new.entries }

@@ -2,9 +2,9 @@
 
 ghost use Rattle.std.specs.Prelude.{◌≡◌, ◌&&◌, ◌==◌, false, IsOk, IfSome, ◌<◌, OnOk, OnErr, Some, None};
 ghost use Rattle.std.specs.Option.{option_map};
-ghost use Rattle.gm_jobs.specs.Live.{Live, body_bytes, given_back, reported, with_listener, without_listener, place_at, is_named, is_run_by, is_orphan, is_due, is_last_try, waits, runs_at};
+ghost use Rattle.gm_jobs.specs.Live.{Live, AreCarried, body_bytes, given_back, reported, with_listener, without_listener, place_at, is_named, is_run_by, is_orphan, is_due, is_last_try, waits, runs_at};
 ghost use Rattle.gm_jobs.specs.Queries.{meets};
-ghost use Rattle.gm_jobs.specs.Changes.{changed, takes_memory};
+ghost use Rattle.gm_jobs.specs.Changes.{changed, CanBeTold, takes_memory};
 ghost use Rattle.gm_jobs.specs.Links.{stands_in};
 
 mod reservation;
@@ -146,12 +146,15 @@ pub struct Job {
 }
 
 impl Model for Job {
+    ghost use Rattle.std.specs.Prelude.{IfSome};
     ghost use Rattle.std.specs.Option.{option_map};
-    ghost use Rattle.gm_jobs.specs.Live.{Live, body_bytes};
+    ghost use Rattle.gm_jobs.specs.Live.{Live, AreCarried, body_bytes};
 
     ghost Value = { Live };
 
     ghost view = { λ j. record { function = j.f; priority = j.p; unique = j.unique.items; body = body_bytes j.body; kept = j.kept; live_place = j.live_place; returns = j.returns; deadline = j.deadline; report = option_map (λ r. (r.value.numerator.items, r.value.denominator.items)) j.report; listeners = j.listeners.items } };
+
+    ghost invariant = { λ j. AreCarried j.unique.items (body_bytes j.body) × IfSome j.report (λ r. AreCarried r.value.numerator.items r.value.denominator.items) };
 }
 
 impl Job {
@@ -169,7 +172,8 @@ impl Job {
     }
 
     pub fn unique(&self) -> &[u8]
-        ensures { result.now ≡ self.now.unique }
+        ensures value { result.now ≡ self.now.unique }
+        ensures carried { AreCarried result.now self.now.body }
     {
         self.unique.as_slice()
     }
@@ -214,7 +218,8 @@ impl Job {
 
     /// How far it is, once that was reported: a numerator and a denominator.
     pub fn report(&self) -> Option<(&[u8], &[u8])>
-        ensures { option_map (λ r. (r.0.now, r.1.now)) result ≡ self.now.report }
+        ensures value { option_map (λ r. (r.0.now, r.1.now)) result ≡ self.now.report }
+        ensures carried { IfSome result (λ r. AreCarried r.0.now r.1.now) }
     {
         match &self.report {
             Some(report) => Some((report.numerator.as_slice(), report.denominator.as_slice())),
@@ -312,6 +317,7 @@ impl Job {
         numerator: &[u8],
         denominator: &[u8],
     ) -> Result<(), AllocError>
+        requires { AreCarried numerator.now denominator.now }
         ensures ok { OnOk result (self.new ≡ reported numerator.now denominator.now self.old) }
         ensures err { OnErr result (self.new ≡ self.old) }
     {
@@ -341,6 +347,7 @@ impl Job {
 
     /// It changes so, unless there is no memory for that.
     pub(crate) fn change(&mut self, alloc: Global, change: Change<'_>) -> Result<(), AllocError>
+        requires { CanBeTold change }
         ensures ok { OnOk result (self.new ≡ changed change.entry self.old) }
         ensures err { OnErr result (self.new ≡ self.old) }
         ensures succeeds { takes_memory change.entry ≡ false → IsOk result }

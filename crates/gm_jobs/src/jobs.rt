@@ -2,7 +2,7 @@
 
 ghost use Rattle.std.specs.Prelude.{◌≡◌, ℕ, ◌+◌, ◌<◌, ◌≤◌, ◌^◌, ◌↔◌, Some, None, IsSome, IfSome, IfNone, IfOk, IfErr, OnOk, OnErr, Err, Contains, length};
 ghost use Rattle.std.specs.Option.{option_copied, unwrap_or};
-ghost use Rattle.gm_jobs.specs.Live.{fresh, assigned, given_back, kept, reported, with_listener, is_run_by, is_orphan, is_due, is_last_try};
+ghost use Rattle.gm_jobs.specs.Live.{AreCarried, fresh, assigned, given_back, kept, reported, with_listener, is_run_by, is_orphan, is_due, is_last_try};
 ghost use Rattle.gm_jobs.specs.Tables.{no_jobs, job, find_job, is_made, place, back, listeners_of, passes, IsNamed, IsVacant, HasRoom, with_room, Makes, Changes, Ends, Leaves, IsNext, IsLast};
 ghost use Rattle.gm_jobs.specs.Deadlines.{AllListed};
 ghost use Rattle.gm_jobs.specs.Listening.{Heard};
@@ -168,6 +168,7 @@ impl Jobs {
     pub fn insert(&mut self, new: NewJob<'_>, shared: Option<SharedBytes>, vacancy: Vacancy) -> u64
         requires room { HasRoom new.f (length new.unique.now) (length new.body.now) self.old }
         requires vacant { IsVacant new.f new.unique.now self.old vacancy }
+        requires carried { AreCarried new.unique.now (unwrap_or shared new.body.now) }
         ensures number { result ≡ self.old.next }
         ensures makes { Makes (fresh new.entry.f new.entry.p new.entry.unique.now (unwrap_or shared new.entry.body.now) new.entry.kept new.entry.listener) self.old self.new }
     {
@@ -290,6 +291,7 @@ impl Jobs {
 
     /// The job is so far: a numerator and a denominator.
     pub fn report(&mut self, n: u64, numerator: &[u8], denominator: &[u8]) -> Result<(), AllocError>
+        requires { AreCarried numerator.now denominator.now }
         ensures ok { OnOk result (Changes n (reported numerator.now denominator.now) self.old self.new) }
         ensures err { OnErr result (self.new ≡ self.old) }
     {

@@ -1,7 +1,7 @@
 //! Calls for tests: each is a call that the server makes, without what it hands along, or a refusal's number.
 
 ghost use Rattle.std.specs.Prelude.{◌≡◌, ℕ, IfSome, IfNone, length};
-ghost use Rattle.gm_jobs.specs.Live.{fresh};
+ghost use Rattle.gm_jobs.specs.Live.{AreCarried, fresh};
 ghost use Rattle.gm_jobs.specs.Numbers.{job_error_number};
 ghost use Rattle.gm_jobs.specs.Tables.{IsNamed, HasRoom, Makes};
 
@@ -31,6 +31,7 @@ impl Jobs {
     pub fn insert_reserved(&mut self, new: NewJob<'_>) -> u64
         requires room { HasRoom new.f (length new.unique.now) (length new.body.now) self.old }
         requires single { (n : ℕ) → IsNamed new.f new.unique.now self.old n → ⊥ }
+        requires carried { AreCarried new.unique.now new.body.now }
         ensures number { result ≡ self.old.next }
         ensures makes { Makes (fresh new.entry.f new.entry.p new.entry.unique.now new.entry.body.now new.entry.kept new.entry.listener) self.old self.new }
     {

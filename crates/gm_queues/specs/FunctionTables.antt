@@ -1,8 +1,9 @@
 -- What the table of functions is to its callers.
-use Rattle.std.specs.Prelude.{◌≡◌, ℕ, ◌+◌, ◌*◌, ◌<◌, ◌==◌, Bool, false, ◌&&◌, if◌then◌else◌, Option}
+use Rattle.std.specs.Prelude.{◌≡◌, ℕ, ◌+◌, ◌*◌, ◌<◌, ◌≤◌, ◌==◌, Bool, false, ◌&&◌, if◌then◌else◌, Option}
 use Rattle.std.specs.Prelude.{List, [], ◌++◌, length, position, slice_index, slice_index_or}
 use Rattle.std.specs.Str.{bytes_eq}
 use Rattle.std.specs.declared.hash.RandomState.{RandomState}
+use Rattle.gm_packet.specs.Packets.{has_nul}
 use Rattle.gm_notes.specs.declared.states.Priority.{Priority}
 use Rattle.gm_notes.specs.declared.states.Priority.TheVariants.{High, Normal, Low}
 use Rattle.gm_notes.specs.Jobs.{same_priority}
@@ -16,6 +17,11 @@ pub record Table : Type 0 where
   pub names : List (List ℕ)
   pub limits : List ℕ
   pub queues : List Queue
+
+-- a name that packets can carry: of at most 512 bytes, and without NUL
+pub record IsName (name : List ℕ) : Type 0 where
+  pub plain : has_nul name ≡ false
+  pub sized : length name ≤ 512
 
 abbrev pub rank : Priority → ℕ
 rank High = 0

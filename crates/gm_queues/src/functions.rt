@@ -1,13 +1,13 @@
 //! The functions, their limits and their queues.
 
-ghost use Rattle.std.specs.Prelude.{◌≡◌, ◌+◌, ◌-◌, ◌*◌, ◌<◌, ◌≤◌, ◌==◌, ◌↔◌, not, IsTrue, Some, None, IsSome, IsNone, IsOk, IfSome, IfOk};
+ghost use Rattle.std.specs.Prelude.{◌≡◌, ◌+◌, ◌-◌, ◌*◌, ◌^◌, ◌<◌, ◌≤◌, ◌==◌, ◌↔◌, not, IsTrue, Some, None, IsSome, IsNone, IsOk, IfSome, IfOk};
 ghost use Rattle.std.specs.Prelude.{OnOk, OnErr};
 ghost use Rattle.std.specs.Prelude.{[], ◌∷◌, ◌++◌, length, map, filter, count_by, position, take, slice_get, Contains};
 ghost use Rattle.std.specs.Str.{bytes_eq};
 ghost use Rattle.gm_queues.specs.Queues.{no_jobs, with_reserved_one, without_reserved_one, with_job, without_first};
 ghost use Rattle.std.specs.Vec.{vec_len, vec_capacity};
 ghost use Rattle.indexmap.specs.IndexSet.{spare, hasher_of};
-ghost use Rattle.gm_queues.specs.FunctionTables.{no_functions, rank, number_of, limit, queue, waiting_for, running_of, HasIdleRoom};
+ghost use Rattle.gm_queues.specs.FunctionTables.{no_functions, IsName, rank, number_of, limit, queue, waiting_for, running_of, HasIdleRoom};
 ghost use Rattle.gm_queues.specs.FunctionTables.{ChangesQueue, ForgetsJob, SetsLimit, ChangesNames, IsFree};
 
 use crate::name_hash::NameHash;
@@ -59,9 +59,9 @@ pub struct Functions {
 }
 
 impl Model for Functions {
-    ghost use Rattle.std.specs.Prelude.{◌≡◌, ◌*◌, ◌^◌, ◌<◌, ◌≤◌, length, map};
+    ghost use Rattle.std.specs.Prelude.{◌≡◌, ◌*◌, ◌^◌, ◌<◌, ◌≤◌, All, length, map};
     ghost use Rattle.indexmap.specs.IndexSet.{hasher_of};
-    ghost use Rattle.gm_queues.specs.FunctionTables.{Table};
+    ghost use Rattle.gm_queues.specs.FunctionTables.{Table, IsName};
 
     ghost Value = { Table };
 
@@ -70,7 +70,8 @@ impl Model for Functions {
     ghost invariant = { λ t. (length t.names.keys ≤ t.most)
         × (length t.limits.items ≡ length t.names.keys)
         × (length t.rings.items ≡ 3 * length t.names.keys)
-        × (t.most < 2 ^ 32) };
+        × (t.most < 2 ^ 32)
+        × All IsName (map (λ v. v.items) t.names.keys) };
 }
 
 // The index of the ring of a function and a priority.
@@ -160,6 +161,7 @@ impl Functions {
     pub fn name(&self, f: u32) -> &[u8]
         requires { f < length self.now.names }
         ensures value { slice_get self.now.names f ≡ Some result.now }
+        ensures fits { IsName result.now }
 
         // No two functions have one name.
         ensures only { number_of result.now self.now ≡ Some f }
@@ -170,6 +172,7 @@ impl Functions {
     /// The function of this name. A new one becomes the last, unless there are as many as there may be
     /// (`TooManyFunctions`) or no memory for it (`Memory`).
     pub fn mention(&mut self, name: &[u8]) -> Result<u32, MentionError>
+        requires { IsName name.now }
         ensures found { IfOk result (λ f. number_of name.now self.new ≡ Some f) }
         ensures within { IfOk result (λ f. f < length self.new.names) }
         ensures known { IsSome (number_of name.now self.old) → IsOk result × (self.new ≡ self.old) }
@@ -295,6 +298,7 @@ impl Functions {
         requires { f < length self.now.names }
         ensures waiting { result.waiting ≡ length (waiting_for self.now f) }
         ensures running { result.running ≡ running_of self.now f }
+        ensures small { result.waiting + result.running < 2 ^ 64 }
     {
         let high = &self.rings[ring_of(f, Priority::High)];
         let normal = &self.rings[ring_of(f, Priority::Normal)];

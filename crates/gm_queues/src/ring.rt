@@ -217,7 +217,7 @@ impl Ring {
     /// How many jobs wait.
     pub(crate) fn waiting(&self) -> u64
         ensures value { result ≡ length self.now.jobs }
-        ensures small { result < 2 ^ 62 }
+        ensures small { result ≤ 2 ^ 56 }
     {
         self.waiting as u64
     }
@@ -225,7 +225,7 @@ impl Ring {
     /// For how many jobs room is reserved that no waiting job uses.
     pub(crate) fn idle(&self) -> u64
         ensures value { result ≡ idle self.now }
-        ensures small { result < 2 ^ 62 }
+        ensures small { result ≤ 2 ^ 56 }
     {
         (self.reserved - self.waiting) as u64
     }

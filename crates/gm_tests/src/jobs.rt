@@ -1,5 +1,8 @@
 //! The table of live jobs.
 
+ghost use Rattle.std.specs.Prelude.{◌≡◌, ◌≤◌, false, length};
+ghost use Rattle.gm_packet.specs.Packets.{has_nul};
+
 use crate::checks::{must, same};
 use gm_jobs::{Back, JobError, Jobs, NewJob};
 use gm_notes::{Place, Priority};
@@ -15,7 +18,10 @@ fn make(
     unique: &[u8],
     kept: bool,
     listener: Option<u32>,
-) -> Result<Option<u64>, JobError> {
+) -> Result<Option<u64>, JobError>
+    requires plain { has_nul unique.now ≡ false }
+    requires short { length unique.now ≤ 512 }
+{
     jobs.reserve(f, unique.len(), 1)?;
     if jobs.by_unique(f, unique).is_some() {
         return Ok(None);

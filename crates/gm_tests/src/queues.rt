@@ -74,17 +74,10 @@ fn reserve_checked(
     functions.reserve_one(f, p)
 }
 
-// A table of at most this many functions, with these.
-fn functions_of(
-    rt: &impl RandomSource,
-    alloc: Global,
-    most: u32,
-    names: &[&[u8]],
-) -> Result<Functions, Fail> {
-    let mut functions = Functions::new(alloc, RandomState::new(rt)?, most)?;
-    for name in names {
-        let _f = functions.mention(name)?;
-    }
+// A table with one function.
+fn one_function(rt: &impl RandomSource, alloc: Global) -> Result<Functions, Fail> {
+    let mut functions = Functions::new(alloc, RandomState::new(rt)?, 1)?;
+    let _f = functions.mention(b"f")?;
     Ok(functions)
 }
 
@@ -101,19 +94,11 @@ fn emptied(rt: &impl Abort, alloc: Global, seed: RandomState) -> Result<Function
 #[test]
 fn names_ample(rt: HostRuntime) -> Result<(), Fail> {
     let mut functions = emptied(&rt, rt.alloc(), RandomState::new(&rt)?)?;
-    for (name, mentioned) in [
-        (b"f", Ok(0)),
-        (b"f", Ok(0)),
-        (b"g", Err(MentionError::TooManyFunctions)),
-    ] {
-        same(&rt, name, &functions.mention(name), &mentioned);
-    }
-    same(
-        &rt,
-        "a number",
-        &MentionError::TooManyFunctions.number(),
-        &14,
-    );
+    let full = MentionError::TooManyFunctions;
+    same(&rt, "f", &functions.mention(b"f"), &Ok(0));
+    same(&rt, "f again", &functions.mention(b"f"), &Ok(0));
+    same(&rt, "g", &functions.mention(b"g"), &Err(full));
+    same(&rt, "a number", &full.number(), &14);
     Ok(())
 }
 
@@ -143,7 +128,7 @@ fn fill_and_go_round(rt: &impl Abort, functions: &mut Functions) -> Result<(), A
 
 #[test]
 fn queues_ample(rt: HostRuntime) -> Result<(), Fail> {
-    let mut functions = functions_of(&rt, rt.alloc(), 1, &[b"f"])?;
+    let mut functions = one_function(&rt, rt.alloc())?;
     fill_and_go_round(&rt, &mut functions)?;
     Ok(())
 }
@@ -164,7 +149,7 @@ fn forget_often(rt: &impl Abort, functions: &mut Functions) -> Result<(), AllocE
 
 #[test]
 fn stale_ring(rt: HostRuntime) -> Result<(), Fail> {
-    let mut functions = functions_of(&rt, rt.alloc(), 1, &[b"f"])?;
+    let mut functions = one_function(&rt, rt.alloc())?;
     forget_often(&rt, &mut functions)?;
     Ok(())
 }

@@ -2,6 +2,7 @@
 
 ghost use Rattle.std.specs.Prelude.{◌≡◌, ◌<◌, ◌≤◌, ◌++◌, false, Some, None, IfSome, length, map, drop, take, slice_get};
 ghost use Rattle.std.specs.Option.{option_map};
+ghost use Rattle.gm_packet.specs.Packets.{has_nul};
 ghost use Rattle.gm_conns.specs.ConnTables.{IsOpen, conn};
 ghost use Rattle.gm_queues.specs.FunctionTables.{number_of, waiting_for};
 ghost use Rattle.gm_notes.specs.Jobs.{scan, pick_from, pick};
@@ -132,6 +133,7 @@ impl Core {
     ) -> Result<(), AllocError>
         requires open { IsOpen self.old.conns slot }
         requires named { is_bad_name function.now ≡ false }
+        requires plain { has_nul function.now ≡ false }
         ensures { Does self.old result self.new (can_do self.old.config slot function.now timeout) }
     {
         match self.functions.find(function) {
@@ -153,6 +155,7 @@ impl Core {
     ) -> Result<(), AllocError>
         requires open { IsOpen self.old.conns slot }
         requires named { is_bad_name function.now ≡ false }
+        requires plain { has_nul function.now ≡ false }
         requires new { number_of function.now self.old.functions ≡ None }
         ensures { Does self.old result self.new (can_do self.old.config slot function.now timeout) }
     {

@@ -41,7 +41,7 @@ pub(super) fn prepare(
 }
 
 impl Core {
-    ghost use Rattle.gm_core.specs.Holds.{Goes, Does};
+    ghost use Rattle.gm_core.specs.Holds.{KeepsTables, Goes, Does};
 
     /// Writes a text, and makes room for it at a slot.
     pub(super) fn prepare_text(&mut self, slot: u32, text: &[u8]) -> Result<(), AllocError>
@@ -62,9 +62,7 @@ impl Core {
         requires owned { IsFor 1 self.old.text }
         ensures goes { Goes self.old self.new (with_output slot self.old.text.bytes) }
         ensures open { IsOpen self.new.conns slot }
-        ensures functions { self.new.functions ≡ self.old.functions }
-        ensures jobs { self.new.jobs ≡ self.old.jobs }
-        ensures moment { self.new.moment ≡ self.old.moment }
+        ensures tables { KeepsTables self.old self.new }
     {
         self.text.put(&mut self.conns, slot);
     }

@@ -1,18 +1,16 @@
 //! What administrators command in text lines.
 
-ghost use Rattle.std.specs.Prelude.{◌≡◌, ◌<◌, true, false, List, Ok, OnOk, OnErr, IfOk, Some, length, ◌≤◌};
+ghost use Rattle.std.specs.Prelude.{◌≡◌, true, false, List, Ok, OnOk, length, ◌≤◌};
 ghost use Rattle.gm_admin.specs.Answers.{ok_text, version_text};
 ghost use Rattle.gm_admin.specs.Commands.{command_of};
 ghost use Rattle.gm_admin.specs.Views.{asked_of};
 ghost use Rattle.gm_conns.specs.ConnTables.{IsOpen, conn};
-ghost use Rattle.gm_queues.specs.FunctionTables.{number_of};
 ghost use Rattle.gm_notes.specs.Notes.{mode, slots_from};
 ghost use Rattle.gm_notes.specs.Settings.{Settings};
 ghost use Rattle.gm_notes.specs.Steps.{Step, Line};
 ghost use Rattle.gm_notes.specs.Servers.{Answers, steps_after};
-ghost use Rattle.gm_notes.specs.Past.{with_output, with_note, with_mention};
+ghost use Rattle.gm_notes.specs.Past.{with_output};
 ghost use Rattle.gm_notes.specs.Lines.{refuse_line, is_bad_word, maxqueue, go_graceful, shut_one, shut_each, shutdown, command};
-ghost use Rattle.gm_notes.specs.declared.note.Note.TheVariants.{Limit};
 ghost use Rattle.gm_actions.specs.Lines.{NamesFunction};
 ghost use Rattle.gm_core.specs.Writing.{copied_text};
 
@@ -20,6 +18,7 @@ use super::Core;
 use gm_actions::read_line;
 use gm_admin::{AdminError, Command, write_fault, write_ok, write_version};
 use gm_notes::{ApplyError, Done, Mode};
+use gm_queues::MentionError;
 use std::alloc::AllocError;
 
 impl Core {
@@ -109,43 +108,24 @@ impl Core {
         self.say(slot, text)
     }
 
-    /// Sets the most jobs of a function that may wait or run; 0 is no limit.
+    /// Sets the most jobs of a function that may wait or run; 0 is no limit. The function is mentioned if it wasn't.
     fn maxqueue(&mut self, slot: u32, name: &[u8], size: u32) -> Result<(), AllocError>
         requires open { IsOpen self.old.conns slot }
         requires named { is_bad_word name.now ≡ false }
         ensures { Does self.old result self.new (maxqueue self.old.config slot name.now size) }
     {
-        if self.is_one_too_many(name) {
-            return self.refuse_line(slot, AdminError::TooManyFunctions);
-        }
-        self.set_limit(slot, name, size)
-    }
-
-    /// A function is given this limit, and is mentioned if it wasn't.
-    fn set_limit(&mut self, slot: u32, name: &[u8], size: u32) -> Result<(), AllocError>
-        requires { IsOpen self.old.conns slot }
-        ensures { Does self.old result self.new (λ past. with_output slot ok_text (with_note (Limit name.now size) (with_mention name.now past))) }
-    {
         self.prepare_ok(slot)?;
-        let f = self.mention(name)?;
-        self.functions.set_limit(f, size);
-        self.send(slot);
-        Ok(())
-    }
-
-    /// The function of this name, which is mentioned if it wasn't.
-    fn mention(&mut self, name: &[u8]) -> Result<u32, AllocError>
-        ensures goes { OnOk result (Goes self.old self.new (with_mention name.now)) }
-        ensures wanting { OnErr result (Goes self.old self.new (λ past. past)) }
-        ensures conns { self.new.conns ≡ self.old.conns }
-        ensures text { self.new.text ≡ self.old.text }
-        ensures found { IfOk result (λ f. number_of name.now self.new.functions ≡ Some f) }
-        ensures within { IfOk result (λ f. f < length self.new.functions.names) }
-    {
-        let Ok(f) = self.functions.mention(name) else {
-            return Err(AllocError);
-        };
-        Ok(f)
+        match self.functions.mention(name) {
+            Ok(f) => {
+                self.functions.set_limit(f, size);
+                self.send(slot);
+                Ok(())
+            }
+            Err(MentionError::TooManyFunctions) => {
+                self.refuse_line(slot, AdminError::TooManyFunctions)
+            }
+            Err(MentionError::Memory) => Err(AllocError),
+        }
     }
 
     /// No new connections are taken from now on, if any were.

@@ -19,11 +19,11 @@ use super::abilities::Choice;
 use super::answering::prepare;
 use gm_actions::{JobRef, assignment, deadline_after, handle};
 use gm_notes::Priority;
-use gm_packet::{Response, response_fits};
+use gm_packet::Response;
 use std::alloc::AllocError;
 
 impl Core {
-    ghost use Rattle.gm_core.specs.Holds.{Keeps, Goes, Does};
+    ghost use Rattle.gm_core.specs.Holds.{Keeps, KeepsTables, Goes, Does};
 
     /// Writes what a worker gets to know of a job, and makes room for it.
     fn prepare_assigned(
@@ -42,9 +42,7 @@ impl Core {
         ensures text { OnOk result ((live : Live) → jobs.job self.old.jobs found.pick.job ≡ Some live
             → self.new.text.bytes ≡ answer_packet (assignment self.old.config with_unique found.pick.job
             (record { function = name_at self.old.functions.names found.function; priority = live.priority; unique = live.unique; body = live.body }))) }
-        ensures functions { self.new.functions ≡ self.old.functions }
-        ensures jobs { self.new.jobs ≡ self.old.jobs }
-        ensures moment { self.new.moment ≡ self.old.moment }
+        ensures tables { KeepsTables self.old self.new }
     {
         let handle = handle(self.alloc, &self.config, found.pick.job)?;
         // A job that was picked is live.
@@ -58,9 +56,6 @@ impl Core {
             body: job.body(),
         };
         let response = assignment(&handle, &view, with_unique);
-        if !response_fits(&response) {
-            return Err(AllocError);
-        }
         let body = job.data();
         prepare(
             &mut self.conns,

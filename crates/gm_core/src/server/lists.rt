@@ -22,25 +22,18 @@ fn workers(conns: &Conns, f: u32) -> u32
     conns.able_count(f)
 }
 
-/// What the list of functions says of one. It answers Memory if its jobs are more than a number holds.
-fn status_row<'a>(
-    conns: &Conns,
-    functions: &'a Functions,
-    f: u32,
-) -> Result<StatusRow<'a>, AllocError>
+/// What the list of functions says of one.
+fn status_row<'a>(conns: &Conns, functions: &'a Functions, f: u32) -> StatusRow<'a>
     requires { f < length functions.now.names }
-    ensures { IfOk result (λ row. status_of row ≡ status_line_of conns.now functions.now f) }
+    ensures { status_of result ≡ status_line_of conns.now functions.now f }
 {
     let counts = functions.counts(f);
-    let Some(total) = counts.waiting.checked_add(counts.running) else {
-        return Err(AllocError);
-    };
-    Ok(StatusRow {
+    StatusRow {
         name: functions.name(f),
-        total,
+        total: counts.waiting + counts.running,
         running: counts.running,
         workers: workers(conns, f),
-    })
+    }
 }
 
 /// A row for each function, in the order of mention.
@@ -53,7 +46,7 @@ fn status_rows<'a>(
 {
     let mut rows = Vec::new(alloc);
     for f in 0..functions.len() {
-        rows.push(status_row(conns, functions, f)?)?;
+        rows.push(status_row(conns, functions, f))?;
     }
     Ok(rows)
 }

@@ -12,7 +12,7 @@ use super::Core;
 use gm_notes::{ApplyError, Phase};
 
 impl Core {
-    ghost use Rattle.gm_core.specs.Holds.{Keeps, Goes, CoreAgrees};
+    ghost use Rattle.gm_core.specs.Holds.{Keeps, KeepsTables, Goes, CoreAgrees};
 
     /// Whether a slot takes units.
     pub(super) fn can_take_units(&self, slot: u32) -> bool
@@ -27,9 +27,7 @@ impl Core {
         requires { IsOpen self.old.conns slot }
         ensures goes { Goes self.old self.new (wake_itself slot) }
         ensures open { IsOpen self.new.conns slot }
-        ensures functions { self.new.functions ≡ self.old.functions }
-        ensures jobs { self.new.jobs ≡ self.old.jobs }
-        ensures moment { self.new.moment ≡ self.old.moment }
+        ensures tables { KeepsTables self.old self.new }
     {
         if self.conns.phase(slot).is_asleep() {
             self.conns.set_phase(slot, Phase::Awake);

@@ -12,6 +12,7 @@ ghost use Rattle.gm_notes.specs.Jobs.{handle};
 ghost use Rattle.gm_notes.specs.declared.note.Note.TheVariants.{Mention};
 ghost use Rattle.gm_notes.specs.Past.{Past, with_note};
 ghost use Rattle.gm_actions.specs.Actions.{submission_of};
+ghost use Rattle.gm_actions.specs.Carried.{IsCarried};
 ghost use Rattle.gm_notes.specs.Submissions.{is_bad_name, is_full, is_one_too_many, keep_or_listen, make, join_or_make, submit};
 
 use super::Core;
@@ -38,12 +39,13 @@ fn is_limit_reached(limit: u32, counts: Counts) -> bool
 }
 
 impl Core {
-    ghost use Rattle.gm_core.specs.Holds.{Keeps, Goes, Does};
+    ghost use Rattle.gm_core.specs.Holds.{Keeps, KeepsTables, KeepsRest, Goes, Does};
 
     /// Joins a job, or makes one.
     pub(super) fn submit(&mut self, slot: u32, asked: &Submission<'_>) -> Result<(), AllocError>
         requires open { IsOpen self.old.conns slot }
         requires named { is_bad_name asked.now.function.now ≡ false }
+        requires carried { IsCarried asked.now.function.now asked.now.unique.now asked.now.body.bytes.now }
         ensures { Does self.old result self.new (submit self.old.config slot (submission_of asked.now)) }
     {
         match self.functions.find(asked.function) {
@@ -58,6 +60,7 @@ impl Core {
         requires named { is_bad_name asked.now.function.now ≡ false }
         requires found { number_of asked.now.function.now self.old.functions ≡ Some f }
         requires within { f < length self.old.functions.names }
+        requires carried { IsCarried asked.now.function.now asked.now.unique.now asked.now.body.bytes.now }
         ensures { Does self.old result self.new (submit self.old.config slot (submission_of asked.now)) }
     {
         match self.jobs.find(f, asked.unique) {
@@ -78,6 +81,7 @@ impl Core {
         requires found { number_of asked.now.function.now self.old.functions ≡ Some f }
         requires within { f < length self.old.functions.names }
         requires vacant { IsVacant f asked.now.unique.now self.old.jobs vacancy }
+        requires carried { IsCarried asked.now.function.now asked.now.unique.now asked.now.body.bytes.now }
         ensures { Does self.old result self.new (join_or_make self.old.config slot (submission_of asked.now) None) }
     {
         if self.is_full(f) {
@@ -94,6 +98,7 @@ impl Core {
         requires open { IsOpen self.old.conns slot }
         requires named { is_bad_name asked.now.function.now ≡ false }
         requires new { number_of asked.now.function.now self.old.functions ≡ None }
+        requires carried { IsCarried asked.now.function.now asked.now.unique.now asked.now.body.bytes.now }
         ensures { Does self.old result self.new (submit self.old.config slot (submission_of asked.now)) }
     {
         if self.is_one_too_many(asked.function) {
@@ -119,6 +124,7 @@ impl Core {
         requires within { f < length self.old.functions.names }
         requires vacant { IsVacant f asked.now.unique.now self.old.jobs vacancy }
         requires number { job ≡ self.old.jobs.next }
+        requires carried { IsCarried asked.now.function.now asked.now.unique.now asked.now.body.bytes.now }
         ensures { Does self.old result self.new (make self.old.config slot (submission_of asked.now) (Some job)) }
     {
         self.prepare_created(slot, job)?;
@@ -129,7 +135,7 @@ impl Core {
     }
 
     /// Whether no function more can be known.
-    pub(super) fn is_one_too_many(&self, function: &[u8]) -> bool
+    fn is_one_too_many(&self, function: &[u8]) -> bool
         ensures { (past : Past) → Keeps self.now past → result ≡ is_one_too_many self.now.config function.now past.notes }
     {
         match self.functions.find(function) {
@@ -171,8 +177,7 @@ impl Core {
     ) -> Result<(), AllocError>
         requires { IsOpen self.old.conns slot }
         ensures does { Does self.old result self.new (keep_or_listen slot (submission_of asked.now) job) }
-        ensures conns { self.new.conns ≡ self.old.conns }
-        ensures text { self.new.text ≡ self.old.text }
+        ensures rest { KeepsRest self.old self.new }
     {
         if asked.background {
             self.jobs.keep(job);
@@ -189,8 +194,10 @@ impl Core {
         job: u64,
     ) -> Result<(), AllocError>
         requires open { IsOpen self.old.conns slot }
+        requires named { is_bad_name asked.now.function.now ≡ false }
         requires new { number_of asked.now.function.now self.old.functions ≡ None }
         requires number { job ≡ self.old.jobs.next }
+        requires carried { IsCarried asked.now.function.now asked.now.unique.now asked.now.body.bytes.now }
         ensures { Does self.old result self.new (make self.old.config slot (submission_of asked.now) (Some job)) }
     {
         self.prepare_created(slot, job)?;
@@ -207,11 +214,12 @@ impl Core {
         asked: &Submission<'_>,
     ) -> Result<u32, AllocError>
         requires open { IsOpen self.old.conns slot }
+        requires named { is_bad_name asked.now.function.now ≡ false }
         requires new { number_of asked.now.function.now self.old.functions ≡ None }
+        requires carried { IsCarried asked.now.function.now asked.now.unique.now asked.now.body.bytes.now }
         ensures goes { OnOk result (Goes self.old self.new (λ past. add_job slot (submission_of asked.now) self.old.jobs.next (with_note (Mention asked.now.function.now) past))) }
         ensures wanting { OnErr result (Goes self.old self.new (λ past. past)) }
-        ensures conns { self.new.conns ≡ self.old.conns }
-        ensures text { self.new.text ≡ self.old.text }
+        ensures rest { KeepsRest self.old self.new }
         ensures found { IfOk result (λ f. number_of asked.now.function.now self.new.functions ≡ Some f) }
         ensures within { IfOk result (λ f. f < length self.new.functions.names) }
     {
@@ -243,13 +251,10 @@ impl Core {
         requires open { IsOpen self.old.conns slot }
         requires found { number_of asked.now.function.now self.old.functions ≡ Some f }
         requires vacant { IsVacant f asked.now.unique.now self.old.jobs vacancy }
+        requires carried { IsCarried asked.now.function.now asked.now.unique.now asked.now.body.bytes.now }
         ensures does { Does self.old result self.new (add_job slot (submission_of asked.now) self.old.jobs.next) }
-        ensures conns { self.new.conns ≡ self.old.conns }
-        ensures text { self.new.text ≡ self.old.text }
+        ensures rest { KeepsRest self.old self.new }
         ensures names { self.new.functions.names ≡ self.old.functions.names }
-        ensures config { self.new.config ≡ self.old.config }
-        ensures moment { self.new.moment ≡ self.old.moment }
-        ensures mode { self.new.mode ≡ self.old.mode }
         ensures err { OnErr result (self.new.functions ≡ self.old.functions) }
         ensures roomed { OnErr result (self.new.jobs ≡ record self.old.jobs { room = self.new.jobs.room }) }
     {
@@ -279,8 +284,7 @@ impl Core {
         ensures text { OnOk result (self.new.text.bytes ≡ answer_packet (job_created (handle self.old.config job))) }
         ensures room { OnOk result (self.new.text.cost ≤ (conn self.new.conns slot).room) }
         ensures owned { OnOk result (IsFor 1 self.new.text) }
-        ensures functions { self.new.functions ≡ self.old.functions }
-        ensures jobs { self.new.jobs ≡ self.old.jobs }
+        ensures tables { KeepsTables self.old self.new }
     {
         let handle = handle(self.alloc, &self.config, job)?;
         let response = Response::JobCreated { handle: &handle };

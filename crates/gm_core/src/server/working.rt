@@ -11,7 +11,7 @@ ghost use Rattle.gm_notes.specs.Jobs.{job_of_handle, listeners};
 ghost use Rattle.gm_notes.specs.Past.{Past, with_note, tell_all};
 ghost use Rattle.gm_notes.specs.declared.note.Note.TheVariants.{Ended};
 ghost use Rattle.gm_notes.specs.Workers.{hearers, keep_report, end_if, tell_work, work};
-ghost use Rattle.gm_actions.specs.Actions.{SaidFits, said_report, work_of};
+ghost use Rattle.gm_actions.specs.Actions.{SaidFits, ReportFits, said_report, work_of};
 ghost use Rattle.gm_core.specs.Ticks.{OthersStay};
 ghost use Rattle.gm_core.specs.Telling.{hears, needed, IsRunning, running_there};
 ghost use Rattle.gm_core.specs.Writing.{IsFor};
@@ -25,7 +25,7 @@ use gm_notes::Priority;
 use std::alloc::AllocError;
 
 impl Core {
-    ghost use Rattle.gm_core.specs.Holds.{Keeps, Goes, Does};
+    ghost use Rattle.gm_core.specs.Holds.{Keeps, KeepsRest, Goes, Does};
 
     /// The worker in a slot says something of the job that a handle names.
     pub(super) fn work(
@@ -79,9 +79,9 @@ impl Core {
 
     /// How far the job is is kept, if it is said.
     fn keep_report(&mut self, job: u64, report: Option<Report<'_>>) -> Result<(), AllocError>
+        requires { ReportFits (said_report report) }
         ensures does { Does self.old result self.new (keep_report job (said_report report.entry)) }
-        ensures conns { self.new.conns ≡ self.old.conns }
-        ensures text { self.new.text ≡ self.old.text }
+        ensures rest { KeepsRest self.old self.new }
         ensures listeners { listeners_of (job_of self.new.jobs job) ≡ listeners_of (job_of self.old.jobs job) }
         ensures body { body_at job self.new.jobs ≡ body_at job self.old.jobs }
         ensures runs { IsRunning (job_of self.old.jobs job) → IsRunning (job_of self.new.jobs job) }

@@ -3,7 +3,7 @@
 ghost use Rattle.std.specs.Prelude.{◌≡◌, ◌≤◌, [], length, IfOk};
 ghost use Rattle.std.specs.Option.{unwrap_or};
 ghost use Rattle.std.specs.Vec.{vec_capacity};
-ghost use Rattle.gm_jobs.specs.Live.{body_bytes, fresh};
+ghost use Rattle.gm_jobs.specs.Live.{AreCarried, body_bytes, fresh};
 
 use super::{Body, Job, LivePlace, NewJob};
 use gm_bytes::SharedBytes;
@@ -73,6 +73,7 @@ impl Reservation {
     ) -> Job
         requires unique { length new.unique.now ≤ self.unique_len }
         requires body { length new.body.now ≤ self.body_len }
+        requires carried { AreCarried new.unique.now (unwrap_or shared new.body.now) }
         ensures { result ≡ fresh new.entry.f new.entry.p new.entry.unique.now (unwrap_or shared new.entry.body.now) new.entry.kept new.entry.listener }
     {
         let Reservation {

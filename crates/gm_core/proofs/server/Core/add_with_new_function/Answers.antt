@@ -40,6 +40,6 @@ returns-in-Err-add-clause-wanting c =
     let name = c.args.asked.now.function.now in
     let table = c.args.self.now.functions in
     let back = subst (λ (t : Table). ChangesNames (take (length t.names - 1) t.names) t c.unmention-in-Err-add.new.self) c.in-Err-add.ensures.err c.unmention-in-Err-add.ensures in
-    goes_undone c.args.self.now _ c.in-Err-add.ensures.config c.in-Err-add.ensures.conns
+    goes_undone c.args.self.now _ c.in-Err-add.ensures.rest.config c.in-Err-add.ensures.rest.conns
     (taken_back table c.mention.new.self c.unmention-in-Err-add.new.self name (c.in-Ok.ensures.fresh (is_none_of (number_of name table) c.requires.new)) back)
-    c.in-Err-add.ensures.roomed c.in-Err-add.ensures.moment c.in-Err-add.ensures.mode
+    c.in-Err-add.ensures.roomed c.in-Err-add.ensures.rest.moment c.in-Err-add.ensures.rest.mode

@@ -10,7 +10,7 @@ use Rattle.gm_core.proofs.server.Core.assign.Goals as goal
 pub returns : goal.returns
 returns c =
     let old = c.args.self.now in
-    let time : c.wake_itself.new.self.moment ≡ old.moment = c.wake_itself.ensures.moment ∙ (c.send.ensures.moment ∙ c.in_ok-priority.ensures.moment) in
+    let time : c.wake_itself.new.self.moment ≡ old.moment = c.wake_itself.ensures.tables.moment ∙ (c.send.ensures.tables.moment ∙ c.in_ok-priority.ensures.tables.moment) in
     goes_as (λ past. give_out old.config c.args.slot c.args.with_unique (Some (c.args.found.pick)) (wake_itself c.args.slot past))
     (goes_then (goes_then (goes_then c.in_ok-priority.ensures.goes c.send.ensures.goes) c.wake_itself.ensures.goes) c.give_out.ensures)
     (λ p keeps.

@@ -15,9 +15,9 @@ returns c =
     let old = c.args.self.now in
     let s = submission_of c.args.asked.now in
     let before = goes_then (goes_then c.in_ok-prepare_created.ensures.goes c.in_ok-add.ensures.does) c.send.ensures.goes in
-    let text = ap (λ (t : Text). t.bytes) c.in_ok-add.ensures.text ∙ c.in_ok-prepare_created.ensures.text in
-    let next : c.prepare_created.new.self.jobs.next ≡ c.args.job = ap (λ (t : jobs.Table). t.next) c.in_ok-prepare_created.ensures.jobs ∙ sym c.requires.number in
-    let names = ap (λ (t : queues.Table). t.names) c.send.ensures.functions ∙ (c.in_ok-add.ensures.names ∙ ap (λ (t : queues.Table). t.names) c.in_ok-prepare_created.ensures.functions) in
+    let text = ap (λ (t : Text). t.bytes) c.in_ok-add.ensures.rest.text ∙ c.in_ok-prepare_created.ensures.text in
+    let next : c.prepare_created.new.self.jobs.next ≡ c.args.job = ap (λ (t : jobs.Table). t.next) c.in_ok-prepare_created.ensures.tables.jobs ∙ sym c.requires.number in
+    let names = ap (λ (t : queues.Table). t.names) c.send.ensures.tables.functions ∙ (c.in_ok-add.ensures.names ∙ ap (λ (t : queues.Table). t.names) c.in_ok-prepare_created.ensures.tables.functions) in
     let name = ap (λ (l : List (List ℕ)). name_at l c.args.f) names ∙ number_is s.function old.functions c.args.f c.requires.found in
     goes_as (make old.config c.args.slot s (Some c.args.job)) (goes_then before c.wake.ensures)
     (λ p keeps.

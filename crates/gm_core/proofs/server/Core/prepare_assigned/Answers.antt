@@ -20,7 +20,7 @@ returns-clause-text c live at =
     let function : c.name.result.now ≡ name_at core.functions.names c.args.found.function =
     sym (some_same (name_at core.functions.names c.args.found.function) c.name.result.now (sym (stands core.functions.names c.args.found.function [] c.requires.within) ∙ c.name.ensures.value)) in
     let priority : c.p.result ≡ live.priority = c.p.ensures ∙ ap (λ (l : Live). l.priority) is in
-    let unique : c.unique.result.now ≡ live.unique = c.unique.ensures ∙ ap (λ (l : Live). l.unique) is in
+    let unique : c.unique.result.now ≡ live.unique = c.unique.ensures.value ∙ ap (λ (l : Live). l.unique) is in
     let body : c.body.result.now ≡ live.body = c.body.ensures ∙ ap (λ (l : Live). l.body) is in
     c.in_ok-prepare.ensures.text
     ∙ (ap answer_packet (c.assignment-response.ensures.value core.config n (c.deref.ensures.value ∙ c.in_ok-handle.ensures.value))

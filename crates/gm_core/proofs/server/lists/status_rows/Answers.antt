@@ -14,5 +14,5 @@ loop-f-preserved c =
     let left = length c.args.functions.now.names - c.loop-f.f in
     let rest = length c.args.functions.now.names - (c.loop-f.f + 1) in
     ap (λ (l : List StatusRow). map status_of l ++ map line (slots_from (c.loop-f.f + 1) rest)) c.in_ok-push.ensures.items
-    ∙ (row_next status_of line c.loop-f.rows.items c.loop-f.f left rest c.in_ok-status_row.field-0 (omega (arith, below, end)) c.in_ok-status_row.ensures
+    ∙ (row_next status_of line c.loop-f.rows.items c.loop-f.f left rest c.status_row.result (omega (arith, below, end)) c.status_row.ensures
     ∙ c.loop-f.invariant)
