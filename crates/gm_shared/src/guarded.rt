@@ -1,16 +1,11 @@
 //! What the lock guards.
 
-ghost use Rattle.std.specs.Prelude.{◌≡◌, ◌+◌, ◌*◌, ℕ, List, [], IfErr};
+ghost use Rattle.std.specs.Prelude.{◌≡◌, [], IfErr};
 ghost use Rattle.gm_actions.specs.ReadEvents.{ReadsEvent};
-ghost use Rattle.gm_notes.specs.Steps.{Step};
 ghost use Rattle.gm_notes.specs.Servers.{step_of, IsSized};
-ghost use Rattle.gm_shared.specs.Books.{BookedAgrees, Held, NeedsNoMemory, Drains, KeepsSlots};
-ghost use Rattle.gm_shared.specs.Tokens.{sees};
-ghost use Rattle.gm_shared.specs.Tapes.{share_of};
+ghost use Rattle.gm_shared.specs.Books.{NeedsNoMemory, KeepsSlots};
 ghost use Rattle.gm_shared.specs.Calls.{DeskCalled, PenCalled, done_in};
-ghost use Rattle.gm_shared.specs.declared.tape.Actor.TheVariants as actors;
 ghost use Rattle.gm_shared.specs.Shared.{IsGuarded, HasSeenOwn, actor_count};
-ghost use Rattle.gm_shared.specs.declared.events.Noop.{Noop};
 ghost use Rattle.std.specs.Result.{IsErrOf};
 
 use crate::book::Booked;
@@ -18,13 +13,12 @@ use crate::events::Noop;
 use crate::history::{History, Keeper, Witness};
 use crate::name::BookName;
 use crate::receipt::{Drained, Receipt};
-use crate::tape::Told;
+use crate::shared::{Desk, Pen, Shared};
 use crate::what::What;
 use gm_actions::ReadEvent;
 use gm_bytes::SharedBytes;
 use gm_conns::SlotSet;
 use gm_notes::{ApplyError, Done};
-use gm_word::SleepTable;
 use std::marker::{Model, PhantomData};
 
 /// A book under its lock, with the keeper of the history that `K` names: it agrees with the settings that `K` names and the
@@ -74,68 +68,57 @@ impl<K: BookName> Guarded<K> {
     /// `Booked::hold`, in one critical section, whose desk sees the history after it.
     pub(crate) fn apply(
         &mut self,
-        table: &SleepTable,
-        history: &History,
-        witness: &mut Witness,
-        desk: u32,
+        shared: &Shared<K>,
+        desk: &mut Desk<K>,
         read: &ReadEvent<'_>,
-        share: &mut Vec<Told>,
         touched: &mut SlotSet,
         freed: &mut Option<SharedBytes>,
     ) -> Result<Receipt, ApplyError>
         requires size { IsSized read.now.event }
         requires reads { ReadsEvent read.now.event read.now.action }
-        requires table { table.now ≡ K.table }
-        requires history { history.now ≡ K.history }
-        requires witness { witness.old.table ≡ K.history }
-        requires who { witness.old.who ≡ 2 * desk }
-        requires told { share.old.items ≡ share_of K.taped (actors.Desk desk) witness.old.seen }
-        ensures called { DeskCalled K.settings K.taped (step_of read.now.event) desk result touched.new witness.old.seen witness.new.seen }
-        ensures told { share.new.items ≡ share_of K.taped (actors.Desk desk) witness.new.seen }
-        ensures witness { witness.new ≡ sees self.new.log witness.old }
-        ensures holding { (steps : List Step) → BookedAgrees self.old.booked K.settings steps
-            → (told : List Told) × (noop : Noop) × Held K.settings steps (step_of read.now.event) desk noop result touched.new self.old.booked self.new.booked told }
+        ensures called { DeskCalled K.settings K.taped (step_of read.now.event) desk.old.number result touched.new desk.old.witness.seen desk.new.witness.seen }
         ensures refused { IfErr result (λ _. touched.new ≡ touched.old) }
         ensures kept { KeepsSlots touched.old touched.new }
         ensures memory { NeedsNoMemory K.taped (step_of read.now.event) → IsErrOf result ApplyError.Memory → ⊥ }
+        ensures number { desk.new.number ≡ desk.old.number }
     {
         // Modelled in models/deliver.pml.
+        let number = desk.number;
         let mut noop = Noop::Left;
-        let result = self
-            .booked
-            .hold(table, desk, read, share, touched, freed, &mut noop);
-        let done = done_in(&result);
+        let result = self.booked.hold(
+            &shared.table,
+            number,
+            read,
+            &mut desk.share,
+            touched,
+            freed,
+            &mut noop,
+        );
+        let what = What::Call(noop, read.event, done_in(&result));
         self.keeper
-            .enter(history, witness, desk, What::Call(noop, read.event, done));
+            .enter(&shared.history, &mut desk.witness, number, what);
         result
     }
 
-    /// `Booked::drain_into`, in one critical section, whose pen sees the history after it.
+    /// `Booked::drain_into` of its slot, in one critical section, whose pen sees the history after it.
     pub(crate) fn drain(
         &mut self,
-        history: &History,
-        witness: &mut Witness,
-        pen: u32,
-        slot: u32,
-        share: &mut Vec<Told>,
+        shared: &Shared<K>,
+        pen: &mut Pen<K>,
     ) -> Result<Drained, ApplyError>
-        requires history { history.now ≡ K.history }
-        requires witness { witness.old.table ≡ K.history }
-        requires who { witness.old.who ≡ 2 * pen + 1 }
-        requires told { share.old.items ≡ share_of K.taped (actors.Pen pen) witness.old.seen }
-        ensures called { PenCalled K.settings K.taped pen slot result witness.old.seen witness.new.seen }
-        ensures told { share.new.items ≡ share_of K.taped (actors.Pen pen) witness.new.seen }
-        ensures witness { witness.new ≡ sees self.new.log witness.old }
-        ensures drains { (steps : List Step) → BookedAgrees self.old.booked K.settings steps
-            → (told : List Told) × Drains K.settings steps pen slot result self.old.booked self.new.booked told }
+        ensures called { PenCalled K.settings K.taped pen.old.slot pen.old.slot result pen.old.witness.seen pen.new.witness.seen }
+        ensures slot { pen.new.slot ≡ pen.old.slot }
+        ensures seat { pen.new.seat ≡ pen.old.seat }
     {
         // Modelled in models/lane.h.
-        let result = self.booked.drain_into(pen, slot, share);
+        let slot = pen.slot;
+        let result = self.booked.drain_into(slot, slot, &mut pen.share);
         let what = match &result {
             Ok(drained) => What::Drain(slot, &drained.bytes),
             Err(_) => What::Nothing,
         };
-        self.keeper.enter(history, witness, pen, what);
+        self.keeper
+            .enter(&shared.history, &mut pen.witness, slot, what);
         result
     }
 

@@ -143,17 +143,10 @@ impl<K: BookName> Desk<K> {
     {
         // Modelled in models/deliver.pml.
         let mut freed = None;
-        let share = &mut self.share;
-        let result = shared.book.lock(rt).apply(
-            &shared.table,
-            &shared.history,
-            &mut self.witness,
-            self.number,
-            read,
-            share,
-            touched,
-            &mut freed,
-        );
+        let result = shared
+            .book
+            .lock(rt)
+            .apply(shared, self, read, touched, &mut freed);
         drop(freed);
         result
     }
@@ -207,13 +200,7 @@ impl<K: BookName> Pen<K> {
         ensures seat { self.new.seat ≡ self.old.seat }
     {
         // Modelled in models/lane.h.
-        shared.book.lock(rt).drain(
-            &shared.history,
-            &mut self.witness,
-            self.slot,
-            self.slot,
-            &mut self.share,
-        )
+        shared.book.lock(rt).drain(shared, self)
     }
 }
 
