@@ -1,6 +1,6 @@
 //! What is to be sent to a connection, and how it is sent.
 
-ghost use Rattle.std.specs.Prelude.{◌≡◌, ◌<◌, ◌≤◌, ℕ, List, [], ◌++◌, length, max, true};
+ghost use Rattle.std.specs.Prelude.{◌≡◌, ◌<◌, ◌≤◌, ℕ, List, [], ◌++◌, length, max, not, is_some, true};
 ghost use Rattle.gm_outbox.specs.Turns.{BeginsIf};
 
 use crate::message::{Sent, noop_if, write_once};
@@ -165,7 +165,8 @@ impl<K: BookName> Outbox<K> {
 
     /// Whether nothing is left of the present message.
     pub fn is_empty(&self) -> bool
-        ensures { result ≡ true → left_in self.now.left ≡ [] }
+        ensures value { result ≡ not (is_some self.now.left) }
+        ensures empty { result ≡ true → left_in self.now.left ≡ [] }
     {
         self.left.is_none()
     }
