@@ -241,6 +241,7 @@ fn serve_on<
     let alloc = rt.alloc();
     let speaker = Speaker::start(rt, alloc, args.server.slots)?;
     let service = Service {
+        listener,
         limits: settings.limits,
         peer_timeout: args.peer_timeout,
         crews: crews_of(rt, alloc, args)?,
@@ -257,7 +258,6 @@ fn serve_on<
         rt,
         alloc,
         seed,
-        listener,
         settings,
         service,
         &OpenGate,

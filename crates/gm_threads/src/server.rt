@@ -11,10 +11,10 @@ use crate::error::{ControlError, ServeError};
 use crate::ready::{Ready, Report};
 use crate::settings::{Served, Settings};
 use crate::speaking::Speaker;
-use crate::state::{ServerState, new_slots};
+use crate::state::ServerState;
 use gm_feeder::Limits;
-use gm_session::{Gate, OwnDesk};
-use gm_shared::{Blank, BookName, Shared, TapeMode};
+use gm_session::Gate;
+use gm_shared::{Blank, BookName, TapeMode};
 use std::alloc::Global;
 use std::hash::RandomState;
 use std::marker::Brand;
@@ -48,9 +48,11 @@ fn mode(tape: bool) -> TapeMode
     if tape { TapeMode::On } else { TapeMode::Off }
 }
 
-/// How a server serves: how its book is opened, what serves its connections, and when a peer is given up.
+/// How a server serves: where its connections come from, what serves them, and when a peer is given up.
 #[derive(Drop)]
 pub struct Service {
+    /// Where the connections come from.
+    pub listener: TcpListener,
     /// How large a unit may be.
     pub limits: Limits,
     /// After about how many seconds, up to 32,767, a peer is disconnected that vanished or leaves what was sent to it unread; at 0
@@ -62,7 +64,7 @@ pub struct Service {
     pub speaker: Arc<Speaker, Global>,
 }
 
-/// Serves the connections that a listener takes, with a book that has a name, and settles the book in the end: `serve`,
+/// Serves, with a book that has a name, and settles the book in the end: `serve`,
 /// which hands back the history, the tape, the share of each desk and pen, and the account of each connection.
 pub(crate) fn serve_book<
     K: BookName + Send + Sync,
@@ -73,7 +75,6 @@ pub(crate) fn serve_book<
     rt: &R,
     alloc: Global,
     blank: Blank,
-    listener: &TcpListener,
     service: Service,
     gate: &G,
     ready: &mut T,
@@ -85,19 +86,14 @@ pub(crate) fn serve_book<
     ensures { IfOk result (λ served. SettledSo K.settings K.taped K.history served.book served.accounts.items) }
 {
     let Service {
+        listener,
         limits,
         peer_timeout,
         crews,
         speaker,
     } = service;
-    let slot_count = blank.slots();
-    let (shared, desks, pens, control) = Shared::<K>::open(alloc, blank)?;
-    let slots = new_slots(alloc, desks, pens, limits)?;
-    let control = OwnDesk::new(control);
-    let state = ServerState::new(
-        rt, alloc, shared, slots, control, slot_count, crews, speaker,
-    );
-    let connections = run_control(rt, &state, listener, peer_timeout, gate, ready)?;
+    let state = ServerState::<K>::new(rt, alloc, blank, limits, crews, speaker)?;
+    let connections = run_control(rt, &state, &listener, peer_timeout, gate, ready)?;
     let BookEnd { book, accounts } = settle_state(state)?;
     Ok(Served {
         connections,
@@ -139,21 +135,13 @@ pub fn serve<R: Threads + Wait + Clock + Eprint + Copy + Send + Sync + 'static, 
 {
     let slots = settings.config.slots();
     let service = Service {
+        listener,
         limits: settings.limits,
         peer_timeout: 0,
         crews: Crews::pairs(alloc, slots)?,
         speaker: Speaker::start(rt, alloc, slots)?,
     };
-    let served = serve_with(
-        rt,
-        alloc,
-        seed,
-        listener,
-        settings,
-        service,
-        gate,
-        &mut Untold,
-    )?;
+    let served = serve_with(rt, alloc, seed, settings, service, gate, &mut Untold)?;
     match served.summary() {
         Ok(_) => Ok(served),
         Err(error) => {
@@ -168,7 +156,6 @@ pub fn serve_with<R: Threads + Wait + Clock + Sync, G: Gate, T: Ready>(
     rt: &R,
     alloc: Global,
     seed: RandomState,
-    listener: TcpListener,
     settings: Settings,
     service: Service,
     gate: &G,
@@ -177,9 +164,9 @@ pub fn serve_with<R: Threads + Wait + Clock + Sync, G: Gate, T: Ready>(
     ensures { IfOk result (EndsSo settings.config settings.tape) }
 {
     let Settings { config, tape, .. } = settings;
-    let Ok(()) = set_accept_timeout(&listener) else {
+    let Ok(()) = set_accept_timeout(&service.listener) else {
         return Err(ControlError::Listen);
     };
     let blank = Blank::new(alloc, seed, config, mode(tape))?;
-    serve_book::<Brand, R, G, T>(rt, alloc, blank, &listener, service, gate, ready)
+    serve_book::<Brand, R, G, T>(rt, alloc, blank, service, gate, ready)
 }

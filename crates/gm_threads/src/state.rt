@@ -14,7 +14,7 @@ use gm_feeder::Limits;
 use gm_lane_word::{Due, Lanes};
 use gm_notes::{Event, Mode};
 use gm_session::{Audience, Effects, Notify, Oddity, OwnDesk, Talk};
-use gm_shared::{BookName, Desk, Pen, Shared};
+use gm_shared::{Blank, BookName, Desk, Pen, Shared};
 use std::alloc::{AllocError, Global};
 use std::sync::atomic::{AtomicU64, Ordering};
 use std::sync::{Arc, Mutex, Wait};
@@ -88,7 +88,7 @@ impl Delivering {
 }
 
 /// What each slot has of its own, in their order.
-pub(crate) fn new_slots<K: BookName>(
+fn new_slots<K: BookName>(
     alloc: Global,
     desks: Vec<Desk<K>>,
     pens: Vec<Pen<K>>,
@@ -115,27 +115,30 @@ pub(crate) fn new_slots<K: BookName>(
 }
 
 impl<K: BookName> ServerState<K> {
-    /// What the threads of a new server share.
+    /// Opens a book, for the threads of a new server.
     pub(crate) fn new(
         rt: &impl Clock,
         alloc: Global,
-        shared: Shared<K>,
-        slots: Vec<Slot<K>>,
-        control: OwnDesk<K>,
-        slot_count: u32,
+        blank: Blank,
+        limits: Limits,
         crews: Crews,
         speaker: Arc<Speaker, Global>,
-    ) -> ServerState<K>
-        requires sized { slot_count ≡ K.settings.slots }
-        requires numbered { map (λ slot. slot.lane.slot) slots.items ≡ numbers_below slot_count }
+    ) -> Result<ServerState<K>, AllocError>
+        requires table { blank.table ≡ K.table }
+        requires history { blank.history ≡ K.history }
+        requires settings { blank.settings ≡ K.settings }
+        requires taped { blank.taped ≡ K.taped }
     {
-        ServerState {
+        let slot_count = blank.slots();
+        let (shared, desks, pens, control) = Shared::<K>::open(alloc, blank)?;
+        let slots = new_slots(alloc, desks, pens, limits)?;
+        Ok(ServerState {
             alloc,
             shared,
             crews,
             slots,
             slot_count,
-            control: Mutex::new(control),
+            control: Mutex::new(OwnDesk::new(control)),
             speaker,
             begun: Instant::now(rt).ok(),
             second: AtomicU64::new(0),
@@ -143,7 +146,7 @@ impl<K: BookName> ServerState<K> {
             batch_lock: Mutex::new(()),
             connections: AtomicU64::new(0),
             stage: Stage::new(),
-        }
+        })
     }
 
     pub(crate) fn slot(&self, number: u32) -> Option<&Slot<K>>
