@@ -1,6 +1,6 @@
 //! The control thread: it takes connections, and hands in ticks.
 
-ghost use Rattle.std.specs.Prelude.{◌≡◌, []};
+ghost use Rattle.std.specs.Prelude.{◌≡◌, [], pos};
 
 use crate::crews;
 use crate::error::ControlError;
@@ -90,12 +90,18 @@ struct Refusal {
 }
 
 impl Refusal {
-    fn new(trouble: Trouble) -> Refusal {
+    fn new(trouble: Trouble) -> Refusal
+        ensures { result ≡ record { trouble = trouble; error = pos 0 } }
+    {
         Refusal { trouble, error: 0 }
     }
 }
 
 impl From<AllocError> for Refusal {
+    ghost use Rattle.gm_threads.specs.declared.speaking.Trouble.TheVariants.{Memory};
+
+    ghost from_gives = { λ _ e. e ≡ record { trouble = Memory; error = pos 0 } };
+
     fn from(_e: AllocError) -> Refusal {
         Refusal::new(Trouble::Memory)
     }
