@@ -246,6 +246,7 @@ fn serve_on<
         peer_timeout: args.peer_timeout,
         crews: crews_of(rt, alloc, args)?,
         speaker: Arc::try_clone(&speaker)?,
+        seed,
     };
     let mut listening = Listening {
         rt,
@@ -254,15 +255,7 @@ fn serve_on<
         systemd: Systemd::new(rt),
         speaker: Arc::try_clone(&speaker)?,
     };
-    let ended = serve_with(
-        rt,
-        alloc,
-        seed,
-        settings,
-        service,
-        &OpenGate,
-        &mut listening,
-    );
+    let ended = serve_with(rt, alloc, settings, service, &OpenGate, &mut listening);
     if listening.told.is_err() {
         drop(ended);
         return Err(RunError::Output);

@@ -62,6 +62,8 @@ pub struct Service {
     pub crews: Crews,
     /// What is said while the server runs.
     pub speaker: Arc<Speaker, Global>,
+    /// What the book's tables hash with, as names and ids come from strangers.
+    pub seed: RandomState,
 }
 
 /// Serves, with a book that has a name, and settles the book in the end: `serve`,
@@ -91,6 +93,7 @@ pub(crate) fn serve_book<
         peer_timeout,
         crews,
         speaker,
+        ..
     } = service;
     let state = ServerState::<K>::new(rt, alloc, blank, limits, crews, speaker)?;
     let connections = run_control(rt, &state, &listener, peer_timeout, gate, ready)?;
@@ -140,8 +143,9 @@ pub fn serve<R: Threads + Wait + Clock + Eprint + Copy + Send + Sync + 'static, 
         peer_timeout: 0,
         crews: Crews::pairs(alloc, slots)?,
         speaker: Speaker::start(rt, alloc, slots)?,
+        seed,
     };
-    let served = serve_with(rt, alloc, seed, settings, service, gate, &mut Untold)?;
+    let served = serve_with(rt, alloc, settings, service, gate, &mut Untold)?;
     match served.summary() {
         Ok(_) => Ok(served),
         Err(error) => {
@@ -155,7 +159,6 @@ pub fn serve<R: Threads + Wait + Clock + Eprint + Copy + Send + Sync + 'static, 
 pub fn serve_with<R: Threads + Wait + Clock + Sync, G: Gate, T: Ready>(
     rt: &R,
     alloc: Global,
-    seed: RandomState,
     settings: Settings,
     service: Service,
     gate: &G,
@@ -167,6 +170,6 @@ pub fn serve_with<R: Threads + Wait + Clock + Sync, G: Gate, T: Ready>(
     let Ok(()) = set_accept_timeout(&service.listener) else {
         return Err(ControlError::Listen);
     };
-    let blank = Blank::new(alloc, seed, config, mode(tape))?;
+    let blank = Blank::new(alloc, service.seed, config, mode(tape))?;
     serve_book::<Brand, R, G, T>(rt, alloc, blank, service, gate, ready)
 }
