@@ -40,6 +40,14 @@ pub struct Booked {
     ghost most: { slots ≤ 1024 },
 }
 
+/// A desk's call: the event that it hands in, and the table of the book's sleep words.
+#[derive(Clone, Copy)]
+pub(crate) struct DeskCall<'a> {
+    pub(crate) table: &'a SleepTable,
+    pub(crate) desk: u32,
+    pub(crate) read: &'a ReadEvent<'a>,
+}
+
 impl Booked {
     ghost use Rattle.gm_shared.specs.Books.{Holds, BookedAgrees, Held, NeedsNoMemory, Drains, AsksWord, KeepsSlots, FollowsTouched, FollowsCore};
     ghost use Rattle.gm_shared.specs.Events.{slot_of, MayFind, entered};
@@ -90,28 +98,27 @@ impl Booked {
     /// where the event is refused.
     pub(crate) fn hold(
         &mut self,
-        table: &SleepTable,
-        desk: u32,
-        read: &ReadEvent<'_>,
+        call: DeskCall<'_>,
         share: &mut Vec<Told>,
         touched: &mut SlotSet,
         freed: &mut Option<SharedBytes>,
         found: &mut Noop,
     ) -> Result<Receipt, ApplyError>
-        requires size { IsSized read.now.event }
-        requires reads { ReadsEvent read.now.event read.now.action }
-        requires table { self.old.seat.table ≡ table.now }
+        requires size { IsSized call.read.now.event }
+        requires reads { ReadsEvent call.read.now.event call.read.now.action }
+        requires table { self.old.seat.table ≡ call.table.now }
         ensures holding { (k : Settings) (steps : List Step) → BookedAgrees self.old k steps
             → (told : List Told) × (share.new.items ≡ share.old.items ++ told)
-            × Held k steps (step_of read.now.event) desk found.new result touched.new self.old self.new told }
+            × Held k steps (step_of call.entry.read.now.event) call.entry.desk found.new result touched.new self.old self.new told }
         ensures refused { IfErr result (λ _. touched.new ≡ touched.old) }
         ensures kept { KeepsSlots touched.old touched.new }
-        ensures memory { NeedsNoMemory self.old.tape.on (step_of read.now.event) → IsErrOf result ApplyError.Memory → ⊥ }
+        ensures memory { NeedsNoMemory self.old.tape.on (step_of call.entry.read.now.event) → IsErrOf result ApplyError.Memory → ⊥ }
         ensures table { self.new.seat.table ≡ self.old.seat.table }
         ensures opened { MatchResult result (λ receipt. (self.new.openings ≡ counted_up receipt.done.opened self.old.openings)
             × (receipt.opening ≡ told_opening receipt.done.opened self.new.openings)) (λ _. self.new.openings ≡ self.old.openings) }
     {
         // Modelled in models/deliver.pml and jobs.pml.
+        let DeskCall { table, desk, read } = call;
         *found = Noop::Left;
         let copies = self.tape.room_for(self.alloc, share, &read.event)?;
         let noop = self.resolve_noop(table, read);

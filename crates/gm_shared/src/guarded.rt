@@ -8,7 +8,7 @@ ghost use Rattle.gm_shared.specs.Calls.{DeskCalled, PenCalled, done_in};
 ghost use Rattle.gm_shared.specs.Shared.{IsGuarded, HasSeenOwn, actor_count};
 ghost use Rattle.std.specs.Result.{IsErrOf};
 
-use crate::book::Booked;
+use crate::book::{Booked, DeskCall};
 use crate::events::Noop;
 use crate::history::{History, Keeper, Witness};
 use crate::name::BookName;
@@ -85,15 +85,14 @@ impl<K: BookName> Guarded<K> {
         // Modelled in models/deliver.pml.
         let number = desk.number;
         let mut noop = Noop::Left;
-        let result = self.booked.hold(
-            &shared.table,
-            number,
+        let call = DeskCall {
+            table: &shared.table,
+            desk: number,
             read,
-            &mut desk.share,
-            touched,
-            freed,
-            &mut noop,
-        );
+        };
+        let result = self
+            .booked
+            .hold(call, &mut desk.share, touched, freed, &mut noop);
         let what = What::Call(noop, read.event, done_in(&result));
         self.keeper
             .enter(&shared.history, &mut desk.witness, number, what);

@@ -11,7 +11,7 @@ ghost use Rattle.gm_shared.specs.Calls.{Called, HandedIn, if_taken};
 ghost use Rattle.gm_shared.specs.declared.events.Noop.{Noop};
 ghost use Rattle.gm_shared.specs.declared.tape.Told.{Told};
 
-use crate::book::Booked;
+use crate::book::{Booked, DeskCall};
 use crate::events::Noop;
 use crate::name::BookName;
 use crate::receipt::{Drained, Receipt};
@@ -47,18 +47,16 @@ impl Booked {
         ensures later { MayBeTakenLater }
     {
         may_be_taken_later();
+        let read = ReadEvent::new(*event);
+        let call = DeskCall {
+            table,
+            desk,
+            read: &read,
+        };
         let mut share = Vec::new(self.alloc);
         let mut touched = SlotSet::new();
         let mut noop = Noop::Left;
-        self.hold(
-            table,
-            desk,
-            &ReadEvent::new(*event),
-            &mut share,
-            &mut touched,
-            &mut None,
-            &mut noop,
-        )
+        self.hold(call, &mut share, &mut touched, &mut None, &mut noop)
     }
 
     /// Takes the bytes that wait for a slot, which wait no more. `NotOpen` comes where the slot isn't open; it

@@ -16,8 +16,8 @@ use Rattle.gm_shared.proofs.book.Booked.hold.Goals as goal
 
 pub returns-in_err-done-clause-holding : goal.returns-in_err-done-clause-holding
 returns-in_err-done-clause-holding c = λ k steps h.
-    let event = c.args.read.now.event in
-    let desk = c.args.desk in
+    let event = c.args.call.read.now.event in
+    let desk = c.args.call.desk in
     let noop = c.resolve_noop-noop.result in
     let old = c.args.self.now.tape in
     let mid = c.resolve_noop-noop.new.self.tape in
@@ -48,8 +48,8 @@ returns-in_err-done-clause-holding c = λ k steps h.
 
 pub returns-clause-holding : goal.returns-clause-holding
 returns-clause-holding c = λ k steps h.
-    let event = c.args.read.now.event in
-    let desk = c.args.desk in
+    let event = c.args.call.read.now.event in
+    let desk = c.args.call.desk in
     let noop = c.resolve_noop-noop.result in
     let old = c.args.self.now.tape in
     let mid = c.resolve_noop-noop.new.self.tape in
