@@ -1,4 +1,4 @@
-//! Worked rows of connections and lines, as those of jobs (job_rows.rt).
+//! Worked rows of connections and lines, each a function as those of jobs and workers (job_rows.rt).
 
 ghost use Rattle.gm_laws.specs.ConnectionRows.{LeastSlot, MadeJobs, SlotsSpent, ClosedSlots, NothingInherited};
 ghost use Rattle.gm_laws.specs.ConnectionRows.{OptionNotInherited, SleepNotInherited, ShutNotInherited, ListenerNotInherited};
