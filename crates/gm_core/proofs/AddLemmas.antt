@@ -17,7 +17,7 @@ use Rattle.gm_queues.specs.FunctionTables.{Table, number_of, queue, is_queue, Ch
 use Rattle.gm_jobs.specs.Live.{fresh, listed}
 use Rattle.gm_jobs.specs.Tables.{Makes, with_room}
 use Rattle.gm_jobs.specs.Tables as jobs
-use Rattle.gm_core.specs.declared.server.Core.{Core}
+use Rattle.gm_core.specs.declared.server.Tables.{Tables}
 use Rattle.gm_core.specs.Facts.{JobFacts, FunctionFacts, conn_facts, function_facts, job_facts}
 use Rattle.gm_core.specs.Holds.{Holds, AreOpen, HoldsConns, HoldsFunctions, HoldsJobs, Goes, limit_named, add_job, first_listener}
 use Rattle.gm_core.proofs.ConnLemmas.{touched_same}
@@ -104,13 +104,13 @@ module _ (k : Settings) (old middle new : Table) (f : ℕ) (p : Priority) (n : �
       limit_same (Some g) = ap (λ (l : List ℕ). slice_index l g) (push.limits ∙ place.limits)
 
 -- only the functions and the jobs of a core changed
-pub record OnlyQueued (old new : Core) : Type 0 where
+pub record OnlyQueued (old new : Tables) : Type 0 where
   pub config : new.config ≡ old.config
   pub conns : new.conns ≡ old.conns
   pub moment : new.moment ≡ old.moment
   pub mode : new.mode ≡ old.mode
 
-pub goes_added : (old new : Core) (middle : Table) (c : ℕ) (s : Submission) (f : ℕ) → OnlyQueued old new → IsOpen old.conns c → number_of s.function old.functions ≡ Some f
+pub goes_added : (old new : Tables) (middle : Table) (c : ℕ) (s : Submission) (f : ℕ) → OnlyQueued old new → IsOpen old.conns c → number_of s.function old.functions ≡ Some f
     → old.jobs.next < 2 ^ 64 → ChangesQueue f s.priority with_reserved_one old.functions middle → ChangesQueue f s.priority (with_job old.jobs.next) middle new.functions
     → Makes (fresh f s.priority s.unique s.body s.background (first_listener s.background c)) old.jobs new.jobs → Goes old new (add_job c s old.jobs.next)
 goes_added old new middle c s f only opened number fits place push makes = record {
@@ -182,7 +182,7 @@ jobs_roomed f u b holds = record {
   room = holds.room;
 }
 
-pub goes_roomed : (old new : Core) (f u b : ℕ) → new.config ≡ old.config → new.conns ≡ old.conns → new.functions ≡ old.functions → new.jobs ≡ with_room f u b old.jobs
+pub goes_roomed : (old new : Tables) (f u b : ℕ) → new.config ≡ old.config → new.conns ≡ old.conns → new.functions ≡ old.functions → new.jobs ≡ with_room f u b old.jobs
     → new.moment ≡ old.moment → new.mode ≡ old.mode → Goes old new (λ past. past)
 goes_roomed old new f u b config conns functions jobs now goes =
     goes_then
@@ -191,7 +191,7 @@ goes_roomed old new f u b config conns functions jobs now goes =
     (goes_nothing {a = record old { jobs = with_room f u b old.jobs }} {b = new} config conns functions jobs now goes)
 
 -- a function was mentioned and taken back, and room was made for a job
-pub goes_undone : (old new : Core) → new.config ≡ old.config → new.conns ≡ old.conns → Same old.functions new.functions → new.jobs ≡ record old.jobs { room = new.jobs.room }
+pub goes_undone : (old new : Tables) → new.config ≡ old.config → new.conns ≡ old.conns → Same old.functions new.functions → new.jobs ≡ record old.jobs { room = new.jobs.room }
     → new.moment ≡ old.moment → new.mode ≡ old.mode → Goes old new (λ past. past)
 goes_undone old new config conns same roomed now goes =
     goes_then (goes_back old (record old { functions = new.functions }) (record { config = refl; conns = refl; jobs = refl; moment = refl; mode = refl }) same)

@@ -1,9 +1,9 @@
 -- Texts that came in packets, so that packets can carry them again.
-use Rattle.std.proofs.Common.{◌≡◌, ◌+◌, ◌≤◌, ℕ, Bool, true, false, ◌||◌, ◌==◌, nat_lt, List, [], ◌∷◌, ◌++◌, length, ap, ◌∙◌, arith}
+use Rattle.std.proofs.Common.{◌≡◌, ◌+◌, ℕ, Bool, true, false, ◌||◌, ◌==◌, nat_lt, List, [], ◌∷◌, ◌++◌, length, arith}
 use Rattle.std.specs.List.{join_with_byte, list_any}
 use Rattle.std.proofs.lemmas.List.{length-append}
 use Rattle.std.proofs.lemmas.Bool.Decides.{nat_tests}
-use Rattle.gm_packet.specs.Packets.{has_nul, LackNul}
+use Rattle.gm_packet.specs.Packets.{has_nul}
 use Rattle.gm_notes.specs.Submissions.{is_bad_name}
 use Rattle.gm_notes.specs.Lines.{is_bad_word}
 use Rattle.gm_queues.specs.FunctionTables.{IsName}

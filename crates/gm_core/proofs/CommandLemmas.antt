@@ -17,7 +17,7 @@ use Rattle.gm_notes.specs.Past.{Past, with_note, with_output, with_mention}
 use Rattle.gm_notes.specs.Lines.{shut_each, go_graceful}
 use Rattle.gm_queues.specs.FunctionTables.{Table, number_of, limit, SetsLimit, ChangesNames, IsFree}
 use Rattle.gm_jobs.specs.Tables as jobs
-use Rattle.gm_core.specs.declared.server.Core.{Core}
+use Rattle.gm_core.specs.declared.server.Tables.{Tables}
 use Rattle.gm_core.specs.Facts.{JobFacts, conn_facts, function_facts, job_facts}
 use Rattle.gm_core.specs.Holds.{name_at, limit_named, jobs_named, HoldsConns, HoldsFunctions, HoldsJobs, Holds, Keeps, Goes}
 use Rattle.gm_core.proofs.ConnLemmas.{touched_same}
@@ -28,14 +28,14 @@ use Rattle.gm_core.proofs.CoreLemmas.{OnlyFunctions, goes_functions, goes_as, go
 -- ---- the mode
 
 -- only the mode of a core changed
-pub record OnlyMode (old new : Core) : Type 0 where
+pub record OnlyMode (old new : Tables) : Type 0 where
   pub config : new.config ≡ old.config
   pub conns : new.conns ≡ old.conns
   pub functions : new.functions ≡ old.functions
   pub jobs : new.jobs ≡ old.jobs
   pub moment : new.moment ≡ old.moment
 
-pub goes_went : (old new : Core) (m : Mode) → OnlyMode old new → new.mode ≡ m → Goes old new (with_note (Went m))
+pub goes_went : (old new : Tables) (m : Mode) → OnlyMode old new → new.mode ≡ m → Goes old new (with_note (Went m))
 goes_went old new m only is = record {
   config = only.config;
   others = touched_same only.conns;
@@ -128,7 +128,7 @@ jobs_limited {k} {table} {live} {is_open} {facts} limits holds = record {
   room = holds.room;
 }
 
-pub goes_limit : (old new : Core) (name : List ℕ) (f size : ℕ) → OnlyFunctions old new → number_of name old.functions ≡ Some f → SetsLimit f size old.functions new.functions
+pub goes_limit : (old new : Tables) (name : List ℕ) (f size : ℕ) → OnlyFunctions old new → number_of name old.functions ≡ Some f → SetsLimit f size old.functions new.functions
     → Goes old new (with_note (Limit name size))
 goes_limit old new name f size only at changes =
     goes_functions old new (with_note (Limit name size)) only
@@ -148,7 +148,7 @@ goes_limit old new name f size only at changes =
 is_some_of : {A : Type 0} (o : Option A) (x : A) → o ≡ Some x → IsSome o
 is_some_of o x e = ap is_some e
 
-pub goes_mentioned : (old new : Core) (name : List ℕ) (f : ℕ) → OnlyFunctions old new → number_of name new.functions ≡ Some f
+pub goes_mentioned : (old new : Tables) (name : List ℕ) (f : ℕ) → OnlyFunctions old new → number_of name new.functions ≡ Some f
     → (IsSome (number_of name old.functions) → new.functions ≡ old.functions)
     → (IsNone (number_of name old.functions) → ChangesNames (old.functions.names ++ name ∷ []) old.functions new.functions)
     → (IsNone (number_of name old.functions) → IsFree f new.functions)
@@ -169,7 +169,7 @@ goes_mentioned old new name f only found stays fresh free room = by (number_of n
 -- ---- connections that are shut, one after another
 
 -- the core keeps a past from which shutting these slots leads where shutting all led from the first
-pub record Shutting (core : Core) (slot left : ℕ) (k : Settings) (past : Past) : Type 0 where
+pub record Shutting (core : Tables) (slot left : ℕ) (k : Settings) (past : Past) : Type 0 where
   pub now : Past
   pub keeps : Keeps core now
   pub leads : shut_each (slots_from 0 k.slots) past ≡ shut_each (slots_from slot left) now

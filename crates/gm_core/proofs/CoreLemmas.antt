@@ -28,9 +28,9 @@ use Rattle.gm_conns.specs.ConnTables as tables
 use Rattle.gm_queues.specs.FunctionTables as queues
 use Rattle.gm_jobs.specs.Tables as jobs
 use Rattle.gm_notes.specs.declared.states.Mode.{Mode}
-use Rattle.gm_core.specs.declared.server.Core.{Core}
+use Rattle.gm_core.specs.declared.server.Tables.{Tables}
 use Rattle.gm_core.specs.Facts.{Seen, seen, conn_facts, function_facts, job_facts}
-use Rattle.gm_core.specs.Holds.{Holds, Keeps, NamesFunctions, ability_named, shown, HoldsConns, HoldsFunctions, HoldsJobs}
+use Rattle.gm_core.specs.Holds.{Holds, Keeps, IsKept, NamesFunctions, ability_named, shown, HoldsConns, HoldsFunctions, HoldsJobs}
 use Rattle.gm_core.specs.Holds.{AllTouched, Goes, Does}
 use Rattle.gm_core.proofs.ConnLemmas.{touched_same, touched_then, touched_told, touched_apart, conn_changes, same_here}
 use Rattle.gm_core.proofs.ConnLemmas.{seen_same, phase_seen, shut_seen, option_seen, id_seen, can_seen, cant_seen}
@@ -39,7 +39,7 @@ use Rattle.gm_actions.proofs.Changing.{changes_then, changes_as, done_as, done_n
 
 -- ---- one change after another
 
-module _ {a b : Core} where
+module _ {a b : Tables} where
   pub goes_nothing : b.config ≡ a.config → b.conns ≡ a.conns → b.functions ≡ a.functions → b.jobs ≡ a.jobs → b.moment ≡ a.moment → b.mode ≡ a.mode
       → Goes a b (λ past. past)
   goes_nothing config conns functions jobs moment mode = record {
@@ -54,8 +54,11 @@ module _ {a b : Core} where
     others = touched_same conns;
   }
 
-  pub goes_then : {c : Core} {f g : Past → Past} → Goes a b f → Goes b c g → Goes a c (λ past. g (f past))
+  pub goes_then : {c : Tables} {f g : Past → Past} → Goes a b f → Goes b c g → Goes a c (λ past. g (f past))
   goes_then {c} {f} {g} first second = changes_then {f = f} {g = g} (λ x y. touched_then x y) first second
+
+  pub kept_then : {f : Past → Past} → Goes a b f → IsKept a → IsKept b
+  kept_then {f} goes kept = (f kept.0, goes.past kept.0 kept.1)
 
   -- a change that is the same at what is kept
   pub goes_as : {f : Past → Past} (g : Past → Past) → Goes a b f → ((past : Past) → Keeps a past → f past ≡ g past) → Goes a b g
@@ -84,7 +87,7 @@ module _ {k : Settings} {connections : tables.Table} {mentioned : queues.Table} 
 -- ---- changes of connections
 
 -- only the connections of a core changed
-pub record OnlyConns (old new : Core) : Type 0 where
+pub record OnlyConns (old new : Tables) : Type 0 where
   pub config : new.config ≡ old.config
   pub functions : new.functions ≡ old.functions
   pub jobs : new.jobs ≡ old.jobs
@@ -108,7 +111,7 @@ pub record Alters (names : List (List ℕ)) (change : Connection → Connection)
   pub waiting : (x : Connection) → (change x).waiting ≡ pour x.waiting
   pub able : (x : Connection) → NamesFunctions names x → NamesFunctions names (change x)
 
-pub goes_conn : {old new : Core} {change : Connection → Connection} {told : Bool} (c : ℕ) (effect : Seen → Seen) (pour : List ℕ → List ℕ) (step : Past → Past)
+pub goes_conn : {old new : Tables} {change : Connection → Connection} {told : Bool} (c : ℕ) (effect : Seen → Seen) (pour : List ℕ → List ℕ) (step : Past → Past)
     → OnlyConns old new → Changes c change told old.conns new.conns → AllTouched old.conns new.conns
     → ((p : Past) → Keeps old p → Alters old.functions.names change effect pour) → Touches c effect pour step → Goes old new step
 goes_conn {old} {new} {change} {told} c effect pour step only changes touched alter touches = record {
@@ -138,7 +141,7 @@ unseen s = s
 abbrev unpoured : List ℕ → List ℕ
 unpoured bytes = bytes
 
-module _ {old new : Core} (c : ℕ) (only : OnlyConns old new) where
+module _ {old new : Tables} (c : ℕ) (only : OnlyConns old new) where
   -- room is nothing that the past tells of
   pub goes_room : {told : Bool} (n : ℕ) → Changes c (conns.with_room n) told old.conns new.conns → Goes old new (λ past. past)
   goes_room {told} n changes =
@@ -197,14 +200,14 @@ module _ {old new : Core} (c : ℕ) (only : OnlyConns old new) where
       goes_conn c (lemmas.with_id id) unpoured (with_note (Named c id)) only changes (touched_apart c (λ x. refl) changes) (λ p keeps. record { opens = λ x. refl; shown = λ x able. refl; waiting = λ x. refl; able = λ x able. able })
       (record { opens = λ p. refl; seen = λ p d. id_seen id (d == c) (seen d p.notes); waiting = λ p d. same_here (d == c) (waiting d p.flow); functions = λ p. refl; jobs = λ p. refl; moment = λ p. refl; mode = λ p. refl })
 
-pub does_set_id : (old new : Core) (told : Bool) (c : ℕ) (id : List ℕ) (result : Result (Unit {0}) AllocError) → OnlyConns old new
+pub does_set_id : (old new : Tables) (told : Bool) (c : ℕ) (id : List ℕ) (result : Result (Unit {0}) AllocError) → OnlyConns old new
     → OnOk result (Changes c (conns.with_id id) told old.conns new.conns) → OnErr result (new.conns ≡ old.conns) → Does old result new (with_note (Named c id))
 does_set_id old new told c id (Ok done) only ok err = goes_named c only id ok
 does_set_id old new told c id (Err wanting) only ok err = goes_nothing only.config err only.functions only.jobs only.moment only.mode
 
 -- ---- abilities
 
-module _ {old new : Core} (c : ℕ) (only : OnlyConns old new) where
+module _ {old new : Tables} (c : ℕ) (only : OnlyConns old new) where
   pub goes_cant : {told : Bool} (name : List ℕ) (f : ℕ) → number_of name old.functions ≡ Some f → Changes c (conns.without_ability f) told old.conns new.conns → Goes old new (with_note (Cant c name))
   goes_cant {told} name f at changes =
       goes_conn c (lemmas.without_ability name) unpoured (with_note (Cant c name)) only changes (touched_apart c (λ x. refl) changes)
@@ -240,7 +243,7 @@ module _ {old new : Core} (c : ℕ) (only : OnlyConns old new) where
       (record { opens = λ p. refl; seen = λ p d. can_seen name t (d == c) (seen d p.notes); waiting = λ p d. same_here (d == c) (waiting d p.flow); functions = λ p. refl; jobs = λ p. refl; moment = λ p. refl; mode = λ p. refl })
 
 -- a function that isn't known is none that a worker can do
-pub goes_cant_unknown : (core : Core) (c : ℕ) (name : List ℕ) → number_of name core.functions ≡ None → Goes core core (with_note (Cant c name))
+pub goes_cant_unknown : (core : Tables) (c : ℕ) (name : List ℕ) → number_of name core.functions ≡ None → Goes core core (with_note (Cant c name))
 goes_cant_unknown core c name none = record {
   config = refl;
   others = touched_same refl;
@@ -265,14 +268,14 @@ goes_cant_unknown core c name none = record {
 -- ---- functions
 
 -- only the functions of a core changed
-pub record OnlyFunctions (old new : Core) : Type 0 where
+pub record OnlyFunctions (old new : Tables) : Type 0 where
   pub config : new.config ≡ old.config
   pub conns : new.conns ≡ old.conns
   pub jobs : new.jobs ≡ old.jobs
   pub moment : new.moment ≡ old.moment
   pub mode : new.mode ≡ old.mode
 
-pub goes_functions : (old new : Core) (step : Past → Past) → OnlyFunctions old new
+pub goes_functions : (old new : Tables) (step : Past → Past) → OnlyFunctions old new
     → ((p : Past) → Keeps old p → Holds old.config old.conns new.functions old.jobs old.moment old.mode (step p)) → Goes old new step
 goes_functions old new step only holds = record {
   config = only.config;
@@ -285,7 +288,7 @@ goes_functions old new step only holds = record {
       (subst (λ x. Holds x old.conns new.functions old.jobs old.moment old.mode (step p)) (sym only.config) (holds p keeps)))));
 }
 
-pub goes_mention : (old new : Core) (name : List ℕ) → OnlyFunctions old new → number_of name old.functions ≡ None
+pub goes_mention : (old new : Tables) (name : List ℕ) → OnlyFunctions old new → number_of name old.functions ≡ None
     → ChangesNames (old.functions.names ++ name ∷ []) old.functions new.functions → IsFree (length old.functions.names) new.functions
     → length old.functions.names ≢ old.functions.most → Goes old new (with_note (Mention name))
 goes_mention old new name only none changes free room =
@@ -299,7 +302,7 @@ goes_mention old new name only none changes free room =
     })
 
 -- a function was mentioned and taken back
-pub goes_back : (old new : Core) → OnlyFunctions old new → Same old.functions new.functions → Goes old new (λ past. past)
+pub goes_back : (old new : Tables) → OnlyFunctions old new → Same old.functions new.functions → Goes old new (λ past. past)
 goes_back old new only same =
     goes_functions old new (λ past. past) only
     (λ p keeps. record {
@@ -328,14 +331,14 @@ beside_none (Some found) c p e = absurd cc
 -- ---- jobs
 
 -- only the jobs of a core changed
-pub record OnlyJobs (old new : Core) : Type 0 where
+pub record OnlyJobs (old new : Tables) : Type 0 where
   pub config : new.config ≡ old.config
   pub conns : new.conns ≡ old.conns
   pub functions : new.functions ≡ old.functions
   pub moment : new.moment ≡ old.moment
   pub mode : new.mode ≡ old.mode
 
-pub goes_jobs : (old new : Core) (step : Past → Past) → OnlyJobs old new
+pub goes_jobs : (old new : Tables) (step : Past → Past) → OnlyJobs old new
     → ((p : Past) → Keeps old p → Holds old.config old.conns old.functions new.jobs old.moment old.mode (step p)) → Goes old new step
 goes_jobs old new step only holds = record {
   config = only.config;
@@ -348,17 +351,17 @@ goes_jobs old new step only holds = record {
       (subst (λ x. Holds x old.conns old.functions new.jobs old.moment old.mode (step p)) (sym only.config) (holds p keeps)))));
 }
 
-pub goes_kept : (old new : Core) (n : ℕ) → OnlyJobs old new → jobs.Changes n Rattle.gm_jobs.specs.Live.kept old.jobs new.jobs → Goes old new (with_note (Kept n))
+pub goes_kept : (old new : Tables) (n : ℕ) → OnlyJobs old new → jobs.Changes n Rattle.gm_jobs.specs.Live.kept old.jobs new.jobs → Goes old new (with_note (Kept n))
 goes_kept old new n only changes =
     goes_jobs old new (with_note (Kept n)) only
     (λ p keeps. record { conns = keeps.conns; functions = keeps.functions; jobs = jobs_kept p.notes n changes keeps.jobs; moment = keeps.moment; mode = keeps.mode })
 
-pub goes_listens : (old new : Core) (n c : ℕ) → OnlyJobs old new → IsOpen old.conns c → jobs.Changes n (Rattle.gm_jobs.specs.Live.with_listener c) old.jobs new.jobs → Goes old new (with_note (Listens n c))
+pub goes_listens : (old new : Tables) (n c : ℕ) → OnlyJobs old new → IsOpen old.conns c → jobs.Changes n (Rattle.gm_jobs.specs.Live.with_listener c) old.jobs new.jobs → Goes old new (with_note (Listens n c))
 goes_listens old new n c only opened changes =
     goes_jobs old new (with_note (Listens n c)) only
     (λ p keeps. record { conns = keeps.conns; functions = keeps.functions; jobs = jobs_listen p.notes n c changes (open_is keeps c opened) keeps.jobs; moment = keeps.moment; mode = keeps.mode })
 
-pub does_listen : (old new : Core) (n c : ℕ) (result : Result (Unit {0}) AllocError) → OnlyJobs old new → IsOpen old.conns c
+pub does_listen : (old new : Tables) (n c : ℕ) (result : Result (Unit {0}) AllocError) → OnlyJobs old new → IsOpen old.conns c
     → OnOk result (jobs.Changes n (Rattle.gm_jobs.specs.Live.with_listener c) old.jobs new.jobs) → OnErr result (new.jobs ≡ old.jobs) → Does old result new (with_note (Listens n c))
 does_listen old new n c (Ok done) only opened ok err = goes_listens old new n c only opened ok
 does_listen old new n c (Err wanting) only opened ok err = goes_nothing only.config only.conns only.functions err only.moment only.mode

@@ -2,7 +2,7 @@
 use Rattle.std.proofs.Common.{◌≡◌, ℕ, suc, ◌+◌, ◌≤◌, Bool, true, false, not, ◌&&◌, ◌||◌, ◌==◌, if◌then◌else◌, List, [], ◌∷◌}
 use Rattle.std.proofs.Common.{◌++◌, length, filter, count_by, Contains, Option, Some, None, refl, sym, ap, subst, ◌∙◌, arith}
 use Rattle.std.proofs.Common.{length-append}
-use Rattle.std.specs.Option.{option_map, option_map_or}
+use Rattle.std.specs.Option.{option_map}
 use Rattle.std.specs.Prelude.{slice_index, slice_get, nat_le}
 use Rattle.std.proofs.lemmas.Bool.{false≢true}
 use Rattle.std.proofs.lemmas.Bool.Decides.{nat_tests}
@@ -26,9 +26,9 @@ use Rattle.gm_queues.specs.FunctionTables as queues
 use Rattle.gm_jobs.specs.declared.job.LivePlace.{LivePlace}
 use Rattle.gm_jobs.specs.declared.job.LivePlace.TheVariants.{Waiting, Running}
 use Rattle.gm_jobs.specs.declared.job.LivePlace.TheVariants as live_places
-use Rattle.gm_jobs.specs.Live.{Live, lost, returned, given_back as handed_back, is_last_try, waits, runs_at, is_run_by, is_orphan}
+use Rattle.gm_jobs.specs.Live.{Live, lost, returned, given_back as handed_back, is_last_try, waits, runs_at, is_run_by, is_orphan, is_wanted as is_wanted_live}
 use Rattle.gm_jobs.specs.Tables.{Table, job, passes, Ends, Changes}
-use Rattle.gm_core.specs.declared.server.Core.{Core}
+use Rattle.gm_core.specs.declared.server.Tables.{Tables}
 use Rattle.gm_core.specs.Facts.{ConnFacts, FunctionFacts, JobFacts, conn_facts, function_facts, job_facts, waits_with}
 use Rattle.gm_core.specs.Facts.{runs_with, queued, running_with}
 use Rattle.gm_core.specs.Holds.{name_at, job_state_at, counted, limit_named, HoldsConns, HoldsFunctions, HoldsJobs, IsJob, Holds, Keeps, Goes}
@@ -456,7 +456,7 @@ run_there slot live e = by live.live_place e
 -- ---- jobs and queues of a core that changed
 
 -- the connections of a core stay, and so do the functions, but for their queues
-pub record OnlyQueues (old new : Core) : Type 0 where
+pub record OnlyQueues (old new : Tables) : Type 0 where
   pub config : new.config ≡ old.config
   pub conns : new.conns ≡ old.conns
   pub moment : new.moment ≡ old.moment
@@ -490,7 +490,7 @@ pub record MovesJobs (step : Past → Past) : Type 0 where
   pub moment : (p : Past) → moment (step p).notes ≡ moment p.notes
   pub mode : (p : Past) → mode (step p).notes ≡ mode p.notes
 
-pub goes_moved : {old new : Core} (step : Past → Past) → OnlyQueues old new → MovesJobs step
+pub goes_moved : {old new : Tables} (step : Past → Past) → OnlyQueues old new → MovesJobs step
     → ((p : Past) → Keeps old p → HoldsJobs old.config new.functions new.jobs (conn_facts p.notes).is_open (job_facts (step p).notes)) → Goes old new step
 goes_moved {old} {new} step only moves jobs_hold = record {
   config = only.config;
@@ -511,33 +511,17 @@ goes_moved {old} {new} step only moves jobs_hold = record {
 
 -- ---- what a job's place and its listeners decide
 
-abbrev pub is_wanted_live : Live → Bool
-is_wanted_live live = live.kept || not (length live.listeners == 0)
+module _ (core : Tables) (past : Past) (keeps : Keeps core past) (slot n : ℕ) (runs : passes (is_run_by slot) (job core.jobs n) ≡ true) (live : Live) (at : job core.jobs n ≡ Some live) where
+  running : is_running_at slot (job_state n past.notes) ≡ true
+  running =
+      ap (is_running_at slot) ((keeps.jobs.live n live at).job_state ∙ ap job_state_at (run_there slot live (sym (ap (passes (is_run_by slot)) at) ∙ runs)))
+      ∙ (let e : (slot == slot) ≡ true = grind (arith, nat_tests) in e)
 
-module _ (k : Settings) (functions : queues.Table) (table : Table) (is_open : ℕ → Bool) (notes : List Note) (holds : HoldsJobs k functions table is_open (job_facts notes)) (n : ℕ) where
-  wanted_is : (live : Live) → job table n ≡ Some live → is_wanted n notes ≡ is_wanted_live live
-  wanted_is live at =
-      let is = holds.live n live at in
-      (λ i. is.kept i || not (length (is.listeners i) == 0))
+  wanted : is_wanted n past.notes ≡ is_wanted_live live
+  wanted = let is = keeps.jobs.live n live at in (λ i. is.kept i || not (length (is.listeners i) == 0))
 
-  pub runs_is : (slot : ℕ) (o : Option Live) → job table n ≡ o → passes (is_run_by slot) o ≡ true → is_running_at slot (job_state n notes) ≡ true
-  runs_is slot None at runs = absurd (false≢true runs)
-  runs_is slot (Some live) at runs =
-      ap (is_running_at slot) ((holds.live n live at).job_state ∙ ap job_state_at (run_there slot live runs)) ∙ (let e : (slot == slot) ≡ true = grind (arith, nat_tests) in e)
+  pub given_back : is_wanted_live live ≡ true → return_or_lose core.config n past ≡ give_back_one core.config slot n past
+  given_back wants = let w = wanted ∙ wants in let r = running in rw (r, w) refl
 
-  pub wanted_so : (slot : ℕ) (o : Option Live) → job table n ≡ o → passes (is_run_by slot) o ≡ true → is_wanted n notes ≡ option_map_or is_wanted_live o false
-  wanted_so slot None at runs = absurd (false≢true runs)
-  wanted_so slot (Some live) at runs = wanted_is live at
-
-module _ (core : Core) (past : Past) (keeps : Keeps core past) (slot n : ℕ) (runs : passes (is_run_by slot) (job core.jobs n) ≡ true) where
-  pub given_back : option_map_or is_wanted_live (job core.jobs n) false ≡ true → return_or_lose core.config n past ≡ give_back_one core.config slot n past
-  given_back wants =
-      let running = runs_is core.config core.functions core.jobs (conn_facts past.notes).is_open past.notes keeps.jobs n slot (job core.jobs n) refl runs in
-      let wanted : is_wanted n past.notes ≡ true = wanted_so core.config core.functions core.jobs (conn_facts past.notes).is_open past.notes keeps.jobs n slot (job core.jobs n) refl runs ∙ wants in
-      rw (running, wanted) refl
-
-  pub given_up : option_map_or is_wanted_live (job core.jobs n) false ≡ false → with_note (Discarded n) past ≡ give_back_one core.config slot n past
-  given_up wants =
-      let running = runs_is core.config core.functions core.jobs (conn_facts past.notes).is_open past.notes keeps.jobs n slot (job core.jobs n) refl runs in
-      let wanted : is_wanted n past.notes ≡ false = wanted_so core.config core.functions core.jobs (conn_facts past.notes).is_open past.notes keeps.jobs n slot (job core.jobs n) refl runs ∙ wants in
-      rw (running, wanted) refl
+  pub given_up : is_wanted_live live ≡ false → with_note (Discarded n) past ≡ give_back_one core.config slot n past
+  given_up wants = let w = wanted ∙ wants in let r = running in rw (r, w) refl

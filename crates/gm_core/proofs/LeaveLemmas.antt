@@ -16,7 +16,7 @@ use Rattle.gm_queues.specs.FunctionTables as queues
 use Rattle.gm_jobs.specs.Live.{Live, without_listener}
 use Rattle.gm_jobs.specs.Tables.{place_or, is_made, Leaves}
 use Rattle.gm_jobs.specs.Tables as jobs
-use Rattle.gm_core.specs.declared.server.Core.{Core}
+use Rattle.gm_core.specs.declared.server.Tables.{Tables}
 use Rattle.gm_core.specs.Facts.{Seen, seen, conn_facts, job_facts}
 use Rattle.gm_core.specs.Holds.{NamesFunctions, AreOpen, HoldsConns, HoldsJobs, IsJob, Holds, Goes, shown}
 use Rattle.gm_core.proofs.ConnLemmas.{touched_told}
@@ -105,13 +105,13 @@ jobs_closed k functions old new notes c leaves holds = record {
     }
 
 -- only connections and jobs of a core changed
-pub record OnlyConnsAndJobs (old new : Core) : Type 0 where
+pub record OnlyConnsAndJobs (old new : Tables) : Type 0 where
   pub config : new.config ≡ old.config
   pub functions : new.functions ≡ old.functions
   pub moment : new.moment ≡ old.moment
   pub mode : new.mode ≡ old.mode
 
-pub goes_closed : {old new : Core} (c : ℕ) → OnlyConnsAndJobs old new → Changes c (λ _. closed) true old.conns new.conns → Leaves c old.jobs new.jobs
+pub goes_closed : {old new : Tables} (c : ℕ) → OnlyConnsAndJobs old new → Changes c (λ _. closed) true old.conns new.conns → Leaves c old.jobs new.jobs
     → Goes old new (λ past. with_flow (Emptied c) (with_note (Closed c) past))
 goes_closed {old} {new} c only changes leaves = record {
   config = only.config;

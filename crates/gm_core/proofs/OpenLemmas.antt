@@ -22,7 +22,7 @@ use Rattle.gm_conns.specs.Connections.{Connection, opened}
 use Rattle.gm_conns.specs.ConnTables.{Table, conn, Changes, IsLeastFree, IsFull}
 use Rattle.gm_queues.specs.FunctionTables as queues
 use Rattle.gm_jobs.specs.Tables as jobs
-use Rattle.gm_core.specs.declared.server.Core.{Core}
+use Rattle.gm_core.specs.declared.server.Tables.{Tables}
 use Rattle.gm_core.specs.Facts.{Seen, JobFacts, seen, conn_facts, job_facts}
 use Rattle.gm_core.specs.Holds.{NamesFunctions, AreOpen, HoldsConns, HoldsJobs, Keeps, Holds, Goes, CoreAgrees, shown}
 use Rattle.gm_core.proofs.ConnLemmas.{touched_told}
@@ -154,7 +154,7 @@ jobs_opened k functions table before after facts more holds = record {
   room = holds.room;
 }
 
-pub goes_opened : {old new : Core} (c : ℕ) (addr : List ℕ) → OnlyConns old new → Changes c (λ _. opened addr) true old.conns new.conns
+pub goes_opened : {old new : Tables} (c : ℕ) (addr : List ℕ) → OnlyConns old new → Changes c (λ _. opened addr) true old.conns new.conns
     → Goes old new (λ past. with_flow (Began c) (with_note (Opened c addr) past))
 goes_opened {old} {new} c addr only changes = record {
   config = only.config;
@@ -178,7 +178,7 @@ goes_opened {old} {new} c addr only changes = record {
 
 -- ---- what an opening is answered
 
-module _ (core : Core) (k : Settings) (past : Past) (settings : core.config ≡ k) (keeps : Keeps core past) where
+module _ (core : Tables) (k : Settings) (past : Past) (settings : core.config ≡ k) (keeps : Keeps core past) where
   slots_are : length core.conns.conns ≡ k.slots
   slots_are = keeps.conns.slots ∙ ap (λ (s : Settings). s.slots) settings
 
@@ -204,7 +204,7 @@ module _ (core : Core) (k : Settings) (past : Past) (settings : core.config ≡ 
       (welcomed (mode past.notes) (free_slot k past) goes ∙ free_unless (free_slot k past) (λ none. let wrong : NoSlot ≡ Memory = sym (only (only_full none)) ∙ wanting in absurd cc))
 
 -- a call that was refused for this reason
-pub refused : {core : Core} (k : Settings) (steps : List Step) (s : Step) (why : ApplyError) (result : Result Done ApplyError) → IsErr result × IsErrAnd result (λ e. e ≡ why)
+pub refused : {core : Tables} (k : Settings) (steps : List Step) (s : Step) (why : ApplyError) (result : Result Done ApplyError) → IsErr result × IsErrAnd result (λ e. e ≡ why)
     → IsRefusal why (refusal k s (run k steps)) → CoreAgrees core k steps → Answers k steps s result × CoreAgrees core k (steps_after result s steps)
 refused k steps s why (Ok done) is stands agrees = absurd is.1
 refused k steps s why (Err e) is stands agrees = (subst (λ (x : ApplyError). IsRefusal x (refusal k s (run k steps))) (sym is.1) stands, agrees)

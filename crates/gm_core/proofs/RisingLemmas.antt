@@ -16,7 +16,7 @@ use Rattle.gm_jobs.specs.declared.job.LivePlace.{LivePlace}
 use Rattle.gm_jobs.specs.declared.job.LivePlace.TheVariants.{Waiting, Running, Lost}
 use Rattle.gm_jobs.specs.Live.{Live, waits, runs_at, is_run_by, is_orphan}
 use Rattle.gm_jobs.specs.Tables.{job, passes, place_or, is_made, IsNext, IsLast}
-use Rattle.gm_core.specs.declared.server.Core.{Core}
+use Rattle.gm_core.specs.declared.server.Tables.{Tables}
 use Rattle.gm_core.specs.Holds.{numbers_down, job_state_at, Keeps}
 use Rattle.gm_core.proofs.JobLemmas.{turned}
 
@@ -32,7 +32,7 @@ rising_slots first (suc count) =
     reverse_onto (numbers_down first count) (first + count) [] ∙ (ap (λ (l : List ℕ). l ++ (first + count) ∷ []) (rising_slots first count) ∙ sym (slots_end count first))
 
 -- the core keeps a past from which doing this to the jobs that are left leads where doing it to all led from the first
-pub record Rising (core : Core) (fold : List ℕ → Past → Past) (first after : ℕ) (past : Past) : Type 0 where
+pub record Rising (core : Tables) (fold : List ℕ → Past → Past) (first after : ℕ) (past : Past) : Type 0 where
   pub now : Past
   pub keeps : Keeps core now
   pub from : ℕ
@@ -59,7 +59,7 @@ module _ (fold : List ℕ → Past → Past) (one : ℕ → Past → Past) (ends
       ∙ (ap (fold (slots_from (suc from) (count + rest))) (none from (omega arith) (omega (arith, end)))
       ∙ jumped count (suc from) (count + rest) rest to past refl (omega (arith, end)) (λ m low high. none m (omega (arith, low)) high)))
 
-  pub rising_begins : (core : Core) (past : Past) (after : ℕ) → after < core.config.first_job → Keeps core past → Rising core fold core.config.first_job after past
+  pub rising_begins : (core : Tables) (past : Past) (after : ℕ) → after < core.config.first_job → Keeps core past → Rising core fold core.config.first_job after past
   rising_begins core past after below keeps = record {
     now = past;
     keeps = keeps;
@@ -76,7 +76,7 @@ module _ (fold : List ℕ → Past → Past) (one : ℕ → Past → Past) (ends
   was_passed test None e = absurd (false≢true e)
   was_passed test (Some l) e = (l, refl)
 
-  bounds : (core : Core) (past : Past) → Keeps core past → (n : ℕ) (l : Live) → job core.jobs n ≡ Some l → (core.config.first_job ≤ n) × (n < core.config.first_job + length (made past.notes))
+  bounds : (core : Tables) (past : Past) → Keeps core past → (n : ℕ) (l : Live) → job core.jobs n ≡ Some l → (core.config.first_job ≤ n) × (n < core.config.first_job + length (made past.notes))
   bounds core past keeps n l at =
       let first = keeps.jobs.first in
       let next = keeps.jobs.next in
@@ -85,9 +85,9 @@ module _ (fold : List ℕ → Past → Past) (one : ℕ → Past → Past) (ends
       let high : n < core.jobs.next = (let h = both.1 in grind (arith, nat_tests)) in
       (omega (arith, first, low), omega (arith, next, high))
 
-  module _ (test : Live → Bool) (core self : Core) (config : self.config ≡ core.config) (after : ℕ) (past : Past) (t : Rising self fold core.config.first_job after past)
+  module _ (test : Live → Bool) (core self : Tables) (config : self.config ≡ core.config) (after : ℕ) (past : Past) (t : Rising self fold core.config.first_job after past)
       (stays : (m : ℕ) → passes test (job self.jobs m) ≡ false → one m t.now ≡ t.now) where
-    pub rising_on : (new : Core) (n : ℕ) → IsNext test after self.jobs.live n → Keeps new (one n t.now) → made (one n t.now).notes ≡ made t.now.notes
+    pub rising_on : (new : Tables) (n : ℕ) → IsNext test after self.jobs.live n → Keeps new (one n t.now) → made (one n t.now).notes ≡ made t.now.notes
         → Rising new fold core.config.first_job n past
     rising_on new n next keeps same =
         let alive = was_passed test (job self.jobs n) next.found in
@@ -161,7 +161,7 @@ not_run c live e = by live.live_place e
     by Lost e = refl
     by (Running d) e = turned d c false e
 
-module _ (core : Core) (past : Past) (keeps : Keeps core past) (n : ℕ) where
+module _ (core : Tables) (past : Past) (keeps : Keeps core past) (n : ℕ) where
   wanted_at : (live : Live) → job core.jobs n ≡ Some live
       → (is_waiting (job_state n past.notes) && not (is_wanted n past.notes)) ≡ (is_waiting (job_state_at live.live_place) && not (live.kept || not (length live.listeners == 0)))
   wanted_at live at =

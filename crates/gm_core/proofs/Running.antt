@@ -1,13 +1,16 @@
--- What is asked of a job that runs, and its queue.
-use Rattle.std.proofs.Common.{◌≡◌, ℕ, true, false, Option, Some, None, refl, sym, ap, ◌∙◌}
-use Rattle.std.specs.Option.{option_map}
+-- What is known of a job that runs, and its queue.
+use Rattle.std.proofs.Common.{◌≡◌, ℕ, true, false, Option, Some, None, refl, sym, ap, subst}
 use Rattle.std.proofs.lemmas.Bool.{false≢true}
 use Rattle.gm_notes.specs.declared.states.Priority.{Priority}
 use Rattle.gm_jobs.specs.Live.{Live, waits, is_run_by}
 use Rattle.gm_jobs.specs.Tables.{Table, job, passes}
+use Rattle.gm_queues.specs.FunctionTables.{HasIdleRoom}
+use Rattle.gm_core.specs.declared.server.Tables.{Tables}
+use Rattle.gm_core.specs.Facts.{conn_facts, function_facts}
+use Rattle.gm_core.specs.Holds.{IsKept}
 use Rattle.gm_core.specs.Telling.{IsRunning}
 use Rattle.gm_core.proofs.EndLemmas.{run_there}
-use Rattle.gm_core.proofs.FunctionLemmas.{some_same}
+use Rattle.gm_core.proofs.OverLemmas.{has_idle_room}
 
 pub record Runs (table : Table) (n : ℕ) : Type 0 where
   pub live : Live
@@ -32,8 +35,11 @@ run_by_running table slot n passing = by (job table n) passing
 pub run_at : (table : Table) (slot n : ℕ) → passes (is_run_by slot) (job table n) ≡ true → Runs table n
 run_at table slot n passing = running table n (run_by_running table slot n passing)
 
--- the function and the priority of its queue
-pub own_queue_is : (table : Table) (n : ℕ) (it : Runs table n) (at : ℕ × Priority) → option_map (λ (live : Live). (live.function, live.priority)) (job table n) ≡ Some at
-    → (it.live.function, it.live.priority) ≡ at
-own_queue_is table n it at is =
-    some_same (it.live.function, it.live.priority) at (sym (ap (λ (o : Option Live). option_map (λ (live : Live). (live.function, live.priority)) o) it.at) ∙ is)
+-- in tables that hold what has happened, room is reserved for it in its queue
+pub own_room : (tables : Tables) (n : ℕ) → IsKept tables → (it : Runs tables.jobs n) (f : ℕ) (p : Priority) → f ≡ it.live.function → p ≡ it.live.priority → HasIdleRoom tables.functions f p
+own_room tables n kept it f p same_f same_p =
+    let past = kept.0 in
+    let functions = tables.functions in
+    subst (λ (x : ℕ). HasIdleRoom functions x p) (sym same_f)
+    (subst (λ (q : Priority). HasIdleRoom functions it.live.function q) (sym same_p)
+    (has_idle_room tables.config functions functions tables.jobs tables.jobs (conn_facts past.notes).is_open past.notes (function_facts past.notes) kept.1.functions kept.1.jobs n it.live it.at it.runs))

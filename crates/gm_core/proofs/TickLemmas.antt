@@ -18,7 +18,7 @@ use Rattle.gm_conns.specs.ConnTables.{conn}
 use Rattle.gm_conns.specs.ConnTables as conns
 use Rattle.gm_jobs.specs.Live.{Live, waits, is_due, is_reached as is_past}
 use Rattle.gm_jobs.specs.Tables.{Table, job, passes, place_or, is_made, listeners_of, IsNext}
-use Rattle.gm_core.specs.declared.server.Core.{Core}
+use Rattle.gm_core.specs.declared.server.Tables.{Tables}
 use Rattle.gm_core.specs.declared.server.ticking.Late.{Late}
 use Rattle.gm_core.specs.Holds.{Keeps, AllTouched, Goes}
 use Rattle.gm_core.specs.Telling.{hears, needed, IsRunning, Roomed, Poured}
@@ -54,7 +54,7 @@ due_runs now (Some live) e = by (waits live.live_place) (and_parts (not (waits l
     by true e = absurd (false≢true e)
     by false e = refl
 
-module _ (core : Core) (past : Past) (keeps : Keeps core past) (n : ℕ) where
+module _ (core : Tables) (past : Past) (keeps : Keeps core past) (n : ℕ) where
   late_at : (live : Live) → job core.jobs n ≡ Some live → (is_running (job_state n past.notes) && is_reached (deadline n past.notes) (moment past.notes)) ≡ is_due core.moment live
   late_at live at =
       let is = keeps.jobs.live n live at in
@@ -115,7 +115,7 @@ left_next lates i late lt is =
 
 -- ---- the time
 
-pub goes_now : (core : Core) (now : ℕ) (m : ℕ) → m ≡ max now core.moment → Goes core (record core { moment = m }) (λ past. with_note (Now (max now (moment past.notes))) past)
+pub goes_now : (core : Tables) (now : ℕ) (m : ℕ) → m ≡ max now core.moment → Goes core (record core { moment = m }) (λ past. with_note (Now (max now (moment past.notes))) past)
 goes_now core now m is = record {
   config = refl;
   others = touched_same refl;
@@ -125,7 +125,7 @@ goes_now core now m is = record {
 -- ---- one after another
 
 -- some have failed, and these are left
-pub record Expiring (first self : Core) (rest : List Late) : Type 0 where
+pub record Expiring (first self : Tables) (rest : List Late) : Type 0 where
   pub after : ℕ
   pub config : self.config ≡ first.config
   pub moment : self.moment ≡ first.moment
@@ -134,7 +134,7 @@ pub record Expiring (first self : Core) (rest : List Late) : Type 0 where
   pub others : AllTouched first.conns self.conns
   pub past : (past : Past) → Keeps first past → Rising self (expire_each first.config) first.config.first_job after past
 
-module _ (first : Core) where
+module _ (first : Tables) where
   pub expiring_begins : (lates : List Late) → AreLate first.config first.moment first.jobs.live 0 lates
       → ((c : ℕ) → late_bytes (hears first.conns false) first.jobs c lates ≤ (conn first.conns c).room) → Expiring first first lates
   expiring_begins lates late room = record {
@@ -147,7 +147,7 @@ module _ (first : Core) where
     past = λ past keeps. rising_begins (expire_each first.config) (expire_one first.config) (λ p. refl) (λ n jobs p. refl) first past 0 keeps.jobs.begins keeps;
   }
 
-  module _ (self new : Core) (late : Late) (rest : List Late) (t : Expiring first self (late ∷ rest)) where
+  module _ (self new : Tables) (late : Late) (rest : List Late) (t : Expiring first self (late ∷ rest)) where
     pub late_now : passes (is_due self.moment) (job self.jobs late.job) ≡ true
     late_now = subst (λ now. passes (is_due now) (job self.jobs late.job) ≡ true) (sym t.moment) t.late.0.found
 
@@ -180,7 +180,7 @@ module _ (first : Core) where
           (subst (λ (x : Settings). Keeps new (expire_one x late.job was.now)) t.config (goes.past was.now was.keeps)) (expired_made k late.job was.now);
     }
 
-  pub expiring_done : (self : Core) → Expiring first self [] → Goes first self (λ past. expire_each first.config (rising past) past)
+  pub expiring_done : (self : Tables) → Expiring first self [] → Goes first self (λ past. expire_each first.config (rising past) past)
   expiring_done self t = record {
     config = t.config;
     others = t.others;

@@ -20,7 +20,7 @@ use Rattle.gm_notes.specs.Settings.{Settings}
 use Rattle.gm_notes.specs.Jobs.{Ability, first_of, pick_from, waiting_for, abilities, last_function, behind, up_to, rotated, scan, pick}
 use Rattle.gm_notes.specs.Past.{Past}
 use Rattle.gm_conns.specs.ConnTables.{conn, IsOpen}
-use Rattle.gm_core.specs.declared.server.Core.{Core}
+use Rattle.gm_core.specs.declared.server.Tables.{Tables}
 use Rattle.gm_core.specs.Facts.{Seen, FunctionFacts}
 use Rattle.gm_core.specs.Holds.{name_at, ability_named, AreFunctions, IsFunction, HoldsFunctions, Keeps}
 use Rattle.gm_core.proofs.FunctionLemmas.{apart}
@@ -97,10 +97,10 @@ module _ {k : Settings} {table : Table} {facts : FunctionFacts} (holds : HoldsFu
 -- ---- the scan of a slot
 
 -- the abilities are tried in this order
-abbrev pub Scans : Core → Past → ℕ → List (ℕ × ℕ) → Type 0
+abbrev pub Scans : Tables → Past → ℕ → List (ℕ × ℕ) → Type 0
 Scans core past c xs = scan core.config c past.notes ≡ map (ability_named core.functions.names) xs
 
-module _ (core : Core) (past : Past) (c : ℕ) (keeps : Keeps core past) (opened : IsOpen core.conns c) where
+module _ (core : Tables) (past : Past) (c : ℕ) (keeps : Keeps core past) (opened : IsOpen core.conns c) where
   abbrev named : List (ℕ × ℕ) → List Ability
   named xs = map (ability_named core.functions.names) xs
 
@@ -155,12 +155,12 @@ module _ (core : Core) (past : Past) (c : ℕ) (keeps : Keeps core past) (opened
       ∙ (turned_nowhere keeps.functions g all (keeps.conns.able c).0 (is_there g (conn core.conns c).last (keeps.conns.able c).1 is) none ∙ from_the_first)
 
 -- the same of the next number, as it is written
-pub at_next : (core : Core) (past : Past) (c i : ℕ) → Scans core past c (drop (suc i) (conn core.conns c).abilities ++ take (suc i) (conn core.conns c).abilities)
+pub at_next : (core : Tables) (past : Past) (c i : ℕ) → Scans core past c (drop (suc i) (conn core.conns c).abilities ++ take (suc i) (conn core.conns c).abilities)
     → Scans core past c (drop (i + 1) (conn core.conns c).abilities ++ take (i + 1) (conn core.conns c).abilities)
 at_next core past c i scans = subst (λ n. Scans core past c (drop n (conn core.conns c).abilities ++ take n (conn core.conns c).abilities)) (sym (add-one i)) scans
 
 -- the pick from those that are tried first, and where there is none, from those that are tried last
-pub pick_parts : (core : Core) (past : Past) (c len last : ℕ) (first rest : Option Pick) → len ≡ length (conn core.conns c).abilities
+pub pick_parts : (core : Tables) (past : Past) (c len last : ℕ) (first rest : Option Pick) → len ≡ length (conn core.conns c).abilities
     → Scans core past c (drop last (conn core.conns c).abilities ++ take last (conn core.conns c).abilities)
     → first ≡ pick_from (map (ability_named core.functions.names) (drop last (take len (conn core.conns c).abilities))) past.notes
     → rest ≡ pick_from (map (ability_named core.functions.names) (take last (conn core.conns c).abilities)) past.notes

@@ -16,7 +16,7 @@ use Rattle.gm_conns.specs.ConnTables.{conn, is_sleeper, IsOpen}
 use Rattle.gm_conns.specs.ConnTables as tables
 use Rattle.gm_queues.specs.FunctionTables as queues
 use Rattle.gm_jobs.specs.Tables as jobs
-use Rattle.gm_core.specs.declared.server.Core.{Core}
+use Rattle.gm_core.specs.declared.server.Tables.{Tables}
 use Rattle.gm_core.specs.Facts.{Seen, FunctionFacts}
 use Rattle.gm_core.specs.Holds.{name_at, ability_named, AreFunctions, HoldsFunctions, Holds, Keeps, Goes}
 use Rattle.gm_core.proofs.FunctionLemmas.{apart}
@@ -96,12 +96,12 @@ module _ {k : Settings} {connections : tables.Table} {mentioned : queues.Table} 
 -- ---- the loop
 
 -- the core keeps a past from which waking at the slots from this one on leads where waking at all led from the first
-pub record Waking (core : Core) (f : List ℕ) (from left : ℕ) (k : Settings) (past : Past) : Type 0 where
+pub record Waking (core : Tables) (f : List ℕ) (from left : ℕ) (k : Settings) (past : Past) : Type 0 where
   pub now : Past
   pub keeps : Keeps core now
   pub leads : wake_each f (slots_from 0 k.slots) past ≡ wake_each f (slots_from from left) now
 
-module _ (core self : Core) (f from : ℕ) (config : self.config ≡ core.config) (functions : self.functions ≡ core.functions) (within : f < length core.functions.names) (past : Past)
+module _ (core self : Tables) (f from : ℕ) (config : self.config ≡ core.config) (functions : self.functions ≡ core.functions) (within : f < length core.functions.names) (past : Past)
     (t : Waking self (name_at core.functions.names f) from (core.config.slots - from) core.config past) where
   same_name : name_at self.functions.names f ≡ name_at core.functions.names f
   same_name = ap (λ (q : queues.Table). name_at q.names f) functions
@@ -113,7 +113,7 @@ module _ (core self : Core) (f from : ℕ) (config : self.config ≡ core.config
   idle_is c idle = subst (λ (g : List ℕ). wake_one g c t.now ≡ t.now) same_name (wakes_not t.keeps f still_within c idle)
 
   -- the next sleeper is woken
-  pub waking_on : (new : Core) (slot : ℕ) → Goes self new (with_note (Woken slot)) → IsOpen self.conns slot → from ≤ slot → slot < length self.conns.conns
+  pub waking_on : (new : Tables) (slot : ℕ) → Goes self new (with_note (Woken slot)) → IsOpen self.conns slot → from ≤ slot → slot < length self.conns.conns
       → is_sleeper f (conn self.conns slot) ≡ true → ((c : ℕ) → from ≤ c → c < slot → is_sleeper f (conn self.conns c) ≡ false)
       → Waking new (name_at core.functions.names f) (slot + 1) (core.config.slots - (slot + 1)) core.config past
   waking_on new slot goes opened low high sleeps least =

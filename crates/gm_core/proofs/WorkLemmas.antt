@@ -24,7 +24,7 @@ use Rattle.gm_jobs.specs.declared.job.LivePlace.{LivePlace}
 use Rattle.gm_jobs.specs.declared.job.LivePlace.TheVariants.{Waiting, Running, Lost}
 use Rattle.gm_jobs.specs.Live.{Live, reported, place_at, waits}
 use Rattle.gm_jobs.specs.Tables.{Table, job, place_or, listeners_of, Changes}
-use Rattle.gm_core.specs.declared.server.Core.{Core}
+use Rattle.gm_core.specs.declared.server.Tables.{Tables}
 use Rattle.gm_core.specs.Facts.{Seen, ConnFacts, conn_facts, function_facts, job_facts}
 use Rattle.gm_core.specs.Holds.{AllTouched, Goes, Does, AreOpen, HoldsConns, HoldsFunctions, HoldsJobs, IsJob}
 use Rattle.gm_core.specs.Telling.{Roomed, hears, poured, running_there, IsRunning}
@@ -68,7 +68,7 @@ jobs_reported {k} {functions} {old} {new} {is_open} notes n a b changes holds =
     quietly {facts = job_facts notes} {now = job_facts (Report n a b ∷ notes)} n (reported a b) changes (λ l. refl) refl refl refl refl refl
     (λ m l is. reported_each functions.names notes is_open n m a b (n == m) l refl is) holds
 
-pub does_report : (old new : Core) (n : ℕ) (a b : List ℕ) (result : Result (Unit {0}) AllocError) → OnlyJobs old new
+pub does_report : (old new : Tables) (n : ℕ) (a b : List ℕ) (result : Result (Unit {0}) AllocError) → OnlyJobs old new
     → OnOk result (Changes n (reported a b) old.jobs new.jobs) → OnErr result (new.jobs ≡ old.jobs) → Does old result new (with_note (Report n a b))
 does_report old new n a b (Ok done) only ok err =
     goes_jobs old new (with_note (Report n a b)) only
@@ -160,7 +160,7 @@ works_nowhere c w (Some m) p e = by (is_running_at c (job_state m p.notes)) e
     by false e = refl
 
 -- room is nothing that the past tells of
-pub goes_with_room : {old new : Core} → OnlyConns old new → Roomed old.conns new.conns → Goes old new (λ past. past)
+pub goes_with_room : {old new : Tables} → OnlyConns old new → Roomed old.conns new.conns → Goes old new (λ past. past)
 goes_with_room {old} {new} only roomed =
     goes_then {a = old} {b = record old { conns = new.conns }}
     (record {
@@ -171,7 +171,7 @@ goes_with_room {old} {new} only roomed =
     (goes_nothing {a = record old { conns = new.conns }} {b = new} only.config refl only.functions only.jobs only.moment only.mode)
 
 -- what is told to those who listen to a job that runs is told in the past
-pub told_goes : (old : Core) (told : conns.Table) (n : ℕ) (e : Bool) (text slots : List ℕ) → IsRunning (job old.jobs n) → slots ≡ listeners_of (job old.jobs n) → AllTouched old.conns told
+pub told_goes : (old : Tables) (told : conns.Table) (n : ℕ) (e : Bool) (text slots : List ℕ) → IsRunning (job old.jobs n) → slots ≡ listeners_of (job old.jobs n) → AllTouched old.conns told
     → ((k : Settings) (names : List (List ℕ)) (facts : ConnFacts) (bytes : ℕ → List ℕ) → HoldsConns k old.conns names facts bytes
     → HoldsConns k told names facts (poured text (filter (hears old.conns e) slots) bytes))
     → (answer : Answer) → text ≡ answer_packet answer → Goes old (record old { conns = told }) (λ past. tell_all answer (hearers e (listeners n past.notes) past.notes) past)

@@ -25,7 +25,7 @@ use Rattle.gm_jobs.specs.declared.job.LivePlace.TheVariants.{Waiting, Running, L
 use Rattle.gm_jobs.specs.Live.{Live}
 use Rattle.gm_jobs.specs.Tables.{job, place, is_made}
 use Rattle.gm_jobs.specs.Tables as jobs
-use Rattle.gm_core.specs.declared.server.Core.{Core}
+use Rattle.gm_core.specs.declared.server.Tables.{Tables}
 use Rattle.gm_actions.specs.Effects.{Changes, Agrees, if_done}
 use Rattle.gm_notes.specs.Submissions.{Submission, keep_or_listen}
 use Rattle.gm_core.specs.Facts.{Seen, ConnFacts, FunctionFacts, JobFacts, conn_facts, function_facts, job_facts, queued, running_with}
@@ -150,8 +150,12 @@ pub record Holds (k : Settings) (connections : conns.Table) (mentioned : queues.
   pub moment : now ≡ moment past.notes
   pub mode : goes ≡ mode past.notes
 
-abbrev pub Keeps : Core → Past → Type 0
+abbrev pub Keeps : Tables → Past → Type 0
 Keeps core past = Holds core.config core.conns core.functions core.jobs core.moment core.mode past
+
+-- what they hold is what has happened, whatever that was
+abbrev pub IsKept : Tables → Type 0
+IsKept tables = (past : Past) × Keeps tables past
 
 -- ---- what a call does
 
@@ -164,36 +168,36 @@ pub record AllTouched (old new : conns.Table) : Type 0 where
   pub others : (c : ℕ) → is_touched new c ≡ false → (is_touched old c ≡ false) × (outbox (conn new c) ≡ outbox (conn old c))
 
 -- what every call promises beside
-abbrev pub TouchesAll : Core → Core → Type 0
+abbrev pub TouchesAll : Tables → Tables → Type 0
 TouchesAll old new = AllTouched old.conns new.conns
 
 -- the functions, the jobs and the moment stay
-pub record KeepsTables (old new : Core) : Type 0 where
+pub record KeepsTables (old new : Tables) : Type 0 where
   pub functions : new.functions ≡ old.functions
   pub jobs : new.jobs ≡ old.jobs
   pub moment : new.moment ≡ old.moment
 
 -- all stays but the functions and the jobs
-pub record KeepsRest (old new : Core) : Type 0 where
+pub record KeepsRest (old new : Tables) : Type 0 where
   pub config : new.config ≡ old.config
   pub conns : new.conns ≡ old.conns
   pub text : new.text ≡ old.text
   pub moment : new.moment ≡ old.moment
   pub mode : new.mode ≡ old.mode
 
-abbrev pub config_of : Core → Settings
+abbrev pub config_of : Tables → Settings
 config_of core = core.config
 
 -- the past changes so, whatever it is, and the settings stay; where a slot's outbox changes, the slot is touched
-abbrev pub Goes : Core → Core → (Past → Past) → Type 0
+abbrev pub Goes : Tables → Tables → (Past → Past) → Type 0
 Goes old new change = Changes config_of Keeps TouchesAll old new change
 
 -- so it does, unless the call is out of memory: then the past stays
-abbrev pub Does : {E : Type 0} → Core → Result (Unit {0}) E → Core → (Past → Past) → Type 0
+abbrev pub Does : {E : Type 0} → Tables → Result (Unit {0}) E → Tables → (Past → Past) → Type 0
 Does old result new change = Goes old new (if_done result change)
 
 -- the core holds what these steps give under these settings
-abbrev pub CoreAgrees : Core → Settings → List Step → Type 0
+abbrev pub CoreAgrees : Tables → Settings → List Step → Type 0
 CoreAgrees core k steps = Agrees config_of Keeps core k steps
 
 -- ---- what is handed on

@@ -4,6 +4,7 @@ ghost use Rattle.std.specs.Prelude.{◌≡◌, ℕ, ◌≤◌, ◌<◌, ◌^◌,
 ghost use Rattle.std.specs.Prelude.{IsTrue, IsErrOf};
 ghost use Rattle.gm_conns.specs.ConnTables.{conn, is_touched};
 ghost use Rattle.gm_notes.specs.Flow.{waiting};
+ghost use Rattle.gm_notes.specs.Notes.{phase};
 ghost use Rattle.gm_notes.specs.Settings.{Settings};
 ghost use Rattle.gm_notes.specs.Steps.{Step, Took, Withdrew, Drain, run};
 ghost use Rattle.gm_notes.specs.Servers.{step_of, IsSized, Answers, AnswersAt, steps_after, steps_after_that};
@@ -34,10 +35,11 @@ use gm_notes::{ApplyError, Config, Done, Event, JobServer, Mode, Phase, Place};
 use gm_queues::Functions;
 use std::alloc::{AllocError, Global};
 use std::hash::RandomState;
+use std::marker::Model;
 
-/// The server on tables. It keeps no list of what has happened, and no job that is gone.
+/// The tables of a server, what it is set to, and what it is about to say.
 #[derive(Drop)]
-pub struct Core {
+pub struct Tables {
     alloc: Global,
     config: Config,
     conns: Conns,
@@ -47,6 +49,28 @@ pub struct Core {
     mode: Mode,
     // What is to be queued next.
     text: Written,
+}
+
+/// The server on tables. It keeps no list of what has happened, and no job that is gone.
+///
+/// Its tables hold what some steps give, always: so a call needn't ask, say, whether a job that waits is live.
+#[derive(Drop)]
+pub struct Core {
+    tables: Tables,
+}
+
+impl Model for Core {
+    ghost use Rattle.std.specs.Prelude.{List};
+    ghost use Rattle.gm_notes.specs.Settings.{Settings};
+    ghost use Rattle.gm_notes.specs.Steps.{Step};
+    ghost use Rattle.gm_core.specs.Holds.{CoreAgrees};
+    ghost use Rattle.gm_core.specs.declared.server.Tables.{Tables};
+
+    ghost Value = { Tables };
+
+    ghost view = { λ core. core.tables };
+
+    ghost invariant = { λ core. (k : Settings) × (steps : List Step) × CoreAgrees core.tables k steps };
 }
 
 /// The number of the first job.
@@ -72,7 +96,7 @@ impl Core {
         let conns = Conns::new(alloc, config.slots())?;
         let functions = Functions::new(alloc, seed, config.max_functions())?;
         let jobs = Jobs::new(alloc, seed, first_job(&config))?;
-        Ok(Core {
+        let tables = Tables {
             alloc,
             config,
             conns,
@@ -81,7 +105,8 @@ impl Core {
             moment: 0,
             mode: Mode::Running,
             text: Written::new(alloc),
-        })
+        };
+        Ok(Core { tables })
     }
 
     /// The tables that it answers from: after any steps that the core agrees with they hold what the definitions give.
@@ -92,7 +117,8 @@ impl Core {
         ensures held { (k : Settings) (steps : List Step) → CoreAgrees self.now k steps
             → Holds k result.0.now result.1.now result.2.now self.now.moment self.now.mode (run k steps) }
     {
-        (&self.conns, &self.functions, &self.jobs)
+        let tables = &self.tables;
+        (&tables.conns, &tables.functions, &tables.jobs)
     }
 
     /// The least slot that was touched since it was last taken, which is taken out. Whatever the core is asked, a slot
@@ -105,7 +131,7 @@ impl Core {
         ensures lanes { (c : ℕ) → outbox (conn self.new.conns c) ≡ outbox (conn self.old.conns c) }
         ensures agrees { (k : Settings) (steps : List Step) → CoreAgrees self.old k steps → CoreAgrees self.new k steps }
     {
-        self.conns.take_touched()
+        self.tables.conns.take_touched()
     }
 
     /// As `apply`, for a caller with a lock: where a worker ends its job, and the body is shared, `freed` becomes an owner of it, so that it
@@ -125,10 +151,29 @@ impl Core {
         ensures freed { Frees self.old.jobs self.new.jobs freed.old freed.new }
         ensures light { IsLight self.new.text }
     {
-        let answer = self.take(read, freed);
-        self.text.let_go();
+        let answer = self.tables.take(read, freed);
+        self.tables.text.let_go();
         answer
     }
+
+    /// What the worker in a slot wants; it is awake where the slot isn't open. It takes no memory.
+    pub fn phase(&self, slot: u32) -> Phase
+        ensures value { result ≡ (conn self.now.conns slot).phase }
+        ensures agrees { (k : Settings) (steps : List Step) → CoreAgrees self.now k steps → result ≡ phase slot (run k steps).notes }
+    {
+        if self.tables.conns.is_open(slot) {
+            self.tables.conns.phase(slot)
+        } else {
+            Phase::Awake
+        }
+    }
+}
+
+impl Tables {
+    ghost use Rattle.gm_core.specs.Holds.{IsKept, AllTouched, CoreAgrees};
+    ghost use Rattle.gm_core.specs.NoMemory.{NeedsNoMemory};
+    ghost use Rattle.gm_core.specs.Freed.{Frees};
+    ghost use Rattle.gm_actions.specs.ReadEvents.{ReadsEvent};
 
     /// Takes an event, which was read.
     fn take(
@@ -138,6 +183,7 @@ impl Core {
     ) -> Result<Done, ApplyError>
         requires size { IsSized read.now.event }
         requires reads { ReadsEvent read.now.event read.now.action }
+        requires kept { IsKept self.old }
         ensures answers { (k : Settings) (steps : List Step) → CoreAgrees self.old k steps
             → Answers k steps (step_of read.now.event) result
             × CoreAgrees self.new k (steps_after result (step_of read.now.event) steps) }
@@ -172,7 +218,7 @@ impl JobServer for Core {
     {
         // Long data that are lent are copied once, and shared from then on.
         if let Event::Packet { slot, kind, bytes } = *event
-            && let Some(copy) = bytes.copy_long(self.alloc)
+            && let Some(copy) = bytes.copy_long(self.tables.alloc)
         {
             let bytes = Data::shared(&copy);
             let event = Event::Packet { slot, kind, bytes };
@@ -182,19 +228,19 @@ impl JobServer for Core {
     }
 
     fn owed(&self, slot: u32) -> bool {
-        self.conns.is_open(slot) && self.conns.phase(slot).is_owed()
+        self.tables.conns.is_open(slot) && self.tables.conns.phase(slot).is_owed()
     }
 
     fn shut(&self, slot: u32) -> bool {
-        self.conns.is_open(slot) && self.conns.is_shut(slot)
+        self.tables.conns.is_open(slot) && self.tables.conns.is_shut(slot)
     }
 
     fn mode(&self) -> Mode {
-        self.mode
+        self.tables.mode
     }
 
     fn place(&self, job: u64) -> Place {
-        self.jobs.place(job)
+        self.tables.jobs.place(job)
     }
 
     fn took(&mut self, slot: u32) -> Result<(), ApplyError>
@@ -202,8 +248,8 @@ impl JobServer for Core {
             → AnswersAt k steps (Took slot) result × CoreAgrees self.new k (steps_after_that result (Took slot) steps) }
         ensures touched { AllTouched self.old.conns self.new.conns }
     {
-        self.check_owed(slot)?;
-        self.conns.set_phase(slot, Phase::Awake);
+        self.tables.check_owed(slot)?;
+        self.tables.conns.set_phase(slot, Phase::Awake);
         Ok(())
     }
 
@@ -212,8 +258,8 @@ impl JobServer for Core {
             → AnswersAt k steps (Withdrew slot) result × CoreAgrees self.new k (steps_after_that result (Withdrew slot) steps) }
         ensures touched { AllTouched self.old.conns self.new.conns }
     {
-        self.check_owed(slot)?;
-        self.conns.set_phase(slot, Phase::Awake);
+        self.tables.check_owed(slot)?;
+        self.tables.conns.set_phase(slot, Phase::Awake);
         Ok(())
     }
 
@@ -222,9 +268,9 @@ impl JobServer for Core {
             → (result.bytes ≡ waiting slot (run k steps).flow) × CoreAgrees self.new k (Drain slot ∷ steps) }
         ensures touched { AllTouched self.old.conns self.new.conns }
     {
-        if !self.conns.is_open(slot) {
-            return ByteQueue::new(self.alloc);
+        if !self.tables.conns.is_open(slot) {
+            return ByteQueue::new(self.tables.alloc);
         }
-        self.conns.drain(slot)
+        self.tables.conns.drain(slot)
     }
 }

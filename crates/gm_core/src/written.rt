@@ -1,7 +1,8 @@
 //! A packet or a text that is to be queued.
 
-ghost use Rattle.std.specs.Prelude.{◌≡◌, ◌+◌, ◌-◌, ◌≤◌, ◌++◌, [], true, Some, IfSome, IfOk, OnOk, All, length, take, drop};
+ghost use Rattle.std.specs.Prelude.{◌≡◌, ◌+◌, ◌-◌, ◌<◌, ◌≤◌, ◌^◌, ◌++◌, [], true, Some, IfSome, IfOk, OnOk, All, length, take, drop};
 ghost use Rattle.std.specs.Int.{w32, to_be_bytes};
+ghost use Rattle.std.specs.List.{join_with_byte};
 ghost use Rattle.gm_packet.specs.Answers.{Answer, answer_of, answer_packet};
 ghost use Rattle.gm_packet.specs.Packets.{Fits};
 ghost use Rattle.gm_conns.specs.Connections.{with_bytes};
@@ -11,7 +12,7 @@ ghost use Rattle.gm_core.specs.Writing.{bare_answer, copied_text, IsFor, IsLight
 
 use gm_bytes::{Data, SHARED_ROOM, SharedBytes};
 use gm_conns::Conns;
-use gm_packet::{Response, response_fits, write_response};
+use gm_packet::{Response, write_response};
 use std::alloc::{AllocError, Global};
 use std::marker::Model;
 
@@ -78,16 +79,13 @@ fn without_body<'a>(response: &Response<'a>) -> Option<Response<'a>>
 }
 
 /// Says in the header of a packet that this many bytes follow behind it, which belong to it.
-fn lengthen(packet: &mut Vec<u8>, count: usize) -> Result<(), AllocError>
-    requires { 12 ≤ length packet.old.items }
-    ensures { OnOk result (packet.new.items ≡ take 8 packet.old.items ++ to_be_bytes w32 ((length packet.old.items - 12) + count) ++ drop 12 packet.old.items) }
+fn lengthen(packet: &mut Vec<u8>, count: usize)
+    requires long { 12 ≤ length packet.old.items }
+    requires fits { (length packet.old.items - 12) + count < 2 ^ 32 }
+    ensures { packet.new.items ≡ take 8 packet.old.items ++ to_be_bytes w32 ((length packet.old.items - 12) + count) ++ drop 12 packet.old.items }
 {
-    let size = (packet.len() - 12).checked_add(count).ok_or(AllocError)?;
-    let Ok(size) = u32::try_from(size) else {
-        return Err(AllocError);
-    };
+    let size = (packet.len() - 12 + count) as u32;
     packet[8..12].copy_from_slice(&size.to_be_bytes());
-    Ok(())
 }
 
 /// Adds owners of the body until there are this many.
@@ -136,11 +134,11 @@ impl Written {
     }
 
     /// How much of a queue's room it takes.
-    pub(crate) fn cost(&self) -> Result<usize, AllocError>
-        ensures { IfOk result (λ cost. cost ≡ self.now.cost) }
+    pub(crate) fn cost(&self) -> usize
+        ensures { result ≡ self.now.cost }
     {
         let shared = if self.body.is_some() { SHARED_ROOM } else { 0 };
-        self.copied.len().checked_add(shared).ok_or(AllocError)
+        self.copied.len() + shared
     }
 
     /// Writes the packet of a response. Its last argument may be this body; one that can be shared isn't copied.
@@ -167,15 +165,14 @@ impl Written {
 
     /// Writes a packet whose last argument is empty, and puts a body in its place.
     fn write_over(&mut self, bare: &Response<'_>, body: SharedBytes) -> Result<(), AllocError>
+        requires fits { Fits (answer_of bare.now).arguments }
+        requires sized { length (join_with_byte 0 (answer_of bare.now).arguments) + length body < 2 ^ 32 }
         ensures { OnOk result ((answer : Answer) → answer_of bare.now ≡ bare_answer answer → EndsWith body answer → self.new.bytes ≡ answer_packet answer) }
     {
         self.owners.clear();
         self.copied.clear();
-        if !response_fits(bare) {
-            return Err(AllocError);
-        }
         write_response(bare, &mut self.copied)?;
-        lengthen(&mut self.copied, body.as_slice().len())?;
+        lengthen(&mut self.copied, body.as_slice().len());
         self.body = Some(body);
         Ok(())
     }

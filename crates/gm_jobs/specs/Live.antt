@@ -1,5 +1,5 @@
 -- What a live job is.
-use Rattle.std.specs.Prelude.{◌≡◌, ℕ, Bool, true, false, not, ◌&&◌, ◌==◌, ◌+◌, ◌≤◌, nat_le, if◌then◌else◌, List, [], ◌∷◌, ◌++◌, length, filter}
+use Rattle.std.specs.Prelude.{◌≡◌, ℕ, Bool, true, false, not, ◌&&◌, ◌||◌, ◌==◌, ◌+◌, ◌≤◌, nat_le, if◌then◌else◌, List, [], ◌∷◌, ◌++◌, length, filter}
 use Rattle.std.specs.Prelude.{Option, Some, None}
 use Rattle.std.specs.Str.{bytes_eq}
 use Rattle.gm_packet.specs.Packets.{has_nul}
@@ -103,6 +103,10 @@ is_reached now (Some deadline) = nat_le deadline now
 -- it runs at the slot
 abbrev pub is_run_by : ℕ → Live → Bool
 is_run_by slot live = runs_at slot live.live_place
+
+-- somebody wants it
+abbrev pub is_wanted : Live → Bool
+is_wanted live = live.kept || not (length live.listeners == 0)
 
 -- it waits, and nobody wants it
 abbrev pub is_orphan : Live → Bool

@@ -215,17 +215,16 @@ impl JobMap {
         enter(&mut self.slab, &mut self.ends, key, number);
     }
 
-    /// Lets go of the job of a number.
-    pub(crate) fn remove(&mut self, number: u64)
+    /// Takes out the job of a number.
+    pub(crate) fn remove(&mut self, number: u64) -> Option<Job>
+        ensures removed { result ≡ find_job self.old.entries number }
         ensures jobs { (m : ℕ) → find_job self.new.entries m ≡ (if number == m then None else find_job self.old.entries m) }
         ensures room { self.old.room ≤ self.new.room }
     {
-        let Some(key) = self.keys.swap_remove(&number) else {
-            return;
-        };
+        let key = self.keys.swap_remove(&number)?;
         let list = list_at(&self.slab, key);
         leave(&mut self.slab, &mut self.ends, list, key);
-        let _removed = self.slab.try_remove(key);
+        Some(self.slab.remove(key).job)
     }
 
     /// The least number above `after` of a live job that is what is asked for. All of these are in this list.

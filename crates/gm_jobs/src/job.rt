@@ -2,7 +2,7 @@
 
 ghost use Rattle.std.specs.Prelude.{◌≡◌, ◌&&◌, ◌==◌, false, IsOk, IfSome, ◌<◌, OnOk, OnErr, Some, None};
 ghost use Rattle.std.specs.Option.{option_map};
-ghost use Rattle.gm_jobs.specs.Live.{Live, AreCarried, body_bytes, given_back, reported, with_listener, without_listener, place_at, is_named, is_run_by, is_orphan, is_due, is_last_try, waits, runs_at};
+ghost use Rattle.gm_jobs.specs.Live.{Live, AreCarried, body_bytes, given_back, reported, with_listener, without_listener, place_at, is_named, is_run_by, is_wanted, is_orphan, is_due, is_last_try, waits, runs_at};
 ghost use Rattle.gm_jobs.specs.Queries.{meets};
 ghost use Rattle.gm_jobs.specs.Changes.{changed, CanBeTold, takes_memory};
 ghost use Rattle.gm_jobs.specs.Links.{stands_in};
@@ -199,11 +199,11 @@ impl Job {
         }
     }
 
-    /// Whether a background submission keeps it.
-    pub fn kept(&self) -> bool
-        ensures { result ≡ self.now.kept }
+    /// Whether somebody wants it: a background submission keeps it, or a slot listens.
+    pub fn is_wanted(&self) -> bool
+        ensures { result ≡ is_wanted self.now }
     {
-        self.kept
+        self.kept || !self.listeners.is_empty()
     }
 
     pub fn place(&self) -> Place
@@ -228,7 +228,7 @@ impl Job {
     }
 
     /// Its listeners, in the order in which they came.
-    pub(crate) fn listeners(&self) -> &[u32]
+    pub fn listeners(&self) -> &[u32]
         ensures { result.now ≡ self.now.listeners }
     {
         self.listeners.as_slice()
@@ -287,8 +287,9 @@ impl Job {
         }
     }
 
-    /// Whether its worker is the last that it is given to; a limit of 0 is none.
-    pub(crate) fn is_last_try(&self, limit: u32) -> bool
+    /// Whether its worker is the last that it is given to, where a job is given to at most this many workers: it came
+    /// back from all but one of them before. A limit of 0 is none.
+    pub fn is_last_try(&self, limit: u32) -> bool
         ensures { result ≡ is_last_try limit self.now }
     {
         limit != 0 && self.returns >= limit - 1

@@ -1,9 +1,9 @@
 //! The table of jobs.
 
-ghost use Rattle.std.specs.Prelude.{◌≡◌, ℕ, ◌+◌, ◌<◌, ◌≤◌, ◌^◌, ◌↔◌, Some, None, IsSome, IfSome, IfNone, IfOk, IfErr, OnOk, OnErr, Err, Contains, length};
+ghost use Rattle.std.specs.Prelude.{◌≡◌, ℕ, ◌+◌, ◌<◌, ◌≤◌, ◌^◌, ◌↔◌, Some, None, IsSome, true, false, IfSome, IfNone, IfOk, IfErr, OnOk, OnErr, Err, Contains, length};
 ghost use Rattle.std.specs.Option.{option_copied, unwrap_or};
 ghost use Rattle.gm_jobs.specs.Live.{AreCarried, fresh, assigned, given_back, kept, reported, with_listener, is_run_by, is_orphan, is_due, is_last_try};
-ghost use Rattle.gm_jobs.specs.Tables.{no_jobs, job, find_job, is_made, place, back, listeners_of, passes, IsNamed, IsVacant, HasRoom, with_room, Makes, Changes, Ends, Leaves, IsNext, IsLast};
+ghost use Rattle.gm_jobs.specs.Tables.{no_jobs, job, find_job, is_made, place, listeners_of, passes, IsNamed, IsVacant, HasRoom, with_room, Makes, Changes, Ends, Leaves, IsNext, IsLast};
 ghost use Rattle.gm_jobs.specs.Deadlines.{AllListed};
 ghost use Rattle.gm_jobs.specs.Listening.{Heard};
 ghost use Rattle.gm_jobs.specs.Changes.{LeavesOne, LeavesSome};
@@ -37,15 +37,6 @@ impl From<AllocError> for JobError {
     fn from(_e: AllocError) -> JobError {
         JobError::Memory
     }
-}
-
-/// What became of a job that its worker gave back.
-#[derive(Clone, Copy, Debug, PartialEq, Eq)]
-pub enum Back {
-    /// It waits again.
-    Returned,
-    /// That was its last try: it runs at no slot, and the next tick fails it.
-    Lost,
 }
 
 /// The live jobs by their numbers.
@@ -248,38 +239,31 @@ impl Jobs {
         self.deadlines.enlist(&self.jobs, n, deadline);
     }
 
-    // Whether the worker of a live job is the last that it is given to, where there is a limit.
-    fn is_last_try(&self, n: u64, limit: u32) -> bool
-        ensures { result ≡ passes (is_last_try limit) (job self.now n) }
+    /// The job waits again. A limit of 0 is none.
+    pub fn give_back(&mut self, n: u64, limit: u32)
+        requires { passes (is_last_try limit) (job self.old n) ≡ false }
+        ensures { Changes n (given_back limit) self.old self.new }
     {
-        match self.by_number(n) {
-            Some(job) => job.is_last_try(limit),
-            None => false,
-        }
-    }
-
-    /// The job waits again, or is lost if that was its last try: where a job is given to at most this many workers
-    /// and it came back from all but one of them before. A limit of 0 is none.
-    pub fn give_back(&mut self, n: u64, limit: u32) -> Back
-        ensures back { result ≡ back limit (job self.old n) }
-        ensures changes { Changes n (given_back limit) self.old self.new }
-    {
-        let is_lost = self.is_last_try(n, limit);
         let _changed = self.jobs.change(n, Change::GiveBack(limit));
-        if is_lost {
-            self.deadlines.enlist(&self.jobs, n, Some(0));
-            Back::Lost
-        } else {
-            Back::Returned
-        }
     }
 
-    /// The job isn't live any more.
-    pub fn end(&mut self, n: u64)
-        ensures { Ends n self.old self.new }
+    /// That was the job's last try: it runs at no slot, and the next tick fails it.
+    pub fn lose(&mut self, n: u64, limit: u32)
+        requires { passes (is_last_try limit) (job self.old n) ≡ true }
+        ensures { Changes n (given_back limit) self.old self.new }
     {
-        self.uniques.remove(&self.jobs, n);
-        self.jobs.remove(n);
+        let _changed = self.jobs.change(n, Change::GiveBack(limit));
+        self.deadlines.enlist(&self.jobs, n, Some(0));
+    }
+
+    /// The job isn't live any more; gives what it was.
+    pub fn end(&mut self, n: u64) -> Option<Job>
+        ensures ended { result ≡ job self.old n }
+        ensures ends { Ends n self.old self.new }
+    {
+        let ended = self.jobs.remove(n)?;
+        self.uniques.remove(&ended, n);
+        Some(ended)
     }
 
     /// A background submission keeps the job.

@@ -18,5 +18,5 @@ mod surface;
 mod uniques;
 
 pub use job::{Job, NewJob};
-pub use jobs::{Back, JobError, Jobs};
+pub use jobs::{JobError, Jobs};
 pub use uniques::Vacancy;

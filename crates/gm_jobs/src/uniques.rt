@@ -8,6 +8,7 @@ ghost use Rattle.gm_jobs.specs.Tables.{find_job, passes};
 ghost use Rattle.gm_jobs.specs.Uniques.{digest_of, LeadsTo};
 
 use crate::by_number::{JobMap, NumberHash};
+use crate::job::Job;
 use gm_notes::is_joining;
 use indexmap::IndexMap;
 use std::alloc::{AllocError, Global};
@@ -153,15 +154,13 @@ impl Uniques {
         }
     }
 
-    /// The job of a number ends: what is kept of it goes.
-    pub(crate) fn remove(&mut self, jobs: &JobMap, number: u64)
+    /// This job, of this number, ended: what is kept of it goes.
+    pub(crate) fn remove(&mut self, job: &Job, number: u64)
         ensures kept { (d n : ℕ) → n ≢ number → LeadsTo self.old d n → LeadsTo self.new d n }
         ensures room { self.old.room ≤ self.new.room }
     {
-        if let Some(job) = jobs.get(number) {
-            if is_joining(job.unique()) {
-                self.take(job.digest(), number);
-            }
+        if is_joining(job.unique()) {
+            self.take(job.digest(), number);
         }
     }
 }

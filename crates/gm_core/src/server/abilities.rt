@@ -13,7 +13,7 @@ ghost use Rattle.gm_notes.specs.declared.note.Note.TheVariants.{Reset};
 ghost use Rattle.gm_core.specs.Holds.{name_at, ability_named, wake_if_waiting};
 ghost use Rattle.gm_core.specs.declared.server.abilities.Choice.{Choice};
 
-use super::Core;
+use super::Tables;
 use gm_actions::Refusal;
 use gm_notes::{Phase, Pick};
 use gm_queues::{Functions, MentionError};
@@ -26,7 +26,7 @@ pub(super) struct Choice {
     pub(super) function: u32,
 }
 
-impl Core {
+impl Tables {
     ghost use Rattle.gm_core.specs.Holds.{Keeps, Goes, Does};
 
     /// The first job of a function, if there is such a function.

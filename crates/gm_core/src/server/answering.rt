@@ -10,7 +10,7 @@ ghost use Rattle.gm_actions.specs.Bodies.{EndsWith};
 ghost use Rattle.gm_actions.specs.Refusals.{code_of};
 ghost use Rattle.gm_core.specs.Writing.{copied_text, IsFor};
 
-use super::Core;
+use super::Tables;
 use crate::written::Written;
 use gm_actions::Refusal;
 use gm_bytes::Data;
@@ -36,11 +36,10 @@ pub(super) fn prepare(
 {
     text.write(response, body)?;
     text.own(1)?;
-    let cost = text.cost()?;
-    conns.reserve_out(slot, cost)
+    conns.reserve_out(slot, text.cost())
 }
 
-impl Core {
+impl Tables {
     ghost use Rattle.gm_core.specs.Holds.{KeepsTables, Goes, Does};
 
     /// Writes a text, and makes room for it at a slot.

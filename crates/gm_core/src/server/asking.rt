@@ -8,7 +8,7 @@ ghost use Rattle.gm_jobs.specs.Live.{AreCarried};
 ghost use Rattle.gm_actions.specs.Actions.{IsWord, report_of};
 ghost use Rattle.gm_notes.specs.Requests.{tell_status};
 
-use super::Core;
+use super::Tables;
 use super::answering::prepare;
 use gm_actions::{Report, known_status, number_in, unknown_status};
 use gm_jobs::Job;
@@ -26,7 +26,7 @@ fn report_of(job: &Job) -> Report<'_>
     }
 }
 
-impl Core {
+impl Tables {
     ghost use Rattle.gm_core.specs.Holds.{Does};
 
     /// Tells a slot what is known of the job that a handle names.

@@ -1,96 +1,56 @@
 //! Connections that go, and jobs that wait again or are discarded.
 
-ghost use Rattle.std.specs.Prelude.{◌≡◌, List, true, false, length, not, ◌==◌, ◌||◌, IsErrOf};
-ghost use Rattle.std.specs.Option.{option_map_or};
+ghost use Rattle.std.specs.Prelude.{◌≡◌, List, true, IsErrOf};
 ghost use Rattle.gm_notes.specs.declared.event.ApplyError.TheVariants.{Memory};
 ghost use Rattle.gm_notes.specs.Settings.{Settings};
 ghost use Rattle.gm_notes.specs.Steps.{Step, Close};
 ghost use Rattle.gm_notes.specs.Servers.{Answers, steps_after};
 ghost use Rattle.gm_notes.specs.declared.note.Note.TheVariants.{Discarded};
 ghost use Rattle.gm_notes.specs.Past.{with_note};
-ghost use Rattle.gm_notes.specs.Closings.{give_back_one, return_or_lose, disconnect, discard_each, give_back_each, rising};
+ghost use Rattle.gm_notes.specs.Closings.{give_back_one, disconnect, discard_each, give_back_each, rising};
 ghost use Rattle.gm_conns.specs.ConnTables.{IsOpen};
 ghost use Rattle.gm_jobs.specs.Live.{is_orphan, is_run_by};
 ghost use Rattle.gm_jobs.specs.Tables.{passes};
 ghost use Rattle.gm_jobs.specs.Tables as jobs;
 
-use super::Core;
-use gm_jobs::Back;
+use super::Tables;
 use gm_notes::{ApplyError, Done};
 
-impl Core {
-    ghost use Rattle.gm_core.specs.Holds.{Goes, AllTouched, CoreAgrees};
+impl Tables {
+    ghost use Rattle.gm_core.specs.Holds.{IsKept, Goes, AllTouched, CoreAgrees};
 
     /// A waiting job that nobody wants is discarded. It needs no memory.
     fn discard(&mut self, job: u64)
-        requires { passes is_orphan (jobs.job self.old.jobs job) ≡ true }
+        requires orphan { passes is_orphan (jobs.job self.old.jobs job) ≡ true }
+        requires kept { IsKept self.old }
         ensures { Goes self.old self.new (with_note (Discarded job)) }
     {
-        let Some(found) = self.jobs.by_number(job) else {
-            return;
-        };
-        let (f, p) = (found.f(), found.p());
-        // A job that waits is in its queue.
-        if f >= self.functions.len() {
-            return;
-        }
-        if !self.functions.is_waiting(f, p, job) {
-            return;
-        }
-        self.functions.forget(f, p, job);
-        self.jobs.end(job);
-    }
-    /// A job that runs at a slot is discarded. It needs no memory.
-    fn discard_running(&mut self, slot: u32, job: u64)
-        requires { passes (is_run_by slot) (jobs.job self.old.jobs job) ≡ true }
-        ensures { Goes self.old self.new (with_note (Discarded job)) }
-    {
-        if let Some((f, p)) = self.queue_of_running(job) {
-            self.functions.release(f, p);
-            self.jobs.end(job);
-        }
+        let ended = self.jobs.end(job).unwrap();
+        self.functions.forget(ended.f(), ended.p(), job);
     }
 
-    /// A job that runs at a slot waits again, as the last, and the sleeping workers that can do it are owed a NOOP;
-    /// or it is lost if that was its last try, and keeps the place that is reserved for it at its queue. It needs no
-    /// memory.
-    fn give_back(&mut self, slot: u32, job: u64)
-        requires { passes (is_run_by slot) (jobs.job self.old.jobs job) ≡ true }
-        ensures { Goes self.old self.new (return_or_lose self.old.config job) }
-    {
-        let Some((f, p)) = self.queue_of_running(job) else {
-            return;
-        };
-        match self.jobs.give_back(job, self.config.retries()) {
-            Back::Returned => {
-                self.functions.push(f, p, job);
-                self.wake(f);
-            }
-            Back::Lost => {}
-        }
-    }
-
-    /// Whether a live job is wanted.
-    fn is_wanted(&self, job: u64) -> bool
-        ensures { result ≡ option_map_or (λ live. live.kept || not (length live.listeners == 0)) (jobs.job self.now.jobs job) false }
-    {
-        match self.jobs.by_number(job) {
-            Some(found) => found.kept() || !self.jobs.listeners(job).is_empty(),
-            None => false,
-        }
-    }
-
-    /// A job that runs at a slot is given back if it is wanted, and is discarded if not.
+    /// A job that runs at a slot waits again, as the last, and the sleeping workers that can do it are owed a NOOP; or it is lost
+    /// if that was its last try, and keeps the place that is reserved for it at its queue; or it is discarded if nobody wants it.
+    /// It needs no memory.
     fn give_back_one(&mut self, slot: u32, job: u64)
-        requires { passes (is_run_by slot) (jobs.job self.old.jobs job) ≡ true }
+        requires runs { passes (is_run_by slot) (jobs.job self.old.jobs job) ≡ true }
+        requires kept { IsKept self.old }
         ensures { Goes self.old self.new (give_back_one self.old.config slot job) }
     {
-        if self.is_wanted(job) {
-            self.give_back(slot, job);
+        let limit = self.config.retries();
+        let found = self.jobs.by_number(job).unwrap();
+        if !found.is_wanted() {
+            let _ended = self.end(job);
+        } else if found.is_last_try(limit) {
+            self.jobs.lose(job, limit);
         } else {
-            self.discard_running(slot, job);
+            let (f, p) = (found.f(), found.p());
+            self.jobs.give_back(job, limit);
+            self.functions.push(f, p, job);
+            self.wake(f);
         }
     }
+
     /// The connection in a slot goes, with what waited for it. It needs no memory.
     fn leave(&mut self, slot: u32)
         requires { IsOpen self.old.conns slot }
@@ -103,6 +63,7 @@ impl Core {
 
     /// The waiting jobs that nobody wants are discarded, in the order of their numbers. It needs no memory.
     fn discard_each(&mut self)
+        requires { IsKept self.old }
         ensures { Goes self.old self.new (λ past. discard_each (rising past) past) }
     {
         let mut after = 0;
@@ -111,9 +72,11 @@ impl Core {
             after = job;
         }
     }
+
     /// The jobs that ran at a slot wait again, are lost, or are discarded, in the order of their numbers. It needs no
     /// memory.
     fn give_back_each(&mut self, slot: u32)
+        requires { IsKept self.old }
         ensures { Goes self.old self.new (λ past. give_back_each self.old.config slot (rising past) past) }
     {
         let mut after = 0;
@@ -122,9 +85,11 @@ impl Core {
             after = job;
         }
     }
+
     /// The connection in a slot goes, with what waited for it; its jobs wait again, are lost, or go too. It needs no
     /// memory.
     pub(super) fn close(&mut self, slot: u32) -> Result<Done, ApplyError>
+        requires { IsKept self.old }
         ensures answers { (k : Settings) (steps : List Step) → CoreAgrees self.old k steps
             → Answers k steps (Close slot) result × CoreAgrees self.new k (steps_after result (Close slot) steps) }
         ensures touched { AllTouched self.old.conns self.new.conns }

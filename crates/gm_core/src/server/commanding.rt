@@ -14,14 +14,14 @@ ghost use Rattle.gm_notes.specs.Lines.{refuse_line, is_bad_word, maxqueue, go_gr
 ghost use Rattle.gm_actions.specs.Lines.{NamesFunction};
 ghost use Rattle.gm_core.specs.Writing.{copied_text};
 
-use super::Core;
+use super::Tables;
 use gm_actions::read_line;
 use gm_admin::{AdminError, Command, write_fault, write_ok, write_version};
 use gm_notes::{ApplyError, Done, Mode};
 use gm_queues::MentionError;
 use std::alloc::AllocError;
 
-impl Core {
+impl Tables {
     ghost use Rattle.gm_core.specs.Holds.{Goes, Does, AllTouched, CoreAgrees};
 
     /// A text line of a slot.

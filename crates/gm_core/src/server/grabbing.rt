@@ -1,6 +1,6 @@
 //! Workers that ask for jobs.
 
-ghost use Rattle.std.specs.Prelude.{◌≡◌, ◌<◌, ◌≤◌, Some, IfOk, OnOk, length, slice_get};
+ghost use Rattle.std.specs.Prelude.{◌≡◌, ◌<◌, ◌≤◌, Some, IsSome, IfOk, OnOk, length, slice_get};
 ghost use Rattle.std.specs.Option.{option_map};
 ghost use Rattle.gm_packet.specs.Answers.{answer_packet};
 ghost use Rattle.gm_conns.specs.ConnTables.{IsOpen, conn};
@@ -14,7 +14,7 @@ ghost use Rattle.gm_notes.specs.Jobs.{handle};
 ghost use Rattle.gm_notes.specs.Past.{with_note};
 ghost use Rattle.gm_notes.specs.Workers.{deadline_after, assignment, give_out, wake_itself, grab};
 
-use super::Core;
+use super::Tables;
 use super::abilities::Choice;
 use super::answering::prepare;
 use gm_actions::{JobRef, assignment, deadline_after, handle};
@@ -22,8 +22,8 @@ use gm_notes::Priority;
 use gm_packet::Response;
 use std::alloc::AllocError;
 
-impl Core {
-    ghost use Rattle.gm_core.specs.Holds.{Keeps, KeepsTables, Goes, Does};
+impl Tables {
+    ghost use Rattle.gm_core.specs.Holds.{IsKept, KeepsTables, Goes, Does};
 
     /// Writes what a worker gets to know of a job, and makes room for it.
     fn prepare_assigned(
@@ -34,6 +34,7 @@ impl Core {
     ) -> Result<Priority, AllocError>
         requires open { IsOpen self.old.conns slot }
         requires within { found.function < length self.old.functions.names }
+        requires live { IsSome (jobs.job self.old.jobs found.pick.job) }
         ensures goes { Goes self.old self.new (λ past. past) }
         ensures open { IsOpen self.new.conns slot }
         ensures room { OnOk result (self.new.text.cost ≤ (conn self.new.conns slot).room) }
@@ -45,10 +46,7 @@ impl Core {
         ensures tables { KeepsTables self.old self.new }
     {
         let handle = handle(self.alloc, &self.config, found.pick.job)?;
-        // A job that was picked is live.
-        let Some(job) = self.jobs.by_number(found.pick.job) else {
-            return Err(AllocError);
-        };
+        let job = self.jobs.by_number(found.pick.job).unwrap();
         let view = JobRef {
             function: self.functions.name(found.function),
             priority: job.p(),
@@ -81,8 +79,10 @@ impl Core {
         self.conns.set_last(slot, found.function);
     }
 
+    /// The job that was picked goes to the worker in a slot.
     fn assign(&mut self, slot: u32, found: Choice, with_unique: bool) -> Result<(), AllocError>
         requires open { IsOpen self.old.conns slot }
+        requires kept { IsKept self.old }
         requires within { found.function < length self.old.functions.names }
         requires first { slice_get (waiting_for self.old.functions found.function) 0 ≡ Some found.pick.job }
         ensures { Does self.old result self.new (λ past. give_out self.old.config slot with_unique (Some found.pick) (wake_itself slot past)) }
@@ -96,7 +96,8 @@ impl Core {
 
     /// The worker in a slot asks for a job.
     pub(super) fn grab(&mut self, slot: u32, with_unique: bool) -> Result<(), AllocError>
-        requires { IsOpen self.old.conns slot }
+        requires open { IsOpen self.old.conns slot }
+        requires kept { IsKept self.old }
         ensures { Does self.old result self.new (grab self.old.config slot with_unique) }
     {
         match self.pick(slot) {

@@ -9,7 +9,7 @@ ghost use Rattle.gm_notes.specs.Past.{Past, with_output};
 ghost use Rattle.gm_core.specs.Holds.{name_at};
 ghost use Rattle.gm_core.specs.Listings.{workers, status_line_of, status_lines, names_of, worker_line_of, worker_lines};
 
-use super::Core;
+use super::Tables;
 use gm_admin::{StatusRow, WorkerRow, write_status, write_workers};
 use gm_conns::Conns;
 use gm_queues::Functions;
@@ -117,7 +117,7 @@ fn worker_rows<'a>(
     Ok(rows)
 }
 
-impl Core {
+impl Tables {
     ghost use Rattle.gm_core.specs.Holds.{Keeps, Does};
 
     /// The answer to `status`.

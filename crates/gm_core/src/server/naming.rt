@@ -7,11 +7,11 @@ ghost use Rattle.gm_notes.specs.Past.{with_note};
 ghost use Rattle.gm_notes.specs.Requests.{set_option};
 ghost use Rattle.gm_notes.specs.declared.note.Note.TheVariants.{Named};
 
-use super::Core;
+use super::Tables;
 use gm_packet::Response;
 use std::alloc::AllocError;
 
-impl Core {
+impl Tables {
     ghost use Rattle.gm_core.specs.Holds.{Goes, Does};
 
     /// The connection in a slot names itself.

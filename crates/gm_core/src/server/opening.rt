@@ -5,11 +5,11 @@ ghost use Rattle.gm_notes.specs.Settings.{Settings};
 ghost use Rattle.gm_notes.specs.Steps.{Step, Open, Fault};
 ghost use Rattle.gm_notes.specs.Servers.{Answers, steps_after};
 
-use super::Core;
+use super::Tables;
 use gm_actions::append_fault;
 use gm_notes::{ApplyError, Done, UnitFault};
 
-impl Core {
+impl Tables {
     ghost use Rattle.gm_core.specs.Holds.{Goes, AllTouched, CoreAgrees};
 
     /// A connection from this address is given the least slot that isn't open.

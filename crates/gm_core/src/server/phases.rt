@@ -1,18 +1,17 @@
 //! What a connection is ready for: whether it takes units, whether its worker sleeps, and whether it is owed a NOOP.
 
-ghost use Rattle.std.specs.Prelude.{◌≡◌, List, Some, None, IsTrue, OnOk, MatchResult};
-ghost use Rattle.gm_conns.specs.ConnTables.{IsOpen, conn};
-ghost use Rattle.gm_notes.specs.Settings.{Settings};
-ghost use Rattle.gm_notes.specs.Notes.{phase, takes_units};
+ghost use Rattle.std.specs.Prelude.{◌≡◌, Some, None, IsTrue, OnOk, MatchResult};
+ghost use Rattle.gm_conns.specs.ConnTables.{IsOpen};
+ghost use Rattle.gm_notes.specs.Notes.{takes_units};
 ghost use Rattle.gm_notes.specs.Past.{Past};
-ghost use Rattle.gm_notes.specs.Steps.{Step, if_owed, run};
+ghost use Rattle.gm_notes.specs.Steps.{if_owed};
 ghost use Rattle.gm_notes.specs.Workers.{wake_itself};
 
-use super::Core;
+use super::Tables;
 use gm_notes::{ApplyError, Phase};
 
-impl Core {
-    ghost use Rattle.gm_core.specs.Holds.{Keeps, KeepsTables, Goes, CoreAgrees};
+impl Tables {
+    ghost use Rattle.gm_core.specs.Holds.{Keeps, KeepsTables, Goes};
 
     /// Whether a slot takes units.
     pub(super) fn can_take_units(&self, slot: u32) -> bool
@@ -47,17 +46,5 @@ impl Core {
             return Err(ApplyError::NotOwed);
         }
         Ok(())
-    }
-
-    /// What the worker in a slot wants; it is awake where the slot isn't open. It takes no memory.
-    pub fn phase(&self, slot: u32) -> Phase
-        ensures value { result ≡ (conn self.now.conns slot).phase }
-        ensures agrees { (k : Settings) (steps : List Step) → CoreAgrees self.now k steps → result ≡ phase slot (run k steps).notes }
-    {
-        if self.conns.is_open(slot) {
-            self.conns.phase(slot)
-        } else {
-            Phase::Awake
-        }
     }
 }

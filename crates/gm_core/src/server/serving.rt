@@ -11,7 +11,7 @@ ghost use Rattle.gm_notes.specs.Steps.{Step, Packet};
 ghost use Rattle.gm_actions.specs.Actions.{act, acted, IsNamed, CanBeTold, acts_without_memory, ActsWithoutMemory};
 ghost use Rattle.gm_actions.specs.ReadEvents.{ReadsPacket};
 
-use super::Core;
+use super::Tables;
 use gm_actions::{Action, Refusal};
 use gm_bytes::{Data, SharedBytes};
 use gm_notes::{ApplyError, Done};
@@ -29,9 +29,9 @@ fn is_same(one: Option<u64>, other: Option<u64>) -> bool
     }
 }
 
-impl Core {
+impl Tables {
     ghost use Rattle.gm_core.specs.Freed.{Frees};
-    ghost use Rattle.gm_core.specs.Holds.{Does, AllTouched, CoreAgrees};
+    ghost use Rattle.gm_core.specs.Holds.{IsKept, Does, AllTouched, CoreAgrees};
 
     /// A packet of a slot, which asks this.
     pub(super) fn packet(
@@ -42,6 +42,7 @@ impl Core {
     ) -> Result<Done, ApplyError>
         requires named { IfOk action.now IsNamed }
         requires told { IfOk action.now CanBeTold }
+        requires kept { IsKept self.old }
         ensures answers { (kind : ℕ) (bytes : List ℕ) → ReadsPacket kind bytes action.now → (k : Settings) (steps : List Step) → CoreAgrees self.old k steps
             → Answers k steps (Packet slot kind bytes) result × CoreAgrees self.new k (steps_after result (Packet slot kind bytes) steps) }
         ensures memory { ActsWithoutMemory action.now → IsErrOf result ApplyError.Memory → ⊥ }
@@ -74,6 +75,7 @@ impl Core {
         requires open { IsOpen self.old.conns slot }
         requires named { IfOk action.now IsNamed }
         requires told { IfOk action.now CanBeTold }
+        requires kept { IsKept self.old }
         ensures does { Does self.old result self.new (acted self.old.config slot action.now) }
         ensures memory { ActsWithoutMemory action.now → OnErr result ⊥ }
         ensures freed { Frees self.old.jobs self.new.jobs freed.old freed.new }
@@ -94,6 +96,7 @@ impl Core {
         requires open { IsOpen self.old.conns slot }
         requires named { IsNamed action.now }
         requires told { CanBeTold action.now }
+        requires kept { IsKept self.old }
         ensures does { Does self.old result self.new (act self.old.config slot action.now) }
         ensures memory { acts_without_memory action.now ≡ true → OnErr result ⊥ }
         ensures freed { Frees self.old.jobs self.new.jobs freed.old freed.new }

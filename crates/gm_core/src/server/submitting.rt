@@ -1,6 +1,6 @@
 //! Submissions.
 
-ghost use Rattle.std.specs.Prelude.{◌≡◌, ◌<◌, ◌≤◌, false, None, ◌+◌, ◌==◌, ◌&&◌, not, nat_le, ℕ, Some, List};
+ghost use Rattle.std.specs.Prelude.{◌≡◌, ◌<◌, ◌≤◌, ◌^◌, false, None, ◌+◌, ◌==◌, ◌&&◌, not, nat_le, ℕ, Some, List};
 ghost use Rattle.std.specs.Prelude.{OnOk, OnErr, IfOk, length};
 ghost use Rattle.gm_packet.specs.Answers.{job_created, answer_packet};
 ghost use Rattle.gm_conns.specs.ConnTables.{IsOpen, conn};
@@ -13,14 +13,14 @@ ghost use Rattle.gm_notes.specs.declared.note.Note.TheVariants.{Mention};
 ghost use Rattle.gm_notes.specs.Past.{Past, with_note};
 ghost use Rattle.gm_actions.specs.Actions.{submission_of};
 ghost use Rattle.gm_actions.specs.Carried.{IsCarried};
-ghost use Rattle.gm_notes.specs.Submissions.{is_bad_name, is_full, is_one_too_many, keep_or_listen, make, join_or_make, submit};
+ghost use Rattle.gm_notes.specs.Submissions.{is_bad_name, is_full, keep_or_listen, make, join_or_make, submit};
 
-use super::Core;
+use super::Tables;
 use super::answering::prepare;
 use gm_actions::{Refusal, Submission, handle};
-use gm_jobs::{NewJob, Vacancy};
+use gm_jobs::{JobError, NewJob, Vacancy};
 use gm_packet::Response;
-use gm_queues::Counts;
+use gm_queues::{Counts, MentionError};
 use std::alloc::AllocError;
 
 /// A job's first listener: none, if it was submitted in the background.
@@ -38,14 +38,15 @@ fn is_limit_reached(limit: u32, counts: Counts) -> bool
     limit != 0 && (limit <= counts.waiting || limit - counts.waiting <= counts.running)
 }
 
-impl Core {
-    ghost use Rattle.gm_core.specs.Holds.{Keeps, KeepsTables, KeepsRest, Goes, Does};
+impl Tables {
+    ghost use Rattle.gm_core.specs.Holds.{IsKept, Keeps, KeepsTables, KeepsRest, Goes, Does};
 
     /// Joins a job, or makes one.
     pub(super) fn submit(&mut self, slot: u32, asked: &Submission<'_>) -> Result<(), AllocError>
         requires open { IsOpen self.old.conns slot }
         requires named { is_bad_name asked.now.function.now ≡ false }
         requires carried { IsCarried asked.now.function.now asked.now.unique.now asked.now.body.bytes.now }
+        requires kept { IsKept self.old }
         ensures { Does self.old result self.new (submit self.old.config slot (submission_of asked.now)) }
     {
         match self.functions.find(asked.function) {
@@ -99,9 +100,10 @@ impl Core {
         requires named { is_bad_name asked.now.function.now ≡ false }
         requires new { number_of asked.now.function.now self.old.functions ≡ None }
         requires carried { IsCarried asked.now.function.now asked.now.unique.now asked.now.body.bytes.now }
+        requires kept { IsKept self.old }
         ensures { Does self.old result self.new (submit self.old.config slot (submission_of asked.now)) }
     {
-        if self.is_one_too_many(asked.function) {
+        if self.functions.len() >= self.config.max_functions() {
             return self.refuse(slot, Refusal::TooManyFunctions);
         }
         match self.jobs.next_number() {
@@ -132,16 +134,6 @@ impl Core {
         self.send(slot);
         self.wake(f);
         Ok(())
-    }
-
-    /// Whether no function more can be known.
-    fn is_one_too_many(&self, function: &[u8]) -> bool
-        ensures { (past : Past) → Keeps self.now past → result ≡ is_one_too_many self.now.config function.now past.notes }
-    {
-        match self.functions.find(function) {
-            Some(_) => false,
-            None => self.functions.len() >= self.config.max_functions(),
-        }
     }
 
     /// Whether no more jobs of the function may be there.
@@ -196,8 +188,10 @@ impl Core {
         requires open { IsOpen self.old.conns slot }
         requires named { is_bad_name asked.now.function.now ≡ false }
         requires new { number_of asked.now.function.now self.old.functions ≡ None }
+        requires room { length self.old.functions.names < self.old.config.max_functions }
         requires number { job ≡ self.old.jobs.next }
         requires carried { IsCarried asked.now.function.now asked.now.unique.now asked.now.body.bytes.now }
+        requires kept { IsKept self.old }
         ensures { Does self.old result self.new (make self.old.config slot (submission_of asked.now) (Some job)) }
     {
         self.prepare_created(slot, job)?;
@@ -216,21 +210,23 @@ impl Core {
         requires open { IsOpen self.old.conns slot }
         requires named { is_bad_name asked.now.function.now ≡ false }
         requires new { number_of asked.now.function.now self.old.functions ≡ None }
+        requires left { self.old.jobs.next < 2 ^ 64 }
+        requires room { length self.old.functions.names < self.old.config.max_functions }
         requires carried { IsCarried asked.now.function.now asked.now.unique.now asked.now.body.bytes.now }
+        requires kept { IsKept self.old }
         ensures goes { OnOk result (Goes self.old self.new (λ past. add_job slot (submission_of asked.now) self.old.jobs.next (with_note (Mention asked.now.function.now) past))) }
         ensures wanting { OnErr result (Goes self.old self.new (λ past. past)) }
         ensures rest { KeepsRest self.old self.new }
         ensures found { IfOk result (λ f. number_of asked.now.function.now self.new.functions ≡ Some f) }
         ensures within { IfOk result (λ f. f < length self.new.functions.names) }
     {
-        let Ok(f) = self.functions.mention(asked.function) else {
-            return Err(AllocError);
+        let f = match self.functions.mention(asked.function) {
+            Ok(f) => f,
+            Err(MentionError::Memory) => return Err(AllocError),
+            Err(MentionError::TooManyFunctions) => unreachable!(),
         };
-        // No job is of a function that wasn't known, so this finds none.
-        let Err(vacancy) = self.jobs.find(f, asked.unique) else {
-            self.functions.unmention();
-            return Err(AllocError);
-        };
+        // No job is of a function that wasn't known.
+        let vacancy = self.jobs.find(f, asked.unique).unwrap_err();
         match self.add(slot, asked, f, vacancy) {
             Ok(()) => Ok(f),
             Err(wanting) => {
@@ -249,6 +245,7 @@ impl Core {
         vacancy: Vacancy,
     ) -> Result<(), AllocError>
         requires open { IsOpen self.old.conns slot }
+        requires left { self.old.jobs.next < 2 ^ 64 }
         requires found { number_of asked.now.function.now self.old.functions ≡ Some f }
         requires vacant { IsVacant f asked.now.unique.now self.old.jobs vacancy }
         requires carried { IsCarried asked.now.function.now asked.now.unique.now asked.now.body.bytes.now }
@@ -259,9 +256,11 @@ impl Core {
         ensures roomed { OnErr result (self.new.jobs ≡ record self.old.jobs { room = self.new.jobs.room }) }
     {
         let (shared, body) = asked.body.keep();
-        let Ok(()) = self.jobs.reserve(f, asked.unique.len(), body.len()) else {
-            return Err(AllocError);
-        };
+        match self.jobs.reserve(f, asked.unique.len(), body.len()) {
+            Ok(()) => {}
+            Err(JobError::Memory) => return Err(AllocError),
+            Err(JobError::NumbersSpent) => unreachable!(),
+        }
         self.functions.reserve_one(f, asked.priority)?;
         let new = NewJob {
             f,

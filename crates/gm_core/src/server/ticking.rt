@@ -14,7 +14,7 @@ ghost use Rattle.gm_core.specs.Telling.{hears, needed, Roomed, Poured};
 ghost use Rattle.gm_core.specs.Ticks.{AreLate, late_bytes, OthersStay};
 ghost use Rattle.gm_core.specs.Writing.{copied_text};
 
-use super::Core;
+use super::Tables;
 use crate::telling::{put_each, reserve_each};
 use crate::written::Written;
 use gm_actions::handle;
@@ -40,8 +40,8 @@ struct Late {
     text: Written,
 }
 
-impl Core {
-    ghost use Rattle.gm_core.specs.Holds.{Goes, AllTouched, CoreAgrees};
+impl Tables {
+    ghost use Rattle.gm_core.specs.Holds.{IsKept, Goes, AllTouched, CoreAgrees};
 
     /// Writes the packet that tells of a job's failure, and makes room for it at each listener, beyond the room that
     /// there is.
@@ -85,6 +85,7 @@ impl Core {
     /// A running job whose deadline is reached has failed: its listeners get WORK_FAIL, and its worker nothing. It needs
     /// no memory.
     fn expire(&mut self, mut late: Late)
+        requires kept { IsKept self.old }
         requires due { passes (is_due self.old.moment) (job_of self.old.jobs late.job) ≡ true }
         requires text { late.text ≡ copied_text (answer_packet (work_fail (handle self.old.config late.job))) }
         requires room { (c : ℕ) → needed late.text.cost c (filter (hears self.old.conns false) (listeners_of (job_of self.old.jobs late.job))) ≤ (conn self.old.conns c).room }
@@ -95,11 +96,12 @@ impl Core {
     {
         let slots = self.jobs.listeners(late.job);
         put_each(&mut self.conns, slots, false, &mut late.text);
-        self.end(late.job);
+        let _ended = self.end(late.job);
     }
 
     /// These jobs, whose deadlines are reached, have failed. It needs no memory.
     fn expire_each(&mut self, mut lates: VecDeque<Late>)
+        requires kept { IsKept self.old }
         requires late { AreLate self.old.config self.old.moment self.old.jobs.live 0 lates.items }
         requires room { (c : ℕ) → late_bytes (hears self.old.conns false) self.old.jobs c lates.items ≤ (conn self.old.conns c).room }
         ensures { Goes self.old self.new (λ past. expire_each self.old.config (rising past) past) }
@@ -112,6 +114,7 @@ impl Core {
     /// It is now this many seconds; a clock that goes back counts as standing still. The jobs whose deadlines are reached
     /// have failed.
     pub(super) fn tick(&mut self, now: u64) -> Result<Done, ApplyError>
+        requires { IsKept self.old }
         ensures answers { (k : Settings) (steps : List Step) → CoreAgrees self.old k steps
             → Answers k steps (Tick now) result × CoreAgrees self.new k (steps_after result (Tick now) steps) }
         ensures touched { AllTouched self.old.conns self.new.conns }

@@ -4,10 +4,10 @@ ghost use Rattle.std.specs.Prelude.{◌<◌, length};
 ghost use Rattle.gm_notes.specs.Past.{wake};
 ghost use Rattle.gm_core.specs.Holds.{name_at};
 
-use super::Core;
+use super::Tables;
 use gm_notes::Phase;
 
-impl Core {
+impl Tables {
     ghost use Rattle.gm_core.specs.Holds.{Goes};
 
     /// Every sleeping worker that can do a function is owed a NOOP.

@@ -1,15 +1,13 @@
 //! What workers say of their jobs.
 
 ghost use Rattle.std.specs.Prelude.{◌≡◌, ◌⊎◌, ℕ, ◌<◌, ◌≤◌, Some, None, IfSome, IfNone, OnOk, filter, length};
-ghost use Rattle.std.specs.Option.{option_map};
-ghost use Rattle.gm_queues.specs.FunctionTables.{HasIdleRoom};
 ghost use Rattle.gm_packet.specs.Answers.{answer_of};
 ghost use Rattle.gm_packet.specs.Answers.{Answer, answer_packet};
 ghost use Rattle.gm_conns.specs.ConnTables.{IsOpen, conn};
 ghost use Rattle.gm_jobs.specs.Tables.{job as job_of, listeners_of};
 ghost use Rattle.gm_notes.specs.Jobs.{job_of_handle, listeners};
 ghost use Rattle.gm_notes.specs.Past.{Past, with_note, tell_all};
-ghost use Rattle.gm_notes.specs.declared.note.Note.TheVariants.{Ended};
+ghost use Rattle.gm_notes.specs.declared.note.Note.TheVariants.{Discarded, Ended};
 ghost use Rattle.gm_notes.specs.Workers.{hearers, keep_report, end_if, tell_work, work};
 ghost use Rattle.gm_actions.specs.Actions.{SaidFits, ReportFits, said_report, work_of};
 ghost use Rattle.gm_core.specs.Ticks.{OthersStay};
@@ -17,15 +15,15 @@ ghost use Rattle.gm_core.specs.Telling.{hears, needed, IsRunning, running_there}
 ghost use Rattle.gm_core.specs.Writing.{IsFor};
 ghost use Rattle.gm_core.specs.Freed.{body_at, Frees};
 
-use super::Core;
+use super::Tables;
 use crate::telling::{put_each, reserve_each};
 use gm_actions::{Refusal, Report, Said, number_in};
 use gm_bytes::SharedBytes;
-use gm_notes::Priority;
+use gm_jobs::Job;
 use std::alloc::AllocError;
 
-impl Core {
-    ghost use Rattle.gm_core.specs.Holds.{Keeps, KeepsRest, Goes, Does};
+impl Tables {
+    ghost use Rattle.gm_core.specs.Holds.{IsKept, Keeps, KeepsRest, Goes, Does};
 
     /// The worker in a slot says something of the job that a handle names.
     pub(super) fn work(
@@ -37,6 +35,7 @@ impl Core {
     ) -> Result<(), AllocError>
         requires open { IsOpen self.old.conns slot }
         requires fits { SaidFits said.now }
+        requires kept { IsKept self.old }
         ensures does { Does self.old result self.new (work self.old.config slot handle.now (work_of said.now)) }
         ensures freed { Frees self.old.jobs self.new.jobs freed.old freed.new }
     {
@@ -71,7 +70,7 @@ impl Core {
         ensures jobs { self.new.jobs ≡ self.old.jobs }
     {
         self.text.write(&said.response, said.body.as_ref())?;
-        let cost = self.text.cost()?;
+        let cost = self.text.cost();
         let slots = self.jobs.listeners(job);
         self.text.own(slots.len())?;
         reserve_each(&mut self.conns, slots, said.exceptions_only, cost)
@@ -114,6 +113,7 @@ impl Core {
     ) -> Result<(), AllocError>
         requires runs { IsRunning (job_of self.old.jobs job) }
         requires fits { SaidFits said.now }
+        requires kept { IsKept self.old }
         ensures does { Does self.old result self.new (tell_work (work_of said.now) job) }
         ensures freed { Frees self.old.jobs self.new.jobs freed.old freed.new }
     {
@@ -126,57 +126,30 @@ impl Core {
 
     /// A running job ends, if so. It needs no memory. The caller that frees its body later owns it too.
     fn end_if(&mut self, job: u64, ends: bool, freed: &mut Option<SharedBytes>)
-        requires { IsRunning (job_of self.old.jobs job) }
+        requires runs { IsRunning (job_of self.old.jobs job) }
+        requires kept { IsKept self.old }
         ensures goes { Goes self.old self.new (end_if ends job) }
         ensures freed { (freed.new ≡ freed.old) ⊎ IfSome freed.new (λ body. (body_at job self.old.jobs ≡ Some body) × (job_of self.new.jobs job ≡ None)) }
     {
         if ends {
-            *freed = self.body_of(job);
-            self.end(job);
+            *freed = self.end(job).data().share();
         }
     }
 
-    /// A running job ends: its reserved room in its queue is given up.
-    pub(super) fn end(&mut self, job: u64)
-        requires { IsRunning (job_of self.old.jobs job) }
+    /// A running job isn't live any more, and its reserved room in its queue is given up. Gives what it was.
+    pub(super) fn end(&mut self, job: u64) -> Job
+        requires runs { IsRunning (job_of self.old.jobs job) }
+        requires kept { IsKept self.old }
+        ensures was { job_of self.old.jobs job ≡ Some result }
         ensures goes { Goes self.old self.new (with_note (Ended job)) }
+        ensures discards { Goes self.old self.new (with_note (Discarded job)) }
         ensures conns { self.new.conns ≡ self.old.conns }
         ensures moment { self.new.moment ≡ self.old.moment }
         ensures jobs { OthersStay job self.old.jobs self.new.jobs }
         ensures ended { job_of self.new.jobs job ≡ None }
     {
-        let queue = self.queue_of_running(job);
-        self.jobs.end(job);
-        if let Some((f, priority)) = queue {
-            self.functions.release(f, priority);
-        }
-    }
-
-    /// The body of a job, if that is shared.
-    fn body_of(&self, job: u64) -> Option<SharedBytes>
-        ensures { IfSome result (λ body. body_at job self.now.jobs ≡ Some body) }
-    {
-        self.jobs.by_number(job)?.data().share()
-    }
-
-    /// The function and the priority in whose queue room is reserved for a running job; there is one.
-    pub(super) fn queue_of_running(&self, job: u64) -> Option<(u32, Priority)>
-        ensures within { IfSome result (λ at. at.0 < length self.now.functions.names) }
-        ensures room { IfSome result (λ at. HasIdleRoom self.now.functions at.0 at.1) }
-        ensures live { IfSome result (λ at. option_map (λ live. (live.function, live.priority)) (job_of self.now.jobs job) ≡ Some at) }
-        ensures none { IfNone result ((past : Past) → Keeps self.now past → IsRunning (job_of self.now.jobs job) → ⊥) }
-    {
-        let Some(found) = self.jobs.by_number(job) else {
-            return None;
-        };
-        let (f, priority) = (found.f(), found.p());
-        if f >= self.functions.len() {
-            return None;
-        }
-        if self.functions.has_idle_room(f, priority) {
-            Some((f, priority))
-        } else {
-            None
-        }
+        let ended = self.jobs.end(job).unwrap();
+        self.functions.release(ended.f(), ended.p());
+        ended
     }
 }

@@ -1,26 +1,14 @@
-use Rattle.std.proofs.Common.{inl, refl, sym, ap, subst, ◌∙◌, Contains}
+use Rattle.std.proofs.Common.{inl, refl, ap, subst, ◌∙◌, Contains}
 use Rattle.gm_jobs.specs.Live.{given_back, is_last_try}
 use Rattle.gm_jobs.specs.Tables.{Table, job, passes}
-use Rattle.gm_jobs.proofs.JobLemmas.{beside, kept_changed, listed_of, listed_others, listed_given_back, given_back_same}
+use Rattle.gm_jobs.proofs.JobLemmas.{beside, kept_changed, listed_of, listed_given_back, given_back_same}
 use Rattle.gm_jobs.proofs.jobs.Jobs.give_back.Goals as goal
-
-pub enlist-requires-clause-others : goal.enlist-requires-clause-others
-enlist-requires-clause-others c =
-    let t = c.self.inside in
-    listed_others c.args.n (given_back c.args.limit) t.jobs.entries c.change-changed.new.self.entries (c.change-changed.ensures.free refl) t.deadlines (listed_of (beside t) t.jobs.entries t.reservation _ c.self.invariant)
 
 pub invariant_of-self : goal.invariant_of-self
 invariant_of-self c =
-    let t = c.self.inside in
-    kept_changed (beside t) c.args.n (given_back c.args.limit) t.jobs.entries c.change-changed.new.self.entries t.listening c.enlist.new.self t.reservation _ _ c.self.invariant (c.change-changed.ensures.free refl)
-    (λ l. given_back_same c.args.limit l (λ x. x.function) refl refl) (λ l. given_back_same c.args.limit l (λ x. x.unique) refl refl) c.change-changed.ensures.room
-    (λ d m s h. h) (λ l d there. inl (subst (λ ls. Contains ls d) (given_back_same c.args.limit l (λ x. x.listeners) refl refl) there)) (λ e. e) c.enlist.ensures
-
-pub invariant_of-self-else-is_lost : goal.invariant_of-self-else-is_lost
-invariant_of-self-else-is_lost c =
     let t = c.self.inside in
     kept_changed (beside t) c.args.n (given_back c.args.limit) t.jobs.entries c.change-changed.new.self.entries t.listening t.deadlines t.reservation _ _ c.self.invariant (c.change-changed.ensures.free refl)
     (λ l. given_back_same c.args.limit l (λ x. x.function) refl refl) (λ l. given_back_same c.args.limit l (λ x. x.unique) refl refl) c.change-changed.ensures.room
     (λ d m s h. h) (λ l d there. inl (subst (λ ls. Contains ls d) (given_back_same c.args.limit l (λ x. x.listeners) refl refl) there)) (λ e. e)
     (listed_given_back c.args.n c.args.limit t.jobs.entries c.change-changed.new.self.entries t.deadlines (c.change-changed.ensures.free refl) (listed_of (beside t) t.jobs.entries t.reservation _ c.self.invariant)
-    (ap (λ (x : Table). passes (is_last_try c.args.limit) (job x c.args.n)) c.self.view_is ∙ sym c.is_last_try-is_lost.ensures ∙ c.if-is_lost.false))
+    (ap (λ (x : Table). passes (is_last_try c.args.limit) (job x c.args.n)) c.self.view_is ∙ c.requires))
