@@ -5,7 +5,8 @@ use Rattle.std.specs.Result.{IsErr, OnOk, OnErr}
 use Rattle.std.specs.Str.{bytes_eq}
 use Rattle.gm_queues.proofs.PositionLemmas.{position-within}
 use Rattle.gm_core.proofs.FunctionLemmas.{put_named, taken_out, none_out, able_put, able_out, number_is}
-use Rattle.gm_notes.specs.Jobs.{Ability, abilities, is_of, put, is_empty}
+use Rattle.gm_notes.specs.Steps.{made_since}
+use Rattle.gm_notes.specs.Jobs.{made, Ability, abilities, is_of, put, is_empty}
 use Rattle.std.specs.Prelude.{is_some}
 use Rattle.std.specs.Option.{option_map}
 use Rattle.gm_core.specs.declared.server.abilities.Choice.{Choice}
@@ -31,11 +32,11 @@ use Rattle.gm_notes.specs.declared.states.Mode.{Mode}
 use Rattle.gm_core.specs.declared.server.Tables.{Tables}
 use Rattle.gm_core.specs.Facts.{Seen, seen, conn_facts, function_facts, job_facts}
 use Rattle.gm_core.specs.Holds.{Holds, Keeps, IsKept, NamesFunctions, ability_named, shown, HoldsConns, HoldsFunctions, HoldsJobs}
-use Rattle.gm_core.specs.Holds.{AllTouched, Goes, Does}
+use Rattle.gm_core.specs.Holds.{AllTouched, Goes, Does, Makes}
 use Rattle.gm_core.proofs.ConnLemmas.{touched_same, touched_then, touched_told, touched_apart, conn_changes, same_here}
 use Rattle.gm_core.proofs.ConnLemmas.{seen_same, phase_seen, shut_seen, option_seen, id_seen, can_seen, cant_seen}
 use Rattle.gm_core.proofs.ConnLemmas as lemmas
-use Rattle.gm_actions.proofs.Changing.{changes_then, changes_as, done_as, done_not}
+use Rattle.gm_actions.proofs.Changing.{changes_then, changes_as}
 
 -- ---- one change after another
 
@@ -64,13 +65,20 @@ module _ {a b : Tables} where
   pub goes_as : {f : Past → Past} (g : Past → Past) → Goes a b f → ((past : Past) → Keeps a past → f past ≡ g past) → Goes a b g
   goes_as {f} g goes same = changes_as {f = f} g goes same
 
-  pub does_as : {E : Type 0} {f : Past → Past} (result : Result (Unit {0}) E) (g : Past → Past) → Does a result b f
+  pub does_as : {A E : Type 0} {f : Past → Past} (result : Result A E) (g : Past → Past) → Does a result b f
       → ((past : Past) → Keeps a past → f past ≡ g past) → Does a result b g
-  does_as {E} {f} result g goes same = done_as {f = f} result g goes same
+  does_as {A} {E} {f} (Ok answer) g goes same = goes_as {f = f} g goes same
+  does_as {A} {E} {f} (Err failed) g goes same = goes
 
   -- out of memory nothing happened
-  pub does_not : {S : Type 0} (result : Result (Unit {0}) AllocError) (g : Past → Past) → IsErr result × S → Goes a b (λ past. past) → Does a result b g
-  does_not {S} result g failed goes = done_not result g failed goes
+  pub does_not : {A S : Type 0} (result : Result A AllocError) (g : Past → Past) → IsErr result × S → Goes a b (λ past. past) → Does a result b g
+  does_not {A} {S} (Ok answer) g failed goes = absurd (let wrong : IsErr (let r : Result A AllocError = Ok answer in r) = failed.0 in cc)
+  does_not {A} {S} (Err wanting) g failed goes = goes
+
+-- an answer that tells of a change tells of one that is the same at what is kept
+pub makes_as : {E : Type 0} (a : Tables) {f : Past → Past} (result : Result (Option ℕ) E) (g : Past → Past) → Makes a result f → ((past : Past) → Keeps a past → f past ≡ g past) → Makes a result g
+makes_as {E} a {f} (Ok answer) g makes same = λ past keeps. makes past keeps ∙ ap (λ (q : Past). made_since (made past.notes) (made q.notes)) (same past keeps)
+makes_as {E} a {f} (Err failed) g makes same = makes
 
 -- ---- what is seen of a slot
 

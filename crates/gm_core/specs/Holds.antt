@@ -1,6 +1,6 @@
 -- What a core's tables hold, against the definitions.
 use Rattle.std.specs.Prelude.{◌≡◌, ℕ, zero, suc, ◌+◌, ◌<◌, ◌≤◌, ◌^◌, true, false, not, ◌&&◌, ◌==◌, if◌then◌else◌, codes, List, [], ◌∷◌, length, map}
-use Rattle.std.specs.Prelude.{filter, slice_get, slice_index_or, Option, Some, None, Bool, Result}
+use Rattle.std.specs.Prelude.{filter, slice_get, slice_index_or, Option, Some, None, Bool, Result, Ok, Err, IfOk}
 use Rattle.std.specs.Option.{unwrap_or, option_map}
 use Rattle.gm_notes.specs.declared.states.Priority.{Priority}
 use Rattle.gm_notes.specs.declared.states.Phase.{Phase}
@@ -8,13 +8,13 @@ use Rattle.gm_notes.specs.declared.states.Mode.{Mode}
 use Rattle.gm_notes.specs.Settings.{Settings}
 use Rattle.gm_notes.specs.Notes.{phase, is_asleep, moment, mode}
 use Rattle.gm_notes.specs.Flow.{waiting}
-use Rattle.gm_notes.specs.Jobs.{Ability, Job, is_empty, waiting_for}
+use Rattle.gm_notes.specs.Jobs.{Ability, Job, made, is_empty, waiting_for}
 use Rattle.gm_notes.specs.JobStates.{JobState, is_running, place_of}
 use Rattle.gm_notes.specs.JobStates as states
 use Rattle.gm_notes.specs.declared.note.Note.TheVariants.{Made}
 use Rattle.gm_notes.specs.Past.{Past, with_note}
 use Rattle.gm_notes.specs.Workers.{wake_if}
-use Rattle.gm_notes.specs.Steps.{Step}
+use Rattle.gm_notes.specs.Steps.{Step, made_since}
 use Rattle.gm_conns.specs.Connections.{Connection}
 use Rattle.gm_conns.specs.ConnTables.{conn, is_touched}
 use Rattle.gm_conns.specs.ConnTables as conns
@@ -26,7 +26,7 @@ use Rattle.gm_jobs.specs.Live.{Live}
 use Rattle.gm_jobs.specs.Tables.{job, place, is_made}
 use Rattle.gm_jobs.specs.Tables as jobs
 use Rattle.gm_core.specs.declared.server.Tables.{Tables}
-use Rattle.gm_actions.specs.Effects.{Changes, Agrees, if_done}
+use Rattle.gm_actions.specs.Effects.{Changes, Agrees}
 use Rattle.gm_notes.specs.Submissions.{Submission, keep_or_listen}
 use Rattle.gm_core.specs.Facts.{Seen, ConnFacts, FunctionFacts, JobFacts, conn_facts, function_facts, job_facts, queued, running_with}
 
@@ -192,9 +192,18 @@ config_of core = core.config
 abbrev pub Goes : Tables → Tables → (Past → Past) → Type 0
 Goes old new change = Changes config_of Keeps TouchesAll old new change
 
+-- a call that ran out of memory changes nothing
+abbrev pub if_ok : {A E : Type 0} → Result A E → (Past → Past) → Past → Past
+if_ok (Ok answer) change past = change past
+if_ok (Err failed) change past = past
+
 -- so it does, unless the call is out of memory: then the past stays
-abbrev pub Does : {E : Type 0} → Tables → Result (Unit {0}) E → Tables → (Past → Past) → Type 0
-Does old result new change = Goes old new (if_done result change)
+abbrev pub Does : {A E : Type 0} → Tables → Result A E → Tables → (Past → Past) → Type 0
+Does old result new change = Goes old new (if_ok result change)
+
+-- the answer is the job that the change makes of what they held, if it makes one
+abbrev pub Makes : {E : Type 0} → Tables → Result (Option ℕ) E → (Past → Past) → Type 0
+Makes old result change = IfOk result (λ answer. (past : Past) → Keeps old past → answer ≡ made_since (made past.notes) (made (change past).notes))
 
 -- the core holds what these steps give under these settings
 abbrev pub CoreAgrees : Tables → Settings → List Step → Type 0

@@ -1,7 +1,6 @@
 //! Requests as they come.
 
-ghost use Rattle.std.specs.Prelude.{IsErrOf, OnErr, IfOk, ◌≡◌, ◌≤◌, ◌↔◌, ◌^◌, ℕ, List, length, true};
-ghost use Rattle.std.specs.Option.{unwrap_or};
+ghost use Rattle.std.specs.Prelude.{IsErrOf, OnErr, IfOk, ◌≡◌, ◌≤◌, ℕ, List, length, true};
 ghost use Rattle.gm_packet.specs.Answers.{echo_res};
 ghost use Rattle.gm_conns.specs.ConnTables.{IsOpen};
 ghost use Rattle.gm_notes.specs.Past.{give};
@@ -18,20 +17,9 @@ use gm_notes::{ApplyError, Done};
 use gm_packet::Response;
 use std::alloc::AllocError;
 
-/// Whether two next numbers are the same; none comes after the greatest of 64 bits.
-fn is_same(one: Option<u64>, other: Option<u64>) -> bool
-    ensures { (result ≡ true) ↔ (unwrap_or one (2 ^ 64) ≡ unwrap_or other (2 ^ 64)) }
-{
-    match (one, other) {
-        (Some(one), Some(other)) => one == other,
-        (None, None) => true,
-        _ => false,
-    }
-}
-
 impl Tables {
     ghost use Rattle.gm_core.specs.Freed.{Frees};
-    ghost use Rattle.gm_core.specs.Holds.{IsKept, Does, AllTouched, CoreAgrees};
+    ghost use Rattle.gm_core.specs.Holds.{IsKept, Does, Makes, AllTouched, CoreAgrees};
 
     /// A packet of a slot, which asks this.
     pub(super) fn packet(
@@ -52,78 +40,69 @@ impl Tables {
         if !self.can_take_units(slot) {
             return Err(ApplyError::NotOpen);
         }
-        let before = self.jobs.next_number();
-        self.serve(slot, action, freed)?;
-        let created = if is_same(self.jobs.next_number(), before) {
-            None
-        } else {
-            before
-        };
+        let created = self.serve(slot, action, freed)?;
         Ok(Done {
             created,
             ..Done::NONE
         })
     }
 
-    /// Does what a packet of a slot asks, or refuses it.
+    /// Does what a packet of a slot asks, or refuses it. Gives the job that it made, if it made one.
     fn serve(
         &mut self,
         slot: u32,
         action: &Result<Action<'_>, Refusal>,
         freed: &mut Option<SharedBytes>,
-    ) -> Result<(), AllocError>
+    ) -> Result<Option<u64>, AllocError>
         requires open { IsOpen self.old.conns slot }
         requires named { IfOk action.now IsNamed }
         requires told { IfOk action.now CanBeTold }
         requires kept { IsKept self.old }
         ensures does { Does self.old result self.new (acted self.old.config slot action.now) }
+        ensures made { Makes self.old result (acted self.old.config slot action.now) }
         ensures memory { ActsWithoutMemory action.now → OnErr result ⊥ }
         ensures freed { Frees self.old.jobs self.new.jobs freed.old freed.new }
     {
         match action {
             Ok(action) => self.act(slot, action, freed),
-            Err(refusal) => self.refuse(slot, *refusal),
+            Err(refusal) => {
+                self.refuse(slot, *refusal)?;
+                Ok(None)
+            }
         }
     }
 
-    /// Does what is asked of a slot.
+    /// Does what is asked of a slot. Gives the job that it made, if it made one.
     fn act(
         &mut self,
         slot: u32,
         action: &Action<'_>,
         freed: &mut Option<SharedBytes>,
-    ) -> Result<(), AllocError>
+    ) -> Result<Option<u64>, AllocError>
         requires open { IsOpen self.old.conns slot }
         requires named { IsNamed action.now }
         requires told { CanBeTold action.now }
         requires kept { IsKept self.old }
         ensures does { Does self.old result self.new (act self.old.config slot action.now) }
+        ensures made { Makes self.old result (act self.old.config slot action.now) }
         ensures memory { acts_without_memory action.now ≡ true → OnErr result ⊥ }
         ensures freed { Frees self.old.jobs self.new.jobs freed.old freed.new }
     {
         match *action {
-            Action::CanDo { function, timeout } => self.can_do(slot, function, timeout),
-            Action::CantDo { function } => {
-                self.cant_do(slot, function);
-                Ok(())
-            }
-            Action::ResetAbilities => {
-                self.reset(slot);
-                Ok(())
-            }
-            Action::PreSleep => {
-                self.pre_sleep(slot);
-                Ok(())
-            }
-            Action::Grab { with_unique } => self.grab(slot, with_unique),
-            Action::Submit(asked) => self.submit(slot, &asked),
-            Action::Tell(about) => self.work(slot, about.handle, &about.said, freed),
-            Action::GetStatus { handle } => self.tell_status(slot, handle),
-            Action::Echo { body } => self.echo(slot, &body),
-            Action::SetClientId { id } => self.set_client_id(slot, id),
-            Action::SetOption { name } => self.set_option(slot, name),
-            Action::Nothing => Ok(()),
+            Action::Submit(asked) => return self.submit(slot, &asked),
+            Action::CanDo { function, timeout } => self.can_do(slot, function, timeout)?,
+            Action::CantDo { function } => self.cant_do(slot, function),
+            Action::ResetAbilities => self.reset(slot),
+            Action::PreSleep => self.pre_sleep(slot),
+            Action::Grab { with_unique } => self.grab(slot, with_unique)?,
+            Action::Tell(about) => self.work(slot, about.handle, &about.said, freed)?,
+            Action::GetStatus { handle } => self.tell_status(slot, handle)?,
+            Action::Echo { body } => self.echo(slot, &body)?,
+            Action::SetClientId { id } => self.set_client_id(slot, id)?,
+            Action::SetOption { name } => self.set_option(slot, name)?,
+            Action::Nothing => {}
         }
+        Ok(None)
     }
 
     /// The connection in a slot gets its bytes back.

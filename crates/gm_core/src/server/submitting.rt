@@ -39,15 +39,20 @@ fn is_limit_reached(limit: u32, counts: Counts) -> bool
 }
 
 impl Tables {
-    ghost use Rattle.gm_core.specs.Holds.{IsKept, Keeps, KeepsTables, KeepsRest, Goes, Does};
+    ghost use Rattle.gm_core.specs.Holds.{IsKept, Keeps, KeepsTables, KeepsRest, Goes, Does, Makes};
 
-    /// Joins a job, or makes one.
-    pub(super) fn submit(&mut self, slot: u32, asked: &Submission<'_>) -> Result<(), AllocError>
+    /// Joins a job, or makes one; gives that which it made.
+    pub(super) fn submit(
+        &mut self,
+        slot: u32,
+        asked: &Submission<'_>,
+    ) -> Result<Option<u64>, AllocError>
         requires open { IsOpen self.old.conns slot }
         requires named { is_bad_name asked.now.function.now ≡ false }
         requires carried { IsCarried asked.now.function.now asked.now.unique.now asked.now.body.bytes.now }
         requires kept { IsKept self.old }
-        ensures { Does self.old result self.new (submit self.old.config slot (submission_of asked.now)) }
+        ensures does { Does self.old result self.new (submit self.old.config slot (submission_of asked.now)) }
+        ensures made { Makes self.old result (submit self.old.config slot (submission_of asked.now)) }
     {
         match self.functions.find(asked.function) {
             Some(f) => self.submit_known(slot, asked, f),
@@ -56,16 +61,25 @@ impl Tables {
     }
 
     /// Joins a job of a function that was mentioned, or makes one.
-    fn submit_known(&mut self, slot: u32, asked: &Submission<'_>, f: u32) -> Result<(), AllocError>
+    fn submit_known(
+        &mut self,
+        slot: u32,
+        asked: &Submission<'_>,
+        f: u32,
+    ) -> Result<Option<u64>, AllocError>
         requires open { IsOpen self.old.conns slot }
         requires named { is_bad_name asked.now.function.now ≡ false }
         requires found { number_of asked.now.function.now self.old.functions ≡ Some f }
         requires within { f < length self.old.functions.names }
         requires carried { IsCarried asked.now.function.now asked.now.unique.now asked.now.body.bytes.now }
-        ensures { Does self.old result self.new (submit self.old.config slot (submission_of asked.now)) }
+        ensures does { Does self.old result self.new (submit self.old.config slot (submission_of asked.now)) }
+        ensures made { Makes self.old result (submit self.old.config slot (submission_of asked.now)) }
     {
         match self.jobs.find(f, asked.unique) {
-            Ok(job) => self.join(slot, asked, job),
+            Ok(job) => {
+                self.join(slot, asked, job)?;
+                Ok(None)
+            }
             Err(vacancy) => self.make_unless_full(slot, asked, f, vacancy),
         }
     }
@@ -77,39 +91,47 @@ impl Tables {
         asked: &Submission<'_>,
         f: u32,
         vacancy: Vacancy,
-    ) -> Result<(), AllocError>
+    ) -> Result<Option<u64>, AllocError>
         requires open { IsOpen self.old.conns slot }
         requires found { number_of asked.now.function.now self.old.functions ≡ Some f }
         requires within { f < length self.old.functions.names }
         requires vacant { IsVacant f asked.now.unique.now self.old.jobs vacancy }
         requires carried { IsCarried asked.now.function.now asked.now.unique.now asked.now.body.bytes.now }
-        ensures { Does self.old result self.new (join_or_make self.old.config slot (submission_of asked.now) None) }
+        ensures does { Does self.old result self.new (join_or_make self.old.config slot (submission_of asked.now) None) }
+        ensures made { Makes self.old result (join_or_make self.old.config slot (submission_of asked.now) None) }
     {
         if self.is_full(f) {
-            return self.refuse(slot, Refusal::QueueFull);
+            self.refuse(slot, Refusal::QueueFull)?;
+            return Ok(None);
         }
-        match self.jobs.next_number() {
-            Some(job) => self.make_known(slot, asked, f, vacancy, job),
-            None => self.refuse(slot, Refusal::NoNumbers),
+        let number = self.jobs.next_number();
+        match number {
+            Some(job) => self.make_known(slot, asked, f, vacancy, job)?,
+            None => self.refuse(slot, Refusal::NoNumbers)?,
         }
+        Ok(number)
     }
 
     /// The first submission to a function: a job is made, unless a limit refuses it.
-    fn submit_first(&mut self, slot: u32, asked: &Submission<'_>) -> Result<(), AllocError>
+    fn submit_first(&mut self, slot: u32, asked: &Submission<'_>) -> Result<Option<u64>, AllocError>
         requires open { IsOpen self.old.conns slot }
         requires named { is_bad_name asked.now.function.now ≡ false }
         requires new { number_of asked.now.function.now self.old.functions ≡ None }
         requires carried { IsCarried asked.now.function.now asked.now.unique.now asked.now.body.bytes.now }
         requires kept { IsKept self.old }
-        ensures { Does self.old result self.new (submit self.old.config slot (submission_of asked.now)) }
+        ensures does { Does self.old result self.new (submit self.old.config slot (submission_of asked.now)) }
+        ensures made { Makes self.old result (submit self.old.config slot (submission_of asked.now)) }
     {
         if self.functions.len() >= self.config.max_functions() {
-            return self.refuse(slot, Refusal::TooManyFunctions);
+            self.refuse(slot, Refusal::TooManyFunctions)?;
+            return Ok(None);
         }
-        match self.jobs.next_number() {
-            Some(job) => self.make_with_new_function(slot, asked, job),
-            None => self.refuse(slot, Refusal::NoNumbers),
+        let number = self.jobs.next_number();
+        match number {
+            Some(job) => self.make_with_new_function(slot, asked, job)?,
+            None => self.refuse(slot, Refusal::NoNumbers)?,
         }
+        Ok(number)
     }
 
     /// A job is made, of a function that was mentioned.

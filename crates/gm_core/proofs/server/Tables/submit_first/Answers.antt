@@ -1,7 +1,8 @@
-use Rattle.std.proofs.Common.{◌≡◌, ◌<◌, ◌^◌, ℕ, Bool, true, false, if◌then◌else◌, None, codes, refl, sym, ◌∙◌, arith}
+use Rattle.std.proofs.Common.{◌≡◌, ◌<◌, ◌^◌, ℕ, Bool, true, false, if◌then◌else◌, List, length, Some, None, codes, refl, sym, ap, ◌∙◌, arith}
 use Rattle.std.specs.Prelude.{nat_le}
 use Rattle.std.proofs.lemmas.Bool.Decides.{nat_tests}
-use Rattle.gm_notes.specs.Jobs.{next_number}
+use Rattle.gm_notes.specs.Jobs.{made, next_number}
+use Rattle.gm_notes.specs.Steps.{made_since}
 use Rattle.gm_notes.specs.Past.{Past, refuse}
 use Rattle.gm_notes.specs.Submissions.{Submission, is_bad_name, is_one_too_many, make, submit}
 use Rattle.gm_queues.specs.FunctionTables.{number_of}
@@ -9,17 +10,17 @@ use Rattle.gm_actions.specs.Actions.{submission_of}
 use Rattle.gm_core.specs.declared.server.Tables.{Tables}
 use Rattle.gm_core.specs.Facts.{conn_facts}
 use Rattle.gm_core.specs.Holds.{Keeps}
-use Rattle.gm_core.proofs.CoreLemmas.{does_as}
+use Rattle.gm_core.proofs.CoreLemmas.{goes_as}
 use Rattle.gm_core.proofs.FunctionLemmas.{never_full, many_is}
 use Rattle.gm_core.proofs.JobLemmas.{joined_unknown, numbered, spent}
+use Rattle.gm_core.proofs.PacketLemmas.{none_by, one_by}
 use Rattle.gm_core.proofs.server.Tables.submit_first.Goals as goal
-use Rattle.gm_core.proofs.server.Tables.submit_first.Goals.{After-max_functions}
+use Rattle.gm_core.proofs.server.Tables.submit_first.Goals.{In_ok-refuse, In_ok-make_with_new_function-in-Some, In_ok-refuse-in-None}
 
 -- whether one function more can't be known, as the counts tell
-many : (c : After-max_functions) (b : Bool) → nat_le c.max_functions.result c.len.result ≡ b → (p : Past) → Keeps c.args.self.now p → is_one_too_many c.args.self.now.config c.args.asked.now.function.now p.notes ≡ b
-many c b so p keeps =
-    let core = c.args.self.now in
-    sym ((λ i. nat_le (c.max_functions.ensures.value i) (c.len.ensures.value i)) ∙ many_is core.config core.functions p.notes keeps.functions c.args.asked.now.function.now c.requires.new) ∙ so
+many : (core : Tables) (name : List ℕ) (most len : ℕ) (b : Bool) → number_of name core.functions ≡ None → most ≡ core.config.max_functions → len ≡ length core.functions.names → nat_le most len ≡ b
+    → (p : Past) → Keeps core p → is_one_too_many core.config name p.notes ≡ b
+many core name most len b new is_most is_len so p keeps = sym ((λ i. nat_le (is_most i) (is_len i)) ∙ many_is core.config core.functions p.notes keeps.functions name new) ∙ so
 
 -- nothing is joined, and no limit of the function's own is reached
 first_is : (core : Tables) (c : ℕ) (s : Submission) → is_bad_name s.function ≡ false → number_of s.function core.functions ≡ None → (p : Past) → Keeps core p
@@ -29,38 +30,57 @@ first_is core c s named new p keeps =
     let room = never_full core.config core.functions p.notes keeps.functions s.function new in
     rw (named, none, room) refl
 
-pub returns-then-len-max_functions : goal.returns-then-len-max_functions
-returns-then-len-max_functions c =
+-- no function more can be known
+refuses : (c : In_ok-refuse) (p : Past) → Keeps c.args.self.now p → refuse c.args.slot (codes "too_many_functions") p ≡ submit c.args.self.now.config c.args.slot (submission_of c.args.asked.now) p
+refuses c p keeps =
     let core = c.args.self.now in
-    let d = (goal.at.returns-then-len-max_functions c).After-max_functions in
+    let s = submission_of c.args.asked.now in
     let over : nat_le c.max_functions.result c.len.result ≡ true = (let h = c.if-len-max_functions.true in grind (arith, nat_tests)) in
-    let s = submission_of c.args.asked.now in
-    does_as c.refuse.result (submit core.config c.args.slot s) c.refuse.ensures
-    (λ p keeps.
-    let so = many d true over p keeps in
-    sym (first_is core c.args.slot s c.requires.named c.requires.new p keeps ∙ rw so refl))
+    let so = many core s.function c.max_functions.result c.len.result true c.requires.new c.max_functions.ensures.value c.len.ensures.value over p keeps in
+    sym (first_is core c.args.slot s c.requires.named c.requires.new p keeps ∙ rw so refl)
 
-pub returns-in-Some : goal.returns-in-Some
-returns-in-Some c =
+-- the next job is made
+makes : (c : In_ok-make_with_new_function-in-Some) (p : Past) → Keeps c.args.self.now p
+    → make c.args.self.now.config c.args.slot (submission_of c.args.asked.now) (Some c.in-Some.job) p ≡ submit c.args.self.now.config c.args.slot (submission_of c.args.asked.now) p
+makes c p keeps =
     let core = c.args.self.now in
-    let d = (goal.at.returns-in-Some c).After-max_functions in
-    let under : nat_le c.max_functions.result c.len.result ≡ false = (let h = c.if-len-max_functions.false in grind (arith, nat_tests)) in
     let s = submission_of c.args.asked.now in
-    does_as c.make_with_new_function.result (submit core.config c.args.slot s) c.make_with_new_function.ensures
-    (λ p keeps.
-    let few = many d false under p keeps in
+    let under : nat_le c.max_functions.result c.len.result ≡ false = (let h = c.if-len-max_functions.false in grind (arith, nat_tests)) in
+    let few = many core s.function c.max_functions.result c.len.result false c.requires.new c.max_functions.ensures.value c.len.ensures.value under p keeps in
     let fits : c.in-Some.job < 2 ^ 64 = search in
     let next = numbered core.config core.functions core.jobs p.notes (conn_facts p.notes).is_open keeps.functions keeps.jobs c.in-Some.job c.in-Some.ensures.some fits in
-    sym (first_is core c.args.slot s c.requires.named c.requires.new p keeps ∙ rw (few, next) refl))
+    sym (first_is core c.args.slot s c.requires.named c.requires.new p keeps ∙ rw (few, next) refl)
 
-pub returns-in-None : goal.returns-in-None
-returns-in-None c =
+-- there is no number for it
+spends : (c : In_ok-refuse-in-None) (p : Past) → Keeps c.args.self.now p → refuse c.args.slot (codes "no_numbers") p ≡ submit c.args.self.now.config c.args.slot (submission_of c.args.asked.now) p
+spends c p keeps =
     let core = c.args.self.now in
-    let d = (goal.at.returns-in-None c).After-max_functions in
-    let under : nat_le c.max_functions.result c.len.result ≡ false = (let h = c.if-len-max_functions.false in grind (arith, nat_tests)) in
     let s = submission_of c.args.asked.now in
-    does_as c.refuse-in-None.result (submit core.config c.args.slot s) c.refuse-in-None.ensures
-    (λ p keeps.
-    let few = many d false under p keeps in
+    let under : nat_le c.max_functions.result c.len.result ≡ false = (let h = c.if-len-max_functions.false in grind (arith, nat_tests)) in
+    let few = many core s.function c.max_functions.result c.len.result false c.requires.new c.max_functions.ensures.value c.len.ensures.value under p keeps in
     let next = spent core.config core.functions core.jobs p.notes (conn_facts p.notes).is_open keeps.functions keeps.jobs c.in-None.ensures.none in
-    sym (first_is core c.args.slot s c.requires.named c.requires.new p keeps ∙ rw (few, next) refl))
+    sym (first_is core c.args.slot s c.requires.named c.requires.new p keeps ∙ rw (few, next) refl)
+
+pub returns-then-len-max_functions-clause-does : goal.returns-then-len-max_functions-clause-does
+returns-then-len-max_functions-clause-does c =
+    goes_as (submit c.args.self.now.config c.args.slot (submission_of c.args.asked.now)) c.in_ok-refuse.ensures (refuses (goal.at.returns-then-len-max_functions-clause-does c).In_ok-refuse)
+
+pub returns-then-len-max_functions-clause-made : goal.returns-then-len-max_functions-clause-made
+returns-then-len-max_functions-clause-made c past keeps =
+    none_by past (refuse c.args.slot (codes "too_many_functions") past) refl ∙ ap (λ (q : Past). made_since (made past.notes) (made q.notes)) (refuses (goal.at.returns-then-len-max_functions-clause-made c).In_ok-refuse past keeps)
+
+pub returns-in_ok-make_with_new_function-in-Some-clause-does : goal.returns-in_ok-make_with_new_function-in-Some-clause-does
+returns-in_ok-make_with_new_function-in-Some-clause-does c =
+    goes_as (submit c.args.self.now.config c.args.slot (submission_of c.args.asked.now)) c.in_ok-make_with_new_function-in-Some.ensures (makes (goal.at.returns-in_ok-make_with_new_function-in-Some-clause-does c).In_ok-make_with_new_function-in-Some)
+
+pub returns-in_ok-make_with_new_function-in-Some-clause-made : goal.returns-in_ok-make_with_new_function-in-Some-clause-made
+returns-in_ok-make_with_new_function-in-Some-clause-made c past keeps =
+    one_by c.args.self.now.config c.args.slot (submission_of c.args.asked.now) c.in-Some.job past ∙ ap (λ (q : Past). made_since (made past.notes) (made q.notes)) (makes (goal.at.returns-in_ok-make_with_new_function-in-Some-clause-made c).In_ok-make_with_new_function-in-Some past keeps)
+
+pub returns-in_ok-refuse-in-None-clause-does : goal.returns-in_ok-refuse-in-None-clause-does
+returns-in_ok-refuse-in-None-clause-does c =
+    goes_as (submit c.args.self.now.config c.args.slot (submission_of c.args.asked.now)) c.in_ok-refuse-in-None.ensures (spends (goal.at.returns-in_ok-refuse-in-None-clause-does c).In_ok-refuse-in-None)
+
+pub returns-in_ok-refuse-in-None-clause-made : goal.returns-in_ok-refuse-in-None-clause-made
+returns-in_ok-refuse-in-None-clause-made c past keeps =
+    c.in-None.is ∙ none_by past (refuse c.args.slot (codes "no_numbers") past) refl ∙ ap (λ (q : Past). made_since (made past.notes) (made q.notes)) (spends (goal.at.returns-in_ok-refuse-in-None-clause-made c).In_ok-refuse-in-None past keeps)

@@ -1,0 +1,17 @@
+use Rattle.std.proofs.Common.{◌≡◌, ℕ, Option, None, sym, subst}
+use Rattle.gm_notes.specs.Jobs.{made, job_of_handle}
+use Rattle.gm_notes.specs.Steps.{made_since}
+use Rattle.gm_notes.specs.Workers.{work}
+use Rattle.gm_actions.specs.declared.actions.Action.{Action}
+use Rattle.gm_actions.specs.Actions.{act, work_of}
+use Rattle.gm_core.proofs.PacketLemmas.{none_by, work_on_made}
+use Rattle.gm_core.proofs.server.Tables.act.Goals as goal
+
+pub returns-in_ok-work-in-Tell-clause-made : goal.returns-in_ok-work-in-Tell-clause-made
+returns-in_ok-work-in-Tell-clause-made c past keeps =
+    let k = c.args.self.now.config in
+    let slot = c.args.slot in
+    let about = c.in-Tell.about in
+    let none : Option ℕ = None in
+    subst (λ (action : Action). none ≡ made_since (made past.notes) (made (act k slot action past).notes)) (sym c.in-Tell.is)
+    (none_by past (work k slot about.handle.now (work_of about.said) past) (work_on_made slot (work_of about.said) (job_of_handle k about.handle.now past.notes) past))
