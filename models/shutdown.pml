@@ -45,7 +45,7 @@
     fi
 #define ON_RELEASE(s) assert(may_end[s])
 #define MAY_FAIL(s) false
-/* An echo, or what the administrator says (Core::stop and go_gracefully, commanding.rt) */
+/* An echo, or what the administrator says (Tables::stop and go_gracefully, commanding.rt) */
 #if N > 1
 #define SHUT_OTHER(s) \
     ; if \

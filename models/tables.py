@@ -106,7 +106,7 @@ MUTANTS = [
     ("order", STAYS, "M_KEEP_LEFT", "Sender::hang_up", "self.outbox.forget()", "left out, and in let_go too"),
     ("order", ENDINGS, "M_CLOSE_FIRST", "ServerState::end", "if slot.lane.end(rt, self, ReadStage::Ended) == Finish::Gone", "after self.close"),
     ("noops", JOBS, "M_NO_LOOK", "Booked::resolve_noop", "if self.seat.look(table, slot)", "left out"),
-    ("noops", JOBS, "M_SLEEP_BESIDE_WORK", "Core::pre_sleep", "if beside", "left out"),
+    ("noops", JOBS, "M_SLEEP_BESIDE_WORK", "Tables::pre_sleep", "if beside", "left out"),
     ("noops", JOBS, "M_ONLY_LAST_UNIT", "hand_in", "&mut effects.touched", "only the last unit's slots"),
     ("noops", JOBS, "M_ONLY_OWN_SLOT", "ServerState::deliver", "while let Some(due) = effects.take_next(from)", "only of one's own slot"),
     ("noops", JOBS, "M_FINISH_BLINDLY", "Attempt::finish", "compare_exchange::<Finish>(&mut seat, 0, BUSY, IDLE)", "a plain store"),
