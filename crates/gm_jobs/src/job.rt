@@ -15,6 +15,9 @@ pub(crate) use reservation::Reservation;
 use std::alloc::{AllocError, Global};
 use std::marker::Model;
 
+/// The deadline of a lost job: each tick has reached it.
+pub(crate) const AT_ONCE: u64 = 0;
+
 /// The list of the orphans, after those of the jobs that run.
 pub(crate) const ORPHANS: usize = MAX_SLOTS as usize;
 
@@ -301,7 +304,7 @@ impl Job {
     {
         if self.is_last_try(limit) {
             self.live_place = LivePlace::Lost;
-            self.deadline = Some(0);
+            self.deadline = Some(AT_ONCE);
             return;
         }
         self.live_place = LivePlace::Waiting;

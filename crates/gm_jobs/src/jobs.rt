@@ -11,7 +11,7 @@ ghost use Rattle.gm_jobs.specs.Uniques.{LeadsTo};
 
 use crate::by_number::JobMap;
 use crate::deadlines::Deadlines;
-use crate::job::{Change, Job, NewJob, ORPHANS, Query, Reservation};
+use crate::job::{AT_ONCE, Change, Job, NewJob, ORPHANS, Query, Reservation};
 use crate::listening::Listening;
 use crate::uniques::{Uniques, Vacancy, digest};
 use gm_bytes::SharedBytes;
@@ -253,7 +253,7 @@ impl Jobs {
         ensures { Changes n (given_back limit) self.old self.new }
     {
         let _changed = self.jobs.change(n, Change::GiveBack(limit));
-        self.deadlines.enlist(&self.jobs, n, Some(0));
+        self.deadlines.enlist(&self.jobs, n, Some(AT_ONCE));
     }
 
     /// The job isn't live any more; gives what it was.

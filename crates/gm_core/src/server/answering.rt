@@ -40,7 +40,7 @@ pub(super) fn prepare(
 }
 
 impl Tables {
-    ghost use Rattle.gm_core.specs.Holds.{KeepsTables, Goes, Does};
+    ghost use Rattle.gm_core.specs.Holds.{CanSend, KeepsTables, Goes, Does};
 
     /// Writes a text, and makes room for it at a slot.
     pub(super) fn prepare_text(&mut self, slot: u32, text: &[u8]) -> Result<(), AllocError>
@@ -56,9 +56,7 @@ impl Tables {
 
     /// Queues the packet that was written to a slot, where there is room for it.
     pub(super) fn send(&mut self, slot: u32)
-        requires open { IsOpen self.old.conns slot }
-        requires room { self.old.text.cost ≤ (conn self.old.conns slot).room }
-        requires owned { IsFor 1 self.old.text }
+        requires { CanSend self.old slot }
         ensures goes { Goes self.old self.new (with_output slot self.old.text.bytes) }
         ensures open { IsOpen self.new.conns slot }
         ensures tables { KeepsTables self.old self.new }

@@ -1,14 +1,13 @@
 //! Workers that ask for jobs.
 
-ghost use Rattle.std.specs.Prelude.{◌≡◌, ◌<◌, ◌≤◌, Some, IsSome, IfOk, OnOk, length, slice_get};
+ghost use Rattle.std.specs.Prelude.{◌≡◌, ◌<◌, Some, IsSome, IfOk, OnOk, length, slice_get};
 ghost use Rattle.std.specs.Option.{option_map};
 ghost use Rattle.gm_packet.specs.Answers.{answer_packet};
-ghost use Rattle.gm_conns.specs.ConnTables.{IsOpen, conn};
+ghost use Rattle.gm_conns.specs.ConnTables.{IsOpen};
 ghost use Rattle.gm_queues.specs.FunctionTables.{waiting_for};
 ghost use Rattle.gm_jobs.specs.Live.{Live};
 ghost use Rattle.gm_jobs.specs.Tables as jobs;
 ghost use Rattle.gm_core.specs.Holds.{name_at};
-ghost use Rattle.gm_core.specs.Writing.{IsFor};
 ghost use Rattle.gm_notes.specs.declared.note.Note.TheVariants.{Assigned};
 ghost use Rattle.gm_notes.specs.Jobs.{handle};
 ghost use Rattle.gm_notes.specs.Past.{with_note};
@@ -23,7 +22,7 @@ use gm_packet::Response;
 use std::alloc::AllocError;
 
 impl Tables {
-    ghost use Rattle.gm_core.specs.Holds.{IsKept, KeepsTables, Goes, Does};
+    ghost use Rattle.gm_core.specs.Holds.{IsKept, CanSend, KeepsTables, Goes, Does};
 
     /// Writes what a worker gets to know of a job, and makes room for it.
     fn prepare_assigned(
@@ -36,9 +35,7 @@ impl Tables {
         requires within { found.function < length self.old.functions.names }
         requires live { IsSome (jobs.job self.old.jobs found.pick.job) }
         ensures goes { Goes self.old self.new (λ past. past) }
-        ensures open { IsOpen self.new.conns slot }
-        ensures room { OnOk result (self.new.text.cost ≤ (conn self.new.conns slot).room) }
-        ensures owned { OnOk result (IsFor 1 self.new.text) }
+        ensures ready { OnOk result (CanSend self.new slot) }
         ensures priority { IfOk result (λ p. option_map (λ live. live.priority) (jobs.job self.old.jobs found.pick.job) ≡ Some p) }
         ensures text { OnOk result ((live : Live) → jobs.job self.old.jobs found.pick.job ≡ Some live
             → self.new.text.bytes ≡ answer_packet (assignment self.old.config with_unique found.pick.job

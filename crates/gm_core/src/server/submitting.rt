@@ -3,11 +3,10 @@
 ghost use Rattle.std.specs.Prelude.{◌≡◌, ◌<◌, ◌≤◌, ◌^◌, false, None, ◌+◌, ◌==◌, ◌&&◌, not, nat_le, ℕ, Some, List};
 ghost use Rattle.std.specs.Prelude.{OnOk, OnErr, IfOk, length};
 ghost use Rattle.gm_packet.specs.Answers.{job_created, answer_packet};
-ghost use Rattle.gm_conns.specs.ConnTables.{IsOpen, conn};
+ghost use Rattle.gm_conns.specs.ConnTables.{IsOpen};
 ghost use Rattle.gm_queues.specs.FunctionTables.{number_of};
 ghost use Rattle.gm_jobs.specs.Tables.{IsVacant};
 ghost use Rattle.gm_core.specs.Holds.{add_job, first_listener};
-ghost use Rattle.gm_core.specs.Writing.{IsFor};
 ghost use Rattle.gm_notes.specs.Jobs.{handle};
 ghost use Rattle.gm_notes.specs.declared.note.Note.TheVariants.{Mention};
 ghost use Rattle.gm_notes.specs.Past.{Past, with_note};
@@ -39,7 +38,7 @@ fn is_limit_reached(limit: u32, counts: Counts) -> bool
 }
 
 impl Tables {
-    ghost use Rattle.gm_core.specs.Holds.{IsKept, Keeps, KeepsTables, KeepsRest, Goes, Does, Makes};
+    ghost use Rattle.gm_core.specs.Holds.{IsKept, IsNewName, Keeps, KeepsTables, KeepsRest, AddsNone, CanSend, Goes, Does, Makes};
 
     /// Joins a job, or makes one; gives that which it made.
     pub(super) fn submit(
@@ -208,9 +207,7 @@ impl Tables {
         job: u64,
     ) -> Result<(), AllocError>
         requires open { IsOpen self.old.conns slot }
-        requires named { is_bad_name asked.now.function.now ≡ false }
-        requires new { number_of asked.now.function.now self.old.functions ≡ None }
-        requires room { length self.old.functions.names < self.old.config.max_functions }
+        requires new { IsNewName self.old asked.now.function.now }
         requires number { job ≡ self.old.jobs.next }
         requires carried { IsCarried asked.now.function.now asked.now.unique.now asked.now.body.bytes.now }
         requires kept { IsKept self.old }
@@ -230,14 +227,11 @@ impl Tables {
         asked: &Submission<'_>,
     ) -> Result<u32, AllocError>
         requires open { IsOpen self.old.conns slot }
-        requires named { is_bad_name asked.now.function.now ≡ false }
-        requires new { number_of asked.now.function.now self.old.functions ≡ None }
+        requires new { IsNewName self.old asked.now.function.now }
         requires left { self.old.jobs.next < 2 ^ 64 }
-        requires room { length self.old.functions.names < self.old.config.max_functions }
         requires carried { IsCarried asked.now.function.now asked.now.unique.now asked.now.body.bytes.now }
         requires kept { IsKept self.old }
-        ensures goes { OnOk result (Goes self.old self.new (λ past. add_job slot (submission_of asked.now) self.old.jobs.next (with_note (Mention asked.now.function.now) past))) }
-        ensures wanting { OnErr result (Goes self.old self.new (λ past. past)) }
+        ensures does { Does self.old result self.new (λ past. add_job slot (submission_of asked.now) self.old.jobs.next (with_note (Mention asked.now.function.now) past)) }
         ensures rest { KeepsRest self.old self.new }
         ensures found { IfOk result (λ f. number_of asked.now.function.now self.new.functions ≡ Some f) }
         ensures within { IfOk result (λ f. f < length self.new.functions.names) }
@@ -274,8 +268,7 @@ impl Tables {
         ensures does { Does self.old result self.new (add_job slot (submission_of asked.now) self.old.jobs.next) }
         ensures rest { KeepsRest self.old self.new }
         ensures names { self.new.functions.names ≡ self.old.functions.names }
-        ensures err { OnErr result (self.new.functions ≡ self.old.functions) }
-        ensures roomed { OnErr result (self.new.jobs ≡ record self.old.jobs { room = self.new.jobs.room }) }
+        ensures err { OnErr result (AddsNone self.old self.new) }
     {
         let (shared, body) = asked.body.keep();
         match self.jobs.reserve(f, asked.unique.len(), body.len()) {
@@ -301,10 +294,8 @@ impl Tables {
     fn prepare_created(&mut self, slot: u32, job: u64) -> Result<(), AllocError>
         requires open { IsOpen self.old.conns slot }
         ensures goes { Goes self.old self.new (λ past. past) }
-        ensures open { IsOpen self.new.conns slot }
         ensures text { OnOk result (self.new.text.bytes ≡ answer_packet (job_created (handle self.old.config job))) }
-        ensures room { OnOk result (self.new.text.cost ≤ (conn self.new.conns slot).room) }
-        ensures owned { OnOk result (IsFor 1 self.new.text) }
+        ensures ready { OnOk result (CanSend self.new slot) }
         ensures tables { KeepsTables self.old self.new }
     {
         let handle = handle(self.alloc, &self.config, job)?;

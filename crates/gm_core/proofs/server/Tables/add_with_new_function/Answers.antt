@@ -37,31 +37,31 @@ pub unwrap_err-vacancy-requires : goal.unwrap_err-vacancy-requires
 unwrap_err-vacancy-requires c =
     let name = c.args.asked.now.function.now in
     let table = c.args.self.now.functions in
-    let here : c.in-Ok.f ≡ length table.names = some_same c.in-Ok.f (length table.names) (sym c.in-Ok.ensures.found ∙ number_here table c.mention.new.self name c.requires.new (c.in-Ok.ensures.fresh (is_none_of (number_of name table) c.requires.new))) in
+    let here : c.in-Ok.f ≡ length table.names = some_same c.in-Ok.f (length table.names) (sym c.in-Ok.ensures.found ∙ number_here table c.mention.new.self name c.requires.new.unknown (c.in-Ok.ensures.fresh (is_none_of (number_of name table) c.requires.new.unknown))) in
     finds_none c.args.self.now c.requires.kept c.in-Ok.f (omega (arith, here)) c.args.asked.now.unique.now c.find.result c.find.ensures.found
 
 pub unmention-requires-clause-free : goal.unmention-requires-clause-free
 unmention-requires-clause-free c =
     let name = c.args.asked.now.function.now in
-    let none = is_none_of (number_of name c.args.self.now.functions) c.requires.new in
-    subst (λ (t : Table). IsFree (length t.names - 1) t) (sym c.in-Err.ensures.err)
-    (freed c.args.self.now.functions c.mention.new.self name c.in-Ok.f c.requires.new (c.in-Ok.ensures.fresh none) c.in-Ok.ensures.found (c.in-Ok.ensures.free none))
+    let none = is_none_of (number_of name c.args.self.now.functions) c.requires.new.unknown in
+    subst (λ (t : Table). IsFree (length t.names - 1) t) (sym c.in-Err.ensures.err.functions)
+    (freed c.args.self.now.functions c.mention.new.self name c.in-Ok.f c.requires.new.unknown (c.in-Ok.ensures.fresh none) c.in-Ok.ensures.found (c.in-Ok.ensures.free none))
 
-pub returns-in-Ok-add-clause-goes : goal.returns-in-Ok-add-clause-goes
-returns-in-Ok-add-clause-goes c =
+pub returns-in-Ok-add-clause-does : goal.returns-in-Ok-add-clause-does
+returns-in-Ok-add-clause-does c =
     let name = c.args.asked.now.function.now in
     let table = c.args.self.now.functions in
-    let none = is_none_of (number_of name table) c.requires.new in
+    let none = is_none_of (number_of name table) c.requires.new.unknown in
     let room : length table.names ≢ table.most = λ e. (let wrong = c.in-Ok.ensures.full.1 (none, e) in cc) in
-    let here : c.in-Ok.f ≡ length table.names = some_same c.in-Ok.f (length table.names) (sym c.in-Ok.ensures.found ∙ number_here table c.mention.new.self name c.requires.new (c.in-Ok.ensures.fresh none)) in
+    let here : c.in-Ok.f ≡ length table.names = some_same c.in-Ok.f (length table.names) (sym c.in-Ok.ensures.found ∙ number_here table c.mention.new.self name c.requires.new.unknown (c.in-Ok.ensures.fresh none)) in
     let free = subst (λ f. IsFree f c.mention.new.self) here (c.in-Ok.ensures.free none) in
-    goes_then (goes_mention c.args.self.now (record c.args.self.now { functions = c.mention.new.self }) name (record { config = refl; conns = refl; jobs = refl; moment = refl; mode = refl }) c.requires.new (c.in-Ok.ensures.fresh none) free room) c.in-Ok-add.ensures.does
+    goes_then (goes_mention c.args.self.now (record c.args.self.now { functions = c.mention.new.self }) name (record { config = refl; conns = refl; jobs = refl; moment = refl; mode = refl }) c.requires.new.unknown (c.in-Ok.ensures.fresh none) free room) c.in-Ok-add.ensures.does
 
-pub returns-in-Err-clause-wanting : goal.returns-in-Err-clause-wanting
-returns-in-Err-clause-wanting c =
+pub returns-in-Err-clause-does : goal.returns-in-Err-clause-does
+returns-in-Err-clause-does c =
     let name = c.args.asked.now.function.now in
     let table = c.args.self.now.functions in
-    let back = subst (λ (t : Table). ChangesNames (take (length t.names - 1) t.names) t c.unmention.new.self) c.in-Err.ensures.err c.unmention.ensures in
+    let back = subst (λ (t : Table). ChangesNames (take (length t.names - 1) t.names) t c.unmention.new.self) c.in-Err.ensures.err.functions c.unmention.ensures in
     goes_undone c.args.self.now _ c.in-Err.ensures.rest.config c.in-Err.ensures.rest.conns
-    (taken_back table c.mention.new.self c.unmention.new.self name (c.in-Ok.ensures.fresh (is_none_of (number_of name table) c.requires.new)) back)
-    c.in-Err.ensures.roomed c.in-Err.ensures.rest.moment c.in-Err.ensures.rest.mode
+    (taken_back table c.mention.new.self c.unmention.new.self name (c.in-Ok.ensures.fresh (is_none_of (number_of name table) c.requires.new.unknown)) back)
+    c.in-Err.ensures.err.jobs c.in-Err.ensures.rest.moment c.in-Err.ensures.rest.mode
