@@ -1,4 +1,6 @@
 -- How the live jobs are kept in a slab, under keys that their numbers lead to.
+use Rattle.std.specs.Global.{Vec}
+use Rattle.std.specs.Vec.{vec_len}
 use Rattle.std.specs.Prelude.{◌≡◌, ◌≢◌, ℕ, nat_eq, List, [], ◌∷◌, Option, Some, None}
 use Rattle.std.specs.List.{IsDistinct}
 use Rattle.std.specs.Map.{lookup, keys_of}
@@ -32,6 +34,11 @@ pub record IsIndexed (keys : List (ℕ × ℕ)) (at : ℕ → Option (ℕ × Liv
 pub record IsJobMap (keys : List (ℕ × ℕ)) (slab : Slab Entry) (ends : List Ends) : Type 0 where
   pub indexed : IsIndexed keys (held slab)
   pub linked : AllLinked (held slab) (next_of slab ends)
+
+-- Every list is there, and they lead from job to job.
+pub record AreLinked (slab : Slab Entry) (ends : Vec Ends) : Type 0 where
+  pub lists : vec_len ends ≡ 1025
+  pub linked : AllLinked (held slab) (next_of slab ends.items)
 
 abbrev pub with_live : (Live → Live) → Option (ℕ × Live) → Option (ℕ × Live)
 with_live change None = None

@@ -9,8 +9,8 @@ ghost use Rattle.gm_jobs.specs.Live.{Live};
 ghost use Rattle.gm_jobs.specs.Tables.{find_job, IsNext, IsLast};
 ghost use Rattle.gm_jobs.specs.Changes.{CanBeTold, changed, takes_memory, ChangesJob};
 ghost use Rattle.gm_jobs.specs.Queries.{meets};
-ghost use Rattle.gm_jobs.specs.Links.{stands_in, held, AllUnique, AllLinked, next_of, link_of};
-ghost use Rattle.gm_jobs.specs.ByNumber.{Changed};
+ghost use Rattle.gm_jobs.specs.Links.{stands_in, held, AllUnique, link_of};
+ghost use Rattle.gm_jobs.specs.ByNumber.{AreLinked, Changed};
 
 use crate::job::{Change, Job, Query};
 use crate::lists::{Ends, Entry, LISTS, enter, find_next, leave, list_at};
@@ -99,15 +99,13 @@ fn change_at(
     change: Change<'_>,
 ) -> Result<(), AllocError>
     requires told { CanBeTold change }
-    requires len { vec_len ends.old ≡ 1025 }
     requires there { (live : Live) × (held slab.old key ≡ Some (number, live)) }
     requires unique { AllUnique (held slab.old) }
-    requires linked { AllLinked (held slab.old) (next_of slab.old ends.old.items) }
+    requires lists { AreLinked slab.old ends.old }
     ensures ok { OnOk result (Changed key (changed change.entry) slab.old slab.new) }
     ensures err { OnErr result (Changed key (λ live. live) slab.old slab.new) }
     ensures succeeds { takes_memory change.entry ≡ false → IsOk result }
-    ensures linked { AllLinked (held slab.new) (next_of slab.new ends.new.items) }
-    ensures len { vec_len ends.new ≡ vec_len ends.old }
+    ensures lists { AreLinked slab.new ends.new }
 {
     let list = list_at(slab, key);
     let result = change_job(alloc, slab, key, change);

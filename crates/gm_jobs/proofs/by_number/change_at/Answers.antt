@@ -42,18 +42,22 @@ enter-requires-clause-linked c =
     let d = (goal.at.enter-requires-clause-linked c).After-ne in
     let s = some d in
     c.leave.ensures.linked (held c.args.slab.now) c.args.number c.requires.there.0 c.requires.there.1 (sym (c.list_at-list.ensures.list c.args.number c.requires.there.0 c.requires.there.1)) c.requires.unique s.1.others
-    (λ way. linked_same way (held c.args.slab.now) (held c.args.slab.now) _ _ (λ list k n x. x) (λ list k n x. x) (links d way) (c.requires.linked way))
+    (λ way. linked_same way (held c.args.slab.now) (held c.args.slab.now) _ _ (λ list k n x. x) (λ list k n x. x) (links d way) (c.requires.lists.linked way))
 
-pub returns-else-ne-clause-linked : goal.returns-else-ne-clause-linked
-returns-else-ne-clause-linked c = λ way.
-    let d = (goal.at.returns-else-ne-clause-linked c).After-ne in
+pub returns-else-ne-clause-lists : goal.returns-else-ne-clause-lists
+returns-else-ne-clause-lists c =
+    let d = (goal.at.returns-else-ne-clause-lists c).After-ne in
     let s = some d in
     let was = c.requires.there.0 in
     let is = s.0 was in
     let new : held c.change_job-result.new.slab c.args.key ≡ Some (c.args.number, is) = s.1.here ∙ ap (with_live s.0) c.requires.there.1 in
     let same = same_lists c.list_at.result c.list_at-list.result (sym c.ne.ensures ∙ c.if-ne.false) in
     let alike = sym (c.list_at.ensures.list c.args.number is new) ∙ same ∙ c.list_at-list.ensures.list c.args.number was c.requires.there.1 in
-    linked_same way (held c.args.slab.now) (held c.change_job-result.new.slab) _ _
-    (stands_changed (held c.args.slab.now) (held c.change_job-result.new.slab) c.args.key c.args.number was is c.requires.there.1 new s.1.others alike)
-    (stands_changed (held c.change_job-result.new.slab) (held c.args.slab.now) c.args.key c.args.number is was new c.requires.there.1 (λ k ne. sym (s.1.others k ne)) (sym alike))
-    (links d way) (c.requires.linked way)
+    record {
+      lists = c.requires.lists.lists;
+      linked = λ way.
+          linked_same way (held c.args.slab.now) (held c.change_job-result.new.slab) _ _
+          (stands_changed (held c.args.slab.now) (held c.change_job-result.new.slab) c.args.key c.args.number was is c.requires.there.1 new s.1.others alike)
+          (stands_changed (held c.change_job-result.new.slab) (held c.args.slab.now) c.args.key c.args.number is was new c.requires.there.1 (λ k ne. sym (s.1.others k ne)) (sym alike))
+          (links d way) (c.requires.lists.linked way);
+    }

@@ -30,7 +30,7 @@ invariant_of-self c =
       | inl change ↦ indexed d (changed c.args.change) change
       | inr same ↦ indexed d (λ live. live) same
     ] in
-    (record { indexed = indexed'; linked = c.change_at.ensures.linked }, c.change_at.ensures.len ∙ c.self.invariant.1)
+    (record { indexed = indexed'; linked = c.change_at.ensures.lists.linked }, c.change_at.ensures.lists.lists)
 
 pub returns-in-Some-clause-ok : goal.returns-in-Some-clause-ok
 returns-in-Some-clause-ok c =
