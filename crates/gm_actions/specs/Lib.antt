@@ -2,7 +2,6 @@ pub mod Actions
 pub mod Carried
 pub mod Effects
 pub mod Bodies
-pub mod Groups
 pub mod Lines
 pub mod Refusals
 pub mod ReadEvents

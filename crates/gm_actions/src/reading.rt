@@ -1,26 +1,25 @@
 //! Packets as they come.
 
-ghost use Rattle.std.specs.Prelude.{◌≡◌, ◌≤◌, ℕ, true, false, None, IfOk, IfSome, length};
-ghost use Rattle.std.specs.Option.{option_map, ForSome};
+ghost use Rattle.std.specs.Prelude.{◌≡◌, ◌≤◌, ℕ, true, false, [], ◌∷◌, Some, IfOk, length};
+ghost use Rattle.std.specs.Option.{ForSome};
 ghost use Rattle.std.specs.Str.{bytes_eq};
 ghost use Rattle.std.specs.Prelude.{codes};
-ghost use Rattle.gm_packet.specs.Answers.{answer_of};
+ghost use Rattle.gm_packet.specs.Answers.{answer_of, work_status};
 ghost use Rattle.gm_packet.specs.Kinds.{kind_of};
 ghost use Rattle.gm_packet.specs.Packets.{has_nul};
 ghost use Rattle.gm_packet.specs.Requests.{request_of};
 ghost use Rattle.gm_packet.specs.Views.{asked_of};
 ghost use Rattle.gm_notes.specs.Settings.{Settings};
 ghost use Rattle.gm_notes.specs.Past.{Past};
-ghost use Rattle.gm_notes.specs.Requests.{packet_of, set_option};
+ghost use Rattle.gm_notes.specs.Requests.{packet_of, set_option, submission, passing, ending};
 ghost use Rattle.gm_notes.specs.Submissions.{is_bad_name, submit};
 ghost use Rattle.gm_notes.specs.Workers.{can_do, cant_do};
 ghost use Rattle.gm_notes.specs.Withdrawals.{is_grab, asks_a_job};
 ghost use Rattle.gm_actions.specs.ReadEvents.{grabs};
-ghost use Rattle.gm_actions.specs.Actions.{acted, serve, unread, submission_of, needs_no_memory, NeedsNoMemory, IsNamed};
+ghost use Rattle.gm_actions.specs.Actions.{acted, serve, unread, work_of, needs_no_memory, NeedsNoMemory, IsNamed};
 ghost use Rattle.gm_actions.specs.Actions.{CanBeTold, ActsWithoutMemory};
 ghost use Rattle.gm_actions.specs.Carried.{HasCome, IsCarried};
 ghost use Rattle.gm_actions.specs.Bodies.{IsSpelledBy, EndsWith};
-ghost use Rattle.gm_actions.specs.Groups.{foreground_by, background_by, said_by, about_of};
 
 use crate::actions::{About, Action, Report, Said, Submission};
 use crate::refusal::Refusal;
@@ -55,105 +54,43 @@ fn is_option(name: &[u8]) -> bool
     name == b"exceptions".as_slice()
 }
 
-/// What a request submits in the foreground.
-fn read_foreground<'a>(request: &Request<'a>, bytes: &Data<'a>) -> Option<Submission<'a>>
-    requires { IsSpelledBy (asked_of request.now) bytes.now.bytes.now }
-    ensures value { option_map submission_of result ≡ foreground_by request.now }
-    ensures carried { HasCome (asked_of request.now) → IfSome result (λ s. IsCarried s.function.now s.unique.now s.body.bytes.now) }
+/// How far a job is, as its worker says.
+fn report_on<'a>(handle: &'a [u8], numerator: &'a [u8], denominator: &'a [u8]) -> About<'a>
+    ensures handle { result.handle.now ≡ handle.now }
+    ensures work { work_of result.said ≡ record (passing (work_status handle.now numerator.now denominator.now)) { report = Some (numerator.now, denominator.now) } }
 {
-    match *request {
-        Request::SubmitJob {
-            function,
-            unique,
-            body,
-        } => Some(Submission {
-            function,
-            unique,
-            body: bytes.suffix(body),
-            priority: Priority::Normal,
-            background: false,
+    let said = Said {
+        response: Response::WorkStatus {
+            handle,
+            numerator,
+            denominator,
+        },
+        body: None,
+        exceptions_only: false,
+        report: Some(Report {
+            numerator,
+            denominator,
         }),
-        Request::SubmitJobHigh {
-            function,
-            unique,
-            body,
-        } => Some(Submission {
-            function,
-            unique,
-            body: bytes.suffix(body),
-            priority: Priority::High,
-            background: false,
-        }),
-        Request::SubmitJobLow {
-            function,
-            unique,
-            body,
-        } => Some(Submission {
-            function,
-            unique,
-            body: bytes.suffix(body),
-            priority: Priority::Low,
-            background: false,
-        }),
-        _ => None,
-    }
+        ends: false,
+    };
+    About { handle, said }
 }
 
-/// What a request submits in the background.
-fn read_background<'a>(request: &Request<'a>, bytes: &Data<'a>) -> Option<Submission<'a>>
-    requires { IsSpelledBy (asked_of request.now) bytes.now.bytes.now }
-    ensures value { option_map submission_of result ≡ background_by request.now }
-    ensures carried { HasCome (asked_of request.now) → IfSome result (λ s. IsCarried s.function.now s.unique.now s.body.bytes.now) }
-{
-    match *request {
-        Request::SubmitJobBg {
-            function,
-            unique,
-            body,
-        } => Some(Submission {
-            function,
-            unique,
-            body: bytes.suffix(body),
-            priority: Priority::Normal,
-            background: true,
-        }),
-        Request::SubmitJobHighBg {
-            function,
-            unique,
-            body,
-        } => Some(Submission {
-            function,
-            unique,
-            body: bytes.suffix(body),
-            priority: Priority::High,
-            background: true,
-        }),
-        Request::SubmitJobLowBg {
-            function,
-            unique,
-            body,
-        } => Some(Submission {
-            function,
-            unique,
-            body: bytes.suffix(body),
-            priority: Priority::Low,
-            background: true,
-        }),
-        _ => None,
-    }
-}
-
-/// A packet about a job that is passed on to its listeners, with this body.
-fn pass_on<'a>(handle: &'a [u8], response: Response<'a>, body: Data<'a>) -> About<'a>
+/// A packet about a job that is passed on to its listeners, or only to those with the exceptions option, with this body.
+fn pass_on<'a>(
+    handle: &'a [u8],
+    response: Response<'a>,
+    body: Data<'a>,
+    exceptions_only: bool,
+) -> About<'a>
     requires { EndsWith body.bytes.now (answer_of response) }
     ensures handle { result.handle.now ≡ handle.now }
-    ensures response { result.said.response ≡ response.entry }
-    ensures rest { (result.said.exceptions_only ≡ false) × (result.said.report ≡ None) × (result.said.ends ≡ false) }
+    ensures work { work_of result.said ≡ record (passing (answer_of response.entry)) { exceptions_only = exceptions_only } }
 {
     let said = Said {
         response,
         body: Some(body),
-        exceptions_only: false,
+        exceptions_only,
         report: None,
         ends: false,
     };
@@ -164,8 +101,7 @@ fn pass_on<'a>(handle: &'a [u8], response: Response<'a>, body: Data<'a>) -> Abou
 fn end_with<'a>(handle: &'a [u8], response: Response<'a>, body: Option<Data<'a>>) -> About<'a>
     requires { ForSome body (λ body. EndsWith body.bytes.now (answer_of response)) }
     ensures handle { result.handle.now ≡ handle.now }
-    ensures response { result.said.response ≡ response.entry }
-    ensures rest { (result.said.exceptions_only ≡ false) × (result.said.report ≡ None) × (result.said.ends ≡ true) }
+    ensures work { work_of result.said ≡ ending (answer_of response.entry) }
 {
     let said = Said {
         response,
@@ -175,66 +111,6 @@ fn end_with<'a>(handle: &'a [u8], response: Response<'a>, body: Option<Data<'a>>
         ends: true,
     };
     About { handle, said }
-}
-
-/// What a request says of a job that runs.
-fn read_work<'a>(request: &Request<'a>, bytes: &Data<'a>) -> Option<About<'a>>
-    requires { IsSpelledBy (asked_of request.now) bytes.now.bytes.now }
-    ensures value { option_map about_of result ≡ said_by request.now }
-{
-    Some(match *request {
-        Request::WorkStatus {
-            handle,
-            numerator,
-            denominator,
-        } => {
-            let response = Response::WorkStatus {
-                handle,
-                numerator,
-                denominator,
-            };
-            let report = Report {
-                numerator,
-                denominator,
-            };
-            let said = Said {
-                response,
-                body: None,
-                exceptions_only: false,
-                report: Some(report),
-                ends: false,
-            };
-            About { handle, said }
-        }
-        Request::WorkData { handle, body } => {
-            pass_on(
-                handle,
-                Response::WorkData { handle, body },
-                bytes.suffix(body),
-            )
-        }
-        Request::WorkWarning { handle, body } => pass_on(
-            handle,
-            Response::WorkWarning { handle, body },
-            bytes.suffix(body),
-        ),
-        Request::WorkException { handle, body } => {
-            let said = Said {
-                response: Response::WorkException { handle, body },
-                body: Some(bytes.suffix(body)),
-                exceptions_only: true,
-                report: None,
-                ends: false,
-            };
-            About { handle, said }
-        }
-        Request::WorkComplete { handle, body } => {
-            let response = Response::WorkComplete { handle, body };
-            end_with(handle, response, Some(bytes.suffix(body)))
-        }
-        Request::WorkFail { handle } => end_with(handle, Response::WorkFail { handle }, None),
-        _ => return None,
-    })
 }
 
 /// A function that a worker can do, if it can be one.
@@ -280,25 +156,34 @@ fn check_option<'a>(name: &'a [u8]) -> Result<Action<'a>, Refusal>
 }
 
 /// A submission, if its function can be one.
-fn check_submission<'a>(asked: Submission<'a>) -> Result<Action<'a>, Refusal>
-    ensures does { (k : Settings) (c : ℕ) (past : Past) → acted k c result past ≡ submit k c (submission_of asked.entry) past }
+fn check_submission<'a>(
+    function: &'a [u8],
+    unique: &'a [u8],
+    body: Data<'a>,
+    priority: Priority,
+    background: bool,
+) -> Result<Action<'a>, Refusal>
+    ensures does { (k : Settings) (c : ℕ) (past : Past) → acted k c result past ≡ submit k c (submission priority background (function.now ∷ unique.now ∷ body.entry.bytes.now ∷ [])) past }
     ensures named { IfOk result IsNamed }
     ensures no_grab { grabs result ≡ false }
-    ensures told { IsCarried asked.entry.function.now asked.entry.unique.now asked.entry.body.bytes.now → IfOk result CanBeTold }
+    ensures told { IsCarried function.now unique.now body.entry.bytes.now → IfOk result CanBeTold }
 {
-    if is_bad_name(asked.function) {
+    if is_bad_name(function) {
         Err(Refusal::BadFunction)
     } else {
-        Ok(Action::Submit(asked))
+        Ok(Action::Submit(Submission {
+            function,
+            unique,
+            body,
+            priority,
+            background,
+        }))
     }
 }
 
-/// What a request asks that is neither a submission nor about a job that runs.
-fn read_other<'a>(request: &Request<'a>, bytes: &Data<'a>) -> Result<Action<'a>, Refusal>
-    requires spelled { IsSpelledBy (asked_of request.now) bytes.now.bytes.now }
-    requires no_foreground { foreground_by request.now ≡ None }
-    requires no_background { background_by request.now ≡ None }
-    requires no_work { said_by request.now ≡ None }
+/// What a request asks, or why it is refused whatever the server holds.
+fn read_request<'a>(request: &Request<'a>, bytes: &Data<'a>) -> Result<Action<'a>, Refusal>
+    requires { IsSpelledBy (asked_of request.now) bytes.now.bytes.now }
     ensures does { (k : Settings) (c : ℕ) (past : Past) → acted k c result past ≡ serve k c (asked_of request.now) past }
     ensures named { IfOk result IsNamed }
     ensures told { HasCome (asked_of request.now) → IfOk result CanBeTold }
@@ -306,6 +191,71 @@ fn read_other<'a>(request: &Request<'a>, bytes: &Data<'a>) -> Result<Action<'a>,
     ensures grab { grabs result ≡ is_grab (asked_of request.now).kind }
 {
     match *request {
+        Request::SubmitJob {
+            function,
+            unique,
+            body,
+        } => check_submission(
+            function,
+            unique,
+            bytes.suffix(body),
+            Priority::Normal,
+            false,
+        ),
+        Request::SubmitJobBg {
+            function,
+            unique,
+            body,
+        } => check_submission(function, unique, bytes.suffix(body), Priority::Normal, true),
+        Request::SubmitJobHigh {
+            function,
+            unique,
+            body,
+        } => check_submission(function, unique, bytes.suffix(body), Priority::High, false),
+        Request::SubmitJobHighBg {
+            function,
+            unique,
+            body,
+        } => check_submission(function, unique, bytes.suffix(body), Priority::High, true),
+        Request::SubmitJobLow {
+            function,
+            unique,
+            body,
+        } => check_submission(function, unique, bytes.suffix(body), Priority::Low, false),
+        Request::SubmitJobLowBg {
+            function,
+            unique,
+            body,
+        } => check_submission(function, unique, bytes.suffix(body), Priority::Low, true),
+        Request::WorkStatus {
+            handle,
+            numerator,
+            denominator,
+        } => Ok(Action::Tell(report_on(handle, numerator, denominator))),
+        Request::WorkData { handle, body } => {
+            let response = Response::WorkData { handle, body };
+            let about = pass_on(handle, response, bytes.suffix(body), false);
+            Ok(Action::Tell(about))
+        }
+        Request::WorkWarning { handle, body } => {
+            let response = Response::WorkWarning { handle, body };
+            let about = pass_on(handle, response, bytes.suffix(body), false);
+            Ok(Action::Tell(about))
+        }
+        Request::WorkException { handle, body } => {
+            let response = Response::WorkException { handle, body };
+            let about = pass_on(handle, response, bytes.suffix(body), true);
+            Ok(Action::Tell(about))
+        }
+        Request::WorkComplete { handle, body } => {
+            let response = Response::WorkComplete { handle, body };
+            let about = end_with(handle, response, Some(bytes.suffix(body)));
+            Ok(Action::Tell(about))
+        }
+        Request::WorkFail { handle } => {
+            let about = end_with(handle, Response::WorkFail { handle }, None);
+            Ok(Action::Tell(about))
+        }
         Request::CanDo { function } => check_can_do(function, 0),
         Request::CanDoTimeout { function, timeout } => check_can_do(function, timeout),
         Request::CantDo { function } => check_cant_do(function),
@@ -320,28 +270,7 @@ fn read_other<'a>(request: &Request<'a>, bytes: &Data<'a>) -> Result<Action<'a>,
         }
         Request::SetClientId { id } => Ok(Action::SetClientId { id }),
         Request::OptionReq { name } => check_option(name),
-        _ => Ok(Action::Nothing),
-    }
-}
-
-/// What a request asks, or why it is refused whatever the server holds.
-fn read_request<'a>(request: &Request<'a>, bytes: &Data<'a>) -> Result<Action<'a>, Refusal>
-    requires { IsSpelledBy (asked_of request.now) bytes.now.bytes.now }
-    ensures does { (k : Settings) (c : ℕ) (past : Past) → acted k c result past ≡ serve k c (asked_of request.now) past }
-    ensures named { IfOk result IsNamed }
-    ensures told { HasCome (asked_of request.now) → IfOk result CanBeTold }
-    ensures memory { needs_no_memory (asked_of request.now).kind ≡ true → ActsWithoutMemory result }
-    ensures grab { grabs result ≡ is_grab (asked_of request.now).kind }
-{
-    if let Some(found) = read_foreground(request, bytes) {
-        return check_submission(found);
-    }
-    if let Some(found) = read_background(request, bytes) {
-        return check_submission(found);
-    }
-    match read_work(request, bytes) {
-        Some(about) => Ok(Action::Tell(about)),
-        None => read_other(request, bytes),
+        Request::AllYours => Ok(Action::Nothing),
     }
 }
 
