@@ -10,6 +10,7 @@ use Rattle.std.proofs.lemmas.Bool.Decides.{nat_tests}
 use Rattle.std.proofs.lemmas.Nat.Bits.{bit_at-zero}
 use Rattle.std.specs.Map.{lookup}
 use Rattle.gm_notes.specs.Notes.{is_asleep}
+use Rattle.gm_bytes.specs.Queues.{Queued}
 use Rattle.gm_conns.specs.Slots.{has}
 use Rattle.gm_conns.specs.Connections.{Connection, closed, opened, is_able}
 use Rattle.gm_conns.specs.ConnTables.{Able, Table, able_of, in_slot, conn, IsOpen, IsKept, Changes}
@@ -305,7 +306,7 @@ passed : {A : Type 0} (x y : A) (b : Bool) → b ≡ false → (if b then x else
 passed x y b e = ap (λ t. if t then x else y) e
 
 -- what a change of a slot is to callers
-pub Changes-set : (conns : List Connection) (touched touched' : List ℕ) (slot : ℕ) (change : Connection → Connection) (touches : Bool) (old now : Connection)
+Changes-set : (conns : List Connection) (touched touched' : List ℕ) (slot : ℕ) (change : Connection → Connection) (touches : Bool) (old now : Connection)
     → slot < length conns
     → old ≡ get_or conns slot old → now ≡ change old → ((c : ℕ) → has touched' c ≡ ((touches && (c == slot)) || has touched c))
     → Changes slot change touches (record { conns = conns; touched = touched }) (record { conns = set conns slot now; touched = touched' })
@@ -318,6 +319,15 @@ Changes-set conns touched touched' slot change touches old now within read is to
       (λ ne. passed (change (in_slot conns c)) (in_slot conns c) (c == slot) (other_eq c slot ne)));
   touched = touch;
 }
+
+-- the same, where the table is what a call finds
+pub changes_within : (t : Inside) {table : Table} {slot : ℕ} (change : Connection → Connection) (touches : Bool) {old now : Connection} {touched : List ℕ}
+    → record { conns = t.conns.items; touched = t.touched } ≡ table → slot < length t.conns.items → now ≡ change old → old ≡ get_or t.conns.items slot old
+    → ((c : ℕ) → has touched c ≡ ((touches && (c == slot)) || has t.touched c))
+    → Changes slot change touches table (record { conns = set t.conns.items slot now; touched = touched })
+changes_within t {table} {slot} change touches {old} {now} {touched} view within is read touch =
+    subst (λ (x : Table). Changes slot change touches x (record { conns = set t.conns.items slot now; touched = touched })) view
+    (Changes-set t.conns.items t.touched touched slot change touches old now within read is touch)
 
 -- ---- an open slot of a table, as a call finds it
 
@@ -350,9 +360,12 @@ module _ (t : Inside) (kept : IsKept t.conns.items t.able.items t.free t.asleep)
   pub changes_slot : (change : Connection → Connection) (touches : Bool) {old now : Connection} {touched : List ℕ} → now ≡ change old → old ≡ get_or t.conns.items slot old
       → ((c : ℕ) → has touched c ≡ ((touches && (c == slot)) || has t.touched c))
       → Changes slot change touches table (record { conns = set t.conns.items slot now; touched = touched })
-  changes_slot change touches {old} {now} {touched} is read touch =
-      subst (λ (x : Table). Changes slot change touches x (record { conns = set t.conns.items slot now; touched = touched })) view
-      (Changes-set t.conns.items t.touched touched slot change touches old now within_inside read is touch)
+  changes_slot change touches is read touch = changes_within t change touches view within_inside is read touch
+
+-- only the queue of a connection changes
+pub requeued : {view old : Connection} {now changed : Queued} (change : Connection → Connection) → view ≡ old → now ≡ changed
+    → record view { waiting = changed.bytes; room = changed.room } ≡ change view → record view { waiting = now.bytes; room = now.room } ≡ change old
+requeued {view} change viewed is does = ap (λ (q : Queued). record view { waiting = q.bytes; room = q.room }) is ∙ does ∙ ap change viewed
 
 -- where the function isn't there, taking it out changes nothing
 pub stays_unable : (f : ℕ) (x : Connection) → is_able f x ≡ false → (g : ℕ) → (not (g == f) && is_able g x) ≡ is_able g x

@@ -78,7 +78,7 @@ impl Conns {
         ensures closed { result ≡ false → conn self.now slot ≡ closed }
     {
         match self.conns.get(slot as usize) {
-            Some(conn) => conn.is_open(),
+            Some(conn) => conn.open,
             None => false,
         }
     }
@@ -97,7 +97,8 @@ impl Conns {
         };
         let addr = Vec::from_slice(self.alloc, addr)?;
         let conn = &mut self.conns[slot as usize];
-        conn.open(addr);
+        conn.open = true;
+        conn.addr = addr;
         self.free.remove(slot);
         self.touched.insert(slot);
         Ok(slot)
@@ -110,7 +111,7 @@ impl Conns {
     {
         self.reset(slot);
         let conn = &mut self.conns[slot as usize];
-        conn.close(self.alloc);
+        *conn = Conn::new(self.alloc);
         self.free.insert(slot);
         self.asleep.remove(slot);
         self.touched.insert(slot);
@@ -122,7 +123,7 @@ impl Conns {
         ensures { Changes slot shut true self.old self.new }
     {
         let conn = &mut self.conns[slot as usize];
-        conn.shut();
+        conn.shut = true;
         self.touched.insert(slot);
     }
 
@@ -131,8 +132,7 @@ impl Conns {
         requires { IsOpen self.now slot }
         ensures { result ≡ (conn self.now slot).is_shut }
     {
-        let conn = &self.conns[slot as usize];
-        conn.is_shut()
+        self.conns[slot as usize].shut
     }
 
     /// The connection can do the function, with this timeout. An ability that it had keeps its position.
@@ -198,7 +198,10 @@ impl Conns {
         ensures { result ≡ slice_get (conn self.now slot).abilities i }
     {
         let conn = &self.conns[slot as usize];
-        conn.able(i)
+        match conn.abilities.get_index(i) {
+            Some((f, timeout)) => Some((*f, *timeout)),
+            None => None,
+        }
     }
 
     /// How many functions the connection can do.
@@ -207,7 +210,7 @@ impl Conns {
         ensures { result ≡ length (conn self.now slot).abilities }
     {
         let conn = &self.conns[slot as usize];
-        conn.abilities_len()
+        conn.abilities.len()
     }
 
     /// The timeout of the ability for the function.
@@ -216,7 +219,7 @@ impl Conns {
         ensures { result ≡ timeout_of f (conn self.now slot) }
     {
         let conn = &self.conns[slot as usize];
-        conn.timeout_of(f)
+        conn.abilities.get(&f).copied()
     }
 
     /// The position of the ability for the function, in the order added.
@@ -226,7 +229,7 @@ impl Conns {
         ensures within { IfSome result (λ i. i < length (conn self.now slot).abilities) }
     {
         let conn = &self.conns[slot as usize];
-        conn.index_of(f)
+        conn.abilities.get_index_of(&f)
     }
 
     /// The last job that the connection was given was one of this function.
@@ -235,7 +238,7 @@ impl Conns {
         ensures { Changes slot (with_last f) false self.old self.new }
     {
         let conn = &mut self.conns[slot as usize];
-        conn.set_last(f);
+        conn.last = Some(f);
     }
 
     /// The function of the last job that the connection was given; none before the first.
@@ -244,7 +247,7 @@ impl Conns {
         ensures { result ≡ (conn self.now slot).last }
     {
         let conn = &self.conns[slot as usize];
-        conn.last()
+        conn.last
     }
 
     /// How many connections can do the function. Of a slot without a connection nothing is known, so it isn't counted.
@@ -266,7 +269,7 @@ impl Conns {
     {
         let id = Vec::from_slice(self.alloc, id)?;
         let conn = &mut self.conns[slot as usize];
-        conn.set_id(id);
+        conn.id = id;
         Ok(())
     }
 
@@ -276,7 +279,7 @@ impl Conns {
         ensures { result.now ≡ (conn self.now slot).id }
     {
         let conn = &self.conns[slot as usize];
-        conn.id()
+        conn.id.as_slice()
     }
 
     /// The address that the connection came from.
@@ -285,7 +288,7 @@ impl Conns {
         ensures { result.now ≡ (conn self.now slot).addr }
     {
         let conn = &self.conns[slot as usize];
-        conn.addr()
+        conn.addr.as_slice()
     }
 
     /// Sets the option of the connection.
@@ -294,7 +297,7 @@ impl Conns {
         ensures { Changes slot with_option false self.old self.new }
     {
         let conn = &mut self.conns[slot as usize];
-        conn.set_option();
+        conn.option = true;
     }
 
     /// Whether the option was set.
@@ -303,7 +306,7 @@ impl Conns {
         ensures { result ≡ (conn self.now slot).has_option }
     {
         let conn = &self.conns[slot as usize];
-        conn.has_option()
+        conn.option
     }
 
     /// Whether the connection sleeps.
@@ -312,7 +315,7 @@ impl Conns {
         ensures { result ≡ (conn self.now slot).phase }
     {
         let conn = &self.conns[slot as usize];
-        conn.phase()
+        conn.phase
     }
 
     /// Puts the connection to sleep, or wakes it.
@@ -321,7 +324,7 @@ impl Conns {
         ensures { Changes slot (with_phase phase) true self.old self.new }
     {
         let conn = &mut self.conns[slot as usize];
-        conn.set_phase(phase);
+        conn.phase = phase;
         self.asleep.set(slot, phase.is_asleep());
         self.touched.insert(slot);
     }

@@ -16,7 +16,7 @@ impl Conns {
         ensures err { OnErr result (self.new ≡ self.old) }
     {
         let conn = &mut self.conns[slot as usize];
-        conn.reserve(n)
+        conn.queue.reserve(n)
     }
 
     /// The bytes wait for the connection, behind the others, in reserved room.
@@ -26,7 +26,7 @@ impl Conns {
         ensures { Changes slot (with_bytes bytes.now (length bytes.now)) true self.old self.new }
     {
         let conn = &mut self.conns[slot as usize];
-        conn.put(bytes);
+        conn.queue.put(bytes);
         self.touched.insert(slot);
     }
 
@@ -38,7 +38,7 @@ impl Conns {
         ensures { Changes slot (with_bytes (head.now ++ tail) (length head.now + 512)) true self.old self.new }
     {
         let conn = &mut self.conns[slot as usize];
-        conn.put_shared(head, tail);
+        conn.queue.put_shared(head, tail);
         self.touched.insert(slot);
     }
 
@@ -49,7 +49,7 @@ impl Conns {
         ensures room { result.now.room ≡ (conn self.now slot).room }
     {
         let conn = &self.conns[slot as usize];
-        conn.queue()
+        &conn.queue
     }
 
     /// Takes out the bytes that wait. No room is reserved then.
@@ -59,7 +59,7 @@ impl Conns {
         ensures rest { Changes slot drained true self.old self.new }
     {
         let conn = &mut self.conns[slot as usize];
-        let bytes = conn.drain();
+        let bytes = conn.queue.take();
         self.touched.insert(slot);
         bytes
     }

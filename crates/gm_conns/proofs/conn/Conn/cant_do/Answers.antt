@@ -1,5 +1,4 @@
-use Rattle.std.proofs.Common.{◌++◌, ap, sym, ◌∙◌}
-use Rattle.std.specs.List.{concat}
+use Rattle.std.proofs.Common.{ap, sym, ◌∙◌}
 use Rattle.std.specs.Map.{lookup}
 use Rattle.gm_conns.specs.Connections.{without_ability}
 use Rattle.gm_conns.proofs.AbilityLemmas.{remove_entry-once}

@@ -11,12 +11,12 @@ invariant_of-self c =
     let opened = ap (λ (x : Connection). x.is_open) here ∙ c.requires in
     let idle = subst (λ (t : Table). (conn t c.args.slot).abilities ≡ []) (sym c.self.view_is) (ap (λ (x : Connection). x.abilities) here) in
     IsKept-closed t.conns.items t.able.items t.free t.asleep c.self.invariant c.args.slot (within_inside t c.self.invariant c.self.view_is c.args.slot opened)
-    c.close.new.self c.insert.new.self c.remove.new.self c.close.ensures idle c.insert.ensures c.remove.ensures
+    c.new.result c.insert.new.self c.remove.new.self c.new.ensures idle c.insert.ensures c.remove.ensures
 
 pub returns : goal.returns
 returns c =
     let here = changed_here c.args.slot without_abilities false c.args.self.now c.reset.new.self c.reset.ensures in
     let opened = ap (λ (x : Connection). x.is_open) here ∙ c.requires in
     changes_twice c.args.slot without_abilities (λ _. closed) (λ _. closed) c.args.self.now c.reset.new.self _ c.reset.ensures
-    (changes_slot c.self.inside c.self.invariant c.self.view_is c.args.slot opened (λ _. closed) true c.close.ensures c.index_mut-conn.ensures.value c.insert-2.ensures)
+    (changes_slot c.self.inside c.self.invariant c.self.view_is c.args.slot opened (λ _. closed) true c.new.ensures c.index_mut-conn.ensures.value c.insert-2.ensures)
     (λ x. refl)

@@ -1,12 +1,12 @@
 use Rattle.std.proofs.Common.{◌+◌, ◌++◌, length, true, refl}
 use Rattle.gm_conns.specs.Connections.{with_bytes}
-use Rattle.gm_conns.proofs.ConnTableLemmas.{keeps_same, changes_slot}
+use Rattle.gm_conns.proofs.ConnTableLemmas.{keeps_same, changes_slot, requeued}
 use Rattle.gm_conns.proofs.conns.Conns.put_shared.Goals as goal
 
 pub invariant_of-self : goal.invariant_of-self
-invariant_of-self c = keeps_same c.self.inside c.self.invariant c.self.view_is c.args.slot c.requires.open c.put_shared.ensures c.index_mut-conn.ensures.value refl refl (λ f. refl)
+invariant_of-self c = keeps_same c.self.inside c.self.invariant c.self.view_is c.args.slot c.requires.open (requeued (with_bytes (c.args.head.now ++ c.args.tail) (length c.args.head.now + 512)) c.conn.view_is c.put_shared.ensures refl) c.index_mut-conn.ensures.value refl refl (λ f. refl)
 
 pub returns : goal.returns
 returns c =
     changes_slot c.self.inside c.self.invariant c.self.view_is c.args.slot c.requires.open (with_bytes (c.args.head.now ++ c.args.tail) (length c.args.head.now + 512)) true
-    c.put_shared.ensures c.index_mut-conn.ensures.value c.insert.ensures
+    (requeued (with_bytes (c.args.head.now ++ c.args.tail) (length c.args.head.now + 512)) c.conn.view_is c.put_shared.ensures refl) c.index_mut-conn.ensures.value c.insert.ensures
