@@ -261,13 +261,13 @@ picked l timeout otherwise (Some n) e = first_is l n timeout otherwise (sym e)
 
 pub pick_at : {k : Settings} {table : Table} {live : jobs.Table} {facts : FunctionFacts} {is_open : ℕ → Bool} (notes : List Note) → HoldsFunctions k table facts
     → HoldsJobs k table live is_open (job_facts notes) → (abilities : List (ℕ × ℕ)) → AreFunctions table.names abilities → (i f t : ℕ) → slice_get abilities i ≡ Some (f, t)
-    → (o : Option ℕ) → (f < length table.names → o ≡ slice_get (queues.waiting_for table f) 0)
+    → (o : Option ℕ) → o ≡ slice_get (queues.waiting_for table f) 0
     → pick_from (map (ability_named table.names) (drop i abilities)) notes ≡ pick_or o t (pick_from (map (ability_named table.names) (drop (suc i) abilities)) notes)
 pick_at {k} {table} notes functions jobs abilities able i f t at o first =
     let within = able_at table.names i f t abilities able at in
     let rest = pick_from (map (ability_named table.names) (drop (suc i) abilities)) notes in
     ap (λ (l : List (ℕ × ℕ)). pick_from (map (ability_named table.names) l) notes) (next_ability abilities i (f, t) at)
-    ∙ (ap (λ (l : List ℕ). first_of l t rest) (sym (waiting_is notes functions jobs f within)) ∙ picked (queues.waiting_for table f) t rest o (first within))
+    ∙ (ap (λ (l : List ℕ). first_of l t rest) (sym (waiting_is notes functions jobs f within)) ∙ picked (queues.waiting_for table f) t rest o first)
 
 pub pick_past : (names : List (List ℕ)) (notes : List Note) (abilities : List (ℕ × ℕ)) (i : ℕ) → slice_get abilities i ≡ None
     → pick_from (map (ability_named names) (drop i abilities)) notes ≡ None

@@ -12,19 +12,16 @@ use Rattle.gm_notes.specs.Settings.{Settings}
 use Rattle.gm_notes.specs.Notes.{is_open, has_option, moment as moment_of, mode as mode_of}
 use Rattle.gm_notes.specs.Flow.{waiting}
 use Rattle.gm_notes.specs.Jobs.{job_state, listeners, report}
-use Rattle.gm_notes.specs.JobStates.{JobState, is_running_at, place_of}
-use Rattle.gm_notes.specs.JobStates as states
+use Rattle.gm_notes.specs.JobStates.{is_running_at}
 use Rattle.gm_notes.specs.Past.{Past, with_note, refuse, tell_all}
 use Rattle.gm_notes.specs.Workers.{Work, hearers, keep_report, end_if, tell_work, work_on}
 use Rattle.gm_queues.specs.FunctionTables as queues
 use Rattle.gm_conns.specs.ConnTables.{conn}
 use Rattle.gm_conns.specs.ConnTables as conns
-use Rattle.gm_notes.specs.Places as places
-use Rattle.gm_jobs.specs.declared.job.LivePlace.{LivePlace}
-use Rattle.gm_jobs.specs.declared.job.LivePlace.TheVariants.{Waiting, Running, Lost}
-use Rattle.gm_jobs.specs.Live.{Live, reported, place_at, waits}
-use Rattle.gm_jobs.specs.Tables.{Table, job, place_or, listeners_of, Changes}
+use Rattle.gm_jobs.specs.Live.{Live, reported}
+use Rattle.gm_jobs.specs.Tables.{Table, job, listeners_of, Changes}
 use Rattle.gm_core.specs.declared.server.Tables.{Tables}
+use Rattle.gm_core.specs.Writing.{Text}
 use Rattle.gm_core.specs.Facts.{Seen, ConnFacts, conn_facts, function_facts, job_facts}
 use Rattle.gm_core.specs.Holds.{AllTouched, Goes, Does, AreOpen, HoldsConns, HoldsFunctions, HoldsJobs, IsJob}
 use Rattle.gm_core.specs.Telling.{Roomed, hears, poured, running_there, IsRunning}
@@ -34,16 +31,6 @@ use Rattle.gm_core.proofs.FunctionLemmas.{some_same}
 use Rattle.gm_core.proofs.OnceLemmas.{filter_alike}
 use Rattle.gm_core.proofs.CoreLemmas.{OnlyConns, goes_then, OnlyJobs, goes_jobs, goes_nothing}
 use Rattle.gm_core.proofs.Running.{running}
-
--- ---- where it runs
-
-pub place_there : (c : ℕ) (at : JobState) → places.is_running_at c (place_of at) ≡ is_running_at c at
-place_there c states.Unmade = refl
-place_there c states.Waiting = refl
-place_there c (states.Running d) = refl
-place_there c states.Lost = refl
-place_there c states.Ended = refl
-place_there c states.Discarded = refl
 
 -- ---- reports
 
@@ -111,16 +98,6 @@ module _ (k : Settings) (table : conns.Table) (names : List (List ℕ)) (notes :
   hearers_are false slots opened = all_hear slots opened
 
 -- ---- jobs that run
-
-pub runs_from : (c : ℕ) (o : Option Live) (made : Bool) → places.is_running_at c (place_or o made) ≡ true → IsRunning o
-runs_from c None true e = absurd (false≢true e)
-runs_from c None false e = absurd (false≢true e)
-runs_from c (Some l) made e = by l.live_place e
-  where
-    by : (s : LivePlace) → places.is_running_at c (place_at s) ≡ true → waits s ≡ false
-    by Waiting e = absurd (false≢true e)
-    by (Running d) e = refl
-    by Lost e = absurd (false≢true e)
 
 pub reported_runs : (old new : Table) (n : ℕ) (a b : List ℕ) (result : Result (Unit {0}) AllocError) → OnOk result (Changes n (reported a b) old new) → OnErr result (new ≡ old)
     → IsRunning (job old n) → IsRunning (job new n)
@@ -198,3 +175,15 @@ told_goes old told n e text slots runs listening touched pours answer is_text = 
         mode = keeps.mode ∙ ap mode_of (sym notes);
       };
 }
+
+-- the same, where what was told was written before
+pub told_each : (ready : Tables) (told : conns.Table) (text : Text) (n : ℕ) (e : Bool) (slots : List ℕ) → IsRunning (job ready.jobs n) → slots ≡ listeners_of (job ready.jobs n)
+    → AllTouched ready.conns told
+    → ((k : Settings) (names : List (List ℕ)) (facts : ConnFacts) (bytes : ℕ → List ℕ) → HoldsConns k ready.conns names facts bytes
+    → HoldsConns k told names facts (poured ready.text.bytes (filter (hears ready.conns e) slots) bytes))
+    → (answer : Answer) → ready.text.bytes ≡ answer_packet answer
+    → Goes ready (record ready { conns = told; text = text }) (λ past. tell_all answer (hearers e (listeners n past.notes) past.notes) past)
+told_each ready told text n e slots runs listening touched pours answer is_text =
+    goes_then {a = ready} {b = record ready { conns = told }}
+    (told_goes ready told n e ready.text.bytes slots runs listening touched pours answer is_text)
+    (goes_nothing {a = record ready { conns = told }} {b = record ready { conns = told; text = text }} refl refl refl refl refl refl)

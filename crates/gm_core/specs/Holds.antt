@@ -205,7 +205,7 @@ pub record IsNewName (tables : Tables) (name : List ℕ) : Type 0 where
   pub unknown : number_of name tables.functions ≡ None
   pub room : length tables.functions.names < tables.config.max_functions
 
--- no job came, but perhaps there is no room for it any more
+-- functions and jobs are as before; only the room that is reserved for a job may be another
 pub record AddsNone (old new : Tables) : Type 0 where
   pub functions : new.functions ≡ old.functions
   pub jobs : new.jobs ≡ record old.jobs { room = new.jobs.room }

@@ -27,20 +27,7 @@ pub(super) struct Choice {
 }
 
 impl Tables {
-    ghost use Rattle.gm_core.specs.Holds.{Keeps, Goes, Does};
-
-    /// The first job of a function, if there is such a function.
-    fn first_for(&mut self, f: u32) -> Option<u64>
-        ensures value { f < length self.old.functions.names → result ≡ slice_get (waiting_for self.old.functions f) 0 }
-        ensures within { IfSome result (λ job. f < length self.old.functions.names) }
-        ensures same { self.new ≡ self.old }
-    {
-        if f < self.functions.len() {
-            self.functions.first(f)
-        } else {
-            None
-        }
-    }
+    ghost use Rattle.gm_core.specs.Holds.{IsKept, Keeps, Goes, Does};
 
     /// How many of a slot's `len` abilities are tried last: where functions take turns, those up to the one of its last job.
     fn tried_last(&self, slot: u32, len: usize) -> usize
@@ -66,6 +53,7 @@ impl Tables {
     fn pick_among(&mut self, slot: u32, from: usize, to: usize) -> Option<Choice>
         requires open { IsOpen self.old.conns slot }
         requires to { to ≤ length (conn self.old.conns slot).abilities }
+        requires kept { IsKept self.old }
         ensures value { (past : Past) → Keeps self.old past → option_map (λ (found : Choice). found.pick) result
             ≡ pick_from (map (ability_named self.old.functions.names) (drop from (take to (conn self.old.conns slot).abilities))) past.notes }
         ensures first { IfSome result (λ found. slice_get (waiting_for self.old.functions found.function) 0 ≡ Some found.pick.job) }
@@ -74,7 +62,7 @@ impl Tables {
     {
         for i in from..to {
             let (function, timeout) = self.conns.able(slot, i)?;
-            if let Some(job) = self.first_for(function) {
+            if let Some(job) = self.functions.first(function) {
                 return Some(Choice {
                     pick: Pick { job, timeout },
                     function,
@@ -86,7 +74,8 @@ impl Tables {
 
     /// The job that a grab of a slot gets.
     pub(super) fn pick(&mut self, slot: u32) -> Option<Choice>
-        requires { IsOpen self.old.conns slot }
+        requires open { IsOpen self.old.conns slot }
+        requires kept { IsKept self.old }
         ensures value { (past : Past) → Keeps self.old past → option_map (λ (found : Choice). found.pick) result ≡ pick self.old.config slot past.notes }
         ensures first { IfSome result (λ found. slice_get (waiting_for self.old.functions found.function) 0 ≡ Some found.pick.job) }
         ensures within { IfSome result (λ found. found.function < length self.old.functions.names) }
@@ -102,7 +91,8 @@ impl Tables {
 
     /// The worker in a slot wants to sleep; beside work it is woken at once.
     pub(super) fn pre_sleep(&mut self, slot: u32)
-        requires { IsOpen self.old.conns slot }
+        requires open { IsOpen self.old.conns slot }
+        requires kept { IsKept self.old }
         ensures { Goes self.old self.new (pre_sleep self.old.config slot) }
     {
         // Modelled in models/jobs.pml.
@@ -181,7 +171,7 @@ impl Tables {
         if !self.conns.phase(slot).is_asleep() {
             return;
         }
-        if self.first_for(f).is_some() {
+        if self.functions.first(f).is_some() {
             self.conns.set_phase(slot, Phase::Owed);
         }
     }

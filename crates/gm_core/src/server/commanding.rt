@@ -22,10 +22,11 @@ use gm_queues::MentionError;
 use std::alloc::AllocError;
 
 impl Tables {
-    ghost use Rattle.gm_core.specs.Holds.{Goes, Does, AllTouched, CoreAgrees};
+    ghost use Rattle.gm_core.specs.Holds.{IsKept, Goes, Does, AllTouched, CoreAgrees};
 
     /// A text line of a slot.
     pub(super) fn line(&mut self, slot: u32, bytes: &[u8]) -> Result<Done, ApplyError>
+        requires { IsKept self.old }
         ensures answers { (k : Settings) (steps : List Step) → CoreAgrees self.old k steps
             → Answers k steps (Line slot bytes.now) result × CoreAgrees self.new k (steps_after result (Line slot bytes.now) steps) }
         ensures touched { AllTouched self.old.conns self.new.conns }
@@ -39,7 +40,8 @@ impl Tables {
 
     /// What a line of a slot commands is done.
     fn command(&mut self, slot: u32, bytes: &[u8]) -> Result<(), AllocError>
-        requires { IsOpen self.old.conns slot }
+        requires open { IsOpen self.old.conns slot }
+        requires kept { IsKept self.old }
         ensures { Does self.old result self.new (command self.old.config slot (command_of bytes.now)) }
     {
         match read_line(bytes) {
@@ -52,6 +54,7 @@ impl Tables {
     fn obey(&mut self, slot: u32, asked: &Command<'_>) -> Result<(), AllocError>
         requires open { IsOpen self.old.conns slot }
         requires named { NamesFunction asked.now }
+        requires kept { IsKept self.old }
         ensures { Does self.old result self.new (command self.old.config slot (Ok (asked_of asked.now))) }
     {
         match *asked {

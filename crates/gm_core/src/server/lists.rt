@@ -1,12 +1,12 @@
 //! The lists for administrators.
 
-ghost use Rattle.std.specs.Prelude.{◌≡◌, ◌<◌, map, length, IfOk};
+ghost use Rattle.std.specs.Prelude.{◌≡◌, ℕ, ◌<◌, map, length, IfOk};
 ghost use Rattle.gm_admin.specs.Answers.{status_text, workers_text};
 ghost use Rattle.gm_admin.specs.Views.{status_of, worker_of};
 ghost use Rattle.gm_conns.specs.ConnTables.{IsOpen, conn};
 ghost use Rattle.gm_notes.specs.Lines.{status_rows, worker_rows};
 ghost use Rattle.gm_notes.specs.Past.{Past, with_output};
-ghost use Rattle.gm_core.specs.Holds.{name_at};
+ghost use Rattle.gm_core.specs.Holds.{AreFunctions};
 ghost use Rattle.gm_core.specs.Listings.{workers, status_line_of, status_lines, names_of, worker_line_of, worker_lines};
 
 use super::Tables;
@@ -51,17 +51,6 @@ fn status_rows<'a>(
     Ok(rows)
 }
 
-/// The name of a function; it is empty where there is no such function.
-fn name_of(functions: &Functions, f: u32) -> &[u8]
-    ensures { result.now ≡ name_at functions.now.names f }
-{
-    if f < functions.len() {
-        functions.name(f)
-    } else {
-        b""
-    }
-}
-
 /// The functions that the connection in a slot can do, in the order added.
 fn names_of<'a>(
     alloc: Global,
@@ -69,13 +58,14 @@ fn names_of<'a>(
     functions: &'a Functions,
     slot: u32,
 ) -> Result<Vec<&'a [u8]>, AllocError>
-    requires { IsOpen conns.now slot }
+    requires open { IsOpen conns.now slot }
+    requires able { AreFunctions functions.now.names (conn conns.now slot).abilities }
     ensures { IfOk result (λ names. map (λ name. name.now) names.items ≡ names_of functions.now.names (conn conns.now slot)) }
 {
     let mut names = Vec::new(alloc);
     for i in 0..conns.abilities_len(slot) {
         if let Some((f, _)) = conns.able(slot, i) {
-            names.push(name_of(functions, f))?;
+            names.push(functions.name(f))?;
         }
     }
     Ok(names)
@@ -88,7 +78,8 @@ fn worker_row<'a>(
     functions: &'a Functions,
     slot: u32,
 ) -> Result<WorkerRow<'a>, AllocError>
-    requires { IsOpen conns.now slot }
+    requires open { IsOpen conns.now slot }
+    requires able { AreFunctions functions.now.names (conn conns.now slot).abilities }
     ensures { IfOk result (λ row. worker_of row ≡ worker_line_of conns.now functions.now slot) }
 {
     let functions = names_of(alloc, conns, functions, slot)?;
@@ -106,6 +97,7 @@ fn worker_rows<'a>(
     conns: &'a Conns,
     functions: &'a Functions,
 ) -> Result<Vec<WorkerRow<'a>>, AllocError>
+    requires { (c : ℕ) → AreFunctions functions.now.names (conn conns.now c).abilities }
     ensures { IfOk result (λ rows. map worker_of rows.items ≡ worker_lines conns.now functions.now) }
 {
     let mut rows = Vec::new(alloc);
@@ -118,7 +110,7 @@ fn worker_rows<'a>(
 }
 
 impl Tables {
-    ghost use Rattle.gm_core.specs.Holds.{Keeps, Does};
+    ghost use Rattle.gm_core.specs.Holds.{IsKept, Keeps, Does};
 
     /// The answer to `status`.
     fn status_text(&self) -> Result<Vec<u8>, AllocError>
@@ -132,6 +124,7 @@ impl Tables {
 
     /// The answer to `workers`.
     fn workers_text(&self) -> Result<Vec<u8>, AllocError>
+        requires { IsKept self.now }
         ensures { IfOk result (λ text. (past : Past) → Keeps self.now past → text.items ≡ workers_text (worker_rows self.now.config past.notes)) }
     {
         let rows = worker_rows(self.alloc, &self.conns, &self.functions)?;
@@ -151,7 +144,8 @@ impl Tables {
 
     /// Every connection is listed, with what it can do.
     pub(super) fn list_connections(&mut self, slot: u32) -> Result<(), AllocError>
-        requires { IsOpen self.old.conns slot }
+        requires open { IsOpen self.old.conns slot }
+        requires kept { IsKept self.old }
         ensures { Does self.old result self.new (λ past. with_output slot (workers_text (worker_rows self.old.config past.notes)) past) }
     {
         let text = self.workers_text()?;

@@ -12,7 +12,7 @@ returns-then-beside c =
     rw c.pick.ensures.same (goes_as (pre_sleep c.args.self.now.config c.args.slot)
     (goes_then (goes_slept {old = c.args.self.now} {new = record c.args.self.now { conns = c.set_phase.new.self }} c.args.slot (record { config = refl; functions = refl; jobs = refl; moment = refl; mode = refl }) slept) (goes_woken c.args.slot (record { config = refl; functions = refl; jobs = refl; moment = refl; mode = refl }) c.set_phase-then-beside.ensures))
     (λ p keeps.
-    let awake : is_awake (phase c.args.slot p.notes) ≡ true = ap is_awake (sym (phase_is keeps c.args.slot c.requires) ∙ sym c.phase.ensures) ∙ (sym c.is_awake.ensures ∙ c.if-not-is_awake.false) in
+    let awake : is_awake (phase c.args.slot p.notes) ≡ true = ap is_awake (sym (phase_is keeps c.args.slot c.requires.«open») ∙ sym c.phase.ensures) ∙ (sym c.is_awake.ensures ∙ c.if-not-is_awake.false) in
     rw awake (beside_some c.pick.result c.args.slot (with_note (Slept c.args.slot) p) (sym c.is_some-beside.ensures ∙ c.if-beside.true) ∙ ap (λ o. sleep_beside o c.args.slot (with_note (Slept c.args.slot) p)) (c.pick.ensures.value p keeps))))
 
 pub returns-else-beside : goal.returns-else-beside
@@ -20,5 +20,5 @@ returns-else-beside c =
     let slept = rw c.pick.ensures.same at c.set_phase.ensures in
     rw c.pick.ensures.same (goes_as (pre_sleep c.args.self.now.config c.args.slot) (goes_slept {old = c.args.self.now} c.args.slot (record { config = refl; functions = refl; jobs = refl; moment = refl; mode = refl }) slept)
     (λ p keeps.
-    let awake : is_awake (phase c.args.slot p.notes) ≡ true = ap is_awake (sym (phase_is keeps c.args.slot c.requires) ∙ sym c.phase.ensures) ∙ (sym c.is_awake.ensures ∙ c.if-not-is_awake.false) in
+    let awake : is_awake (phase c.args.slot p.notes) ≡ true = ap is_awake (sym (phase_is keeps c.args.slot c.requires.«open») ∙ sym c.phase.ensures) ∙ (sym c.is_awake.ensures ∙ c.if-not-is_awake.false) in
     rw awake (beside_none c.pick.result c.args.slot (with_note (Slept c.args.slot) p) (sym c.is_some-beside.ensures ∙ c.if-beside.false) ∙ ap (λ o. sleep_beside o c.args.slot (with_note (Slept c.args.slot) p)) (c.pick.ensures.value p keeps))))

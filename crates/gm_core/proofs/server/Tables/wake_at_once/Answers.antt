@@ -15,21 +15,20 @@ returns-then-not-is_asleep c =
 
 pub returns-then-is_some : goal.returns-then-is_some
 returns-then-is_some c =
-    let owed = rw c.first_for.ensures.same at c.set_phase.ensures in
-    rw c.first_for.ensures.same (goes_as (wake_if_waiting c.args.slot (name_at c.args.self.now.functions.names c.args.f))
-    (goes_woken {old = c.args.self.now} c.args.slot (record { config = refl; functions = refl; jobs = refl; moment = refl; mode = refl }) owed)
+    rw c.first.ensures.same (goes_as (wake_if_waiting c.args.slot (name_at c.args.self.now.functions.names c.args.f))
+    (goes_woken {old = c.args.self.now} c.args.slot (record { config = refl; functions = refl; jobs = refl; moment = refl; mode = refl }) c.set_phase.ensures)
     (λ p keeps.
     let asleep : is_asleep (phase c.args.slot p.notes) ≡ true = ap is_asleep (sym (phase_is keeps c.args.slot c.requires.«open») ∙ sym c.phase.ensures) ∙ (sym c.is_asleep.ensures ∙ c.if-not-is_asleep.false) in
     let waits : is_empty (waiting_for (name_at c.args.self.now.functions.names c.args.f) p.notes) ≡ false =
-    waits_is p.notes keeps.functions keeps.jobs c.args.f c.requires.within c.first_for.result (c.first_for.ensures.value c.requires.within) ∙ ap not (sym c.is_some.ensures ∙ c.if-is_some.true) in
+    waits_is p.notes keeps.functions keeps.jobs c.args.f c.requires.within c.first.result c.first.ensures.value ∙ ap not (sym c.is_some.ensures ∙ c.if-is_some.true) in
     rw (asleep, waits) refl))
 
 pub returns-else-is_some : goal.returns-else-is_some
 returns-else-is_some c =
-    rw c.first_for.ensures.same (goes_as (wake_if_waiting c.args.slot (name_at c.args.self.now.functions.names c.args.f))
+    rw c.first.ensures.same (goes_as (wake_if_waiting c.args.slot (name_at c.args.self.now.functions.names c.args.f))
     (goes_nothing refl refl refl refl refl refl)
     (λ p keeps.
     let waits : is_empty (waiting_for (name_at c.args.self.now.functions.names c.args.f) p.notes) ≡ true =
-    waits_is p.notes keeps.functions keeps.jobs c.args.f c.requires.within c.first_for.result (c.first_for.ensures.value c.requires.within) ∙ ap not (sym c.is_some.ensures ∙ c.if-is_some.false) in
+    waits_is p.notes keeps.functions keeps.jobs c.args.f c.requires.within c.first.result c.first.ensures.value ∙ ap not (sym c.is_some.ensures ∙ c.if-is_some.false) in
     let asleep : is_asleep (phase c.args.slot p.notes) ≡ true = ap is_asleep (sym (phase_is keeps c.args.slot c.requires.«open») ∙ sym c.phase.ensures) ∙ (sym c.is_asleep.ensures ∙ c.if-not-is_asleep.false) in
     rw (asleep, waits) refl))
