@@ -1,10 +1,9 @@
 //! What is known of one connection.
 
-ghost use Rattle.std.specs.Prelude.{◌≡◌, ℕ, ◌<◌, ◌≤◌, ◌==◌, not, ◌&&◌, ◌||◌, IsTrue, IfSome, IfNone, OnOk, OnErr, [], ◌++◌, ◌+◌, length, slice_get};
-ghost use Rattle.gm_conns.specs.Connections.{closed, opened, shut, with_option, with_phase, with_id, with_ability, without_ability};
-ghost use Rattle.gm_conns.specs.Connections.{with_last, with_room, with_bytes, drained, timeout_of, is_able, index_of};
+ghost use Rattle.std.specs.Prelude.{◌≡◌, ℕ, ◌<◌, ◌==◌, not, ◌&&◌, ◌||◌, IsTrue, IfSome, IfNone, OnOk, OnErr, [], length};
+ghost use Rattle.gm_conns.specs.Connections.{closed, with_ability, without_ability, is_able};
 
-use gm_bytes::{ByteQueue, SharedBytes};
+use gm_bytes::ByteQueue;
 use gm_notes::Phase;
 use indexmap::IndexMap;
 use std::alloc::{AllocError, Global};

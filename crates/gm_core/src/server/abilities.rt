@@ -16,7 +16,7 @@ ghost use Rattle.gm_core.specs.declared.server.abilities.Choice.{Choice};
 use super::Tables;
 use gm_actions::Refusal;
 use gm_notes::{Phase, Pick};
-use gm_queues::{Functions, MentionError};
+use gm_queues::MentionError;
 use std::alloc::AllocError;
 
 /// A job that is to be given out, and its function.
