@@ -7,6 +7,8 @@ use Rattle.std.specs.declared.hash.RandomState.{RandomState}
 use Rattle.gm_notes.specs.declared.states.Place.{Place}
 use Rattle.gm_notes.specs.declared.states.Place.TheVariants.{Unmade, Gone}
 use Rattle.gm_notes.specs.Jobs.{joins}
+use Rattle.gm_jobs.specs.declared.surface.Back.{Back}
+use Rattle.gm_jobs.specs.declared.surface.Back.TheVariants as backs
 use Rattle.gm_jobs.specs.declared.uniques.Vacancy.{Vacancy}
 use Rattle.gm_jobs.specs.Live.{Live, place_at, is_named, without_listener}
 use Rattle.gm_jobs.specs.Uniques.{digest_of}
@@ -44,6 +46,11 @@ listeners_of (Some live) = live.listeners
 -- the job is live and passes
 abbrev pub passes : (Live → Bool) → Option Live → Bool
 passes test found = option_map_or test found false
+
+-- what becomes of a job that is given back, by whether that was its last try
+abbrev pub back_of : Bool → Back
+back_of true = backs.Lost
+back_of false = backs.Returned
 
 abbrev pub is_made : Table → ℕ → Bool
 is_made table n = nat_le table.first n && nat_lt n table.next

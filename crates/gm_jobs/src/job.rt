@@ -202,6 +202,13 @@ impl Job {
         }
     }
 
+    /// Whether a background submission keeps it.
+    pub fn kept(&self) -> bool
+        ensures { result ≡ self.now.kept }
+    {
+        self.kept
+    }
+
     /// Whether somebody wants it: a background submission keeps it, or a slot listens.
     pub fn is_wanted(&self) -> bool
         ensures { result ≡ is_wanted self.now }

@@ -239,8 +239,8 @@ impl Jobs {
         self.deadlines.enlist(&self.jobs, n, deadline);
     }
 
-    /// The job waits again. A limit of 0 is none.
-    pub fn give_back(&mut self, n: u64, limit: u32)
+    /// The job waits again, after a try that wasn't its last. A limit of 0 is none.
+    pub fn wait_again(&mut self, n: u64, limit: u32)
         requires { passes (is_last_try limit) (job self.old n) ≡ false }
         ensures { Changes n (given_back limit) self.old self.new }
     {

@@ -19,4 +19,5 @@ mod uniques;
 
 pub use job::{Job, NewJob};
 pub use jobs::{JobError, Jobs};
+pub use surface::Back;
 pub use uniques::Vacancy;

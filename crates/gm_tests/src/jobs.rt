@@ -4,7 +4,7 @@ ghost use Rattle.std.specs.Prelude.{◌≡◌, ◌≤◌, false, length};
 ghost use Rattle.gm_packet.specs.Packets.{has_nul};
 
 use crate::checks::{must, same};
-use gm_jobs::{JobError, Jobs, NewJob};
+use gm_jobs::{Back, JobError, Jobs, NewJob};
 use gm_notes::{Place, Priority};
 use std::alloc::{AllocError, Global};
 use std::hash::RandomState;
@@ -96,10 +96,7 @@ fn run_and_return(rt: &impl Abort, jobs: &mut Jobs) {
     }
     same(rt, "a job", &jobs.next_run_by(5, 0), &Some(2));
     same(rt, "a place", &jobs.place(2), &Place::Running(5));
-    match jobs.by_number(2) {
-        Some(job) if !job.is_last_try(0) => jobs.give_back(2, 0),
-        _ => must(rt, false),
-    }
+    same(rt, "a return", &jobs.give_back(2, 0), &Back::Returned);
     same(rt, "a job", &jobs.next_run_by(5, 0), &None);
 }
 
@@ -114,6 +111,7 @@ fn assert_report(rt: &impl Abort, jobs: &Jobs) {
     match jobs.by_number(2) {
         Some(job) => {
             same(rt, "a body", &job.body(), &b"b".as_slice());
+            same(rt, "kept", &job.kept(), &true);
             let report = Some((b"3".as_slice(), b"100".as_slice()));
             same(rt, "a report", &job.report(), &report);
         }

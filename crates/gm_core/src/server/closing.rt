@@ -45,7 +45,7 @@ impl Tables {
             self.jobs.lose(job, limit);
         } else {
             let (f, p) = (found.f(), found.p());
-            self.jobs.give_back(job, limit);
+            self.jobs.wait_again(job, limit);
             self.functions.push(f, p, job);
             self.wake(f);
         }

@@ -67,7 +67,7 @@ returns-else-is_last_try c =
     let core = c.args.self.now in
     let n = c.args.job in
     let after = c.push.new.self in
-    let more = c.give_back.new.self in
+    let more = c.wait_again.new.self in
     let not_last : is_last_try core.config.retries it.live ≡ false = ap (λ (r : ℕ). is_last_try r it.live) (sym c.retries-limit.ensures) ∙ sym c.if-is_last_try.ensures in
     let changes : ChangesQueue it.live.function it.live.priority (with_job n) core.functions after =
     subst (λ (f : ℕ). ChangesQueue f it.live.priority (with_job n) core.functions after) c.f-f.ensures
@@ -77,7 +77,7 @@ returns-else-is_last_try c =
     (record { config = refl; conns = refl; moment = refl; mode = refl; most = changes.most; names = changes.names; limits = changes.limits })
     (record { conns = λ p. refl; flow = λ p. refl; functions = λ p. refl; moment = λ p. refl; mode = λ p. refl })
     (λ p keeps.
-    jobs_returned core.config core.functions core.jobs (conn_facts p.notes).is_open p.notes (function_facts p.notes) keeps.functions keeps.jobs n it.live it.at it.runs after more changes not_last (given d more c.give_back.ensures)) in
+    jobs_returned core.config core.functions core.jobs (conn_facts p.notes).is_open p.notes (function_facts p.notes) keeps.functions keeps.jobs n it.live it.at it.runs after more changes not_last (given d more c.wait_again.ensures)) in
     goes_as (give_back_one core.config c.args.slot n) (goes_then moved c.wake.ensures)
     (λ p keeps.
     let is = keeps.jobs.live n it.live it.at in

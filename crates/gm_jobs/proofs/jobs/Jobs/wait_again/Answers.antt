@@ -2,7 +2,7 @@ use Rattle.std.proofs.Common.{inl, refl, ap, subst, ◌∙◌, Contains}
 use Rattle.gm_jobs.specs.Live.{given_back, is_last_try}
 use Rattle.gm_jobs.specs.Tables.{Table, job, passes}
 use Rattle.gm_jobs.proofs.JobLemmas.{beside, kept_changed, listed_of, listed_given_back, given_back_same}
-use Rattle.gm_jobs.proofs.jobs.Jobs.give_back.Goals as goal
+use Rattle.gm_jobs.proofs.jobs.Jobs.wait_again.Goals as goal
 
 pub invariant_of-self : goal.invariant_of-self
 invariant_of-self c =
