@@ -16,11 +16,32 @@ const FIRST_PIECE: usize = 2_048;
 /// The most room that is made where it isn't known how many bytes are missing.
 const PIECE: usize = 16_384;
 
+/// The least room for a packet of which more is announced than came.
+const ANNOUNCED_PIECE: usize = 65_536;
+
 /// The most bytes that are cleared at a time: what was cleared last is still near when it is read into.
 const LONG_PIECE: usize = 262_144;
 
-/// Makes room behind the first `end` bytes: for the `missing` bytes of a packet at once, and of that so much can be read
-/// into that the next read fills a long piece.
+/// How much room the next read gets behind the first `end` bytes, where there is this much.
+///
+/// Room for a packet that is only announced follows the bytes that came: as much again, at least a piece. So a header
+/// alone takes no memory for the packet.
+fn room_for_read(end: usize, missing: usize, room: usize) -> usize
+    ensures some { 0 < result }
+    ensures more { room ≤ result }
+{
+    let next = missing.min(end.clamp(ANNOUNCED_PIECE, LONG_PIECE));
+    if next > 0 && end >= ANNOUNCED_PIECE {
+        next.max(room)
+    } else if room < next.max(LEAST_ROOM) {
+        next.max(FIRST_PIECE)
+    } else {
+        room
+    }
+}
+
+/// Makes room behind the first `end` bytes, of which the rest of a packet gets no more than it misses. The memory doubles at
+/// least whenever it grows for a long packet, so that each of its bytes is copied a bounded number of times.
 pub(crate) fn make_room(
     buffer: &mut Vec<u8>,
     end: usize,
@@ -33,11 +54,13 @@ pub(crate) fn make_room(
     ensures room { OnOk result (end < vec_len buffer.new) }
 {
     let room = buffer.len() - end;
-    let mut more = 0;
-    if room < missing.clamp(LEAST_ROOM, LONG_PIECE) {
-        buffer.reserve_exact(missing.saturating_sub(room))?;
-        more = missing.clamp(FIRST_PIECE, LONG_PIECE) - room;
-    } else if was_filled && buffer.len() < PIECE {
+    let wanted = room_for_read(end, missing, room);
+    let mut more = wanted - room;
+    if buffer.capacity() - end < wanted {
+        let next = missing.min(end.max(ANNOUNCED_PIECE));
+        buffer.reserve_exact(next.saturating_sub(room))?;
+    }
+    if more == 0 && was_filled && buffer.len() < PIECE {
         more = buffer.len();
     }
     let len = buffer.len().checked_add(more).ok_or(AllocError)?;
