@@ -128,6 +128,7 @@ byte l_to[N];
 bool l_noop[N];
 bool patient[N];         /* its finisher waits in a write */
 byte end_begun[N];       /* its End: for how many calls `begun` runs, */
+byte end_stopped[N];     /*   `stopped` runs, */
 byte end_stalled[N];     /*   `stalled` runs, */
 bool end_over[N];        /*   and deadline_passed */
 
@@ -214,11 +215,15 @@ inline update_end(s) {
 #ifdef M_NO_MOST_TIME
         :: false
 #else
-        :: end_begun[s] >= (server_stage >= STOPPED -> ENDING_TIME : MOST_ENDING_TIME) -> end_over[s] = true
+        :: (server_stage >= STOPPED && end_stopped[s] >= ENDING_TIME) || end_begun[s] >= MOST_ENDING_TIME -> end_over[s] = true
 #endif
         :: else ->
 #ifndef M_NO_MOST_TIME
             end_begun[s]++;
+            if
+            :: server_stage >= STOPPED -> end_stopped[s]++
+            :: else
+            fi;
 #endif
             if
             :: end_stalled[s] >= ENDING_TIME -> end_over[s] = true
@@ -642,7 +647,7 @@ inline open_lane(s) {
         assert(line[s] == NO_LINE);
         line[s] = OPEN; line_gen[s] = gen[s]; lingers[s] = 0;
 #ifndef M_KEEP_THE_TIME
-        end_begun[s] = 0; end_stalled[s] = 0; end_over[s] = false;
+        end_begun[s] = 0; end_stopped[s] = 0; end_stalled[s] = 0; end_over[s] = false;
 #endif
         down[s] = false;
         CHOOSE_PEER(s) };

@@ -156,7 +156,7 @@ MUTANTS = [
     ("ends", STAYS, "M_KEEP_THE_TIME", "Sender::begin", "self.connection = Some(Connection::new(opening, half, begins))", "with the last one's time"),
     ("ends", ("endings", "ends", "-DGENS=1 -DTOUCHES=1 -DPEERS=4 -DUNITS=0"), "M_NEVER_GIVE_UP", "Lane::send", "if sender.has_had_its_time(rt, server.is_stopping())", "never"),
     ("ends", STAYS, "M_TIME_OVER_WITHOUT_HANG_UP", "Lane::send", "sender.hang_up()", "left out"),
-    ("ends", ("endings", "ltl", "-DENDLESS -DGENS=1 -DPEERS=2 -DUNITS=0"), "M_NO_MOST_TIME", "End::update", "has_passed(rt, &mut self.begun, Duration::from_millis(time_ms))", "only `stalled` is asked"),
+    ("ends", ("endings", "ltl", "-DENDLESS -DGENS=1 -DPEERS=2 -DUNITS=0"), "M_NO_MOST_TIME", "End::update", "has_passed(rt, &mut self.begun, most_time)", "only `stalled` is asked"),
     ("server", FAILED, "M_STOP_WITHOUT_WAKE", "ServerState::stop", "self.crews.wake_all()", "left out"),
     ("server", ("shutdown", "quiet", "-DCALLS=2 -DADMIN=2"), "M_GRACEFUL_FORGETS", "ServerState::follow", "self.stage.rise(ServerStage::Graceful as u8)", "left out"),
     ("server", ("shutdown", "quiet", "-DCALLS=2 -DADMIN=0"), "M_OVER_WITHOUT_ENDING", "ServerState::can_end", "!self.is_running() && self.connections() == 0", "self.connections() == 0"),

@@ -6,9 +6,9 @@ use gm_shared::{BookName, Shared};
 use std::sync::Wait;
 use std::time::{Clock, Duration, Instant};
 
-/// How long a connection that is to end has for what it is still to be sent: while its peer takes nothing, or the server ends,
-/// from when that was first looked at. So long too what its peer still sends is read and dropped once all is sent; where the server ends,
-/// both have this time together.
+/// How long a connection that is to end has for what it is still to be sent: while its peer takes nothing, or from when the
+/// server ends, each from when that was first looked at. So long too what its peer still sends is read and dropped once all is
+/// sent; where the server ends, both have this time together.
 pub(crate) const ENDING_TIME_MS: u64 = 2_000;
 
 /// How long it has for what it is still to be sent where its peer takes some.
@@ -50,7 +50,9 @@ pub(crate) fn is_ending<K: BookName>(server: &impl Server<K>, stage: &Stage) -> 
 #[derive(Clone, Copy)]
 pub(crate) struct End {
     /// When it was first looked at.
-    pub(crate) begun: Option<Instant>,
+    begun: Option<Instant>,
+    /// When it was first looked at while the server ends.
+    pub(crate) stopped: Option<Instant>,
     /// When the peer was first seen to take nothing, since it last took some.
     stalled: Option<Instant>,
     /// The connection has had its time.
@@ -61,6 +63,7 @@ impl End {
     pub(crate) fn new() -> End {
         End {
             begun: None,
+            stopped: None,
             stalled: None,
             deadline_passed: false,
         }
@@ -72,12 +75,12 @@ impl End {
         if has_taken {
             self.stalled = None;
         }
-        let time_ms = if is_stopping {
-            ENDING_TIME_MS
-        } else {
-            MOST_ENDING_TIME_MS
-        };
-        self.deadline_passed = has_passed(rt, &mut self.begun, Duration::from_millis(time_ms))
-            || has_passed(rt, &mut self.stalled, Duration::from_millis(ENDING_TIME_MS));
+        let most_time = Duration::from_millis(MOST_ENDING_TIME_MS);
+        let ending_time = Duration::from_millis(ENDING_TIME_MS);
+        // A connection that was ending already has the whole time of the server's end.
+        let stop_passed = is_stopping && has_passed(rt, &mut self.stopped, ending_time);
+        self.deadline_passed = stop_passed
+            || has_passed(rt, &mut self.begun, most_time)
+            || has_passed(rt, &mut self.stalled, ending_time);
     }
 }

@@ -97,7 +97,7 @@ impl Connection {
             LineState::Open => self.half.has_had_its_time(),
             LineState::Finished => {
                 if is_stopping && self.finished.is_none() {
-                    self.finished = self.half.end_begun();
+                    self.finished = self.half.stopped();
                 }
                 has_passed(
                     rt,

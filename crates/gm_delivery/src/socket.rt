@@ -113,9 +113,9 @@ impl WriteHalf {
         self.end.deadline_passed
     }
 
-    /// When its end was first looked at.
-    pub(crate) fn end_begun(&self) -> Option<Instant> {
-        self.end.begun
+    /// When its end was first looked at while the server ends.
+    pub(crate) fn stopped(&self) -> Option<Instant> {
+        self.end.stopped
     }
 
     /// Whether the last write took all, so that the next one may take some at once.
