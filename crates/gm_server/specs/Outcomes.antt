@@ -11,7 +11,7 @@ use Rattle.gm_server.specs.declared.outcome.RunError.{RunError}
 use Rattle.gm_server.specs.declared.outcome.RunError.TheVariants as errors
 use Rattle.gm_server.specs.Arguments.{asked_settings}
 use Rattle.gm_server.specs.Options.{fault_in, Reads}
-use Rattle.gm_threads.specs.Served.{EndsSo}
+use Rattle.gm_slots.specs.Served.{EndsSo}
 
 -- ---- words that aren't run
 

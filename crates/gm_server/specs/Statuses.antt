@@ -1,6 +1,7 @@
 -- The statuses that the program ends with.
 use Rattle.std.specs.Prelude.{ℕ, Result, Ok, Err}
-use Rattle.gm_threads.specs.Statuses.{serve_error_status, served_status}
+use Rattle.gm_report.specs.Statuses.{serve_error_status}
+use Rattle.gm_slots.specs.Served.{served_status}
 use Rattle.gm_server.specs.declared.outcome.RunError.{RunError}
 use Rattle.gm_server.specs.declared.outcome.RunError.TheVariants as errors
 use Rattle.gm_server.specs.declared.outcome.Outcome.{Outcome}

@@ -5,11 +5,11 @@
 mod args;
 mod outcome;
 mod run;
-mod systemd;
 
 pub use gm_outbox::{WriteFault, write_turn};
 pub use gm_promise::laws;
+pub use gm_report::ServeError;
 pub use gm_session::{Gate, OpenGate, SessionEnd, read_session};
-pub use gm_threads::{ControlError, ServeError, Served, Settings, serve};
+pub use gm_threads::{ControlError, Served, Settings, serve};
 pub use outcome::{Outcome, RunError, status_of};
 pub use run::run_words;

@@ -3,7 +3,8 @@
 ghost use Rattle.std.specs.Prelude.{◌≡◌};
 ghost use Rattle.gm_server.specs.Statuses.{run_status, ended_status};
 
-use gm_threads::{ServeError, Served};
+use gm_report::ServeError;
+use gm_threads::Served;
 use std::alloc::AllocError;
 use std::io;
 use thiserror::Error;
@@ -77,7 +78,7 @@ pub enum Outcome {
 }
 
 impl From<AllocError> for RunError {
-    ghost use Rattle.gm_threads.specs.declared.error.ServeError.TheVariants.{Memory};
+    ghost use Rattle.gm_report.specs.declared.error.ServeError.TheVariants.{Memory};
     ghost use Rattle.gm_server.specs.declared.outcome.RunError.TheVariants.{Serve};
 
     ghost from_gives = { λ _ e. e ≡ Serve Memory };

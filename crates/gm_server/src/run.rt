@@ -1,21 +1,20 @@
 //! Runs the program on its arguments.
 
-ghost use Rattle.std.specs.Prelude.{◌≡◌, ◌↔◌, Some, None, Ok, false, true, IfOk, IfErr, is_ok, map};
+ghost use Rattle.std.specs.Prelude.{◌≡◌, ◌↔◌, Some, None, Ok, false, true, IfOk, IfErr, Result, is_ok, map};
 ghost use Rattle.std.specs.Result.{IsErrOf};
 ghost use Rattle.clap.specs.Words.{kind_of};
 ghost use Rattle.gm_server.specs.Arguments.{asked_settings};
-ghost use Rattle.gm_threads.specs.Served.{EndsSo};
+ghost use Rattle.gm_slots.specs.Served.{EndsSo};
+ghost use Rattle.gm_server.specs.Statuses.{ended_status};
 ghost use Rattle.gm_server.specs.Outcomes.{is_of_words, said_as, SaysSo, FailsSo, DoesSo, EndsAs};
 
 use crate::args::{Args, parse_args};
-use crate::outcome::{Outcome, RunError, report};
-use crate::systemd::{Systemd, first_socket, handed_sockets};
+use crate::outcome::{Outcome, RunError, report, status_of};
 use clap::error::ErrorKind;
 use gm_notes::{Config, MAX_FUNCTIONS};
+use gm_report::{Ready, Report, ServeError, Speaker, Systemd, first_socket, handed_sockets};
 use gm_session::OpenGate;
-use gm_threads::{
-    ControlError, Crews, Ready, Report, ServeError, Served, Service, Settings, Speaker, serve_with,
-};
+use gm_threads::{ControlError, Crews, Served, Service, Settings, serve_with};
 use std::alloc::{AllocError, Global};
 use std::convert::AsStr;
 use std::env::Env;
@@ -288,9 +287,8 @@ fn run_args<
     Ok(Outcome::Served(serve_on(rt, args, settings, w)?))
 }
 
-/// Runs the program on its arguments, of which the first is its name, with this standard output, and answers how it ended
-/// (`status_of`). The options are those of gearmand(8) of the same names, `--io-threads`, `--peer-timeout`, `--tape` and `--check`.
-pub fn run_words<
+/// Runs the program on its arguments, of which the first is its name, with this standard output, and says how it ended.
+pub(crate) fn outcome_of<
     S: AsStr,
     R: Threads
         + Wait
@@ -314,4 +312,28 @@ pub fn run_words<
     };
     report(rt, &ended);
     ended
+}
+
+/// Runs the program on its arguments, of which the first is its name, with this standard output, and answers the status that
+/// it is to end with (`status_of`). The options are those of gearmand(8) of the same names, `--io-threads`, `--peer-timeout`,
+/// `--tape` and `--check`.
+pub fn run_words<
+    S: AsStr,
+    R: Threads
+        + Wait
+        + Clock
+        + RandomSource
+        + Net<Listener = TcpListener, Stream = TcpStream>
+        + Env
+        + Eprint
+        + AllocGlobal
+        + Copy
+        + Send
+        + Sync
+        + 'static,
+    W: Write,
+>(rt: &R, words: &[S], w: &mut W) -> u8
+    ensures { (ended : Result Outcome RunError) × EndsAs (map S.text words.now) ended × (result ≡ ended_status ended) }
+{
+    status_of(outcome_of(rt, words, w))
 }

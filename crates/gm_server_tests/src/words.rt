@@ -1,7 +1,7 @@
 //! What the program answers to its arguments.
 
 use crate::checks::same;
-use gm_server::{run_words, status_of};
+use gm_server::run_words;
 use std::alloc::{AllocGlobal, Global};
 use std::env::Env;
 use std::io::Eprint;
@@ -20,8 +20,8 @@ static LINE: &[u8] =
 static STATUSES: [(&str, u8); 6] = [
     ("--tape", 0),
     ("--slots=1024", 0),
-    ("--slots=1025", 2),
-    ("--port=0", 2),
+    ("--slots=0", 2),
+    ("--port=65536", 2),
     ("--name=a:b", 2),
     ("--jump", 2),
 ];
@@ -46,7 +46,7 @@ fn run<
         owned.push(String::from_str(alloc, word)?)?;
     }
     let mut printed = Vec::new(alloc);
-    let status = status_of(run_words(rt, &owned, &mut printed));
+    let status = run_words(rt, &owned, &mut printed);
     Ok((status, printed))
 }
 

@@ -1,7 +1,6 @@
 //! The threads that serve connections: how they wait, and how they are woken. What they do then is one for both ways (`serving`).
 
 use crate::serving::Then;
-use crate::slot::Slot;
 use crate::stage::ServerStage;
 use crate::state::ServerState;
 use crossbeam_utils::sync::{Parker, Unparker};
@@ -10,6 +9,7 @@ use gm_feeder::Patience;
 use gm_poll::{Hub, Poller};
 use gm_session::{Gate, Talk};
 use gm_shared::BookName;
+use gm_slots::Slot;
 use std::alloc::{AllocError, Global};
 use std::net::Net;
 use std::os::fd::RawFd;

@@ -1,5 +1,4 @@
-//! A job server over sockets: the threads that take connections, read them (gm_session) and deliver to them (gm_delivery), and those that say
-//! how it is.
+//! A job server over sockets: the threads that take connections, read them (gm_session) and deliver to them (gm_delivery).
 //!
 //! A connection has two threads. Its reader cuts what it reads into units and hands them to the book; its finisher waits until others
 //! leave it something: a slow peer, or the connection's end. A thread that queued something for a connection touches its lane, and sends
@@ -9,21 +8,16 @@
 
 mod accepting;
 mod crews;
-mod ending;
 mod error;
 mod keepalive;
-mod ready;
 mod server;
 mod serving;
 mod settings;
-mod slot;
-mod speaking;
 mod stage;
 mod state;
 
 pub use crews::Crews;
-pub use error::{ControlError, ServeError};
-pub use ready::{Ready, Report};
+pub use error::ControlError;
+pub use gm_slots::Served;
 pub use server::{Service, serve, serve_with};
-pub use settings::{Served, Settings, Summary};
-pub use speaking::{Speaker, Trouble};
+pub use settings::Settings;

@@ -2,19 +2,18 @@
 
 ghost use Rattle.std.specs.Prelude.{◌≡◌, IfOk, IsOk};
 ghost use Rattle.gm_shared.specs.Tapes.{is_on};
-ghost use Rattle.gm_threads.specs.Served.{SettledSo, EndsSo};
+ghost use Rattle.gm_slots.specs.Served.{SettledSo, EndsSo};
 
 use crate::accepting::{Control, set_accept_timeout};
 use crate::crews::Crews;
-use crate::ending::{BookEnd, settle_state};
-use crate::error::{ControlError, ServeError};
-use crate::ready::{Ready, Report};
-use crate::settings::{Served, Settings};
-use crate::speaking::Speaker;
+use crate::error::ControlError;
+use crate::settings::Settings;
 use crate::state::ServerState;
 use gm_feeder::Limits;
+use gm_report::{Ready, Report, ServeError, Speaker};
 use gm_session::Gate;
 use gm_shared::{Blank, BookName, TapeMode};
+use gm_slots::Served;
 use std::alloc::Global;
 use std::hash::RandomState;
 use std::marker::Brand;
@@ -97,12 +96,7 @@ pub(crate) fn serve_book<
     } = service;
     let state = ServerState::<K>::new(rt, alloc, blank, limits, crews, speaker)?;
     let connections = run_control(rt, &state, &listener, peer_timeout, gate, ready)?;
-    let BookEnd { book, accounts } = settle_state(state)?;
-    Ok(Served {
-        connections,
-        book,
-        accounts,
-    })
+    Ok(state.settle(connections)?)
 }
 
 /// Nobody is told.

@@ -1,15 +1,15 @@
 //! How a connection is served, by whichever threads do: it is read by turns and ended, and what others leave of its lane is done.
 
-use crate::slot::Slot;
-use crate::speaking::Trouble;
 use crate::stage::ServerStage;
 use crate::state::ServerState;
 use gm_delivery::{Deliverer, Finish, ReadHalf, ReadStage, Server};
 use gm_feeder::Patience;
 use gm_notes::ApplyError;
 use gm_poll::{Call, Next};
+use gm_report::Trouble;
 use gm_session::{Around, Effects, Gate, Left, SessionEnd, Talk, Turn};
 use gm_shared::BookName;
+use gm_slots::Slot;
 use std::io::ErrorKind;
 use std::sync::Wait;
 use std::time::Clock;

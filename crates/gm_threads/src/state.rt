@@ -4,17 +4,18 @@ ghost use Rattle.std.specs.Prelude.{◌≡◌, ◌≤◌, ℕ, All, [], true, fa
 ghost use Rattle.gm_conns.specs.Slots.{has};
 ghost use Rattle.gm_shared.specs.Shared.{numbers_below};
 ghost use Rattle.gm_session.specs.Owners.{Opens};
+ghost use Rattle.gm_slots.specs.Served.{SettledSo};
 
 use crate::crews::Crews;
-use crate::slot::Slot;
-use crate::speaking::{Speaker, Trouble};
 use crate::stage::ServerStage;
 use gm_delivery::{Lane, Server, Stage, has_passed};
 use gm_feeder::Limits;
 use gm_lane_word::{Due, Lanes};
 use gm_notes::{Event, Mode};
-use gm_session::{Audience, Effects, Notify, Oddity, OwnDesk, Talk};
-use gm_shared::{Blank, BookName, Desk, Pen, Shared};
+use gm_report::{Speaker, Trouble};
+use gm_session::{Audience, Effects, Notify, Oddity, OwnDesk};
+use gm_shared::{Blank, BookName, Shared};
+use gm_slots::{Served, Slot, new_slots, settle_slots};
 use std::alloc::{AllocError, Global};
 use std::sync::atomic::{AtomicU64, Ordering};
 use std::sync::{Arc, Mutex, Wait};
@@ -87,33 +88,6 @@ impl Delivering {
     }
 }
 
-/// What each slot has of its own, in their order.
-fn new_slots<K: BookName>(
-    alloc: Global,
-    desks: Vec<Desk<K>>,
-    pens: Vec<Pen<K>>,
-    limits: Limits,
-) -> Result<Vec<Slot<K>>, AllocError>
-    requires nothing_seen { All (λ desk. desk.witness.seen ≡ []) desks.items }
-    requires nothing_given { All (λ pen. (pen.witness.seen ≡ []) × (pen.seat.takes ≡ 0)) pens.items }
-    requires paired { length desks.items ≡ length pens.items }
-    ensures { IfOk result (λ slots. map (λ slot. slot.lane.slot) slots.items ≡ map (λ pen. pen.slot) pens.items) }
-{
-    let mut slots = Vec::with_capacity(alloc, pens.len())?;
-    let mut desks_left = desks.into_iter();
-    for pen in pens {
-        let Some(desk) = desks_left.next() else {
-            unreachable!()
-        };
-        slots.push(Slot {
-            talk: Mutex::new(Talk::new(alloc, desk, limits)?),
-            lane: Lane::new(alloc, pen)?,
-            peer: Mutex::new(None),
-        })?;
-    }
-    Ok(slots)
-}
-
 impl<K: BookName> ServerState<K> {
     /// Opens a book, for the threads of a new server.
     pub(crate) fn new(
@@ -147,6 +121,28 @@ impl<K: BookName> ServerState<K> {
             connections: AtomicU64::new(0),
             stage: Stage::new(),
         })
+    }
+
+    /// Settles the book, once no thread has any part of it. This many connections were opened.
+    pub(crate) fn settle(self, connections: u64) -> Result<Served, AllocError>
+        ensures { IfOk result (λ served. SettledSo K.settings K.taped K.history served.book served.accounts.items) }
+    {
+        let ServerState {
+            alloc,
+            shared,
+            slots,
+            slot_count,
+            control,
+            ..
+        } = self;
+        settle_slots(
+            alloc,
+            shared,
+            slots,
+            slot_count,
+            control.into_inner(),
+            connections,
+        )
     }
 
     pub(crate) fn slot(&self, number: u32) -> Option<&Slot<K>>

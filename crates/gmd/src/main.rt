@@ -2,7 +2,7 @@
 #![tactic(auto)]
 
 use gm_options::arguments;
-use gm_server::{run_words, status_of};
+use gm_server::run_words;
 use std::fs::File;
 use std::os::fd::AsRawFd;
 use std::process::ExitCode;
@@ -23,7 +23,7 @@ fn replace_closed_streams(rt: &HostRuntime) -> [Option<File>; 3] {
 fn main(rt: HostRuntime) -> ExitCode {
     let _streams = replace_closed_streams(&rt);
     match arguments(&rt) {
-        Ok(words) => ExitCode::from(status_of(run_words(&rt, &words, &mut rt.stdout()))),
+        Ok(words) => ExitCode::from(run_words(&rt, &words, &mut rt.stdout())),
         Err(error) => {
             let text = error.text();
             // Where standard error fails too, there is nobody left to tell.

@@ -1,6 +1,6 @@
 use Rattle.std.proofs.Common.{◌∙◌}
 use Rattle.std.proofs.lemmas.Result.{IfOk-weaker}
-use Rattle.gm_threads.proofs.Ended.{ends_as}
+use Rattle.gm_slots.proofs.Ended.{ends_as}
 use Rattle.gm_threads.proofs.server.serve_with.Goals as goal
 
 pub returns : goal.returns

@@ -1,4 +1,4 @@
-use Rattle.gm_threads.proofs.Numbering.{paired}
+use Rattle.gm_slots.proofs.Numbering.{paired}
 use Rattle.gm_threads.proofs.state.ServerState.new.Goals as goal
 
 pub new_slots-requires-clause-paired : goal.new_slots-requires-clause-paired

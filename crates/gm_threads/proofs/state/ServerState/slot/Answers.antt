@@ -1,5 +1,5 @@
 use Rattle.std.proofs.Common.{ap, map, ◌∙◌}
-use Rattle.gm_threads.proofs.Numbering.{item_numbered}
+use Rattle.gm_slots.proofs.Numbering.{item_numbered}
 use Rattle.gm_threads.proofs.state.ServerState.slot.Goals as goal
 
 pub returns-clause-some : goal.returns-clause-some

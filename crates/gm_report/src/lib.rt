@@ -1,0 +1,16 @@
+//! What a server tells its operators: on standard error, to systemd, and when it ends.
+#![tactic(auto)]
+
+mod error;
+mod notices;
+mod ready;
+mod speaking;
+mod summary;
+mod systemd;
+
+pub use error::ServeError;
+pub use notices::{Counts, Trouble};
+pub use ready::{Ready, Report};
+pub use speaking::Speaker;
+pub use summary::Summary;
+pub use systemd::{Systemd, first_socket, handed_sockets};

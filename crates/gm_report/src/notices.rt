@@ -1,0 +1,241 @@
+//! What is to be said to operators, and when: a trouble once, and again only after it was over; a type of packet that `gmd`
+//! doesn't serve once, for the first so many types.
+
+ghost use Rattle.std.specs.Prelude.{◌≡◌, ◌++◌, ◌∷◌, [], ◌&&◌, not, true, false, take};
+ghost use Rattle.std.specs.Prelude.{nat_lt};
+ghost use Rattle.std.specs.List.{list_any};
+ghost use Rattle.gm_report.specs.Notices.{met, is_well, cleared, spoken, is_of_type};
+
+use crate::error::ServeError;
+use crate::summary::Summary;
+use std::net::SocketAddr;
+
+/// How many kinds of trouble there are.
+pub(crate) const TROUBLES: usize = 8;
+
+/// How many types of packets are said that aren't requests: so many that no peer can fill standard error with them.
+const MOST_TYPES: usize = 64;
+
+/// Why a connection isn't served.
+#[derive(Clone, Copy, Debug, PartialEq, Eq)]
+pub enum Trouble {
+    /// Each slot has a connection, so that it is refused.
+    Slots,
+    /// There is no memory for it, so that it is refused.
+    Memory,
+    /// No thread can be made for it, so that it is refused.
+    Threads,
+    /// The system can't report what comes from it, so that it is refused.
+    Events,
+    /// There was no memory to serve it, so that it was cut.
+    Cut,
+    /// The process or the system has no descriptor for it, so that it waits.
+    Descriptors,
+    /// The system doesn't hand it over for another reason, so that it waits.
+    Accept,
+    /// None: systemd can't be told how the server is.
+    Notify,
+}
+
+/// A trouble is said once, and again only after it was well in between.
+#[derive(Clone, Copy, PartialEq, Eq)]
+enum Notice {
+    Well,
+    /// It is to be said.
+    Due,
+    Said,
+}
+
+/// What is to be said of a trouble, or was.
+#[derive(Clone, Copy)]
+pub(crate) struct Remark {
+    notice: Notice,
+    /// How often it was met since it was said.
+    count: u64,
+    /// The system's error.
+    error: i32,
+}
+
+impl Remark {
+    /// The trouble is met, for this error of the system's. It says whether that is to be said.
+    fn meet(&mut self, error: i32) -> bool
+        ensures due { result ≡ is_well self.old.notice }
+        ensures notice { self.new.notice ≡ met self.old.notice }
+        ensures error { self.new.error ≡ error }
+    {
+        self.count = self.count.saturating_add(1);
+        self.error = error;
+        match self.notice {
+            Notice::Well => {
+                self.notice = Notice::Due;
+                true
+            }
+            Notice::Due | Notice::Said => false,
+        }
+    }
+
+    /// The trouble is over: where it comes again, it is said again.
+    fn clear(&mut self)
+        ensures { self.new.notice ≡ cleared self.old.notice }
+    {
+        match self.notice {
+            Notice::Said => self.notice = Notice::Well,
+            Notice::Well | Notice::Due => {}
+        }
+    }
+
+    /// It is said, if it is due.
+    fn say(&mut self)
+        ensures { self.new.notice ≡ spoken self.old.notice }
+    {
+        match self.notice {
+            Notice::Due => {
+                self.notice = Notice::Said;
+                self.count = 0;
+            }
+            Notice::Well | Notice::Said => {}
+        }
+    }
+
+    /// How often it was met, and the system's error, if it is to be said.
+    pub(crate) fn due(&self) -> Option<(u64, i32)> {
+        match self.notice {
+            Notice::Due => Some((self.count, self.error)),
+            Notice::Well | Notice::Said => None,
+        }
+    }
+}
+
+/// What became of connections, counted from the start.
+#[derive(Clone, Copy, PartialEq, Eq)]
+pub struct Counts {
+    pub refused: u64,
+    pub cut: u64,
+    pub faulty: u64,
+    pub timed_out: u64,
+}
+
+/// The types of packets that came and aren't requests.
+#[derive(Clone, Copy)]
+struct UnknownTypes {
+    /// The first `count` are types that came, each with the peer that sent the first such packet.
+    noted: [(u32, Option<SocketAddr>); MOST_TYPES],
+    count: usize,
+    /// How many of them were said.
+    said: usize,
+}
+
+impl UnknownTypes {
+    fn new() -> UnknownTypes {
+        UnknownTypes {
+            noted: [(0, None); MOST_TYPES],
+            count: 0,
+            said: 0,
+        }
+    }
+
+    /// Whether packets of this type came before.
+    fn is_noted(&self, kind: u32) -> bool
+        ensures { result ≡ list_any (is_of_type kind) (take self.now.count self.now.noted) }
+    {
+        self.noted.iter().take(self.count).any(|one| one.0 == kind)
+    }
+
+    /// Notes that a packet of this type came from this peer. It says whether that is to be said: the first time, while there is
+    /// a place for the type.
+    fn note(&mut self, kind: u32, peer: Option<SocketAddr>) -> bool
+        ensures first { result ≡ (nat_lt self.old.count 64 && not (list_any (is_of_type kind) (take self.old.count self.old.noted))) }
+        ensures noted { result ≡ true → take self.new.count self.new.noted ≡ take self.old.count self.old.noted ++ (kind, peer) ∷ [] }
+        ensures said { self.new.said ≡ self.old.said }
+        ensures none { result ≡ false → self.new ≡ self.old }
+    {
+        if self.count >= MOST_TYPES || self.is_noted(kind) {
+            return false;
+        }
+        self.noted[self.count] = (kind, peer);
+        self.count += 1;
+        true
+    }
+}
+
+/// What is to be said, or was.
+#[derive(Clone, Copy)]
+pub(crate) struct Notices {
+    pub(crate) troubles: [Remark; TROUBLES],
+    pub(crate) counts: Counts,
+    unknown: UnknownTypes,
+    /// There is something to be said.
+    pub(crate) is_due: bool,
+    /// How the server ended.
+    pub(crate) outcome: Option<Result<Summary, ServeError>>,
+}
+
+impl Notices {
+    pub(crate) fn new() -> Notices {
+        let well = Remark {
+            notice: Notice::Well,
+            count: 0,
+            error: 0,
+        };
+        Notices {
+            troubles: [well; TROUBLES],
+            counts: Counts {
+                refused: 0,
+                cut: 0,
+                faulty: 0,
+                timed_out: 0,
+            },
+            unknown: UnknownTypes::new(),
+            is_due: false,
+            outcome: None,
+        }
+    }
+
+    /// There is trouble, for this error of the system's. It says whether that is to be said.
+    pub(crate) fn meet(&mut self, trouble: Trouble, error: i32) -> bool {
+        match trouble {
+            Trouble::Slots | Trouble::Memory | Trouble::Threads | Trouble::Events => {
+                self.counts.refused = self.counts.refused.saturating_add(1);
+            }
+            Trouble::Cut => self.counts.cut = self.counts.cut.saturating_add(1),
+            Trouble::Descriptors | Trouble::Accept | Trouble::Notify => {}
+        }
+        let is_due = self.troubles[trouble as usize].meet(error);
+        self.is_due = self.is_due || is_due;
+        is_due
+    }
+
+    /// A connection is served, so that none of what keeps connections out is a trouble any more.
+    pub(crate) fn clear(&mut self) {
+        for remark in &mut self.troubles[..Trouble::Notify as usize] {
+            remark.clear();
+        }
+    }
+
+    /// Systemd could be told how the server is.
+    pub(crate) fn clear_notify(&mut self) {
+        self.troubles[Trouble::Notify as usize].clear();
+    }
+
+    /// A packet of this type came from this peer, which isn't a request's. It says whether that is to be said.
+    pub(crate) fn note(&mut self, kind: u32, peer: Option<SocketAddr>) -> bool {
+        let is_due = self.unknown.note(kind, peer);
+        self.is_due = self.is_due || is_due;
+        is_due
+    }
+
+    /// The types that are to be said, each with the peer that sent the first such packet.
+    pub(crate) fn types(&self) -> &[(u32, Option<SocketAddr>)] {
+        let UnknownTypes { noted, count, said } = &self.unknown;
+        noted.get(*said..*count).unwrap_or(&[])
+    }
+
+    /// What was due is said.
+    pub(crate) fn take(&mut self) {
+        self.is_due = false;
+        self.unknown.said = self.unknown.count;
+        for remark in &mut self.troubles {
+            remark.say();
+        }
+    }
+}

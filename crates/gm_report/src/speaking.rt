@@ -1,0 +1,255 @@
+//! What is said on standard error while a server runs and when it ends: by a thread of its own, so that no other waits for whoever reads
+//! that.
+
+use crate::error::ServeError;
+use crate::notices::{Counts, Notices, Remark, TROUBLES, Trouble};
+use crate::summary::Summary;
+use crossbeam_utils::sync::{Parker, Unparker};
+use std::alloc::{AllocError, Global};
+use std::io::Error;
+use std::net::SocketAddr;
+use std::sync::atomic::{AtomicBool, Ordering};
+use std::sync::{Arc, Mutex, Wait};
+use std::thread;
+use std::thread::Threads;
+use std::time::{Clock, Duration, Instant};
+
+/// How long it says nothing after it said something.
+const PAUSE_MS: u64 = 1_000;
+
+/// How long the program's end waits for whoever reads what is said.
+const ENDING_TIME_MS: u64 = 2_000;
+
+/// Where other threads leave what is to be said.
+#[derive(Drop)]
+pub struct Speaker {
+    remarks: Mutex<Notices>,
+    /// Wakes the thread that speaks.
+    speaking: Unparker,
+    /// Where the program's end waits for it, and what wakes that.
+    waiting: Mutex<Parker>,
+    spoken: Unparker,
+    /// Whether there is such a thread.
+    has_thread: AtomicBool,
+}
+
+impl Speaker {
+    /// Starts the thread that speaks, of a server with this many slots. Where it can't be made, nothing is said before the end.
+    pub fn start<R: Threads + Wait + Clock + Eprint + Copy + Send + 'static>(
+        rt: &R,
+        alloc: Global,
+        slots: u32,
+    ) -> Result<Arc<Speaker, Global>, AllocError> {
+        let parker = Parker::new(alloc)?;
+        let waiting = Parker::new(alloc)?;
+        let speaker = Arc::new(
+            alloc,
+            Speaker {
+                remarks: Mutex::new(Notices::new()),
+                speaking: parker.unparker().clone()?,
+                spoken: waiting.unparker().clone()?,
+                waiting: Mutex::new(waiting),
+                has_thread: AtomicBool::new(false),
+            },
+        )?;
+        let same = Arc::try_clone(&speaker)?;
+        let own_rt = *rt;
+        let made = thread::spawn(rt, move || same.run(&own_rt, &parker, slots));
+        speaker.has_thread.store(made.is_ok(), Ordering::SeqCst);
+        Ok(speaker)
+    }
+
+    /// There is trouble, for this error of the system's.
+    pub fn remark(&self, rt: &impl Wait, trouble: Trouble, error: i32) {
+        if self.remarks.lock(rt).meet(trouble, error) {
+            self.speaking.unpark();
+        }
+    }
+
+    /// A connection is served, so that none of what keeps connections out is a trouble any more.
+    pub fn clear(&self, rt: &impl Wait) {
+        self.remarks.lock(rt).clear();
+    }
+
+    /// Systemd could be told how the server is.
+    pub fn clear_notify(&self, rt: &impl Wait) {
+        self.remarks.lock(rt).clear_notify();
+    }
+
+    /// A packet of this type came from this peer, which isn't a request's.
+    pub fn remark_type(&self, rt: &impl Wait, kind: u32, peer: Option<SocketAddr>) {
+        if self.remarks.lock(rt).note(kind, peer) {
+            self.speaking.unpark();
+        }
+    }
+
+    /// A connection had a faulty stream.
+    pub fn count_faulty(&self, rt: &impl Wait) {
+        let mut remarks = self.remarks.lock(rt);
+        remarks.counts.faulty = remarks.counts.faulty.saturating_add(1);
+    }
+
+    /// A connection's peer vanished.
+    pub fn count_timed_out(&self, rt: &impl Wait) {
+        let mut remarks = self.remarks.lock(rt);
+        remarks.counts.timed_out = remarks.counts.timed_out.saturating_add(1);
+    }
+
+    /// What became of connections so far.
+    pub fn counts(&self, rt: &impl Wait) -> Counts {
+        self.remarks.lock(rt).counts
+    }
+
+    /// The server ended so. It waits until that is said, but not for long.
+    pub fn remark_end<R: Wait + Clock + Eprint>(
+        &self,
+        rt: &R,
+        outcome: Result<Summary, ServeError>,
+    ) {
+        self.remarks.lock(rt).outcome = Some(outcome);
+        if self.has_thread.load(Ordering::SeqCst) {
+            self.speaking.unpark();
+            let waiting = self.waiting.lock(rt);
+            waiting.park_timeout(rt, Duration::from_millis(ENDING_TIME_MS));
+        } else {
+            say_end(rt, &outcome, self.counts(rt));
+        }
+    }
+
+    /// Takes what is to be said.
+    fn next(&self, rt: &impl Wait) -> Notices {
+        let mut remarks = self.remarks.lock(rt);
+        let due = *remarks;
+        remarks.take();
+        due
+    }
+
+    /// Whether the server ended.
+    fn has_ended(&self, rt: &impl Wait) -> bool {
+        self.remarks.lock(rt).outcome.is_some()
+    }
+
+    /// Waits for a while, or until the server ends.
+    fn pause(&self, rt: &(impl Wait + Clock), parker: &Parker) {
+        let begun = Instant::now(rt).ok();
+        for _ in rt.forever() {
+            if has_paused(rt, &begun) || self.has_ended(rt) {
+                break;
+            }
+            parker.park_timeout(rt, Duration::from_millis(PAUSE_MS));
+        }
+    }
+
+    /// Says what the others leave here, until the server ends.
+    fn run(&self, rt: &(impl Wait + Clock + Eprint), parker: &Parker, slots: u32) {
+        for _ in rt.forever() {
+            let remarks = self.next(rt);
+            say_due(rt, &remarks, slots);
+            if let Some(outcome) = &remarks.outcome {
+                say_end(rt, outcome, remarks.counts);
+                self.spoken.unpark();
+                break;
+            }
+            if remarks.is_due {
+                self.pause(rt, parker);
+            } else {
+                parker.park(rt);
+            }
+        }
+    }
+}
+
+/// Whether the pause that began then is over. Where the clock can't be read, it is.
+fn has_paused(rt: &impl Clock, begun: &Option<Instant>) -> bool {
+    match begun {
+        Some(begun) => match begun.elapsed(rt) {
+            Ok(elapsed) => elapsed >= Duration::from_millis(PAUSE_MS),
+            Err(_) => true,
+        },
+        None => true,
+    }
+}
+
+/// Says what is due. Where standard error fails, there is nobody to tell.
+fn say_due(rt: &impl Eprint, remarks: &Notices, slots: u32) {
+    for (kind, peer) in remarks.types() {
+        say_type(rt, *kind, peer);
+    }
+    say_troubles(rt, &remarks.troubles, slots);
+}
+
+/// Says that a packet of this type came, which is no request.
+fn say_type(rt: &impl Eprint, kind: u32, peer: &Option<SocketAddr>) {
+    let name = match kind {
+        35 => " (SUBMIT_JOB_SCHED)",
+        36 => " (SUBMIT_JOB_EPOCH)",
+        37 => " (SUBMIT_REDUCE_JOB)",
+        38 => " (SUBMIT_REDUCE_JOB_BACKGROUND)",
+        39 => " (GRAB_JOB_ALL)",
+        41 => " (GET_STATUS_UNIQUE)",
+        _ => "",
+    };
+    let _ = match peer {
+        Some(peer) => {
+            eprintln!(rt; "gmd: {peer} sent a packet of type {kind}{name}, which gmd doesn't serve")
+        }
+        None => eprintln!(rt; "gmd: a packet of type {kind}{name} came, which gmd doesn't serve"),
+    };
+}
+
+/// Says which troubles are due.
+fn say_troubles(rt: &impl Eprint, troubles: &[Remark; TROUBLES], slots: u32) {
+    for (at, remark) in troubles.iter().enumerate() {
+        if let Some((count, error)) = remark.due() {
+            say_trouble(rt, at, count, error, slots);
+        }
+    }
+}
+
+/// Says one, by its place.
+fn say_trouble(rt: &impl Eprint, at: usize, count: u64, error: i32, slots: u32) {
+    let error = Error::from_raw_os_error(error);
+    let _ = match at {
+        0 => eprintln!(rt; "gmd: all {slots} slots are taken, connections are refused: {count}"),
+        1 => eprintln!(rt; "gmd: out of memory, connections are refused: {count}"),
+        2 => eprintln!(rt; "gmd: out of threads, connections are refused: {count}"),
+        3 => eprintln!(rt; "gmd: can't wait for more, connections are refused: {count}: {error}"),
+        4 => eprintln!(rt; "gmd: out of memory, connections are cut: {count}"),
+        5 => eprintln!(rt; "gmd: out of file descriptors, connections wait: {error}"),
+        6 => eprintln!(rt; "gmd: connections wait: {error}"),
+        _ => eprintln!(rt; "gmd: can't tell systemd how it is: {error}"),
+    };
+}
+
+/// Says how the server ended.
+fn say_end(rt: &impl Eprint, outcome: &Result<Summary, ServeError>, counts: Counts) {
+    let Counts {
+        refused,
+        cut,
+        faulty,
+        timed_out,
+    } = counts;
+    if refused.max(cut).max(faulty).max(timed_out) > 0 {
+        let _ = eprintln!(rt;
+            "gmd: connections refused: {refused}, cut: {cut}, with faults: {faulty}, timed out: {timed_out}"
+        );
+    }
+    match outcome {
+        Ok(
+            Summary {
+                connections,
+                entries,
+            },
+        ) => {
+            let _ = eprintln!(rt; "gmd: ended, connections served: {connections}");
+            if *entries > 0 {
+                let _ = eprintln!(rt;
+                    "gmd: the tape agrees with what the connections were told, entries: {entries}"
+                );
+            }
+        }
+        Err(error) => {
+            let _ = eprintln!(rt; "gmd: {error}");
+        }
+    }
+}

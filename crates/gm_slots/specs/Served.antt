@@ -1,0 +1,59 @@
+-- How a server ended.
+use Rattle.std.specs.Prelude.{◌≡◌, ℕ, Bool, if◌then◌else◌, List, [], map, reverse, Result, Ok, Err, vec_len}
+use Rattle.atomic_table.specs.Seated.{TableId}
+use Rattle.gm_notes.specs.Settings.{Settings as BookSettings}
+use Rattle.gm_shared.specs.declared.settling.Settled.{Settled}
+use Rattle.gm_shared.specs.declared.tape.Share.{Share}
+use Rattle.gm_shared.specs.declared.settling.SettleError.{SettleError}
+use Rattle.gm_shared.specs.declared.settling.SettleError.TheVariants as of_book
+use Rattle.gm_shared.specs.Tapes.{AddUp, steps_of, Legal}
+use Rattle.gm_shared.specs.Shared.{told_by, everybody}
+use Rattle.gm_core.specs.Holds.{CoreAgrees}
+use Rattle.gm_promise.specs.Owners.{AreOwn}
+use Rattle.gm_promise.specs.declared.account.Account.{Account}
+use Rattle.gm_promise.specs.Accounts.{AreAccounted}
+use Rattle.gm_report.specs.declared.error.ServeError.{ServeError}
+use Rattle.gm_report.specs.declared.error.ServeError.TheVariants as errors
+use Rattle.gm_report.specs.Statuses.{summary_status}
+use Rattle.gm_slots.specs.declared.served.Served.{Served}
+use Rattle.gm_report.specs.declared.summary.Summary.{Summary}
+
+-- Everybody's share is there.
+abbrev pub HasEverybody : BookSettings → Settled → Type 0
+HasEverybody k settled = map (λ (share : Share). share.actor) settled.shares.items ≡ everybody k.slots
+
+-- A server ended with the history of this book, which is legal, and in which each entry is its desk's or pen's own. The core is what it leads to,
+-- and the tape, where one was kept, is it. The shares add up with the tape, and none is missing. Each connection was served as it says.
+pub record IsWhole (k : BookSettings) (taped : Bool) (history : TableId) (settled : Settled) (accounts : List Account) : Type 0 where
+  pub of : settled.history.table ≡ history
+  pub legal : Legal k settled.history.log
+  pub agrees : CoreAgrees settled.core k (steps_of settled.history.log)
+  pub own : AreOwn settled.history.log
+  pub tape : settled.tape.items ≡ (if taped then reverse settled.history.log else [])
+  pub up : AddUp settled.tape.items (map told_by settled.shares.items)
+  pub everybody : HasEverybody k settled
+  pub accounted : AreAccounted k settled.history.log accounts
+
+-- A share is missing.
+abbrev pub LacksAShare : BookSettings → Settled → Type 0
+LacksAShare k settled = HasEverybody k settled → ⊥
+
+-- how a book with this history was settled, with the accounts of its slots, or that it couldn't be
+abbrev pub SettledSo : BookSettings → Bool → TableId → Result Settled SettleError → List Account → Type 0
+SettledSo k taped history (Ok settled) accounts = IsWhole k taped history settled accounts
+SettledSo k taped history (Err of_book.Memory) accounts = Unit {0}
+SettledSo k taped history (Err (of_book.Differs settled)) accounts = LacksAShare k settled
+
+-- a server with these settings served, and its book was settled so: the one history is that which is handed out
+abbrev pub EndsSo : BookSettings → Bool → Served → Type 0
+EndsSo k taped served = (history : TableId) × SettledSo k taped history served.book served.accounts.items
+
+-- what is said of that: how many entries its tape has
+abbrev pub summary_of : ℕ → Result Settled SettleError → Result Summary ServeError
+summary_of connections (Ok settled) = Ok (record { connections = connections; entries = vec_len settled.tape })
+summary_of connections (Err of_book.Memory) = Err errors.Memory
+summary_of connections (Err (of_book.Differs settled)) = Err errors.Differs
+
+-- the status that a program ends with whose server served so
+abbrev pub served_status : Served → ℕ
+served_status served = summary_status (summary_of served.connections served.book)

@@ -1,0 +1,129 @@
+//! The end of a server: its book is settled, and everybody's share is there.
+
+ghost use Rattle.std.specs.Prelude.{◌≡◌, Bool, List, [], ◌∷◌, IfOk, MatchBool, All, map, length, true};
+ghost use Rattle.atomic_table.specs.Seated.{TableId};
+ghost use Rattle.gm_notes.specs.Settings.{Settings as BookSettings};
+ghost use Rattle.gm_shared.specs.declared.tape.Actor.TheVariants as actors;
+ghost use Rattle.gm_shared.specs.Shared.{everybody, numbers_below};
+ghost use Rattle.gm_session.specs.Owners.{SaysOwn};
+ghost use Rattle.gm_promise.specs.declared.account.Account.{Account};
+ghost use Rattle.gm_promise.specs.Accounts.{AreAccounts};
+ghost use Rattle.gm_slots.specs.Served.{HasEverybody, IsWhole, SettledSo};
+
+use crate::served::Served;
+use crate::slot::{Slot, SlotParts};
+use gm_promise::Account;
+use gm_session::OwnDesk;
+use gm_shared::{Actor, BookName, Desk, Pen, SettleError, Settled, Share, Shared, settle};
+use std::alloc::{AllocError, Global};
+
+/// All that have a share in a book with this number of slots, in order: the desks, the control desk, the pens.
+fn everybody(alloc: Global, slots: u32) -> Result<Vec<Actor>, AllocError>
+    ensures { IfOk result (λ actors. actors.items ≡ everybody slots) }
+{
+    let mut actors = Vec::new(alloc);
+    for number in 0..slots {
+        actors.push(Actor::Desk(number))?;
+    }
+    actors.push(Actor::Desk(slots))?;
+    for slot in 0..slots {
+        actors.push(Actor::Pen(slot))?;
+    }
+    Ok(actors)
+}
+
+/// Whether these are the shares of these actors, in their order.
+fn are_of(shares: &[Share], actors: &[Actor]) -> bool
+    ensures { MatchBool result (map (λ share. share.actor) shares.now ≡ actors.now) (map (λ share. share.actor) shares.now ≡ actors.now → ⊥) }
+{
+    let mut rest = actors;
+    for share in shares {
+        let Some((actor, more)) = rest.split_first() else {
+            return false;
+        };
+        if !share.actor.is(*actor) {
+            return false;
+        }
+        rest = more;
+    }
+    rest.is_empty()
+}
+
+/// What slots were given, and the accounts of their connections.
+#[derive(Drop)]
+struct AllParts<K: BookName> {
+    desks: Vec<Desk<K>>,
+    pens: Vec<Pen<K>>,
+    accounts: Vec<Account>,
+}
+
+/// Takes out of slots what each was given, and adds the control desk to the desks.
+fn all_parts<K: BookName>(
+    alloc: Global,
+    slots: Vec<Slot<K>>,
+    control: OwnDesk<K>,
+) -> Result<AllParts<K>, AllocError>
+    ensures own { IfOk result (λ all. All (λ desk. SaysOwn desk.number desk.witness.seen) all.desks.items) }
+    ensures accounts { IfOk result (λ all. AreAccounts (map (λ desk. (desk.number, desk.witness.seen)) all.desks.items)
+        (map (λ pen. (pen.slot, pen.witness.seen, pen.seat.takes)) all.pens.items) all.accounts.items) }
+    ensures all { IfOk result (λ all. length all.accounts.items ≡ length slots.items) }
+{
+    let mut desks = Vec::with_capacity(alloc, slots.len())?;
+    let mut pens = Vec::with_capacity(alloc, slots.len())?;
+    let mut accounts = Vec::with_capacity(alloc, slots.len())?;
+    for slot in slots {
+        let SlotParts { desk, pen, account } = slot.into_parts();
+        desks.push(desk.into_desk())?;
+        pens.push(pen)?;
+        accounts.push(account)?;
+    }
+    desks.push(control.into_desk())?;
+    Ok(AllParts {
+        desks,
+        pens,
+        accounts,
+    })
+}
+
+/// A book that is settled, if everybody's share is there.
+fn with_everybody(settled: Settled, actors: &[Actor]) -> Result<Settled, SettleError>
+    ensures { (k : BookSettings) (taped : Bool) (history : TableId) (accounts : List Account) → actors.now ≡ everybody k.slots
+        → (HasEverybody k settled → IsWhole k taped history settled accounts) → SettledSo k taped history result accounts }
+{
+    if are_of(settled.shares.as_slice(), actors) {
+        Ok(settled)
+    } else {
+        Err(SettleError::Differs(settled))
+    }
+}
+
+/// Settles the book of a server once no thread has any part of it: what its slots and its control desk were given comes back.
+/// This many connections were opened.
+pub fn settle_slots<K: BookName>(
+    alloc: Global,
+    shared: Shared<K>,
+    slots: Vec<Slot<K>>,
+    slot_count: u32,
+    control: OwnDesk<K>,
+    connections: u64,
+) -> Result<Served, AllocError>
+    requires sized { slot_count ≡ K.settings.slots }
+    requires numbered { map (λ slot. slot.lane.slot) slots.items ≡ numbers_below slot_count }
+    ensures { IfOk result (λ served. SettledSo K.settings K.taped K.history served.book served.accounts.items) }
+{
+    let actors = everybody(alloc, slot_count)?;
+    let AllParts {
+        desks,
+        pens,
+        accounts,
+    } = all_parts(alloc, slots, control)?;
+    let book = match settle(alloc, shared, desks, pens) {
+        Ok(settled) => with_everybody(settled, actors.as_slice()),
+        Err(error) => Err(error),
+    };
+    Ok(Served {
+        connections,
+        book,
+        accounts,
+    })
+}

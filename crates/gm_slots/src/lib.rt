@@ -1,0 +1,11 @@
+//! What a server has of each of its slots, and how its book is settled in the end: everybody's share is there, and each
+//! connection has its account.
+#![tactic(auto)]
+
+mod ending;
+mod served;
+mod slot;
+
+pub use ending::settle_slots;
+pub use served::Served;
+pub use slot::{Slot, new_slots};

@@ -1,0 +1,77 @@
+//! What a slot has of its own.
+
+ghost use Rattle.std.specs.Prelude.{◌≡◌, [], All, IfOk, length, map};
+ghost use Rattle.gm_promise.specs.Accounts.{IsAccount};
+
+use gm_delivery::{Lane, ReadHalf};
+use gm_feeder::Limits;
+use gm_promise::Account;
+use gm_session::{OwnDesk, Talk};
+use gm_shared::{BookName, Desk, Pen};
+use std::alloc::{AllocError, Global};
+use std::net::SocketAddr;
+use std::sync::Mutex;
+
+/// What a slot has of its own.
+#[derive(Drop)]
+pub struct Slot<K: BookName> {
+    /// What its connection says. The thread that reads from it has it meanwhile.
+    pub talk: Mutex<Talk<K, ReadHalf>>,
+    /// What its connection is sent.
+    pub lane: Lane<K>,
+    /// Its connection's peer.
+    pub peer: Mutex<Option<SocketAddr>>,
+}
+
+/// What was given to a slot, and the account of its connections.
+#[derive(Drop)]
+pub(crate) struct SlotParts<K: BookName> {
+    pub(crate) desk: OwnDesk<K>,
+    pub(crate) pen: Pen<K>,
+    pub(crate) account: Account,
+}
+
+impl<K: BookName> Slot<K> {
+    /// What was given to the slot, and the account of its connections.
+    pub(crate) fn into_parts(self) -> SlotParts<K>
+        ensures { IsAccount (result.desk.desk.number, result.desk.desk.witness.seen) (result.pen.slot, result.pen.witness.seen, result.pen.seat.takes)
+            result.account.limits result.account.heard result.account.sent }
+    {
+        let Slot { talk, lane, .. } = self;
+        let (desk, limits, heard) = talk.into_inner().into_parts();
+        let (pen, sent) = lane.into_parts();
+        let account = Account {
+            limits,
+            heard,
+            sent,
+        };
+        SlotParts { desk, pen, account }
+    }
+}
+
+/// What each slot has of its own, in their order.
+pub fn new_slots<K: BookName>(
+    alloc: Global,
+    desks: Vec<Desk<K>>,
+    pens: Vec<Pen<K>>,
+    limits: Limits,
+) -> Result<Vec<Slot<K>>, AllocError>
+    requires nothing_seen { All (λ desk. desk.witness.seen ≡ []) desks.items }
+    requires nothing_given { All (λ pen. (pen.witness.seen ≡ []) × (pen.seat.takes ≡ 0)) pens.items }
+    requires paired { length desks.items ≡ length pens.items }
+    ensures { IfOk result (λ slots. map (λ slot. slot.lane.slot) slots.items ≡ map (λ pen. pen.slot) pens.items) }
+{
+    let mut slots = Vec::with_capacity(alloc, pens.len())?;
+    let mut desks_left = desks.into_iter();
+    for pen in pens {
+        let Some(desk) = desks_left.next() else {
+            unreachable!()
+        };
+        slots.push(Slot {
+            talk: Mutex::new(Talk::new(alloc, desk, limits)?),
+            lane: Lane::new(alloc, pen)?,
+            peer: Mutex::new(None),
+        })?;
+    }
+    Ok(slots)
+}
