@@ -18,9 +18,9 @@ use Rattle.gm_notes.specs.declared.states.Mode.TheVariants.{Running, Graceful, S
 use Rattle.gm_notes.specs.Steps.{Step, Open, Close, Fault, refusal, made_since, unless, unless_not_open, opening, free_from}
 use Rattle.gm_notes.specs.Steps.{free_slot, if_accepted}
 use Rattle.gm_notes.specs.Steps.{add, run}
-use Rattle.gm_laws.specs.Causes.{Caused, AllCaused}
-use Rattle.gm_laws.proofs.StepLaws.{caused}
-use Rattle.gm_laws.proofs.StepsKeep.{run_history}
+use Rattle.gm_history.specs.Causes.{Caused, AllCaused}
+use Rattle.gm_history.proofs.Caused.{caused}
+use Rattle.gm_history.proofs.StepsKeep.{run_history}
 use Rattle.gm_front.specs.Units.{step_of_unit}
 use Rattle.gm_front.specs.Inputs.{unless_refused, handed_in, with_units, with_fault, created_since}
 

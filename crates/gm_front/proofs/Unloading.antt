@@ -10,7 +10,7 @@ use Rattle.gm_notes.specs.declared.event.UnitFault.{UnitFault}
 use Rattle.gm_notes.specs.Settings.{Settings}
 use Rattle.gm_notes.specs.Notes.{takes_units}
 use Rattle.gm_notes.specs.Steps.{Step, Fault, refusal, run}
-use Rattle.gm_laws.proofs.StepsKeep.{takes_open}
+use Rattle.gm_history.proofs.StepsKeep.{takes_open}
 use Rattle.gm_front.specs.declared.feeding.Unloaded.{Unloaded}
 use Rattle.gm_front.specs.Units.{step_of_unit, Stands, BeginsWith, GivesEvent, GivesFaultAs}
 use Rattle.gm_front.specs.Inputs.{handed_in, with_units, created_since}

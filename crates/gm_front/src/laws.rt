@@ -8,7 +8,7 @@ ghost use Rattle.gm_notes.specs.Settings.{Settings};
 ghost use Rattle.gm_notes.specs.Notes.{is_open};
 ghost use Rattle.gm_notes.specs.Steps.{free_slot};
 ghost use Rattle.gm_notes.specs.Steps.{run};
-ghost use Rattle.gm_laws.specs.Laws.{SentSo};
+ghost use Rattle.gm_history.specs.Laws.{SentSo};
 ghost use Rattle.gm_front.specs.Inputs.{Input, Opens, Gives, Reading, LeadsTo, Reads, refusal_of};
 
 /// Inputs spell one list of steps, and one rest for each slot.

@@ -21,16 +21,17 @@ use Rattle.gm_notes.specs.Submissions.{is_bad_name, is_one_too_many}
 use Rattle.gm_notes.specs.Workers.{wake_if, can_do, cant_do}
 use Rattle.gm_notes.specs.Requests.{first, request, packet_of}
 use Rattle.gm_notes.specs.Steps.{Step, Packet, step, run}
-use Rattle.gm_laws.specs.History.{Allowed, History}
-use Rattle.gm_laws.specs.Causes.{Caused, Asks, seconds_of, closes}
-use Rattle.gm_laws.specs.Waiting.{is_able_within}
+use Rattle.gm_history.specs.History.{Allowed, History}
+use Rattle.gm_history.specs.Causes.{Caused, Asks, seconds_of, closes}
+use Rattle.gm_history.specs.History.{is_able_within}
 use Rattle.gm_laws.specs.Abilities.{Enables, Disables, IsError, AbilitiesCome, AbilitiesAreAsAsked}
-use Rattle.gm_laws.proofs.Asking.{packet_does}
-use Rattle.gm_laws.proofs.Finding.{same_number}
+use Rattle.gm_history.proofs.Asking.{packet_does}
+use Rattle.gm_history.proofs.Finding.{same_number}
 use Rattle.gm_laws.proofs.JobLaws.{is_same}
 use Rattle.gm_laws.proofs.Moving.{both_not}
-use Rattle.gm_laws.proofs.StepsKeep.{run_history}
-use Rattle.gm_laws.proofs.StepLaws.{note_law, taken_is}
+use Rattle.gm_history.proofs.StepsKeep.{run_history}
+use Rattle.gm_history.proofs.Caused.{note_law}
+use Rattle.gm_laws.proofs.StepLaws.{taken_is}
 
 -- ---- abilities in lists
 

@@ -20,16 +20,17 @@ use Rattle.gm_notes.specs.Closings.{is_reached, expire_one, expire_each, rising,
 use Rattle.gm_notes.specs.Workers.{tell_work, work}
 use Rattle.gm_notes.specs.Requests.{first, second, ending, request, packet_of}
 use Rattle.gm_notes.specs.Steps.{Step, Packet, Tick, refusal, step, run}
-use Rattle.gm_laws.specs.History.{Allowed, History}
-use Rattle.gm_laws.specs.Causes.{Caused, Ends, is_request, is_ending, is_grab, is_submission, is_closing}
+use Rattle.gm_history.specs.History.{Allowed, History}
+use Rattle.gm_history.specs.Causes.{Caused, Ends, is_request, is_ending, is_grab, is_submission, is_closing}
 use Rattle.gm_laws.specs.Laws.{has_place, WorkersAndClocksEndJobs}
-use Rattle.gm_laws.proofs.Asking.{packet_does, asked_kind, asks_some, apart_requests, made_request}
-use Rattle.gm_laws.proofs.Finding.{same_number}
+use Rattle.gm_history.proofs.Asking.{packet_does, asked_kind, asks_some, apart_requests, made_request}
+use Rattle.gm_history.proofs.Finding.{same_number}
 use Rattle.gm_laws.proofs.JobLaws.{is_same, running_place}
 use Rattle.gm_laws.proofs.Passing.{works_does}
-use Rattle.gm_laws.proofs.StepsKeep.{takes_open, run_history}
-use Rattle.gm_laws.proofs.StepLaws.{note_law, taken_is}
-use Rattle.gm_laws.proofs.Keeping.{tell_all_notes}
+use Rattle.gm_history.proofs.StepsKeep.{takes_open, run_history}
+use Rattle.gm_history.proofs.Caused.{note_law}
+use Rattle.gm_laws.proofs.StepLaws.{taken_is}
+use Rattle.gm_history.proofs.Keeping.{tell_all_notes}
 use Rattle.gm_laws.proofs.Moving.{from, In, not_both, both_not, placed_rises}
 
 -- ---- a tick

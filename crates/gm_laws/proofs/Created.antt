@@ -25,17 +25,17 @@ use Rattle.gm_notes.specs.Texts.{spaced}
 use Rattle.gm_notes.specs.Submissions.{Submission, is_bad_name, is_one_too_many, is_full, keep_or_listen, make, join_or_make, submit}
 use Rattle.gm_notes.specs.Requests.{first, second, third, submission, request, packet_of}
 use Rattle.gm_notes.specs.Steps.{Packet, step, run}
-use Rattle.gm_laws.specs.History.{History}
-use Rattle.gm_laws.specs.Causes.{is_foreground, is_background, is_submission, priority_of, JustQueues}
-use Rattle.gm_laws.specs.Laws.{InEachStep}
-use Rattle.gm_laws.specs.Listeners.{listens}
+use Rattle.gm_history.specs.History.{History}
+use Rattle.gm_history.specs.Causes.{is_foreground, is_background, is_submission, priority_of, JustQueues}
+use Rattle.gm_history.specs.Laws.{InEachStep}
+use Rattle.gm_history.specs.Hearing.{listens}
 use Rattle.gm_laws.specs.Submitted.{IsJoined, JoinsNone, IsNew, KeepsOrListens, IsCreated, HasNoRoom, HasBadName, IsRefused, SubmissionsAreAnswered}
-use Rattle.gm_laws.proofs.Asking.{packet_does}
-use Rattle.gm_laws.proofs.Finding.{joined_is, same_number}
+use Rattle.gm_history.proofs.Asking.{packet_does}
+use Rattle.gm_history.proofs.Finding.{joined_is, same_number}
 use Rattle.gm_laws.proofs.JobLaws.{is_same, none_joins, unmade}
-use Rattle.gm_laws.proofs.Keeping.{kept_if, counted}
+use Rattle.gm_history.proofs.Keeping.{kept_if, counted}
 use Rattle.gm_laws.proofs.Moving.{from, wake_each_notes}
-use Rattle.gm_laws.proofs.StepsKeep.{run_history}
+use Rattle.gm_history.proofs.StepsKeep.{run_history}
 use Rattle.gm_laws.proofs.StepLaws.{taken_is}
 use Rattle.gm_laws.proofs.Unmade.{unmade_is}
 

@@ -19,20 +19,21 @@ use Rattle.gm_notes.specs.Past.{Past, with_note, tell_all}
 use Rattle.gm_notes.specs.Closings.{rising, is_reached, expire_one, expire_each, tick}
 use Rattle.gm_notes.specs.Requests.{packet_of}
 use Rattle.gm_notes.specs.Steps.{Step, Packet, Tick, unless, unless_not_open, run, step}
-use Rattle.gm_laws.specs.History.{History}
-use Rattle.gm_laws.specs.Causes.{Ends, is_ending}
+use Rattle.gm_history.specs.History.{History}
+use Rattle.gm_history.specs.Causes.{Ends, is_ending}
 use Rattle.gm_laws.specs.Laws.{has_place}
-use Rattle.gm_laws.specs.Listeners.{outputs, Queues, copies, listens, hears, passed_on, TellsEnd, EachListenerIsTold}
-use Rattle.gm_laws.proofs.Finding.{same_number}
+use Rattle.gm_laws.specs.Listeners.{outputs, Queues, copies, hears, TellsEnd, EachListenerIsTold}
+use Rattle.gm_history.specs.Hearing.{listens, passed_on}
+use Rattle.gm_history.proofs.Finding.{same_number}
 use Rattle.gm_laws.proofs.JobLaws.{is_same, running_place}
-use Rattle.gm_laws.proofs.Keeping.{tell_all_notes}
+use Rattle.gm_history.proofs.Keeping.{tell_all_notes}
 use Rattle.gm_laws.proofs.Moving.{from, both_not}
 use Rattle.gm_laws.proofs.Handles.{same_handle, fail_handle, placed_small}
 use Rattle.gm_laws.proofs.Outputs.{told, copies_append, copies_same, copies_other}
-use Rattle.gm_laws.proofs.Asking.{asked_kind}
+use Rattle.gm_history.proofs.Asking.{asked_kind}
 use Rattle.gm_laws.proofs.Passing.{passed}
 use Rattle.gm_laws.proofs.StepLaws.{ends}
-use Rattle.gm_laws.proofs.StepsKeep.{run_history}
+use Rattle.gm_history.proofs.StepsKeep.{run_history}
 
 -- ---- by a packet
 

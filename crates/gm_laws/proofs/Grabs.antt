@@ -18,10 +18,11 @@ use Rattle.gm_notes.specs.Past.{Past, with_note}
 use Rattle.gm_notes.specs.Workers.{wake_itself, deadline_after, give_out, grab}
 use Rattle.gm_notes.specs.Requests.{packet_of}
 use Rattle.gm_notes.specs.Steps.{run}
-use Rattle.gm_laws.specs.Causes.{is_one_of, is_grab}
-use Rattle.gm_laws.specs.Waiting.{is_able_within, IsDeadline, HasNoWork, IsGiven, NoJobMeansNoWork}
-use Rattle.gm_laws.proofs.Finding.{pick_found, waiting_is, job_of, same_number}
-use Rattle.gm_laws.proofs.Keeping.{kept_if}
+use Rattle.gm_history.specs.Causes.{is_one_of, is_grab}
+use Rattle.gm_history.specs.History.{is_able_within}
+use Rattle.gm_laws.specs.Waiting.{IsDeadline, HasNoWork, IsGiven, NoJobMeansNoWork}
+use Rattle.gm_history.proofs.Finding.{pick_found, waiting_is, job_of, same_number}
+use Rattle.gm_history.proofs.Keeping.{kept_if}
 use Rattle.gm_laws.proofs.Moving.{both_not}
 use Rattle.gm_laws.proofs.StepLaws.{assigned_notes, taken_is}
 use Rattle.gm_laws.proofs.Waiting.{no_pick}

@@ -13,7 +13,7 @@ use Rattle.gm_packet.specs.Answers.{answer_packet, work_fail}
 use Rattle.gm_notes.specs.declared.note.Note.{Note}
 use Rattle.gm_notes.specs.Settings.{Settings}
 use Rattle.gm_notes.specs.Jobs.{job_state, made, handle, is_handle, job_of_handle}
-use Rattle.gm_laws.specs.History.{History}
+use Rattle.gm_history.specs.History.{History}
 use Rattle.gm_laws.specs.Laws.{AreNumbers, has_place}
 use Rattle.gm_laws.proofs.NumberLaws.{numbers}
 use Rattle.gm_laws.proofs.JobLaws.{is_same, places}

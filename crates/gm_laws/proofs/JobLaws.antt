@@ -14,10 +14,10 @@ use Rattle.gm_notes.specs.Jobs.{Job, job_state, job, is_job_named, joins, joined
 use Rattle.gm_notes.specs.JobStates.{JobState, is_live, is_waiting, is_running}
 use Rattle.gm_notes.specs.JobStates as states
 use Rattle.gm_notes.specs.Steps.{Step, run}
-use Rattle.gm_laws.specs.History.{runs_at_a_slot, Allowed, History}
+use Rattle.gm_history.specs.History.{runs_at_a_slot, Allowed, History}
 use Rattle.gm_laws.specs.Laws.{AreNumbers, is_made, has_place, HavePlaces, is_live_named, AreOne, is_gone, StayGone}
-use Rattle.gm_laws.proofs.StepsKeep.{step_keeps, run_history}
-use Rattle.gm_laws.proofs.Keeping.{keeps_notes, slot_runs}
+use Rattle.gm_history.proofs.StepsKeep.{step_keeps, run_history}
+use Rattle.gm_history.proofs.Keeping.{keeps_notes, slot_runs}
 use Rattle.gm_laws.proofs.NumberLaws.{next_is, numbers}
 
 -- ---- numbers that are equal or not

@@ -24,18 +24,19 @@ use Rattle.gm_notes.specs.JobStates.{JobState, is_live}
 use Rattle.gm_notes.specs.JobStates as states
 use Rattle.gm_notes.specs.Past.{Past, with_note, with_output, with_mention}
 use Rattle.gm_notes.specs.Steps.{Step, Line, step, run}
-use Rattle.gm_laws.specs.History.{Allowed, History}
-use Rattle.gm_laws.specs.Causes.{Caused, Commands, is_request, is_submission}
+use Rattle.gm_history.specs.History.{Allowed, History}
+use Rattle.gm_history.specs.Causes.{Caused, Commands, is_request, is_submission}
 use Rattle.gm_laws.specs.Laws.{has_place}
 use Rattle.gm_laws.specs.Limits.{MaxqueueIsAnswered, LimitsHold}
-use Rattle.gm_laws.proofs.Finding.{same_number}
-use Rattle.gm_laws.proofs.Asking.{made_request}
+use Rattle.gm_history.proofs.Finding.{same_number}
+use Rattle.gm_history.proofs.Asking.{made_request}
 use Rattle.gm_laws.proofs.JobLaws.{is_same, places, unmade, slot_live, waiting_live, running_live, discarded_live}
 use Rattle.gm_laws.proofs.Moving.{from, both_not}
 use Rattle.gm_laws.proofs.Sleepers.{fewer, filtered_if, put_other}
-use Rattle.gm_laws.proofs.StepsKeep.{run_history}
+use Rattle.gm_history.proofs.StepsKeep.{run_history}
 use Rattle.gm_laws.proofs.Created.{mention_flow}
-use Rattle.gm_laws.proofs.StepLaws.{note_law, taken_is}
+use Rattle.gm_history.proofs.Caused.{note_law}
+use Rattle.gm_laws.proofs.StepLaws.{taken_is}
 
 -- ---- counts
 

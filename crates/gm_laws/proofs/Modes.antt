@@ -20,16 +20,17 @@ use Rattle.gm_notes.specs.Lines.{shut_one, shut_each, go_graceful, shutdown, com
 use Rattle.gm_admin.specs.Answers.{ok_text}
 use Rattle.gm_notes.specs.Steps.{Step, Open, Line, Fault, free_from, free_slot, opening, if_free, if_accepted, unless, add, step, run}
 use Rattle.gm_notes.specs.Steps.{unless_not_open}
-use Rattle.gm_laws.specs.History.{progress, Allowed, History}
-use Rattle.gm_laws.specs.Causes.{Caused, Commands, closes}
+use Rattle.gm_history.specs.History.{progress, Allowed, History}
+use Rattle.gm_history.specs.Causes.{Caused, Commands, closes}
 use Rattle.gm_laws.specs.Laws.{ModesNeverGoBack}
-use Rattle.gm_laws.proofs.Finding.{same_number}
+use Rattle.gm_history.proofs.Finding.{same_number}
 use Rattle.gm_laws.proofs.JobLaws.{is_same}
-use Rattle.gm_laws.proofs.Keeping.{kept_if}
+use Rattle.gm_history.proofs.Keeping.{kept_if}
 use Rattle.gm_laws.proofs.Moving.{from, In, slot_in, both_not}
 use Rattle.gm_laws.proofs.NumberLaws.{slots}
-use Rattle.gm_laws.proofs.StepsKeep.{step_history, run_history}
-use Rattle.gm_laws.proofs.StepLaws.{note_law, taken_is}
+use Rattle.gm_history.proofs.StepsKeep.{step_history, run_history}
+use Rattle.gm_history.proofs.Caused.{note_law}
+use Rattle.gm_laws.proofs.StepLaws.{taken_is}
 
 -- ---- the mode
 

@@ -15,11 +15,11 @@ use Rattle.gm_notes.specs.JobStates.{JobState}
 use Rattle.gm_notes.specs.Past.{Past, with_note, wake_one, wake_each}
 use Rattle.gm_notes.specs.Closings.{rising}
 use Rattle.gm_notes.specs.Steps.{Step, Close}
-use Rattle.gm_laws.specs.History.{History}
+use Rattle.gm_history.specs.History.{History}
 use Rattle.gm_laws.specs.Laws.{has_place}
-use Rattle.gm_laws.specs.Causes.{is_closing}
+use Rattle.gm_history.specs.Causes.{is_closing}
 use Rattle.gm_laws.proofs.JobLaws.{is_same, places}
-use Rattle.gm_laws.proofs.Keeping.{kept_if}
+use Rattle.gm_history.proofs.Keeping.{kept_if}
 
 -- a job that a note moves to new: it is at new, or where it was
 pub moved : (n m : ℕ) (new old target : JobState) (t : Bool) → (n == m) ≡ t → unwrap_or (cond t (Some new) None) old ≡ target → ((n ≡ m) × (new ≡ target)) ⊎ (((n == m) ≡ false) × (old ≡ target))

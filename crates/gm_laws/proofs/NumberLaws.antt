@@ -10,7 +10,7 @@ use Rattle.gm_notes.specs.declared.note.Note.TheVariants.{Opened, Closed, Made}
 use Rattle.gm_notes.specs.Settings.{Settings}
 use Rattle.gm_notes.specs.Notes.{is_open}
 use Rattle.gm_notes.specs.Jobs.{made, next_number}
-use Rattle.gm_laws.specs.History.{History}
+use Rattle.gm_history.specs.History.{History}
 use Rattle.gm_laws.specs.Laws.{AreNumbers, AreSlots}
 
 -- ---- numbers

@@ -25,15 +25,16 @@ use Rattle.gm_notes.specs.Workers.{tell_work, work_on}
 use Rattle.gm_notes.specs.Closings.{rising, is_reached, expire_one, expire_each, tick}
 use Rattle.gm_notes.specs.Requests.{packet_of, first, second, ending, request, request_if_read}
 use Rattle.gm_notes.specs.Steps.{Step, Packet, Tick, unless_not_open, run, step}
-use Rattle.gm_laws.specs.History.{History}
-use Rattle.gm_laws.specs.Causes.{IsOfEnd, is_request, is_ending, is_tick, is_one_of}
-use Rattle.gm_laws.specs.Listeners.{outputs, Queues, copies, listens, TellsEnd, OnlyEndsAreTold}
-use Rattle.gm_laws.proofs.Finding.{same_number, found_passes}
-use Rattle.gm_laws.proofs.Keeping.{tell_all_notes, slot_runs, runs_somewhere}
-use Rattle.gm_laws.proofs.Sayings.{error_other}
+use Rattle.gm_history.specs.History.{History}
+use Rattle.gm_history.specs.Causes.{IsOfEnd, is_request, is_ending, is_tick, is_one_of}
+use Rattle.gm_laws.specs.Listeners.{outputs, Queues, copies, TellsEnd, OnlyEndsAreTold}
+use Rattle.gm_history.specs.Hearing.{listens}
+use Rattle.gm_history.proofs.Finding.{same_number, found_passes}
+use Rattle.gm_history.proofs.Keeping.{tell_all_notes, slot_runs, runs_somewhere}
+use Rattle.gm_history.proofs.Sayings.{error_other}
 use Rattle.gm_laws.proofs.Outputs.{told, copies_append, copies_other}
-use Rattle.gm_laws.proofs.Asking.{kind_read}
-use Rattle.gm_laws.proofs.StepsKeep.{step_keeps, taken_or_not, run_history}
+use Rattle.gm_history.proofs.Asking.{kind_read}
+use Rattle.gm_history.proofs.StepsKeep.{step_keeps, taken_or_not, run_history}
 
 -- ---- copies
 

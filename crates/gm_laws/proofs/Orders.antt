@@ -19,15 +19,16 @@ use Rattle.gm_notes.specs.JobStates.{JobState, is_waiting}
 use Rattle.gm_notes.specs.JobStates as states
 use Rattle.gm_notes.specs.Past.{Past}
 use Rattle.gm_notes.specs.Steps.{Step, Close, step, run}
-use Rattle.gm_laws.specs.History.{runs_at_a_slot, Allowed, History}
-use Rattle.gm_laws.specs.Causes.{Caused, asks, is_grab}
+use Rattle.gm_history.specs.History.{runs_at_a_slot, Allowed, History}
+use Rattle.gm_history.specs.Causes.{Caused, asks, is_grab}
 use Rattle.gm_laws.specs.Laws.{has_place}
 use Rattle.gm_laws.specs.Waiting.{rank, came, GoesBefore, GivesTheFirst, NothingGetsInBefore, FirstComeFirstServed}
-use Rattle.gm_laws.proofs.Finding.{WaitsFor, waiting_for_waits, job_of, same_number}
+use Rattle.gm_history.proofs.Finding.{WaitsFor, waiting_for_waits, job_of, same_number}
 use Rattle.gm_laws.proofs.JobLaws.{is_same, unmade, place_still}
 use Rattle.gm_laws.proofs.Moving.{from, moved, In, both_not}
-use Rattle.gm_laws.proofs.StepsKeep.{run_history}
-use Rattle.gm_laws.proofs.StepLaws.{note_law, gives, GivenSo, given_more}
+use Rattle.gm_history.proofs.StepsKeep.{run_history}
+use Rattle.gm_history.proofs.Caused.{note_law}
+use Rattle.gm_laws.proofs.StepLaws.{gives, GivenSo, given_more}
 use Rattle.gm_laws.proofs.Waiting.{waits_came, is_queued_here}
 
 -- ---- lists in the order in which jobs came

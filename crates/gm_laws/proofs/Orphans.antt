@@ -21,14 +21,14 @@ use Rattle.gm_notes.specs.Workers.{wake_itself}
 use Rattle.gm_notes.specs.Requests.{packet_of, submission, request}
 use Rattle.gm_notes.specs.Closings.{discard_one, discard_each, wake_for, return_or_lose, give_back_one, give_back_each, disconnect, rising, close}
 use Rattle.gm_notes.specs.Steps.{Step, Packet, Close, refusal, step, run}
-use Rattle.gm_laws.specs.History.{Allowed, History}
-use Rattle.gm_laws.specs.Causes.{Caused, is_closing, is_submission, is_request, is_one_of}
+use Rattle.gm_history.specs.History.{Allowed, History}
+use Rattle.gm_history.specs.Causes.{Caused, is_closing, is_submission, is_request, is_one_of}
 use Rattle.gm_laws.specs.Between.{NoWaitingJobIsOrphaned}
 use Rattle.gm_laws.specs.Laws.{has_place}
-use Rattle.gm_laws.proofs.Asking.{made_request}
-use Rattle.gm_laws.proofs.Keeping.{keeps_notes, kept_if}
+use Rattle.gm_history.proofs.Asking.{made_request}
+use Rattle.gm_history.proofs.Keeping.{keeps_notes, kept_if}
 use Rattle.gm_laws.proofs.Moving.{closes_not, both_not, moved, from, not_both, In, placed_rises, wake_each_notes}
-use Rattle.gm_laws.proofs.StepsKeep.{step_keeps, taken_or_not, packet_of_kinds, run_history}
+use Rattle.gm_history.proofs.StepsKeep.{step_keeps, taken_or_not, packet_of_kinds, run_history}
 
 -- each waiting job is wanted, but for these
 abbrev WantedSo : (ℕ → Type 0) → List Note → Type 0

@@ -19,18 +19,19 @@ use Rattle.gm_notes.specs.Past.{Past, tell_all}
 use Rattle.gm_notes.specs.Workers.{Work, keep_report, end_if, hearers, tell_work, work_on, work}
 use Rattle.gm_notes.specs.Requests.{packet_of, first, second, third, passing, ending, request}
 use Rattle.gm_notes.specs.Steps.{Packet, run, step}
-use Rattle.gm_laws.specs.History.{History}
-use Rattle.gm_laws.specs.Between.{AllOpen}
+use Rattle.gm_history.specs.History.{History}
+use Rattle.gm_history.specs.Hearing.{AllOpen}
 use Rattle.gm_laws.specs.Laws.{has_place}
-use Rattle.gm_laws.specs.Listeners.{outputs, Queues, listens, hears, passed_on, WhatWorkersSayIsPassedOn}
-use Rattle.gm_laws.proofs.Finding.{same_number}
+use Rattle.gm_laws.specs.Listeners.{outputs, Queues, hears, WhatWorkersSayIsPassedOn}
+use Rattle.gm_history.specs.Hearing.{listens, passed_on}
+use Rattle.gm_history.proofs.Finding.{same_number}
 use Rattle.gm_laws.proofs.JobLaws.{is_same}
-use Rattle.gm_laws.proofs.Listeners.{listeners_open}
+use Rattle.gm_history.proofs.Listeners.{listeners_open}
 use Rattle.gm_laws.proofs.Handles.{handle_names}
 use Rattle.gm_laws.proofs.Outputs.{told}
 use Rattle.gm_laws.proofs.StepLaws.{taken_is}
-use Rattle.gm_laws.proofs.StepsKeep.{run_history}
-use Rattle.gm_laws.proofs.Asking.{packet_does}
+use Rattle.gm_history.proofs.StepsKeep.{run_history}
+use Rattle.gm_history.proofs.Asking.{packet_does}
 
 -- ---- who hears
 

@@ -18,12 +18,12 @@ use Rattle.gm_notes.specs.Past.{Past, with_note}
 use Rattle.gm_notes.specs.Flow.{waiting}
 use Rattle.gm_notes.specs.JobStates.{place_of}
 use Rattle.gm_notes.specs.Steps.{Step, Packet, Took, Withdrew, refusal, if_owed, unless, step, run}
-use Rattle.gm_laws.specs.History.{Allowed, History}
-use Rattle.gm_laws.specs.Causes.{Caused, asks, is_one_of, is_sleeping}
+use Rattle.gm_history.specs.History.{Allowed, History}
+use Rattle.gm_history.specs.Causes.{Caused, asks, is_one_of, is_sleeping}
 use Rattle.gm_laws.specs.Laws.{lets_pass, AllGoAlike, TellAlike, MayBeTakenLater}
-use Rattle.gm_laws.proofs.Finding.{same_number}
-use Rattle.gm_laws.proofs.Keeping.{keeps_notes}
-use Rattle.gm_laws.proofs.StepsKeep.{step_keeps, run_history}
+use Rattle.gm_history.proofs.Finding.{same_number}
+use Rattle.gm_history.proofs.Keeping.{keeps_notes}
+use Rattle.gm_history.proofs.StepsKeep.{step_keeps, run_history}
 use Rattle.gm_laws.proofs.Alike.{Alike, alike_taken, alike_untaken}
 use Rattle.gm_laws.proofs.SideBySide.{PhasesFor, steps_alike, phases_after, flows_after, goes_alike}
 

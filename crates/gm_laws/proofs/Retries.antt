@@ -14,16 +14,16 @@ use Rattle.gm_notes.specs.JobStates as states
 use Rattle.gm_notes.specs.Past.{Past, with_note}
 use Rattle.gm_notes.specs.Closings.{is_reached}
 use Rattle.gm_notes.specs.Steps.{Step, Packet, Tick, step}
-use Rattle.gm_laws.specs.History.{runs_at_a_slot, Allowed, History}
-use Rattle.gm_laws.specs.Causes.{Caused, Ends, is_tick}
+use Rattle.gm_history.specs.History.{runs_at_a_slot, Allowed, History}
+use Rattle.gm_history.specs.Causes.{Caused, Ends, is_tick}
 use Rattle.gm_laws.specs.Laws.{has_place}
 use Rattle.gm_laws.specs.Retries.{times, hands_out, gives_back, loses, NoJobIsHandedOutMoreOften, NoJobIsLostTwice}
 use Rattle.gm_laws.specs.Retries.{NoneIsLostWithoutALimit, IsLostSo, OnlyTheLastTryLoses, LostJobsEndWithTheNextTick}
 use Rattle.gm_laws.proofs.Clocks.{IsDue, tick_ends}
 use Rattle.gm_laws.proofs.JobLaws.{is_same, unmade}
 use Rattle.gm_laws.proofs.Moving.{both_not}
-use Rattle.gm_laws.proofs.Keeping.{keeps_notes}
-use Rattle.gm_laws.proofs.StepsKeep.{step_keeps}
+use Rattle.gm_history.proofs.Keeping.{keeps_notes}
+use Rattle.gm_history.proofs.StepsKeep.{step_keeps}
 
 -- ---- how often a job was handed out, came back and was lost, by where it is
 

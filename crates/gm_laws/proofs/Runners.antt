@@ -14,14 +14,14 @@ use Rattle.gm_notes.specs.Past.{Past, with_note}
 use Rattle.gm_notes.specs.Workers.{wake_itself}
 use Rattle.gm_notes.specs.Closings.{discard_one, discard_each, wake_for, return_or_lose, give_back_one, give_back_each, disconnect, rising, close}
 use Rattle.gm_notes.specs.Steps.{Step, Close, refusal, step, run}
-use Rattle.gm_laws.specs.History.{Allowed, History}
-use Rattle.gm_laws.specs.Causes.{Caused, is_closing}
+use Rattle.gm_history.specs.History.{Allowed, History}
+use Rattle.gm_history.specs.Causes.{Caused, is_closing}
 use Rattle.gm_laws.specs.Between.{RunnersAreOpen}
 use Rattle.gm_laws.specs.Laws.{has_place}
-use Rattle.gm_laws.proofs.Keeping.{keeps_notes, kept_if}
-use Rattle.gm_laws.proofs.Listeners.{opens}
+use Rattle.gm_history.proofs.Keeping.{keeps_notes, kept_if}
+use Rattle.gm_history.proofs.Listeners.{opens}
 use Rattle.gm_laws.proofs.Moving.{closes_not, moved, from, not_both, In, placed_rises, wake_each_notes}
-use Rattle.gm_laws.proofs.StepsKeep.{step_keeps, taken_or_not, run_history}
+use Rattle.gm_history.proofs.StepsKeep.{step_keeps, taken_or_not, run_history}
 
 -- who runs a job is open, but for these
 abbrev RunsSo : (ℕ → ℕ → Type 0) → List Note → Type 0

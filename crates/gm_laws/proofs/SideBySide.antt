@@ -39,13 +39,13 @@ use Rattle.gm_notes.specs.Lines.{is_bad_word, maxqueue, shut_each, go_graceful, 
 use Rattle.gm_notes.specs.Closings.{discard_each, wake_for, give_back_one, give_back_each, disconnect, rising, close, expire_each, tick}
 use Rattle.gm_notes.specs.Steps.{Step, Open, Packet, Line, Fault, Close, Tick, Took, Withdrew, Drain, free_slot, opening, add}
 use Rattle.gm_notes.specs.Steps.{refusal, unless_not_open, if_owed, unless, step, done, given_slot}
-use Rattle.gm_laws.specs.Causes.{is_one_of, is_sleeping}
+use Rattle.gm_history.specs.Causes.{is_one_of, is_sleeping}
 use Rattle.gm_laws.specs.Laws.{GoesAlike}
 use Rattle.gm_laws.proofs.Alike.{Alike, alike_on, units_alike, wanted_alike, last_try_alike, mentioned_alike, many_alike, unwanted_alike}
 use Rattle.gm_laws.proofs.Alike.{waked_alike, hearers_alike, expired_alike, full_alike, joined_alike, next_alike}
 use Rattle.gm_laws.proofs.Alike.{handled_alike, enabled_alike, pick_alike, statuses_alike, workers_alike, free_alike}
-use Rattle.gm_laws.proofs.Asking.{kind_read}
-use Rattle.gm_laws.proofs.StepsKeep.{}
+use Rattle.gm_history.proofs.Asking.{kind_read}
+use Rattle.gm_history.proofs.StepsKeep.{}
 
 -- these notes and this flow were added to the past
 abbrev onto : List Note → List Flow → Past → Past

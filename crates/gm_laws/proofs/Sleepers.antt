@@ -28,15 +28,15 @@ use Rattle.gm_notes.specs.Workers.{wake_itself, wake_if, add_ability, can_do, sl
 use Rattle.gm_notes.specs.Requests.{packet_of, first, submission, request}
 use Rattle.gm_notes.specs.Closings.{discard_one, discard_each, wake_for, return_or_lose, give_back_one, give_back_each, disconnect, rising, close}
 use Rattle.gm_notes.specs.Steps.{Step, Packet, Close, refusal, step, run}
-use Rattle.gm_laws.specs.History.{History}
-use Rattle.gm_laws.specs.Causes.{Caused, is_closing, is_submission, is_enabling, is_sleeping, is_request, is_one_of}
+use Rattle.gm_history.specs.History.{History}
+use Rattle.gm_history.specs.Causes.{Caused, is_closing, is_submission, is_enabling, is_sleeping, is_request, is_one_of}
 use Rattle.gm_laws.specs.Between.{NoOneSleepsBesideWork}
-use Rattle.gm_laws.proofs.Asking.{asks_some, made_request, can_asks}
+use Rattle.gm_history.proofs.Asking.{asks_some, made_request, can_asks}
 use Rattle.gm_laws.proofs.NumberLaws.{slots}
-use Rattle.gm_laws.proofs.Keeping.{keeps_notes, kept_if}
-use Rattle.gm_laws.proofs.Listeners.{opens, still_open}
+use Rattle.gm_history.proofs.Keeping.{keeps_notes, kept_if}
+use Rattle.gm_history.proofs.Listeners.{opens, still_open}
 use Rattle.gm_laws.proofs.Moving.{both_not, moved, from, not_both, In, slot_in}
-use Rattle.gm_laws.proofs.StepsKeep.{step_keeps, taken_or_not, packet_of_kinds, run_history}
+use Rattle.gm_history.proofs.StepsKeep.{step_keeps, taken_or_not, packet_of_kinds, run_history}
 use Rattle.gm_laws.proofs.Waiting.{something_waits, no_pick}
 
 -- who sleeps can do none of the jobs that wait, but for these

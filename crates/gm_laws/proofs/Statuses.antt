@@ -24,19 +24,20 @@ use Rattle.gm_notes.specs.Past.{Past, with_note, give}
 use Rattle.gm_notes.specs.Workers.{Work}
 use Rattle.gm_notes.specs.Requests.{first, second, third, passing, request, tell_status, packet_of}
 use Rattle.gm_notes.specs.Steps.{Step, Packet, unless, unless_not_open, step, run}
-use Rattle.gm_laws.specs.History.{Allowed, History}
-use Rattle.gm_laws.specs.Causes.{Caused, Asks}
+use Rattle.gm_history.specs.History.{Allowed, History}
+use Rattle.gm_history.specs.Causes.{Caused, Asks}
 use Rattle.gm_laws.specs.Statuses.{is_reporting, numbers_of, reported, last_reported, TellsOfJob, TellsOfNone, StatusIsTrue}
-use Rattle.gm_laws.proofs.Asking.{packet_does}
-use Rattle.gm_laws.proofs.Finding.{same_number}
+use Rattle.gm_history.proofs.Asking.{packet_does}
+use Rattle.gm_history.proofs.Finding.{same_number}
 use Rattle.gm_laws.proofs.Handles.{handle_names}
 use Rattle.gm_laws.proofs.JobLaws.{is_same, unmade, live_place}
-use Rattle.gm_laws.proofs.Keeping.{handled_is, runs_there, tell_all_notes}
+use Rattle.gm_history.proofs.Keeping.{handled_is, runs_there, tell_all_notes}
 use Rattle.gm_laws.proofs.Moving.{from, both_not}
 use Rattle.gm_laws.proofs.Passing.{works_does}
 use Rattle.gm_laws.proofs.Unmade.{nothing_yet, unmade_is}
-use Rattle.gm_laws.proofs.StepsKeep.{run_history}
-use Rattle.gm_laws.proofs.StepLaws.{note_law, taken_is}
+use Rattle.gm_history.proofs.StepsKeep.{run_history}
+use Rattle.gm_history.proofs.Caused.{note_law}
+use Rattle.gm_laws.proofs.StepLaws.{taken_is}
 
 -- WORK_STATUS of the slot where the job runs
 request_reports : (k : Settings) (n : ℕ) (start : Past) → History k start.notes → (c : ℕ) → job_state n start.notes ≡ states.Running c → (a : List (List ℕ)) (timeout : ℕ) (kind : Kind) → is_reporting kind ≡ true → first a ≡ handle k n

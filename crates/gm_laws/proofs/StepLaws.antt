@@ -19,15 +19,15 @@ use Rattle.gm_notes.specs.Past.{Past, with_note}
 use Rattle.gm_notes.specs.Workers.{wake_itself, deadline_after, tell_assigned, give_out}
 use Rattle.gm_notes.specs.Notes.{moment, takes_units}
 use Rattle.gm_notes.specs.Steps.{Step, unless, unless_not_open, step, run}
-use Rattle.gm_laws.specs.History.{Allowed, Gets, History}
-use Rattle.gm_laws.specs.Causes.{is_one_of, Caused, Ends, AllCaused, AllSaid, asks, is_grab, is_closing}
-use Rattle.gm_laws.specs.Laws.{NotesAreCaused, DiscardsTheUnwanted, EndsWithItsWorker, GivesThePick, GrabsGetThePick, SaysNoJobWhereNoneIs}
+use Rattle.gm_history.specs.History.{Allowed, Gets, History}
+use Rattle.gm_history.specs.Causes.{is_one_of, Caused, Ends, AllSaid, asks, is_grab, is_closing}
+use Rattle.gm_laws.specs.Laws.{DiscardsTheUnwanted, EndsWithItsWorker, GivesThePick, GrabsGetThePick, SaysNoJobWhereNoneIs}
 use Rattle.gm_laws.specs.Listeners.{AllMayGet, AnswersStayHome}
-use Rattle.gm_laws.proofs.Asking.{closing_asks}
-use Rattle.gm_laws.proofs.Finding.{same_number}
+use Rattle.gm_history.proofs.Asking.{closing_asks}
+use Rattle.gm_history.proofs.Finding.{same_number}
 use Rattle.gm_laws.proofs.Moving.{moved, from}
-use Rattle.gm_laws.proofs.Keeping.{keeps_notes}
-use Rattle.gm_laws.proofs.StepsKeep.{step_keeps}
+use Rattle.gm_history.proofs.Caused.{note_law}
+use Rattle.gm_history.proofs.StepsKeep.{step_keeps}
 
 some : (n : ℕ) → not (suc n == 0) ≡ false → ⊥
 some n e = let more : (suc n == 0) ≡ false = grind (arith, nat_tests) in let bad : ⊥ = cc in bad
@@ -39,15 +39,6 @@ left_none c false [] e = refl
 left_none c false (d ∷ slots) e = absurd (some (length slots) e)
 
 module _ (k : Settings) (s : Step) (start : Past) (history : History k start.notes) where
-  pub note_law : (P : List Note → Type 0) → ((note : Note) (older : List Note) → Allowed k note older → Caused k start.notes s note older → History k older → P older → P (note ∷ older)) → P start.notes → P (step k s start).notes
-  note_law P more p = (step_keeps start s (keeps_notes P more) (λ c e h u. u) (history, p)).1
-
-  pub caused : NotesAreCaused k start s (step k s start)
-  caused =
-      note_law (λ l. (newer : List Note) × (l ≡ newer ++ start.notes) × AllCaused k start.notes s newer)
-      (λ note older allowed cause h p. (note ∷ p.0, ap (λ l. note ∷ l) p.1, (subst (λ l. Caused k start.notes s note l) p.1 cause, p.2)))
-      ([], refl, tt)
-
   -- ---- endings
 
   abbrev EndedSo : ℕ → Type 0
@@ -63,7 +54,7 @@ module _ (k : Settings) (s : Step) (start : Past) (history : History k start.not
   ended_more note older cause before n e = before n e
 
   pub ends : EndsWithItsWorker k start s (step k s start)
-  ends = note_law (λ l. (n : ℕ) → job_state n l ≡ states.Ended → EndedSo n) (λ note older allowed cause h p. ended_more note older cause p) (λ n e. inl e)
+  ends = note_law k s start history (λ l. (n : ℕ) → job_state n l ≡ states.Ended → EndedSo n) (λ note older allowed cause h p. ended_more note older cause p) (λ n e. inl e)
 
   -- ---- grabs
 
@@ -85,7 +76,7 @@ module _ (k : Settings) (s : Step) (start : Past) (history : History k start.not
   given_more note older cause before n c e = before n c e
 
   pub gives : GivesThePick k start s (step k s start)
-  gives = note_law (λ l. (n c : ℕ) → job_state n l ≡ states.Running c → GivenSo n c) (λ note older allowed cause h p. given_more note older cause p) (λ n c e. inl e)
+  gives = note_law k s start history (λ l. (n c : ℕ) → job_state n l ≡ states.Running c → GivenSo n c) (λ note older allowed cause h p. given_more note older cause p) (λ n c e. inl e)
 
   -- ---- discarding
 
@@ -116,7 +107,7 @@ module _ (k : Settings) (s : Step) (start : Past) (history : History k start.not
   thrown_more note older allowed cause before n e = before n e
 
   pub discards : DiscardsTheUnwanted k start s (step k s start)
-  discards = note_law (λ l. (n : ℕ) → job_state n l ≡ states.Discarded → ThrownSo n l) (λ note older allowed cause h p. thrown_more note older allowed cause p) (λ n e. inl e)
+  discards = note_law k s start history (λ l. (n : ℕ) → job_state n l ≡ states.Discarded → ThrownSo n l) (λ note older allowed cause h p. thrown_more note older allowed cause p) (λ n e. inl e)
 
   -- ---- what is said
 

@@ -24,19 +24,20 @@ use Rattle.gm_notes.specs.Past.{Past, with_note, refuse}
 use Rattle.gm_notes.specs.Workers.{wake_itself, deadline_after, assignment, tell_assigned, give_out}
 use Rattle.gm_notes.specs.Requests.{request, request_if_read, packet_of}
 use Rattle.gm_notes.specs.Steps.{Step, Packet, unless, unless_not_open, step, run}
-use Rattle.gm_laws.specs.History.{Gets, Allowed, History}
-use Rattle.gm_laws.specs.Causes.{Caused, is_one_of, asks, Asks, Submits, is_submission, is_grab, JustQueues}
+use Rattle.gm_history.specs.History.{Gets, Allowed, History}
+use Rattle.gm_history.specs.Causes.{Caused, is_one_of, asks, Asks, Submits, is_submission, is_grab, JustQueues}
 use Rattle.gm_laws.specs.Submitted.{assigned, MakesJob, GivesTheJob, WhatIsSubmittedIsWorkedOn}
 use Rattle.gm_laws.specs.Turns.{One}
-use Rattle.gm_laws.proofs.Asking.{kind_read, submission_kind}
+use Rattle.gm_history.proofs.Asking.{kind_read, submission_kind}
 use Rattle.gm_laws.proofs.Created.{Answered, packet_answered}
-use Rattle.gm_laws.proofs.Finding.{pick_found, job_of}
+use Rattle.gm_history.proofs.Finding.{pick_found, job_of}
 use Rattle.gm_laws.proofs.Grabs.{stirred_flow}
 use Rattle.gm_laws.proofs.JobLaws.{is_same, unmade}
-use Rattle.gm_laws.proofs.Keeping.{kept_if}
+use Rattle.gm_history.proofs.Keeping.{kept_if}
 use Rattle.gm_laws.proofs.Moving.{from}
-use Rattle.gm_laws.proofs.StepsKeep.{taken_or_not, run_history}
-use Rattle.gm_laws.proofs.StepLaws.{note_law, gives}
+use Rattle.gm_history.proofs.StepsKeep.{taken_or_not, run_history}
+use Rattle.gm_history.proofs.Caused.{note_law}
+use Rattle.gm_laws.proofs.StepLaws.{gives}
 use Rattle.gm_laws.proofs.Unmade.{unmade_is}
 
 -- ---- each job was submitted

@@ -24,19 +24,21 @@ use Rattle.gm_notes.specs.Past.{Past, refuse}
 use Rattle.gm_notes.specs.Texts.{spaced}
 use Rattle.gm_notes.specs.Requests.{packet_of, request, request_if_read}
 use Rattle.gm_notes.specs.Steps.{Step, Packet, Close, unless_not_open, run, step}
-use Rattle.gm_laws.specs.History.{Allowed, History}
-use Rattle.gm_laws.specs.Causes.{Caused, is_foreground, is_background, is_one_of, asks, closes, JustQueues}
+use Rattle.gm_history.specs.History.{Allowed, History}
+use Rattle.gm_history.specs.Causes.{Caused, is_foreground, is_background, is_one_of, asks, closes, JustQueues}
 use Rattle.gm_laws.specs.Laws.{has_place}
 use Rattle.gm_laws.specs.Turns.{One}
-use Rattle.gm_laws.specs.Listeners.{outputs, Queues, listens, Tells, WhoStaysIsTold}
-use Rattle.gm_laws.proofs.Finding.{same_number}
+use Rattle.gm_laws.specs.Listeners.{outputs, Queues, Tells, WhoStaysIsTold}
+use Rattle.gm_history.specs.Hearing.{listens}
+use Rattle.gm_history.proofs.Finding.{same_number}
 use Rattle.gm_laws.proofs.JobLaws.{is_same, unmade, live_place, place_still}
 use Rattle.gm_laws.proofs.Moving.{from, both_not}
 use Rattle.gm_laws.proofs.Endings.{all_told}
-use Rattle.gm_laws.proofs.StepLaws.{note_law, discards}
-use Rattle.gm_laws.proofs.Asking.{kind_read}
+use Rattle.gm_history.proofs.Caused.{note_law}
+use Rattle.gm_laws.proofs.StepLaws.{discards}
+use Rattle.gm_history.proofs.Asking.{kind_read}
 use Rattle.gm_laws.proofs.Created.{Answered, request_answered}
-use Rattle.gm_laws.proofs.StepsKeep.{taken_or_not, run_history}
+use Rattle.gm_history.proofs.StepsKeep.{taken_or_not, run_history}
 
 -- ---- what is said of a submission
 

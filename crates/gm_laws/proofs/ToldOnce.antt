@@ -13,13 +13,14 @@ use Rattle.gm_notes.specs.JobStates.{JobState, is_running}
 use Rattle.gm_notes.specs.JobStates as states
 use Rattle.gm_notes.specs.Requests.{second}
 use Rattle.gm_notes.specs.Steps.{Step, Packet, Tick, run}
-use Rattle.gm_laws.specs.Causes.{IsOfEnd, is_ending}
+use Rattle.gm_history.specs.Causes.{IsOfEnd, is_ending}
 use Rattle.gm_laws.specs.Laws.{is_gone}
-use Rattle.gm_laws.specs.Listeners.{passed_on, TellsEnd, Tells, NobodyIsToldTwice}
+use Rattle.gm_history.specs.Hearing.{passed_on}
+use Rattle.gm_laws.specs.Listeners.{TellsEnd, Tells, NobodyIsToldTwice}
 use Rattle.gm_laws.proofs.Handles.{same_handle, fail_handle, placed_small}
 use Rattle.gm_laws.proofs.JobLaws.{places, running_place, stay_gone}
 use Rattle.gm_laws.proofs.OnlyEnds.{only_ends}
-use Rattle.gm_laws.proofs.StepsKeep.{run_history}
+use Rattle.gm_history.proofs.StepsKeep.{run_history}
 
 -- a WORK_COMPLETE says its handle, where the data are the same
 complete_handle : (a b body : List ℕ) → answer_packet (work_complete a body) ≡ answer_packet (work_complete b body) → a ≡ b

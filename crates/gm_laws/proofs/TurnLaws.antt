@@ -26,15 +26,15 @@ use Rattle.gm_notes.specs.Workers.{wake_itself, deadline_after, give_out}
 use Rattle.gm_notes.specs.Requests.{request}
 use Rattle.gm_notes.specs.Steps.{Step, Open, Packet, Line, Fault, Close, Tick, Took, Withdrew, Drain, refusal, add, step, run}
 use Rattle.gm_notes.proofs.Scans.{scan_members}
-use Rattle.gm_laws.specs.History.{Gets}
-use Rattle.gm_laws.specs.Causes.{Caused, is_one_of, asks, is_grab, is_enabling}
+use Rattle.gm_history.specs.History.{Gets}
+use Rattle.gm_history.specs.Causes.{Caused, is_one_of, asks, is_grab, is_enabling}
 use Rattle.gm_laws.specs.Turns.{Gives, FindsWaiting, LeavesAbilities, Each, One, TurnsAreFair}
-use Rattle.gm_laws.proofs.Asking.{can_asks}
-use Rattle.gm_laws.proofs.Finding.{WaitsFor, waiting_for_waits, pick_found, waiting_is, same_number}
-use Rattle.gm_laws.proofs.Keeping.{keeps_notes, kept_if}
+use Rattle.gm_history.proofs.Asking.{can_asks}
+use Rattle.gm_history.proofs.Finding.{WaitsFor, waiting_for_waits, pick_found, waiting_is, same_number}
+use Rattle.gm_history.proofs.Keeping.{keeps_notes, kept_if}
 use Rattle.gm_laws.proofs.JobLaws.{is_same}
 use Rattle.gm_laws.proofs.Moving.{from}
-use Rattle.gm_laws.proofs.StepsKeep.{taken_or_not, packet_of_kinds, step_keeps, run_history}
+use Rattle.gm_history.proofs.StepsKeep.{taken_or_not, packet_of_kinds, step_keeps, run_history}
 use Rattle.gm_laws.proofs.StepLaws.{gives, assigned_notes, pick_runs}
 use Rattle.gm_laws.proofs.Turned.{abilities_once, turned_again, Ahead, ahead_after, ahead_still}
 

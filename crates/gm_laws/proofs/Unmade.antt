@@ -7,7 +7,7 @@ use Rattle.gm_notes.specs.Settings.{Settings}
 use Rattle.gm_notes.specs.Jobs.{job_state, job, report, listeners, is_kept}
 use Rattle.gm_notes.specs.JobStates.{is_live}
 use Rattle.gm_notes.specs.JobStates as states
-use Rattle.gm_laws.specs.History.{runs_at_a_slot, History}
+use Rattle.gm_history.specs.History.{runs_at_a_slot, History}
 use Rattle.gm_laws.proofs.JobLaws.{is_same}
 use Rattle.gm_laws.proofs.Moving.{from, moved}
 

@@ -21,18 +21,18 @@ use Rattle.gm_notes.specs.Past.{Past, with_note, wake_one, wake_each}
 use Rattle.gm_notes.specs.Workers.{wake_itself}
 use Rattle.gm_notes.specs.Closings.{discard_one, discard_each, wake_for, return_or_lose, give_back_one, give_back_each, disconnect, rising, close}
 use Rattle.gm_notes.specs.Steps.{Step, Packet, Close, refusal, step, run}
-use Rattle.gm_laws.specs.History.{HasWork, runs_at_a_slot, Allowed, History}
-use Rattle.gm_laws.specs.Causes.{Caused, Ends, is_request, asks, is_submission, is_enabling, is_sleeping, is_grab, is_ending, is_closing}
+use Rattle.gm_history.specs.History.{HasWork, runs_at_a_slot, Allowed, History}
+use Rattle.gm_history.specs.Causes.{Caused, Ends, is_request, asks, is_submission, is_enabling, is_sleeping, is_grab, is_ending, is_closing}
 use Rattle.gm_laws.specs.Waiting.{WakesHaveWork}
-use Rattle.gm_laws.proofs.Asking.{request_is, asks_some, more_requests, apart_requests}
-use Rattle.gm_laws.proofs.Finding.{IsWork, work_for, same_number}
+use Rattle.gm_history.proofs.Asking.{request_is, asks_some, more_requests, apart_requests}
+use Rattle.gm_history.proofs.Finding.{IsWork, work_for, same_number}
 use Rattle.gm_laws.proofs.JobLaws.{is_same, unmade}
-use Rattle.gm_laws.proofs.Keeping.{kept_if, runs_somewhere}
+use Rattle.gm_history.proofs.Keeping.{kept_if, runs_somewhere}
 use Rattle.gm_laws.proofs.Moving.{from, both_not, closes_not}
-use Rattle.gm_laws.proofs.Phases.{awake_unless_open}
+use Rattle.gm_history.proofs.Phases.{awake_unless_open}
 use Rattle.gm_laws.proofs.Sleepers.{is_stirring}
-use Rattle.gm_laws.proofs.StepsKeep.{taken_or_not, run_history}
-use Rattle.gm_laws.proofs.StepLaws.{note_law}
+use Rattle.gm_history.proofs.StepsKeep.{taken_or_not, run_history}
+use Rattle.gm_history.proofs.Caused.{note_law}
 
 -- ---- what leaves work
 

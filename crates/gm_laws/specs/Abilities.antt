@@ -9,8 +9,8 @@ use Rattle.gm_notes.specs.Jobs.{is_able}
 use Rattle.gm_notes.specs.Past.{Past}
 use Rattle.gm_notes.specs.Requests.{first}
 use Rattle.gm_notes.specs.Steps.{Step}
-use Rattle.gm_laws.specs.Causes.{Asks, seconds_of, closes, JustQueues}
-use Rattle.gm_laws.specs.Waiting.{is_able_within}
+use Rattle.gm_history.specs.Causes.{Asks, seconds_of, closes, JustQueues}
+use Rattle.gm_history.specs.History.{is_able_within}
 
 -- what is asked is to do this function from now on, within these seconds
 abbrev pub Enables : Asked → List ℕ → ℕ → Type 0

@@ -1,16 +1,11 @@
 -- What holds of the notes between steps.
-use Rattle.std.specs.Prelude.{◌≡◌, ℕ, true, false, List, [], ◌∷◌, Some}
+use Rattle.std.specs.Prelude.{◌≡◌, ℕ, true, false, List, Some}
 use Rattle.gm_notes.specs.declared.note.Note.{Note}
 use Rattle.gm_notes.specs.Settings.{Settings}
 use Rattle.gm_notes.specs.Notes.{is_open, phase, is_asleep}
 use Rattle.gm_notes.specs.Jobs.{Job, job_state, job, is_able, is_wanted, listeners}
 use Rattle.gm_notes.specs.JobStates as states
-use Rattle.gm_notes.specs.declared.states.Phase.TheVariants.{Awake}
-use Rattle.gm_notes.specs.Steps.{Step, run}
-
-abbrev pub AllOpen : List ℕ → List Note → Type 0
-AllOpen [] notes = Unit {0}
-AllOpen (c ∷ slots) notes = (is_open c notes ≡ true) × AllOpen slots notes
+use Rattle.gm_history.specs.Hearing.{AllOpen}
 
 -- a slot that listens to a job is open
 abbrev pub ListenersAreOpen : Settings → List Note → Type 0
@@ -19,10 +14,6 @@ ListenersAreOpen k notes = (n : ℕ) → AllOpen (listeners n notes) notes
 -- the slot where a job runs is open
 abbrev pub RunnersAreOpen : Settings → List Note → Type 0
 RunnersAreOpen k notes = (n c : ℕ) → job_state n notes ≡ states.Running c → is_open c notes ≡ true
-
--- a slot that sleeps, or is owed a NOOP, is open: a slot that isn't open is awake
-abbrev pub SleepersAreOpen : Type 0
-SleepersAreOpen = (k : Settings) (steps : List Step) (c : ℕ) → is_open c (run k steps).notes ≡ false → phase c (run k steps).notes ≡ Awake
 
 -- each waiting job is wanted: a background submission keeps it, or a slot listens to it
 abbrev pub NoWaitingJobIsOrphaned : Settings → List Note → Type 0

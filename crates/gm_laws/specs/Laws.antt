@@ -6,7 +6,7 @@ use Rattle.gm_packet.specs.Kinds.{kind_of}
 use Rattle.gm_notes.specs.declared.note.Note.{Note}
 use Rattle.gm_notes.specs.Settings.{Settings}
 use Rattle.gm_notes.specs.Notes.{is_open, takes_units, mode}
-use Rattle.gm_notes.specs.Flow.{Flow, Began, Queued, Drained, Emptied, sent, waiting}
+use Rattle.gm_notes.specs.Flow.{Flow, sent, waiting}
 use Rattle.gm_notes.specs.Jobs.{pick, job_state, is_wanted, job, is_job_named, joins, made, deadline}
 use Rattle.gm_notes.specs.declared.event.UnitFault.{UnitFault}
 use Rattle.gm_notes.specs.declared.states.Mode.TheVariants.{Running, Graceful, Stopped}
@@ -17,12 +17,9 @@ use Rattle.gm_notes.specs.JobStates as states
 use Rattle.gm_notes.specs.Steps.{Step, Open, Packet, Line, Fault, Close, Took, Withdrew, Drain, refusal, done, step, run}
 use Rattle.gm_notes.specs.Past.{Past}
 use Rattle.gm_notes.specs.Servers.{owes, is_closing as has_shut}
-use Rattle.gm_laws.specs.History.{Gets, progress}
-use Rattle.gm_laws.specs.Causes.{Ends, Commands, AllCaused, AllSaid, asks, is_grab, is_sleeping, is_one_of, is_closing, closes}
-
--- P holds of the notes after any steps
-abbrev pub AfterAnySteps : (Settings → List Note → Type 0) → Type 0
-AfterAnySteps P = (k : Settings) (steps : List Step) → P k (run k steps).notes
+use Rattle.gm_history.specs.Laws.{drained, is_kept_up, IsPrefix}
+use Rattle.gm_history.specs.History.{Gets, progress}
+use Rattle.gm_history.specs.Causes.{Ends, Commands, AllSaid, asks, is_grab, is_sleeping, is_one_of, is_closing, closes}
 
 -- the numbers made are the first and its successors, each once, none above the greatest of 64 bits; the newest first
 abbrev pub AreNumbers : Settings → List ℕ → Type 0
@@ -61,47 +58,11 @@ abbrev pub StayGone : Type 0
 StayGone = (k : Settings) (later steps : List Step) (n : ℕ) →
     is_gone (job_state n (run k steps).notes) ≡ true → job_state n (run k (later ++ steps)).notes ≡ job_state n (run k steps).notes
 
--- what was taken of the bytes of slot c since it was opened
-abbrev pub drained : ℕ → List Flow → List ℕ
-drained c [] = []
-drained c (Began d ∷ older) = if c == d then [] else drained c older
-drained c (Queued d bytes ∷ older) = drained c older
-drained c (Drained d ∷ older) = if c == d then drained c older ++ waiting c older else drained c older
-drained c (Emptied d ∷ older) = drained c older
-
--- nothing was emptied since it was opened
-abbrev pub is_kept_up : ℕ → List Flow → Bool
-is_kept_up c [] = true
-is_kept_up c (Began d ∷ older) = if c == d then true else is_kept_up c older
-is_kept_up c (Emptied d ∷ older) = if c == d then false else is_kept_up c older
-is_kept_up c (Queued d bytes ∷ older) = is_kept_up c older
-is_kept_up c (Drained d ∷ older) = is_kept_up c older
-
 -- what was drained, followed by what waits, is what was sent
 abbrev pub AllIsSent : Type 0
 AllIsSent = (flow : List Flow) (c : ℕ) → is_kept_up c flow ≡ true → sent c flow ≡ drained c flow ++ waiting c flow
 
--- between steps: of a slot that is open, what was drained since it was opened, followed by what waits, is what was
--- sent; for one that isn't nothing waits, and what was drained is a prefix of what was sent
-abbrev pub IsPrefix : List ℕ → List ℕ → Type 0
-IsPrefix part whole = (rest : List ℕ) × (whole ≡ part ++ rest)
-
-abbrev pub SentSo : Bool → ℕ → List Flow → Type 0
-SentSo true c flow = sent c flow ≡ drained c flow ++ waiting c flow
-SentSo false c flow = (waiting c flow ≡ []) × IsPrefix (drained c flow) (sent c flow)
-
-abbrev pub BytesArrive : Type 0
-BytesArrive = (k : Settings) (steps : List Step) (c : ℕ) → SentSo (is_open c (run k steps).notes) c (run k steps).flow
-
 -- ---- what a step does
-
--- P holds of each step after any steps, under any settings: of the past before it, the step, and the past after it
-abbrev pub InEachStep : (Settings → Past → Step → Past → Type 0) → Type 0
-InEachStep P = (k : Settings) (steps : List Step) (s : Step) → P k (run k steps) s (run k (s ∷ steps))
-
--- each note that a step adds has its cause
-abbrev pub NotesAreCaused : Settings → Past → Step → Past → Type 0
-NotesAreCaused k before s after = (newer : List Note) × (after.notes ≡ newer ++ before.notes) × AllCaused k before.notes s newer
 
 -- a job is discarded only in a closing, and only one that isn't kept and that nobody listens to
 abbrev pub DiscardsTheUnwanted : Settings → Past → Step → Past → Type 0

@@ -1,8 +1,6 @@
 pub mod Abilities
 pub mod Between
-pub mod Causes
 pub mod ConnectionRows
-pub mod History
 pub mod JobRows
 pub mod Laws
 pub mod Limits

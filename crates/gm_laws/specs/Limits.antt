@@ -10,7 +10,7 @@ use Rattle.gm_notes.specs.Flow.{Queued}
 use Rattle.gm_notes.specs.Jobs.{Job, job, functions, is_mentioned, limit, total, is_able}
 use Rattle.gm_notes.specs.Past.{Past}
 use Rattle.gm_notes.specs.Steps.{Step, Line}
-use Rattle.gm_laws.specs.Causes.{Commands}
+use Rattle.gm_history.specs.Causes.{Commands}
 
 -- a step that leaves a function with more jobs that wait or run leaves it with no more than its limit, if it has one
 abbrev pub NoneIsOverfull : Past → Past → Type 0

@@ -1,24 +1,25 @@
 -- What a job's listeners get.
 use Rattle.std.specs.Prelude.{◌≡◌, ℕ, ◌<◌, true, not, ◌==◌, ◌⊎◌, if◌then◌else◌, List, [], ◌∷◌, ◌++◌, length, filter, replicate}
-use Rattle.std.specs.Prelude.{Option, Some, None, Ok}
+use Rattle.std.specs.Prelude.{Some, Ok}
 use Rattle.std.specs.List.{concat, list_all}
 use Rattle.std.specs.Str.{bytes_eq}
 use Rattle.gm_packet.specs.declared.kind.Kind.{Kind}
-use Rattle.gm_packet.specs.declared.kind.Kind.TheVariants.{WorkStatus, WorkComplete, WorkFail, WorkException, WorkData, WorkWarning}
+use Rattle.gm_packet.specs.declared.kind.Kind.TheVariants.{WorkException}
 use Rattle.gm_packet.specs.Requests.{Asked, request_of}
-use Rattle.gm_packet.specs.Answers.{Answer, answer_packet, work_status, work_complete, work_fail, work_data, work_warning}
-use Rattle.gm_packet.specs.Answers.{work_exception, job_created}
+use Rattle.gm_packet.specs.Answers.{Answer, answer_packet, work_fail}
+use Rattle.gm_packet.specs.Answers.{job_created}
 use Rattle.gm_notes.specs.declared.note.Note.{Note}
 use Rattle.gm_notes.specs.Settings.{Settings}
 use Rattle.gm_notes.specs.Notes.{takes_units, has_option}
 use Rattle.gm_notes.specs.Flow.{Flow, Began, Queued, Drained, Emptied, sent}
-use Rattle.gm_notes.specs.Jobs.{job_state, listeners, handle}
+use Rattle.gm_notes.specs.Jobs.{job_state, handle}
 use Rattle.gm_notes.specs.JobStates.{is_running, is_live}
 use Rattle.gm_notes.specs.JobStates as states
 use Rattle.gm_notes.specs.Past.{Past}
-use Rattle.gm_notes.specs.Requests.{first, second, third}
-use Rattle.gm_notes.specs.Steps.{Step, Packet, Line, Fault, Tick, run}
-use Rattle.gm_laws.specs.Causes.{asks, is_foreground, is_ending, closes, Asks, Ends, IsOfEnd}
+use Rattle.gm_notes.specs.Requests.{first}
+use Rattle.gm_notes.specs.Steps.{Step, Packet, Tick, run}
+use Rattle.gm_history.specs.Hearing.{listens, passed_on, MayGet}
+use Rattle.gm_history.specs.Causes.{asks, is_foreground, is_ending, closes, IsOfEnd}
 use Rattle.gm_laws.specs.Laws.{is_made}
 use Rattle.gm_laws.specs.Turns.{One}
 
@@ -46,20 +47,6 @@ copies bytes queued = length (filter (bytes_eq bytes) queued)
 
 -- ---- what is told
 
--- how often slot c listens to job n: once for each time that it came to listen
-abbrev pub listens : ℕ → ℕ → List Note → ℕ
-listens c n notes = length (filter (λ d. c == d) (listeners n notes))
-
--- what the worker of job n asks to be passed on to its listeners
-abbrev pub passed_on : Settings → ℕ → Kind → List (List ℕ) → Option Answer
-passed_on k n WorkStatus a = Some (work_status (handle k n) (second a) (third a))
-passed_on k n WorkData a = Some (work_data (handle k n) (second a))
-passed_on k n WorkWarning a = Some (work_warning (handle k n) (second a))
-passed_on k n WorkException a = Some (work_exception (handle k n) (second a))
-passed_on k n WorkComplete a = Some (work_complete (handle k n) (second a))
-passed_on k n WorkFail a = Some (work_fail (handle k n))
-passed_on k n kind a = None
-
 -- how often slot c gets it: as often as it listens, but of a WORK_EXCEPTION only with the exceptions option
 abbrev pub hears : ℕ → ℕ → Kind → List Note → ℕ
 hears c n WorkException notes = if has_option c notes then listens c n notes else 0
@@ -74,21 +61,6 @@ WhatWorkersSayIsPassedOn = (k : Settings) (steps : List Step) (worker n number :
     (c : ℕ) → Queues c (replicate (hears c n asked.kind before.notes) (answer_packet answer)) before (run k (Packet worker number bytes ∷ steps))
 
 -- ---- which slots may get what
-
--- slot c, where job n runs, asks that these bytes be passed on, and slot d listens to the job
-abbrev pub PassesOn : Settings → List Note → ℕ → Step → ℕ → List ℕ → Type 0
-PassesOn k before c s d bytes =
-    (n : ℕ) × (asked : Asked) × (answer : Answer) × Asks c s asked × (job_state n before ≡ states.Running c) × (first asked.arguments ≡ handle k n)
-    × (passed_on k n asked.kind asked.arguments ≡ Some answer) × (bytes ≡ answer_packet answer) × (0 < listens d n before)
-
--- The step after these notes may queue the bytes to slot d. What a slot asks is answered only to it. Another slot gets reports of the
--- worker of a job to which it listens, and WORK_FAIL in the tick that ends such a job. Other steps queue nothing.
-abbrev pub MayGet : Settings → List Note → Step → ℕ → List ℕ → Type 0
-MayGet k before (Packet c number asking) d bytes = (c ≡ d) ⊎ PassesOn k before c (Packet c number asking) d bytes
-MayGet k before (Line c line) d bytes = c ≡ d
-MayGet k before (Fault c fault) d bytes = c ≡ d
-MayGet k before (Tick now) d bytes = (n : ℕ) × Ends k before (Tick now) n × (bytes ≡ answer_packet (work_fail (handle k n))) × (0 < listens d n before)
-MayGet k before other d bytes = ⊥
 
 abbrev pub AllMayGet : Settings → List Note → Step → List Flow → Type 0
 AllMayGet k before s [] = Unit {0}

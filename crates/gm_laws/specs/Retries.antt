@@ -7,8 +7,8 @@ use Rattle.gm_notes.specs.Jobs.{job_state, is_wanted}
 use Rattle.gm_notes.specs.JobStates as states
 use Rattle.gm_notes.specs.Past.{Past}
 use Rattle.gm_notes.specs.Steps.{Step}
-use Rattle.gm_laws.specs.History.{runs_at_a_slot}
-use Rattle.gm_laws.specs.Causes.{is_tick}
+use Rattle.gm_history.specs.History.{runs_at_a_slot}
+use Rattle.gm_history.specs.Causes.{is_tick}
 
 -- ---- how often
 

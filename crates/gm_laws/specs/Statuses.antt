@@ -13,7 +13,7 @@ use Rattle.gm_notes.specs.JobStates.{is_running, is_running_at, is_live}
 use Rattle.gm_notes.specs.Past.{Past}
 use Rattle.gm_notes.specs.Requests.{first, second, third}
 use Rattle.gm_notes.specs.Steps.{Step, Packet, run}
-use Rattle.gm_laws.specs.Causes.{JustQueues}
+use Rattle.gm_history.specs.Causes.{JustQueues}
 
 -- ---- the numbers last reported
 

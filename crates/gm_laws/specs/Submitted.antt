@@ -12,9 +12,9 @@ use Rattle.gm_notes.specs.JobStates as states
 use Rattle.gm_notes.specs.Past.{Past}
 use Rattle.gm_notes.specs.Requests.{first}
 use Rattle.gm_notes.specs.Steps.{Step, run}
-use Rattle.gm_laws.specs.Causes.{Asks, Submits, IsFor, is_foreground, is_background, is_submission, JustQueues}
-use Rattle.gm_laws.specs.Laws.{InEachStep}
-use Rattle.gm_laws.specs.Listeners.{listens}
+use Rattle.gm_history.specs.Causes.{Asks, Submits, IsFor, is_foreground, is_background, is_submission, JustQueues}
+use Rattle.gm_history.specs.Laws.{InEachStep}
+use Rattle.gm_history.specs.Hearing.{listens}
 use Rattle.gm_laws.specs.Turns.{One}
 
 -- ---- the answer to a submission

@@ -1,7 +1,6 @@
 -- Which of the jobs that wait a grab gets, and which workers are woken for them.
-use Rattle.std.specs.Prelude.{◌≡◌, ◌⊎◌, ℕ, zero, suc, ◌+◌, ◌-◌, ◌^◌, ◌<◌, min, Bool, true, false, ◌&&◌, ◌==◌, if◌then◌else◌}
+use Rattle.std.specs.Prelude.{◌≡◌, ◌⊎◌, ℕ, zero, suc, ◌+◌, ◌-◌, ◌^◌, ◌<◌, min, true, false, ◌==◌, if◌then◌else◌}
 use Rattle.std.specs.Prelude.{List, [], ◌∷◌, length, Option, Some, None}
-use Rattle.std.specs.List.{list_any}
 use Rattle.gm_packet.specs.Kinds.{kind_of}
 use Rattle.gm_packet.specs.Answers.{no_job}
 use Rattle.gm_notes.specs.declared.states.Priority.{Priority}
@@ -10,13 +9,13 @@ use Rattle.gm_notes.specs.declared.note.Note.{Note}
 use Rattle.gm_notes.specs.declared.note.Note.TheVariants.{Made, Returned}
 use Rattle.gm_notes.specs.Settings.{Settings}
 use Rattle.gm_notes.specs.Notes.{takes_units, moment}
-use Rattle.gm_notes.specs.Jobs.{Job, job_state, job, deadline, is_of, abilities}
+use Rattle.gm_notes.specs.Jobs.{Job, job_state, job, deadline}
 use Rattle.gm_notes.specs.JobStates as states
 use Rattle.gm_notes.specs.Past.{Past}
 use Rattle.gm_notes.specs.Servers.{owes}
 use Rattle.gm_notes.specs.Steps.{Step, Packet, run}
-use Rattle.gm_laws.specs.History.{HasWork}
-use Rattle.gm_laws.specs.Causes.{is_one_of, is_grab, JustQueues}
+use Rattle.gm_history.specs.History.{HasWork, is_able_within}
+use Rattle.gm_history.specs.Causes.{is_one_of, is_grab, JustQueues}
 
 -- ---- which job goes first
 
@@ -61,10 +60,6 @@ abbrev pub WakesHaveWork : Settings → Past → Step → Past → Type 0
 WakesHaveWork k before s after = (c : ℕ) → owes c before ≡ false → owes c after ≡ true → HasWork c after.notes
 
 -- ---- what a grab gets
-
--- slot c can do the function, and a job of it may take this many seconds; 0 is no limit
-abbrev pub is_able_within : ℕ → List ℕ → ℕ → List Note → Bool
-is_able_within c f seconds notes = list_any (λ ability. is_of f ability && ability.timeout == seconds) (abilities c notes)
 
 -- a job that is given out at this moment and may take this many seconds has this deadline: the moment plus the seconds, at most the
 -- greatest number of 64 bits; 0 seconds are no limit

@@ -2,10 +2,10 @@
 //! contract is the law.
 
 ghost use Rattle.gm_notes.specs.Jobs.{made};
+ghost use Rattle.gm_history.specs.Laws.{AfterAnySteps, InEachStep};
 ghost use Rattle.gm_laws.specs.Abilities.{AbilitiesAreAsAsked};
-ghost use Rattle.gm_laws.specs.History.{History};
-ghost use Rattle.gm_laws.specs.Laws.{AfterAnySteps, AreNumbers, AreSlots, HavePlaces, AreOne, StayGone, AllIsSent, BytesArrive};
-ghost use Rattle.gm_laws.specs.Laws.{InEachStep, NotesAreCaused, DiscardsTheUnwanted, EndsWithItsWorker, WorkersAndClocksEndJobs, GivesThePick};
+ghost use Rattle.gm_laws.specs.Laws.{AreNumbers, AreSlots, HavePlaces, AreOne, StayGone, AllIsSent};
+ghost use Rattle.gm_laws.specs.Laws.{DiscardsTheUnwanted, EndsWithItsWorker, WorkersAndClocksEndJobs, GivesThePick};
 ghost use Rattle.gm_laws.specs.Laws.{GrabsGetThePick, SaysNoJobWhereNoneIs, OnlyDrainsTake, ModesNeverGoBack, MayBeTakenLater};
 ghost use Rattle.gm_laws.specs.Listeners.{OutputsAreSent, WhatWorkersSayIsPassedOn, EachListenerIsTold, OnlyEndsAreTold};
 ghost use Rattle.gm_laws.specs.Listeners.{NobodyIsToldTwice, WhoStaysIsTold, AnswersStayHome};
@@ -16,16 +16,7 @@ ghost use Rattle.gm_laws.specs.Turns.{TurnsAreFair};
 ghost use Rattle.gm_laws.specs.Waiting.{FirstComeFirstServed, WakesHaveWork, NoJobMeansNoWork};
 ghost use Rattle.gm_laws.specs.Retries.{NoJobIsHandedOutMoreOften, NoJobIsLostTwice, NoneIsLostWithoutALimit};
 ghost use Rattle.gm_laws.specs.Retries.{OnlyTheLastTryLoses, LostJobsEndWithTheNextTick};
-ghost use Rattle.gm_laws.specs.Between.{ListenersAreOpen, RunnersAreOpen, NoWaitingJobIsOrphaned, NoOneSleepsBesideWork, SleepersAreOpen};
-
-/// Every note of the past was allowed when it was added: only a waiting job was given out, and only to whose
-/// grab gets it; only a job with a worker waited again or was lost, and only one that somebody wants, lost just
-/// where the worker was its last one; none was discarded that somebody wants, and none that was lost; a job got the
-/// next number, joined nothing, and its function was below its limit; a NOOP became owed only where a job waited that the
-/// slot could do; no mode came after a later one.
-pub fn each_note_was_allowed()
-    ensures { AfterAnySteps History }
-{}
+ghost use Rattle.gm_laws.specs.Between.{ListenersAreOpen, RunnersAreOpen, NoWaitingJobIsOrphaned, NoOneSleepsBesideWork};
 
 /// The numbers made are the first and its successors, each once, none above 18446744073709551615.
 pub fn numbers_are_consecutive()
@@ -47,11 +38,6 @@ pub fn one_live_job()
     ensures { AfterAnySteps AreOne }
 {}
 
-/// A slot that sleeps, or is owed a NOOP, is open: a slot that isn't open is awake.
-pub fn sleepers_are_open()
-    ensures { SleepersAreOpen }
-{}
-
 /// A job that has ended or was discarded stays so, whatever comes.
 pub fn gone_stays_gone()
     ensures { StayGone }
@@ -67,20 +53,9 @@ pub fn outputs_are_sent()
     ensures { OutputsAreSent }
 {}
 
-/// Of a slot that is open after any steps, what was drained since it was opened, followed by what waits, is what
-/// was sent; for one that isn't open nothing waits, and what was drained is a prefix of what was sent.
-pub fn bytes_arrive()
-    ensures { BytesArrive }
-{}
-
 /// Drains, and nothing else, take of the bytes that wait for a slot, but for its closing.
 pub fn only_drains_take()
     ensures { InEachStep OnlyDrainsTake }
-{}
-
-/// Each note that a step adds has its cause, down to what the packet or the text line says: `Causes` has a line for each.
-pub fn notes_are_caused()
-    ensures { InEachStep NotesAreCaused }
 {}
 
 /// Each job is what one of the steps submitted: its function, priority, unique id and body are those of the packet, whose slot was

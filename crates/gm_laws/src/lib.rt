@@ -2,6 +2,5 @@
 //! from them. Nothing here runs: each function has an empty body, and its contract is a row or a law.
 #![tactic(auto)]
 
-pub mod connection_rows;
-pub mod job_rows;
 pub mod laws;
+pub mod rows;

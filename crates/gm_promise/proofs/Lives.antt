@@ -21,10 +21,10 @@ use Rattle.gm_notes.specs.Past.{Past as PastOf}
 use Rattle.gm_notes.specs.Closings.{close}
 use Rattle.gm_notes.specs.Steps.{Step, Open, Packet, Line, Fault, Close, Tick, Took, Withdrew, Drain, if_accepted, refusal, unless, add, opening, free_slot, run}
 use Rattle.gm_notes.proofs.FreeSlots.{free_is}
-use Rattle.gm_laws.specs.Laws.{IsPrefix}
-use Rattle.gm_laws.specs.History.{History}
-use Rattle.gm_laws.proofs.ByteLaws.{inner_open, close_closes}
-use Rattle.gm_laws.proofs.StepsKeep.{add_keeps, run_history, takes_open, units_open}
+use Rattle.gm_history.specs.Laws.{IsPrefix}
+use Rattle.gm_history.specs.History.{History}
+use Rattle.gm_history.proofs.Bytes.{inner_open, close_closes}
+use Rattle.gm_history.proofs.StepsKeep.{add_keeps, run_history, takes_open, units_open}
 use Rattle.gm_shared.specs.declared.tape.Actor.{Actor}
 use Rattle.gm_shared.specs.declared.tape.Actor.TheVariants.{Desk, Pen}
 use Rattle.gm_shared.specs.declared.tape.TapeStep.{TapeStep}

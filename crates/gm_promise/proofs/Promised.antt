@@ -8,9 +8,9 @@ use Rattle.gm_notes.specs.Past.{Past}
 use Rattle.gm_notes.specs.Notes.{is_open}
 use Rattle.gm_notes.specs.Flow.{Flow, waiting}
 use Rattle.gm_notes.specs.Steps.{Step, Open, Packet, Line, Fault, Close, Tick, Took, Withdrew, Drain, refusal, unless, add, opening, free_slot, run}
-use Rattle.gm_laws.specs.Laws.{drained, SentSo}
-use Rattle.gm_laws.proofs.ByteLaws.{run_sent}
-use Rattle.gm_laws.proofs.StepsKeep.{add_keeps, run_history}
+use Rattle.gm_history.specs.Laws.{drained, SentSo}
+use Rattle.gm_history.proofs.Bytes.{run_sent}
+use Rattle.gm_history.proofs.StepsKeep.{add_keeps, run_history}
 use Rattle.gm_shared.specs.declared.tape.TapeStep.{TapeStep}
 use Rattle.gm_shared.specs.declared.tape.TapeStep.TheVariants as tape
 use Rattle.gm_shared.specs.declared.tape.Entry.{Entry}

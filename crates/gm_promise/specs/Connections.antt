@@ -8,7 +8,7 @@ use Rattle.gm_notes.specs.declared.event.UnitFault.{UnitFault}
 use Rattle.gm_notes.specs.Settings.{Settings}
 use Rattle.gm_notes.specs.Flow.{sent}
 use Rattle.gm_notes.specs.Steps.{Step, Close}
-use Rattle.gm_laws.specs.Laws.{IsPrefix}
+use Rattle.gm_history.specs.Laws.{IsPrefix}
 use Rattle.gm_shared.specs.declared.tape.Entry.{Entry}
 use Rattle.gm_shared.specs.Events.{slot_of}
 use Rattle.gm_shared.specs.Tapes.{step_in, Legal}

@@ -14,8 +14,9 @@ use Rattle.gm_notes.specs.Jobs.{Job, job_state, job, handle}
 use Rattle.gm_notes.specs.JobStates.{is_live}
 use Rattle.gm_notes.specs.Past.{Past}
 use Rattle.gm_notes.specs.Steps.{Step}
-use Rattle.gm_laws.specs.Laws.{is_gone, IsPrefix}
-use Rattle.gm_laws.specs.Causes.{asks, is_foreground, closes}
+use Rattle.gm_laws.specs.Laws.{is_gone}
+use Rattle.gm_history.specs.Laws.{IsPrefix}
+use Rattle.gm_history.specs.Causes.{asks, is_foreground, closes}
 use Rattle.gm_laws.specs.Turns.{One}
 use Rattle.gm_laws.specs.Listeners.{Queues, Tells}
 use Rattle.gm_laws.specs.Submitted.{MakesJob, GivesTheJob}

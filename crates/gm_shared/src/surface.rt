@@ -6,7 +6,6 @@ ghost use Rattle.gm_notes.specs.Settings.{Settings};
 ghost use Rattle.gm_notes.specs.Steps.{Step};
 ghost use Rattle.gm_notes.specs.Servers.{step_of, IsSized};
 ghost use Rattle.gm_shared.specs.Books.{BookedAgrees, Held, NeedsNoMemory, Drains};
-ghost use Rattle.gm_laws.specs.Laws.{MayBeTakenLater};
 ghost use Rattle.gm_shared.specs.Calls.{Called, HandedIn, if_taken};
 ghost use Rattle.gm_shared.specs.declared.events.Noop.{Noop};
 ghost use Rattle.gm_shared.specs.declared.tape.Told.{Told};
@@ -18,7 +17,6 @@ use crate::receipt::{Drained, Receipt};
 use crate::shared::{Desk, Shared};
 use gm_actions::ReadEvent;
 use gm_conns::SlotSet;
-use gm_laws::laws::may_be_taken_later;
 use gm_notes::{ApplyError, Event};
 use gm_word::SleepTable;
 use std::sync::Wait;
@@ -43,10 +41,7 @@ impl Booked {
             → (told : List Told) × (touched : List ℕ) × (noop : Noop) × Held k steps (step_of event.now) desk noop result touched self.old self.new told }
         ensures memory { NeedsNoMemory self.old.tape.on (step_of event.now) → IsErrOf result ApplyError.Memory → ⊥ }
         ensures table { self.new.seat.table ≡ self.old.seat.table }
-        // That a taking is entered only when the book next looks at the slot changes no other step.
-        ensures later { MayBeTakenLater }
     {
-        may_be_taken_later();
         let read = ReadEvent::new(*event);
         let call = DeskCall {
             table,

@@ -1,4 +1,4 @@
-use Rattle.gm_laws.proofs.ByteLaws.{run_sent}
+use Rattle.gm_history.proofs.Bytes.{run_sent}
 use Rattle.gm_front.proofs.laws.bytes_queued.Goals as goal
 
 pub returns : goal.returns

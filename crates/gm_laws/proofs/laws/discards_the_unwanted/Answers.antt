@@ -1,5 +1,5 @@
 use Rattle.gm_notes.specs.Steps.{run}
-use Rattle.gm_laws.proofs.StepsKeep.{run_history}
+use Rattle.gm_history.proofs.StepsKeep.{run_history}
 use Rattle.gm_laws.proofs.StepLaws.{discards}
 use Rattle.gm_laws.proofs.laws.discards_the_unwanted.Goals as goal
 

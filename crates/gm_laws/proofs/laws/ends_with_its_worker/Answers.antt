@@ -1,5 +1,5 @@
 use Rattle.gm_notes.specs.Steps.{run}
-use Rattle.gm_laws.proofs.StepsKeep.{run_history}
+use Rattle.gm_history.proofs.StepsKeep.{run_history}
 use Rattle.gm_laws.proofs.StepLaws.{ends}
 use Rattle.gm_laws.proofs.laws.ends_with_its_worker.Goals as goal
 

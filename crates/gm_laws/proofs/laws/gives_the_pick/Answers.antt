@@ -1,5 +1,5 @@
 use Rattle.gm_notes.specs.Steps.{run}
-use Rattle.gm_laws.proofs.StepsKeep.{run_history}
+use Rattle.gm_history.proofs.StepsKeep.{run_history}
 use Rattle.gm_laws.proofs.StepLaws.{gives}
 use Rattle.gm_laws.proofs.laws.gives_the_pick.Goals as goal
 

@@ -1,6 +1,6 @@
 use Rattle.gm_notes.specs.Steps.{run}
-use Rattle.gm_laws.proofs.StepsKeep.{run_history}
-use Rattle.gm_laws.proofs.Listeners.{listeners_open}
+use Rattle.gm_history.proofs.StepsKeep.{run_history}
+use Rattle.gm_history.proofs.Listeners.{listeners_open}
 use Rattle.gm_laws.proofs.laws.listeners_are_open.Goals as goal
 
 pub returns : goal.returns

@@ -1,4 +1,4 @@
-use Rattle.gm_laws.proofs.StepsKeep.{run_history}
+use Rattle.gm_history.proofs.StepsKeep.{run_history}
 use Rattle.gm_laws.proofs.NumberLaws.{numbers as law}
 use Rattle.gm_notes.specs.Steps.{run}
 use Rattle.gm_laws.proofs.laws.numbers_are_consecutive.Goals as goal

@@ -1,4 +1,4 @@
-use Rattle.gm_laws.proofs.StepsKeep.{run_history}
+use Rattle.gm_history.proofs.StepsKeep.{run_history}
 use Rattle.gm_laws.proofs.JobLaws.{one_live as law}
 use Rattle.gm_notes.specs.Steps.{run}
 use Rattle.gm_laws.proofs.laws.one_live_job.Goals as goal

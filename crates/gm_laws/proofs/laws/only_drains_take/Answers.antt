@@ -1,6 +1,7 @@
 use Rattle.gm_notes.specs.Steps.{run}
-use Rattle.gm_laws.proofs.StepsKeep.{run_history}
-use Rattle.gm_laws.proofs.ByteLaws.{run_sent, only_drains}
+use Rattle.gm_history.proofs.StepsKeep.{run_history}
+use Rattle.gm_history.proofs.Bytes.{run_sent}
+use Rattle.gm_laws.proofs.ByteLaws.{only_drains}
 use Rattle.gm_laws.proofs.laws.only_drains_take.Goals as goal
 
 pub returns : goal.returns

@@ -1,5 +1,5 @@
 use Rattle.gm_notes.specs.Steps.{run}
-use Rattle.gm_laws.proofs.StepsKeep.{run_history}
+use Rattle.gm_history.proofs.StepsKeep.{run_history}
 use Rattle.gm_laws.proofs.Retries.{only_last}
 use Rattle.gm_laws.proofs.laws.only_the_last_try_loses.Goals as goal
 

@@ -1,5 +1,5 @@
 use Rattle.gm_notes.specs.Steps.{run}
-use Rattle.gm_laws.proofs.StepsKeep.{run_history}
+use Rattle.gm_history.proofs.StepsKeep.{run_history}
 use Rattle.gm_laws.proofs.StepLaws.{says_no_job}
 use Rattle.gm_laws.proofs.laws.says_no_job_where_none_is.Goals as goal
 

@@ -1,5 +1,5 @@
 use Rattle.std.proofs.Common.{sym, subst, ◌∙◌}
-use Rattle.gm_laws.proofs.Phases.{sleepers_open}
+use Rattle.gm_history.proofs.Phases.{sleepers_open}
 use Rattle.gm_core.specs.declared.server.Tables.{Tables}
 use Rattle.gm_core.specs.Holds.{CoreAgrees}
 use Rattle.gm_core.proofs.server.Core.phase.Goals as goal

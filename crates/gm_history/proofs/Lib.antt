@@ -1,0 +1,9 @@
+pub mod Asking
+pub mod Bytes
+pub mod Caused
+pub mod Finding
+pub mod Keeping
+pub mod Listeners
+pub mod Phases
+pub mod Sayings
+pub mod StepsKeep

@@ -1,0 +1,4 @@
+pub mod Causes
+pub mod Hearing
+pub mod History
+pub mod Laws

@@ -1,7 +1,0 @@
-use Rattle.std.proofs.Common.{refl}
-use Rattle.std.specs.Fmt.{digits}
-use Rattle.gm_laws.proofs.connection_rows.kept_job.Goals as goal
-
-pub returns : goal.returns
-unfolding digits
-returns c = refl

@@ -1,5 +1,0 @@
-use Rattle.gm_laws.proofs.ByteLaws.{run_sent}
-use Rattle.gm_laws.proofs.laws.bytes_arrive.Goals as goal
-
-pub returns : goal.returns
-returns c k steps slot = run_sent k steps slot

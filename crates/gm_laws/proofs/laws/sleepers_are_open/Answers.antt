@@ -1,5 +1,0 @@
-use Rattle.gm_laws.proofs.Phases.{sleepers_open}
-use Rattle.gm_laws.proofs.laws.sleepers_are_open.Goals as goal
-
-pub returns : goal.returns
-returns c = sleepers_open
