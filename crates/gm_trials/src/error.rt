@@ -9,11 +9,11 @@ use thiserror::Error;
 /// Why a trial fails.
 #[derive(Debug, Drop, Error)]
 pub enum TrialError {
-    /// The arguments are neither a trial and its settings nor a measurement and its amount.
+    /// The arguments are no trial and its settings.
     #[error("invalid arguments")]
     Usage,
-    /// The system gave no arguments, script, seed, time or use of memory, or took no output.
-    #[error("can't read the script, the clock or the use of memory, or write the output")]
+    /// The system gave no arguments, script or seed, or took no output.
+    #[error("can't read the script, or write the output")]
     Device,
     /// Out of memory, where no growth was refused.
     #[error("out of memory")]

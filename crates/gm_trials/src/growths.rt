@@ -1,11 +1,11 @@
 //! Fronts, some of whose growths are refused.
 
 use crate::error::TrialError;
-use crate::reference::Reference;
 use crate::script::Order;
-use crate::seen::{Taker, hand_in, same, see};
-use crate::settings::{Settings, TrialServer, new_front};
+use crate::seen::{hand_in, same, see};
+use crate::settings::{LIMITS, Settings, TrialServer, new_front};
 use gm_core::Core;
+use gm_feeder::Feeder;
 use gm_front::{Front, Input, StepError};
 use gm_notes::{ApplyError, JobServer, Place};
 use gm_plain::PlainServer;
@@ -27,15 +27,15 @@ fn refuse(alloc: Global, number: u32) -> bool {
 }
 
 /// Hands in all up to a cut, and looks after each: what was cut, and how many of its units were taken.
-fn hand_in_all<T: Taker>(
-    taker: &mut T,
+fn hand_in_all<S: JobServer>(
+    front: &mut Front<S>,
     first_job: u64,
     orders: &[Order<'_>],
     seen: &mut String,
 ) -> Result<Option<(usize, u64)>, TrialError> {
     for (index, order) in orders.iter().enumerate() {
-        let cut = hand_in(taker, order.input(), seen)?;
-        see(taker, first_job, seen)?;
+        let cut = hand_in(front, order.input(), seen)?;
+        see(front, first_job, seen)?;
         if let Some(units) = cut {
             return Ok(Some((index, units)));
         }
@@ -43,29 +43,65 @@ fn hand_in_all<T: Taker>(
     Ok(None)
 }
 
+/// Takes all whole units out of a feeder, at most this many.
+fn take_units(feeder: &mut Feeder, count: u64) {
+    for _ in 0..count {
+        let Ok(Some(_)) = feeder.next_unit() else {
+            break;
+        };
+    }
+}
+
+/// The part of a piece up to its first units, where its slot took these orders before.
+fn up_to<'a>(
+    alloc: Global,
+    before: &[Order<'_>],
+    slot: u32,
+    piece: &'a [u8],
+    units: u64,
+) -> Result<&'a [u8], TrialError> {
+    let mut feeder = Feeder::new(alloc, LIMITS);
+    for order in before {
+        match order {
+            Order::Piece(other, bytes) if *other == slot => {
+                let _ = feeder.feed(bytes);
+                take_units(&mut feeder, u64::MAX);
+            }
+            Order::Close(other) if *other == slot => feeder = Feeder::new(alloc, LIMITS),
+            _ => {}
+        }
+    }
+    let _ = feeder.feed(piece);
+    take_units(&mut feeder, units);
+    let len = piece.len().saturating_sub(feeder.pending().len());
+    piece.get(..len).ok_or(TrialError::Usage)
+}
+
 /// Hands in what a front took: all before the cut piece, the first units of that, and the closing.
-fn hand_in_taken<R: JobServer>(
-    reference: &mut Reference<R>,
+fn hand_in_taken<S: JobServer>(
+    alloc: Global,
+    front: &mut Front<S>,
     first_job: u64,
     orders: &[Order<'_>],
     cut: Option<(usize, u64)>,
     seen: &mut String,
 ) -> Result<(), TrialError> {
     let Some((index, units)) = cut else {
-        hand_in_all(reference, first_job, orders, seen)?;
+        hand_in_all(front, first_job, orders, seen)?;
         return Ok(());
     };
     let (before, after) = orders.split_at_checked(index).ok_or(TrialError::Usage)?;
-    hand_in_all(reference, first_job, before, seen)?;
+    hand_in_all(front, first_job, before, seen)?;
     if let Some(Order::Piece(slot, bytes)) = after.first() {
-        reference.give(*slot, bytes, units)?;
-        reference.take(Input::Close(*slot))?;
+        let taken = up_to(alloc, before, *slot, bytes, units)?;
+        front.step(Input::Piece(*slot, taken))?;
+        front.step(Input::Close(*slot))?;
     }
-    see(reference, first_job, seen)
+    see(front, first_job, seen)
 }
 
-/// Where this growth is refused, a front of the one server does as a reference of the other that has memory. It answers
-/// whether there is such a growth.
+/// Where this growth is refused, a front of the one server does as a front of the other that has memory and was handed in
+/// only what the first took. It answers whether there is such a growth.
 fn is_refused<S: TrialServer, R: TrialServer>(
     alloc: Global,
     growth: u32,
@@ -74,13 +110,13 @@ fn is_refused<S: TrialServer, R: TrialServer>(
 ) -> Result<bool, TrialError> {
     let first_job = settings.first_job;
     let mut front = new_front::<S>(alloc, settings)?;
-    let mut reference = Reference::<R>::new(alloc, settings)?;
+    let mut reference = new_front::<R>(alloc, settings)?;
     let mut got = String::with_capacity(alloc, ROOM)?;
     let mut wanted = String::with_capacity(alloc, ROOM)?;
     refuse(alloc, growth);
     let cut = hand_in_all(&mut front, first_job, orders, &mut got);
     let is_refused = refuse(alloc, 0);
-    hand_in_taken(&mut reference, first_job, orders, cut?, &mut wanted)?;
+    hand_in_taken(alloc, &mut reference, first_job, orders, cut?, &mut wanted)?;
     same(alloc, u64::from(growth), got.as_str(), wanted.as_str())?;
     Ok(is_refused)
 }

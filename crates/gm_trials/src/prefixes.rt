@@ -4,11 +4,12 @@ ghost use Rattle.std.specs.Prelude.{◌<◌};
 
 use crate::error::TrialError;
 use crate::script::Order;
-use crate::seen::{Taker, same, see, see_answer};
+use crate::seen::{same, see, see_answer};
 use crate::settings::{LIMITS, Settings, TrialServer, new_front};
 use gm_core::Core;
 use gm_feeder::{FeedFault, Feeder};
-use gm_front::Input;
+use gm_front::{Front, Input};
+use gm_notes::JobServer;
 use gm_plain::PlainServer;
 use std::alloc::Global;
 use std::fmt::Write;
@@ -55,15 +56,15 @@ fn feed_both(alloc: Global, stream: &[u8]) -> Result<(), TrialError> {
 }
 
 /// A connection sends a stream, and is closed. All this is taken, and what is seen is written.
-fn play<T: Taker>(
-    front: &mut T,
+fn play<S: JobServer>(
+    front: &mut Front<S>,
     stream: &[u8],
     first_job: u64,
     seen: &mut String,
 ) -> Result<(), TrialError> {
     for input in [Input::Open(b"a"), Input::Piece(0, stream), Input::Close(0)] {
-        let stepped = front.take(input)?;
-        see_answer(&Ok(stepped), seen)?;
+        let stepped = front.step(input)?;
+        see_answer(Ok(stepped), seen)?;
         see(front, first_job, seen)?;
     }
     Ok(())

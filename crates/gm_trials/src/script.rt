@@ -5,15 +5,13 @@ use crate::settings::number;
 use gm_front::Input;
 use std::alloc::Global;
 
-/// What is asked of a front: what a line asks for, or a measurement.
+/// What is asked of a front: what a line asks for.
 #[derive(Drop)]
 pub enum Order<'a> {
     Open(&'a str),
     Piece(u32, Vec<u8>),
     Close(u32),
     Tick(u64),
-    Took(u32),
-    Drain(u32),
 }
 
 impl Order<'_> {
@@ -24,8 +22,6 @@ impl Order<'_> {
             Order::Piece(slot, bytes) => Input::Piece(*slot, bytes),
             Order::Close(slot) => Input::Close(*slot),
             Order::Tick(now) => Input::Tick(*now),
-            Order::Took(slot) => Input::Took(*slot),
-            Order::Drain(slot) => Input::Drain(*slot),
         }
     }
 }

@@ -1,6 +1,7 @@
 //! What is seen of a front while it takes inputs, as text.
 
 use crate::error::TrialError;
+use gm_bytes::ByteQueue;
 use gm_front::{Front, Input, StepError, Stepped};
 use gm_notes::{ApplyError, JobServer};
 use std::alloc::Global;
@@ -11,36 +12,26 @@ const SLOTS: u32 = 8;
 
 const JOBS: u64 = 24;
 
-/// What takes inputs: a front, or whatever does as a front is to do.
-pub trait Taker {
-    type Server: JobServer;
-
-    fn take(&mut self, input: Input<'_>) -> Result<Stepped, StepError>;
-
-    fn asked(&self) -> &Self::Server;
-}
-
-impl<S: JobServer> Taker for Front<S> {
-    type Server = S;
-
-    fn take(&mut self, input: Input<'_>) -> Result<Stepped, StepError> {
-        self.step(input)
+/// Writes bytes that wait, wherever they lie. A copy of them would be one growth more.
+fn see_bytes(bytes: ByteQueue, seen: &mut String) -> Result<(), TrialError> {
+    let mut rest = bytes;
+    while !rest.is_empty() {
+        let first = rest.first();
+        let count = first.len();
+        for byte in first {
+            write!(seen, " {byte}")?;
+        }
+        rest.advance(count);
     }
-
-    fn asked(&self) -> &S {
-        self.server()
-    }
+    Ok(writeln!(seen)?)
 }
 
 /// Writes what an input is answered.
-pub fn see_answer(
-    answer: &Result<Stepped, StepError>,
-    seen: &mut String,
-) -> Result<(), TrialError> {
+pub fn see_answer(answer: Result<Stepped, StepError>, seen: &mut String) -> Result<(), TrialError> {
     match answer {
         Ok(stepped) => {
-            // What is as short as here lies in one place. A copy would be one growth more.
-            writeln!(seen, "{:?} {:?}", stepped.done, stepped.drained.first())?;
+            write!(seen, "{:?}", stepped.done)?;
+            see_bytes(stepped.drained, seen)?;
         }
         Err(error) => writeln!(seen, "{error:?}")?,
     }
@@ -48,46 +39,57 @@ pub fn see_answer(
 }
 
 /// Writes what each slot is owed and whether it is shut, and what it is given: what waits for it and its NOOP.
-fn see_slots<T: Taker>(taker: &mut T, seen: &mut String) -> Result<(), TrialError> {
+fn see_slots<S: JobServer>(front: &mut Front<S>, seen: &mut String) -> Result<(), TrialError> {
     for slot in 0..SLOTS {
-        let (owed, shut) = (taker.asked().owed(slot), taker.asked().shut(slot));
+        let (owed, shut) = (front.owed(slot), front.shut(slot));
         writeln!(seen, "slot {slot}: {owed} {shut}")?;
-        see_answer(&taker.take(Input::Drain(slot)), seen)?;
-        see_answer(&taker.take(Input::Took(slot)), seen)?;
+        see_answer(front.step(Input::Drain(slot)), seen)?;
+        see_answer(front.step(Input::Took(slot)), seen)?;
     }
     Ok(())
 }
 
 /// Writes where each job is.
-fn see_jobs<T: Taker>(taker: &T, first_job: u64, seen: &mut String) -> Result<(), TrialError> {
-    for job in first_job..first_job.saturating_add(JOBS) {
-        let place = taker.asked().place(job);
-        writeln!(seen, "job {job}: {place:?}")?;
+fn see_jobs<S: JobServer>(
+    front: &Front<S>,
+    first_job: u64,
+    seen: &mut String,
+) -> Result<(), TrialError> {
+    for ahead in 0..JOBS {
+        // Behind the last number there is none.
+        if let Some(job) = first_job.checked_add(ahead) {
+            let place = front.place(job);
+            writeln!(seen, "job {job}: {place:?}")?;
+        }
     }
     Ok(())
 }
 
 /// Writes what there is to be seen, which takes what waits.
-pub fn see<T: Taker>(taker: &mut T, first_job: u64, seen: &mut String) -> Result<(), TrialError> {
-    see_slots(taker, seen)?;
-    see_jobs(taker, first_job, seen)
+pub fn see<S: JobServer>(
+    front: &mut Front<S>,
+    first_job: u64,
+    seen: &mut String,
+) -> Result<(), TrialError> {
+    see_slots(front, seen)?;
+    see_jobs(front, first_job, seen)
 }
 
 /// Hands in an input, and once more where it is refused for memory, and writes what comes of it. It answers how many units
 /// came before a cut.
-pub fn hand_in<T: Taker>(
-    taker: &mut T,
+pub fn hand_in<S: JobServer>(
+    front: &mut Front<S>,
     input: Input<'_>,
     seen: &mut String,
 ) -> Result<Option<u64>, TrialError> {
-    let answer = match taker.take(input) {
-        Err(StepError::Refused(ApplyError::Memory)) => taker.take(input),
+    let answer = match front.step(input) {
+        Err(StepError::Refused(ApplyError::Memory)) => front.step(input),
         answer => answer,
     };
     if let Err(StepError::Cut { units }) = answer {
         return Ok(Some(units));
     }
-    see_answer(&answer, seen)?;
+    see_answer(answer, seen)?;
     Ok(None)
 }
 
