@@ -1,6 +1,6 @@
 //! Worked cases: calls at the desks and pens of a shared book, checked one after another.
 
-use crate::checks::same;
+use crate::checks::{assert_one_place, same};
 use crate::room::{Room, Scene, play_settled};
 use crate::rows::{
     Call, GOES, GRABS, GRABS_OF_TWO, GRABS_WITH_ID, Given, JOB_RETRIES, OWED, REFUSALS,
@@ -53,12 +53,10 @@ fn assert_drained(
     answer: Result<(&[u8], bool), ApplyError>,
 ) {
     match (got, answer) {
-        (Ok(drained), Ok(answer)) => same(
-            rt,
-            slot,
-            &(drained.bytes.first(), drained.shut),
-            &answer,
-        ),
+        (Ok(drained), Ok(answer)) => {
+            same(rt, slot, &(drained.bytes.first(), drained.shut), &answer);
+            assert_one_place(rt, drained.bytes);
+        }
         (got, answer) => same(rt, slot, &got.err(), &answer.err()),
     }
 }

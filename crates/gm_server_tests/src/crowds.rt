@@ -2,7 +2,7 @@
 
 ghost use Rattle.std.specs.Prelude.{◌≡◌};
 
-use crate::checks::{must, same};
+use crate::checks::{assert_one_place, must, same};
 use crate::packets::{assigned, cut, handle};
 use crate::room::{Room, apply, blank};
 use gm_bytes::Data;
@@ -181,6 +181,7 @@ fn assigned_jobs<K: BookName, R: Wait + Abort>(
     for slot in 2..room.pens.len() {
         let drained = room.drain(rt, slot)?;
         add_assigned(rt, drained.bytes.first(), &mut jobs)?;
+        assert_one_place(rt, drained.bytes);
     }
     jobs.sort()?;
     let mut last = 0;
@@ -219,6 +220,7 @@ fn assert_all_created<K: BookName, R: Wait + Abort>(
         same(rt, slot, &numbers.len(), &TIMES);
         let drained = room.drain(rt, slot)?;
         assert_created(rt, alloc, drained.bytes.first(), numbers)?;
+        assert_one_place(rt, drained.bytes);
     }
     Ok(())
 }
@@ -231,7 +233,9 @@ fn answer<K: BookName, R: Wait + Abort>(
 ) -> Result<Vec<u8>, Fail> {
     room.apply(rt, 0, event)?;
     let drained = room.drain(rt, 0)?;
-    Ok(Vec::from_slice(room.alloc, drained.bytes.first())?)
+    let bytes = Vec::from_slice(room.alloc, drained.bytes.first())?;
+    assert_one_place(rt, drained.bytes);
+    Ok(bytes)
 }
 
 /// Slot 0 is answered this, and nothing else.

@@ -45,6 +45,7 @@ fn served<R: Threads + Wait + Clock + RandomSource + Eprint + Copy + Send + Sync
 #[derive(Drop)]
 struct Hold {
     from: u64,
+    has_held: AtomicBool,
     may_pass: AtomicBool,
     gave_up: AtomicBool,
 }
@@ -53,12 +54,20 @@ impl Hold {
     fn new(from: u64) -> Hold {
         Hold {
             from,
+            has_held: AtomicBool::new(false),
             may_pass: AtomicBool::new(false),
             gave_up: AtomicBool::new(false),
         }
     }
 
+    /// Lets pass what is held, once something is.
     fn let_pass(&self) {
+        for _ in 0..1_000_000u32 {
+            if self.has_held.load(Ordering::SeqCst) {
+                break;
+            }
+            thread::yield_now();
+        }
         self.may_pass.store(true, Ordering::SeqCst);
     }
 }
@@ -80,6 +89,7 @@ impl Gate for Hold {
             if self.may_pass.load(Ordering::SeqCst) {
                 return;
             }
+            self.has_held.store(true, Ordering::SeqCst);
             thread::yield_now();
         }
         self.gave_up.store(true, Ordering::SeqCst);
@@ -203,7 +213,8 @@ fn beside<
     Ok(both)
 }
 
-/// The script goes right beside a server with this gate, which opens this many connections and holds nothing for ever.
+/// The script goes right beside a server with this gate, which opens this many connections, holds what it is to hold, and nothing
+/// for ever.
 fn goes_right<
     R: Threads
         + Wait
@@ -220,6 +231,12 @@ fn goes_right<
     let (served, right) = beside(rt, alloc, hold, script)?;
     same(rt, "the answers", &right?, &true);
     same(rt, "the connections", &served, &Some(connections));
+    same(
+        rt,
+        "held",
+        &hold.has_held.load(Ordering::SeqCst),
+        &(hold.from < u64::MAX),
+    );
     same(rt, "gave up", &hold.gave_up.load(Ordering::SeqCst), &false);
     Ok(())
 }

@@ -1,6 +1,6 @@
 //! Sessions over readers in memory.
 
-use crate::checks::same;
+use crate::checks::{assert_one_place, same};
 use crate::devices::FailingReader;
 use crate::room::{Room, Scene, play_settled};
 use gm_feeder::Limits;
@@ -51,6 +51,7 @@ impl<'a> Scene for OneSession<'a> {
         );
         if let Ok(drained) = room.drain(rt, 0) {
             self.waiting = Vec::from_slice(self.alloc, drained.bytes.first())?;
+            assert_one_place(rt, drained.bytes);
         }
         Ok(())
     }

@@ -1,7 +1,7 @@
 //! What settles a tape, and what doesn't.
 
 use crate::calls::assert_calls;
-use crate::checks::same;
+use crate::checks::{assert_one_place, same};
 use crate::room::{Room, Scene, play_settled, play_to_the_end};
 use crate::rows::OWED;
 use gm_bytes::Data;
@@ -43,6 +43,7 @@ fn echo_once<K: BookName, R: Wait + Abort>(
     let drained = room.drain(rt, 0)?;
     let wanted = b"\0RES\0\0\0\x11\0\0\0\x02hi".as_slice();
     same(rt, "the echo", &drained.bytes.first(), &wanted);
+    assert_one_place(rt, drained.bytes);
     Ok([(opening.at, opening.mode), (echo.at, echo.mode)])
 }
 

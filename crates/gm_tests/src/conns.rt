@@ -24,7 +24,11 @@ fn put_checked(
 
 fn assert_drains(rt: &impl Abort, conns: &mut Conns, slot: u32, bytes: &[u8]) {
     must(rt, conns.is_open(slot));
-    same(rt, "what waits", &conns.drain(slot).first(), &bytes);
+    let mut waiting = conns.drain(slot);
+    same(rt, "what waits", &waiting.first(), &bytes);
+    let count = waiting.first().len();
+    waiting.advance(count);
+    must(rt, waiting.is_empty());
 }
 
 fn assert_able(rt: &impl Abort, conns: &Conns, slot: u32, i: usize, ability: Option<(u32, u32)>) {

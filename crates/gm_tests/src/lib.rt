@@ -8,8 +8,6 @@ mod conns;
 #[cfg(test)]
 mod jobs;
 #[cfg(test)]
-mod lines;
-#[cfg(test)]
 mod packets;
 #[cfg(test)]
 mod queues;
