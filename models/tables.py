@@ -6,6 +6,18 @@ it is quiet), bits (the same with bitstate hashing: a state may be missed), ends
 weak fairness). With FEW a few threads serve all connections (--io-threads), else a reader and a finisher each slot.
 """
 
+# What isn't checked where the models can't be, by property. models/README.md has each in full.
+PROMISES = {
+    "delivery": "that the thread that has a lane tries again after each touch, and nothing waits for a peer that reads",
+    "forever": "that no thread tries for ever without a touch, and touches without end don't keep bytes from being sent",
+    "order": "that bytes are sent in order, once, and to their own connection only",
+    "noops": "that no wake-up is lost: each NOOP that is owed is sent once or withdrawn once",
+    "ticks": "that each second is handed in once, and before the grabs that come in it",
+    "reading": "that all that a peer sent is taken, also beside one that sends for ever",
+    "ends": "that each connection's end ends, and its slot can be used again",
+    "server": "that gmd ends after shutdown, no matter what peers do",
+}
+
 # property, model, how, definitions, when (set: by models/run; all: by models/run all), what
 RUNS = [
     ("delivery", "deliver", "all", "-DUNBOUNDED -DTOUCHES=1", "set", "2 threads touch once, writes blocked at will"),

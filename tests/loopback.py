@@ -94,12 +94,15 @@ class Server:
 class Client:
     """A connection to the server."""
 
-    def __init__(self, port, source="127.0.0.1", room=None):
-        """With room, the system keeps at most this many unread bytes, or a little more."""
+    def __init__(self, port, source="127.0.0.1", room=None, segment=None):
+        """With room, the system keeps at most this many unread bytes, or a little more. With segment, it takes segments of at most this
+        many bytes; where they are short, the server's system keeps less of what it is to send."""
         self.socket = socket.socket()
         self.socket.settimeout(PATIENCE)
         if room:
             self.socket.setsockopt(socket.SOL_SOCKET, socket.SO_RCVBUF, room)
+        if segment:
+            self.socket.setsockopt(socket.IPPROTO_TCP, socket.TCP_MAXSEG, segment)
         self.socket.setsockopt(socket.IPPROTO_TCP, socket.TCP_NODELAY, 1)
         self.socket.setsockopt(socket.IPPROTO_IP, IP_BIND_ADDRESS_NO_PORT, 1)
         try:

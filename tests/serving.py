@@ -41,9 +41,9 @@ def grabbed(worker):
     return worker.answer()[1]
 
 
-def client_and_worker(port, room=None):
+def client_and_worker(port, **named):
     """A client whose job, the first, runs at the worker."""
-    client, worker = Client(port, room=room), Client(port)
+    client, worker = Client(port, **named), Client(port)
     client.request(SUBMIT_JOB, b"f", b"", b"")
     same("a job", client.answer(), (JOB_CREATED, b"H:gmd:1"))
     worker.request(CAN_DO, b"f")

@@ -56,9 +56,10 @@ def same(what, got, wanted):
         raise Wrong(f"{what}: {str(got)[:300]}, and not {str(wanted)[:300]}")
 
 
-def skip(name, why):
+def skip(what, why):
+    """Says what isn't checked here, and why."""
     counts["skipped"] += 1
-    print(f"skip {name}: {why}", flush=True)
+    print(f"skip {what}: {why}", flush=True)
 
 
 def finish():
