@@ -14,6 +14,12 @@ const MOST_DATA: u32 = 1_073_741_824;
 /// The most bytes that a text line may have before its newline.
 const MAX_LINE: u32 = 1024;
 
+/// The heading in help of the options that say how many connections there may be, and how large a packet.
+pub const LIMITS: &str = "Limits";
+
+/// That of the options that say which job a worker gets.
+const JOBS: &str = "Jobs";
+
 /// An option that takes a number from `least` to `most`, and this one if it isn't given.
 pub fn number<'a>(
     alloc: Global,
@@ -88,7 +94,8 @@ pub fn with_server_options<'a>(
             1024,
             "64",
             "The most connections that are open at once",
-        ))?
+        )
+        .help_heading(LIMITS))?
         .arg(number(
             alloc,
             "max-data",
@@ -96,12 +103,14 @@ pub fn with_server_options<'a>(
             1_073_741_824,
             "67108864",
             "The most bytes of data in a packet",
-        ))?
+        )
+        .help_heading(LIMITS))?
         .arg(flag(
             alloc,
             "round-robin",
             "A worker's functions take turns: a grab begins with the function that the worker added after the one of its last job",
-        ))?
+        )
+        .help_heading(JOBS))?
         .arg(number(
             alloc,
             "job-retries",
@@ -109,7 +118,8 @@ pub fn with_server_options<'a>(
             4_294_967_295,
             "0",
             "Gives a job to at most N workers, and fails it when the last of them disconnects; 0 is no limit",
-        ))
+        )
+        .help_heading(JOBS))
 }
 
 /// What the options of every job server ask for.

@@ -14,6 +14,7 @@ run_status errors.AddressBesideSocket = 2
 run_status errors.SocketCount = 2
 run_status (errors.Socket error) = 3
 run_status (errors.Listen address error) = 3
+run_status (errors.Taken address error) = 3
 run_status errors.Seed = 3
 run_status (errors.Events error) = 3
 run_status errors.Output = 3

@@ -8,9 +8,19 @@ ghost use Rattle.gm_server.specs.Options.{with_address_rules, with_name_rule, wi
 use clap::parser::ValueSource;
 use clap::{ArgMatches, Command, Error};
 use gm_admin::VERSION;
-use gm_options::{ServerOptions, flag, number, server_options, text, with_server_options};
+use gm_options::{LIMITS, ServerOptions, flag, number, server_options, text, with_server_options};
 use std::alloc::{AllocError, Global};
 use std::convert::AsStr;
+
+/// The headings in help of the options that say where the server is found, and of those for trials.
+const LISTENING: &str = "Where it listens";
+
+const TRIALS: &str = "Checks and trials";
+
+/// The end of help.
+const EXAMPLE: &str =
+    "Example: gmd --listen 127.0.0.1 --slots 1024 serves this machine only, with up to 1,024 connections.
+The line shutdown, sent to the port, ends it. gmd(8) has all of this, and what programs are answered.";
 
 /// What the arguments ask for.
 #[derive(Clone, Copy)]
@@ -36,15 +46,22 @@ fn with_address<'a>(alloc: Global, command: Command<'a>) -> Result<Command<'a>, 
     ensures { IfOk result (λ made. app_of made ≡ with_address_rules (app_of command.entry)) }
 {
     command
-        .arg(number(alloc, "port", 1, 65_535, "4730", "The port to listen on").short('p'))?
-        .arg(text(
-            alloc,
-            "listen",
-            "ADDR",
-            "0.0.0.0",
-            "The address to listen on",
+        .arg(
+            number(alloc, "port", 1, 65_535, "4730", "The port to listen on")
+                .short('p')
+                .help_heading(LISTENING),
+        )?
+        .arg(
+            text(
+                alloc,
+                "listen",
+                "ADDR",
+                "0.0.0.0",
+                "The address to listen on",
+            )
+            .short('L')
+            .help_heading(LISTENING),
         )
-        .short('L'))
 }
 
 /// The command with the option of what it is called.
@@ -57,22 +74,26 @@ fn with_name<'a>(alloc: Global, command: Command<'a>) -> Result<Command<'a>, All
         "NAME",
         "gmd",
         "The name in job handles: 1 to 40 letters, digits, dots and hyphens",
-    ))
+    )
+    .help_heading(LISTENING))
 }
 
 /// The command with the option of when a peer that vanished is found out.
 fn with_peer_timeout<'a>(alloc: Global, command: Command<'a>) -> Result<Command<'a>, AllocError>
     ensures { IfOk result (λ made. app_of made ≡ with_timeout_rule (app_of command.entry)) }
 {
-    command.arg(number(
-        alloc,
-        "peer-timeout",
-        0,
-        32_767,
-        "120",
-        "Disconnects a peer that vanished, or leaves its bytes unread, after about this time; 0 leaves it to the system",
+    command.arg(
+        number(
+            alloc,
+            "peer-timeout",
+            0,
+            32_767,
+            "120",
+            "Disconnects a peer that vanished, or leaves its bytes unread, after about this time; 0 leaves it to the system",
+        )
+        .value_name("SECONDS")
+        .help_heading(LIMITS),
     )
-    .value_name("SECONDS"))
 }
 
 /// The command with the option of how many threads there are.
@@ -86,7 +107,8 @@ fn with_io_threads<'a>(alloc: Global, command: Command<'a>) -> Result<Command<'a
         64,
         "0",
         "Has N threads serve all connections; 0 gives each connection two of its own",
-    ))
+    )
+    .help_heading("Threads"))
 }
 
 /// The command with the options that take nothing.
@@ -98,17 +120,23 @@ fn with_flags<'a>(alloc: Global, command: Command<'a>) -> Result<Command<'a>, Al
             alloc,
             "tape",
             "Records every accepted call with its bytes, and when the server ends, compares the record with what each connection was told: status 4 if they differ. The record stays in memory and grows with each call",
-        ))?
-        .arg(flag(alloc, "check", "Prints the settings and exits"))
+        )
+        .help_heading(TRIALS))?
+        .arg(flag(alloc, "check", "Prints the settings and exits").help_heading(TRIALS))
+}
+
+/// The command with what help says of the program.
+fn described<'a>(command: Command<'a>) -> Command<'a>
+    ensures { app_of result ≡ app_of command.entry }
+{
+    command.about("A Gearman job server").after_help(EXAMPLE)
 }
 
 /// The program's command: its options, with the range and the default of each.
 fn command<'a>(alloc: Global) -> Result<Command<'a>, AllocError>
     ensures { IfOk result (λ made. app_of made ≡ gmd_app) }
 {
-    let command = Command::new(alloc, "gmd")
-        .version(VERSION)
-        .about("A Gearman job server");
+    let command = described(Command::new(alloc, "gmd").version(VERSION));
     let command = with_name(alloc, with_address(alloc, command)?)?;
     let command = with_peer_timeout(alloc, with_server_options(alloc, command)?)?;
     with_flags(alloc, with_io_threads(alloc, command)?)

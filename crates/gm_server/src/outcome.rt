@@ -30,6 +30,9 @@ pub enum RunError {
     /// It can't listen.
     #[error("can't listen on {0}: {1}")]
     Listen(String, io::Error),
+    /// It can't listen, since another program does.
+    #[error("can't listen on {0}: {1}. The command ss -ltnp shows which program listens there")]
+    Taken(String, io::Error),
     /// The system gives no random bytes.
     #[error("can't get a random seed")]
     Seed,
@@ -60,6 +63,7 @@ impl RunError {
             RunError::Ended(error) => error.status(),
             RunError::Socket(_)
             | RunError::Listen(..)
+            | RunError::Taken(..)
             | RunError::Seed
             | RunError::Events(_)
             | RunError::Output

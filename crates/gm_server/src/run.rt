@@ -172,6 +172,9 @@ fn open_listener<R: Net<Listener = TcpListener, Stream = TcpStream> + Env + Allo
         Err(error) => {
             let alloc = rt.alloc();
             let address = format!(in alloc; "{listen}:{port}")?;
+            if error.kind() == io::ErrorKind::AddrInUse {
+                return Err(RunError::Taken(address, error));
+            }
             Err(RunError::Listen(address, error))
         }
     }

@@ -15,9 +15,12 @@ const JOBS: u64 = 24;
 /// Writes bytes that wait, wherever they lie. A copy of them would be one growth more.
 fn see_bytes(bytes: ByteQueue, seen: &mut String) -> Result<(), TrialError> {
     let mut rest = bytes;
-    while !rest.is_empty() {
+    for _ in 0..u64::MAX {
         let first = rest.first();
         let count = first.len();
+        if count == 0 {
+            break;
+        }
         for byte in first {
             write!(seen, " {byte}")?;
         }

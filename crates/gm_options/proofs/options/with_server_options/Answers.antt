@@ -1,4 +1,4 @@
-use Rattle.std.proofs.Common.{rules, ap, ap₂, ◌≡◌, ◌∙◌}
+use Rattle.std.proofs.Common.{rules, ap, ap₂, ◌≡◌, ◌∙◌, false}
 use Rattle.std.proofs.lemmas.Result.{IfOk-weaker}
 use Rattle.clap.specs.Words.{app_of, rule_of, with_rule}
 use Rattle.gm_options.specs.Options.{slots_rule, max_data_rule, round_robin_rule, job_retries_rule}
@@ -6,14 +6,18 @@ use Rattle.gm_options.proofs.options.with_server_options.Goals as goal
 
 pub returns-clause-options : goal.returns-clause-options
 returns-clause-options c =
-    let slots : rule_of c.number.result ≡ slots_rule = search rules in
-    let max_data : rule_of c.number-2.result ≡ max_data_rule = search rules in
-    let round_robin : rule_of c.flag.result ≡ round_robin_rule = search rules in
-    let job_retries : rule_of c.number-3.result ≡ job_retries_rule = search rules in
-    let one = c.in_ok-arg.ensures.shape c.number.ensures.local ∙ ap (λ rule. with_rule (app_of c.args.command) rule) slots in
-    let two = c.in_ok-arg-2.ensures.shape c.number-2.ensures.local ∙ ap₂ with_rule one max_data in
-    let three = c.in_ok-arg-3.ensures.shape c.flag.ensures.local ∙ ap₂ with_rule two round_robin in
-    IfOk-weaker c.arg-4.result _ _ (λ made adds. adds.shape c.number-3.ensures.local ∙ ap₂ with_rule three job_retries) c.arg-4.ensures
+    let slots : rule_of c.help_heading.result ≡ slots_rule = search rules in
+    let max_data : rule_of c.help_heading-2.result ≡ max_data_rule = search rules in
+    let round_robin : rule_of c.help_heading-3.result ≡ round_robin_rule = search rules in
+    let job_retries : rule_of c.help_heading-4.result ≡ job_retries_rule = search rules in
+    let first : c.help_heading.result.global ≡ false = search rules in
+    let second : c.help_heading-2.result.global ≡ false = search rules in
+    let third : c.help_heading-3.result.global ≡ false = search rules in
+    let fourth : c.help_heading-4.result.global ≡ false = search rules in
+    let one = c.in_ok-arg.ensures.shape first ∙ ap (λ rule. with_rule (app_of c.args.command) rule) slots in
+    let two = c.in_ok-arg-2.ensures.shape second ∙ ap₂ with_rule one max_data in
+    let three = c.in_ok-arg-3.ensures.shape third ∙ ap₂ with_rule two round_robin in
+    IfOk-weaker c.arg-4.result _ _ (λ made adds. adds.shape fourth ∙ ap₂ with_rule three job_retries) c.arg-4.ensures
 
 pub returns-clause-broken : goal.returns-clause-broken
 returns-clause-broken c =

@@ -1,4 +1,4 @@
-use Rattle.std.proofs.Common.{rules, ap, ◌≡◌, ◌∙◌, pos, codes}
+use Rattle.std.proofs.Common.{rules, ap, ◌≡◌, ◌∙◌, pos, codes, false}
 use Rattle.std.proofs.lemmas.Result.{IfOk-weaker}
 use Rattle.clap.specs.Words.{app_of, rule_of, with_rule}
 use Rattle.gm_options.specs.Options.{number_rule}
@@ -6,5 +6,6 @@ use Rattle.gm_server.proofs.args.with_io_threads.Goals as goal
 
 pub returns : goal.returns
 returns c =
-    let rule : rule_of c.number.result ≡ number_rule (codes "io-threads") (pos 0) (pos 64) (codes "0") = search rules in
-    IfOk-weaker c.arg.result _ _ (λ made adds. adds.shape c.number.ensures.local ∙ ap (with_rule (app_of c.args.command)) rule) c.arg.ensures
+    let rule : rule_of c.help_heading.result ≡ number_rule (codes "io-threads") (pos 0) (pos 64) (codes "0") = search rules in
+    let local : c.help_heading.result.global ≡ false = search rules in
+    IfOk-weaker c.arg.result _ _ (λ made adds. adds.shape local ∙ ap (with_rule (app_of c.args.command)) rule) c.arg.ensures

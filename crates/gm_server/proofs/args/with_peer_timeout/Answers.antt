@@ -6,6 +6,6 @@ use Rattle.gm_server.proofs.args.with_peer_timeout.Goals as goal
 
 pub returns : goal.returns
 returns c =
-    let rule : rule_of c.value_name.result ≡ number_rule (codes "peer-timeout") (pos 0) (pos 32767) (codes "120") = search rules in
-    let local : c.value_name.result.global ≡ false = search rules in
+    let rule : rule_of c.help_heading.result ≡ number_rule (codes "peer-timeout") (pos 0) (pos 32767) (codes "120") = search rules in
+    let local : c.help_heading.result.global ≡ false = search rules in
     IfOk-weaker c.arg.result _ _ (λ made adds. adds.shape local ∙ ap (with_rule (app_of c.args.command)) rule) c.arg.ensures
