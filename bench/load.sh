@@ -41,7 +41,7 @@ for pid in $pids; do
     kill -0 "$pid" || { cat "$work"/g*; exit 1; }
 done
 echo "# $("$gmd" --version), gearmand $("$gearmand" --version | grep -o '[0-9.]*' | head -n 1), $(nproc) processors" \
-    "($(sed -n 's/^model name.*: //p' /proc/cpuinfo | head -n 1)), medians of $rounds in turn, $(date +%F), load average before it $busy"
+    "($(sed -n 's/^model name.*: //p' /proc/cpuinfo | head -n 1)), medians of $rounds in turn, $(date +%F), commit $(git describe --always --dirty 2>/dev/null || echo unknown), load average before it $busy"
 printf '# load\tserver\toperations a second\tprocessor us an operation\tp50 us\tp99 us\n'
 # shellcheck disable=SC2086
 "$work/load" multi $servers --only "$loads" --cap 3 --rounds "$rounds" "$@"
