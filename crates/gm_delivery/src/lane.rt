@@ -124,8 +124,8 @@ impl<K: BookName> Lane<K> {
         }
     }
 
-    /// Ends the connection up to this stage, unless it has come so far, as the thread that reads from it. What can't be done at once is left to
-    /// the finisher.
+    /// Raises the connection's stage, and goes on with its end. The thread that reads from the connection calls it; it has no effect if the
+    /// stage is reached already. What can't be done at once is left to the finisher.
     pub fn end<R: Wait + Clock, S: Server<K>>(
         &self,
         rt: &R,
@@ -265,7 +265,7 @@ impl<K: BookName> Lane<K> {
                 break;
             }
         }
-        // No edge comes of a write that was taken whole.
+        // The system reports that a socket takes bytes again only after a write that it took in part.
         if sender.takes_more() {
             server.wake_finisher(self.slot);
         }

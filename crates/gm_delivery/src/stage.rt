@@ -1,4 +1,4 @@
-//! How far something is, for all threads.
+//! How far the end of a connection or of the server is, as an atomic number that only rises.
 
 use std::sync::atomic::{AtomicU8, Ordering};
 

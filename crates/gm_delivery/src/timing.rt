@@ -1,4 +1,4 @@
-//! How long something has gone on.
+//! The time since something began.
 
 ghost use Rattle.std.specs.Prelude.{◌≡◌, Some, None, IfSome, is_none};
 

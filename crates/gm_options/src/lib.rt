@@ -4,5 +4,5 @@
 mod options;
 mod program;
 
-pub use options::{LIMITS, ServerOptions, flag, number, server_options, text, with_server_options};
+pub use options::{JOBS, ServerOptions, flag, number, server_options, text, with_server_options};
 pub use program::{ArgumentsError, arguments};

@@ -15,10 +15,10 @@ const MOST_DATA: u32 = 1_073_741_824;
 const MAX_LINE: u32 = 1024;
 
 /// The heading in help of the options that say how many connections there may be, and how large a packet.
-pub const LIMITS: &str = "Limits";
+const ACCEPTED: &str = "What it accepts";
 
-/// That of the options that say which job a worker gets.
-const JOBS: &str = "Jobs";
+/// The heading in help of the options about jobs.
+pub const JOBS: &str = "Jobs";
 
 /// An option that takes a number from `least` to `most`, and this one if it isn't given.
 pub fn number<'a>(
@@ -93,22 +93,22 @@ pub fn with_server_options<'a>(
             1,
             1024,
             "64",
-            "The most connections that are open at once",
+            "How many connections may be open at once, at most 1024",
         )
-        .help_heading(LIMITS))?
+        .help_heading(ACCEPTED))?
         .arg(number(
             alloc,
             "max-data",
             0,
             1_073_741_824,
             "67108864",
-            "The most bytes of data in a packet",
+            "How many bytes of data a packet may have",
         )
-        .help_heading(LIMITS))?
+        .help_heading(ACCEPTED))?
         .arg(flag(
             alloc,
             "round-robin",
-            "A worker's functions take turns: a grab begins with the function that the worker added after the one of its last job",
+            "Lets a worker's functions take turns: a grab begins with the function that the worker added after the one of its last job",
         )
         .help_heading(JOBS))?
         .arg(number(
@@ -117,7 +117,7 @@ pub fn with_server_options<'a>(
             0,
             4_294_967_295,
             "0",
-            "Gives a job to at most N workers, and fails it when the last of them disconnects; 0 is no limit",
+            "Gives a job to at most N workers, and lets it fail when the last of them disconnects; 0 is no limit",
         )
         .help_heading(JOBS))
 }

@@ -8,8 +8,8 @@ use std::alloc::{AllocError, Global};
 use std::io;
 use std::marker::{Brand, Model};
 
-/// A writer, with a log of all that was written to it since it was taken. The log exists in proofs alone. Contracts see the writer, what it
-/// held when it was taken, where that is known, and the log: what it holds is what it held, and then the log.
+/// A writer, with a log of all that was written to it since it was taken. The log exists in proofs only. Contracts see the writer, its
+/// contents when it was taken, where they are known, and the log: its contents = the contents then, then the log.
 #[derive(Drop)]
 pub struct LoggedWriter<W: Line> {
     writer: W,

@@ -95,7 +95,7 @@ impl Hub {
         };
         let index = slot as usize / self.mailboxes.len().max(1);
         if let Some(word) = mailbox.marks.get(index / MARKS) {
-            // A thread that marked it before woke the mailbox's, which hasn't taken the marks since.
+            // Where it is set already, the thread that set it woke this one.
             let bit = 1 << (index % MARKS);
             if word.fetch_or(bit, Ordering::SeqCst) & bit == 0 {
                 mailbox.wake();

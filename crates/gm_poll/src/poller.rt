@@ -25,7 +25,7 @@ pub struct Call {
     pub slot: u32,
     /// It was woken, or is to be looked at again: not only its socket was reported.
     pub is_woken: bool,
-    /// More may be there behind a short read: the peer sends no more, or urgent data were between.
+    /// More may be there behind a short read: the peer closed its side, or an urgent byte cut the read short.
     pub is_odd: bool,
 }
 
@@ -61,7 +61,7 @@ pub struct Poller {
     states: Vec<SlotState>,
     // The slots to serve that were reported or woken, each once, so that there is room for all.
     ready: VecDeque<usize>,
-    // Those that have more to do after their turn, each once, and in none of both twice: they come behind the others.
+    // Slots with more to do after their turn: they come behind the others. A slot is in at most one of the two, once.
     behind: VecDeque<usize>,
     // Those to look at again, each once.
     again: VecDeque<usize>,

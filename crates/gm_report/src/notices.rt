@@ -1,5 +1,5 @@
-//! What is to be said to operators, and when: a trouble once, and again only after it was over; a type of packet that `gmd`
-//! doesn't serve once, for the first so many types.
+//! What is to be said to operators, and when: a trouble once, and again only after it was over; each type of packet that `gmd`
+//! doesn't serve once, for the first 64 such types.
 
 ghost use Rattle.std.specs.Prelude.{◌≡◌, ◌++◌, ◌∷◌, [], ◌&&◌, not, true, false, take};
 ghost use Rattle.std.specs.Prelude.{nat_lt};
@@ -13,7 +13,7 @@ use std::net::SocketAddr;
 /// How many kinds of trouble there are.
 pub(crate) const TROUBLES: usize = 8;
 
-/// How many types of packets are said that aren't requests: so many that no peer can fill standard error with them.
+/// How many types of packets are said that aren't requests. No peer can fill standard error with more.
 const MOST_TYPES: usize = 64;
 
 /// Why a connection isn't served.

@@ -1,4 +1,4 @@
-//! Whom a server tells how it is.
+//! Receivers of a server's status: ready, slots used, connections refused and cut.
 
 /// How a server is.
 #[derive(Clone, Copy, Debug, PartialEq, Eq)]
@@ -13,7 +13,7 @@ pub struct Report {
     pub cut: u64,
 }
 
-/// Whom a server tells how it is.
+/// Receives a server's status.
 pub trait Ready {
     /// Announces that its book is open, its threads are there, and it is about to take connections, and says whether it could. Where not,
     /// the server ends at once.

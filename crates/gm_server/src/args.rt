@@ -8,19 +8,20 @@ ghost use Rattle.gm_server.specs.Options.{with_address_rules, with_name_rule, wi
 use clap::parser::ValueSource;
 use clap::{ArgMatches, Command, Error};
 use gm_admin::VERSION;
-use gm_options::{LIMITS, ServerOptions, flag, number, server_options, text, with_server_options};
+use gm_options::{JOBS, ServerOptions, flag, number, server_options, text, with_server_options};
 use std::alloc::{AllocError, Global};
 use std::convert::AsStr;
 
-/// The headings in help of the options that say where the server is found, and of those for trials.
+/// The headings in help of the options: where it listens, what serves its connections, and what is asked or tried.
 const LISTENING: &str = "Where it listens";
 
-const TRIALS: &str = "Checks and trials";
+const THREADS: &str = "Connections and threads";
+
+const TRIALS: &str = "Trials and questions";
 
 /// The end of help.
-const EXAMPLE: &str =
-    "Example: gmd --listen 127.0.0.1 --slots 1024 serves this machine only, with up to 1,024 connections.
-The line shutdown, sent to the port, ends it. gmd(8) has all of this, and what programs are answered.";
+const EXAMPLE: &str = "Example: gmd --listen 127.0.0.1 --slots 1024
+It prints 'gmd: listening' when it takes connections. The line 'shutdown', sent to its port, ends it.";
 
 /// What the arguments ask for.
 #[derive(Clone, Copy)]
@@ -57,7 +58,7 @@ fn with_address<'a>(alloc: Global, command: Command<'a>) -> Result<Command<'a>, 
                 "listen",
                 "ADDR",
                 "0.0.0.0",
-                "The address to listen on",
+                "The address to listen on, or a name: the first of its addresses that works",
             )
             .short('L')
             .help_heading(LISTENING),
@@ -75,7 +76,7 @@ fn with_name<'a>(alloc: Global, command: Command<'a>) -> Result<Command<'a>, All
         "gmd",
         "The name in job handles: 1 to 40 letters, digits, dots and hyphens",
     )
-    .help_heading(LISTENING))
+    .help_heading(JOBS))
 }
 
 /// The command with the option of when a peer that vanished is found out.
@@ -92,7 +93,7 @@ fn with_peer_timeout<'a>(alloc: Global, command: Command<'a>) -> Result<Command<
             "Disconnects a peer that vanished, or leaves its bytes unread, after about this time; 0 leaves it to the system",
         )
         .value_name("SECONDS")
-        .help_heading(LIMITS),
+        .help_heading(THREADS),
     )
 }
 
@@ -106,9 +107,9 @@ fn with_io_threads<'a>(alloc: Global, command: Command<'a>) -> Result<Command<'a
         0,
         64,
         "0",
-        "Has N threads serve all connections; 0 gives each connection two of its own",
+        "Has N threads read and write for all connections; 0 gives each connection two of its own",
     )
-    .help_heading("Threads"))
+    .help_heading(THREADS))
 }
 
 /// The command with the options that take nothing.

@@ -17,14 +17,14 @@ use std::marker::{Brand, Model};
 pub enum Left {
     /// There may be more to read: the read was filled.
     Perhaps,
-    /// Nothing, unless the peer sends no more, or urgent data were between.
+    /// Nothing, unless the peer closed its side, or an urgent byte cut the read short.
     Little,
     /// Nothing: a read would have to wait.
     Nothing,
 }
 
-/// A source, and a log of all that it gave since it was taken. The log exists in proofs alone. Contracts see the source, what it was to
-/// give when it was taken, where that is known, and the log: what it was to give is the log, and then what it is still to give.
+/// A source, and a log of all that it gave since it was taken. The log exists in proofs only. Contracts see the source, the bytes that were
+/// to come when it was taken, where they are known, and the log: the bytes to come then = the log, then the bytes still to come.
 #[derive(Drop)]
 pub struct LoggedSource<I: Source<Patience>> {
     source: I,

@@ -1,4 +1,4 @@
-//! What a slot has of its own.
+//! One slot: its reading side, its lane and its peer's address.
 
 ghost use Rattle.std.specs.Prelude.{◌≡◌, [], All, IfOk, length, map};
 ghost use Rattle.gm_promise.specs.Accounts.{IsAccount};
@@ -12,7 +12,7 @@ use std::alloc::{AllocError, Global};
 use std::net::SocketAddr;
 use std::sync::Mutex;
 
-/// What a slot has of its own.
+/// One slot: its reading side, its lane and its peer's address.
 #[derive(Drop)]
 pub struct Slot<K: BookName> {
     /// What its connection says. The thread that reads from it has it meanwhile.

@@ -1,4 +1,4 @@
-//! Serves.
+//! `serve`: opens the book, starts the threads, and settles the book at the end.
 
 ghost use Rattle.std.specs.Prelude.{◌≡◌, IfOk, IsOk};
 ghost use Rattle.gm_shared.specs.Tapes.{is_on};

@@ -225,8 +225,8 @@ impl<K: BookName> ServerState<K> {
         }
     }
 
-    /// Touches the lane to whose slot something is due, and delivers where nobody else does; or has its finisher do so, where the
-    /// time for that is over.
+    /// Delivers to a slot that has something due, unless another thread does; or leaves that to its finisher, where the time for
+    /// delivering is over.
     fn touch<R: Wait + Clock>(&self, rt: &R, due: Due, delivering: &mut Delivering) {
         // Modelled in models/deliver.pml.
         let Some(slot) = self.slot(due.slot()) else {
