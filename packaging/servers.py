@@ -1,10 +1,12 @@
-"""Servers, connections to them, and checks: what test-scripts and demo/differs share."""
+"""Servers, connections to them, and checks: what test-scripts, test-page and demo/differs share."""
 import contextlib
 import pathlib
 import re
+import shutil
 import socket
 import subprocess
 import tempfile
+import threading
 import time
 
 PATIENCE = 60  # seconds, after which something doesn't come any more
@@ -168,3 +170,49 @@ class Client:
         """What `status` says of a function: jobs, running jobs and workers."""
         found = re.search(rf"^{re.escape(name)}\t(\d+)\t(\d+)\t(\d+)$", self.line(b"status"), re.M)
         return tuple(map(int, found.groups())) if found else None
+
+
+@contextlib.contextmanager
+def pretends(answer):
+    """The port of a server that does this with each connection."""
+    def serve():
+        with contextlib.suppress(OSError):
+            while True:
+                connection, _ = listener.accept()
+                threading.Thread(target=talk, args=(connection,), daemon=True).start()
+
+    def talk(connection):
+        with connection, contextlib.suppress(OSError):
+            answer(connection)
+
+    with socket.create_server(("127.0.0.1", 0)) as listener:
+        threading.Thread(target=serve, daemon=True).start()
+        yield listener.getsockname()[1]
+        listener.shutdown(socket.SHUT_RDWR)
+
+
+def lists(status, workers=b".\n", version=b"OK 1.1.20\n"):
+    """A server with these answers."""
+    def answer(connection):
+        while line := connection.recv(100):
+            connection.sendall({b"version\n": version, b"status\n": status, b"workers\n": workers}[line])
+    return answer
+
+
+SAMPLE = re.compile(r'(\w+)\{server="[^"]*"(?:,(?:function|version)="((?:[^"\\]|\\.)*)")?\} (\S+)')
+
+
+def samples(text):
+    """What the text says, by name and function."""
+    found = {}
+    for line in text.splitlines():
+        if not line.startswith("#"):
+            name, function, value = SAMPLE.fullmatch(line).groups()
+            key = (name, function) if function is not None else name
+            same(f"{key} is there once", key in found, False)
+            found[key] = value
+    if promtool := shutil.which("promtool"):
+        # It also has opinions on names, which are a line each.
+        done = subprocess.run([promtool, "check", "metrics"], input=text, capture_output=True, text=True, check=False)
+        same("promtool", "error while linting" in done.stderr + done.stdout, False)
+    return found
