@@ -23,7 +23,8 @@ pub struct ByteQueue {
     runs: VecDeque<Run>,
     // How many copied bytes come behind the last run.
     behind: usize,
-    // How many bytes are gone of the first run and of those right before it; of the copied bytes, where there is no run.
+    // How many bytes were taken from the front: of the first run and the bytes right before it, or of the copied bytes if
+    // there is no run.
     passed: usize,
     room: usize,
 }

@@ -66,7 +66,7 @@ impl<'a> Data<'a> {
         whole.suffix(from).ok()
     }
 
-    /// To keep them: one owner more of the buffer in which they lie, or the bytes that are to be copied.
+    /// Shares the buffer if it can; otherwise returns the bytes to copy.
     pub fn keep(&self) -> (Option<SharedBytes>, &'a [u8])
         ensures { unwrap_or result.0 result.1.now ≡ self.now.bytes.now }
     {

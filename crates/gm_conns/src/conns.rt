@@ -17,8 +17,8 @@ use std::marker::Model;
 
 /// The connections of a server, by slot.
 ///
-/// Each call that is given a slot, except for `is_open`, wants an open one. What is refused changes nothing, and a
-/// call that can't be refused takes no memory.
+/// Every call with a slot, except `is_open`, requires it to be open. A refused call changes nothing, and a call that can't
+/// be refused takes no memory.
 #[derive(Drop)]
 pub struct Conns {
     alloc: Global,

@@ -164,7 +164,7 @@ IsKept tables = (past : Past) × Keeps tables past
 abbrev pub outbox : Connection → List ℕ × Phase × Bool
 outbox conn = (conn.waiting, conn.phase, conn.is_shut)
 
--- each slot where that changed is touched, and so is each that was
+-- a slot where that changed is touched, and touched slots stay touched
 pub record AllTouched (old new : conns.Table) : Type 0 where
   pub others : (c : ℕ) → is_touched new c ≡ false → (is_touched old c ≡ false) × (outbox (conn new c) ≡ outbox (conn old c))
 

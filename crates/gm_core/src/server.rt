@@ -134,8 +134,8 @@ impl Core {
         self.tables.conns.take_touched()
     }
 
-    /// As `apply`, for a caller with a lock: where a worker ends its job, and the body is shared, `freed` becomes an owner of it, so that it
-    /// can be freed later, as it may be long. Whatever it answers, it keeps no long text that it wrote.
+    /// As `apply`, for a caller with a lock: `freed` receives the shared body of a job that ends, which the caller frees after unlocking,
+    /// because it may be long. Whatever it answers, it keeps no long text that it wrote.
     pub fn apply_locked(
         &mut self,
         read: &ReadEvent<'_>,

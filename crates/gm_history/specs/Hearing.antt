@@ -1,4 +1,4 @@
--- Who hears of a job, and what a step may queue to whom.
+-- The listeners of a job, and the slots to which a step may queue bytes.
 use Rattle.std.specs.Prelude.{◌≡◌, ℕ, ◌<◌, true, ◌==◌, ◌⊎◌, List, [], ◌∷◌, length, filter, Option, Some, None}
 use Rattle.gm_packet.specs.declared.kind.Kind.{Kind}
 use Rattle.gm_packet.specs.declared.kind.Kind.TheVariants.{WorkStatus, WorkComplete, WorkFail, WorkException, WorkData, WorkWarning}

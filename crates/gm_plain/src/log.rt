@@ -10,8 +10,8 @@ use gm_notes::Note;
 use std::alloc::{AllocError, Global};
 use std::marker::Model;
 
-/// For how many notes an event that adds this one finds memory: for itself, and for those that closings,
-/// takings and withdrawals may add because of it, which must not need memory.
+/// How many notes to reserve memory for with this one: itself, and the later notes of closings, takings and withdrawals
+/// that it makes possible, which must not need memory.
 fn weight(note: &Note) -> usize
     ensures value { result ≡ weight note.now }
     ensures small { result ≤ 3 }
@@ -26,7 +26,7 @@ fn weight(note: &Note) -> usize
     }
 }
 
-/// For how many notes memory was found, by those that are there.
+/// The sum of the notes' weights.
 fn paid(notes: &[Note]) -> Result<usize, AllocError>
     ensures { IfOk result (λ count. count ≡ paid (reverse notes.now)) }
 {
