@@ -97,7 +97,7 @@ impl Refusal {
 }
 
 impl From<AllocError> for Refusal {
-    ghost use Rattle.gm_threads.specs.declared.speaking.Trouble.TheVariants.{Memory};
+    ghost use Rattle.gm_report.specs.declared.notices.Trouble.TheVariants.{Memory};
 
     ghost from_gives = { λ _ e. e ≡ record { trouble = Memory; error = pos 0 } };
 

@@ -1,5 +1,7 @@
 //! Why a server ended before its book could be settled.
 
+ghost use Rattle.std.specs.Prelude.{◌≡◌};
+
 use gm_report::ServeError;
 use std::alloc::AllocError;
 
