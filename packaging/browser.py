@@ -36,7 +36,7 @@ class Browser:
             ["bash", "-c", f'exec "$@" 3<&{its_input} 4>&{its_output}', "bash", path(), *OPTIONS,
              f"--user-data-dir={self.folder.name}", "about:blank"],
             pass_fds=(its_input, its_output), stdin=subprocess.DEVNULL, stdout=subprocess.DEVNULL, stderr=subprocess.DEVNULL,
-            env={**os.environ, "HOME": self.folder.name}, start_new_session=True)
+            env={**os.environ, "HOME": self.folder.name, "TMPDIR": self.folder.name}, start_new_session=True)
         os.close(its_input)
         os.close(its_output)
         target = self.tell("Target.createTarget", url="about:blank")["targetId"]
