@@ -14,7 +14,7 @@ use std::sync::Wait;
 use std::sync::atomic::{AtomicBool, Ordering};
 use std::test::Fail;
 use std::thread::{Threads, join};
-use std::time::Clock;
+use std::time::{Clock, Duration};
 use std::{io, thread};
 
 /// Serves with two slots until a shutdown, and answers how many connections there were; `None` where it can't.
@@ -60,13 +60,13 @@ impl Hold {
         }
     }
 
-    /// Lets pass what is held, once something is.
-    fn let_pass(&self) {
-        for _ in 0..1_000_000u32 {
+    /// Lets pass what is held, once something is; it waits for that for ten seconds at most.
+    fn let_pass(&self, clock: &impl Clock) {
+        for _ in 0..10_000u32 {
             if self.has_held.load(Ordering::SeqCst) {
                 break;
             }
-            thread::yield_now();
+            thread::sleep(clock, Duration::from_millis(1));
         }
         self.may_pass.store(true, Ordering::SeqCst);
     }
@@ -85,7 +85,7 @@ impl Gate for Hold {
         if index < self.from {
             return;
         }
-        for _ in 0..1_000_000u32 {
+        for _ in 0..10_000_000u32 {
             if self.may_pass.load(Ordering::SeqCst) {
                 return;
             }
@@ -104,16 +104,21 @@ fn ample<R: Net<Stream = TcpStream>>(rt: &R, alloc: Global, addr: SocketAddr) ->
 }
 
 /// Two echoes, of which the first waits for the second.
-fn hold_one(held: &mut Client, free: &mut Client, hold: &Hold) -> io::Result<bool> {
+fn hold_one(
+    clock: &impl Clock,
+    held: &mut Client,
+    free: &mut Client,
+    hold: &Hold,
+) -> io::Result<bool> {
     held.request(16, b"held")?;
     let second = free.echoes(b"free")?;
-    hold.let_pass();
+    hold.let_pass(clock);
     let first = held.is_echoed(b"held")?;
     Ok(free.stops()? && first && second)
 }
 
 /// Two clients' echoes, of which the first waits for the second.
-fn two<R: Net<Stream = TcpStream>>(
+fn two<R: Net<Stream = TcpStream> + Clock>(
     rt: &R,
     alloc: Global,
     addr: SocketAddr,
@@ -121,7 +126,7 @@ fn two<R: Net<Stream = TcpStream>>(
 ) -> io::Result<bool> {
     let mut held = Client::connect(rt, alloc, addr)?;
     let mut free = Client::connect(rt, alloc, addr)?;
-    hold_one(&mut held, &mut free, hold)
+    hold_one(rt, &mut held, &mut free, hold)
 }
 
 /// What follows a job in its piece: `count` of these units, each with an answer of `answer` bytes.
@@ -142,7 +147,7 @@ fn send_piece(client: &mut Client, behind: Sleeper<'_>) -> io::Result<()> {
 }
 
 /// A worker that sleeps is woken for a job while the piece that brought the job is held.
-fn wakes<R: Net<Stream = TcpStream>>(
+fn wakes<R: Net<Stream = TcpStream> + Clock>(
     rt: &R,
     alloc: Global,
     addr: SocketAddr,
@@ -156,7 +161,7 @@ fn wakes<R: Net<Stream = TcpStream>>(
     let mut right = worker.echoes(b"asleep")?;
     send_piece(&mut client, behind)?;
     right = worker.answer()?.kind == 6 && right;
-    hold.let_pass();
+    hold.let_pass(rt);
     let created = client.answer()?;
     right = created.kind == 8 && right;
     let _answers = client.read(behind.count.wrapping_mul(behind.answer))?;
@@ -172,7 +177,7 @@ enum Script<'a> {
 }
 
 /// Whether the script goes right.
-fn play<R: Net<Stream = TcpStream>>(
+fn play<R: Net<Stream = TcpStream> + Clock>(
     rt: &R,
     alloc: Global,
     addr: SocketAddr,
