@@ -26,8 +26,9 @@ STATES = {NO_WORKERS: ("bad", "no workers", "Jobs wait, and no worker can do the
           FINE: ("", "", "")}
 COLUMNS = {"function": "Function", "server": "Server", "waiting": "Waiting", "running": "Running", "workers": "Workers",
            "limit": "Limit", "ended": "Done/min"}
+CONNECTION_COLUMNS = {"address": "Address", "server": "Server", "id": "Id", "abilities": "Functions"}
 # A click on these sorts from the first on, and on the others, which are numbers, from the largest on.
-TEXTS = ("function", "server")
+TEXTS = ("function", *CONNECTION_COLUMNS)
 Line = collections.namedtuple("Line", "state watch function waiting running workers limit ended history")
 Query = collections.namedtuple("Query", "text order is_reversed")
 
@@ -37,7 +38,8 @@ def query_of(text):
     given = dict(urllib.parse.parse_qsl(text, keep_blank_values=True, max_num_fields=10))
     order = given.get("sort", "")
     column = order.removeprefix("-")
-    return Query(given.get("filter", "")[:512], column if column in COLUMNS else "", order.startswith("-"))
+    is_known = column in COLUMNS or column in CONNECTION_COLUMNS
+    return Query(given.get("filter", "")[:512], column if is_known else "", order.startswith("-"))
 
 
 def link_of(query, order):
@@ -95,7 +97,7 @@ def chosen_lines(lines, query, now):
     """The lines that are shown, in the order that is asked for. How many jobs ended is summed up for these only."""
     chosen = [line._replace(ended=line.history.ended_in_minute(int(now // STEP)) if line.history else 0)
               for line in heapq.nsmallest(MAX_SHOWN, lines, key=importance)]
-    if not query.order:
+    if query.order not in COLUMNS:
         return chosen
     by = {"server": lambda line: label_of(line.watch.target), "function": lambda line: line.function.casefold()}.get(
         query.order, lambda line: getattr(line, query.order) or 0)
@@ -206,13 +208,13 @@ def server_card(watch, now):
 
 ### Functions
 
-def column_head(column, query):
+def column_head(column, label, query):
     """A column's head sorts by it, and by the second click reverses that."""
     orders = ["ascending", "descending"] if column in TEXTS else ["descending", "ascending"]
     is_sorted = query.order == column
     aria = f' aria-sort="{orders[query.is_reversed]}"' if is_sorted else ""
     order = f"-{column}" if is_sorted and not query.is_reversed else column
-    return f'<th scope="col" class="{column}"{aria}><a href="{link_of(query, order)}">{COLUMNS[column]}</a></th>'
+    return f'<th scope="col" class="{column}"{aria}><a href="{link_of(query, order)}">{label}</a></th>'
 
 
 def function_line(line, columns, now):
@@ -245,7 +247,7 @@ def functions_section(lines, query, page, now):
     columns = [column for column in COLUMNS if (column != "server" or len(page.watches) > 1) and (column != "limit" or page.limits)]
     table = ""
     if lines:
-        heads = "".join(column_head(column, query) for column in columns)
+        heads = "".join(column_head(column, COLUMNS[column], query) for column in columns)
         table = (f'<table class="functions"><thead><tr>{heads}</tr></thead>'
                  f'<tbody>{"".join(function_line(line, columns, now) for line in chosen)}</tbody></table>')
     notes = functions_notes(lines, chosen, page.watches, query.text)
@@ -279,16 +281,24 @@ def found_connections(watches, text):
                 yield (index, *key, count)
 
 
+def chosen_connections(found, query, watches):
+    """The first of them in the order that is asked for."""
+    by = {"server": lambda line: (label_of(watches[line[0]].target), *line), "address": lambda line: (line[1], *line),
+          "id": lambda line: (line[2].casefold(), *line), "abilities": lambda line: (line[3].casefold(), *line)}.get(query.order)
+    choose = heapq.nlargest if by and query.is_reversed else heapq.nsmallest
+    return choose(MAX_SHOWN, found, key=by)
+
+
 def connections_section(query, watches):
     found = list(found_connections(watches, query.text))
-    chosen = heapq.nsmallest(MAX_SHOWN, found)
+    chosen = chosen_connections(found, query, watches)
     count, left = sum(line[-1] for line in found), sum(watch.answer.connections_left for watch in watches if watch.answer)
     hidden = count - sum(line[-1] for line in chosen)
     notes = [f"{hidden:,} more aren't shown."] if hidden else []
     notes += [f"{left:,} more weren't read."] if left else []
     notes += [] if found else ["No connection matches the filter." if query.text else "There are no connections."]
-    server = '<th scope="col">Server</th>' if len(watches) > 1 else ""
-    heads = f'<th scope="col">Address</th>{server}<th scope="col">Id</th><th scope="col">Functions</th>'
+    heads = "".join(column_head(column, label, query) for column, label in CONNECTION_COLUMNS.items()
+                    if column != "server" or len(watches) > 1)
     table = (f'<table class="connections"><thead><tr>{heads}</tr></thead>'
              f'<tbody>{"".join(connection_line(watches, *line) for line in chosen)}</tbody></table>') if found else ""
     return (f'<details id="connections" open><summary><h2>Connections <small>{count:,}</small></h2></summary>{table}'
