@@ -77,9 +77,12 @@ impl Gate for Hold {
         if slot != 0 {
             return;
         }
-        if index == self.from / 2 {
-            for _ in 0..20_000u32 {
-                thread::yield_now();
+        if 0 < index && index == self.from / 2 {
+            // Some milliseconds, which yielding on a busy machine would make minutes.
+            for _ in 0..10_000_000u32 {
+                if self.may_pass.load(Ordering::SeqCst) {
+                    break;
+                }
             }
         }
         if index < self.from {
