@@ -31,3 +31,6 @@ mod Turned
 mod Unmade
 mod Waiting
 pub mod Wakes
+pub mod Taken
+pub mod Rests
+pub mod Hearers

@@ -1,6 +1,8 @@
 pub mod Abilities
+pub mod Answered
 pub mod Between
 pub mod ConnectionRows
+pub mod Exceptions
 pub mod JobRows
 pub mod Laws
 pub mod Limits
@@ -8,6 +10,7 @@ pub mod LineRows
 pub mod Listeners
 pub mod Retries
 pub mod RowWords
+pub mod Sleeping
 pub mod Statuses
 pub mod Submitted
 pub mod Turns

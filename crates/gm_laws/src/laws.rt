@@ -17,6 +17,9 @@ ghost use Rattle.gm_laws.specs.Waiting.{FirstComeFirstServed, WakesHaveWork, NoJ
 ghost use Rattle.gm_laws.specs.Retries.{NoJobIsHandedOutMoreOften, NoJobIsLostTwice, NoneIsLostWithoutALimit};
 ghost use Rattle.gm_laws.specs.Retries.{OnlyTheLastTryLoses, LostJobsEndWithTheNextTick};
 ghost use Rattle.gm_laws.specs.Between.{ListenersAreOpen, RunnersAreOpen, NoWaitingJobIsOrphaned, NoOneSleepsBesideWork};
+ghost use Rattle.gm_laws.specs.Answered.{TicksAreTaken, ShutdownIsAnswered};
+ghost use Rattle.gm_laws.specs.Exceptions.{ExceptionsArePassedOn};
+ghost use Rattle.gm_laws.specs.Sleeping.{SleepersAskedForIt, AskingIsEnough};
 
 /// The numbers made are the first and its successors, each once, none above 18446744073709551615.
 pub fn numbers_are_consecutive()
@@ -243,4 +246,32 @@ pub fn wakes_have_work()
 /// NOOPs are owed, the same slots are shut, the same bytes wait, and each job is in the same place.
 pub fn may_be_taken_later()
     ensures { MayBeTakenLater }
+{}
+
+/// A slot sleeps, or is owed a NOOP, only after PRE_SLEEP. Its grab ends its sleep, and when its NOOP is taken or withdrawn it is awake.
+pub fn sleepers_asked_for_it()
+    ensures { InEachStep SleepersAskedForIt }
+{}
+
+/// After PRE_SLEEP a slot that takes units sleeps, or is owed a NOOP, until it grabs or closes or its NOOP is taken or withdrawn. Since nobody
+/// sleeps beside work, it is owed a NOOP as soon as a job waits that it can do.
+pub fn asking_is_enough()
+    ensures { InEachStep AskingIsEnough }
+{}
+
+/// OPTION_REQ for `exceptions` of a slot that takes units is answered with OPTION_RES with the same word. From then on until it closes, and
+/// not otherwise, the slot gets the exceptions of the jobs to which it listens.
+pub fn exceptions_are_passed_on()
+    ensures { InEachStep ExceptionsArePassedOn }
+{}
+
+/// A tick is never refused. It brings the server to the moment that it says, unless that has passed already, and nothing else changes the
+/// moment.
+pub fn ticks_are_taken()
+    ensures { InEachStep TicksAreTaken }
+{}
+
+/// `shutdown` and `shutdown graceful` of a slot that takes units are answered with OK, and nothing else is queued.
+pub fn shutdown_is_answered()
+    ensures { InEachStep ShutdownIsAnswered }
 {}
