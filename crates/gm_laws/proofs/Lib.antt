@@ -34,3 +34,4 @@ pub mod Wakes
 pub mod Taken
 pub mod Rests
 pub mod Hearers
+mod Firsts

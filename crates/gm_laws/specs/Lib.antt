@@ -3,6 +3,7 @@ pub mod Answered
 pub mod Between
 pub mod ConnectionRows
 pub mod Exceptions
+pub mod Firsts
 pub mod JobRows
 pub mod Laws
 pub mod Limits

@@ -20,6 +20,7 @@ ghost use Rattle.gm_laws.specs.Between.{ListenersAreOpen, RunnersAreOpen, NoWait
 ghost use Rattle.gm_laws.specs.Answered.{TicksAreTaken, ShutdownIsAnswered};
 ghost use Rattle.gm_laws.specs.Exceptions.{ExceptionsArePassedOn};
 ghost use Rattle.gm_laws.specs.Sleeping.{SleepersAskedForIt, AskingIsEnough};
+ghost use Rattle.gm_laws.specs.Firsts.{FirstAbilityWins};
 
 /// The numbers made are the first and its successors, each once, none above 18446744073709551615.
 pub fn numbers_are_consecutive()
@@ -274,4 +275,10 @@ pub fn ticks_are_taken()
 /// `shutdown` and `shutdown graceful` of a slot that takes units are answered with OK, and nothing else is queued.
 pub fn shutdown_is_answered()
     ensures { InEachStep ShutdownIsAnswered }
+{}
+
+/// Without round-robin the job that a slot is given is of the first function, in the order in which the slot added them, for which a job
+/// waits.
+pub fn first_ability_wins()
+    ensures { InEachStep FirstAbilityWins }
 {}
