@@ -35,3 +35,4 @@ pub mod Taken
 pub mod Rests
 pub mod Hearers
 mod Firsts
+mod Parting

@@ -1,6 +1,7 @@
 pub mod Abilities
 pub mod Answered
 pub mod Between
+pub mod Closing
 pub mod ConnectionRows
 pub mod Exceptions
 pub mod Firsts

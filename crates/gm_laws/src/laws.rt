@@ -21,6 +21,7 @@ ghost use Rattle.gm_laws.specs.Answered.{TicksAreTaken, ShutdownIsAnswered};
 ghost use Rattle.gm_laws.specs.Exceptions.{ExceptionsArePassedOn};
 ghost use Rattle.gm_laws.specs.Sleeping.{SleepersAskedForIt, AskingIsEnough};
 ghost use Rattle.gm_laws.specs.Firsts.{FirstAbilityWins};
+ghost use Rattle.gm_laws.specs.Closing.{ClosingCloses};
 
 /// The numbers made are the first and its successors, each once, none above 18446744073709551615.
 pub fn numbers_are_consecutive()
@@ -281,4 +282,11 @@ pub fn shutdown_is_answered()
 /// waits.
 pub fn first_ability_wins()
     ensures { InEachStep FirstAbilityWins }
+{}
+
+/// The closing of an open slot is taken, and nothing else closes a slot. The slot is free then, and listens to no job. The jobs that ran
+/// there wait again or are lost, and those that waited go on waiting, as far as they are wanted; those that nobody wants are discarded. What
+/// runs at other slots goes on.
+pub fn closing_closes()
+    ensures { InEachStep ClosingCloses }
 {}
