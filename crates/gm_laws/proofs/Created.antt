@@ -54,7 +54,7 @@ wakes_flow f (d ∷ slots) past =
 pub mention_flow : (f : List ℕ) (past : Past) → (with_mention f past).flow ≡ past.flow
 mention_flow f past = flow_if (is_mentioned f past.notes) past (with_note (notes.Mention f) past) past.flow refl refl
 
-kept_flow : (c : ℕ) (sub : Submission) (n : ℕ) (past : Past) → (keep_or_listen c sub n past).flow ≡ past.flow
+pub kept_flow : (c : ℕ) (sub : Submission) (n : ℕ) (past : Past) → (keep_or_listen c sub n past).flow ≡ past.flow
 kept_flow c sub n past = flow_if sub.background (with_note (notes.Kept n) past) (with_note (notes.Listens n c) past) past.flow refl refl
 
 -- ---- who listens
@@ -73,7 +73,7 @@ listens_once_more c n older = rw (same_number n) (counts_one_more c (listeners n
 
 -- ---- why it is refused
 
-bad_name : (f : List ℕ) → is_bad_name f ≡ true → (f ≡ []) ⊎ (512 < length f)
+pub bad_name : (f : List ℕ) → is_bad_name f ≡ true → (f ≡ []) ⊎ (512 < length f)
 bad_name [] e = inl refl
 bad_name (b ∷ f) e = inr (by (suc (length f) == 0) (nat_lt 512 (suc (length f))) refl refl e)
   where
@@ -82,7 +82,7 @@ bad_name (b ∷ f) e = inr (by (suc (length f) == 0) (nat_lt 512 (suc (length f)
     by false true none lt e = grind (arith, nat_tests)
     by false false none lt e = absurd cc
 
-too_many : (k : Settings) (f : List ℕ) (l : List Note) → is_one_too_many k f l ≡ true → (is_mentioned f l ≡ false) × (k.max_functions ≤ length (functions l))
+pub too_many : (k : Settings) (f : List ℕ) (l : List Note) → is_one_too_many k f l ≡ true → (is_mentioned f l ≡ false) × (k.max_functions ≤ length (functions l))
 too_many k f l e = by (is_mentioned f l) (nat_le k.max_functions (length (functions l))) refl e
   where
     by : (t u : Bool) → nat_le k.max_functions (length (functions l)) ≡ u → (not t && u) ≡ true → (t ≡ false) × (k.max_functions ≤ length (functions l))
@@ -90,7 +90,7 @@ too_many k f l e = by (is_mentioned f l) (nat_le k.max_functions (length (functi
     by false false le e = absurd cc
     by true u le e = absurd cc
 
-full : (f : List ℕ) (l : List Note) → is_full f l ≡ true → (0 < limit f l) × (limit f l ≤ total f l)
+pub full : (f : List ℕ) (l : List Note) → is_full f l ≡ true → (0 < limit f l) × (limit f l ≤ total f l)
 full f l e = by (limit f l == 0) (nat_le (limit f l) (total f l)) refl refl e
   where
     by : (t u : Bool) → (limit f l == 0) ≡ t → nat_le (limit f l) (total f l) ≡ u → (not t && u) ≡ true → (0 < limit f l) × (limit f l ≤ total f l)
@@ -98,7 +98,7 @@ full f l e = by (limit f l == 0) (nat_le (limit f l) (total f l)) refl refl e
     by false false some le e = absurd cc
     by true u some le e = absurd cc
 
-no_number : (k : Settings) (l : List Note) → next_number k l ≡ None → 2 ^ 64 ≤ k.first_job + length (made l)
+pub no_number : (k : Settings) (l : List Note) → next_number k l ≡ None → 2 ^ 64 ≤ k.first_job + length (made l)
 no_number k l e = by (nat_lt (k.first_job + length (made l)) (2 ^ 64)) refl e
   where
     by : (t : Bool) → nat_lt (k.first_job + length (made l)) (2 ^ 64) ≡ t → cond t (Some (k.first_job + length (made l))) None ≡ None → 2 ^ 64 ≤ k.first_job + length (made l)
@@ -107,7 +107,7 @@ no_number k l e = by (nat_lt (k.first_job + length (made l)) (2 ^ 64)) refl e
 
 -- ---- what joins
 
-joins_so : (u : List ℕ) → joins u ≡ true → (u ≡ [] → ⊥) × (u ≡ codes "-" → ⊥)
+pub joins_so : (u : List ℕ) → joins u ≡ true → (u ≡ [] → ⊥) × (u ≡ codes "-" → ⊥)
 joins_so u e = (
   (λ is. let bad : joins [] ≡ true = ap joins (sym is) ∙ e in let worse : ⊥ = cc in worse),
   (λ is. let bad : joins (codes "-") ≡ true = ap joins (sym is) ∙ e in let worse : ⊥ = cc in worse),

@@ -35,4 +35,5 @@ pub mod Taken
 pub mod Rests
 pub mod Hearers
 mod Firsts
+mod Refusals
 mod Parting

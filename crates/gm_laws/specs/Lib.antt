@@ -10,6 +10,7 @@ pub mod Laws
 pub mod Limits
 pub mod LineRows
 pub mod Listeners
+pub mod Refusals
 pub mod Retries
 pub mod RowWords
 pub mod Sleeping

@@ -22,6 +22,7 @@ ghost use Rattle.gm_laws.specs.Exceptions.{ExceptionsArePassedOn};
 ghost use Rattle.gm_laws.specs.Sleeping.{SleepersAskedForIt, AskingIsEnough};
 ghost use Rattle.gm_laws.specs.Firsts.{FirstAbilityWins};
 ghost use Rattle.gm_laws.specs.Closing.{ClosingCloses};
+ghost use Rattle.gm_laws.specs.Refusals.{RefusalsHaveTheirReason};
 
 /// The numbers made are the first and its successors, each once, none above 18446744073709551615.
 pub fn numbers_are_consecutive()
@@ -289,4 +290,12 @@ pub fn first_ability_wins()
 /// runs at other slots goes on.
 pub fn closing_closes()
     ensures { InEachStep ClosingCloses }
+{}
+
+/// A request or a text line of a slot that takes units is refused, with the code of the first reason that there is, and nothing happens; a
+/// request for whose refusal there is no reason gets no ERROR, and nobody gets any packet but those of its kind. `Refusals` has the reasons:
+/// a bad name, one function too many, a full queue, no number left, no such job, another option than `exceptions`, data or a command that
+/// cannot be read.
+pub fn refusals_have_their_reason()
+    ensures { InEachStep RefusalsHaveTheirReason }
 {}
