@@ -16,7 +16,7 @@ use Rattle.gm_notes.specs.Settings.{Settings}
 use Rattle.gm_notes.specs.Past.{Past}
 use Rattle.gm_notes.specs.Requests.{request, request_if_read, packet_of}
 use Rattle.gm_notes.specs.Steps.{Step, Packet, Close}
-use Rattle.gm_history.specs.Causes.{Caused, is_one_of, is_request, asks, Asks, priority_of, seconds_of, is_submission, is_enabling, is_closing}
+use Rattle.gm_history.specs.Causes.{Caused, is_one_of, is_request, asks, Asks, priority_of, seconds_of, is_submission, is_enabling, is_close}
 use Rattle.gm_history.proofs.Finding.{same_number}
 
 -- ---- packets
@@ -87,7 +87,7 @@ slot_asks kinds c (Packet d number bytes) asked a e =
     and_from (c == d) (is_one_of kinds (kind_of number)) (subst (λ x. (c == x) ≡ true) a.0 (same_number c)) (request_asks kinds c (Packet d number bytes) asked a e)
 slot_asks kinds c other asked a e = absurd a
 
-pub closing_asks : (c : ℕ) (s : Step) (asked : Asked) → is_closing s ≡ true → Asks c s asked → ⊥
+pub closing_asks : (c : ℕ) (s : Step) (asked : Asked) → is_close s ≡ true → Asks c s asked → ⊥
 closing_asks c (Close d) asked e a = a
 closing_asks c (Packet d number bytes) asked e a = let bad : ⊥ = cc in bad
 closing_asks c other asked e a = a

@@ -29,7 +29,7 @@ use Rattle.gm_notes.specs.Requests.{first, second, third}
 use Rattle.gm_notes.specs.Steps.{Step}
 use Rattle.gm_history.specs.History.{runs_at_a_slot, IsBelowLimit, HasWork, Allowed, History}
 use Rattle.gm_history.specs.Causes.{Caused, Ends, IsOfEnd, MaySay, Asks, IsFor, Mentions, priority_of, is_ending, is_tick, is_request}
-use Rattle.gm_history.specs.Causes.{is_submission, is_foreground, is_background, is_enabling, is_sleeping, is_grab, is_closing, asks, closes}
+use Rattle.gm_history.specs.Causes.{is_submission, is_foreground, is_background, is_enabling, is_sleeping, is_grab, is_close, asks, closes}
 use Rattle.gm_history.specs.Hearing.{AllOpen}
 use Rattle.gm_history.specs.Hearing.{listens, MayGet}
 use Rattle.gm_history.proofs.Asking.{request_asks, submission_kind}
@@ -290,7 +290,7 @@ module _ {k : Settings} {before : List Note} {s : Step} {I : Past → Type 0} (K
           let held_four = gives_keeps (job_created (handle k n)) three (wanted_open n two opened_one) (created_other (handle k n)) held_three in
           let work : IsWork f three.notes = kept_if (IsWork f) sub.background (with_note (notes.Kept n) two) (with_note (notes.Listens n c) two) (n, what, waits, here, refl) (n, what, waits, here, refl) in
           wake_keeps f (give c (job_created (handle k n)) three)
-          (λ d older. or_left (is_request is_submission s || asks is_enabling d s || asks is_sleeping d s) (is_closing s) (or_left (is_request is_submission s || asks is_enabling d s) (asks is_sleeping d s) (or_left (is_request is_submission s) (asks is_enabling d s) makes)))
+          (λ d older. or_left (is_request is_submission s || asks is_enabling d s || asks is_sleeping d s) (is_close s) (or_left (is_request is_submission s || asks is_enabling d s) (asks is_sleeping d s) (or_left (is_request is_submission s) (asks is_enabling d s) makes)))
           work held_four
 
       joins_keeps : (o : Option ℕ) (past : Past) → is_open c past.notes ≡ true → joined sub.function sub.unique past.notes ≡ o → Held k I past → Held k I (join_or_make k c sub o past)
@@ -325,7 +325,7 @@ module _ {k : Settings} {before : List Note} {s : Step} {I : Past → Type 0} (K
         held_if (is_bad_name f) (refuse c (codes "bad_function") past) _ (λ e. refuses_keeps (codes "bad_function") past opened h)
         (λ e. held_if (is_one_too_many k f past.notes) (refuse c (codes "too_many_functions") past) _ (λ g. refuses_keeps (codes "too_many_functions") past opened h)
         (λ g. woken_keeps wakes two
-        (or_left (is_request is_submission s || asks is_enabling c s || asks is_sleeping c s) (is_closing s) (or_left (is_request is_submission s || asks is_enabling c s) (asks is_sleeping c s) (or_right (is_request is_submission s) (asks is_enabling c s) may)))
+        (or_left (is_request is_submission s || asks is_enabling c s || asks is_sleeping c s) (is_close s) (or_left (is_request is_submission s || asks is_enabling c s) (asks is_sleeping c s) (or_right (is_request is_submission s) (asks is_enabling c s) may)))
         (λ w. let p = and_parts (is_asleep (phase c past.notes)) (not (is_empty (waiting_for f past.notes))) w in
         let work = waiting_work f past.notes (unless (is_empty (waiting_for f past.notes)) p.1) in
         (opened_one, kept (λ l. is_asleep (phase c l) ≡ true) p.0 p.0, work_for c f two.notes (kept (IsWork f) work work) (able_now c f t one.notes)))
@@ -345,7 +345,7 @@ module _ {k : Settings} {before : List Note} {s : Step} {I : Past → Type 0} (K
     sleep_beside_keeps None past may opened asleep work h = h
     sleep_beside_keeps (Some found) past may opened asleep work h =
         note_keeps (notes.Woken c) past refl (opened, asleep, work found refl)
-        (or_left (is_request is_submission s || asks is_enabling c s || asks is_sleeping c s) (is_closing s) (or_right (is_request is_submission s || asks is_enabling c s) (asks is_sleeping c s) may)) h
+        (or_left (is_request is_submission s || asks is_enabling c s || asks is_sleeping c s) (is_close s) (or_right (is_request is_submission s || asks is_enabling c s) (asks is_sleeping c s) may)) h
 
     pub pre_sleep_keeps : (past : Past) → asks is_sleeping c s ≡ true → is_open c past.notes ≡ true → Held k I past → Held k I (pre_sleep k c past)
     pre_sleep_keeps past may opened h =

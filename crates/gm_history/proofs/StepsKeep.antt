@@ -54,7 +54,7 @@ use Rattle.gm_notes.specs.Steps.{refusal, unless_not_open, unless, add, step, ru
 use Rattle.gm_notes.proofs.FreeSlots.{free_is}
 use Rattle.gm_history.specs.History.{runs_at_a_slot, progress, Allowed, History}
 use Rattle.gm_history.specs.Causes.{is_one_of, asks, is_request, is_submission, is_foreground, is_background, is_enabling}
-use Rattle.gm_history.specs.Causes.{is_sleeping, is_grab, is_ending, is_closing, closes}
+use Rattle.gm_history.specs.Causes.{is_sleeping, is_grab, is_ending, is_close, closes}
 use Rattle.gm_history.specs.Causes.{priority_of, seconds_of, Commands, Ends}
 use Rattle.gm_history.specs.Hearing.{listens, passed_on, MayGet}
 use Rattle.gm_history.proofs.Asking.{kind_read, request_asks, slot_asks, enabling_kind}
@@ -284,7 +284,7 @@ module _ {k : Settings} {before : List Note} {c : ℕ} {I : Past → Type 0} (K 
   wakes_for_keeps : (o : Option Job) (n : ℕ) (past : Past) → job n past.notes ≡ o → job_state n past.notes ≡ states.Waiting → Held k I past → Held k I (wake_for k o past)
   wakes_for_keeps None n past is waits h = h
   wakes_for_keeps (Some job) n past is waits h =
-      wake_keeps K job.function past (λ d older. or_right (is_request is_submission (Close c) || asks is_enabling d (Close c) || asks is_sleeping d (Close c)) (is_closing (Close c)) refl) (n, job, waits, is, refl) h
+      wake_keeps K job.function past (λ d older. or_right (is_request is_submission (Close c) || asks is_enabling d (Close c) || asks is_sleeping d (Close c)) (is_close (Close c)) refl) (n, job, waits, is, refl) h
 
   return_or_lose_keeps : (n : ℕ) (past : Past) → is_running_at c (job_state n past.notes) ≡ true → is_wanted n past.notes ≡ true → Held k I past → Held k I (return_or_lose k n past)
   return_or_lose_keeps n past e w h =

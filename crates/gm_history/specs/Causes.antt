@@ -98,9 +98,9 @@ abbrev pub closes : ℕ → Step → Bool
 closes c (Close d) = c == d
 closes c other = false
 
-abbrev pub is_closing : Step → Bool
-is_closing (Close c) = true
-is_closing other = false
+abbrev pub is_close : Step → Bool
+is_close (Close c) = true
+is_close other = false
 
 abbrev pub is_tick : Step → Bool
 is_tick (Tick now) = true
@@ -167,7 +167,7 @@ Caused k before s (notes.Can c f t) older =
 Caused k before s (notes.Cant c f) older = (asked : Asked) × Asks c s asked × (asked.kind ≡ CantDo) × (first asked.arguments ≡ f)
 Caused k before s (notes.Reset c) older = (asked : Asked) × Asks c s asked × (asked.kind ≡ ResetAbilities)
 Caused k before s (notes.Slept c) older = asks is_sleeping c s ≡ true
-Caused k before s (notes.Woken c) older = (is_request is_submission s || asks is_enabling c s || asks is_sleeping c s || is_closing s) ≡ true
+Caused k before s (notes.Woken c) older = (is_request is_submission s || asks is_enabling c s || asks is_sleeping c s || is_close s) ≡ true
 Caused k before s (notes.Stirred c) older = (asks is_grab c s || closes c s) ≡ true
 Caused k before s (notes.Took c) older = s ≡ Took c
 Caused k before s (notes.Withdrew c) older = s ≡ Withdrew c
@@ -184,7 +184,7 @@ Caused k before s (notes.Assigned n c late) older = (asks is_grab c s ≡ true) 
 Caused k before s (notes.Returned n) older = (c : ℕ) × (s ≡ Close c) × (is_running_at c (job_state n older) ≡ true)
 Caused k before s (notes.Lost n) older = (c : ℕ) × (s ≡ Close c) × (is_running_at c (job_state n older) ≡ true)
 Caused k before s (notes.Ended n) older = Ends k before s n
-Caused k before s (notes.Discarded n) older = is_closing s ≡ true
+Caused k before s (notes.Discarded n) older = is_close s ≡ true
 -- WORK_STATUS with the job's handle and these numbers, of the slot where it runs
 Caused k before s (notes.Report n a b) older =
     (c : ℕ) × (asked : Asked) × Asks c s asked × (asked.kind ≡ WorkStatus) × (job_state n before ≡ states.Running c)

@@ -18,13 +18,17 @@ use Rattle.gm_notes.specs.Jobs.{Ability, abilities, is_able, is_of, put, is_empt
 use Rattle.gm_notes.specs.Past.{Past, with_note, with_mention, refuse}
 use Rattle.gm_notes.specs.Texts.{spaced}
 use Rattle.gm_notes.specs.Submissions.{is_bad_name, is_one_too_many}
-use Rattle.gm_notes.specs.Workers.{wake_if, can_do, cant_do}
+use Rattle.gm_notes.specs.Workers.{wake_if, add_ability, can_do, cant_do}
 use Rattle.gm_notes.specs.Requests.{first, request, packet_of}
 use Rattle.gm_notes.specs.Steps.{Step, Packet, step, run}
 use Rattle.gm_history.specs.History.{Allowed, History}
-use Rattle.gm_history.specs.Causes.{Caused, Asks, seconds_of, closes}
+use Rattle.gm_history.specs.Causes.{Caused, Asks, seconds_of, closes, is_enabling}
 use Rattle.gm_history.specs.History.{is_able_within}
-use Rattle.gm_laws.specs.Abilities.{Enables, Disables, IsError, AbilitiesCome, AbilitiesAreAsAsked}
+use Rattle.gm_laws.specs.Abilities.{Enables, Disables, IsRejected, AbilitiesCome, AbilitiesAreAsAsked}
+use Rattle.gm_laws.specs.Refusals.{names_function}
+use Rattle.gm_laws.proofs.Created.{bad_name, too_many}
+use Rattle.gm_laws.proofs.Refusals.{named_badly}
+use Rattle.gm_laws.proofs.Taken.{request_does}
 use Rattle.gm_history.proofs.Asking.{packet_does}
 use Rattle.gm_history.proofs.Finding.{same_number}
 use Rattle.gm_laws.proofs.JobLaws.{is_same}
@@ -242,63 +246,69 @@ module _ (k : Settings) (s : Step) (start : Past) (history : History k start.not
 
 -- ---- what is asked comes true
 
-module _ (k : Settings) (c : ℕ) (start : Past) where
-  error_here : (code : List ℕ) → IsError c start (refuse c code start)
-  error_here code = (code, spaced code, refl, refl)
+module _ (k : Settings) (c : ℕ) (start : Past) (a : List (List ℕ)) (timeout : ℕ) where
+  abbrev asked : Kind → Asked
+  asked kind = record { kind = kind; arguments = a; timeout = timeout }
 
-  can_now : (f : List ℕ) (t : ℕ) (l : List Note) → is_able_within c f t (notes.Can c f t ∷ l) ≡ true
-  can_now f t l = rw (same_number c) (put_now (λ ability. is_of f ability && ability.timeout == t) f t (abilities c l) (and_from (bytes_eq f f) (t == t) ((bytes_eq-Decides f f).1 refl) (same_number t)))
+  abbrev f : List ℕ
+  f = first a
 
-  can_does : (f : List ℕ) (t : ℕ) → (is_able_within c f t (can_do k c f t start).notes ≡ true) ⊎ IsError c start (can_do k c f t start)
-  can_does f t = by (is_bad_name f) (is_one_too_many k f start.notes)
+  badly : (kind : Kind) → names_function kind ≡ true → is_bad_name f ≡ true → IsRejected k c (asked kind) start (refuse c (codes "bad_function") start)
+  badly kind names bad = (codes "bad_function", inl (refl, names, bad_name f bad), (spaced (codes "bad_function"), refl, refl))
+
+  can_now : (t : ℕ) (l : List Note) → is_able_within c f t (notes.Can c f t ∷ l) ≡ true
+  can_now t l = rw (same_number c) (put_now (λ ability. is_of f ability && ability.timeout == t) f t (abilities c l) (and_from (bytes_eq f f) (t == t) ((bytes_eq-Decides f f).1 refl) (same_number t)))
+
+  can_does : (kind : Kind) → is_enabling kind ≡ true → names_function kind ≡ true → (t : ℕ) → (is_able_within c f t (can_do k c f t start).notes ≡ true) ⊎ IsRejected k c (asked kind) start (can_do k c f t start)
+  can_does kind enables names t = by (is_bad_name f) (is_one_too_many k f start.notes) refl refl
     where
       woken : (u : Bool) → is_able_within c f t (wake_if u c (with_note (notes.Can c f t) (with_mention f start))).notes ≡ true
-      woken true = can_now f t (with_mention f start).notes
-      woken false = can_now f t (with_mention f start).notes
+      woken true = can_now t (with_mention f start).notes
+      woken false = can_now t (with_mention f start).notes
 
-      by : (u v : Bool) → (is_able_within c f t (cond u (refuse c (codes "bad_function") start) (cond v (refuse c (codes "too_many_functions") start) (wake_if (is_asleep (phase c start.notes) && not (is_empty (waiting_for f start.notes))) c (with_note (notes.Can c f t) (with_mention f start))))).notes ≡ true)
-          ⊎ IsError c start (cond u (refuse c (codes "bad_function") start) (cond v (refuse c (codes "too_many_functions") start) (wake_if (is_asleep (phase c start.notes) && not (is_empty (waiting_for f start.notes))) c (with_note (notes.Can c f t) (with_mention f start)))))
-      by true v = inr (error_here (codes "bad_function"))
-      by false true = inr (error_here (codes "too_many_functions"))
-      by false false = inl (woken (is_asleep (phase c start.notes) && not (is_empty (waiting_for f start.notes))))
+      by : (u v : Bool) → is_bad_name f ≡ u → is_one_too_many k f start.notes ≡ v
+          → (is_able_within c f t (cond u (refuse c (codes "bad_function") start) (cond v (refuse c (codes "too_many_functions") start) (add_ability c f t start))).notes ≡ true)
+          ⊎ IsRejected k c (asked kind) start (cond u (refuse c (codes "bad_function") start) (cond v (refuse c (codes "too_many_functions") start) (add_ability c f t start)))
+      by true v bad many = inr (badly kind names bad)
+      by false true bad many =
+          inr (codes "too_many_functions", inr (inl (refl, (λ b. both_not (is_bad_name f) (named_badly f b) bad), inl enables, too_many k f start.notes many)), (spaced (codes "too_many_functions"), refl, refl))
+      by false false bad many = inl (woken (is_asleep (phase c start.notes) && not (is_empty (waiting_for f start.notes))))
 
-  cant_does : (f : List ℕ) → (is_able c f (cant_do c f start).notes ≡ false) ⊎ IsError c start (cant_do c f start)
-  cant_does f = by (is_bad_name f)
+  cant_does : (is_able c f (cant_do c f start).notes ≡ false) ⊎ IsRejected k c (asked CantDo) start (cant_do c f start)
+  cant_does = by (is_bad_name f) refl
     where
       cant_now : is_able c f (notes.Cant c f ∷ start.notes) ≡ false
       cant_now = rw (same_number c) (none_left f (abilities c start.notes))
 
-      by : (u : Bool) → (is_able c f (cond u (refuse c (codes "bad_function") start) (with_note (notes.Cant c f) start)).notes ≡ false) ⊎ IsError c start (cond u (refuse c (codes "bad_function") start) (with_note (notes.Cant c f) start))
-      by true = inr (error_here (codes "bad_function"))
-      by false = inl cant_now
+      by : (u : Bool) → is_bad_name f ≡ u → (is_able c f (cond u (refuse c (codes "bad_function") start) (with_note (notes.Cant c f) start)).notes ≡ false)
+          ⊎ IsRejected k c (asked CantDo) start (cond u (refuse c (codes "bad_function") start) (with_note (notes.Cant c f) start))
+      by true bad = inr (badly CantDo refl bad)
+      by false bad = inl cant_now
 
-  enables_does : (kind : Kind) (a : List (List ℕ)) (timeout seconds : ℕ) → seconds_of kind timeout ≡ Some seconds
-      → (is_able_within c (first a) seconds (request k c kind a timeout start).notes ≡ true) ⊎ IsError c start (request k c kind a timeout start)
-  enables_does CanDo a timeout seconds e =
-      subst (λ t. (is_able_within c (first a) t (can_do k c (first a) 0 start).notes ≡ true) ⊎ IsError c start (can_do k c (first a) 0 start)) (same_Some 0 seconds e) (can_does (first a) 0)
-  enables_does CanDoTimeout a timeout seconds e =
-      subst (λ t. (is_able_within c (first a) t (can_do k c (first a) timeout start).notes ≡ true) ⊎ IsError c start (can_do k c (first a) timeout start)) (same_Some timeout seconds e) (can_does (first a) timeout)
-  enables_does kind a timeout seconds e = absurd cc
+  enables_does : (kind : Kind) (seconds : ℕ) → seconds_of kind timeout ≡ Some seconds
+      → (is_able_within c f seconds (request k c kind a timeout start).notes ≡ true) ⊎ IsRejected k c (asked kind) start (request k c kind a timeout start)
+  enables_does CanDo seconds e =
+      subst (λ t. (is_able_within c f t (can_do k c f 0 start).notes ≡ true) ⊎ IsRejected k c (asked CanDo) start (can_do k c f 0 start)) (same_Some 0 seconds e) (can_does CanDo refl refl 0)
+  enables_does CanDoTimeout seconds e =
+      subst (λ t. (is_able_within c f t (can_do k c f timeout start).notes ≡ true) ⊎ IsRejected k c (asked CanDoTimeout) start (can_do k c f timeout start)) (same_Some timeout seconds e) (can_does CanDoTimeout refl refl timeout)
+  enables_does kind seconds e = absurd cc
 
-  disables_does : (kind : Kind) (a : List (List ℕ)) (timeout : ℕ) (f : List ℕ) → ((kind ≡ CantDo) × (first a ≡ f)) ⊎ (kind ≡ ResetAbilities)
-      → (is_able c f (request k c kind a timeout start).notes ≡ false) ⊎ IsError c start (request k c kind a timeout start)
-  disables_does CantDo a timeout f (inl e) = subst (λ g. (is_able c g (cant_do c (first a) start).notes ≡ false) ⊎ IsError c start (cant_do c (first a) start)) e.1 (cant_does (first a))
-  disables_does ResetAbilities a timeout f e = inl (ap (λ t. list_any (is_of f) (cond t [] (abilities c start.notes))) (same_number c))
-  disables_does kind a timeout f (inl e) = let bad = e.0 in absurd cc
-  disables_does kind a timeout f (inr e) = absurd cc
+  disables_does : (kind : Kind) (g : List ℕ) → ((kind ≡ CantDo) × (f ≡ g)) ⊎ (kind ≡ ResetAbilities)
+      → (is_able c g (request k c kind a timeout start).notes ≡ false) ⊎ IsRejected k c (asked kind) start (request k c kind a timeout start)
+  disables_does CantDo g (inl e) = subst (λ h. (is_able c h (cant_do c f start).notes ≡ false) ⊎ IsRejected k c (asked CantDo) start (cant_do c f start)) e.1 cant_does
+  disables_does ResetAbilities g e = inl (ap (λ t. list_any (is_of g) (cond t [] (abilities c start.notes))) (same_number c))
+  disables_does kind g (inl e) = let bad = e.0 in absurd cc
+  disables_does kind g (inr e) = absurd cc
 
-abilities_come : (k : Settings) (s : Step) (start : Past) → AbilitiesCome start s (step k s start)
-abilities_come k (Packet d number bytes) start c asked f takes a =
-    let does : request k c asked.kind asked.arguments asked.timeout start ≡ step k (Packet d number bytes) start =
-    sym (ap (λ x. step k (Packet x number bytes) start) (sym a.0)
-    ∙ (taken_is (takes_units c start.notes) (packet_of k c (kind_of number) bytes start) start takes ∙ packet_does bytes asked k c start (kind_of number) a.1)) in (
+abilities_come : (k : Settings) (s : Step) (start : Past) → AbilitiesCome k start s (step k s start)
+abilities_come k s start c asked g takes asks =
+    let does : request k c asked.kind asked.arguments asked.timeout start ≡ step k s start = sym (request_does k s start c asked takes asks) in (
       (λ seconds e.
-          subst (λ after. (is_able_within c f seconds after.notes ≡ true) ⊎ IsError c start after) does
-          (subst (λ g. (is_able_within c g seconds (request k c asked.kind asked.arguments asked.timeout start).notes ≡ true) ⊎ IsError c start (request k c asked.kind asked.arguments asked.timeout start)) e.0
-          (enables_does k c start asked.kind asked.arguments asked.timeout seconds e.1))),
-      (λ e. subst (λ after. (is_able c f after.notes ≡ false) ⊎ IsError c start after) does (disables_does k c start asked.kind asked.arguments asked.timeout f e)),
+          subst (λ after. (is_able_within c g seconds after.notes ≡ true) ⊎ IsRejected k c asked start after) does
+          (subst (λ h. (is_able_within c h seconds (request k c asked.kind asked.arguments asked.timeout start).notes ≡ true) ⊎ IsRejected k c asked start (request k c asked.kind asked.arguments asked.timeout start)) e.0
+          (enables_does k c start asked.arguments asked.timeout asked.kind seconds e.1))),
+      λ e. subst (λ after. (is_able c g after.notes ≡ false) ⊎ IsRejected k c asked start after) does (disables_does k c start asked.arguments asked.timeout asked.kind g e),
     )
-abilities_come k other start c asked f takes a = absurd a
 
 pub abilities_asked : (k : Settings) (steps : List Step) (s : Step) → AbilitiesAreAsAsked k (run k steps) s (run k (s ∷ steps))
 abilities_asked k steps s = (

@@ -1,5 +1,5 @@
 -- Jobs end by what their workers say, and by the clock.
-use Rattle.std.proofs.Common.{◌≡◌, ◌⊎◌, inl, inr, ℕ, ◌≤◌, Bool, true, false, cond, ◌&&◌, List, [], ◌∷◌, Option, Some, None, max}
+use Rattle.std.proofs.Common.{not, ◌≡◌, ◌⊎◌, inl, inr, ℕ, ◌≤◌, Bool, true, false, cond, ◌&&◌, List, [], ◌∷◌, Option, Some, None, max}
 use Rattle.std.proofs.Common.{refl, sym, ap, subst, ◌∙◌, arith}
 use Rattle.std.specs.Prelude.{◌==◌, nat_le, unwrap_or}
 use Rattle.std.proofs.lemmas.Bool.{and_from}
@@ -19,15 +19,15 @@ use Rattle.gm_notes.specs.Past.{Past, with_note, tell_all}
 use Rattle.gm_notes.specs.Closings.{is_reached, expire_one, expire_each, rising, tick}
 use Rattle.gm_notes.specs.Workers.{tell_work, work}
 use Rattle.gm_notes.specs.Requests.{first, second, ending, request, packet_of}
-use Rattle.gm_notes.specs.Steps.{Step, Packet, Tick, refusal, step, run}
+use Rattle.gm_notes.specs.Steps.{Step, Packet, Tick, step, run}
 use Rattle.gm_history.specs.History.{Allowed, History}
-use Rattle.gm_history.specs.Causes.{Caused, Ends, is_request, is_ending, is_grab, is_submission, is_closing}
-use Rattle.gm_laws.specs.Laws.{has_place, WorkersAndClocksEndJobs}
+use Rattle.gm_history.specs.Causes.{Caused, Ends, is_request, is_ending, is_grab, is_submission, is_close}
+use Rattle.gm_laws.specs.Laws.{has_place, is_unheard, WorkersAndClocksEndJobs}
 use Rattle.gm_history.proofs.Asking.{packet_does, asked_kind, asks_some, apart_requests, made_request}
 use Rattle.gm_history.proofs.Finding.{same_number}
 use Rattle.gm_laws.proofs.JobLaws.{is_same, running_place}
 use Rattle.gm_laws.proofs.Passing.{works_does}
-use Rattle.gm_history.proofs.StepsKeep.{takes_open, run_history}
+use Rattle.gm_history.proofs.StepsKeep.{run_history}
 use Rattle.gm_history.proofs.Caused.{note_law}
 use Rattle.gm_laws.proofs.StepLaws.{taken_is}
 use Rattle.gm_history.proofs.Keeping.{tell_all_notes}
@@ -76,6 +76,10 @@ tick_ends k now start n h placed due =
 
 -- ---- steps
 
+heard_takes : (t : Bool) → not t ≡ false → t ≡ true
+heard_takes true e = refl
+heard_takes false e = absurd cc
+
 module _ (k : Settings) (start : Past) (history : History k start.notes) where
   worker_ends : (worker n : ℕ) (kind : Kind) (a : List (List ℕ)) (timeout : ℕ) → job_state n start.notes ≡ states.Running worker → is_ending kind ≡ true → first a ≡ handle k n
       → job_state n (request k worker kind a timeout start).notes ≡ states.Ended
@@ -98,14 +102,14 @@ module _ (k : Settings) (start : Past) (history : History k start.notes) where
       let reached : nat_le late (max now (moment start.notes)) ≡ true = grind (arith, nat_tests) in
       and_from (is_running (job_state n start.notes)) (is_reached (deadline n start.notes) (max now (moment start.notes))) runs (ap (λ d. is_reached d (max now (moment start.notes))) is ∙ reached)
 
-  ends_it : (s : Step) (n : ℕ) → refusal k s start ≡ None → Ends k start.notes s n → job_state n (step k s start).notes ≡ states.Ended
-  ends_it (Packet worker number bytes) n taken e =
+  ends_it : (s : Step) (n : ℕ) → is_unheard s start.notes ≡ false → Ends k start.notes s n → job_state n (step k s start).notes ≡ states.Ended
+  ends_it (Packet worker number bytes) n heard e =
       let asked = e.2.0 in
       ap (λ (past : Past). job_state n past.notes)
-      (taken_is (takes_units worker start.notes) (packet_of k worker (kind_of number) bytes start) start (takes_open (takes_units worker start.notes) taken) ∙ packet_does bytes asked k worker start (kind_of number) e.2.1)
+      (taken_is (takes_units worker start.notes) (packet_of k worker (kind_of number) bytes start) start (heard_takes (takes_units worker start.notes) heard) ∙ packet_does bytes asked k worker start (kind_of number) e.2.1)
       ∙ worker_ends worker n asked.kind asked.arguments asked.timeout e.1 (sym (asked_kind bytes asked is_ending (kind_of number) e.2.1) ∙ e.0) e.2.2
-  ends_it (Tick now) n taken e = tick_ends k now start n history (running_place (job_state n start.notes) e.0) (due_then now e.1 n e.0 e.2 e.3)
-  ends_it other n taken e = absurd e
+  ends_it (Tick now) n heard e = tick_ends k now start n history (running_place (job_state n start.notes) e.0) (due_then now e.1 n e.0 e.2 e.3)
+  ends_it other n heard e = absurd e
 
 -- ---- deadlines
 
@@ -119,7 +123,7 @@ submission_apart GrabJob e = absurd cc
 submission_apart GrabJobUniq e = absurd cc
 submission_apart kind e = refl
 
-closing_apart : (s : Step) → is_closing s ≡ true → is_request is_grab s ≡ false
+closing_apart : (s : Step) → is_close s ≡ true → is_request is_grab s ≡ false
 closing_apart (Packet c number bytes) e = absurd cc
 closing_apart other e = refl
 
@@ -162,9 +166,9 @@ module _ (k : Settings) (s : Step) (start : Past) (n c : ℕ) where
       gone_on m states.Waiting (notes.Made m f p u body) older (λ t is. rw is refl) (λ is. rw is refl) (λ e. let bad : ⊥ = cc in bad)
       (apart_requests is_submission is_grab submission_apart s (made_request k start.notes s m f p u body older cause)) r
   runs_on (notes.Returned m) older allowed cause r =
-      gone_on m states.Waiting (notes.Returned m) older (λ t is. rw is refl) (λ is. rw is refl) (λ e. let bad : ⊥ = cc in bad) (closing_apart s (ap is_closing cause.1)) r
+      gone_on m states.Waiting (notes.Returned m) older (λ t is. rw is refl) (λ is. rw is refl) (λ e. let bad : ⊥ = cc in bad) (closing_apart s (ap is_close cause.1)) r
   runs_on (notes.Lost m) older allowed cause r =
-      gone_on m states.Lost (notes.Lost m) older (λ t is. rw is refl) (λ is. rw is refl) (λ e. let bad : ⊥ = cc in bad) (closing_apart s (ap is_closing cause.1)) r
+      gone_on m states.Lost (notes.Lost m) older (λ t is. rw is refl) (λ is. rw is refl) (λ e. let bad : ⊥ = cc in bad) (closing_apart s (ap is_close cause.1)) r
   runs_on (notes.Ended m) older allowed cause r =
       gone_on m states.Ended (notes.Ended m) older (λ t is. rw is refl) (λ is. refl) (λ e. let bad : ⊥ = cc in bad) (ends_apart m cause) r
   runs_on (notes.Discarded m) older allowed cause r =
@@ -178,6 +182,6 @@ module _ (k : Settings) (s : Step) (start : Past) (n c : ℕ) where
 
 pub ends_so : (k : Settings) (steps : List Step) (s : Step) → WorkersAndClocksEndJobs k (run k steps) s (run k (s ∷ steps))
 ends_so k steps s = (
-  λ n taken e. ends_it k (run k steps) (run_history k steps) s n taken e,
+  λ n heard e. ends_it k (run k steps) (run_history k steps) s n heard e,
   λ n c was runs. stays_late k s (run k steps) n c (run_history k steps) was runs,
 )

@@ -10,12 +10,12 @@ use Rattle.std.proofs.lemmas.Slice.Eq.{bytes_eq-Decides}
 use Rattle.gm_notes.specs.declared.note.Note.{Note}
 use Rattle.gm_notes.specs.declared.note.Note.TheVariants.{Made, Assigned, Returned, Lost, Ended, Discarded}
 use Rattle.gm_notes.specs.Settings.{Settings}
-use Rattle.gm_notes.specs.Jobs.{Job, job_state, job, is_job_named, joins, joined, made, next_number}
+use Rattle.gm_notes.specs.Jobs.{Job, job_state, job, is_job_named, joins, joined, made, next_number, is_live_named}
 use Rattle.gm_notes.specs.JobStates.{JobState, is_live, is_waiting, is_running}
 use Rattle.gm_notes.specs.JobStates as states
 use Rattle.gm_notes.specs.Steps.{Step, run}
 use Rattle.gm_history.specs.History.{runs_at_a_slot, Allowed, History}
-use Rattle.gm_laws.specs.Laws.{AreNumbers, is_made, has_place, HavePlaces, is_live_named, AreOne, is_gone, StayGone}
+use Rattle.gm_laws.specs.Laws.{AreNumbers, is_made, has_place, HavePlaces, AreOne, is_gone, StayGone}
 use Rattle.gm_history.proofs.StepsKeep.{step_keeps, run_history}
 use Rattle.gm_history.proofs.Keeping.{keeps_notes, slot_runs}
 use Rattle.gm_laws.proofs.NumberLaws.{next_is, numbers}
@@ -104,11 +104,11 @@ none_passes test [] n e h = absurd cc
 none_passes test (m ∷ ns) n e h = none_head test m n ns (test m) (m == n) refl refl (none_passes test ns n) e h
 
 -- live and named so, after a note that leaves job and name as they were for all but m
-live_named_parts : (f u : List ℕ) (n : ℕ) (notes : List Note) → is_live_named f u n notes ≡ true → (is_live (job_state n notes) ≡ true) × (is_job_named f u (job n notes) ≡ true)
+live_named_parts : (f u : List ℕ) (n : ℕ) (notes : List Note) → is_live_named f u notes n ≡ true → (is_live (job_state n notes) ≡ true) × (is_job_named f u (job n notes) ≡ true)
 live_named_parts f u n notes e = and_parts (is_live (job_state n notes)) (is_job_named f u (job n notes)) e
 
 -- nothing live joins what finds nothing to join
-pub none_joins : (k : Settings) (f u : List ℕ) (n : ℕ) (older : List Note) → History k older → joins u ≡ true → joined f u older ≡ None → is_live_named f u n older ≡ true → ⊥
+pub none_joins : (k : Settings) (f u : List ℕ) (n : ℕ) (older : List Note) → History k older → joins u ≡ true → joined f u older ≡ None → is_live_named f u older n ≡ true → ⊥
 none_joins k f u n older h joining none e =
     let searched : find (λ m. is_live (job_state m older) && is_job_named f u (job m older)) (made older) ≡ None =
     ap (λ t. cond t (find (λ m. is_live (job_state m older) && is_job_named f u (job m older)) (made older)) None) (sym joining) ∙ none in
@@ -117,7 +117,7 @@ none_joins k f u n older h joining none e =
     let bad : ⊥ = cc in bad
 
 -- a job that keeps its liveness: whoever is live and named after the move was before
-moved_live : (f u : List ℕ) (n m : ℕ) (older : List Note) (new : JobState) (t : Bool) → (n == m) ≡ t → is_live (job_state m older) ≡ true → (is_live (unwrap_or (cond t (Some new) None) (job_state n older)) && is_job_named f u (job n older)) ≡ true → is_live_named f u n older ≡ true
+moved_live : (f u : List ℕ) (n m : ℕ) (older : List Note) (new : JobState) (t : Bool) → (n == m) ≡ t → is_live (job_state m older) ≡ true → (is_live (unwrap_or (cond t (Some new) None) (job_state n older)) && is_job_named f u (job n older)) ≡ true → is_live_named f u older n ≡ true
 moved_live f u n m older new true is lived e =
     let same : m ≡ n = sym (is_same n m is) in
     and_from (is_live (job_state n older)) (is_job_named f u (job n older)) (subst (λ x. is_live (job_state x older) ≡ true) same lived) (and_parts (is_live new) (is_job_named f u (job n older)) e).1
@@ -135,15 +135,15 @@ new_named f u g v e =
     let p = and_parts (bytes_eq g f) (bytes_eq v u) e in
     ((bytes_eq-Decides g f).0 p.0, (bytes_eq-Decides v u).0 p.1)
 
-made_named : (f u : List ℕ) (n m : ℕ) (new : Job) (older : List Note) (t : Bool) → (is_live (unwrap_or (cond t (Some states.Waiting) None) (job_state n older)) && is_job_named f u (unwrap_or (cond t (Some (Some new)) None) (job n older))) ≡ true → (t ≡ true → is_job_named f u (Some new) ≡ true) × (t ≡ false → is_live_named f u n older ≡ true)
+made_named : (f u : List ℕ) (n m : ℕ) (new : Job) (older : List Note) (t : Bool) → (is_live (unwrap_or (cond t (Some states.Waiting) None) (job_state n older)) && is_job_named f u (unwrap_or (cond t (Some (Some new)) None) (job n older))) ≡ true → (t ≡ true → is_job_named f u (Some new) ≡ true) × (t ≡ false → is_live_named f u older n ≡ true)
 made_named f u n m new older true e = ((λ h. (and_parts true (is_job_named f u (Some new)) e).1), (λ h. absurd cc))
 made_named f u n m new older false e = ((λ h. absurd cc), (λ h. e))
 
 -- two live jobs of one name, once job m was made
 two_made : (k : Settings) (f u : List ℕ) (a b m : ℕ) (new : Job) (older : List Note) (s t : Bool) → History k older → (a == m) ≡ s → (b == m) ≡ t → joins u ≡ true → joined new.function new.unique older ≡ None
-    → (is_live_named f u a older ≡ true → is_live_named f u b older ≡ true → a ≡ b)
-    → (s ≡ true → is_job_named f u (Some new) ≡ true) × (s ≡ false → is_live_named f u a older ≡ true)
-    → (t ≡ true → is_job_named f u (Some new) ≡ true) × (t ≡ false → is_live_named f u b older ≡ true) → a ≡ b
+    → (is_live_named f u older a ≡ true → is_live_named f u older b ≡ true → a ≡ b)
+    → (s ≡ true → is_job_named f u (Some new) ≡ true) × (s ≡ false → is_live_named f u older a ≡ true)
+    → (t ≡ true → is_job_named f u (Some new) ≡ true) × (t ≡ false → is_live_named f u older b ≡ true) → a ≡ b
 two_made k f u a b m new older true true h as_m bs_m joining none rest p q = is_same a m as_m ∙ sym (is_same b m bs_m)
 two_made k f u a b m new older false false h as_m bs_m joining none rest p q = rest (p.1 refl) (q.1 refl)
 two_made k f u a b m new older true false h as_m bs_m joining none rest p q =

@@ -34,7 +34,10 @@ use Rattle.gm_laws.proofs.JobLaws.{is_same, places, unmade, slot_live, waiting_l
 use Rattle.gm_laws.proofs.Moving.{from, both_not}
 use Rattle.gm_laws.proofs.Sleepers.{fewer, filtered_if, put_other}
 use Rattle.gm_history.proofs.StepsKeep.{run_history}
-use Rattle.gm_laws.proofs.Created.{mention_flow}
+use Rattle.gm_laws.specs.Refusals.{IsErr, IsErroneous}
+use Rattle.gm_laws.proofs.Created.{mention_flow, too_many}
+use Rattle.gm_laws.proofs.Refusals.{bad_word, word_badly}
+use Rattle.gm_laws.proofs.Taken.{line_does}
 use Rattle.gm_history.proofs.Caused.{note_law}
 use Rattle.gm_laws.proofs.StepLaws.{taken_is}
 
@@ -222,27 +225,22 @@ module _ (k : Settings) (start : Past) (c : ℕ) (f : List ℕ) (size : ℕ) whe
   abbrev Sets : Past → Type 0
   Sets after =
       ((after.flow ≡ Queued c ok_text ∷ start.flow) × (limit f after.notes ≡ size))
-      ⊎ ((error : AdminError) × (after.flow ≡ Queued c (error_text error) ∷ start.flow) × (after.notes ≡ start.notes))
+      ⊎ ((error : AdminError) × IsErroneous k (Ok (MaxQueue f size)) start error × IsErr c error start after)
 
   sets_now : limit f (notes.Limit f size ∷ (with_mention f start).notes) ≡ size
   sets_now = rw ((bytes_eq-Decides f f).1 refl) refl
 
   sets : Sets (maxqueue k c f size start)
-  sets = by (is_bad_word f) (is_one_too_many k f start.notes)
+  sets = by (is_bad_word f) (is_one_too_many k f start.notes) refl refl
     where
-      by : (t u : Bool) → Sets (cond t (refuse_line c errors.BadFunction start) (cond u (refuse_line c errors.TooManyFunctions start) (with_output c ok_text (with_note (notes.Limit f size) (with_mention f start)))))
-      by true u = inr (errors.BadFunction, refl, refl)
-      by false true = inr (errors.TooManyFunctions, refl, refl)
-      by false false = inl (ap (λ flow. Queued c ok_text ∷ flow) (mention_flow f start), sets_now)
+      by : (t u : Bool) → is_bad_word f ≡ t → is_one_too_many k f start.notes ≡ u
+          → Sets (cond t (refuse_line c errors.BadFunction start) (cond u (refuse_line c errors.TooManyFunctions start) (with_output c ok_text (with_note (notes.Limit f size) (with_mention f start)))))
+      by true u bad many = inr (errors.BadFunction, inl (refl, bad_word f bad), (refl, refl))
+      by false true bad many = inr (errors.TooManyFunctions, inr (refl, (λ b. both_not (is_bad_word f) (word_badly f b) bad), too_many k f start.notes many), (refl, refl))
+      by false false bad many = inl (ap (λ flow. Queued c ok_text ∷ flow) (mention_flow f start), sets_now)
 
-  commands : (r : Result Commanded AdminFault) → r ≡ Ok (MaxQueue f size) → Sets (command k c r start)
-  commands r is = subst (λ x. Sets (command k c x start)) (sym is) sets
-
-maxqueue_answered : (k : Settings) (s : Step) (start : Past) → MaxqueueIsAnswered start s (step k s start)
-maxqueue_answered k s start c line f size is asks takes =
-    let reads : command_of line ≡ Ok (MaxQueue f size) = subst (λ x. Commands x (MaxQueue f size)) is asks in
-    subst (λ x. Sets k start c f size (step k x start)) (sym is)
-    (subst (Sets k start c f size) (sym (taken_is (takes_units c start.notes) (command k c (command_of line) start) start takes)) (commands k start c f size (command_of line) reads))
+maxqueue_answered : (k : Settings) (s : Step) (start : Past) → MaxqueueIsAnswered k start s (step k s start)
+maxqueue_answered k s start c line f size is asks takes = subst (Sets k start c f size) (sym (line_does k s start c line (MaxQueue f size) is asks takes)) (sets k start c f size)
 
 pub limits : (k : Settings) (steps : List Step) (s : Step) → LimitsHold k (run k steps) s (run k (s ∷ steps))
 limits k steps s =

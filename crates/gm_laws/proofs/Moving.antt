@@ -17,7 +17,7 @@ use Rattle.gm_notes.specs.Closings.{rising}
 use Rattle.gm_notes.specs.Steps.{Step, Close}
 use Rattle.gm_history.specs.History.{History}
 use Rattle.gm_laws.specs.Laws.{has_place}
-use Rattle.gm_history.specs.Causes.{is_closing}
+use Rattle.gm_history.specs.Causes.{is_close}
 use Rattle.gm_laws.proofs.JobLaws.{is_same, places}
 use Rattle.gm_history.proofs.Keeping.{kept_if}
 
@@ -87,5 +87,5 @@ wake_each_notes P more f (c ∷ slots) past p =
 pub both_not : (t : Bool) → t ≡ true → t ≡ false → ⊥
 both_not t p q = let bad : true ≡ false = sym p ∙ q in let worse : ⊥ = cc in worse
 
-pub closes_not : (s : Step) (c : ℕ) → is_closing s ≡ false → s ≡ Close c → ⊥
-closes_not s c other e = both_not (is_closing s) (ap is_closing e) other
+pub closes_not : (s : Step) (c : ℕ) → is_close s ≡ false → s ≡ Close c → ⊥
+closes_not s c other e = both_not (is_close s) (ap is_close e) other

@@ -22,7 +22,7 @@ use Rattle.gm_notes.specs.Requests.{packet_of, submission, request}
 use Rattle.gm_notes.specs.Closings.{discard_one, discard_each, wake_for, return_or_lose, give_back_one, give_back_each, disconnect, rising, close}
 use Rattle.gm_notes.specs.Steps.{Step, Packet, Close, refusal, step, run}
 use Rattle.gm_history.specs.History.{Allowed, History}
-use Rattle.gm_history.specs.Causes.{Caused, is_closing, is_submission, is_request, is_one_of}
+use Rattle.gm_history.specs.Causes.{Caused, is_close, is_submission, is_request, is_one_of}
 use Rattle.gm_laws.specs.Between.{NoWaitingJobIsOrphaned}
 use Rattle.gm_laws.specs.Laws.{has_place}
 use Rattle.gm_history.proofs.Asking.{made_request}
@@ -165,7 +165,7 @@ module _ (k : Settings) (c : ℕ) where
 -- ---- steps
 
 -- a step that is no closing and no submission
-quiet_wanted : (k : Settings) (s : Step) (start : Past) → is_closing s ≡ false → is_request is_submission s ≡ false → History k start.notes → WantedSo None_ start.notes → WantedSo None_ (step k s start).notes
+quiet_wanted : (k : Settings) (s : Step) (start : Past) → is_close s ≡ false → is_request is_submission s ≡ false → History k start.notes → WantedSo None_ start.notes → WantedSo None_ (step k s start).notes
 quiet_wanted k s start closes submits h w =
     (step_keeps start s
     (keeps_notes (λ l. WantedSo None_ l) (λ note older allowed cause g p.

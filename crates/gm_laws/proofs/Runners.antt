@@ -15,7 +15,7 @@ use Rattle.gm_notes.specs.Workers.{wake_itself}
 use Rattle.gm_notes.specs.Closings.{discard_one, discard_each, wake_for, return_or_lose, give_back_one, give_back_each, disconnect, rising, close}
 use Rattle.gm_notes.specs.Steps.{Step, Close, refusal, step, run}
 use Rattle.gm_history.specs.History.{Allowed, History}
-use Rattle.gm_history.specs.Causes.{Caused, is_closing}
+use Rattle.gm_history.specs.Causes.{Caused, is_close}
 use Rattle.gm_laws.specs.Between.{RunnersAreOpen}
 use Rattle.gm_laws.specs.Laws.{has_place}
 use Rattle.gm_history.proofs.Keeping.{keeps_notes, kept_if}
@@ -111,7 +111,7 @@ module _ (k : Settings) (c : ℕ) where
 
 -- ---- steps
 
-quiet_runs : (k : Settings) (s : Step) (start : Past) → is_closing s ≡ false → History k start.notes → RunsSo Nobody start.notes → RunsSo Nobody (step k s start).notes
+quiet_runs : (k : Settings) (s : Step) (start : Past) → is_close s ≡ false → History k start.notes → RunsSo Nobody start.notes → RunsSo Nobody (step k s start).notes
 quiet_runs k s start other h r =
     (step_keeps start s
     (keeps_notes (λ l. RunsSo Nobody l) (λ note older allowed cause g p. runs_more Nobody k note older (λ c is. closes_not s c other (subst (λ x. Caused k start.notes s x older) is cause)) allowed p))

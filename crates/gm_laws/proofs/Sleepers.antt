@@ -29,7 +29,7 @@ use Rattle.gm_notes.specs.Requests.{packet_of, first, submission, request}
 use Rattle.gm_notes.specs.Closings.{discard_one, discard_each, wake_for, return_or_lose, give_back_one, give_back_each, disconnect, rising, close}
 use Rattle.gm_notes.specs.Steps.{Step, Packet, Close, refusal, step, run}
 use Rattle.gm_history.specs.History.{History}
-use Rattle.gm_history.specs.Causes.{Caused, is_closing, is_submission, is_enabling, is_sleeping, is_request, is_one_of}
+use Rattle.gm_history.specs.Causes.{Caused, is_close, is_submission, is_enabling, is_sleeping, is_request, is_one_of}
 use Rattle.gm_laws.specs.Between.{NoOneSleepsBesideWork}
 use Rattle.gm_history.proofs.Asking.{asks_some, made_request, can_asks}
 use Rattle.gm_laws.proofs.NumberLaws.{slots}
@@ -332,14 +332,14 @@ abbrev pub is_stirring : Kind → Bool
 is_stirring kind = is_submission kind || is_enabling kind || is_sleeping kind
 
 -- a step that is no closing, submission, new ability or sleep adds quiet notes
-quiet_notes : (k : Settings) (before : List Note) (s : Step) (note : Note) (older : List Note) → is_closing s ≡ false → is_request is_submission s ≡ false → is_request is_enabling s ≡ false → is_request is_sleeping s ≡ false → Caused k before s note older → is_quiet note ≡ true
+quiet_notes : (k : Settings) (before : List Note) (s : Step) (note : Note) (older : List Note) → is_close s ≡ false → is_request is_submission s ≡ false → is_request is_enabling s ≡ false → is_request is_sleeping s ≡ false → Caused k before s note older → is_quiet note ≡ true
 quiet_notes k before s (notes.Made m f p u body) older a b c d cause = absurd (both_not (is_request is_submission s) (made_request k before s m f p u body older cause) b)
-quiet_notes k before s (notes.Returned m) older a b c d cause = absurd (both_not (is_closing s) (ap is_closing cause.1) a)
+quiet_notes k before s (notes.Returned m) older a b c d cause = absurd (both_not (is_close s) (ap is_close cause.1) a)
 quiet_notes k before s (notes.Can e f t) older a b c d cause = absurd (both_not (is_request is_enabling s) (asks_some is_enabling e s (can_asks k before s e f t older cause)) c)
 quiet_notes k before s (notes.Slept e) older a b c d cause = absurd (both_not (is_request is_sleeping s) (asks_some is_sleeping e s cause) d)
 quiet_notes k before s note older a b c d cause = refl
 
-quiet_calm : (k : Settings) (s : Step) (start : Past) → is_closing s ≡ false → is_request is_submission s ≡ false → is_request is_enabling s ≡ false → is_request is_sleeping s ≡ false
+quiet_calm : (k : Settings) (s : Step) (start : Past) → is_close s ≡ false → is_request is_submission s ≡ false → is_request is_enabling s ≡ false → is_request is_sleeping s ≡ false
     → History k start.notes → CalmBut Never start.notes → CalmBut Never (step k s start).notes
 quiet_calm k s start a b c d h w =
     (step_keeps start s

@@ -20,7 +20,7 @@ use Rattle.gm_notes.specs.Workers.{wake_itself, deadline_after, tell_assigned, g
 use Rattle.gm_notes.specs.Notes.{moment, takes_units}
 use Rattle.gm_notes.specs.Steps.{Step, unless, unless_not_open, step, run}
 use Rattle.gm_history.specs.History.{Allowed, Gets, History}
-use Rattle.gm_history.specs.Causes.{is_one_of, Caused, Ends, AllSaid, asks, is_grab, is_closing}
+use Rattle.gm_history.specs.Causes.{is_one_of, Caused, Ends, AllSaid, asks, is_grab, is_close}
 use Rattle.gm_laws.specs.Laws.{DiscardsTheUnwanted, EndsWithItsWorker, GivesThePick, GrabsGetThePick, SaysNoJobWhereNoneIs}
 use Rattle.gm_laws.specs.Listeners.{AllMayGet, AnswersStayHome}
 use Rattle.gm_history.proofs.Asking.{closing_asks}
@@ -81,10 +81,10 @@ module _ (k : Settings) (s : Step) (start : Past) (history : History k start.not
   -- ---- discarding
 
   abbrev ThrownSo : ℕ → List Note → Type 0
-  ThrownSo n l = (job_state n start.notes ≡ states.Discarded) ⊎ ((is_closing s ≡ true) × (is_wanted n l ≡ false))
+  ThrownSo n l = (job_state n start.notes ≡ states.Discarded) ⊎ ((is_close s ≡ true) × (is_wanted n l ≡ false))
 
   -- not in a closing
-  elsewhere : (n : ℕ) (older newer : List Note) → (is_closing s ≡ true → ⊥) → ThrownSo n older → ThrownSo n newer
+  elsewhere : (n : ℕ) (older newer : List Note) → (is_close s ≡ true → ⊥) → ThrownSo n older → ThrownSo n newer
   elsewhere n older newer other (inl e) = inl e
   elsewhere n older newer other (inr h) = absurd (other h.0)
 

@@ -22,7 +22,7 @@ use Rattle.gm_notes.specs.Workers.{wake_itself}
 use Rattle.gm_notes.specs.Closings.{discard_one, discard_each, wake_for, return_or_lose, give_back_one, give_back_each, disconnect, rising, close}
 use Rattle.gm_notes.specs.Steps.{Step, Packet, Close, refusal, step, run}
 use Rattle.gm_history.specs.History.{HasWork, runs_at_a_slot, Allowed, History}
-use Rattle.gm_history.specs.Causes.{Caused, Ends, is_request, asks, is_submission, is_enabling, is_sleeping, is_grab, is_ending, is_closing}
+use Rattle.gm_history.specs.Causes.{Caused, Ends, is_request, asks, is_submission, is_enabling, is_sleeping, is_grab, is_ending, is_close}
 use Rattle.gm_laws.specs.Waiting.{WakesHaveWork}
 use Rattle.gm_history.proofs.Asking.{request_is, asks_some, more_requests, apart_requests}
 use Rattle.gm_history.proofs.Finding.{IsWork, work_for, same_number}
@@ -122,7 +122,7 @@ module _ (k : Settings) (s : Step) (start : Past) (history : History k start.not
   never_then : (note : Note) (older : List Note) → (phase c (note ∷ older) ≡ Owed → phase c older ≡ Owed) → is_request is_stirring s ≡ false → WokenSo older → WokenSo (note ∷ older)
   never_then note older owed apart p e = from (p (owed e)) inl (λ w. absurd (both_not (is_request is_stirring s) w.0 apart))
 
-  stirs : (d : ℕ) → is_closing s ≡ false → (is_request is_submission s || asks is_enabling d s || asks is_sleeping d s || is_closing s) ≡ true → is_request is_stirring s ≡ true
+  stirs : (d : ℕ) → is_close s ≡ false → (is_request is_submission s || asks is_enabling d s || asks is_sleeping d s || is_close s) ≡ true → is_request is_stirring s ≡ true
   stirs d other e = by (is_request is_submission s) (asks is_enabling d s) (asks is_sleeping d s) refl refl refl (ap (λ t. is_request is_submission s || asks is_enabling d s || asks is_sleeping d s || t) (sym other) ∙ e)
     where
       by : (a b f : Bool) → is_request is_submission s ≡ a → asks is_enabling d s ≡ b → asks is_sleeping d s ≡ f → (a || b || f || false) ≡ true → is_request is_stirring s ≡ true
@@ -140,7 +140,7 @@ module _ (k : Settings) (s : Step) (start : Past) (history : History k start.not
       by (Packet d number bytes) e = apart_requests is_ending is_stirring end_apart (Packet d number bytes) e.0
       by other e = refl
 
-  woken_more : is_closing s ≡ false → (note : Note) (older : List Note) → Allowed k note older → Caused k start.notes s note older → History k older → WokenSo older → WokenSo (note ∷ older)
+  woken_more : is_close s ≡ false → (note : Note) (older : List Note) → Allowed k note older → Caused k start.notes s note older → History k older → WokenSo older → WokenSo (note ∷ older)
   woken_more other (notes.Opened d addr) older allowed cause h p = never_then (notes.Opened d addr) older (owed_before Awake (phase c older) (c == d) refl) (ap (is_request is_stirring) cause) p
   woken_more other (notes.Closed d) older allowed cause h p = absurd (closes_not s d other cause)
   woken_more other (notes.Slept d) older allowed cause h p = after_it (notes.Slept d) older (owed_before Asleep (phase c older) (c == d) refl) (λ w. w) p
@@ -161,11 +161,11 @@ module _ (k : Settings) (s : Step) (start : Past) (history : History k start.not
   woken_more other (notes.Ended m) older allowed cause h p = never_then (notes.Ended m) older (λ e. e) (ends_apart m cause) p
   woken_more other (notes.Returned m) older allowed cause h p = absurd (closes_not s cause.0 other cause.1)
   woken_more other (notes.Lost m) older allowed cause h p = absurd (closes_not s cause.0 other cause.1)
-  woken_more other (notes.Discarded m) older allowed cause h p = absurd (both_not (is_closing s) cause other)
+  woken_more other (notes.Discarded m) older allowed cause h p = absurd (both_not (is_close s) cause other)
   woken_more other note older allowed cause h p = p
 
   -- a step that isn't a closing
-  woken_so : is_closing s ≡ false → WokenSo (step k s start).notes
+  woken_so : is_close s ≡ false → WokenSo (step k s start).notes
   woken_so other = note_law k s start history WokenSo (λ note older allowed cause h p. woken_more other note older allowed cause h p) (λ e. inl e)
 
 -- ---- a closing

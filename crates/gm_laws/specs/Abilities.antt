@@ -2,15 +2,15 @@
 use Rattle.std.specs.Prelude.{◌≡◌, ◌⊎◌, ℕ, true, false, List, Some}
 use Rattle.gm_packet.specs.declared.kind.Kind.TheVariants.{CantDo, ResetAbilities}
 use Rattle.gm_packet.specs.Requests.{Asked}
-use Rattle.gm_packet.specs.Answers.{error}
 use Rattle.gm_notes.specs.Settings.{Settings}
 use Rattle.gm_notes.specs.Notes.{takes_units}
 use Rattle.gm_notes.specs.Jobs.{is_able}
 use Rattle.gm_notes.specs.Past.{Past}
 use Rattle.gm_notes.specs.Requests.{first}
 use Rattle.gm_notes.specs.Steps.{Step}
-use Rattle.gm_history.specs.Causes.{Asks, seconds_of, closes, JustQueues}
+use Rattle.gm_history.specs.Causes.{Asks, seconds_of, closes}
 use Rattle.gm_history.specs.History.{is_able_within}
+use Rattle.gm_laws.specs.Refusals.{IsError, HasReason}
 
 -- what is asked is to do this function from now on, within these seconds
 abbrev pub Enables : Asked → List ℕ → ℕ → Type 0
@@ -20,15 +20,15 @@ Enables asked f seconds = (first asked.arguments ≡ f) × (seconds_of asked.kin
 abbrev pub Disables : Asked → List ℕ → Type 0
 Disables asked f = ((asked.kind ≡ CantDo) × (first asked.arguments ≡ f)) ⊎ (asked.kind ≡ ResetAbilities)
 
--- an ERROR is the answer, and nothing happened
-abbrev pub IsError : ℕ → Past → Past → Type 0
-IsError c before after = (code : List ℕ) × (text : List ℕ) × JustQueues c (error code text) before after × (after.notes ≡ before.notes)
+-- there is a reason not to, and an ERROR with its code is the answer
+abbrev pub IsRejected : Settings → ℕ → Asked → Past → Past → Type 0
+IsRejected k c asked before after = (code : List ℕ) × HasReason k c asked before code × IsError c code before after
 
 -- what a slot that takes units asks comes true, or is answered with an ERROR
-abbrev pub AbilitiesCome : Past → Step → Past → Type 0
-AbilitiesCome before s after = (c : ℕ) (asked : Asked) (f : List ℕ) → takes_units c before.notes ≡ true → Asks c s asked →
-    ((seconds : ℕ) → Enables asked f seconds → (is_able_within c f seconds after.notes ≡ true) ⊎ IsError c before after)
-    × (Disables asked f → (is_able c f after.notes ≡ false) ⊎ IsError c before after)
+abbrev pub AbilitiesCome : Settings → Past → Step → Past → Type 0
+AbilitiesCome k before s after = (c : ℕ) (asked : Asked) (f : List ℕ) → takes_units c before.notes ≡ true → Asks c s asked →
+    ((seconds : ℕ) → Enables asked f seconds → (is_able_within c f seconds after.notes ≡ true) ⊎ IsRejected k c asked before after)
+    × (Disables asked f → (is_able c f after.notes ≡ false) ⊎ IsRejected k c asked before after)
 
 -- an ability comes only by asking for it, and goes only by asking for that, for the function with other seconds, or with the slot
 abbrev pub AbilitiesStay : Past → Step → Past → Type 0
@@ -40,4 +40,4 @@ AbilitiesStay before s after = (c : ℕ) (f : List ℕ) (seconds : ℕ) →
     ⊎ ((asked : Asked) × Asks c s asked × (Disables asked f ⊎ ((other : ℕ) × Enables asked f other)))))
 
 abbrev pub AbilitiesAreAsAsked : Settings → Past → Step → Past → Type 0
-AbilitiesAreAsAsked k before s after = AbilitiesCome before s after × AbilitiesStay before s after
+AbilitiesAreAsAsked k before s after = AbilitiesCome k before s after × AbilitiesStay before s after

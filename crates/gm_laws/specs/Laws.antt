@@ -7,7 +7,7 @@ use Rattle.gm_notes.specs.declared.note.Note.{Note}
 use Rattle.gm_notes.specs.Settings.{Settings}
 use Rattle.gm_notes.specs.Notes.{is_open, takes_units, mode}
 use Rattle.gm_notes.specs.Flow.{Flow, sent, waiting}
-use Rattle.gm_notes.specs.Jobs.{pick, job_state, is_wanted, job, is_job_named, joins, made, deadline}
+use Rattle.gm_notes.specs.Jobs.{pick, job_state, is_wanted, is_live_named, joins, made, deadline}
 use Rattle.gm_notes.specs.declared.event.UnitFault.{UnitFault}
 use Rattle.gm_notes.specs.declared.states.Mode.TheVariants.{Running, Graceful, Stopped}
 use Rattle.gm_admin.specs.Commands.{Shutdown}
@@ -19,7 +19,7 @@ use Rattle.gm_notes.specs.Past.{Past}
 use Rattle.gm_notes.specs.Servers.{owes, is_closing as has_shut}
 use Rattle.gm_history.specs.Laws.{drained, is_kept_up, IsPrefix}
 use Rattle.gm_history.specs.History.{Gets, progress}
-use Rattle.gm_history.specs.Causes.{Ends, Commands, AllSaid, asks, is_grab, is_sleeping, is_one_of, is_closing, closes}
+use Rattle.gm_history.specs.Causes.{Ends, Commands, AllSaid, asks, is_grab, is_sleeping, is_one_of, is_close, closes}
 
 -- the numbers made are the first and its successors, each once, none above the greatest of 64 bits; the newest first
 abbrev pub AreNumbers : Settings → List ℕ → Type 0
@@ -42,11 +42,8 @@ abbrev pub HavePlaces : Settings → List Note → Type 0
 HavePlaces k notes = (n : ℕ) → has_place (job_state n notes) ≡ is_made n notes
 
 -- live jobs of one function and one id that joins are one job
-abbrev pub is_live_named : List ℕ → List ℕ → ℕ → List Note → Bool
-is_live_named f u n notes = is_live (job_state n notes) && is_job_named f u (job n notes)
-
 abbrev pub AreOne : Settings → List Note → Type 0
-AreOne k notes = (f u : List ℕ) (m n : ℕ) → joins u ≡ true → is_live_named f u m notes ≡ true → is_live_named f u n notes ≡ true → m ≡ n
+AreOne k notes = (f u : List ℕ) (m n : ℕ) → joins u ≡ true → is_live_named f u notes m ≡ true → is_live_named f u notes n ≡ true → m ≡ n
 
 -- a job that has ended or was discarded stays so, whatever comes
 abbrev pub is_gone : JobState → Bool
@@ -67,17 +64,23 @@ AllIsSent = (flow : List Flow) (c : ℕ) → is_kept_up c flow ≡ true → sent
 -- a job is discarded only in a closing, and only one that isn't kept and that nobody listens to
 abbrev pub DiscardsTheUnwanted : Settings → Past → Step → Past → Type 0
 DiscardsTheUnwanted k before s after = (n : ℕ) → job_state n after.notes ≡ states.Discarded →
-    (job_state n before.notes ≡ states.Discarded) ⊎ ((is_closing s ≡ true) × (is_wanted n after.notes ≡ false))
+    (job_state n before.notes ≡ states.Discarded) ⊎ ((is_close s ≡ true) × (is_wanted n after.notes ≡ false))
 
 -- a job ends only with WORK_COMPLETE or WORK_FAIL with its handle, of the slot where it runs, or in a tick that reaches its
 -- deadline
 abbrev pub EndsWithItsWorker : Settings → Past → Step → Past → Type 0
 EndsWithItsWorker k before s after = (n : ℕ) → job_state n after.notes ≡ states.Ended → (job_state n before.notes ≡ states.Ended) ⊎ Ends k before.notes s n
 
--- the converse: what would end a job ends it, unless the step is refused; and while a job runs at a slot, its deadline stays as it is
+-- the step is a packet of a slot that takes no units
+abbrev pub is_unheard : Step → List Note → Bool
+is_unheard (Packet c number bytes) notes = not (takes_units c notes)
+is_unheard other notes = false
+
+-- the converse: what would end a job ends it, unless it is a packet of a slot that takes no units; and while a job runs at a slot, its
+-- deadline stays as it is
 abbrev pub WorkersAndClocksEndJobs : Settings → Past → Step → Past → Type 0
 WorkersAndClocksEndJobs k before s after =
-    ((n : ℕ) → refusal k s before ≡ None → Ends k before.notes s n → job_state n after.notes ≡ states.Ended)
+    ((n : ℕ) → is_unheard s before.notes ≡ false → Ends k before.notes s n → job_state n after.notes ≡ states.Ended)
     × ((n c : ℕ) → job_state n before.notes ≡ states.Running c → job_state n after.notes ≡ states.Running c → deadline n after.notes ≡ deadline n before.notes)
 
 -- a job comes to run at a slot only where the slot grabs, and the job is its pick

@@ -1,8 +1,8 @@
 -- The limits of functions.
-use Rattle.std.specs.Prelude.{◌≡◌, ◌⊎◌, ℕ, ◌<◌, ◌≤◌, true, List, ◌∷◌, length, Some}
+use Rattle.std.specs.Prelude.{◌≡◌, ◌⊎◌, ℕ, ◌<◌, ◌≤◌, true, List, ◌∷◌, length, Some, Ok}
 use Rattle.gm_admin.specs.declared.fault.AdminError.{AdminError}
 use Rattle.gm_admin.specs.Commands.{MaxQueue}
-use Rattle.gm_admin.specs.Answers.{ok_text, error_text}
+use Rattle.gm_admin.specs.Answers.{ok_text}
 use Rattle.gm_notes.specs.declared.note.Note.{Note}
 use Rattle.gm_notes.specs.Settings.{Settings}
 use Rattle.gm_notes.specs.Notes.{takes_units}
@@ -11,6 +11,7 @@ use Rattle.gm_notes.specs.Jobs.{Job, job, functions, is_mentioned, limit, total,
 use Rattle.gm_notes.specs.Past.{Past}
 use Rattle.gm_notes.specs.Steps.{Step, Line}
 use Rattle.gm_history.specs.Causes.{Commands}
+use Rattle.gm_laws.specs.Refusals.{IsErr, IsErroneous}
 
 -- a step that leaves a function with more jobs that wait or run leaves it with no more than its limit, if it has one
 abbrev pub NoneIsOverfull : Past → Past → Type 0
@@ -27,11 +28,11 @@ FunctionsAreFew k notes =
 abbrev pub LimitsStay : Past → Step → Past → Type 0
 LimitsStay before s after = (f : List ℕ) → (limit f after.notes ≡ limit f before.notes) ⊎ Commands s (MaxQueue f (limit f after.notes))
 
--- of a slot that takes units it does so and is answered with `OK`, or it is answered with an `ERR` line, and nothing happened
-abbrev pub MaxqueueIsAnswered : Past → Step → Past → Type 0
-MaxqueueIsAnswered before s after = (c : ℕ) (line f : List ℕ) (size : ℕ) → s ≡ Line c line → Commands s (MaxQueue f size) → takes_units c before.notes ≡ true →
+-- of a slot that takes units it does so and is answered with `OK`, or there is a reason not to, and it is answered with its `ERR` line
+abbrev pub MaxqueueIsAnswered : Settings → Past → Step → Past → Type 0
+MaxqueueIsAnswered k before s after = (c : ℕ) (line f : List ℕ) (size : ℕ) → s ≡ Line c line → Commands s (MaxQueue f size) → takes_units c before.notes ≡ true →
     ((after.flow ≡ Queued c ok_text ∷ before.flow) × (limit f after.notes ≡ size))
-    ⊎ ((error : AdminError) × (after.flow ≡ Queued c (error_text error) ∷ before.flow) × (after.notes ≡ before.notes))
+    ⊎ ((error : AdminError) × IsErroneous k (Ok (MaxQueue f size)) before error × IsErr c error before after)
 
 abbrev pub LimitsHold : Settings → Past → Step → Past → Type 0
-LimitsHold k before s after = NoneIsOverfull before after × FunctionsAreFew k after.notes × LimitsStay before s after × MaxqueueIsAnswered before s after
+LimitsHold k before s after = NoneIsOverfull before after × FunctionsAreFew k after.notes × LimitsStay before s after × MaxqueueIsAnswered k before s after
