@@ -183,7 +183,7 @@ below_head k ns m n true same is rest e = let eq = is_same m n same in omega ari
 below_head k ns m n false same is rest e = let lt = rest e in omega arith
 
 -- the numbers made are below the next one
-below_next : (k : Settings) (ns : List ℕ) (n : ℕ) → AreNumbers k ns → list_any (λ m. m == n) ns ≡ true → n < k.first_job + length ns
+pub below_next : (k : Settings) (ns : List ℕ) (n : ℕ) → AreNumbers k ns → list_any (λ m. m == n) ns ≡ true → n < k.first_job + length ns
 below_next k [] n h e = absurd cc
 below_next k (m ∷ ns) n h e = below_head k ns m n (m == n) refl h.0 (below_next k ns n h.2) e
 

@@ -37,3 +37,4 @@ pub mod Hearers
 mod Firsts
 mod Refusals
 mod Parting
+mod Lines

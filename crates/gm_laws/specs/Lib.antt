@@ -9,6 +9,7 @@ pub mod JobRows
 pub mod Laws
 pub mod Limits
 pub mod LineRows
+pub mod Lines
 pub mod Listeners
 pub mod Refusals
 pub mod Retries

@@ -23,6 +23,7 @@ ghost use Rattle.gm_laws.specs.Sleeping.{SleepersAskedForIt, AskingIsEnough};
 ghost use Rattle.gm_laws.specs.Firsts.{FirstAbilityWins};
 ghost use Rattle.gm_laws.specs.Closing.{ClosingCloses};
 ghost use Rattle.gm_laws.specs.Refusals.{RefusalsHaveTheirReason};
+ghost use Rattle.gm_laws.specs.Lines.{AdminTellsTheTruth, ConnectionsAreNamed};
 
 /// The numbers made are the first and its successors, each once, none above 18446744073709551615.
 pub fn numbers_are_consecutive()
@@ -298,4 +299,18 @@ pub fn closing_closes()
 /// cannot be read.
 pub fn refusals_have_their_reason()
     ensures { InEachStep RefusalsHaveTheirReason }
+{}
+
+/// `status` of a slot that takes units is answered with a row for each function, in the order in which they were first named, with how many
+/// of its jobs wait or run, how many run, and how many open slots can do it. `workers` is answered with a row for each open slot, in their
+/// order, with the address, the id and the functions of its connection. `version` is answered with the version, and ECHO_REQ with the same
+/// bytes. Nothing else happens.
+pub fn admin_tells_the_truth()
+    ensures { InEachStep AdminTellsTheTruth }
+{}
+
+/// A connection has the address from which it was opened, at first no id and no functions, and from SET_CLIENT_ID on the id that this says.
+/// The functions of the server keep their order, and new ones come last.
+pub fn connections_are_named()
+    ensures { InEachStep ConnectionsAreNamed }
 {}
