@@ -28,11 +28,11 @@ use Rattle.gm_notes.specs.Workers.{tell_assigned, give_out, grab, Work, keep_rep
 use Rattle.gm_notes.specs.Requests.{first, second, third}
 use Rattle.gm_notes.specs.Steps.{Step}
 use Rattle.gm_history.specs.History.{runs_at_a_slot, IsBelowLimit, HasWork, Allowed, History}
-use Rattle.gm_history.specs.Causes.{Caused, Ends, IsOfEnd, MaySay, Asks, IsFor, Mentions, priority_of, is_ending, is_tick, is_request}
+use Rattle.gm_history.specs.Causes.{Caused, Ends, IsOfEnd, IsAssignment, MaySay, Asks, IsFor, Mentions, priority_of, is_ending, is_tick, is_request}
 use Rattle.gm_history.specs.Causes.{is_submission, is_foreground, is_background, is_enabling, is_sleeping, is_grab, is_close, asks, closes}
 use Rattle.gm_history.specs.Hearing.{AllOpen}
 use Rattle.gm_history.specs.Hearing.{listens, MayGet}
-use Rattle.gm_history.proofs.Asking.{request_asks, submission_kind}
+use Rattle.gm_history.proofs.Asking.{asks_some, request_asks, submission_kind}
 use Rattle.gm_history.proofs.Finding.{found_passes, joined_is, IsNamed, IsWork, work_for, waiting_work, pick_waits, pick_work, stirred_picks, same_number}
 use Rattle.gm_history.proofs.Listeners.{listeners_open, filtered_open, open_after}
 use Rattle.gm_history.proofs.Sayings.{Other, created_other, assigned_other, error_other, no_job_other}
@@ -43,11 +43,12 @@ is_inner (notes.Opened c addr) = false
 is_inner (notes.Closed c) = false
 is_inner note = true
 
--- the step after these notes may queue the bytes to slot c: what tells of an end only for a request that ends a job, or in a tick
+-- the step after these notes may queue the bytes to slot c: what tells of an end only for a request that ends a job, or in a tick,
+-- and what hands out a job only for a grab
 abbrev pub MayQueue : Settings → List Note → Step → ℕ → List ℕ → Type 0
 MayQueue k before s c bytes =
     MaySay k before s c bytes × ((answer : Answer) → IsOfEnd answer → bytes ≡ answer_packet answer → (is_request is_ending s || is_tick s) ≡ true)
-    × MayGet k before s c bytes
+    × MayGet k before s c bytes × ((answer : Answer) → IsAssignment answer → bytes ≡ answer_packet answer → is_request is_grab s ≡ true)
 
 -- the step is slot c's, and anything may be answered to it
 abbrev pub IsHome : Settings → List Note → Step → ℕ → Type 0
@@ -201,7 +202,7 @@ module _ {k : Settings} {before : List Note} {s : Step} {I : Past → Type 0} (K
   says_keeps c bytes past opened may h = (h.0, K.by_saying c bytes past opened may h.0 h.1)
 
   pub not_said : (c : ℕ) (bytes : List ℕ) → Other bytes → MayGet k before s c bytes → MayQueue k before s c bytes
-  not_said c bytes other gets = ((λ e. absurd (other.0 e)), (λ answer ends e. absurd (other.1 answer ends e)), gets)
+  not_said c bytes other gets = ((λ e. absurd (other.0 e)), (λ answer ends e. absurd (other.1 answer ends e)), gets, (λ answer gives e. absurd (other.2 answer gives e)))
 
   pub tells_keeps : (answer : Answer) (slots : List ℕ) (past : Past) → ((d : ℕ) → 0 < counted d slots → MayQueue k before s d (answer_packet answer)) → AllOpen slots past.notes → Held k I past
       → Held k I (tell_all answer slots past)
@@ -355,16 +356,19 @@ module _ {k : Settings} {before : List Note} {s : Step} {I : Past → Type 0} (K
         (λ e. sleep_beside_keeps (pick k c past.notes) one may opened asleep (λ found is. pick_work k c found past.notes is) (note_keeps (notes.Slept c) past refl (opened, e) may h))
         (λ e. h)
 
-    assigned_keeps : (uniq : Bool) (n : ℕ) (o : Option Job) (past : Past) → is_open c past.notes ≡ true → Held k I past → Held k I (tell_assigned k c uniq n o past)
-    assigned_keeps uniq n None past opened h = h
-    assigned_keeps uniq n (Some job) past opened h = gives_keeps (assignment k uniq n job) past opened (assigned_other k uniq n job) h
+    assigned_keeps : (uniq : Bool) (n : ℕ) (o : Option Job) (past : Past) → asks is_grab c s ≡ true → is_open c past.notes ≡ true → Held k I past → Held k I (tell_assigned k c uniq n o past)
+    assigned_keeps uniq n None past may opened h = h
+    assigned_keeps uniq n (Some job) past may opened h =
+        let other = assigned_other k uniq n job in
+        says_keeps c (answer_packet (assignment k uniq n job)) past opened
+        ((λ e. absurd (other.0 e)), (λ answer ends e. absurd (other.1 answer ends e)), home (answer_packet (assignment k uniq n job)), (λ answer gives e. asks_some is_grab c s may)) h
 
     gives_out_keeps : (uniq : Bool) (o : Option Pick) (past : Past) → asks is_grab c s ≡ true → pick k c before ≡ o → is_open c past.notes ≡ true → pick k c past.notes ≡ o → Held k I past → Held k I (give_out k c uniq o past)
     gives_out_keeps uniq None past may first opened is h =
-        says_keeps c (answer_packet no_job) past opened ((λ e. (may, first)), (λ answer ends e. absurd (no_job_other answer ends e)), home (answer_packet no_job)) h
+        says_keeps c (answer_packet no_job) past opened ((λ e. (may, first)), (λ answer ends e. absurd (no_job_other.0 answer ends e)), home (answer_packet no_job), (λ answer gives e. absurd (no_job_other.1 answer gives e))) h
     gives_out_keeps uniq (Some found) past may first opened is h =
         let one = with_note (notes.Assigned found.job c (deadline_after (moment past.notes) found.timeout)) past in
-        assigned_keeps uniq found.job (job found.job past.notes) one opened
+        assigned_keeps uniq found.job (job found.job past.notes) one may opened
         (note_keeps (notes.Assigned found.job c (deadline_after (moment past.notes) found.timeout)) past refl (pick_waits k c found past.notes is, opened, (found, is, refl)) (may, (found, first, refl)) h)
 
     pub grab_keeps : (uniq : Bool) (past : Past) → asks is_grab c s ≡ true → pick k c before ≡ pick k c past.notes → is_open c past.notes ≡ true → Held k I past → Held k I (grab k c uniq past)

@@ -1,4 +1,4 @@
--- What isn't NO_JOB, and tells of no job's end.
+-- What isn't NO_JOB, tells of no job's end, and hands out no job.
 use Rattle.std.proofs.Common.{◌≡◌, ◌≢◌, ◌⊎◌, inl, inr, ◌∙◌, ℕ, zero, suc, ◌+◌, ◌/◌, ◌%◌, Bool, true, false, cond, ◌||◌, List, [], ◌∷◌, ◌++◌}
 use Rattle.std.proofs.Common.{get_or, refl, sym, ap, subst, arith}
 use Rattle.std.specs.Prelude.{◌==◌, nat_le, nat_lt, codes, decimal}
@@ -19,15 +19,23 @@ use Rattle.gm_notes.specs.Texts.{fault_text, spaced}
 use Rattle.gm_notes.specs.Jobs.{Job}
 use Rattle.gm_notes.specs.Workers.{assignment}
 use Rattle.std.specs.Fmt.{digits, digits_onto, digit_glyph}
-use Rattle.gm_history.specs.Causes.{IsOfEnd}
+use Rattle.gm_history.specs.Causes.{IsOfEnd, IsAssignment}
 
 -- no NO_JOB
 abbrev pub Another : List ℕ → Type 0
 Another bytes = bytes ≡ answer_packet no_job → ⊥
 
--- nor a packet that tells of an end
+-- no packet that tells of an end
+abbrev pub EndsNone : List ℕ → Type 0
+EndsNone bytes = (answer : Answer) → IsOfEnd answer → bytes ≡ answer_packet answer → ⊥
+
+-- no packet that hands out a job
+abbrev pub GivesNone : List ℕ → Type 0
+GivesNone bytes = (answer : Answer) → IsAssignment answer → bytes ≡ answer_packet answer → ⊥
+
+-- none of these
 abbrev pub Other : List ℕ → Type 0
-Other bytes = Another bytes × ((answer : Answer) → IsOfEnd answer → bytes ≡ answer_packet answer → ⊥)
+Other bytes = Another bytes × EndsNone bytes × GivesNone bytes
 
 apart : (m n : ℕ) → (m == n) ≡ false → m ≡ n → ⊥
 apart m n other e = let same : (m == n) ≡ true = grind (arith, nat_tests) in let bad : ⊥ = cc in bad
@@ -43,10 +51,15 @@ unfolding packet
 end_byte answer (inl is) = inl (type_byte answer 13 is)
 end_byte answer (inr is) = inr (type_byte answer 14 is)
 
--- what has another type byte
-typed : (m : ℕ) (bytes : List ℕ) → get_or bytes 7 0 ≡ m → (m == 10) ≡ false → (m == 13) ≡ false → (m == 14) ≡ false → Other bytes
+assignment_byte : (answer : Answer) → IsAssignment answer → (get_or (answer_packet answer) 7 0 ≡ 11) ⊎ (get_or (answer_packet answer) 7 0 ≡ 31)
 unfolding packet
-typed m bytes is job complete fail = (
+assignment_byte answer (inl is) = inl (type_byte answer 11 is)
+assignment_byte answer (inr is) = inr (type_byte answer 31 is)
+
+-- what has another type byte
+untold : (m : ℕ) (bytes : List ℕ) → get_or bytes 7 0 ≡ m → (m == 10) ≡ false → (m == 13) ≡ false → (m == 14) ≡ false → Another bytes × EndsNone bytes
+unfolding packet
+untold m bytes is job complete fail = (
   (λ e. apart m 10 job (sym is ∙ ap (λ (l : List ℕ). get_or l 7 0) e)),
   λ answer ends e. by (end_byte answer ends) (sym is ∙ ap (λ (l : List ℕ). get_or l 7 0) e),
 )
@@ -55,26 +68,36 @@ typed m bytes is job complete fail = (
     by (inl a) e = apart m 13 complete (e ∙ a)
     by (inr a) e = apart m 14 fail (e ∙ a)
 
+ungiven : (m : ℕ) (bytes : List ℕ) → get_or bytes 7 0 ≡ m → (m == 11) ≡ false → (m == 31) ≡ false → GivesNone bytes
+ungiven m bytes is plain uniq answer gives e = by (assignment_byte answer gives) (sym is ∙ ap (λ (l : List ℕ). get_or l 7 0) e)
+  where
+    by : {x : ℕ} → (x ≡ 11) ⊎ (x ≡ 31) → m ≡ x → ⊥
+    by (inl a) e = apart m 11 plain (e ∙ a)
+    by (inr a) e = apart m 31 uniq (e ∙ a)
+
+typed : (m : ℕ) (bytes : List ℕ) → get_or bytes 7 0 ≡ m → (m == 10) ≡ false → (m == 13) ≡ false → (m == 14) ≡ false → (m == 11) ≡ false → (m == 31) ≡ false → Other bytes
+typed m bytes is job complete fail plain uniq = let u = untold m bytes is job complete fail in (u.0, u.1, ungiven m bytes is plain uniq)
+
 pub created_other : (h : List ℕ) → Other (answer_packet (job_created h))
 unfolding packet
-created_other h = typed 8 _ refl refl refl refl
+created_other h = typed 8 _ refl refl refl refl refl refl
 
 pub error_other : (code text : List ℕ) → Other (answer_packet (error code text))
 unfolding packet
-error_other code text = typed 19 _ refl refl refl refl
+error_other code text = typed 19 _ refl refl refl refl refl refl
 
-pub fail_another : (h : List ℕ) → Another (answer_packet (work_fail h))
+pub fail_another : (h : List ℕ) → Another (answer_packet (work_fail h)) × GivesNone (answer_packet (work_fail h))
 unfolding packet
-fail_another h e = apart 14 10 refl (ap (λ (l : List ℕ). get_or l 7 0) e)
+fail_another h = ((λ e. apart 14 10 refl (ap (λ (l : List ℕ). get_or l 7 0) e)), ungiven 14 _ refl refl refl)
 
-pub complete_another : (h b : List ℕ) → Another (answer_packet (work_complete h b))
+pub complete_another : (h b : List ℕ) → Another (answer_packet (work_complete h b)) × GivesNone (answer_packet (work_complete h b))
 unfolding packet
-complete_another h b e = apart 13 10 refl (ap (λ (l : List ℕ). get_or l 7 0) e)
+complete_another h b = ((λ e. apart 13 10 refl (ap (λ (l : List ℕ). get_or l 7 0) e)), ungiven 13 _ refl refl refl)
 
--- NO_JOB tells of no end
-pub no_job_other : (answer : Answer) → IsOfEnd answer → answer_packet no_job ≡ answer_packet answer → ⊥
+-- NO_JOB tells of no end, and hands out nothing
+pub no_job_other : EndsNone (answer_packet no_job) × GivesNone (answer_packet no_job)
 unfolding packet
-no_job_other answer ends e = by (end_byte answer ends) (ap (λ (l : List ℕ). get_or l 7 0) e)
+no_job_other = ((λ answer ends e. by (end_byte answer ends) (ap (λ (l : List ℕ). get_or l 7 0) e)), ungiven 10 _ refl refl refl)
   where
     by : {x : ℕ} → (x ≡ 13) ⊎ (x ≡ 14) → 10 ≡ x → ⊥
     by (inl a) e = apart 10 13 refl (e ∙ a)
@@ -82,43 +105,47 @@ no_job_other answer ends e = by (end_byte answer ends) (ap (λ (l : List ℕ). g
 
 pub status_other : (h a b : List ℕ) → Other (answer_packet (work_status h a b))
 unfolding packet
-status_other h a b = typed 12 _ refl refl refl refl
+status_other h a b = typed 12 _ refl refl refl refl refl refl
 
 pub data_other : (h b : List ℕ) → Other (answer_packet (work_data h b))
 unfolding packet
-data_other h b = typed 28 _ refl refl refl refl
+data_other h b = typed 28 _ refl refl refl refl refl refl
 
 pub warning_other : (h b : List ℕ) → Other (answer_packet (work_warning h b))
 unfolding packet
-warning_other h b = typed 29 _ refl refl refl refl
+warning_other h b = typed 29 _ refl refl refl refl refl refl
 
 pub exception_other : (h b : List ℕ) → Other (answer_packet (work_exception h b))
 unfolding packet
-exception_other h b = typed 25 _ refl refl refl refl
+exception_other h b = typed 25 _ refl refl refl refl refl refl
 
 pub echo_other : (b : List ℕ) → Other (answer_packet (echo_res b))
 unfolding packet
-echo_other b = typed 17 _ refl refl refl refl
+echo_other b = typed 17 _ refl refl refl refl refl refl
 
 pub option_other : (b : List ℕ) → Other (answer_packet (option_res b))
 unfolding packet
-option_other b = typed 27 _ refl refl refl refl
+option_other b = typed 27 _ refl refl refl refl refl refl
 
 pub known_other : (h : List ℕ) (known running : Bool) (a b : List ℕ) → Other (answer_packet (status_res h known running a b))
 unfolding packet
-known_other h known running a b = typed 20 _ refl refl refl refl
+known_other h known running a b = typed 20 _ refl refl refl refl refl refl
 
-pub assigned_other : (k : Settings) (uniq : Bool) (n : ℕ) (job : Job) → Other (answer_packet (assignment k uniq n job))
+pub assigned_other : (k : Settings) (uniq : Bool) (n : ℕ) (job : Job) → Another (answer_packet (assignment k uniq n job)) × EndsNone (answer_packet (assignment k uniq n job))
 unfolding packet
-assigned_other k true n job = typed 31 _ refl refl refl refl
-assigned_other k false n job = typed 11 _ refl refl refl refl
+assigned_other k true n job = untold 31 _ refl refl refl refl
+assigned_other k false n job = untold 11 _ refl refl refl refl
 
 -- ---- texts
 
 -- no packet begins so
 pub head_other : (b : ℕ) (bytes : List ℕ) → b ≢ 0 → Other (b ∷ bytes)
 unfolding packet
-head_other b bytes other = ((λ e. other (ap (λ (l : List ℕ). get_or l 0 0) e)), λ answer ends e. other (ap (λ (l : List ℕ). get_or l 0 0) e))
+head_other b bytes other = (
+  (λ e. other (ap (λ (l : List ℕ). get_or l 0 0) e)),
+  (λ answer ends e. other (ap (λ (l : List ℕ). get_or l 0 0) e)),
+  λ answer gives e. other (ap (λ (l : List ℕ). get_or l 0 0) e),
+)
 
 pub ok_other : Other ok_text
 ok_other = head_other 79 _ (omega arith)

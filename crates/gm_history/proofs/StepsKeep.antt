@@ -60,7 +60,7 @@ use Rattle.gm_history.specs.Hearing.{listens, passed_on, MayGet}
 use Rattle.gm_history.proofs.Asking.{kind_read, request_asks, slot_asks, enabling_kind}
 use Rattle.gm_history.proofs.Finding.{same_number}
 use Rattle.gm_history.proofs.Listeners.{listeners_open}
-use Rattle.gm_history.proofs.Sayings.{Another, Other, fail_another, status_other, complete_another, data_other, warning_other, exception_other}
+use Rattle.gm_history.proofs.Sayings.{Another, GivesNone, Other, fail_another, status_other, complete_another, data_other, warning_other, exception_other}
 use Rattle.gm_history.proofs.Sayings.{echo_other, option_other, known_other, ok_other, version_other, refusal_other, fault_other}
 use Rattle.gm_history.proofs.Sayings.{list_other, rows_other}
 use Rattle.gm_history.proofs.Keeping.{Keeps, Held, IsHome, not_said, kept_if, held_if, note_keeps, says_keeps, gives_keeps, refuses_keeps}
@@ -120,15 +120,16 @@ module _ {k : Settings} {I : Past → Type 0} (start : Past) (c number : ℕ) (b
           ends = λ e. absurd cc;
         }) opened h
 
-    ends_with : (answer : Answer) (to : List ℕ → Answer) → ((n : ℕ) → passed_on k n asked.kind asked.arguments ≡ Some (to (handle k n))) → to (first asked.arguments) ≡ answer → is_ending asked.kind ≡ true → Another (answer_packet answer)
+    ends_with : (answer : Answer) (to : List ℕ → Answer) → ((n : ℕ) → passed_on k n asked.kind asked.arguments ≡ Some (to (handle k n))) → to (first asked.arguments) ≡ answer → is_ending asked.kind ≡ true → Another (answer_packet answer) × GivesNone (answer_packet answer)
         → Held k I (work k c (first asked.arguments) (ending answer) start)
     ends_with answer to passed is may other =
         works_keeps K c home (first asked.arguments) (ending answer) start
         (λ n runs names. record {
           tells = λ d lt. (
-            (λ e. absurd (other e)),
+            (λ e. absurd (other.0 e)),
             (λ x y e. or_left (is_one_of is_ending (kind_of number)) false (by_kind is_ending may)),
             gets n answer (to (handle k n)) runs names (passed n) (ap answer_packet (sym is) ∙ ap (λ h. answer_packet (to h)) names) d lt,
+            (λ x y e. absurd (other.1 x y e)),
           );
           reports = λ a b e. absurd cc;
           ends = λ e. (by_kind is_ending may, runs, (asked, reads, names));
@@ -348,7 +349,7 @@ module _ {k : Settings} {I : Past → Type 0} (start : Past) (now : ℕ) (K : Ke
       let ends = expires n past t p.0 p.1 in
       note_keeps K (notes.Ended n) told refl (subst (λ l. is_running (job_state n l) ≡ true) (sym same) p.0) ends
       (tells_keeps K (work_fail (handle k n)) (listeners n past.notes) past
-      (λ d lt. ((λ x. absurd (fail_another (handle k n) x)), (λ x y z. refl), (n, ends, refl, subst (λ l. 0 < counted d l) (t.heard n) lt))) (listeners_open k past.notes h.0 n) h))
+      (λ d lt. ((λ x. absurd ((fail_another (handle k n)).0 x)), (λ x y z. refl), (n, ends, refl, subst (λ l. 0 < counted d l) (t.heard n) lt), (λ x y z. absurd ((fail_another (handle k n)).1 x y z)))) (listeners_open k past.notes h.0 n) h))
       (λ e. h)
 
   expired_ticked : (n : ℕ) (past : Past) → Ticked start past now → Ticked start (expire_one k n past) now

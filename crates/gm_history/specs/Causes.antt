@@ -198,6 +198,10 @@ Caused k before s (notes.Went m) older = GoesTo m s
 abbrev pub IsOfEnd : Answer → Type 0
 IsOfEnd answer = (answer.kind ≡ number WorkComplete) ⊎ (answer.kind ≡ number WorkFail)
 
+-- the answer hands out a job: JOB_ASSIGN or JOB_ASSIGN_UNIQ
+abbrev pub IsAssignment : Answer → Type 0
+IsAssignment answer = (answer.kind ≡ 11) ⊎ (answer.kind ≡ 31)
+
 -- the step after these notes may queue the bytes to slot c: NO_JOB only for a grab, and only where there is no pick
 abbrev pub MaySay : Settings → List Note → Step → ℕ → List ℕ → Type 0
 MaySay k before s c bytes = bytes ≡ answer_packet no_job → (asks is_grab c s ≡ true) × (pick k c before ≡ None)

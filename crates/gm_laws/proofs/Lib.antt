@@ -38,3 +38,4 @@ mod Firsts
 mod Refusals
 mod Parting
 mod Lines
+mod Assigning

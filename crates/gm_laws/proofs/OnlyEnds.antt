@@ -30,7 +30,7 @@ use Rattle.gm_history.specs.Causes.{IsOfEnd, is_request, is_ending, is_tick, is_
 use Rattle.gm_laws.specs.Listeners.{outputs, Queues, copies, TellsEnd, OnlyEndsAreTold}
 use Rattle.gm_history.specs.Hearing.{listens}
 use Rattle.gm_history.proofs.Finding.{same_number, found_passes}
-use Rattle.gm_history.proofs.Keeping.{tell_all_notes, slot_runs, runs_somewhere}
+use Rattle.gm_history.proofs.Keeping.{MayQueue, tell_all_notes, slot_runs, runs_somewhere}
 use Rattle.gm_history.proofs.Sayings.{error_other}
 use Rattle.gm_laws.proofs.Outputs.{told, copies_append, copies_other}
 use Rattle.gm_history.proofs.Asking.{kind_read}
@@ -39,7 +39,7 @@ use Rattle.gm_history.proofs.StepsKeep.{step_keeps, taken_or_not, run_history}
 -- ---- copies
 
 -- what there is a copy of is what was queued
-copied : (bytes other : List ℕ) (m : ℕ) → 0 < copies bytes (replicate m other) → (bytes ≡ other) × (0 < m)
+pub copied : (bytes other : List ℕ) (m : ℕ) → 0 < copies bytes (replicate m other) → (bytes ≡ other) × (0 < m)
 copied bytes other zero lt = absurd (omega arith)
 copied bytes other (suc m) lt = by (bytes_eq bytes other) refl
   where
@@ -50,15 +50,16 @@ copied bytes other (suc m) lt = by (bytes_eq bytes other) refl
         absurd (omega (arith, none, lt))
 
 -- nothing newer was queued
-none_newer : (c : ℕ) (newer : List (List ℕ)) (before after : Past) (bytes : List ℕ) → outputs c after.flow ≡ outputs c before.flow → Queues c newer before after → 0 < copies bytes newer → ⊥
+pub none_newer : (c : ℕ) (newer : List (List ℕ)) (before after : Past) (bytes : List ℕ) → outputs c after.flow ≡ outputs c before.flow → Queues c newer before after → 0 < copies bytes newer → ⊥
 none_newer c newer before after bytes same queued lt =
     let none : newer ≡ [] = append_cancel_left (outputs c before.flow) newer [] (sym queued ∙ (same ∙ sym (append-nil (outputs c before.flow)))) in
     let few : copies bytes newer ≡ 0 = ap (copies bytes) none in
     omega (arith, few, lt)
 
--- ---- neither a request that ends a job, nor a tick
+-- ---- a step that never queues an answer
 
-module _ (k : Settings) (s : Step) (start : Past) (history : History k start.notes) (c : ℕ) (answer : Answer) (ends : IsOfEnd answer) (other : (is_request is_ending s || is_tick s) ≡ false) where
+module _ (k : Settings) (s : Step) (start : Past) (history : History k start.notes) (c : ℕ) (answer : Answer)
+    (never : (d : ℕ) (bytes : List ℕ) → MayQueue k start.notes s d bytes → bytes ≡ answer_packet answer → ⊥) where
   abbrev count : Past → ℕ
   count past = copies (answer_packet answer) (outputs c past.flow)
 
@@ -80,12 +81,12 @@ module _ (k : Settings) (s : Step) (start : Past) (history : History k start.not
         by_opening = λ d addr past allowed cause h i. let fewer = began_at (c == d) (outputs c past.flow) in omega (arith, fewer, i);
         by_closing = λ d past opened cause h i. i;
         by_saying = λ d bytes past opened may h i.
-            subst (λ x. x ≤ count start) (sym (more_at (c == d) bytes (outputs c past.flow) (λ e. let bad : true ≡ false = sym (may.1 answer ends e) ∙ other in cc))) i;
+            subst (λ x. x ≤ count start) (sym (more_at (c == d) bytes (outputs c past.flow) (never d bytes may))) i;
       })
       (λ d e h i. i)
       (history, omega arith)).1
 
-  quiet : (newer : List (List ℕ)) → Queues c newer start (step k s start) → 0 < copies (answer_packet answer) newer → ⊥
+  pub quiet : (newer : List (List ℕ)) → Queues c newer start (step k s start) → 0 < copies (answer_packet answer) newer → ⊥
   quiet newer queued lt =
       let all : count (step k s start) ≡ copies (answer_packet answer) (outputs c start.flow ++ newer) = ap (copies (answer_packet answer)) queued in
       let few = none_more in
@@ -240,7 +241,8 @@ module _ (k : Settings) (start : Past) (history : History k start.notes) (c : �
       × (is_running (job_state n start.notes) ≡ true) × (job_state n (step k s start).notes ≡ states.Ended) × (0 < listens c n start.notes)
 
   still : (s : Step) → (is_request is_ending s || is_tick s) ≡ false → Only s
-  still s other q = absurd (quiet k s start history c answer ends other newer q lt)
+  still s other q =
+      absurd (quiet k s start history c answer (λ d bytes may e. let bad : true ≡ false = sym (may.1 answer ends e) ∙ other in let worse : ⊥ = cc in worse) newer q lt)
 
   by_packet : (worker number : ℕ) (bytes : List ℕ) (t : Bool) → is_one_of is_ending (kind_of number) ≡ t → Only (Packet worker number bytes)
   by_packet worker number bytes true is =

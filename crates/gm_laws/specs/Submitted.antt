@@ -3,7 +3,7 @@ use Rattle.std.specs.Prelude.{◌≡◌, ◌⊎◌, ℕ, suc, ◌+◌, ◌<◌, 
 use Rattle.gm_packet.specs.declared.kind.Kind.{Kind}
 use Rattle.gm_packet.specs.declared.kind.Kind.TheVariants.{GrabJob, GrabJobUniq}
 use Rattle.gm_packet.specs.Requests.{Asked}
-use Rattle.gm_packet.specs.Answers.{Answer, job_created, job_assign, job_assign_uniq, error}
+use Rattle.gm_packet.specs.Answers.{Answer, answer_packet, job_created, job_assign, job_assign_uniq, error}
 use Rattle.gm_notes.specs.Settings.{Settings}
 use Rattle.gm_notes.specs.Notes.{takes_units}
 use Rattle.gm_notes.specs.Jobs.{Job, job_state, job, is_kept, made, functions, is_mentioned, limit, total, handle}
@@ -12,9 +12,10 @@ use Rattle.gm_notes.specs.JobStates as states
 use Rattle.gm_notes.specs.Past.{Past}
 use Rattle.gm_notes.specs.Requests.{first}
 use Rattle.gm_notes.specs.Steps.{Step, run}
-use Rattle.gm_history.specs.Causes.{Asks, Submits, IsFor, is_foreground, is_background, is_submission, JustQueues}
+use Rattle.gm_history.specs.Causes.{Asks, Submits, IsFor, is_foreground, is_background, is_submission, IsAssignment, JustQueues}
 use Rattle.gm_history.specs.Laws.{InEachStep}
 use Rattle.gm_history.specs.Hearing.{listens}
+use Rattle.gm_laws.specs.Listeners.{Queues, copies}
 use Rattle.gm_laws.specs.Turns.{One}
 
 -- ---- the answer to a submission
@@ -85,6 +86,14 @@ abbrev pub GivesTheJob : Settings → Past → Step → Past → Type 0
 GivesTheJob k before s after = (n c : ℕ) → job_state n before.notes ≡ states.Waiting → job_state n after.notes ≡ states.Running c →
     (what : Job) × (asked : Asked) × (answer : Answer)
     × (job n before.notes ≡ Some what) × Asks c s asked × (assigned k n what asked.kind ≡ Some answer) × JustQueues c answer before after
+
+-- JOB_ASSIGN and JOB_ASSIGN_UNIQ are queued to a slot only in the step that gives it a job that waited, once, as what that job is
+abbrev pub OneAssignmentOneJob : Settings → Past → Step → Past → Type 0
+OneAssignmentOneJob k before s after = (c : ℕ) (newer : List (List ℕ)) (answer : Answer) →
+    Queues c newer before after → IsAssignment answer → 0 < copies (answer_packet answer) newer →
+    (n : ℕ) × (what : Job) × (asked : Asked) × (told : Answer)
+    × (job_state n before.notes ≡ states.Waiting) × (job_state n after.notes ≡ states.Running c) × (job n before.notes ≡ Some what)
+    × Asks c s asked × (assigned k n what asked.kind ≡ Some told) × (answer_packet answer ≡ answer_packet told) × (newer ≡ answer_packet told ∷ [])
 
 -- Each job is what one of the steps submitted, and the slot that is given it gets just this.
 abbrev pub WhatIsSubmittedIsWorkedOn : Type 0

@@ -24,6 +24,7 @@ ghost use Rattle.gm_laws.specs.Firsts.{FirstAbilityWins};
 ghost use Rattle.gm_laws.specs.Closing.{ClosingCloses};
 ghost use Rattle.gm_laws.specs.Refusals.{RefusalsHaveTheirReason};
 ghost use Rattle.gm_laws.specs.Lines.{AdminTellsTheTruth, ConnectionsAreNamed};
+ghost use Rattle.gm_laws.specs.Submitted.{OneAssignmentOneJob};
 
 /// The numbers made are the first and its successors, each once, none above 18446744073709551615.
 pub fn numbers_are_consecutive()
@@ -313,4 +314,10 @@ pub fn admin_tells_the_truth()
 /// The functions of the server keep their order, and new ones come last.
 pub fn connections_are_named()
     ensures { InEachStep ConnectionsAreNamed }
+{}
+
+/// JOB_ASSIGN and JOB_ASSIGN_UNIQ are queued to a slot only in the step that gives it a job that waited, and say what that job is. Nothing
+/// else is queued to it then.
+pub fn one_assignment_one_job()
+    ensures { InEachStep OneAssignmentOneJob }
 {}
