@@ -39,3 +39,4 @@ mod Refusals
 mod Parting
 mod Lines
 mod Assigning
+mod Barred

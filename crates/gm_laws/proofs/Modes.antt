@@ -226,7 +226,7 @@ shutdown_does k s start c line graceful is asks takes =
     (shutdown_line k start c graceful (command_of line) reads))
 
 -- a free slot is found
-free_found : (c d n : ℕ) (l : List Note) → d ≤ c → c < d + n → is_open c l ≡ false → (e : ℕ) × (free_from d n l ≡ Some e) × (is_open e l ≡ false)
+pub free_found : (c d n : ℕ) (l : List Note) → d ≤ c → c < d + n → is_open c l ≡ false → (e : ℕ) × (free_from d n l ≡ Some e) × (is_open e l ≡ false)
 free_found c d zero l low high closed = absurd (omega arith)
 free_found c d (suc n) l low high closed = by (is_open d l) refl (λ apart. free_found c (suc d) n l apart (omega arith) closed)
   where

@@ -1,5 +1,6 @@
 pub mod Abilities
 pub mod Answered
+pub mod Barred
 pub mod Between
 pub mod Closing
 pub mod ConnectionRows

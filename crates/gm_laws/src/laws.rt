@@ -25,6 +25,7 @@ ghost use Rattle.gm_laws.specs.Closing.{ClosingCloses};
 ghost use Rattle.gm_laws.specs.Refusals.{RefusalsHaveTheirReason};
 ghost use Rattle.gm_laws.specs.Lines.{AdminTellsTheTruth, ConnectionsAreNamed};
 ghost use Rattle.gm_laws.specs.Submitted.{OneAssignmentOneJob};
+ghost use Rattle.gm_laws.specs.Barred.{OnlyTheBarredIsRefused};
 
 /// The numbers made are the first and its successors, each once, none above 18446744073709551615.
 pub fn numbers_are_consecutive()
@@ -320,4 +321,11 @@ pub fn connections_are_named()
 /// else is queued to it then.
 pub fn one_assignment_one_job()
     ensures { InEachStep OneAssignmentOneJob }
+{}
+
+/// A step is refused exactly where something bars it, and then it changes nothing: an opening, where the server is going down or no slot is
+/// free; a packet, a line or a fault, where the slot takes no units; a closing, where the slot is not open; the taking or the withdrawal of a
+/// NOOP, where none is owed. Nothing bars a tick or a drain.
+pub fn only_the_barred_is_refused()
+    ensures { InEachStep OnlyTheBarredIsRefused }
 {}
