@@ -1,6 +1,26 @@
 -- Without round-robin the first ability for which a job waits wins.
-use Rattle.std.proofs.Common.{◌≡◌, ◌⊎◌, inl, inr, ℕ, Bool, true, false, cond, List, [], ◌∷◌, ◌++◌, map, Option, Some, None, refl, sym, ap, subst, ◌∙◌}
-use Rattle.std.specs.List.{All}
+use Rattle.std.proofs.Common.{◌≡◌, ◌⊎◌, inl, inr, ℕ, Bool, true, false, cond, not, ◌&&◌, ◌||◌, List, [], ◌∷◌, ◌++◌, map, filter, Option, Some, None, refl, sym, ap, subst, ◌∙◌}
+use Rattle.std.specs.Prelude.{◌==◌, codes}
+use Rattle.std.specs.List.{All, list_any}
+use Rattle.std.specs.Str.{bytes_eq}
+use Rattle.std.proofs.lemmas.Slice.Eq.{bytes_eq-Decides}
+use Rattle.gm_packet.specs.declared.kind.Kind.{Kind}
+use Rattle.gm_packet.specs.declared.kind.Kind.TheVariants.{CanDo, CantDo, CanDoTimeout}
+use Rattle.gm_packet.specs.Requests.{Asked}
+use Rattle.gm_notes.specs.declared.note.Note.TheVariants as notes
+use Rattle.gm_notes.specs.Notes.{takes_units, phase, is_asleep}
+use Rattle.gm_notes.specs.Jobs.{put, is_of, is_able, is_mentioned}
+use Rattle.gm_notes.specs.Past.{with_note, refuse, with_mention}
+use Rattle.gm_notes.specs.Submissions.{is_bad_name, is_one_too_many}
+use Rattle.gm_notes.specs.Workers.{wake_if, can_do as can_do_so, cant_do}
+use Rattle.gm_notes.specs.Requests.{first, request}
+use Rattle.gm_notes.specs.Steps.{step}
+use Rattle.gm_history.specs.History.{History}
+use Rattle.gm_history.specs.Causes.{Caused, Asks, seconds_of}
+use Rattle.gm_history.proofs.Finding.{same_number}
+use Rattle.gm_history.proofs.Caused.{note_law}
+use Rattle.gm_laws.proofs.JobLaws.{is_same}
+use Rattle.gm_laws.proofs.Taken.{request_does, request_shut}
 use Rattle.std.proofs.lemmas.List.Elements.{All-head, All-nil, All-cons}
 use Rattle.std.proofs.lemmas.Option.{same_Some}
 use Rattle.gm_notes.specs.declared.note.Note.{Note}
@@ -12,7 +32,7 @@ use Rattle.gm_notes.specs.Past.{Past}
 use Rattle.gm_notes.specs.Steps.{Step, run}
 use Rattle.gm_history.proofs.Finding.{WaitsFor, waiting_for_waits, job_of}
 use Rattle.gm_history.proofs.StepsKeep.{run_history}
-use Rattle.gm_laws.specs.Firsts.{HasNoneWaiting, FirstAbilityWins}
+use Rattle.gm_laws.specs.Firsts.{HasNoneWaiting, can_do, GivesOfTheFirst, KeepsTheirOrder, FirstAbilityWins}
 use Rattle.gm_laws.proofs.Moving.{from, both_not}
 use Rattle.gm_laws.proofs.StepLaws.{gives}
 use Rattle.gm_laws.proofs.Waiting.{something_waits}
@@ -40,11 +60,158 @@ module _ (notes : List Note) where
           let same : of.0 ≡ what = same_Some of.0 what (sym of.1 ∙ (ap (λ m. job m notes) here ∙ is)) in
           ([], map (λ (a : Ability). a.function) all, ap (λ f. f ∷ map (λ (a : Ability). a.function) all) (sym of.2 ∙ ap (λ (j : Job). j.function) same), All-nil (HasNoneWaiting notes))
 
-pub first_wins : (k : Settings) (steps : List Step) (s : Step) → FirstAbilityWins k (run k steps) s (run k (s ∷ steps))
-first_wins k steps s n c what plain waited runs is =
+gives_first : (k : Settings) (steps : List Step) (s : Step) → GivesOfTheFirst k (run k steps) (run k (s ∷ steps))
+gives_first k steps s n c what plain waited runs is =
     from (gives k s (run k steps) (run_history k steps) n c runs)
     (λ ran. absurd (let bad : states.Waiting ≡ states.Running c = sym waited ∙ ran in cc))
     (λ g. splits (run k steps).notes (abilities c (run k steps).notes) g.1.0 what (picked g.1.1) (ap (λ m. job m (run k steps).notes) g.1.2 ∙ is))
   where
     picked : {found : Pick} → pick k c (run k steps).notes ≡ Some found → pick_from (abilities c (run k steps).notes) (run k steps).notes ≡ Some found
     picked e = sym (ap (λ t. pick_from (cond t (rotated (last_function c (run k steps).notes) (abilities c (run k steps).notes)) (abilities c (run k steps).notes)) (run k steps).notes) plain) ∙ e
+
+-- ---- the order
+
+all_kept : (xs : List (List ℕ)) → filter (λ f. true) xs ≡ xs
+all_kept [] = refl
+all_kept (x ∷ xs) = ap (λ l. x ∷ l) (all_kept xs)
+
+none_kept : (xs : List (List ℕ)) → filter (λ f. false) xs ≡ []
+none_kept [] = refl
+none_kept (x ∷ xs) = none_kept xs
+
+-- an ability that is put in keeps its place, or comes last
+put_order : (f : List ℕ) (t : ℕ) (all : List Ability) → map (λ (ability : Ability). ability.function) (put f t all)
+    ≡ cond (list_any (is_of f) all) (map (λ (ability : Ability). ability.function) all) (map (λ (ability : Ability). ability.function) all ++ f ∷ [])
+put_order f t [] = refl
+put_order f t (ability ∷ all) = by (is_of f ability) (list_any (is_of f) all) refl (put_order f t all)
+  where
+    by : (u v : Bool) → is_of f ability ≡ u
+        → map (λ (a : Ability). a.function) (put f t all) ≡ cond v (map (λ (a : Ability). a.function) all) (map (λ (a : Ability). a.function) all ++ f ∷ [])
+        → map (λ (a : Ability). a.function) (cond u (record { function = f; timeout = t } ∷ all) (ability ∷ put f t all))
+        ≡ cond (u || v) (ability.function ∷ map (λ (a : Ability). a.function) all) (ability.function ∷ map (λ (a : Ability). a.function) all ++ f ∷ [])
+    by true v is rest = ap (λ g. g ∷ map (λ (a : Ability). a.function) all) (sym ((bytes_eq-Decides ability.function f).0 is))
+    by false true is rest = ap (λ l. ability.function ∷ l) rest
+    by false false is rest = ap (λ l. ability.function ∷ l) rest
+
+cant_order : (f : List ℕ) (all : List Ability) → map (λ (ability : Ability). ability.function) (filter (λ ability. not (is_of f ability)) all)
+    ≡ filter (λ g. not (bytes_eq g f)) (map (λ (ability : Ability). ability.function) all)
+cant_order f [] = refl
+cant_order f (ability ∷ all) = by (bytes_eq ability.function f) (cant_order f all)
+  where
+    by : (u : Bool) → map (λ (a : Ability). a.function) (filter (λ a. not (is_of f a)) all) ≡ filter (λ g. not (bytes_eq g f)) (map (λ (a : Ability). a.function) all)
+        → map (λ (a : Ability). a.function) (cond (not u) (ability ∷ filter (λ a. not (is_of f a)) all) (filter (λ a. not (is_of f a)) all))
+        ≡ cond (not u) (ability.function ∷ filter (λ g. not (bytes_eq g f)) (map (λ (a : Ability). a.function) all)) (filter (λ g. not (bytes_eq g f)) (map (λ (a : Ability). a.function) all))
+    by true rest = rest
+    by false rest = ap (λ l. ability.function ∷ l) rest
+
+-- CAN_DO, CAN_DO_TIMEOUT and CANT_DO
+abbrev is_placing : Kind → Bool
+is_placing CanDo = true
+is_placing CanDoTimeout = true
+is_placing CantDo = true
+is_placing kind = false
+
+module _ (c : ℕ) (start : Past) where
+  abbrev Ordered : List Note → Type 0
+  Ordered l =
+      ((keeps : List ℕ → Bool) × (can_do c l ≡ filter keeps (can_do c start.notes)))
+      ⊎ ((f : List ℕ) × (is_able c f start.notes ≡ false) × (can_do c l ≡ can_do c start.notes ++ f ∷ []))
+
+  same_order : (l : List Note) → can_do c l ≡ can_do c start.notes → Ordered l
+  same_order l e = inl (λ f. true, e ∙ sym (all_kept (can_do c start.notes)))
+
+  emptied : (l : List Note) → can_do c l ≡ [] → Ordered l
+  emptied l e = inl (λ f. false, e ∙ sym (none_kept (can_do c start.notes)))
+
+  -- what these requests do
+  module _ (k : Settings) (f : List ℕ) (t : ℕ) where
+    placed : can_do c (notes.Can c f t ∷ start.notes) ≡ cond (is_able c f start.notes) (can_do c start.notes) (can_do c start.notes ++ f ∷ [])
+    placed = rw (same_number c) (put_order f t (abilities c start.notes))
+
+    placed_so : (l : List Note) → can_do c l ≡ cond (is_able c f start.notes) (can_do c start.notes) (can_do c start.notes ++ f ∷ []) → Ordered l
+    placed_so l e = by (is_able c f start.notes) refl e
+      where
+        by : (u : Bool) → is_able c f start.notes ≡ u → can_do c l ≡ cond u (can_do c start.notes) (can_do c start.notes ++ f ∷ []) → Ordered l
+        by true able e = same_order l e
+        by false new e = inr (f, new, e)
+
+    mentions : (u : Bool) → can_do c (notes.Can c f t ∷ (cond u start (with_note (notes.Mention f) start)).notes) ≡ can_do c (notes.Can c f t ∷ start.notes)
+    mentions true = refl
+    mentions false = refl
+
+    can_order : Ordered (can_do_so k c f t start).notes
+    can_order = by (is_bad_name f) (is_one_too_many k f start.notes) (is_asleep (phase c start.notes) && not (is_empty (waiting_for f start.notes)))
+      where
+        by : (u v w : Bool) → Ordered (cond u (refuse c (codes "bad_function") start) (cond v (refuse c (codes "too_many_functions") start) (wake_if w c (with_note (notes.Can c f t) (with_mention f start))))).notes
+        by true v w = same_order start.notes refl
+        by false true w = same_order start.notes refl
+        by false false true = placed_so (notes.Woken c ∷ notes.Can c f t ∷ (with_mention f start).notes) (mentions (is_mentioned f start.notes) ∙ placed)
+        by false false false = placed_so (notes.Can c f t ∷ (with_mention f start).notes) (mentions (is_mentioned f start.notes) ∙ placed)
+
+    cant_ordered : Ordered (cant_do c f start).notes
+    cant_ordered = by (is_bad_name f)
+      where
+        gone : can_do c (notes.Cant c f ∷ start.notes) ≡ filter (λ g. not (bytes_eq g f)) (can_do c start.notes)
+        gone = rw (same_number c) (cant_order f (abilities c start.notes))
+
+        by : (u : Bool) → Ordered (cond u (refuse c (codes "bad_function") start) (with_note (notes.Cant c f) start)).notes
+        by true = same_order start.notes refl
+        by false = inl (λ g. not (bytes_eq g f), gone)
+
+  places_so : (k : Settings) (kind : Kind) (a : List (List ℕ)) (timeout : ℕ) → is_placing kind ≡ true → Ordered (request k c kind a timeout start).notes
+  places_so k CanDo a timeout e = can_order k (first a) 0
+  places_so k CanDoTimeout a timeout e = can_order k (first a) timeout
+  places_so k CantDo a timeout e = cant_ordered k (first a) 0
+  places_so k kind a timeout e = absurd cc
+
+  -- a step does nothing to them, or takes all, or is such a request
+  module _ (k : Settings) (s : Step) (history : History k start.notes) where
+    abbrev LeftSo : List Note → Type 0
+    LeftSo l = (can_do c l ≡ can_do c start.notes) ⊎ ((can_do c l ≡ []) ⊎ ((asked : Asked) × Asks c s asked × (is_placing asked.kind ≡ true)))
+
+    taken_all : (note : Note) (older : List Note) (t : Bool) → can_do c (note ∷ older) ≡ cond t [] (can_do c older) → LeftSo older → LeftSo (note ∷ older)
+    taken_all note older true e p = inr (inl e)
+    taken_all note older false e (inl p) = inl (e ∙ p)
+    taken_all note older false e (inr (inl p)) = inr (inl (e ∙ p))
+    taken_all note older false e (inr (inr p)) = inr (inr p)
+
+    placing : (note : Note) (older : List Note) (d : ℕ) (asked : Asked) → Asks d s asked → is_placing asked.kind ≡ true → ((c == d) ≡ false → can_do c (note ∷ older) ≡ can_do c older) → LeftSo older → LeftSo (note ∷ older)
+    placing note older d asked a e other p = by (c == d) refl p
+      where
+        by : (t : Bool) → (c == d) ≡ t → LeftSo older → LeftSo (note ∷ older)
+        by true is p = inr (inr (asked, subst (λ x. Asks x s asked) (sym (is_same c d is)) a, e))
+        by false is (inl p) = inl (other is ∙ p)
+        by false is (inr (inl p)) = inr (inl (other is ∙ p))
+        by false is (inr (inr p)) = inr (inr p)
+
+    emptying : (t : Bool) (all : List Ability) → map (λ (ability : Ability). ability.function) (cond t [] all) ≡ cond t [] (map (λ (ability : Ability). ability.function) all)
+    emptying true all = refl
+    emptying false all = refl
+
+    enabling_places : (kind : Kind) (timeout t : ℕ) → seconds_of kind timeout ≡ Some t → is_placing kind ≡ true
+    enabling_places CanDo timeout t e = refl
+    enabling_places CanDoTimeout timeout t e = refl
+    enabling_places kind timeout t e = absurd cc
+
+    left_more : (note : Note) (older : List Note) → Caused k start.notes s note older → LeftSo older → LeftSo (note ∷ older)
+    left_more (notes.Opened d addr) older cause p = taken_all (notes.Opened d addr) older (c == d) (emptying (c == d) (abilities c older)) p
+    left_more (notes.Closed d) older cause p = taken_all (notes.Closed d) older (c == d) (emptying (c == d) (abilities c older)) p
+    left_more (notes.Reset d) older cause p = taken_all (notes.Reset d) older (c == d) (emptying (c == d) (abilities c older)) p
+    left_more (notes.Can d f t) older cause p = placing (notes.Can d f t) older d cause.0 cause.1 (enabling_places cause.0.kind cause.0.timeout t cause.2) (λ other. rw other refl) p
+    left_more (notes.Cant d f) older cause p = placing (notes.Cant d f) older d cause.0 cause.1 (ap is_placing cause.2) (λ other. rw other refl) p
+    left_more note older cause p = p
+
+    ordered_so : Ordered (step k s start).notes
+    ordered_so = by (note_law k s start history LeftSo (λ note older allowed cause h p. left_more note older cause p) (inl refl))
+      where
+        asked_so : (asked : Asked) → Asks c s asked → is_placing asked.kind ≡ true → (t : Bool) → takes_units c start.notes ≡ t → Ordered (step k s start).notes
+        asked_so asked a e true takes = subst (λ (past : Past). Ordered past.notes) (sym (request_does k s start c asked takes a)) (places_so k asked.kind asked.arguments asked.timeout e)
+        asked_so asked a e false shut = subst (λ (past : Past). Ordered past.notes) (sym (request_shut k s start c asked shut a)) (same_order start.notes refl)
+
+        by : LeftSo (step k s start).notes → Ordered (step k s start).notes
+        by (inl e) = same_order (step k s start).notes e
+        by (inr (inl e)) = emptied (step k s start).notes e
+        by (inr (inr p)) = asked_so p.0 p.1 p.2 (takes_units c start.notes) refl
+
+pub first_wins : (k : Settings) (steps : List Step) (s : Step) → FirstAbilityWins k (run k steps) s (run k (s ∷ steps))
+first_wins k steps s = (gives_first k steps s, λ c. ordered_so c (run k steps) k s (run_history k steps))

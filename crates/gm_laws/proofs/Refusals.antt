@@ -38,7 +38,9 @@ use Rattle.gm_notes.specs.Jobs.{is_empty, waiting_for, listeners}
 use Rattle.gm_notes.specs.JobStates.{is_running_at, is_live, is_running}
 use Rattle.gm_notes.specs.JobStates as states
 use Rattle.gm_notes.specs.Past.{Past, with_note, with_output, give, refuse, with_mention, tell_all}
-use Rattle.gm_notes.specs.Texts.{spaced}
+use Rattle.gm_notes.specs.Texts.{spaced, fault_text}
+use Rattle.gm_notes.specs.declared.event.UnitFault.{UnitFault}
+use Rattle.gm_notes.specs.declared.event.UnitFault.TheVariants.{BadMagic, PacketTooLarge, LineTooLong}
 use Rattle.gm_notes.specs.Submissions.{Submission, is_bad_name, is_one_too_many, is_full, make, join_or_make, submit}
 use Rattle.gm_notes.specs.Workers.{wake_if, add_ability, can_do, cant_do, sleep_beside, pre_sleep, wake_itself, assignment, tell_assigned, give_out, grab}
 use Rattle.gm_notes.specs.Workers.{Work, keep_report, end_if, hearers, tell_work, work_on, work}
@@ -53,7 +55,7 @@ use Rattle.gm_history.proofs.Keeping.{handled_is, runs_there}
 use Rattle.gm_history.proofs.StepsKeep.{run_history}
 use Rattle.gm_laws.specs.Submitted.{IsJoined, JoinsNone}
 use Rattle.gm_laws.specs.Refusals.{IsError, IsErr, IsBadName, IsBadWord, IsOneTooMany, IsFull, names_function, names_run, BringsFunction, BringsJob}
-use Rattle.gm_laws.specs.Refusals.{HasReason, IsUnserved, IsErroneous, answers, AllAnswer, JustAnswers, RefusalsHaveTheirReason}
+use Rattle.gm_laws.specs.Refusals.{HasReason, IsUnserved, IsErroneous, IsToldOf, answers, AllAnswer, JustAnswers, RefusalsHaveTheirReason}
 use Rattle.gm_laws.proofs.Created.{bad_name, too_many, full, no_number, joins_so, mention_flow, request_answered, Answered as SubmittedSo}
 use Rattle.gm_laws.proofs.Handles.{handle_names}
 use Rattle.gm_laws.specs.Laws.{has_place}
@@ -496,14 +498,21 @@ module _ (k : Settings) (c : ℕ) (start : Past) where
   erroneous (Ok (MaxQueue f size)) error (inr (is, good, many)) = subst (λ x. IsErr c x start (maxqueue k c f size start)) (sym is) (rw (word_well f good, many_too k f start many) (refl, refl))
   erroneous (Ok command) error is = absurd is
 
+told_of : (c : ℕ) (fault : UnitFault) (start : Past) → IsToldOf c fault start (with_note (notes.Shut c) (with_output c (fault_text fault) start))
+told_of c BadMagic start = (spaced (codes "bad_magic"), refl)
+told_of c PacketTooLarge start = (spaced (codes "packet_too_large"), refl)
+told_of c LineTooLong start = refl
+
 pub refusals : (k : Settings) (steps : List Step) (s : Step) → RefusalsHaveTheirReason k (run k steps) s (run k (s ∷ steps))
-refusals k steps s =
+refusals k steps s c takes =
     let start = run k steps in (
-      (λ c number bytes code is takes why.
+      (λ number bytes code is why.
           subst (IsError c code start) (sym (ap (λ x. step k x start) is ∙ taken_is (takes_units c start.notes) (packet_of k c (kind_of number) bytes start) start takes)) (unserved k c start bytes code (kind_of number) why)),
-      (λ c line error is takes why.
+      (λ line error is why.
           subst (IsErr c error start) (sym (ap (λ x. step k x start) is ∙ taken_is (takes_units c start.notes) (command k c (command_of line) start) start takes)) (erroneous k c start (command_of line) error why)),
-      λ c asked takes asks.
+      (λ fault is.
+          subst (IsToldOf c fault start) (sym (ap (λ x. step k x start) is ∙ taken_is (takes_units c start.notes) (with_note (notes.Shut c) (with_output c (fault_text fault) start)) start takes)) (told_of c fault start)),
+      λ asked asks.
           subst (λ after. ((code : List ℕ) × HasReason k c asked start code) ⊎ JustAnswers asked.kind start after) (sym (request_does k s start c asked takes asks))
           (answered k c start (run_history k steps) asked.arguments asked.timeout asked.kind),
     )

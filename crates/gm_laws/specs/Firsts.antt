@@ -1,9 +1,9 @@
--- Without round-robin: of which function the job is that a grab gets.
-use Rattle.std.specs.Prelude.{◌≡◌, ℕ, false, List, ◌∷◌, ◌++◌, map, Some}
+-- In which order a slot's functions are tried.
+use Rattle.std.specs.Prelude.{◌≡◌, ◌⊎◌, ℕ, Bool, false, List, [], ◌∷◌, ◌++◌, map, filter, Some}
 use Rattle.std.specs.List.{All}
 use Rattle.gm_notes.specs.declared.note.Note.{Note}
 use Rattle.gm_notes.specs.Settings.{Settings}
-use Rattle.gm_notes.specs.Jobs.{Job, job_state, job, abilities}
+use Rattle.gm_notes.specs.Jobs.{Job, job_state, job, abilities, is_able}
 use Rattle.gm_notes.specs.JobStates as states
 use Rattle.gm_notes.specs.Past.{Past}
 use Rattle.gm_notes.specs.Steps.{Step}
@@ -12,12 +12,21 @@ use Rattle.gm_notes.specs.Steps.{Step}
 abbrev pub HasNoneWaiting : List Note → List ℕ → Type 0
 HasNoneWaiting notes f = (n : ℕ) (what : Job) → job_state n notes ≡ states.Waiting → job n notes ≡ Some what → what.function ≡ f → ⊥
 
--- what slot c can do, in the order added
+-- what slot c can do
 abbrev pub can_do : ℕ → List Note → List (List ℕ)
 can_do c notes = map (λ ability. ability.function) (abilities c notes)
 
--- the job that a slot is given is of its first function for which one waits
-abbrev pub FirstAbilityWins : Settings → Past → Step → Past → Type 0
-FirstAbilityWins k before s after = (n c : ℕ) (what : Job) → k.round_robin ≡ false →
+-- without round-robin the job that a slot is given is of its first function for which one waits
+abbrev pub GivesOfTheFirst : Settings → Past → Past → Type 0
+GivesOfTheFirst k before after = (n c : ℕ) (what : Job) → k.round_robin ≡ false →
     job_state n before.notes ≡ states.Waiting → job_state n after.notes ≡ states.Running c → job n before.notes ≡ Some what →
     (earlier later : List (List ℕ)) × (can_do c before.notes ≡ earlier ++ what.function ∷ later) × All (HasNoneWaiting before.notes) earlier
+
+-- a step leaves the functions of a slot in their order: some may go, or one that the slot couldn't do comes last
+abbrev pub KeepsTheirOrder : Past → Past → Type 0
+KeepsTheirOrder before after = (c : ℕ) →
+    ((keeps : List ℕ → Bool) × (can_do c after.notes ≡ filter keeps (can_do c before.notes)))
+    ⊎ ((f : List ℕ) × (is_able c f before.notes ≡ false) × (can_do c after.notes ≡ can_do c before.notes ++ f ∷ []))
+
+abbrev pub FirstAbilityWins : Settings → Past → Step → Past → Type 0
+FirstAbilityWins k before s after = GivesOfTheFirst k before after × KeepsTheirOrder before after

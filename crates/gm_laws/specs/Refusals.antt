@@ -15,6 +15,8 @@ use Rattle.gm_admin.specs.declared.fault.AdminError.{AdminError}
 use Rattle.gm_admin.specs.declared.fault.AdminError.TheVariants as errors
 use Rattle.gm_admin.specs.Commands.{Asked as Commanded, MaxQueue, command_of}
 use Rattle.gm_admin.specs.Answers.{error_text}
+use Rattle.gm_notes.specs.declared.event.UnitFault.{UnitFault}
+use Rattle.gm_notes.specs.declared.event.UnitFault.TheVariants.{BadMagic, PacketTooLarge, LineTooLong}
 use Rattle.gm_notes.specs.declared.note.Note.{Note}
 use Rattle.gm_notes.specs.Settings.{Settings}
 use Rattle.gm_notes.specs.Notes.{takes_units}
@@ -23,7 +25,7 @@ use Rattle.gm_notes.specs.Jobs.{job_state, functions, is_mentioned, limit, total
 use Rattle.gm_notes.specs.JobStates as states
 use Rattle.gm_notes.specs.Past.{Past}
 use Rattle.gm_notes.specs.Requests.{first}
-use Rattle.gm_notes.specs.Steps.{Step, Packet, Line}
+use Rattle.gm_notes.specs.Steps.{Step, Packet, Line, Fault}
 use Rattle.gm_history.specs.Causes.{Asks, is_enabling, is_submission, JustQueues}
 use Rattle.gm_laws.specs.Submitted.{JoinsNone}
 
@@ -106,6 +108,14 @@ IsErroneous k (Ok (MaxQueue f size)) before error =
     ((error ≡ errors.BadFunction) × IsBadWord f) ⊎ ((error ≡ errors.TooManyFunctions) × (IsBadWord f → ⊥) × IsOneTooMany k f before.notes)
 IsErroneous k (Ok command) before error = ⊥
 
+-- ---- faults
+
+-- what a fault is answered with
+abbrev pub IsToldOf : ℕ → UnitFault → Past → Past → Type 0
+IsToldOf c BadMagic before after = (text : List ℕ) × JustQueues c (error (codes "bad_magic") text) before after
+IsToldOf c PacketTooLarge before after = (text : List ℕ) × JustQueues c (error (codes "packet_too_large") text) before after
+IsToldOf c LineTooLong before after = after.flow ≡ Queued c (error_text errors.LineTooLong) ∷ before.flow
+
 -- ---- the law
 
 -- of which types a request's answers are, and what is passed on for it, but for ERROR
@@ -126,10 +136,11 @@ AllAnswer kind (other ∷ newer) = ⊥
 abbrev pub JustAnswers : Kind → Past → Past → Type 0
 JustAnswers kind before after = (newer : List Flow) × (after.flow ≡ newer ++ before.flow) × AllAnswer kind newer
 
--- A packet or a line of a slot that takes units, for whose refusal there is a reason, is refused with its code. A request for whose refusal
--- there is none gets no ERROR.
+-- A packet or a line of a slot that takes units, for whose refusal there is a reason, is refused with its code, and a fault is answered with
+-- what it is. A request for whose refusal there is none gets no ERROR.
 abbrev pub RefusalsHaveTheirReason : Settings → Past → Step → Past → Type 0
-RefusalsHaveTheirReason k before s after =
-    ((c number : ℕ) (bytes code : List ℕ) → s ≡ Packet c number bytes → takes_units c before.notes ≡ true → IsUnserved k c (request_of number bytes) before code → IsError c code before after)
-    × ((c : ℕ) (line : List ℕ) (error : AdminError) → s ≡ Line c line → takes_units c before.notes ≡ true → IsErroneous k (command_of line) before error → IsErr c error before after)
-    × ((c : ℕ) (asked : Asked) → takes_units c before.notes ≡ true → Asks c s asked → ((code : List ℕ) × HasReason k c asked before code) ⊎ JustAnswers asked.kind before after)
+RefusalsHaveTheirReason k before s after = (c : ℕ) → takes_units c before.notes ≡ true →
+    ((number : ℕ) (bytes code : List ℕ) → s ≡ Packet c number bytes → IsUnserved k c (request_of number bytes) before code → IsError c code before after)
+    × ((line : List ℕ) (error : AdminError) → s ≡ Line c line → IsErroneous k (command_of line) before error → IsErr c error before after)
+    × ((fault : UnitFault) → s ≡ Fault c fault → IsToldOf c fault before after)
+    × ((asked : Asked) → Asks c s asked → ((code : List ℕ) × HasReason k c asked before code) ⊎ JustAnswers asked.kind before after)

@@ -282,8 +282,8 @@ pub fn shutdown_is_answered()
     ensures { InEachStep ShutdownIsAnswered }
 {}
 
-/// Without round-robin the job that a slot is given is of the first function, in the order in which the slot added them, for which a job
-/// waits.
+/// Without round-robin the job that a slot is given is of the first of its functions for which a job waits. Its functions keep their order:
+/// one that it could not do before comes last.
 pub fn first_ability_wins()
     ensures { InEachStep FirstAbilityWins }
 {}
@@ -296,9 +296,9 @@ pub fn closing_closes()
 {}
 
 /// A request or a text line of a slot that takes units is refused, with the code of the first reason that there is, and nothing happens; a
-/// request for whose refusal there is no reason gets no ERROR, and nobody gets any packet but those of its kind. `Refusals` has the reasons:
-/// a bad name, one function too many, a full queue, no number left, no such job, another option than `exceptions`, data or a command that
-/// cannot be read.
+/// fault is answered with what it is. A request for whose refusal there is no reason gets no ERROR, and nobody gets any packet but those of
+/// its kind. `Refusals` has the reasons: a bad name, one function too many, a full queue, no number left, no such job, another option than
+/// `exceptions`, and data or words that say nothing.
 pub fn refusals_have_their_reason()
     ensures { InEachStep RefusalsHaveTheirReason }
 {}
