@@ -40,3 +40,4 @@ mod Parting
 mod Lines
 mod Assigning
 mod Barred
+mod News

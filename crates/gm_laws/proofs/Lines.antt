@@ -91,7 +91,7 @@ rising_apart (m ∷ ms) r = (by (is_in m ms) refl, rising_apart ms r.1)
     by false is = refl
 
 -- the numbers made are apart
-made_apart : (k : Settings) (ms : List ℕ) → AreNumbers k ms → AreApart ms
+pub made_apart : (k : Settings) (ms : List ℕ) → AreNumbers k ms → AreApart ms
 made_apart k [] h = tt
 made_apart k (m ∷ ms) h = (by (is_in m ms) refl, made_apart k ms h.2)
   where

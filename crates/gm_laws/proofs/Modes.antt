@@ -70,7 +70,7 @@ module _ (k : Settings) (s : Step) (start : Past) (history : History k start.not
       by false f = p f
   open_more c note older cause p e = p e
 
-  opens : (c : ℕ) → OpenSo c (step k s start).notes
+  pub opens : (c : ℕ) → OpenSo c (step k s start).notes
   opens c = note_law k s start history (OpenSo c) (λ note older allowed cause h p. open_more c note older cause p) (λ e. inl e)
 
 -- only a running server opens a connection

@@ -4,6 +4,7 @@ pub mod Barred
 pub mod Between
 pub mod Closing
 pub mod ConnectionRows
+pub mod Done
 pub mod Exceptions
 pub mod Firsts
 pub mod JobRows

@@ -26,6 +26,7 @@ ghost use Rattle.gm_laws.specs.Refusals.{RefusalsHaveTheirReason};
 ghost use Rattle.gm_laws.specs.Lines.{AdminTellsTheTruth, ConnectionsAreNamed};
 ghost use Rattle.gm_laws.specs.Submitted.{OneAssignmentOneJob};
 ghost use Rattle.gm_laws.specs.Barred.{OnlyTheBarredIsRefused};
+ghost use Rattle.gm_laws.specs.Done.{AnswersNameWhatIsNew};
 
 /// The numbers made are the first and its successors, each once, none above 18446744073709551615.
 pub fn numbers_are_consecutive()
@@ -328,4 +329,10 @@ pub fn one_assignment_one_job()
 /// NOOP, where none is owed. Nothing bars a tick or a drain.
 pub fn only_the_barred_is_refused()
     ensures { InEachStep OnlyTheBarredIsRefused }
+{}
+
+/// The answer of a step that is taken names the slot that the step opens, if it opens one, and the job that it makes, if it makes one, and no
+/// other.
+pub fn answers_name_what_is_new()
+    ensures { InEachStep AnswersNameWhatIsNew }
 {}
