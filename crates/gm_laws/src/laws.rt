@@ -151,8 +151,8 @@ pub fn grabs_get_the_pick()
 {}
 
 /// After CAN_DO or CAN_DO_TIMEOUT a slot can do the function, within these seconds, and after CANT_DO or RESET_ABILITIES it can't, unless it
-/// is shut, or is answered with an ERROR and nothing happened. An ability comes only so, and stays until one of these requests changes
-/// it or the slot closes.
+/// is shut, or there is a reason to refuse it and it is answered with that ERROR. An ability comes only so, and stays until one of these
+/// requests changes it or the slot closes.
 pub fn abilities_are_as_asked()
     ensures { InEachStep AbilitiesAreAsAsked }
 {}
@@ -236,8 +236,8 @@ pub fn modes_never_go_back()
 {}
 
 /// A step that leaves a function with more jobs that wait or run leaves it with no more than its limit, if it has one. Only `maxqueue` with
-/// the function's name changes that, to what it says, or it is answered with an `ERR` line. There are never more functions than the
-/// settings say, and each job and each ability is for one of them.
+/// the function's name changes that, to what it says, or there is a reason to refuse it and it is answered with that `ERR` line. There are
+/// never more functions than the settings say, and each job and each ability is for one of them.
 pub fn limits_hold()
     ensures { InEachStep LimitsHold }
 {}
