@@ -8,19 +8,18 @@ use Rattle.std.proofs.lemmas.Option.{same_Some}
 use Rattle.std.proofs.lemmas.Slice.Eq.{bytes_eq-Decides}
 use Rattle.gm_packet.specs.declared.kind.Kind.{Kind}
 use Rattle.gm_packet.specs.declared.kind.Kind.TheVariants.{CanDo, CantDo, CanDoTimeout, ResetAbilities}
-use Rattle.gm_packet.specs.Kinds.{kind_of}
 use Rattle.gm_packet.specs.Requests.{Asked}
 use Rattle.gm_notes.specs.declared.note.Note.{Note}
 use Rattle.gm_notes.specs.declared.note.Note.TheVariants as notes
 use Rattle.gm_notes.specs.Settings.{Settings}
-use Rattle.gm_notes.specs.Notes.{is_open, takes_units, phase, is_asleep}
+use Rattle.gm_notes.specs.Notes.{is_open, phase, is_asleep}
 use Rattle.gm_notes.specs.Jobs.{Ability, abilities, is_able, is_of, put, is_empty, waiting_for}
 use Rattle.gm_notes.specs.Past.{Past, with_note, with_mention, refuse}
 use Rattle.gm_notes.specs.Texts.{spaced}
 use Rattle.gm_notes.specs.Submissions.{is_bad_name, is_one_too_many}
 use Rattle.gm_notes.specs.Workers.{wake_if, add_ability, can_do, cant_do}
-use Rattle.gm_notes.specs.Requests.{first, request, packet_of}
-use Rattle.gm_notes.specs.Steps.{Step, Packet, step, run}
+use Rattle.gm_notes.specs.Requests.{first, request}
+use Rattle.gm_notes.specs.Steps.{Step, step, run}
 use Rattle.gm_history.specs.History.{Allowed, History}
 use Rattle.gm_history.specs.Causes.{Caused, Asks, seconds_of, closes, is_enabling}
 use Rattle.gm_history.specs.History.{is_able_within}
@@ -29,13 +28,11 @@ use Rattle.gm_laws.specs.Refusals.{names_function}
 use Rattle.gm_laws.proofs.Created.{bad_name, too_many}
 use Rattle.gm_laws.proofs.Refusals.{named_badly}
 use Rattle.gm_laws.proofs.Taken.{request_does}
-use Rattle.gm_history.proofs.Asking.{packet_does}
 use Rattle.gm_history.proofs.Finding.{same_number}
 use Rattle.gm_laws.proofs.JobLaws.{is_same}
 use Rattle.gm_laws.proofs.Moving.{both_not}
 use Rattle.gm_history.proofs.StepsKeep.{run_history}
 use Rattle.gm_history.proofs.Caused.{note_law}
-use Rattle.gm_laws.proofs.StepLaws.{taken_is}
 
 -- ---- abilities in lists
 

@@ -14,7 +14,7 @@ use Rattle.gm_notes.specs.JobStates as states
 use Rattle.gm_notes.specs.Past.{Past, refuse}
 use Rattle.gm_notes.specs.Texts.{error_of, spaced}
 use Rattle.gm_notes.specs.Requests.{packet_of}
-use Rattle.gm_notes.specs.Steps.{Step, Packet, unless, unless_not_open, step, run}
+use Rattle.gm_notes.specs.Steps.{Step, Packet, unless, unless_not_open, run}
 use Rattle.gm_history.specs.Causes.{Asks, IsAssignment, JustQueues, is_one_of, is_request, is_grab}
 use Rattle.gm_history.proofs.Sayings.{error_other, no_job_other}
 use Rattle.gm_history.proofs.StepsKeep.{run_history}

@@ -1,5 +1,5 @@
 -- A step is refused exactly where something bars it.
-use Rattle.std.proofs.Common.{◌≡◌, ◌⊎◌, inl, inr, ℕ, ◌<◌, Bool, true, false, cond, ◌&&◌, Option, Some, None, List, ◌∷◌, refl, sym, ap, subst, ◌∙◌, arith}
+use Rattle.std.proofs.Common.{◌≡◌, ◌⊎◌, inl, inr, ℕ, ◌<◌, Bool, true, false, cond, ◌&&◌, Option, Some, None, List, ◌∷◌, refl, sym, ap, ◌∙◌, arith}
 use Rattle.std.proofs.lemmas.Option.{same_Some}
 use Rattle.gm_notes.specs.declared.states.Mode.{Mode}
 use Rattle.gm_notes.specs.declared.states.Mode.TheVariants.{Running, Graceful, Stopped}
@@ -8,10 +8,10 @@ use Rattle.gm_notes.specs.declared.event.ApplyError.TheVariants.{NotOpen, NoSlot
 use Rattle.gm_notes.specs.Settings.{Settings}
 use Rattle.gm_notes.specs.Notes.{is_open, takes_units, mode, phase, is_owed}
 use Rattle.gm_notes.specs.Past.{Past}
-use Rattle.gm_notes.specs.Steps.{Step, Open, Packet, Line, Fault, Close, Tick, Took, Withdrew, Drain, free_slot, if_free, if_accepted, if_owed, unless_not_open}
-use Rattle.gm_notes.specs.Steps.{unless, refusal, add, step, run}
+use Rattle.gm_notes.specs.Steps.{Step, Open, Packet, Line, Fault, Close, Tick, Took, Withdrew, Drain, free_slot, if_free, if_accepted, unless_not_open}
+use Rattle.gm_notes.specs.Steps.{unless, refusal, add, run}
 use Rattle.gm_notes.proofs.FreeSlots.{free_is}
-use Rattle.gm_laws.specs.Barred.{IsOwedNone, IsBarred, OnlyTheBarredIsRefused}
+use Rattle.gm_laws.specs.Barred.{IsBarred, OnlyTheBarredIsRefused}
 use Rattle.gm_laws.proofs.Modes.{free_found}
 use Rattle.gm_laws.proofs.Moving.{both_not}
 

@@ -8,10 +8,11 @@ use Rattle.gm_notes.specs.Settings.{Settings}
 use Rattle.gm_notes.specs.Notes.{is_open}
 use Rattle.gm_notes.specs.Flow.{Flow, Began, Queued, Drained, Emptied, sent, waiting}
 use Rattle.gm_notes.specs.Past.{Past}
-use Rattle.gm_notes.specs.Steps.{Step, step}
+use Rattle.gm_notes.specs.Steps.{Step, Drain, step}
 use Rattle.gm_history.specs.History.{History}
 use Rattle.gm_history.specs.Laws.{drained, is_kept_up, IsPrefix, SentSo}
 use Rattle.gm_laws.specs.Laws.{takes_from, OnlyDrainsTake}
+use Rattle.gm_history.proofs.Finding.{same_number}
 use Rattle.gm_history.proofs.StepsKeep.{step_keeps}
 use Rattle.gm_history.proofs.Bytes.{began, emptied, queued, taken, same_slot, AllSent, noted_sent}
 
@@ -45,8 +46,8 @@ module _ (k : Settings) (s : Step) (start : Past) where
   abbrev Prefixes : Past → Type 0
   Prefixes past = AllSent past × ((c : ℕ) → takes_from c s ≡ false → IsPrefix (waiting c start.flow) (waiting c past.flow))
 
-  pub only_drains : History k start.notes → AllSent start → OnlyDrainsTake k start s (step k s start)
-  only_drains history all =
+  keeps_others : History k start.notes → AllSent start → (c : ℕ) → takes_from c s ≡ false → IsPrefix (waiting c start.flow) (waiting c (step k s start).flow)
+  keeps_others history all =
       (step_keeps {k = k} {I = Prefixes} start s
       (record {
         by_note = λ note past inner allowed cause h i. (noted_sent note past inner i.0, i.1);
@@ -68,6 +69,16 @@ module _ (k : Settings) (s : Step) (start : Past) where
         λ c other. prefix_drained c (waiting c start.flow) d start.flow (c == d) refl (subst (λ x. takes_from c x ≡ false) e other) (i.1 c other),
       ))
       (history, (all, λ c other. ([], sym (append-nil (waiting c start.flow)))))).1.1
+
+  -- a drain takes all
+  abbrev TakesAll : ℕ → Past → Type 0
+  TakesAll c after = (waiting c after.flow ≡ []) × (drained c after.flow ≡ drained c start.flow ++ waiting c start.flow)
+
+  drains_all : (c : ℕ) → s ≡ Drain c → TakesAll c (step k s start)
+  drains_all c is = subst (λ x. TakesAll c (step k x start)) (sym is) (rw (same_number c) refl, rw (same_number c) refl)
+
+  pub only_drains : History k start.notes → AllSent start → OnlyDrainsTake k start s (step k s start)
+  only_drains history all = (keeps_others history all, drains_all)
 
 -- ---- any flow
 

@@ -1,5 +1,5 @@
 -- Without round-robin the first ability for which a job waits wins.
-use Rattle.std.proofs.Common.{◌≡◌, ◌⊎◌, inl, inr, ℕ, Bool, true, false, cond, not, ◌&&◌, ◌||◌, List, [], ◌∷◌, ◌++◌, map, filter, Option, Some, None, refl, sym, ap, subst, ◌∙◌}
+use Rattle.std.proofs.Common.{◌≡◌, ◌⊎◌, inl, inr, ℕ, Bool, true, false, cond, not, ◌&&◌, ◌||◌, List, [], ◌∷◌, ◌++◌, map, filter, Some, refl, sym, ap, subst, ◌∙◌}
 use Rattle.std.specs.Prelude.{◌==◌, codes}
 use Rattle.std.specs.List.{All, list_any}
 use Rattle.std.specs.Str.{bytes_eq}
@@ -26,13 +26,13 @@ use Rattle.std.proofs.lemmas.Option.{same_Some}
 use Rattle.gm_notes.specs.declared.note.Note.{Note}
 use Rattle.gm_notes.specs.declared.states.Pick.{Pick}
 use Rattle.gm_notes.specs.Settings.{Settings}
-use Rattle.gm_notes.specs.Jobs.{Job, Ability, job_state, job, waiting_for, is_empty, first_of, pick_from, pick, abilities, last_function, rotated}
+use Rattle.gm_notes.specs.Jobs.{Job, Ability, job, waiting_for, is_empty, first_of, pick_from, pick, abilities, last_function, rotated}
 use Rattle.gm_notes.specs.JobStates as states
 use Rattle.gm_notes.specs.Past.{Past}
 use Rattle.gm_notes.specs.Steps.{Step, run}
 use Rattle.gm_history.proofs.Finding.{WaitsFor, waiting_for_waits, job_of}
 use Rattle.gm_history.proofs.StepsKeep.{run_history}
-use Rattle.gm_laws.specs.Firsts.{HasNoneWaiting, can_do, GivesOfTheFirst, KeepsTheirOrder, FirstAbilityWins}
+use Rattle.gm_laws.specs.Firsts.{HasNoneWaiting, can_do, GivesOfTheFirst, FirstAbilityWins}
 use Rattle.gm_laws.proofs.Moving.{from, both_not}
 use Rattle.gm_laws.proofs.StepLaws.{gives}
 use Rattle.gm_laws.proofs.Waiting.{something_waits}

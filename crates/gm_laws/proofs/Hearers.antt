@@ -1,12 +1,10 @@
 -- Which slots get exceptions; ticks; and the answer to `shutdown`.
-use Rattle.std.proofs.Common.{◌≡◌, ◌⊎◌, inl, inr, ℕ, Bool, true, false, cond, not, ◌&&◌, List, [], ◌∷◌, Option, Some, None, max, refl, sym, ap, subst, ◌∙◌}
+use Rattle.std.proofs.Common.{◌≡◌, ◌⊎◌, inl, inr, ℕ, Bool, true, false, cond, not, ◌&&◌, List, [], ◌∷◌, Some, None, max, refl, sym, ap, subst, ◌∙◌}
 use Rattle.std.specs.Prelude.{◌==◌, unwrap_or, codes}
-use Rattle.std.specs.Str.{bytes_eq}
 use Rattle.std.proofs.lemmas.Bool.{and_parts}
 use Rattle.std.proofs.lemmas.Slice.Eq.{bytes_eq-Decides}
 use Rattle.gm_packet.specs.declared.kind.Kind.{Kind}
 use Rattle.gm_packet.specs.declared.kind.Kind.TheVariants.{OptionReq}
-use Rattle.gm_packet.specs.Requests.{Asked}
 use Rattle.gm_packet.specs.Answers.{option_res, work_fail}
 use Rattle.gm_admin.specs.Answers.{ok_text}
 use Rattle.gm_notes.specs.declared.note.Note.{Note}
@@ -15,21 +13,21 @@ use Rattle.gm_notes.specs.declared.states.Mode.{Mode}
 use Rattle.gm_notes.specs.declared.states.Mode.TheVariants.{Running, Graceful, Stopped}
 use Rattle.gm_notes.specs.Settings.{Settings}
 use Rattle.gm_notes.specs.Flow.{Queued}
-use Rattle.gm_notes.specs.Notes.{is_open, is_shut, has_option, takes_units, moment, mode, slots_from}
+use Rattle.gm_notes.specs.Notes.{is_open, is_shut, has_option, moment, mode, slots_from}
 use Rattle.gm_notes.specs.Jobs.{job_state, deadline, listeners, handle}
 use Rattle.gm_notes.specs.JobStates.{is_running}
-use Rattle.gm_notes.specs.Past.{Past, with_note, tell_all}
+use Rattle.gm_notes.specs.Past.{Past, with_note}
 use Rattle.gm_notes.specs.Requests.{first, set_option, request}
 use Rattle.gm_notes.specs.Lines.{shut_one, shut_each, go_graceful, shutdown}
-use Rattle.gm_notes.specs.Closings.{is_reached, expire_one, expire_each, rising, tick}
+use Rattle.gm_notes.specs.Closings.{is_reached, expire_one, expire_each, rising}
 use Rattle.gm_notes.specs.Steps.{Step, Tick, refusal, step, run}
 use Rattle.gm_history.specs.History.{Allowed, History}
-use Rattle.gm_history.specs.Causes.{Caused, Asks, closes, JustQueues}
+use Rattle.gm_history.specs.Causes.{Caused, closes, JustQueues}
 use Rattle.gm_history.proofs.Finding.{same_number}
 use Rattle.gm_history.proofs.Keeping.{kept_if, tell_all_notes}
 use Rattle.gm_history.proofs.StepsKeep.{run_history}
 use Rattle.gm_history.proofs.Caused.{note_law}
-use Rattle.gm_laws.specs.Exceptions.{WantsExceptions, GetsExceptions, ExceptionsArePassedOn}
+use Rattle.gm_laws.specs.Exceptions.{WantsExceptions, ExceptionsArePassedOn}
 use Rattle.gm_laws.specs.Answered.{TicksAreTaken, ShutdownIsAnswered}
 use Rattle.gm_laws.proofs.JobLaws.{is_same}
 use Rattle.gm_laws.proofs.Moving.{both_not}

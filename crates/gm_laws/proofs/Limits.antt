@@ -1,5 +1,5 @@
 -- The limits of functions hold.
-use Rattle.std.proofs.Common.{◌≡◌, ◌⊎◌, inl, inr, ℕ, suc, ◌<◌, ◌≤◌, Bool, true, false, cond, not, ◌||◌, List, [], ◌∷◌, length, filter, Some, None, Result, Ok}
+use Rattle.std.proofs.Common.{◌≡◌, ◌⊎◌, inl, inr, ℕ, suc, ◌<◌, ◌≤◌, Bool, true, false, cond, not, ◌||◌, List, [], ◌∷◌, length, filter, Some, None, Ok}
 use Rattle.std.proofs.Common.{refl, sym, ap, subst, ◌∙◌, arith, length-append}
 use Rattle.std.specs.Prelude.{◌==◌, unwrap_or}
 use Rattle.std.specs.List.{list_any}
@@ -10,15 +10,13 @@ use Rattle.std.proofs.lemmas.Slice.Eq.{bytes_eq-Decides}
 use Rattle.gm_notes.specs.declared.note.Note.{Note}
 use Rattle.gm_notes.specs.declared.note.Note.TheVariants as notes
 use Rattle.gm_notes.specs.Settings.{Settings}
-use Rattle.gm_admin.specs.declared.fault.AdminFault.{AdminFault}
 use Rattle.gm_admin.specs.declared.fault.AdminError.{AdminError}
 use Rattle.gm_admin.specs.declared.fault.AdminError.TheVariants as errors
-use Rattle.gm_admin.specs.Commands.{Asked as Commanded, MaxQueue, command_of}
-use Rattle.gm_admin.specs.Answers.{ok_text, error_text}
-use Rattle.gm_notes.specs.Notes.{takes_units}
+use Rattle.gm_admin.specs.Commands.{MaxQueue}
+use Rattle.gm_admin.specs.Answers.{ok_text}
 use Rattle.gm_notes.specs.Flow.{Queued}
 use Rattle.gm_notes.specs.Submissions.{is_one_too_many}
-use Rattle.gm_notes.specs.Lines.{is_bad_word, refuse_line, maxqueue, command}
+use Rattle.gm_notes.specs.Lines.{is_bad_word, refuse_line, maxqueue}
 use Rattle.gm_notes.specs.Jobs.{Job, job_state, job, made, functions, is_mentioned, limit, total, is_live_of, is_job_of, abilities, is_able, is_of, put}
 use Rattle.gm_notes.specs.JobStates.{JobState, is_live}
 use Rattle.gm_notes.specs.JobStates as states
@@ -39,7 +37,6 @@ use Rattle.gm_laws.proofs.Created.{mention_flow, too_many}
 use Rattle.gm_laws.proofs.Refusals.{bad_word, word_badly}
 use Rattle.gm_laws.proofs.Taken.{line_does}
 use Rattle.gm_history.proofs.Caused.{note_law}
-use Rattle.gm_laws.proofs.StepLaws.{taken_is}
 
 -- ---- counts
 

@@ -1,9 +1,8 @@
 -- What `status`, `workers`, `version` and ECHO_REQ are answered is true.
 use Rattle.std.proofs.Common.{◌≡◌, ◌⊎◌, inl, inr, ℕ, zero, suc, ◌+◌, ◌<◌, ◌≤◌, Bool, true, false, cond, ◌&&◌, ◌||◌, List, [], ◌∷◌, ◌++◌, length, map, filter}
-use Rattle.std.proofs.Common.{Option, Some, None, Ok, refl, sym, ap, subst, ◌∙◌, arith, append_assoc}
+use Rattle.std.proofs.Common.{Some, None, Ok, refl, sym, ap, subst, ◌∙◌, arith, append_assoc}
 use Rattle.std.specs.Prelude.{◌==◌, unwrap_or}
-use Rattle.std.specs.List.{All, list_any}
-use Rattle.std.specs.Str.{bytes_eq}
+use Rattle.std.specs.List.{All}
 use Rattle.std.proofs.lemmas.Bool.{and_parts, and_from, or_left, or_right}
 use Rattle.std.proofs.lemmas.Bool.Decides.{nat_tests}
 use Rattle.std.proofs.lemmas.List.{append-nil}
@@ -18,12 +17,12 @@ use Rattle.gm_notes.specs.declared.note.Note.{Note}
 use Rattle.gm_notes.specs.declared.note.Note.TheVariants as notes
 use Rattle.gm_notes.specs.Settings.{Settings}
 use Rattle.gm_notes.specs.Notes.{is_open, takes_units, addr, id, slots_from}
-use Rattle.gm_notes.specs.Jobs.{Job, Ability, job_state, job, made, functions, abilities, is_able, is_live_of, is_job_of, total, running, able}
+use Rattle.gm_notes.specs.Jobs.{Ability, job_state, job, made, functions, abilities, is_able, is_live_of, is_job_of, total, running, able}
 use Rattle.gm_notes.specs.JobStates.{is_live, is_running}
 use Rattle.gm_notes.specs.Past.{Past, give}
 use Rattle.gm_notes.specs.Requests.{first, request}
 use Rattle.gm_notes.specs.Lines.{status_rows, worker_rows, command}
-use Rattle.gm_notes.specs.Steps.{Step, Open, Close, step, run}
+use Rattle.gm_notes.specs.Steps.{Step, Open, step, run}
 use Rattle.gm_history.specs.History.{Allowed, History}
 use Rattle.gm_history.specs.Causes.{Caused, Asks, closes}
 use Rattle.gm_history.proofs.Finding.{job_of, same_number}
@@ -33,7 +32,7 @@ use Rattle.gm_laws.specs.Laws.{AreNumbers, has_place}
 use Rattle.gm_laws.specs.Answered.{IsCommanded}
 use Rattle.gm_laws.specs.Firsts.{can_do}
 use Rattle.gm_laws.specs.Lines.{is_in, AreApart, Counts, IsOf, IsTrueOf, StatusTells, IsRising, AreOpen, IsOfConnection, WorkersTells, AdminTellsTheTruth}
-use Rattle.gm_laws.specs.Lines.{OpensAs, StaysAs, FunctionsGrow, ConnectionsAreNamed}
+use Rattle.gm_laws.specs.Lines.{FunctionsGrow, ConnectionsAreNamed}
 use Rattle.gm_laws.proofs.JobLaws.{is_same, places, live_place, running_place, below_next}
 use Rattle.gm_laws.proofs.Moving.{both_not}
 use Rattle.gm_laws.proofs.NumberLaws.{numbers, slots}

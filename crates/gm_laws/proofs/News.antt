@@ -1,5 +1,5 @@
 -- What a step answers names what is new.
-use Rattle.std.proofs.Common.{◌≡◌, ◌⊎◌, inl, inr, ℕ, suc, Bool, true, false, cond, ◌||◌, List, [], ◌∷◌, length, Option, Some, None, refl, sym, ap, subst, ◌∙◌, arith}
+use Rattle.std.proofs.Common.{◌≡◌, ◌⊎◌, inl, inr, ℕ, suc, Bool, true, false, cond, ◌||◌, List, ◌∷◌, length, Option, Some, None, refl, sym, ap, subst, ◌∙◌, arith}
 use Rattle.std.specs.Prelude.{◌==◌, unwrap_or, codes}
 use Rattle.std.proofs.lemmas.Bool.Decides.{nat_tests}
 use Rattle.std.proofs.lemmas.Option.{same_Some}
@@ -9,23 +9,22 @@ use Rattle.gm_packet.specs.declared.kind.Kind.TheVariants.{SubmitJobLow, SubmitJ
 use Rattle.gm_packet.specs.Kinds.{kind_of}
 use Rattle.gm_packet.specs.Answers.{job_created}
 use Rattle.gm_notes.specs.declared.states.Priority.TheVariants.{High, Normal, Low}
-use Rattle.gm_notes.specs.declared.event.ApplyError.{ApplyError}
 use Rattle.gm_notes.specs.declared.note.Note.{Note}
 use Rattle.gm_notes.specs.declared.note.Note.TheVariants as notes
 use Rattle.gm_notes.specs.Settings.{Settings}
 use Rattle.gm_notes.specs.Notes.{is_open, slots_from}
 use Rattle.gm_notes.specs.Jobs.{made, is_mentioned, joined, next_number, handle}
-use Rattle.gm_notes.specs.Past.{Past, with_note, give, with_mention, refuse, wake}
+use Rattle.gm_notes.specs.Past.{Past, with_note, give, with_mention, refuse}
 use Rattle.gm_notes.specs.Submissions.{Submission, is_bad_name, is_one_too_many, is_full, keep_or_listen, make, join_or_make, submit}
 use Rattle.gm_notes.specs.Requests.{submission, request, packet_of}
-use Rattle.gm_notes.specs.Steps.{Step, Open, Packet, free_slot, opening, unless, refusal, add, given_slot, newest, made_since, done, step, run}
+use Rattle.gm_notes.specs.Steps.{Step, Open, Packet, free_slot, opening, unless, refusal, add, given_slot, newest, made_since, step, run}
 use Rattle.gm_notes.proofs.FreeSlots.{free_is}
-use Rattle.gm_history.specs.History.{Allowed, History}
+use Rattle.gm_history.specs.History.{History}
 use Rattle.gm_history.specs.Causes.{Caused, is_request, is_one_of, is_submission}
 use Rattle.gm_history.proofs.Asking.{made_request}
 use Rattle.gm_history.proofs.Finding.{same_number}
 use Rattle.gm_history.proofs.Keeping.{kept_if}
-use Rattle.gm_history.proofs.StepsKeep.{taken_or_not, packet_of_kinds, step_history, run_history}
+use Rattle.gm_history.proofs.StepsKeep.{taken_or_not, packet_of_kinds, run_history}
 use Rattle.gm_history.proofs.Caused.{note_law}
 use Rattle.gm_laws.specs.Laws.{is_made}
 use Rattle.gm_laws.specs.Lines.{is_in, AreApart}

@@ -2,7 +2,6 @@
 use Rattle.std.proofs.Common.{◌≡◌, ◌⊎◌, inl, inr, ℕ, suc, Bool, true, false, cond, not, ◌&&◌, List, [], ◌∷◌, length, filter, Option, Some, None}
 use Rattle.std.proofs.Common.{refl, sym, ap, subst, ◌∙◌}
 use Rattle.std.specs.Prelude.{◌==◌, unwrap_or}
-use Rattle.std.proofs.lemmas.Bool.{and_parts}
 use Rattle.gm_notes.specs.declared.note.Note.{Note}
 use Rattle.gm_notes.specs.declared.note.Note.TheVariants as notes
 use Rattle.gm_notes.specs.Settings.{Settings}
@@ -11,12 +10,9 @@ use Rattle.gm_notes.specs.Jobs.{Job, job_state, job, is_wanted, is_last_try, is_
 use Rattle.gm_notes.specs.JobStates.{JobState, is_waiting, is_running_at}
 use Rattle.gm_notes.specs.JobStates as states
 use Rattle.gm_notes.specs.Past.{Past, with_note}
-use Rattle.gm_notes.specs.Workers.{wake_itself}
-use Rattle.gm_notes.specs.Closings.{discard_one, discard_each, wake_for, return_or_lose, give_back_one, give_back_each, disconnect, rising, close}
-use Rattle.gm_notes.specs.Steps.{Step, Close, step, run}
-use Rattle.gm_history.specs.History.{Allowed, History}
+use Rattle.gm_notes.specs.Closings.{discard_one, discard_each, wake_for, give_back_one, give_back_each, disconnect, rising, close}
+use Rattle.gm_notes.specs.Steps.{Step, Close, run}
 use Rattle.gm_history.specs.Causes.{Caused, closes}
-use Rattle.gm_history.specs.Hearing.{listens}
 use Rattle.gm_history.proofs.Finding.{waiting_is, same_number}
 use Rattle.gm_history.proofs.Keeping.{kept_if, runs_there}
 use Rattle.gm_history.proofs.Listeners.{opens}

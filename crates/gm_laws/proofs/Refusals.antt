@@ -1,5 +1,5 @@
 -- What is refused has its reason, and each reason refuses.
-use Rattle.std.proofs.Common.{◌≡◌, ◌⊎◌, inl, inr, ℕ, suc, ◌+◌, ◌<◌, ◌≤◌, ◌^◌, Bool, true, false, cond, not, ◌&&◌, ◌||◌, List, [], ◌∷◌, ◌++◌, length}
+use Rattle.std.proofs.Common.{◌≡◌, ◌⊎◌, inl, inr, ℕ, ◌+◌, ◌≤◌, ◌^◌, Bool, true, false, cond, not, ◌&&◌, ◌||◌, List, [], ◌∷◌, ◌++◌, length}
 use Rattle.std.proofs.Common.{Option, Some, None, Result, Ok, Err, refl, sym, ap, subst, ◌∙◌, arith, append_assoc}
 use Rattle.std.specs.Option.{ok_or}
 use Rattle.std.proofs.lemmas.Option.{same_Some}
@@ -10,14 +10,14 @@ use Rattle.std.proofs.lemmas.Bool.{or_left, or_right}
 use Rattle.std.proofs.lemmas.Bool.Decides.{nat_tests}
 use Rattle.std.proofs.lemmas.Slice.Eq.{bytes_eq-Decides}
 use Rattle.gm_packet.specs.declared.kind.Kind.{Kind}
-use Rattle.gm_packet.specs.declared.kind.Kind.TheVariants.{CanDo, CantDo, ResetAbilities, PreSleep, SubmitJob, GrabJob}
+use Rattle.gm_packet.specs.declared.kind.Kind.TheVariants.{CanDo, CantDo, PreSleep, SubmitJob, GrabJob}
 use Rattle.gm_packet.specs.declared.kind.Kind.TheVariants.{WorkStatus, WorkComplete, WorkFail, GetStatus, EchoReq, SubmitJobBg}
-use Rattle.gm_packet.specs.declared.kind.Kind.TheVariants.{SubmitJobHigh, SetClientId, CanDoTimeout, AllYours, WorkException}
+use Rattle.gm_packet.specs.declared.kind.Kind.TheVariants.{SubmitJobHigh, CanDoTimeout, WorkException}
 use Rattle.gm_packet.specs.declared.kind.Kind.TheVariants.{OptionReq, WorkData, WorkWarning, GrabJobUniq, SubmitJobHighBg}
 use Rattle.gm_packet.specs.declared.kind.Kind.TheVariants.{SubmitJobLow, SubmitJobLowBg}
-use Rattle.gm_packet.specs.declared.request.RequestFault.TheVariants.{UnknownCommand, BadArguments}
-use Rattle.gm_packet.specs.Kinds.{number, kind_of}
-use Rattle.gm_packet.specs.Requests.{Asked, read_as, read_kind, request_of}
+use Rattle.gm_packet.specs.declared.request.RequestFault.TheVariants.{BadArguments}
+use Rattle.gm_packet.specs.Kinds.{kind_of}
+use Rattle.gm_packet.specs.Requests.{Asked, read_as, read_kind}
 use Rattle.gm_packet.specs.Answers.{Answer, answer_packet, error, no_job, job_created, option_res, echo_res, status_res, work_status}
 use Rattle.gm_packet.specs.Answers.{work_data, work_warning, work_exception, work_complete, work_fail}
 use Rattle.gm_admin.specs.declared.fault.AdminFault.{AdminFault}
@@ -25,15 +25,14 @@ use Rattle.gm_admin.specs.declared.fault.AdminFault.TheVariants as faults
 use Rattle.gm_admin.specs.declared.fault.AdminError.{AdminError}
 use Rattle.gm_admin.specs.declared.fault.AdminError.TheVariants as errors
 use Rattle.gm_admin.specs.Commands.{Asked as Commanded, MaxQueue, command_of}
-use Rattle.gm_admin.specs.Answers.{ok_text}
 use Rattle.gm_notes.specs.declared.states.Priority.{Priority}
 use Rattle.gm_notes.specs.declared.states.Priority.TheVariants.{High, Normal, Low}
 use Rattle.gm_notes.specs.declared.states.Pick.{Pick}
 use Rattle.gm_notes.specs.declared.note.Note.TheVariants as notes
 use Rattle.gm_notes.specs.Settings.{Settings}
-use Rattle.gm_notes.specs.Notes.{takes_units, phase, is_asleep, is_awake, has_option}
+use Rattle.gm_notes.specs.Notes.{takes_units, phase, is_asleep, is_awake}
 use Rattle.gm_notes.specs.Flow.{Flow, Queued}
-use Rattle.gm_notes.specs.Jobs.{Job, job, job_state, report, functions, is_mentioned, limit, total, made, joins, joined, next_number, handle, job_of_handle, pick}
+use Rattle.gm_notes.specs.Jobs.{Job, job, job_state, report, functions, limit, total, made, joins, joined, next_number, handle, job_of_handle, pick}
 use Rattle.gm_notes.specs.Jobs.{is_empty, waiting_for, listeners}
 use Rattle.gm_notes.specs.JobStates.{is_running_at, is_live, is_running}
 use Rattle.gm_notes.specs.JobStates as states
@@ -41,26 +40,25 @@ use Rattle.gm_notes.specs.Past.{Past, with_note, with_output, give, refuse, with
 use Rattle.gm_notes.specs.Texts.{spaced, fault_text}
 use Rattle.gm_notes.specs.declared.event.UnitFault.{UnitFault}
 use Rattle.gm_notes.specs.declared.event.UnitFault.TheVariants.{BadMagic, PacketTooLarge, LineTooLong}
-use Rattle.gm_notes.specs.Submissions.{Submission, is_bad_name, is_one_too_many, is_full, make, join_or_make, submit}
+use Rattle.gm_notes.specs.Submissions.{Submission, is_bad_name, is_one_too_many, is_full, submit}
 use Rattle.gm_notes.specs.Workers.{wake_if, add_ability, can_do, cant_do, sleep_beside, pre_sleep, wake_itself, assignment, tell_assigned, give_out, grab}
 use Rattle.gm_notes.specs.Workers.{Work, keep_report, end_if, hearers, tell_work, work_on, work}
 use Rattle.gm_notes.specs.Requests.{first, second, third, submission, passing, ending, tell_status, set_option, request, request_if_read, packet_of}
-use Rattle.gm_notes.specs.Lines.{is_bad_word, refuse_line, fault_error, maxqueue, command}
-use Rattle.gm_notes.specs.Steps.{Step, Packet, Line, step, run}
+use Rattle.gm_notes.specs.Lines.{is_bad_word, refuse_line, maxqueue, command}
+use Rattle.gm_notes.specs.Steps.{Step, step, run}
 use Rattle.gm_history.specs.History.{History}
-use Rattle.gm_history.specs.Causes.{Asks, JustQueues, is_enabling, is_submission, is_foreground, is_background, priority_of}
-use Rattle.gm_history.proofs.Asking.{kind_read}
+use Rattle.gm_history.specs.Causes.{is_enabling, is_submission}
 use Rattle.gm_history.proofs.Finding.{joined_is}
 use Rattle.gm_history.proofs.Keeping.{handled_is, runs_there}
 use Rattle.gm_history.proofs.StepsKeep.{run_history}
-use Rattle.gm_laws.specs.Submitted.{IsJoined, JoinsNone}
-use Rattle.gm_laws.specs.Refusals.{IsError, IsErr, IsBadName, IsBadWord, IsOneTooMany, IsFull, names_function, names_run, BringsFunction, BringsJob}
+use Rattle.gm_laws.specs.Submitted.{JoinsNone}
+use Rattle.gm_laws.specs.Refusals.{IsError, IsErr, IsBadName, IsBadWord, IsOneTooMany, IsFull, names_function, names_run, BringsFunction}
 use Rattle.gm_laws.specs.Refusals.{HasReason, IsUnserved, IsErroneous, IsToldOf, answers, AllAnswer, JustAnswers, RefusalsHaveTheirReason}
-use Rattle.gm_laws.proofs.Created.{bad_name, too_many, full, no_number, joins_so, mention_flow, request_answered, Answered as SubmittedSo}
+use Rattle.gm_laws.proofs.Created.{bad_name, too_many, full, joins_so, mention_flow, request_answered, Answered as SubmittedSo}
 use Rattle.gm_laws.proofs.Handles.{handle_names}
 use Rattle.gm_laws.specs.Laws.{has_place}
 use Rattle.gm_history.proofs.Finding.{same_number}
-use Rattle.gm_laws.proofs.Moving.{both_not, from}
+use Rattle.gm_laws.proofs.Moving.{both_not}
 use Rattle.gm_laws.proofs.Grabs.{stirred_flow}
 use Rattle.gm_laws.proofs.StepLaws.{taken_is}
 use Rattle.gm_laws.proofs.Taken.{request_does}

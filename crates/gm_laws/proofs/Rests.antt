@@ -1,10 +1,9 @@
 -- Who sleeps asked for it, and asking is enough.
-use Rattle.std.proofs.Common.{◌≡◌, ◌⊎◌, inl, inr, ℕ, Bool, true, false, cond, ◌&&◌, ◌||◌, List, [], ◌∷◌, Option, Some, None, refl, sym, ap, subst, ◌∙◌}
+use Rattle.std.proofs.Common.{◌≡◌, ◌⊎◌, inl, inr, ℕ, Bool, true, false, cond, ◌||◌, List, ◌∷◌, Option, Some, None, refl, sym, ap, subst, ◌∙◌}
 use Rattle.std.specs.Prelude.{◌==◌, unwrap_or}
 use Rattle.std.proofs.lemmas.Bool.{and_parts}
 use Rattle.gm_packet.specs.declared.kind.Kind.{Kind}
 use Rattle.gm_packet.specs.declared.kind.Kind.TheVariants.{GrabJob, GrabJobUniq}
-use Rattle.gm_packet.specs.Requests.{Asked}
 use Rattle.gm_notes.specs.declared.note.Note.{Note}
 use Rattle.gm_notes.specs.declared.note.Note.TheVariants as notes
 use Rattle.gm_notes.specs.declared.states.Phase.{Phase}
@@ -12,15 +11,15 @@ use Rattle.gm_notes.specs.declared.states.Phase.TheVariants.{Awake, Asleep, Owed
 use Rattle.gm_notes.specs.declared.states.Pick.{Pick}
 use Rattle.gm_notes.specs.declared.event.ApplyError.TheVariants.{NotOpen, NotOwed}
 use Rattle.gm_notes.specs.Settings.{Settings}
-use Rattle.gm_notes.specs.Notes.{is_open, phase, is_asleep, is_awake, is_owed, takes_units}
-use Rattle.gm_notes.specs.Jobs.{Job, job, pick}
+use Rattle.gm_notes.specs.Notes.{is_open, phase, is_asleep, is_awake, is_owed}
+use Rattle.gm_notes.specs.Jobs.{job, pick}
 use Rattle.gm_notes.specs.Past.{Past, with_note}
-use Rattle.gm_notes.specs.Workers.{sleep_beside, pre_sleep, wake_itself, tell_assigned, give_out, grab}
+use Rattle.gm_notes.specs.Workers.{sleep_beside, pre_sleep, wake_itself, give_out}
 use Rattle.gm_notes.specs.Requests.{request}
 use Rattle.gm_notes.specs.Servers.{owes}
 use Rattle.gm_notes.specs.Steps.{Step, Packet, Close, Took, Withdrew, if_owed, unless, step, run}
 use Rattle.gm_history.specs.History.{Allowed, History}
-use Rattle.gm_history.specs.Causes.{Caused, Asks, asks, is_sleeping, is_grab, closes}
+use Rattle.gm_history.specs.Causes.{Caused, asks, is_sleeping, is_grab, closes}
 use Rattle.gm_history.proofs.Finding.{same_number}
 use Rattle.gm_history.proofs.Phases.{awake_unless_open}
 use Rattle.gm_history.proofs.StepsKeep.{run_history}

@@ -1,5 +1,5 @@
 -- What a slot that takes units asks or commands is done.
-use Rattle.std.proofs.Common.{◌≡◌, ℕ, true, false, List, Ok, refl, sym, ap, subst, ◌∙◌}
+use Rattle.std.proofs.Common.{◌≡◌, ℕ, true, false, List, Ok, sym, ap, subst, ◌∙◌}
 use Rattle.gm_packet.specs.Kinds.{kind_of}
 use Rattle.gm_packet.specs.Requests.{Asked}
 use Rattle.gm_admin.specs.Commands.{Asked as Commanded, command_of}

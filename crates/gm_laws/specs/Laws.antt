@@ -1,5 +1,5 @@
 -- What holds after any steps, under any settings.
-use Rattle.std.specs.Prelude.{◌≡◌, ℕ, ◌+◌, ◌<◌, ◌≤◌, ◌^◌, ◌&&◌, ◌==◌, ◌⊎◌, Bool, true, false, not, if◌then◌else◌, List, [], ◌∷◌}
+use Rattle.std.specs.Prelude.{◌≡◌, ℕ, ◌+◌, ◌<◌, ◌≤◌, ◌^◌, ◌==◌, ◌⊎◌, Bool, true, false, not, if◌then◌else◌, List, [], ◌∷◌}
 use Rattle.std.specs.Prelude.{◌++◌, length, Some, None}
 use Rattle.std.specs.List.{list_any, list_all}
 use Rattle.gm_packet.specs.Kinds.{kind_of}
@@ -98,14 +98,16 @@ GrabsGetThePick = (k : Settings) (steps : List Step) (c number : ℕ) (found : P
 abbrev pub SaysNoJobWhereNoneIs : Settings → Past → Step → Past → Type 0
 SaysNoJobWhereNoneIs k before s after = (newer : List Flow) × (after.flow ≡ newer ++ before.flow) × AllSaid k before.notes s newer
 
--- what waits for a slot is taken by its drains and goes with its closing, and nothing else takes of it
+-- what waits for a slot is taken by its drains, all of it, and goes with its closing, and nothing else takes of it
 abbrev pub takes_from : ℕ → Step → Bool
 takes_from c (Drain d) = c == d
 takes_from c (Close d) = c == d
 takes_from c other = false
 
 abbrev pub OnlyDrainsTake : Settings → Past → Step → Past → Type 0
-OnlyDrainsTake k before s after = (c : ℕ) → takes_from c s ≡ false → IsPrefix (waiting c before.flow) (waiting c after.flow)
+OnlyDrainsTake k before s after =
+    ((c : ℕ) → takes_from c s ≡ false → IsPrefix (waiting c before.flow) (waiting c after.flow))
+    × ((c : ℕ) → s ≡ Drain c → (waiting c after.flow ≡ []) × (drained c after.flow ≡ drained c before.flow ++ waiting c before.flow))
 
 -- ---- how the server goes on
 

@@ -1,5 +1,5 @@
 -- Who sleeps, since when, and until when.
-use Rattle.std.specs.Prelude.{◌≡◌, ◌⊎◌, ℕ, Bool, true, false, ◌==◌, List}
+use Rattle.std.specs.Prelude.{◌≡◌, ◌⊎◌, ℕ, Bool, true, false, ◌==◌}
 use Rattle.gm_packet.specs.declared.kind.Kind.TheVariants.{PreSleep}
 use Rattle.gm_packet.specs.Requests.{Asked}
 use Rattle.gm_notes.specs.declared.states.Phase.TheVariants.{Awake}

@@ -63,7 +63,7 @@ pub fn outputs_are_sent()
     ensures { OutputsAreSent }
 {}
 
-/// Drains, and nothing else, take of the bytes that wait for a slot, but for its closing.
+/// A drain takes all the bytes that wait for its slot. Nothing else takes of them, but for the slot's closing.
 pub fn only_drains_take()
     ensures { InEachStep OnlyDrainsTake }
 {}
