@@ -1,4 +1,4 @@
--- Who sleeps, since when, and until when.
+-- Which slots sleep, since when, and until when.
 use Rattle.std.specs.Prelude.{◌≡◌, ◌⊎◌, ℕ, Bool, true, false, ◌==◌}
 use Rattle.gm_packet.specs.declared.kind.Kind.TheVariants.{PreSleep}
 use Rattle.gm_packet.specs.Requests.{Asked}
