@@ -1,6 +1,6 @@
 -- What `status`, `workers`, `version` and ECHO_REQ are answered is true.
 use Rattle.std.proofs.Common.{◌≡◌, ◌⊎◌, inl, inr, ℕ, zero, suc, ◌+◌, ◌<◌, ◌≤◌, Bool, true, false, cond, ◌&&◌, ◌||◌, List, [], ◌∷◌, ◌++◌, length, map, filter}
-use Rattle.std.proofs.Common.{Some, None, Ok, refl, sym, ap, subst, ◌∙◌, arith, append_assoc}
+use Rattle.std.proofs.Common.{Some, None, Ok, refl, sym, ap, subst, ◌∙◌, arith, append_assoc, Option}
 use Rattle.std.specs.Prelude.{◌==◌, unwrap_or}
 use Rattle.std.specs.List.{All}
 use Rattle.std.proofs.lemmas.Bool.{and_parts, and_from, or_left, or_right}
@@ -22,7 +22,9 @@ use Rattle.gm_notes.specs.JobStates.{is_live, is_running}
 use Rattle.gm_notes.specs.Past.{Past, give}
 use Rattle.gm_notes.specs.Requests.{first, request}
 use Rattle.gm_notes.specs.Lines.{status_rows, worker_rows, command}
-use Rattle.gm_notes.specs.Steps.{Step, Open, step, run}
+use Rattle.gm_notes.specs.Steps.{Step, Open, free_from, free_slot, opening, unless, refusal, step, run}
+use Rattle.gm_notes.specs.declared.event.ApplyError.{ApplyError}
+use Rattle.std.proofs.lemmas.Option.{same_Some}
 use Rattle.gm_history.specs.History.{Allowed, History}
 use Rattle.gm_history.specs.Causes.{Caused, Asks, closes}
 use Rattle.gm_history.proofs.Finding.{job_of, same_number}
@@ -232,6 +234,33 @@ admin k steps s =
 
 -- ---- names
 
+-- the slots before the one that is found are open
+free_next : (c slot : ℕ) (l : List Note) (n : ℕ) (t : Bool) → is_open c l ≡ t → (free_from (suc c) n l ≡ Some slot → (d : ℕ) → suc c ≤ d → d < slot → is_open d l ≡ true)
+    → cond t (free_from (suc c) n l) (Some c) ≡ Some slot → (d : ℕ) → c ≤ d → d < slot → is_open d l ≡ true
+free_next c slot l n true is rest e d low lt = by (c == d) refl
+  where
+    by : (t : Bool) → (c == d) ≡ t → is_open d l ≡ true
+    by true same = ap (λ x. is_open x l) (sym (is_same c d same)) ∙ is
+    by false other = let apart : c < d = grind (arith, nat_tests) in rest e d (omega arith) lt
+free_next c slot l n false is rest e d low lt = let same = same_Some c slot e in absurd (omega (arith, same, low, lt))
+
+free_least : (c n slot : ℕ) (l : List Note) → free_from c n l ≡ Some slot → (d : ℕ) → c ≤ d → d < slot → is_open d l ≡ true
+free_least c zero slot l e d low lt = absurd cc
+free_least c (suc n) slot l e d low lt = free_next c slot l n (is_open c l) refl (free_least (suc c) n slot l) e d low lt
+
+-- the slot that an opening opens is the one that was free
+opens_free : (k : Settings) (start : Past) (addr : List ℕ) (c : ℕ) → is_open c start.notes ≡ false → is_open c (step k (Open addr) start).notes ≡ true → free_slot k start ≡ Some c
+opens_free k start addr c shut e = by (refusal k (Open addr) start) (free_slot k start) e
+  where
+    at : (d : ℕ) (t : Bool) → (c == d) ≡ t → unwrap_or (cond t (Some true) None) (is_open c start.notes) ≡ true → Some d ≡ Some c
+    at d true is e = ap Some (sym (is_same c d is))
+    at d false is e = absurd (both_not (is_open c start.notes) e shut)
+
+    by : (r : Option ApplyError) (o : Option ℕ) → is_open c (unless r (opening o addr start) start).notes ≡ true → o ≡ Some c
+    by (Some error) o e = absurd (both_not (is_open c start.notes) e shut)
+    by None None e = absurd (both_not (is_open c start.notes) e shut)
+    by None (Some d) e = at d (c == d) refl e
+
 module _ (k : Settings) (s : Step) (start : Past) (history : History k start.notes) (c : ℕ) where
   not_both_ways : (address : List ℕ) (d : ℕ) (asked : Asked) → s ≡ Open address → Asks d s asked → ⊥
   not_both_ways address d asked is a = subst (λ x. Asks d x asked) is a
@@ -277,6 +306,11 @@ module _ (k : Settings) (s : Step) (start : Past) (history : History k start.not
           → (s ≡ Open (addr c (step k s start).notes)) × (id c (step k s start).notes ≡ []) × (can_do c (step k s start).notes ≡ [])
       by (inl o) = absurd (both_not (is_open c start.notes) o shut)
       by (inr new) = new
+
+  least_so : is_open c start.notes ≡ false → is_open c (step k s start).notes ≡ true → (d : ℕ) → d < c → is_open d start.notes ≡ true
+  least_so shut e d lt =
+      let addr = addr c (step k s start).notes in
+      free_least 0 k.slots c start.notes (opens_free k start addr c shut (ap (λ x. is_open c (step k x start).notes) (sym (new_so shut e).0) ∙ e)) d (omega arith) lt
 
   -- ---- as it goes on
 
@@ -331,7 +365,7 @@ module _ (k : Settings) (s : Step) (start : Past) where
 pub named : (k : Settings) (steps : List Step) (s : Step) → ConnectionsAreNamed k (run k steps) s (run k (s ∷ steps))
 named k steps s =
     let start = run k steps in (
-      (λ c. new_so k s start (run_history k steps) c),
+      (λ c shut e. let n = new_so k s start (run_history k steps) c shut e in (least_so k s start (run_history k steps) c shut e, n.0, n.1, n.2)),
       (λ c o. let p = called_so k s start (run_history k steps) c o in (p.address, p.named, names_itself k s start (run_history k steps) c)),
       grown k s start (run_history k steps),
     )

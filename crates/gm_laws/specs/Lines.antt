@@ -80,10 +80,10 @@ AdminTellsTheTruth k before s after =
 
 -- ---- what a connection is called
 
--- a connection has the address from which it was opened, and no id and no functions at first
+-- a connection gets the least slot that is free, has the address from which it was opened, and no id and no functions at first
 abbrev pub OpensAs : Past → Step → Past → Type 0
 OpensAs before s after = (c : ℕ) → is_open c before.notes ≡ false → is_open c after.notes ≡ true →
-    (s ≡ Open (addr c after.notes)) × (id c after.notes ≡ []) × (can_do c after.notes ≡ [])
+    ((d : ℕ) → d < c → is_open d before.notes ≡ true) × (s ≡ Open (addr c after.notes)) × (id c after.notes ≡ []) × (can_do c after.notes ≡ [])
 
 -- its address stays, and its id is what its last SET_CLIENT_ID said
 abbrev pub StaysAs : Past → Step → Past → Type 0

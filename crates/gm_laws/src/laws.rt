@@ -312,7 +312,8 @@ pub fn admin_tells_the_truth()
     ensures { InEachStep AdminTellsTheTruth }
 {}
 
-/// A connection has the address from which it was opened, at first no id and no functions, and from SET_CLIENT_ID on the id that this says.
+/// A connection gets the least slot that is free. It has the address from which it was opened, at first no id and no functions, and from
+/// SET_CLIENT_ID on the id that this says.
 /// The functions of the server keep their order, and new ones come last.
 pub fn connections_are_named()
     ensures { InEachStep ConnectionsAreNamed }
