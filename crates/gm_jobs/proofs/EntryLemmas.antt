@@ -8,8 +8,7 @@ use Rattle.std.proofs.lemmas.Map.Entries.{lookup_from_place}
 use Rattle.std.specs.Option.{option_map}
 use Rattle.std.proofs.lemmas.Bool.{cases_eq, false≢true}
 use Rattle.gm_jobs.specs.Live.{Live}
-use Rattle.gm_jobs.specs.Links.{AllUnique, Stands, stands_in}
-use Rattle.gm_jobs.specs.Tables.{find_job, passes}
+use Rattle.gm_jobs.specs.Tables.{find_job}
 use Rattle.gm_jobs.proofs.NumberLemmas.{at_number, number_same, number_other, not_some}
 use Rattle.gm_jobs.specs.Changes.{ChangesJob}
 use Rattle.gm_jobs.specs.ByNumber.{with_job, with_live, jobs_of, IsIndexed}
@@ -205,59 +204,8 @@ module _ (at : At) where
       by (Some q) e h zero rest = sym (ap (option_map (λ (r : ℕ × Live). (p.0, r.1))) e)
       by (Some q) e h (suc j) rest = rest j
 
-pub jobs_same : (keys : List (ℕ × ℕ)) (at at' : At) → ((k : ℕ) → at' k ≡ at k) → jobs_of keys at' ≡ jobs_of keys at
-jobs_same [] at at' same = refl
-jobs_same (p ∷ ps) at at' same = (λ j. with_job p.0 (same p.1 j) (jobs_same ps at at' same j))
-
--- no job of the number passes, where none that stands does
-pub passes_false : (keys : List (ℕ × ℕ)) (at : At) → IsIndexed keys at → (test : Live → Bool) (m : ℕ) → ((k : ℕ) (live : Live) → at k ≡ Some (m, live) → test live ≡ false) → passes test (find_job (jobs_of keys at) m) ≡ false
-passes_false keys at i test m none = by (lookup (nat_eq m) keys) refl
-  where
-    by : (o : Option ℕ) → lookup (nat_eq m) keys ≡ o → passes test (find_job (jobs_of keys at) m) ≡ false
-    by None e = ap (passes test) (find_none keys at i m e)
-    by (Some k) e =
-        let l = i.leads m k e in
-        ap (passes test) (find_here keys at i m k e ∙ ap (option_map (λ (q : ℕ × Live). q.1)) l.1) ∙ none k l.0 l.1
-
-pub passes_true : (keys : List (ℕ × ℕ)) (at : At) → IsIndexed keys at → (test : Live → Bool) (k m : ℕ) (live : Live) → at k ≡ Some (m, live) → test live ≡ true → passes test (find_job (jobs_of keys at) m) ≡ true
-passes_true keys at i test k m live there met = ap (passes test) (find_here keys at i m k (i.stands k m live there) ∙ ap (option_map (λ (q : ℕ × Live). q.1)) there) ∙ met
-
--- ---- where the job at one key changes
-module _ (at at' : At) (key : ℕ) (f : Live → Live) (here : at' key ≡ with_live f (at key)) (others : (k : ℕ) → k ≢ key → at' k ≡ at k) where
-  was_with : (o : Option (ℕ × Live)) (n : ℕ) (live : Live) → with_live f o ≡ Some (n, live) → (old : Live) × (o ≡ Some (n, old))
-  was_with None n live e = cc
-  was_with (Some q) n live e = (q.1, λ j. Some (number (q.0, f q.1) (n, live) e j, q.1))
-
-  was_there : (k n : ℕ) (live : Live) → at' k ≡ Some (n, live) → (old : Live) × (at k ≡ Some (n, old))
-  was_there k n live e = by (cases_eq k key)
-    where
-      by : (k ≡ key) ⊎ (k ≡ key → ⊥) → (old : Live) × (at k ≡ Some (n, old))
-      by (inl same) = let w = was_with (at key) n live (sym here ∙ ap at' (sym same) ∙ e) in (w.0, ap at same ∙ w.1)
-      by (inr ne) = (live, sym (others k ne) ∙ e)
-
-  pub unique_changed : AllUnique at → AllUnique at'
-  unique_changed one i j n x y e g = let v = was_there i n x e in let w = was_there j n y g in one i j n v.0 w.0 v.1 w.1
-
--- where it stays in its list, the same jobs stand in the lists
-pub stands_changed : (at at' : At) (key number : ℕ) (was is : Live) → at key ≡ Some (number, was) → at' key ≡ Some (number, is) → ((k : ℕ) → k ≢ key → at' k ≡ at k) → stands_in is ≡ stands_in was
-    → (list k n : ℕ) → Stands at' list k n → Stands at list k n
-stands_changed at at' key number' was is e e' others same list k n s = by (cases_eq k key)
-  where
-    by : (k ≡ key) ⊎ (k ≡ key → ⊥) → Stands at list k n
-    by (inr ne) = record { live = s.live; there = sym (others k ne) ∙ s.there; in_list = s.in_list }
-    by (inl here) =
-        let pair = card_of (n, s.live) (number', is) (sym s.there ∙ ap at' here ∙ e') in
-        record { live = was; there = ap at here ∙ e ∙ ap (λ (p : ℕ × Live). Some (p.0, was)) (sym pair); in_list = sym same ∙ ap (λ (p : ℕ × Live). stands_in p.1) (sym pair) ∙ s.in_list }
-      where
-        card_of : (a b : ℕ × Live) → Some a ≡ Some b → a ≡ b
-        card_of a b h = cc
-
 -- a job that isn't live doesn't change
 pub changes_none : (n : ℕ) (f : Live → Live) (jobs : List (ℕ × Live)) → find_job jobs n ≡ None → ChangesJob n f jobs jobs
 changes_none n f jobs none = λ m. at_number n m _ _ _
     (λ same. let gone = ap (find_job jobs) (sym same) ∙ none in gone ∙ sym (ap (option_map f) gone))
     (λ ne. refl)
-
--- no two jobs that stand have one number
-pub unique_of : (keys : List (ℕ × ℕ)) (at : At) → IsIndexed keys at → AllUnique at
-unique_of keys at indexed i j n x y e f = key i j (sym (indexed.stands i n x e) ∙ indexed.stands j n y f)

@@ -4,17 +4,19 @@ use Rattle.std.proofs.Common.{◌&&◌, if◌then◌else◌, List, [], ◌∷◌
 use Rattle.std.proofs.Common.{is_some, refl, sym, ap, subst, ◌∙◌, arith}
 use Rattle.std.specs.Option.{option_map, unwrap_or, SomeIff}
 use Rattle.gm_jobs.specs.declared.jobs.Jobs.TheInside.{Inside}
-use Rattle.std.proofs.lemmas.List.Elements.{All-contains, filter_passes}
-use Rattle.gm_jobs.proofs.ListLemmas.{Contains-from_filter}
 use Rattle.std.proofs.lemmas.Bool.{cases_lt, cases_eq, true≢false, false≢true}
 use Rattle.std.proofs.lemmas.Bool.Decides.{nat_tests}
 use Rattle.gm_notes.specs.Jobs.{joins}
 use Rattle.gm_jobs.specs.declared.job.LivePlace.TheVariants.{Waiting}
-use Rattle.gm_jobs.specs.Live.{Live, is_named, listed, waits, lost, returned, is_last_try, given_back, without_listener}
+use Rattle.gm_jobs.specs.Live.{Live, is_named, waits, lost, returned, is_last_try, given_back, without_listener, is_orphan, is_run_by}
 use Rattle.gm_jobs.specs.Tables.{Room, find_job, passes}
-use Rattle.gm_jobs.specs.Changes.{ChangesJob, LeavesOne, LeavesSome}
+use Rattle.gm_jobs.specs.Changes.{ChangesJob, LeavesEach}
 use Rattle.gm_jobs.specs.Deadlines.{DeadlineTable, IsListed, AllListed}
-use Rattle.gm_jobs.specs.Listening.{Lists, Heard}
+use Rattle.gm_jobs.specs.declared.job.Query.{Query}
+use Rattle.gm_jobs.specs.declared.job.Query.TheVariants.{Orphan, RunBy, HeardBy, Due, Started, Live as Lives}
+use Rattle.gm_jobs.specs.Queries.{meets, is_heard_by}
+use Rattle.gm_jobs.specs.Hints.{HintTable, IsHinted, hints_of, AllFound}
+use Rattle.gm_jobs.proofs.HintLemmas.{passes_live}
 use Rattle.std.specs.Str.{bytes_eq}
 use Rattle.std.proofs.lemmas.Slice.Eq.{bytes_eq-Decides}
 use Rattle.gm_jobs.specs.Uniques.{IdTable, LeadsTo, digest_of}
@@ -98,14 +100,12 @@ names_changed n f old new change function unique =
 
 module _ (b : Beside) (old : List (ℕ × Live)) where
   -- what is kept beside jobs with the same names
-  pub kept_names : (new : List (ℕ × Live)) (uniques : IdTable) (listening : Lists) (deadlines : DeadlineTable) (room : Option Room) (spare spare' : ℕ)
+  pub kept_names : (new : List (ℕ × Live)) (uniques : IdTable) (index : HintTable) (deadlines : DeadlineTable) (room : Option Room) (spare spare' : ℕ)
       → IsKept b room spare old → SameNames old new → spare ≤ spare'
       → ((n : ℕ) → IsSome (find_job new n) → (d : ℕ) → LeadsTo b.uniques d n → LeadsTo uniques d n) → b.uniques.room ≤ uniques.room
-      → ((m : ℕ) (live : Live) → find_job new m ≡ Some live → (c : ℕ) → Contains live.listeners c → Heard listening c m)
-      → AllListed new deadlines
-      → (b.listening.pending ≡ None → listening.pending ≡ None)
-      → IsKept (record b { uniques = uniques; listening = listening; deadlines = deadlines }) room spare' new
-  kept_names new uniques listening deadlines room spare spare' k names more led ids heard listed fresh = record {
+      → AllFound new index → AllListed new deadlines
+      → IsKept (record b { uniques = uniques; index = index; deadlines = deadlines }) room spare' new
+  kept_names new uniques index deadlines room spare spare' k names more led ids found listed = record {
     known = λ n live e.
         let w = names n live e in
         let known = k.known n w.old w.found in
@@ -113,9 +113,9 @@ module _ (b : Beside) (old : List (ℕ × Live)) where
           made = known.made;
           spent = known.spent;
           led = λ good. led n (ap is_some e) _ (leads_same b.uniques b.seed w.old.function live.function n n w.old.unique live.unique w.function w.unique refl (known.led (ap joins w.unique ∙ good)));
-          heard = heard n live e;
           listed = listed n live e;
         };
+    found = found;
     single = λ n m live other e e' good same.
         let w = names n live e in
         let v = names m other e' in
@@ -126,24 +126,21 @@ module _ (b : Beside) (old : List (ℕ × Live)) where
       job = omega (arith, y.job);
       id = omega (arith, y.id);
       number = y.number;
-      pending = fresh y.pending;
     };
   }
 
   -- and where there is more room
-  pub kept_room : (uniques : IdTable) (listening : Lists) (deadlines : DeadlineTable) (room : Option Room) (spare spare' : ℕ)
+  pub kept_room : (uniques : IdTable) (index : HintTable) (deadlines : DeadlineTable) (room : Option Room) (spare spare' : ℕ)
       → IsKept b room spare old → spare ≤ spare' → ((d n : ℕ) → LeadsTo b.uniques d n → LeadsTo uniques d n) → b.uniques.room ≤ uniques.room
-      → ((c n : ℕ) → IsSome (find_job old n) → Heard b.listening c n → Heard listening c n) → (b.listening.pending ≡ None → listening.pending ≡ None)
-      → AllListed old deadlines
-      → IsKept (record b { uniques = uniques; listening = listening; deadlines = deadlines }) room spare' old
-  kept_room uniques listening deadlines room spare spare' k more led ids heard fresh listed =
-      kept_names old uniques listening deadlines room spare spare' k
+      → AllFound old index → AllListed old deadlines
+      → IsKept (record b { uniques = uniques; index = index; deadlines = deadlines }) room spare' old
+  kept_room uniques index deadlines room spare spare' k more led ids found listed =
+      kept_names old uniques index deadlines room spare spare' k
       (λ n live e. record { old = live; found = e; function = refl; unique = refl }) more
-      (λ n some d l. led d n l) ids
-      (λ n live e c there. heard c n (ap is_some e) ((k.known n live e).heard c there)) listed fresh
+      (λ n some d l. led d n l) ids found listed
 
   pub kept_ready : (room room' : Option Room) (spare : ℕ) → IsKept b room spare old → IsReady b spare → IsKept b room' spare old
-  kept_ready room room' spare k y = record { known = k.known; single = k.single; order = k.order; ready = λ r e. y }
+  kept_ready room room' spare k y = record { known = k.known; found = k.found; single = k.single; order = k.order; ready = λ r e. y }
 
   -- the next number is no live job's
   pub next_absent : (room : Option Room) (spare : ℕ) → IsKept b room spare old → find_job old b.next ≡ None
@@ -172,29 +169,35 @@ module _ (b : Beside) (old : List (ℕ × Live)) where
     some_same : (x y : Live) → Some x ≡ Some y → x ≡ y
     some_same x y e = cc
 
-    pub kept_made : (left : Bool) (room : Option Room) (r : Room) (spare spare' : ℕ) (uniques : IdTable) (listening : Lists)
+    pub kept_made : (left : Bool) (room : Option Room) (r : Room) (spare spare' : ℕ) (uniques : IdTable) (index : HintTable)
         → IsKept b room spare old → IsReady b spare
         → (joins made.unique ≡ true → LeadsTo uniques (digest_of b.seed made.function made.unique) b.next)
         → ((d n : ℕ) → LeadsTo b.uniques d n → LeadsTo uniques d n)
-        → ((c n : ℕ) → Heard b.listening c n → Heard listening c n) → ((c : ℕ) → Contains made.listeners c → Heard listening c b.next)
+        → ((q : Query) (n : ℕ) → IsHinted (hints_of b.index q) n → IsHinted (hints_of index q) n) → ((q : Query) → meets q made ≡ true → IsHinted (hints_of index q) b.next)
         → made.live_place ≡ Waiting
         → ((m : ℕ) (live : Live) → joins made.unique ≡ true → find_job old m ≡ Some live → is_named made.function made.unique live ≡ true → ⊥)
-        → IsKept (record b { next = b.next + 1; left = left; uniques = uniques; listening = listening }) None spare' new
-    kept_made left room r spare spare' uniques listening k y led kept heard first waiting fresh = record {
+        → IsKept (record b { next = b.next + 1; left = left; uniques = uniques; index = index }) None spare' new
+    kept_made left room r spare spare' uniques index k y led kept more first waiting fresh = record {
       known = λ n live e. known n live e (cases_eq n b.next);
+      found = λ q n h. let l = passes_live (meets q) (find_job new n) h in found q n l.0 l.1 l.2 (cases_eq n b.next);
       single = λ n m live other e e' good same. single n m live other e e' good same (cases_eq n b.next) (cases_eq m b.next);
       order = omega (arith, k.order);
       ready = λ q e. absurd (let no : ◌≡◌ {A = Option Room} None (Some q) = e in cc);
     }
       where
-        known : (n : ℕ) (live : Live) → find_job new n ≡ Some live → (n ≡ b.next) ⊎ (n ≡ b.next → ⊥) → IsKnown (record b { next = b.next + 1; left = left; uniques = uniques; listening = listening }) n live
+        found : (q : Query) (n : ℕ) (live : Live) → find_job new n ≡ Some live → meets q live ≡ true → (n ≡ b.next) ⊎ (n ≡ b.next → ⊥) → IsHinted (hints_of index q) n
+        found q n live e met (inr ne) = more q n (k.found q n (ap (passes (meets q)) (sym (made_other n ne) ∙ e) ∙ met))
+        found q n live e met (inl is) =
+            let same : made ≡ live = some_same made live (sym made_here ∙ ap (find_job new) (sym is) ∙ e) in
+            subst (λ i. IsHinted (hints_of index q) i) (sym is) (first q (ap (meets q) same ∙ met))
+
+        known : (n : ℕ) (live : Live) → find_job new n ≡ Some live → (n ≡ b.next) ⊎ (n ≡ b.next → ⊥) → IsKnown (record b { next = b.next + 1; left = left; uniques = uniques; index = index }) n live
         known n live e (inr ne) =
             let was = k.known n live (sym (made_other n ne) ∙ e) in
             record {
               made = was.made;
               spent = omega (arith, was.spent);
               led = λ good. kept _ n (was.led good);
-              heard = λ c there. heard c n (was.heard c there);
               listed = was.listed;
             }
         known n live e (inl is) =
@@ -203,7 +206,6 @@ module _ (b : Beside) (old : List (ℕ × Live)) where
               made = omega (arith, k.order);
               spent = omega arith;
               led = λ good. subst (λ i. LeadsTo uniques (digest_of b.seed live.function live.unique) i) (sym is) (subst (λ (l : Live). LeadsTo uniques (digest_of b.seed l.function l.unique) b.next) same (led (ap (λ (l : Live). joins l.unique) same ∙ good)));
-              heard = λ c there. subst (λ i. Heard listening c i) (sym is) (first c (subst (λ (l : Live). Contains l.listeners c) (sym same) there));
               listed = λ whole d runs until. absurd (true≢false (sym (ap waits waiting) ∙ ap (λ (l : Live). waits l.live_place) same ∙ runs));
             }
 
@@ -221,7 +223,7 @@ module _ (b : Beside) (old : List (ℕ × Live)) where
 
 -- what stands beside the jobs of a table
 abbrev pub beside : Inside → Beside
-beside t = record { seed = t.seed; first = t.first; next = unwrap_or t.next (2 ^ 64); left = is_some t.next; uniques = t.uniques; listening = t.listening; deadlines = t.deadlines }
+beside t = record { seed = t.seed; first = t.first; next = unwrap_or t.next (2 ^ 64); left = is_some t.next; uniques = t.uniques; index = t.index; deadlines = t.deadlines }
 
 -- a change that gives no job a deadline leaves all listed
 pub listed_changed : (n : ℕ) (f : Live → Live) (old new : List (ℕ × Live)) (deadlines : DeadlineTable) → ChangesJob n f old new → AllListed old deadlines → ((l : Live) → IsListed deadlines n l → IsListed deadlines n (f l)) → AllListed new deadlines
@@ -232,20 +234,29 @@ pub listed_of : (b : Beside) (jobs : List (ℕ × Live)) (room : Option Room) (s
 listed_of b jobs room spare k n live e = (k.known n live e).listed
 
 -- what is kept beside the jobs, where one changed
-pub kept_changed : (b : Beside) (n : ℕ) (f : Live → Live) (old new : List (ℕ × Live)) (listening : Lists) (deadlines : DeadlineTable) (room : Option Room) (spare spare' : ℕ)
+pub kept_changed : (b : Beside) (n : ℕ) (f : Live → Live) (old new : List (ℕ × Live)) (index : HintTable) (deadlines : DeadlineTable) (room : Option Room) (spare spare' : ℕ)
     → IsKept b room spare old → ChangesJob n f old new → ((l : Live) → (f l).function ≡ l.function) → ((l : Live) → (f l).unique ≡ l.unique) → spare' ≡ spare
-    → ((c m : ℕ) → IsSome (find_job old m) → Heard b.listening c m → Heard listening c m) → ((l : Live) (c : ℕ) → Contains (f l).listeners c → Contains l.listeners c ⊎ Heard listening c n) → (b.listening.pending ≡ None → listening.pending ≡ None)
+    → ((q : Query) (m : ℕ) → IsSome (find_job old m) → IsHinted (hints_of b.index q) m → IsHinted (hints_of index q) m)
+    → ((q : Query) (l : Live) → find_job old n ≡ Some l → meets q (f l) ≡ true → (meets q l ≡ true) ⊎ IsHinted (hints_of index q) n)
     → AllListed new deadlines
-    → IsKept (record b { listening = listening; deadlines = deadlines }) room spare' new
-kept_changed b n f old new listening deadlines room spare spare' k change function unique same heard first fresh all =
-    kept_names b old new b.uniques listening deadlines room spare spare' k (names_changed n f old new change function unique) (omega arith) (λ m some d l. l) (omega arith)
-    (each_changed n f old new change (λ m live. (c : ℕ) → Contains live.listeners c → Heard listening c m) (λ m live. (c : ℕ) → Contains live.listeners c → Heard listening c m)
-    (λ m live e c there. heard c m (ap is_some e) ((k.known m live e).heard c there)) (λ m live h. h) (λ live h c there. at live c h (first live c there)))
-    all fresh
+    → IsKept (record b { index = index; deadlines = deadlines }) room spare' new
+kept_changed b n f old new index deadlines room spare spare' k change function unique same more here all =
+    kept_names b old new b.uniques index deadlines room spare spare' k (names_changed n f old new change function unique) (omega arith) (λ m some d l. l) (omega arith)
+    (λ q m h. let l = passes_live (meets q) (find_job new m) h in found q m l.0 l.1 l.2 (cases_eq m n))
+    all
   where
-    at : (live : Live) (c : ℕ) → ((c : ℕ) → Contains live.listeners c → Heard listening c n) → Contains live.listeners c ⊎ Heard listening c n → Heard listening c n
-    at live c h (inl old) = h c old
-    at live c h (inr now) = now
+    stays : (q : Query) (m : ℕ) (live : Live) → find_job old m ≡ Some live → meets q live ≡ true → IsHinted (hints_of index q) m
+    stays q m live e met = more q m (ap is_some e) (k.found q m (ap (passes (meets q)) e ∙ met))
+
+    found : (q : Query) (m : ℕ) (live : Live) → find_job new m ≡ Some live → meets q live ≡ true → (m ≡ n) ⊎ (m ≡ n → ⊥) → IsHinted (hints_of index q) m
+    found q m live e met (inr ne) = stays q m live (sym (other_job n f old new change m ne) ∙ e) met
+    found q m live e met (inl is) =
+        let was = mapped n f old new change (find_job old n) live (sym (this_job n f old new change) ∙ ap (find_job new) (sym is) ∙ e) in
+        subst (λ i. IsHinted (hints_of index q) i) (sym is) (at (here q was.0 was.1 (ap (meets q) was.2 ∙ met)))
+      where
+        at : (meets q (mapped n f old new change (find_job old n) live (sym (this_job n f old new change) ∙ ap (find_job new) (sym is) ∙ e)).0 ≡ true) ⊎ IsHinted (hints_of index q) n → IsHinted (hints_of index q) n
+        at (inr now) = now
+        at (inl before) = let was = mapped n f old new change (find_job old n) live (sym (this_job n f old new change) ∙ ap (find_job new) (sym is) ∙ e) in stays q n was.0 was.1 before
 
 -- ---- a job is given back
 
@@ -262,6 +273,23 @@ module _ (limit : ℕ) (l : Live) where
   pub given_back_waits : is_last_try limit l ≡ false → waits (given_back limit l).live_place ≡ true
   given_back_waits e = ap (λ b. waits (if b then lost l else returned limit l).live_place) e
 
+  -- it runs nowhere, and the same slots listen
+  pub given_back_found : (index : HintTable) (n : ℕ) → (is_orphan (given_back limit l) ≡ true → IsHinted index.orphans n) → (q : Query) → meets q (given_back limit l) ≡ true → (meets q l ≡ true) ⊎ IsHinted (hints_of index q) n
+  given_back_found index n orphan Orphan h = inr (orphan h)
+  given_back_found index n orphan (RunBy c) h = absurd (false≢true (sym (runs_nowhere (is_last_try limit l)) ∙ h))
+    where
+      runs_nowhere : (b : Bool) → is_run_by c (if b then lost l else returned limit l) ≡ false
+      runs_nowhere true = refl
+      runs_nowhere false = refl
+  given_back_found index n orphan (HeardBy c) h = inl (sym (given_back_same (is_heard_by c) refl refl) ∙ h)
+  given_back_found index n orphan (Due now) h = inr (λ e. absurd (false≢true e))
+  given_back_found index n orphan Started h = inr (λ e. absurd (false≢true e))
+  given_back_found index n orphan Lives h = inl refl
+
+  -- a job that is lost doesn't wait
+  pub lost_wanted : is_last_try limit l ≡ true → is_orphan (given_back limit l) ≡ true → ⊥
+  lost_wanted e h = false≢true (ap (λ b. is_orphan (if b then lost l else returned limit l)) (sym e) ∙ h)
+
 -- the deadlines of the others are listed, and it has none that counts
 pub listed_given_back : (n limit : ℕ) (old new : List (ℕ × Live)) (deadlines : DeadlineTable) → ChangesJob n (given_back limit) old new → AllListed old deadlines
     → passes (is_last_try limit) (find_job old n) ≡ false → AllListed new deadlines
@@ -275,112 +303,21 @@ listed_given_back n limit old new deadlines change all more m live found = by (c
 
 -- ---- a slot leaves
 
-module _ (slot : ℕ) where
-  twice_listed : (xs : List ℕ) → filter (λ c. not (c == slot)) (filter (λ c. not (c == slot)) xs) ≡ filter (λ c. not (c == slot)) xs
-  twice_listed [] = refl
-  twice_listed (x ∷ xs) = by (not (x == slot)) refl (twice_listed xs)
+module _ (slot : ℕ) (old new : List (ℕ × Live)) (left : LeavesEach slot old new) where
+  mapped_left : (o : Option Live) (live : Live) → option_map (without_listener slot) o ≡ Some live → (was : Live) × (o ≡ Some was) × (without_listener slot was ≡ live)
+  mapped_left None live e = cc
+  mapped_left (Some was) live e = (was, refl, cc)
+
+  pub kept_left : (b : Beside) (index : HintTable) (room : Option Room) (spare spare' : ℕ) → IsKept b room spare old → spare' ≡ spare → AllFound new index
+      → IsKept (record b { index = index }) room spare' new
+  kept_left b index room spare spare' k same found =
+      kept_names b old new b.uniques index b.deadlines room spare spare' k
+      (λ n live e. let w = was_left n live e in record { old = w.0; found = w.1; function = ap (λ (l : Live). l.function) w.2; unique = ap (λ (l : Live). l.unique) w.2 })
+      (omega arith) (λ n some d l. l) (omega arith) found
+      (λ n live e. let w = was_left n live e in subst (λ (l : Live). IsListed b.deadlines n l) w.2 (k.known n w.0 w.1).listed)
     where
-      by : (b : Bool) → not (x == slot) ≡ b → filter (λ c. not (c == slot)) (filter (λ c. not (c == slot)) xs) ≡ filter (λ c. not (c == slot)) xs
-          → filter (λ c. not (c == slot)) (cond b (x ∷ filter (λ c. not (c == slot)) xs) (filter (λ c. not (c == slot)) xs)) ≡ cond b (x ∷ filter (λ c. not (c == slot)) xs) (filter (λ c. not (c == slot)) xs)
-      by true e rest = ap (λ t. cond t (x ∷ filter (λ c. not (c == slot)) (filter (λ c. not (c == slot)) xs)) (filter (λ c. not (c == slot)) (filter (λ c. not (c == slot)) xs))) e ∙ ap (λ ys. x ∷ ys) rest
-      by false e rest = rest
-
-  twice : (o : Option Live) → option_map (without_listener slot) (option_map (without_listener slot) o) ≡ option_map (without_listener slot) o
-  twice None = refl
-  twice (Some live) = ap (λ ls. Some (record live { listeners = ls })) (twice_listed live.listeners)
-
-  -- it leaves one job, and so some
-  pub leaves_one : (n : ℕ) (old new : List (ℕ × Live)) → ChangesJob n (without_listener slot) old new → LeavesOne slot n old new
-  leaves_one n old new change = this_job n (without_listener slot) old new change
-
-  pub leaves_some : (n : ℕ) (old new : List (ℕ × Live)) → ChangesJob n (without_listener slot) old new → LeavesSome slot old new
-  leaves_some n old new change = λ m. by m (cases_eq m n)
-    where
-      by : (m : ℕ) → (m ≡ n) ⊎ (m ≡ n → ⊥) → (find_job new m ≡ find_job old m) ⊎ LeavesOne slot m old new
-      by m (inl e) = inr (ap (find_job new) e ∙ this_job n (without_listener slot) old new change ∙ ap (λ i. option_map (without_listener slot) (find_job old i)) (sym e))
-      by m (inr ne) = inl (other_job n (without_listener slot) old new change m ne)
-
-  -- it leaves none
-  pub leaves_none : (old : List (ℕ × Live)) → LeavesSome slot old old
-  leaves_none old = λ n. inl refl
-
-  module _ (first old new : List (ℕ × Live)) (before : LeavesSome slot first old) (after : LeavesSome slot old new) where
-    -- a job that it left stays left
-    pub left_before : (n : ℕ) → LeavesOne slot n first old → LeavesOne slot n first new
-    left_before n e = by (after n)
-      where
-        by : (find_job new n ≡ find_job old n) ⊎ LeavesOne slot n old new → LeavesOne slot n first new
-        by (inl same) = same ∙ e
-        by (inr left) = left ∙ ap (option_map (without_listener slot)) e ∙ twice (find_job first n)
-
-    -- and a job that it leaves then was left or not
-    pub left_after : (n : ℕ) → LeavesOne slot n old new → LeavesOne slot n first new
-    left_after n e = by (before n)
-      where
-        by : (find_job old n ≡ find_job first n) ⊎ LeavesOne slot n first old → LeavesOne slot n first new
-        by (inl same) = e ∙ ap (option_map (without_listener slot)) same
-        by (inr left) = e ∙ ap (option_map (without_listener slot)) left ∙ twice (find_job first n)
-
-    pub leaves_more : LeavesSome slot first new
-    leaves_more = λ n. by n (before n) (after n)
-      where
-        by : (n : ℕ) → (find_job old n ≡ find_job first n) ⊎ LeavesOne slot n first old → (find_job new n ≡ find_job old n) ⊎ LeavesOne slot n old new → (find_job new n ≡ find_job first n) ⊎ LeavesOne slot n first new
-        by n (inl e) (inl f) = inl (f ∙ e)
-        by n (inl e) (inr f) = inr (left_after n f)
-        by n (inr e) f = inr (left_before n e)
-
-  -- where it doesn't listen, nothing goes
-  listens_or : (xs : List ℕ) → Contains xs slot ⊎ (filter (λ c. not (c == slot)) xs ≡ xs)
-  listens_or [] = inr refl
-  listens_or (x ∷ xs) = by (x == slot) refl (listens_or xs)
-    where
-      by : (b : Bool) → (x == slot) ≡ b → Contains xs slot ⊎ (filter (λ c. not (c == slot)) xs ≡ xs) → Contains (x ∷ xs) slot ⊎ (cond (not b) (x ∷ filter (λ c. not (c == slot)) xs) (filter (λ c. not (c == slot)) xs) ≡ x ∷ xs)
-      by true e rest = inl (0, omega arith, grind (arith, nat_tests))
-      by false e (inl (k, w, there)) = inl (suc k, omega arith, there)
-      by false e (inr same) = inr (ap (λ ys. x ∷ ys) same)
-
-  stays : (xs : List ℕ) (c : ℕ) → Contains (filter (λ d. not (d == slot)) xs) c → (c ≢ slot) × Contains xs c
-  stays xs c there =
-      let out = All-contains (λ d. not (d == slot) ≡ true) (filter (λ d. not (d == slot)) xs) c (filter_passes (λ d. not (d == slot)) xs) there in
-      (λ e. false≢true (let same : (c == slot) ≡ true = grind (arith, nat_tests) in sym (ap not same) ∙ out), from xs there)
-    where
-      from : (ys : List ℕ) → Contains (filter (λ d. not (d == slot)) ys) c → Contains ys c
-      from ys h = Contains-from_filter (λ d. not (d == slot)) ys c h
-
-  module _ (old new : List (ℕ × Live)) (some : LeavesSome slot old new) (all : (n : ℕ) (live : Live) → find_job old n ≡ Some live → Contains live.listeners slot → LeavesOne slot n old new) where
-    -- where it left each job that it listened to, it left all
-    pub left_all : (n : ℕ) → find_job new n ≡ option_map (without_listener slot) (find_job old n)
-    left_all n = by (find_job old n) refl (some n)
-      where
-        by : (o : Option Live) → find_job old n ≡ o → (find_job new n ≡ find_job old n) ⊎ LeavesOne slot n old new → find_job new n ≡ option_map (without_listener slot) (find_job old n)
-        by o e (inr left) = left
-        by None e (inl same) = same ∙ e ∙ sym (ap (option_map (without_listener slot)) e)
-        by (Some live) e (inl same) = at (listens_or live.listeners)
-          where
-            at : Contains live.listeners slot ⊎ (filter (λ c. not (c == slot)) live.listeners ≡ live.listeners) → find_job new n ≡ option_map (without_listener slot) (find_job old n)
-            at (inl there) = all n live e there
-            at (inr none) = same ∙ e ∙ ap (λ ls. Some (record live { listeners = ls })) (sym none) ∙ sym (ap (option_map (without_listener slot)) e)
-
-    mapped_left : (o : Option Live) (live : Live) → option_map (without_listener slot) o ≡ Some live → (was : Live) × (o ≡ Some was) × (without_listener slot was ≡ live)
-    mapped_left None live e = cc
-    mapped_left (Some was) live e = (was, refl, cc)
-
-    was_left : (n : ℕ) (live : Live) → find_job new n ≡ Some live → (was : Live) × (find_job old n ≡ Some was) × (without_listener slot was ≡ live)
-    was_left n live e = mapped_left (find_job old n) live (sym (left_all n) ∙ e)
-
-    pub kept_left : (b : Beside) (listening : Lists) (room : Option Room) (spare spare' : ℕ) → IsKept b room spare old → spare' ≡ spare
-        → ((c n : ℕ) → c ≢ slot → Heard b.listening c n → Heard listening c n) → (b.listening.pending ≡ None → listening.pending ≡ None)
-        → IsKept (record b { listening = listening }) room spare' new
-    kept_left b listening room spare spare' k same heard fresh =
-        kept_names b old new b.uniques listening b.deadlines room spare spare' k
-        (λ n live e. let w = was_left n live e in record { old = w.0; found = w.1; function = ap (λ (l : Live). l.function) w.2; unique = ap (λ (l : Live). l.unique) w.2 })
-        (omega arith) (λ n some d l. l) (omega arith)
-        (λ n live e c there.
-        let w = was_left n live e in
-        let s = stays w.0.listeners c (subst (λ (l : Live). Contains l.listeners c) (sym w.2) there) in
-        heard c n s.0 ((k.known n w.0 w.1).heard c s.1))
-        (λ n live e. let w = was_left n live e in subst (λ (l : Live). IsListed b.deadlines n l) w.2 (k.known n w.0 w.1).listed)
-        fresh
+      was_left : (n : ℕ) (live : Live) → find_job new n ≡ Some live → (was : Live) × (find_job old n ≡ Some was) × (without_listener slot was ≡ live)
+      was_left n live e = mapped_left (find_job old n) live (sym (left n) ∙ e)
 
 -- ---- a job ends
 
@@ -393,15 +330,26 @@ removed n old new gone m live e = at (n == m) (sym (gone m) ∙ e)
 
 pub kept_deadlines : (b : Beside) (jobs : List (ℕ × Live)) (deadlines : DeadlineTable) (room : Option Room) (spare : ℕ) → IsKept b room spare jobs → AllListed jobs deadlines → IsKept (record b { deadlines = deadlines }) room spare jobs
 kept_deadlines b jobs deadlines room spare k all =
-    kept_room b jobs b.uniques b.listening deadlines room spare spare k (omega arith) (λ d n l. l) (omega arith) (λ c n some h. h) (λ e. e) all
+    kept_room b jobs b.uniques b.index deadlines room spare spare k (omega arith) (λ d n l. l) (omega arith) k.found all
+
+pub kept_index : (b : Beside) (jobs : List (ℕ × Live)) (index : HintTable) (room : Option Room) (spare : ℕ) → IsKept b room spare jobs → AllFound jobs index → IsKept (record b { index = index }) room spare jobs
+kept_index b jobs index room spare k found =
+    kept_room b jobs b.uniques index b.deadlines room spare spare k (omega arith) (λ d n l. l) (omega arith) found (listed_of b jobs room spare k)
+
+-- where no hint at a live job is lost
+pub kept_roomy : (b : Beside) (jobs : List (ℕ × Live)) (index : HintTable) (room : Option Room) (spare : ℕ) → IsKept b room spare jobs
+    → ((q : Query) (n : ℕ) → IsSome (find_job jobs n) → IsHinted (hints_of b.index q) n → IsHinted (hints_of index q) n) → IsKept (record b { index = index }) room spare jobs
+kept_roomy b jobs index room spare k more =
+    kept_index b jobs index room spare k (λ q n met. let l = passes_live (meets q) (find_job jobs n) met in more q n (ap is_some l.1) (k.found q n met))
 
 pub kept_ended : (b : Beside) (n : ℕ) (old new : List (ℕ × Live)) (uniques : IdTable) (room : Option Room) (spare spare' : ℕ) → IsKept b room spare old → ((m : ℕ) → find_job new m ≡ (if n == m then None else find_job old m))
     → spare ≤ spare' → ((d m : ℕ) → m ≢ n → LeadsTo b.uniques d m → LeadsTo uniques d m) → b.uniques.room ≤ uniques.room → IsKept (record b { uniques = uniques }) room spare' new
 kept_ended b n old new uniques room spare spare' k gone more led ids =
-    kept_names b old new uniques b.listening b.deadlines room spare spare' k
+    kept_names b old new uniques b.index b.deadlines room spare spare' k
     (λ m live e. record { old = live; found = was m live e; function = refl; unique = refl }) more
     (λ m some d l. led d m (λ same. not_some (find_job new m) (gone m ∙ ap (λ i. if n == i then None else find_job old i) same ∙ number_same n None (find_job old n)) some) l) ids
-    (λ m live e. (k.known m live (was m live e)).heard) (λ m live e. (k.known m live (was m live e)).listed) (λ e. e)
+    (λ q m h. let l = passes_live (meets q) (find_job new m) h in k.found q m (ap (passes (meets q)) (was m l.0 l.1) ∙ l.2))
+    (λ m live e. (k.known m live (was m live e)).listed)
   where
     was : (m : ℕ) (live : Live) → find_job new m ≡ Some live → find_job old m ≡ Some live
     was = removed n old new gone
@@ -431,8 +379,3 @@ next_is None n h small = by (cases_lt (n + 1) (2 ^ 64))
     by (inl less) = absurd (h less)
     by (inr more) = omega arith
 next_is (Some x) n h small = h.1
-
-pub listed_heard : (o : Option ℕ) (table : Lists) (c n : ℕ) → Contains (listed o) c → IfSome o (λ slot. Heard table slot n) → Heard table c n
-listed_heard None table c n (k, w, e) h = absurd (omega arith)
-listed_heard (Some slot) table c n (zero, w, e) h = subst (λ i. Heard table i n) e h
-listed_heard (Some slot) table c n (suc k, w, e) h = absurd (omega arith)

@@ -1,7 +1,8 @@
 pub mod DeadlineLemmas
 pub mod EntryLemmas
+pub mod HintLemmas
 pub mod JobLemmas
-pub mod LinkLemmas
+pub mod LeaveLemmas
 pub mod ListLemmas
 pub mod MinHeapLemmas
 pub mod NumberLemmas

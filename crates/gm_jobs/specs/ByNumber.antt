@@ -1,14 +1,18 @@
 -- How the live jobs are kept in a slab, under keys that their numbers lead to.
-use Rattle.std.specs.Global.{Vec}
-use Rattle.std.specs.Vec.{vec_len}
 use Rattle.std.specs.Prelude.{◌≡◌, ◌≢◌, ℕ, nat_eq, List, [], ◌∷◌, Option, Some, None}
 use Rattle.std.specs.List.{IsDistinct}
 use Rattle.std.specs.Map.{lookup, keys_of}
-use Rattle.slab.specs.Slab.{Slab, slab_len}
-use Rattle.gm_jobs.specs.declared.lists.Entry.{Entry}
-use Rattle.gm_jobs.specs.declared.lists.Ends.{Ends}
+use Rattle.slab.specs.Slab.{Slab, get, slab_len}
+use Rattle.gm_jobs.specs.declared.by_number.Entry.{Entry}
 use Rattle.gm_jobs.specs.Live.{Live}
-use Rattle.gm_jobs.specs.Links.{held, next_of, AllLinked}
+
+abbrev pub card : Option Entry → Option (ℕ × Live)
+card None = None
+card (Some entry) = Some (entry.number, entry.job)
+
+-- the number and the job at each key
+abbrev pub held : Slab Entry → ℕ → Option (ℕ × Live)
+held slab k = card (get slab k)
 
 -- the live jobs by their numbers, and for how many more there is room
 pub record JobTable : Type 0 where
@@ -29,16 +33,6 @@ pub record IsIndexed (keys : List (ℕ × ℕ)) (at : ℕ → Option (ℕ × Liv
   pub leads : (n k : ℕ) → lookup (nat_eq n) keys ≡ Some k → (live : Live) × (at k ≡ Some (n, live))
   pub stands : (k n : ℕ) (live : Live) → at k ≡ Some (n, live) → lookup (nat_eq n) keys ≡ Some k
   pub distinct : IsDistinct nat_eq (keys_of keys)
-
--- The numbers lead to the jobs, and the lists lead from job to job.
-pub record IsJobMap (keys : List (ℕ × ℕ)) (slab : Slab Entry) (ends : List Ends) : Type 0 where
-  pub indexed : IsIndexed keys (held slab)
-  pub linked : AllLinked (held slab) (next_of slab ends)
-
--- Every list is there, and they lead from job to job.
-pub record AreLinked (slab : Slab Entry) (ends : Vec Ends) : Type 0 where
-  pub lists : vec_len ends ≡ 1025
-  pub linked : AllLinked (held slab) (next_of slab ends.items)
 
 abbrev pub with_live : (Live → Live) → Option (ℕ × Live) → Option (ℕ × Live)
 with_live change None = None

@@ -32,10 +32,10 @@ takes_memory (Report numerator denominator) = true
 abbrev pub ChangesJob : ℕ → (Live → Live) → List (ℕ × Live) → List (ℕ × Live) → Type 0
 ChangesJob n change old new = (m : ℕ) → find_job new m ≡ (if n == m then option_map change (find_job old m) else find_job old m)
 
--- the slot doesn't listen to the job any more
-abbrev pub LeavesOne : ℕ → ℕ → List (ℕ × Live) → List (ℕ × Live) → Type 0
-LeavesOne slot n old new = find_job new n ≡ option_map (without_listener slot) (find_job old n)
+-- The slot doesn't listen to any job any more.
+abbrev pub LeavesEach : ℕ → List (ℕ × Live) → List (ℕ × Live) → Type 0
+LeavesEach slot old new = (n : ℕ) → find_job new n ≡ option_map (without_listener slot) (find_job old n)
 
 -- The slot doesn't listen to some of the jobs any more.
 abbrev pub LeavesSome : ℕ → List (ℕ × Live) → List (ℕ × Live) → Type 0
-LeavesSome slot old new = (n : ℕ) → (find_job new n ≡ find_job old n) ⊎ LeavesOne slot n old new
+LeavesSome slot old new = (n : ℕ) → (find_job new n ≡ find_job old n) ⊎ (find_job new n ≡ option_map (without_listener slot) (find_job old n))

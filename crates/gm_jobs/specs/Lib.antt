@@ -1,9 +1,8 @@
 pub mod ByNumber
 pub mod Changes
 pub mod Deadlines
+pub mod Hints
 pub mod Kept
-pub mod Links
-pub mod Listening
 pub mod Live
 pub mod MinHeap
 pub mod Numbers

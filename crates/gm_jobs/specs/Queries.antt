@@ -1,9 +1,18 @@
--- What may be asked of a job, to find the next one.
-use Rattle.std.specs.Prelude.{Bool}
+-- What may be asked of a job.
+use Rattle.std.specs.Prelude.{ℕ, Bool, true, not, ◌==◌}
+use Rattle.std.specs.List.{list_any}
 use Rattle.gm_jobs.specs.declared.job.Query.{Query}
-use Rattle.gm_jobs.specs.declared.job.Query.TheVariants.{RunBy, Orphan}
-use Rattle.gm_jobs.specs.Live.{Live, is_run_by, is_orphan}
+use Rattle.gm_jobs.specs.declared.job.Query.TheVariants.{Orphan, RunBy, HeardBy, Due, Started, Live as Lives}
+use Rattle.gm_jobs.specs.Live.{Live, is_run_by, is_orphan, is_due, waits}
+
+-- the slot listens to it
+abbrev pub is_heard_by : ℕ → Live → Bool
+is_heard_by slot live = list_any (λ c. c == slot) live.listeners
 
 abbrev pub meets : Query → Live → Bool
-meets (RunBy slot) live = is_run_by slot live
 meets Orphan live = is_orphan live
+meets (RunBy slot) live = is_run_by slot live
+meets (HeardBy slot) live = is_heard_by slot live
+meets (Due now) live = is_due now live
+meets Started live = not (waits live.live_place)
+meets Lives live = true

@@ -1,19 +1,12 @@
 //! The jobs by their numbers.
 
-ghost use Rattle.std.specs.Prelude.{◌≡◌, ℕ, ◌+◌, ◌<◌, ◌≤◌, ◌^◌, ◌==◌, if◌then◌else◌, false, [], length, slice_get, true, is_some, Some, None, IfSome, IfNone, IsOk, IfOk, OnOk, OnErr};
+ghost use Rattle.std.specs.Prelude.{◌≡◌, ℕ, ◌+◌, ◌<◌, ◌≤◌, ◌^◌, ◌==◌, if◌then◌else◌, false, [], length, slice_get, is_some, Some, None, IfSome, IsOk, IfOk, OnOk, OnErr};
 ghost use Rattle.std.specs.Option.{option_copied, option_map};
-ghost use Rattle.std.specs.Vec.{vec_len};
-ghost use Rattle.slab.specs.Slab.{get};
-ghost use Rattle.gm_jobs.specs.declared.lists.Way.{Way};
-ghost use Rattle.gm_jobs.specs.Live.{Live};
-ghost use Rattle.gm_jobs.specs.Tables.{find_job, IsNext, IsLast};
+ghost use Rattle.gm_jobs.specs.Tables.{find_job};
 ghost use Rattle.gm_jobs.specs.Changes.{CanBeTold, changed, takes_memory, ChangesJob};
-ghost use Rattle.gm_jobs.specs.Queries.{meets};
-ghost use Rattle.gm_jobs.specs.Links.{stands_in, held, AllUnique, link_of};
-ghost use Rattle.gm_jobs.specs.ByNumber.{AreLinked, Changed};
+ghost use Rattle.gm_jobs.specs.ByNumber.{Changed};
 
-use crate::job::{Change, Job, Query};
-use crate::lists::{Ends, Entry, LISTS, enter, find_next, leave, list_at};
+use crate::job::{Change, Job};
 use indexmap::IndexMap;
 use slab::Slab;
 use std::alloc::{AllocError, Global};
@@ -45,33 +38,36 @@ impl BuildHasher for NumberHash {
     }
 }
 
-/// The live jobs. Each is in a slab, under a key that its number leads to, and in a list if it runs or nobody wants
-/// it.
+/// A live job with its number.
+#[derive(Drop)]
+struct Entry {
+    number: u64,
+    job: Job,
+}
+
+/// The live jobs. Each is in a slab, under a key that its number leads to.
 #[derive(Drop)]
 pub(crate) struct JobMap {
     alloc: Global,
     slab: Slab<Entry>,
     keys: IndexMap<u64, usize, NumberHash>,
-    ends: Vec<Ends>,
 }
 
 impl Model for JobMap {
-    ghost use Rattle.std.specs.Prelude.{◌≡◌, min, ◌-◌};
-    ghost use Rattle.std.specs.Vec.{vec_len};
+    ghost use Rattle.std.specs.Prelude.{min, ◌-◌};
     ghost use Rattle.indexmap.specs.IndexMap.{spare};
     ghost use Rattle.slab.specs.Slab.{slab_len};
-    ghost use Rattle.gm_jobs.specs.Links.{held};
-    ghost use Rattle.gm_jobs.specs.ByNumber.{JobTable, jobs_of, IsJobMap};
+    ghost use Rattle.gm_jobs.specs.ByNumber.{JobTable, held, jobs_of, IsIndexed};
 
     ghost Value = { JobTable };
 
     ghost view = { λ m. record { entries = jobs_of m.keys.entries (held m.slab); room = min (spare m.keys) (m.slab.capacity - slab_len m.slab) } };
 
-    ghost invariant = { λ m. IsJobMap m.keys.entries m.slab m.ends.items × (vec_len m.ends ≡ 1025) };
+    ghost invariant = { λ m. IsIndexed m.keys.entries (held m.slab) };
 }
 
-// Changes the job at a key, if there is one. Its neighbours stay.
-fn change_job(
+// Changes the job at a key, if there is one.
+fn change_at(
     alloc: Global,
     slab: &mut Slab<Entry>,
     key: usize,
@@ -81,7 +77,6 @@ fn change_job(
     ensures ok { OnOk result (Changed key (changed change.entry) slab.old slab.new) }
     ensures err { OnErr result (Changed key (λ live. live) slab.old slab.new) }
     ensures succeeds { takes_memory change.entry ≡ false → IsOk result }
-    ensures links { (k : ℕ) (way : Way) → link_of way (get slab.new k) ≡ link_of way (get slab.old k) }
 {
     match slab.get_mut(key) {
         Some(entry) => entry.job.change(alloc, change),
@@ -89,44 +84,16 @@ fn change_job(
     }
 }
 
-// Changes the job of a number, which is at this key. It goes from its list to another where that is so.
-fn change_at(
-    alloc: Global,
-    slab: &mut Slab<Entry>,
-    ends: &mut Vec<Ends>,
-    key: usize,
-    number: u64,
-    change: Change<'_>,
-) -> Result<(), AllocError>
-    requires told { CanBeTold change }
-    requires there { (live : Live) × (held slab.old key ≡ Some (number, live)) }
-    requires unique { AllUnique (held slab.old) }
-    requires lists { AreLinked slab.old ends.old }
-    ensures ok { OnOk result (Changed key (changed change.entry) slab.old slab.new) }
-    ensures err { OnErr result (Changed key (λ live. live) slab.old slab.new) }
-    ensures succeeds { takes_memory change.entry ≡ false → IsOk result }
-    ensures lists { AreLinked slab.new ends.new }
-{
-    let list = list_at(slab, key);
-    let result = change_job(alloc, slab, key, change);
-    if list_at(slab, key) != list {
-        leave(slab, ends, list, key);
-        enter(slab, ends, key, number);
-    }
-    result
-}
-
 impl JobMap {
     /// No jobs.
-    pub(crate) fn new(alloc: Global, seed: &RandomState) -> Result<JobMap, AllocError>
-        ensures { IfOk result (λ m. m.entries ≡ []) }
+    pub(crate) fn new(alloc: Global, seed: &RandomState) -> JobMap
+        ensures { result.entries ≡ [] }
     {
-        Ok(JobMap {
+        JobMap {
             alloc,
             slab: Slab::new(alloc),
             keys: IndexMap::with_hasher(alloc, NumberHash::new(seed)),
-            ends: Vec::from_elem(alloc, Ends::NONE, LISTS)?,
-        })
+        }
     }
 
     /// Makes room for one job more.
@@ -190,14 +157,7 @@ impl JobMap {
         ensures room { self.new.room ≡ self.old.room }
     {
         match self.keys.get(&number) {
-            Some(key) => change_at(
-                self.alloc,
-                &mut self.slab,
-                &mut self.ends,
-                *key,
-                number,
-                change,
-            ),
+            Some(key) => change_at(self.alloc, &mut self.slab, *key, change),
             None => Ok(()),
         }
     }
@@ -208,9 +168,8 @@ impl JobMap {
         requires absent { find_job self.old.entries number ≡ None }
         ensures jobs { (m : ℕ) → find_job self.new.entries m ≡ (if number == m then Some job else find_job self.old.entries m) }
     {
-        let key = self.slab.insert_reserved(Entry::new(number, job));
+        let key = self.slab.insert_reserved(Entry { number, job });
         let _fits = self.keys.insert(number, key);
-        enter(&mut self.slab, &mut self.ends, key, number);
     }
 
     /// Takes out the job of a number.
@@ -220,18 +179,6 @@ impl JobMap {
         ensures room { self.old.room ≤ self.new.room }
     {
         let key = self.keys.swap_remove(&number)?;
-        let list = list_at(&self.slab, key);
-        leave(&mut self.slab, &mut self.ends, list, key);
         Some(self.slab.remove(key).job)
-    }
-
-    /// The least number above `after` of a live job that is what is asked for. All of these are in this list.
-    pub(crate) fn next(&self, list: usize, query: Query, after: u64) -> Option<u64>
-        requires small { list < 1025 }
-        requires listed { (live : Live) → meets query live ≡ true → stands_in live ≡ Some list }
-        ensures next { IfSome result (IsNext (meets query) after self.now.entries) }
-        ensures last { IfNone result (IsLast (meets query) after self.now.entries) }
-    {
-        find_next(&self.slab, &self.ends, list, query, after)
     }
 }

@@ -1,25 +1,21 @@
 //! What is known of one job.
 
-ghost use Rattle.std.specs.Prelude.{◌≡◌, ◌&&◌, ◌==◌, false, IsOk, IfSome, ◌<◌, OnOk, OnErr, Some, None};
+ghost use Rattle.std.specs.Prelude.{◌≡◌, ◌&&◌, ◌==◌, false, IsOk, IfSome, OnOk, OnErr, Some, None};
 ghost use Rattle.std.specs.Option.{option_map};
 ghost use Rattle.gm_jobs.specs.Live.{Live, AreCarried, body_bytes, given_back, reported, with_listener, without_listener, place_at, is_named, is_run_by, is_wanted, is_orphan, is_due, is_last_try, waits, runs_at};
-ghost use Rattle.gm_jobs.specs.Queries.{meets};
+ghost use Rattle.gm_jobs.specs.Queries.{meets, is_heard_by};
 ghost use Rattle.gm_jobs.specs.Changes.{changed, CanBeTold, takes_memory};
-ghost use Rattle.gm_jobs.specs.Links.{stands_in};
 
 mod reservation;
 
 use gm_bytes::{Data, SharedBytes};
-use gm_notes::{MAX_SLOTS, Place, Priority};
+use gm_notes::{Place, Priority};
 pub(crate) use reservation::Reservation;
 use std::alloc::{AllocError, Global};
 use std::marker::Model;
 
 /// The deadline of a lost job: each tick has reached it.
 pub(crate) const AT_ONCE: u64 = 0;
-
-/// The list of the orphans, after those of the jobs that run.
-pub(crate) const ORPHANS: usize = MAX_SLOTS as usize;
 
 /// A job to be made: its function by number, and its first listener, if there is one.
 #[derive(Clone, Copy)]
@@ -112,10 +108,18 @@ pub(crate) enum Change<'a> {
 /// What is asked of a job.
 #[derive(Clone, Copy)]
 pub(crate) enum Query {
-    /// Whether it runs at this slot.
-    RunBy(u32),
     /// Whether it waits and nobody wants it.
     Orphan,
+    /// Whether it runs at this slot.
+    RunBy(u32),
+    /// Whether this slot listens to it.
+    HeardBy(u32),
+    /// Whether it doesn't wait, and its deadline is reached.
+    Due(u64),
+    /// Whether it doesn't wait.
+    Started,
+    /// Nothing: each live job is asked for.
+    Live,
 }
 
 impl Query {
@@ -124,8 +128,12 @@ impl Query {
         ensures { result ≡ meets self job.now }
     {
         match self {
-            Query::RunBy(slot) => job.is_run_by(slot),
             Query::Orphan => job.is_orphan(),
+            Query::RunBy(slot) => job.is_run_by(slot),
+            Query::HeardBy(slot) => job.is_heard_by(slot),
+            Query::Due(now) => job.is_due(now),
+            Query::Started => !job.live_place.waits(),
+            Query::Live => true,
         }
     }
 }
@@ -269,23 +277,10 @@ impl Job {
         self.live_place.waits() && !self.kept && self.listeners.is_empty()
     }
 
-    /// The list in which it is, if there is one: of the lists for the slots, which some slots share, or that of the
-    /// orphans.
-    pub(crate) fn list(&self) -> Option<usize>
-        ensures list { result ≡ stands_in self.now }
-        ensures within { IfSome result (λ l. l < 1025) }
+    pub(crate) fn is_heard_by(&self, slot: u32) -> bool
+        ensures { result ≡ is_heard_by slot self.now }
     {
-        match self.live_place {
-            LivePlace::Running(slot) => Some(slot as usize % ORPHANS),
-            LivePlace::Waiting => {
-                if self.is_orphan() {
-                    Some(ORPHANS)
-                } else {
-                    None
-                }
-            }
-            LivePlace::Lost => None,
-        }
+        self.listeners.contains(&slot)
     }
 
     pub(crate) fn is_due(&self, now: u64) -> bool

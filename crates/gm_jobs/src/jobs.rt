@@ -5,14 +5,13 @@ ghost use Rattle.std.specs.Option.{option_copied, unwrap_or};
 ghost use Rattle.gm_jobs.specs.Live.{AreCarried, fresh, assigned, given_back, kept, reported, with_listener, is_run_by, is_orphan, is_due, is_last_try};
 ghost use Rattle.gm_jobs.specs.Tables.{no_jobs, job, find_job, is_made, place, listeners_of, passes, IsNamed, IsVacant, HasRoom, with_room, Makes, Changes, Ends, Leaves, IsNext, IsLast};
 ghost use Rattle.gm_jobs.specs.Deadlines.{AllListed};
-ghost use Rattle.gm_jobs.specs.Listening.{Heard};
-ghost use Rattle.gm_jobs.specs.Changes.{LeavesOne, LeavesSome};
+ghost use Rattle.gm_jobs.specs.Hints.{HintTable, AllFound};
 ghost use Rattle.gm_jobs.specs.Uniques.{LeadsTo};
 
 use crate::by_number::JobMap;
 use crate::deadlines::Deadlines;
-use crate::job::{AT_ONCE, Change, Job, NewJob, ORPHANS, Query, Reservation};
-use crate::listening::Listening;
+use crate::index::Index;
+use crate::job::{AT_ONCE, Change, Job, NewJob, Query, Reservation};
 use crate::uniques::{Uniques, Vacancy, digest};
 use gm_bytes::SharedBytes;
 use gm_notes::{Place, is_joining};
@@ -41,8 +40,9 @@ impl From<AllocError> for JobError {
 
 /// The live jobs by their numbers.
 ///
-/// A call at a number that no live job has changes nothing. Calls that answer no refusal take no memory. Slots are
-/// small numbers: there is a list for each up to the greatest.
+/// A call at a number that no live job has changes nothing. Calls that answer no refusal take no memory. For slots below
+/// 1,024 what a slot runs and listens to is found without a look at other jobs, where `reserve_run` and
+/// `reserve_listener` came before.
 #[derive(Drop)]
 pub struct Jobs {
     alloc: Global,
@@ -52,7 +52,7 @@ pub struct Jobs {
     next: Option<u64>,
     jobs: JobMap,
     uniques: Uniques,
-    listening: Listening,
+    index: Index,
     deadlines: Deadlines,
     reservation: Option<Reservation>,
 }
@@ -67,29 +67,7 @@ impl Model for Jobs {
 
     ghost view = { λ t. record { seed = t.seed; first = t.first; next = unwrap_or t.next (2 ^ 64); room = t.reservation; live = t.jobs.entries } };
 
-    ghost invariant = { λ t. IsKept (record { seed = t.seed; first = t.first; next = unwrap_or t.next (2 ^ 64); left = is_some t.next; uniques = t.uniques; listening = t.listening; deadlines = t.deadlines }) t.reservation t.jobs.room t.jobs.entries };
-}
-
-// The slot doesn't listen to these jobs any more.
-fn leave_all(jobs: &mut JobMap, numbers: &[u64], slot: u32)
-    ensures left { LeavesSome slot jobs.old.entries jobs.new.entries }
-    ensures these { (n : ℕ) → Contains numbers.now n → LeavesOne slot n jobs.old.entries jobs.new.entries }
-    ensures slots { jobs.new.room ≡ jobs.old.room }
-{
-    for number in numbers {
-        let _left = jobs.change(*number, Change::Leave(slot));
-    }
-}
-
-// The slot doesn't listen to this job any more, if there is one.
-fn leave_maybe(jobs: &mut JobMap, number: Option<u64>, slot: u32)
-    ensures left { LeavesSome slot jobs.old.entries jobs.new.entries }
-    ensures this { (n : ℕ) → number ≡ Some n → LeavesOne slot n jobs.old.entries jobs.new.entries }
-    ensures slots { jobs.new.room ≡ jobs.old.room }
-{
-    if let Some(number) = number {
-        let _left = jobs.change(number, Change::Leave(slot));
-    }
+    ghost invariant = { λ t. IsKept (record { seed = t.seed; first = t.first; next = unwrap_or t.next (2 ^ 64); left = is_some t.next; uniques = t.uniques; index = t.index; deadlines = t.deadlines }) t.reservation t.jobs.room t.jobs.entries };
 }
 
 // Makes room for one job more in each table.
@@ -97,21 +75,17 @@ fn make_room(
     jobs: &mut JobMap,
     uniques: &mut Uniques,
     deadlines: &mut Deadlines,
-    listening: &mut Listening,
 ) -> Result<(), AllocError>
     ensures jobs { jobs.new.entries ≡ jobs.old.entries }
     ensures slots { jobs.old.room ≤ jobs.new.room }
     ensures led { (d n : ℕ) → LeadsTo uniques.old d n → LeadsTo uniques.new d n }
     ensures ids { uniques.old.room ≤ uniques.new.room }
     ensures listed { AllListed jobs.old.entries deadlines.old → AllListed jobs.old.entries deadlines.new }
-    ensures heard { (c n : ℕ) → IsSome (find_job jobs.old.entries n) → Heard listening.old c n → Heard listening.new c n }
-    ensures pending { listening.old.pending ≡ None → listening.new.pending ≡ None }
-    ensures ok { OnOk result ((0 < jobs.new.room) × (0 < uniques.new.room) × (listening.new.pending ≡ None)) }
+    ensures ok { OnOk result ((0 < jobs.new.room) × (0 < uniques.new.room)) }
 {
     jobs.reserve_one()?;
     deadlines.reserve(jobs, jobs.len() + 1)?;
-    uniques.reserve_one()?;
-    listening.flush(jobs)
+    uniques.reserve_one()
 }
 
 impl Jobs {
@@ -125,9 +99,9 @@ impl Jobs {
             seed,
             first: first_job,
             next: Some(first_job),
-            jobs: JobMap::new(alloc, &seed)?,
+            jobs: JobMap::new(alloc, &seed),
             uniques: Uniques::new(alloc, &seed),
-            listening: Listening::new(alloc),
+            index: Index::new(alloc)?,
             deadlines: Deadlines::new(alloc),
             reservation: None,
         })
@@ -144,14 +118,23 @@ impl Jobs {
             return Err(JobError::NumbersSpent);
         };
         let reservation = Reservation::new(self.alloc, f, unique_len, body_len)?;
-        make_room(
-            &mut self.jobs,
-            &mut self.uniques,
-            &mut self.deadlines,
-            &mut self.listening,
-        )?;
+        make_room(&mut self.jobs, &mut self.uniques, &mut self.deadlines)?;
         self.reservation = Some(reservation);
         Ok(())
+    }
+
+    /// Makes room for one job more to which a slot listens.
+    pub fn reserve_listener(&mut self, slot: u32) -> Result<(), AllocError>
+        ensures { self.new ≡ self.old }
+    {
+        self.index.reserve_listener(slot, &self.jobs)
+    }
+
+    /// Makes room for one job more that runs at a slot.
+    pub fn reserve_run(&mut self, slot: u32) -> Result<(), AllocError>
+        ensures { self.new ≡ self.old }
+    {
+        self.index.reserve_run(slot, &self.jobs)
     }
 
     /// Makes a job in the room that is reserved, and gives its number. A shared body takes the place of the one that the
@@ -169,7 +152,7 @@ impl Jobs {
         let job = reservation.fill(self.alloc, new, shared, vacancy.digest);
         self.jobs.insert(number, job);
         self.uniques.insert(new.unique, vacancy.digest, number);
-        self.listening.begin(new.listener, number);
+        self.index.begin(new.listener, new.kept, number);
         number
     }
 
@@ -237,6 +220,7 @@ impl Jobs {
     {
         let _changed = self.jobs.change(n, Change::Assign(slot, deadline));
         self.deadlines.enlist(&self.jobs, n, deadline);
+        self.index.put(Query::RunBy(slot), n);
     }
 
     /// The job waits again, after a try that wasn't its last. A limit of 0 is none.
@@ -245,6 +229,7 @@ impl Jobs {
         ensures { Changes n (given_back limit) self.old self.new }
     {
         let _changed = self.jobs.change(n, Change::GiveBack(limit));
+        self.index.put_orphan(&self.jobs, n);
     }
 
     /// That was the job's last try: it runs at no slot, and the next tick fails it.
@@ -297,7 +282,8 @@ impl Jobs {
         ensures ok { OnOk result (Changes n (with_listener slot) self.old self.new) }
         ensures err { OnErr result (self.new ≡ self.old) }
     {
-        self.listening.add(&self.jobs, slot, n)?;
+        self.index.reserve_listener(slot, &self.jobs)?;
+        self.index.put(Query::HeardBy(slot), n);
         self.jobs.change(n, Change::Listen(slot))
     }
 
@@ -305,27 +291,26 @@ impl Jobs {
     pub fn leave(&mut self, slot: u32)
         ensures { Leaves slot self.old self.new }
     {
-        let (list, pending) = self.listening.take(slot);
-        leave_all(&mut self.jobs, list.numbers(), slot);
-        leave_maybe(&mut self.jobs, pending, slot);
+        self.index.leave(slot, &mut self.jobs);
     }
 
     /// The least number above `after` of a job that runs at the slot.
-    pub fn next_run_by(&self, slot: u32, after: u64) -> Option<u64>
-        ensures next { IfSome result (IsNext (is_run_by slot) after self.now.live) }
-        ensures last { IfNone result (IsLast (is_run_by slot) after self.now.live) }
+    pub fn next_run_by(&mut self, slot: u32, after: u64) -> Option<u64>
+        ensures next { IfSome result (IsNext (is_run_by slot) after self.old.live) }
+        ensures last { IfNone result (IsLast (is_run_by slot) after self.old.live) }
+        ensures kept { self.new ≡ self.old }
     {
-        self.jobs
-            .next(slot as usize % ORPHANS, Query::RunBy(slot), after)
+        self.index.next_run_by(slot, &self.jobs, after)
     }
 
     /// The least number above `after` of a job that waits though nobody wants it: it isn't kept, and nobody
     /// listens.
-    pub fn next_orphan(&self, after: u64) -> Option<u64>
-        ensures next { IfSome result (IsNext is_orphan after self.now.live) }
-        ensures last { IfNone result (IsLast is_orphan after self.now.live) }
+    pub fn next_orphan(&mut self, after: u64) -> Option<u64>
+        ensures next { IfSome result (IsNext is_orphan after self.old.live) }
+        ensures last { IfNone result (IsLast is_orphan after self.old.live) }
+        ensures kept { self.new ≡ self.old }
     {
-        self.jobs.next(ORPHANS, Query::Orphan, after)
+        self.index.next_orphan(&self.jobs, after)
     }
 
     /// The least number above `after` of a running job whose deadline is reached.

@@ -1,18 +1,18 @@
 //! The live jobs of a job server.
 //!
 //! A job has a number, and is live from when it is made until it ends. `Jobs` finds a job by its number, and by
-//! its function and unique id; it knows its listeners, where it runs and until when. Beside the jobs are
-//! the deadlines of those that run, and for each slot the jobs that it listens to. The jobs that run at a slot are
-//! linked to one another in the order of their numbers, and so are those that nobody wants. So the next of them is
-//! found without a look at other jobs.
+//! its function and unique id; it knows its listeners, where it runs and until when. Beside the jobs are hints: for each
+//! slot the numbers of the jobs that run there and of those to which it listens, those of the jobs that nobody wants, and
+//! the deadlines. A hint is compared with its job, so it may be old; but a job without one is in none of these lists, so
+//! the next job is found without a look at others.
 #![tactic(auto)]
 
 mod by_number;
 mod deadlines;
+mod hints;
+mod index;
 mod job;
 mod jobs;
-mod listening;
-mod lists;
 mod min_heap;
 mod surface;
 mod uniques;

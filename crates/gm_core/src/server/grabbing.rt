@@ -42,6 +42,7 @@ impl Tables {
             (record { function = name_at self.old.functions.names found.function; priority = live.priority; unique = live.unique; body = live.body }))) }
         ensures tables { KeepsTables self.old self.new }
     {
+        self.jobs.reserve_run(slot)?;
         let handle = handle(self.alloc, &self.config, found.pick.job)?;
         let job = self.jobs.by_number(found.pick.job).unwrap();
         let view = JobRef {

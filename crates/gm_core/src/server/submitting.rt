@@ -271,6 +271,7 @@ impl Tables {
         ensures err { OnErr result (AddsNone self.old self.new) }
     {
         let (shared, body) = asked.body.keep();
+        self.jobs.reserve_listener(slot)?;
         match self.jobs.reserve(f, asked.unique.len(), body.len()) {
             Ok(()) => {}
             Err(JobError::Memory) => return Err(AllocError),

@@ -2,9 +2,8 @@ use Rattle.std.proofs.Common.{ℕ, Option, slice_get, sym, ap, ◌∙◌}
 use Rattle.std.specs.Option.{option_map}
 use Rattle.gm_jobs.specs.Live.{Live}
 use Rattle.gm_jobs.specs.Tables.{find_job}
-use Rattle.gm_jobs.specs.declared.lists.Entry.{Entry}
-use Rattle.gm_jobs.specs.Links.{card, held}
-use Rattle.gm_jobs.specs.ByNumber.{JobTable}
+use Rattle.gm_jobs.specs.declared.by_number.Entry.{Entry}
+use Rattle.gm_jobs.specs.ByNumber.{JobTable, card, held}
 use Rattle.gm_jobs.proofs.EntryLemmas.{find_here, all_there, get_all, named}
 use Rattle.gm_jobs.proofs.by_number.JobMap.at.Goals as goal
 
@@ -13,19 +12,19 @@ returns-in-Some-get-clause-entry c =
     let t = c.self.inside in
     ap (λ (o : Option Entry). option_map (λ (q : ℕ × Live). (c.in-Some.number.now, q.1)) (card o)) c.in-Some-get.ensures
     ∙ ap (named (held t.slab)) c.in-Some.ensures.entry
-    ∙ sym (get_all (held t.slab) t.keys.entries (all_there (held t.slab) t.keys.entries c.self.invariant.0.indexed) c.args.i)
+    ∙ sym (get_all (held t.slab) t.keys.entries (all_there (held t.slab) t.keys.entries c.self.invariant) c.args.i)
     ∙ ap (λ (s : JobTable). slice_get s.entries c.args.i) c.self.view_is
 
 pub returns-in-None-clause-entry : goal.returns-in-None-clause-entry
 returns-in-None-clause-entry c =
     let t = c.self.inside in
     ap (named (held t.slab)) c.in-None.ensures.entry
-    ∙ sym (get_all (held t.slab) t.keys.entries (all_there (held t.slab) t.keys.entries c.self.invariant.0.indexed) c.args.i)
+    ∙ sym (get_all (held t.slab) t.keys.entries (all_there (held t.slab) t.keys.entries c.self.invariant) c.args.i)
     ∙ ap (λ (s : JobTable). slice_get s.entries c.args.i) c.self.view_is
 
 pub returns-in-Some-get-clause-live : goal.returns-in-Some-get-clause-live
 returns-in-Some-get-clause-live c =
     let t = c.self.inside in
     sym (ap (λ (s : JobTable). find_job s.entries c.in-Some.number.now) c.self.view_is)
-    ∙ find_here t.keys.entries (held t.slab) c.self.invariant.0.indexed c.in-Some.number.now c.in-Some.key.now c.in-Some.ensures.value
+    ∙ find_here t.keys.entries (held t.slab) c.self.invariant c.in-Some.number.now c.in-Some.key.now c.in-Some.ensures.value
     ∙ sym (ap (λ (o : Option Entry). option_map (λ (q : ℕ × Live). q.1) (card o)) c.in-Some-get.ensures)

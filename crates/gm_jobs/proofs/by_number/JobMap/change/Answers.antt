@@ -2,35 +2,27 @@ use Rattle.std.proofs.Common.{inl, inr, sym, ap, subst, ◌∙◌}
 use Rattle.gm_jobs.specs.Live.{Live}
 use Rattle.gm_jobs.specs.Tables.{find_job}
 use Rattle.gm_jobs.specs.Changes.{changed, ChangesJob}
-use Rattle.gm_jobs.specs.Links.{held}
-use Rattle.gm_jobs.specs.ByNumber.{JobTable, jobs_of, Changed, IsIndexed}
-use Rattle.gm_jobs.proofs.EntryLemmas.{find_none, indexed_changed, changes_job, changes_none, unique_of}
+use Rattle.gm_jobs.specs.ByNumber.{JobTable, held, jobs_of, Changed, IsIndexed}
+use Rattle.gm_jobs.proofs.EntryLemmas.{find_none, indexed_changed, changes_job, changes_none}
 use Rattle.gm_jobs.proofs.NumberLemmas.{either, on_ok, on_ok_map}
 use Rattle.gm_jobs.proofs.by_number.JobMap.change.Goals as goal
 use Rattle.gm_jobs.proofs.by_number.JobMap.change.Goals.{After-change_at}
 
-pub change_at-requires-clause-there : goal.change_at-requires-clause-there
-change_at-requires-clause-there c = c.self.invariant.0.indexed.leads c.args.number c.in-Some.key.now (sym c.in-Some.ensures.value)
-
-pub change_at-requires-clause-unique : goal.change_at-requires-clause-unique
-change_at-requires-clause-unique c = unique_of c.self.inside.keys.entries (held c.self.inside.slab) c.self.invariant.0.indexed
-
 module _ (c : After-change_at) (f : Live → Live) (change : Changed c.in-Some.key.now f c.self.inside.slab c.change_at.new.slab) where
   indexed : IsIndexed c.self.inside.keys.entries (held c.change_at.new.slab)
-  indexed = indexed_changed c.self.inside.keys.entries (held c.self.inside.slab) c.self.invariant.0.indexed c.args.number c.in-Some.key.now (held c.change_at.new.slab) change.others (sym c.in-Some.ensures.value) f change.here
+  indexed = indexed_changed c.self.inside.keys.entries (held c.self.inside.slab) c.self.invariant c.args.number c.in-Some.key.now (held c.change_at.new.slab) change.others (sym c.in-Some.ensures.value) f change.here
 
   changes : ChangesJob c.args.number f c.args.self.now.entries (jobs_of c.self.inside.keys.entries (held c.change_at.new.slab))
   changes = subst (λ (s : JobTable). ChangesJob c.args.number f s.entries (jobs_of c.self.inside.keys.entries (held c.change_at.new.slab))) c.self.view_is
-      (changes_job c.self.inside.keys.entries (held c.self.inside.slab) c.self.invariant.0.indexed c.args.number c.in-Some.key.now (held c.change_at.new.slab) change.others (sym c.in-Some.ensures.value) f change.here)
+      (changes_job c.self.inside.keys.entries (held c.self.inside.slab) c.self.invariant c.args.number c.in-Some.key.now (held c.change_at.new.slab) change.others (sym c.in-Some.ensures.value) f change.here)
 
 pub invariant_of-self : goal.invariant_of-self
 invariant_of-self c =
     let d = (goal.at.invariant_of-self c).After-change_at in
-    let indexed' = elim (either c.change_at.result c.change_at.ensures.ok c.change_at.ensures.err) as (λ _. IsIndexed c.self.inside.keys.entries (held c.change_at.new.slab)) [
+    elim (either c.change_at.result c.change_at.ensures.ok c.change_at.ensures.err) [
       | inl change ↦ indexed d (changed c.args.change) change
       | inr same ↦ indexed d (λ live. live) same
-    ] in
-    (record { indexed = indexed'; linked = c.change_at.ensures.lists.linked }, c.change_at.ensures.lists.lists)
+    ]
 
 pub returns-in-Some-clause-ok : goal.returns-in-Some-clause-ok
 returns-in-Some-clause-ok c =
@@ -45,9 +37,9 @@ returns-in-Some-clause-free c =
 pub returns-in-None-clause-ok : goal.returns-in-None-clause-ok
 returns-in-None-clause-ok c =
     let t = c.self.inside in
-    changes_none c.args.number (changed c.args.change) c.args.self.now.entries (sym (ap (λ (s : JobTable). find_job s.entries c.args.number) c.self.view_is) ∙ find_none t.keys.entries (held t.slab) c.self.invariant.0.indexed c.args.number (sym c.in-None.ensures.value))
+    changes_none c.args.number (changed c.args.change) c.args.self.now.entries (sym (ap (λ (s : JobTable). find_job s.entries c.args.number) c.self.view_is) ∙ find_none t.keys.entries (held t.slab) c.self.invariant c.args.number (sym c.in-None.ensures.value))
 
 pub returns-in-None-clause-free : goal.returns-in-None-clause-free
 returns-in-None-clause-free c =
     let t = c.self.inside in
-    λ free. changes_none c.args.number (changed c.args.change) c.args.self.now.entries (sym (ap (λ (s : JobTable). find_job s.entries c.args.number) c.self.view_is) ∙ find_none t.keys.entries (held t.slab) c.self.invariant.0.indexed c.args.number (sym c.in-None.ensures.value))
+    λ free. changes_none c.args.number (changed c.args.change) c.args.self.now.entries (sym (ap (λ (s : JobTable). find_job s.entries c.args.number) c.self.view_is) ∙ find_none t.keys.entries (held t.slab) c.self.invariant c.args.number (sym c.in-None.ensures.value))

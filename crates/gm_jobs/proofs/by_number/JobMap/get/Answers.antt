@@ -3,9 +3,8 @@ use Rattle.std.specs.Option.{option_map}
 use Rattle.std.proofs.Common.{ℕ, Option}
 use Rattle.gm_jobs.specs.Live.{Live}
 use Rattle.gm_jobs.specs.Tables.{find_job}
-use Rattle.gm_jobs.specs.declared.lists.Entry.{Entry}
-use Rattle.gm_jobs.specs.Links.{card, held}
-use Rattle.gm_jobs.specs.ByNumber.{JobTable}
+use Rattle.gm_jobs.specs.declared.by_number.Entry.{Entry}
+use Rattle.gm_jobs.specs.ByNumber.{JobTable, card, held}
 use Rattle.gm_jobs.proofs.EntryLemmas.{find_here, find_none}
 use Rattle.gm_jobs.proofs.by_number.JobMap.get.Goals as goal
 
@@ -13,10 +12,10 @@ pub returns-in-Some-get : goal.returns-in-Some-get
 returns-in-Some-get c =
     let t = c.self.inside in
     ap (λ (o : Option Entry). option_map (λ (q : ℕ × Live). q.1) (card o)) c.in-Some-get.ensures
-    ∙ sym (find_here t.keys.entries (held t.slab) c.self.invariant.0.indexed c.args.number c.in-Some.key.now (sym c.in-Some.ensures.value))
+    ∙ sym (find_here t.keys.entries (held t.slab) c.self.invariant c.args.number c.in-Some.key.now (sym c.in-Some.ensures.value))
     ∙ ap (λ (s : JobTable). find_job s.entries c.args.number) c.self.view_is
 
 pub returns-in-None : goal.returns-in-None
 returns-in-None c =
     let t = c.self.inside in
-    sym (find_none t.keys.entries (held t.slab) c.self.invariant.0.indexed c.args.number (sym c.in-None.ensures.value)) ∙ ap (λ (s : JobTable). find_job s.entries c.args.number) c.self.view_is
+    sym (find_none t.keys.entries (held t.slab) c.self.invariant c.args.number (sym c.in-None.ensures.value)) ∙ ap (λ (s : JobTable). find_job s.entries c.args.number) c.self.view_is

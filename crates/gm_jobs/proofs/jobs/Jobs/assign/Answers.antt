@@ -1,5 +1,6 @@
-use Rattle.std.proofs.Common.{inl, refl, sym, ap, ◌∙◌}
+use Rattle.std.proofs.Common.{refl, sym, ap, ◌∙◌}
 use Rattle.gm_jobs.specs.Live.{Live, assigned}
+use Rattle.gm_jobs.proofs.HintLemmas.{assigned_found}
 use Rattle.gm_jobs.proofs.JobLemmas.{beside, kept_changed, listed_of, listed_others, this_job, mapped}
 use Rattle.gm_jobs.proofs.jobs.Jobs.assign.Goals as goal
 
@@ -18,5 +19,5 @@ enlist-requires-clause-this c = λ live found.
 pub invariant_of-self : goal.invariant_of-self
 invariant_of-self c =
     let t = c.self.inside in
-    kept_changed (beside t) c.args.n (assigned c.args.slot c.args.deadline) t.jobs.entries c.change-changed.new.self.entries t.listening c.enlist.new.self t.reservation _ _ c.self.invariant
-    (c.change-changed.ensures.free refl) (λ l. refl) (λ l. refl) c.change-changed.ensures.room (λ d m s h. h) (λ l d there. inl there) (λ e. e) c.enlist.ensures
+    kept_changed (beside t) c.args.n (assigned c.args.slot c.args.deadline) t.jobs.entries c.change-changed.new.self.entries c.put.new.self c.enlist.new.self t.reservation _ _ c.self.invariant
+    (c.change-changed.ensures.free refl) (λ l. refl) (λ l. refl) c.change-changed.ensures.room (λ q m s h. c.put.ensures.kept q m h) (λ q l at met. assigned_found c.put.new.self c.args.n c.args.slot c.args.deadline c.put.ensures.stands q l met) c.enlist.ensures

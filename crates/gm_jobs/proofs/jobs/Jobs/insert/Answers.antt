@@ -4,10 +4,12 @@ use Rattle.gm_notes.specs.Jobs.{joins}
 use Rattle.gm_jobs.specs.Live.{Live, is_named}
 use Rattle.gm_jobs.specs.Tables.{Room, Table, find_job, passes}
 use Rattle.gm_jobs.specs.Kept.{IsReady, IsKept}
-use Rattle.gm_jobs.specs.Listening.{Heard}
+use Rattle.gm_jobs.specs.declared.job.Query.{Query}
+use Rattle.gm_jobs.specs.Queries.{meets}
+use Rattle.gm_jobs.specs.Hints.{IsHinted, hints_of}
 use Rattle.gm_jobs.specs.Uniques.{LeadsTo, digest_of}
 use Rattle.gm_jobs.proofs.UniqueLemmas.{leads_same}
-use Rattle.gm_jobs.proofs.JobLemmas.{beside, kept_made, next_absent, next_is, listed_heard}
+use Rattle.gm_jobs.proofs.JobLemmas.{beside, kept_made, next_absent, next_is}
 use Rattle.gm_jobs.proofs.jobs.Jobs.insert.Goals as goal
 use Rattle.gm_jobs.proofs.jobs.Jobs.insert.Goals.{After-begin}
 
@@ -38,10 +40,9 @@ made_led c good =
     (sym (ap (λ (l : Live). l.function) c.fill-job.ensures)) (sym unique) (sym (number c))
     (subst (λ d. LeadsTo c.insert-2.new.self d c.unwrap-number.result) digest (c.insert-2.ensures.stands named))
 
-made_heard : (c : After-begin) (s : ℕ) → Contains c.fill-job.result.listeners s → Heard c.begin.new.self s (beside c.self.inside).next
-made_heard c s there =
-    subst (λ i. Heard c.begin.new.self s i) (sym (number c))
-    (listed_heard c.args.new.listener c.begin.new.self s c.unwrap-number.result (subst (λ (l : Live). Contains l.listeners s) c.fill-job.ensures there) c.begin.ensures.stands)
+made_found : (c : After-begin) (q : Query) → meets q c.fill-job.result ≡ true → IsHinted (hints_of c.begin.new.self q) (beside c.self.inside).next
+made_found c q met =
+    subst (λ i. IsHinted (hints_of c.begin.new.self q) i) (sym (number c)) (c.begin.ensures.stands q c.args.new.f c.args.new.p c.args.new.unique.now _ (sym (ap (meets q) c.fill-job.ensures) ∙ met))
 
 made_single : (c : After-begin) (m : ℕ) (live : Live) → joins c.fill-job.result.unique ≡ true → find_job c.self.inside.jobs.entries m ≡ Some live → is_named c.fill-job.result.function c.fill-job.result.unique live ≡ true → ⊥
 made_single c m live good found named =
@@ -56,7 +57,7 @@ invariant_of-self c =
     let d = (goal.at.invariant_of-self c).After-begin in
     let t = c.self.inside in
     let next : unwrap_or c.checked_add-self-inside.result (2 ^ 64) ≡ (beside t).next + 1 = next_is c.checked_add-self-inside.result c.unwrap-number.result c.checked_add-self-inside.ensures (omega arith) ∙ ap (λ i. i + 1) (sym (number d)) in
-    subst (λ i. IsKept (record (beside t) { next = i; left = is_some c.checked_add-self-inside.result; uniques = c.insert-2.new.self; listening = c.begin.new.self }) c.take.new.self c.insert.new.self.room c.insert.new.self.entries) (sym next)
-    (subst (λ (r : Option Room). IsKept (record (beside t) { next = (beside t).next + 1; left = is_some c.checked_add-self-inside.result; uniques = c.insert-2.new.self; listening = c.begin.new.self }) r c.insert.new.self.room c.insert.new.self.entries) (sym c.take.ensures.after)
+    subst (λ i. IsKept (record (beside t) { next = i; left = is_some c.checked_add-self-inside.result; uniques = c.insert-2.new.self; index = c.begin.new.self }) c.take.new.self c.insert.new.self.room c.insert.new.self.entries) (sym next)
+    (subst (λ (r : Option Room). IsKept (record (beside t) { next = (beside t).next + 1; left = is_some c.checked_add-self-inside.result; uniques = c.insert-2.new.self; index = c.begin.new.self }) r c.insert.new.self.room c.insert.new.self.entries) (sym c.take.ensures.after)
     (kept_made (beside t) t.jobs.entries c.fill-job.result c.insert.new.self.entries (adds d) (is_some c.checked_add-self-inside.result) t.reservation c.unwrap-reservation.result t.jobs.room c.insert.new.self.room c.insert-2.new.self c.begin.new.self
-    c.self.invariant (ready d) (made_led d) c.insert-2.ensures.kept c.begin.ensures.kept (made_heard d) (ap (λ (l : Live). l.live_place) c.fill-job.ensures) (made_single d)))
+    c.self.invariant (ready d) (made_led d) c.insert-2.ensures.kept c.begin.ensures.kept (made_found d) (ap (λ (l : Live). l.live_place) c.fill-job.ensures) (made_single d)))

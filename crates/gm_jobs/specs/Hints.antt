@@ -1,0 +1,68 @@
+-- What is kept of which jobs are worth a look.
+use Rattle.std.specs.Prelude.{◌≡◌, ℕ, ◌<◌, Bool, true, false, List, [], Contains, slice_index_or, Option, Some, None, min}
+use Rattle.gm_jobs.specs.declared.job.Query.{Query}
+use Rattle.gm_jobs.specs.declared.job.Query.TheVariants.{Orphan, RunBy, HeardBy, Due, Started, Live as Lives}
+use Rattle.gm_jobs.specs.Live.{Live}
+use Rattle.gm_jobs.specs.Tables.{find_job, passes}
+use Rattle.gm_jobs.specs.Queries.{meets}
+
+-- numbers of jobs, and whether none is missing
+pub record HintList : Type 0 where
+  pub numbers : List ℕ
+  pub whole : Bool
+
+abbrev pub missing : HintList
+missing = record { numbers = []; whole = false }
+
+-- the number is there, unless some are missing
+abbrev pub IsHinted : HintList → ℕ → Type 0
+IsHinted hints n = hints.whole ≡ true → Contains hints.numbers n
+
+-- so it is with each job that passes
+abbrev pub AllHinted : (Live → Bool) → List (ℕ × Live) → HintList → Type 0
+AllHinted test jobs hints = (n : ℕ) → passes test (find_job jobs n) ≡ true → IsHinted hints n
+
+-- No such number is lost.
+pub record KeepsHints (Stays : ℕ → Type 0) (old new : HintList) : Type 0 where
+  pub whole : new.whole ≡ true → old.whole ≡ true
+  pub numbers : (n : ℕ) → Stays n → Contains old.numbers n → Contains new.numbers n
+
+-- no job of these numbers above `after` passes
+abbrev pub NoneMet : (Live → Bool) → ℕ → List (ℕ × Live) → List ℕ → Type 0
+NoneMet test after jobs numbers = (n : ℕ) → Contains numbers n → after < n → passes test (find_job jobs n) ≡ false
+
+-- the least of these numbers above `after` whose job passes
+pub record IsFirstMet (test : Live → Bool) (after : ℕ) (jobs : List (ℕ × Live)) (numbers : List ℕ) (n : ℕ) : Type 0 where
+  pub above : after < n
+  pub met : passes test (find_job jobs n) ≡ true
+  pub least : (m : ℕ) → Contains numbers m → after < m → m < n → passes test (find_job jobs m) ≡ false
+
+-- the lesser of two numbers, where there are any
+abbrev pub least_of : Option ℕ → Option ℕ → Option ℕ
+least_of None b = b
+least_of (Some a) None = Some a
+least_of (Some a) (Some b) = Some (min a b)
+
+-- ---- for each question
+
+-- for each slot the jobs to which it listens and those that run there, and the jobs that nobody wants
+pub record HintTable : Type 0 where
+  pub heard : List HintList
+  pub runs : List HintList
+  pub orphans : HintList
+
+abbrev pub at_slot : List HintList → ℕ → HintList
+at_slot lists slot = slice_index_or lists slot missing
+
+-- where the jobs that are asked for are hinted at
+abbrev pub hints_of : HintTable → Query → HintList
+hints_of table Orphan = table.orphans
+hints_of table (RunBy slot) = at_slot table.runs slot
+hints_of table (HeardBy slot) = at_slot table.heard slot
+hints_of table (Due now) = missing
+hints_of table Started = missing
+hints_of table Lives = missing
+
+-- each job is found by each question that it meets
+abbrev pub AllFound : List (ℕ × Live) → HintTable → Type 0
+AllFound jobs table = (q : Query) → AllHinted (meets q) jobs (hints_of table q)
