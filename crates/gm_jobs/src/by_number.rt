@@ -1,6 +1,6 @@
 //! The jobs by their numbers.
 
-ghost use Rattle.std.specs.Prelude.{◌≡◌, ℕ, ◌+◌, ◌<◌, ◌≤◌, ◌^◌, ◌==◌, if◌then◌else◌, false, [], length, slice_get, is_some, Some, None, IfSome, IsOk, IfOk, OnOk, OnErr};
+ghost use Rattle.std.specs.Prelude.{◌≡◌, ℕ, ◌+◌, ◌<◌, ◌≤◌, ◌^◌, ◌==◌, if◌then◌else◌, false, [], length, slice_get, Some, None, IfSome, IsOk, OnOk, OnErr};
 ghost use Rattle.std.specs.Option.{option_copied, option_map};
 ghost use Rattle.gm_jobs.specs.Tables.{find_job};
 ghost use Rattle.gm_jobs.specs.Changes.{CanBeTold, changed, takes_memory, ChangesJob};
@@ -125,13 +125,6 @@ impl JobMap {
             },
             None => None,
         }
-    }
-
-    /// Whether a job of this number is live.
-    pub(crate) fn contains(&self, number: u64) -> bool
-        ensures { result ≡ is_some (find_job self.now.entries number) }
-    {
-        self.get(number).is_some()
     }
 
     /// The job at this position among all, in no particular order, with its number.

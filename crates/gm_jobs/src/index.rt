@@ -142,18 +142,15 @@ impl Index {
         }
     }
 
-    /// Makes room for one job more to which a slot listens.
-    pub(crate) fn reserve_listener(&mut self, slot: u32, jobs: &JobMap) -> Result<(), AllocError>
+    /// Makes room for one job more that runs at a slot, or to which the slot listens.
+    pub(crate) fn reserve(&mut self, query: Query, jobs: &JobMap) -> Result<(), AllocError>
         ensures { (q : Asked) (n : ℕ) → IsSome (find_job jobs.now.entries n) → IsHinted (hints_of self.old q) n → IsHinted (hints_of self.new q) n }
     {
-        reserve_at(&mut self.heard, slot, jobs)
-    }
-
-    /// Makes room for one job more that runs at a slot.
-    pub(crate) fn reserve_run(&mut self, slot: u32, jobs: &JobMap) -> Result<(), AllocError>
-        ensures { (q : Asked) (n : ℕ) → IsSome (find_job jobs.now.entries n) → IsHinted (hints_of self.old q) n → IsHinted (hints_of self.new q) n }
-    {
-        reserve_at(&mut self.runs, slot, jobs)
+        match query {
+            Query::RunBy(slot) => reserve_at(&mut self.runs, slot, jobs),
+            Query::HeardBy(slot) => reserve_at(&mut self.heard, slot, jobs),
+            Query::Orphan | Query::Due(_) | Query::Started | Query::Live => Ok(()),
+        }
     }
 
     /// The least number above `after` of a job that runs at a slot.
@@ -199,7 +196,6 @@ impl Index {
     {
         let mut hints = self.take(slot);
         leave_each(jobs, &mut hints, slot);
-        hints.keep(jobs, Query::Orphan);
         self.orphans.join(hints);
     }
 }

@@ -127,14 +127,14 @@ impl Jobs {
     pub fn reserve_listener(&mut self, slot: u32) -> Result<(), AllocError>
         ensures { self.new ≡ self.old }
     {
-        self.index.reserve_listener(slot, &self.jobs)
+        self.index.reserve(Query::HeardBy(slot), &self.jobs)
     }
 
     /// Makes room for one job more that runs at a slot.
     pub fn reserve_run(&mut self, slot: u32) -> Result<(), AllocError>
         ensures { self.new ≡ self.old }
     {
-        self.index.reserve_run(slot, &self.jobs)
+        self.index.reserve(Query::RunBy(slot), &self.jobs)
     }
 
     /// Makes a job in the room that is reserved, and gives its number. A shared body takes the place of the one that the
@@ -282,7 +282,7 @@ impl Jobs {
         ensures ok { OnOk result (Changes n (with_listener slot) self.old self.new) }
         ensures err { OnErr result (self.new ≡ self.old) }
     {
-        self.index.reserve_listener(slot, &self.jobs)?;
+        self.index.reserve(Query::HeardBy(slot), &self.jobs)?;
         self.index.put(Query::HeardBy(slot), n);
         self.jobs.change(n, Change::Listen(slot))
     }

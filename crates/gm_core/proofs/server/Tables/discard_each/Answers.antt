@@ -1,7 +1,8 @@
-use Rattle.std.proofs.Common.{refl, subst, ◌∙◌}
+use Rattle.std.proofs.Common.{refl, sym, subst, ◌∙◌}
 use Rattle.gm_notes.specs.Past.{Past}
-use Rattle.gm_notes.specs.Closings.{discard_each, discard_one}
+use Rattle.gm_notes.specs.Closings.{discard_each, discard_one, rising}
 use Rattle.gm_jobs.specs.Live.{is_orphan}
+use Rattle.gm_jobs.specs.Tables.{Table}
 use Rattle.gm_core.proofs.ConnLemmas.{touched_same, touched_then}
 use Rattle.gm_core.specs.Holds.{Keeps}
 use Rattle.gm_actions.proofs.JobsMade.{discard_made}
@@ -24,7 +25,7 @@ loop-job-preserved c = record {
       let n = c.in-Some.job in
       rising_on discard_each discard_one (λ p. refl) (λ n jobs p. refl) is_orphan c.args.self.now c.loop-job.self c.loop-job.invariant.config c.loop-job.after past t
       (λ m e. stays_so c.loop-job.self t.now t.keeps m e) c.discard.new.self n c.in-Some.ensures.next
-      (subst (λ (p : Past). Keeps c.discard.new.self p) (discards_so c.loop-job.self t.now t.keeps n c.in-Some.ensures.next.found) (c.discard.ensures.past t.now t.keeps)) (discard_made n t.now);
+      (subst (λ (p : Past). Keeps c.discard.new.self p) (discards_so c.loop-job.self t.now t.keeps n c.in-Some.ensures.next.found) (c.discard.ensures.past t.now (subst (λ (jobs : Table). Keeps (record c.loop-job.self { jobs = jobs }) t.now) (sym c.in-Some.ensures.kept) t.keeps))) (discard_made n t.now);
 }
 
 pub returns : goal.returns
@@ -33,6 +34,7 @@ returns c = record {
   others = c.loop-job.invariant.others;
   past = λ past keeps.
       let t = c.loop-job.invariant.past past keeps in
-      rising_done discard_each discard_one (λ p. refl) (λ n jobs p. refl) is_orphan c.args.self.now c.loop-job.self c.loop-job.invariant.config c.loop-job.after past t
-      (λ m e. stays_so c.loop-job.self t.now t.keeps m e) c.in_default.ensures.last;
+      subst (λ (jobs : Table). Keeps (record c.loop-job.self { jobs = jobs }) (discard_each (rising past) past)) (sym c.in_default.ensures.kept)
+      (rising_done discard_each discard_one (λ p. refl) (λ n jobs p. refl) is_orphan c.args.self.now c.loop-job.self c.loop-job.invariant.config c.loop-job.after past t
+      (λ m e. stays_so c.loop-job.self t.now t.keeps m e) c.in_default.ensures.last);
 }

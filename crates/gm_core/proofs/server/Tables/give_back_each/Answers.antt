@@ -1,7 +1,8 @@
-use Rattle.std.proofs.Common.{refl, subst, ◌∙◌}
+use Rattle.std.proofs.Common.{refl, sym, subst, ◌∙◌}
 use Rattle.gm_notes.specs.Settings.{Settings}
-use Rattle.gm_notes.specs.Closings.{give_back_each, give_back_one}
+use Rattle.gm_notes.specs.Closings.{give_back_each, give_back_one, rising}
 use Rattle.gm_jobs.specs.Live.{is_run_by}
+use Rattle.gm_jobs.specs.Tables.{Table}
 use Rattle.gm_core.proofs.ConnLemmas.{touched_same, touched_then}
 use Rattle.gm_core.specs.Holds.{Keeps}
 use Rattle.gm_actions.proofs.JobsMade.{give_back_made}
@@ -30,7 +31,7 @@ loop-job-preserved c =
           let t = c.loop-job.invariant.past past keeps in
           rising_on (give_back_each k slot) (give_back_one k slot) (λ p. refl) (λ n jobs p. refl) (is_run_by slot) c.args.self.now c.loop-job.self c.loop-job.invariant.config c.loop-job.after past t
           (λ m e. runs_on c.loop-job.self t.now t.keeps m k slot e) c.give_back_one.new.self n c.in-Some.ensures.next
-          (subst (λ (x : Settings). Keeps c.give_back_one.new.self (give_back_one x slot n t.now)) c.loop-job.invariant.config (c.give_back_one.ensures.past t.now t.keeps)) (give_back_made k slot n t.now);
+          (subst (λ (x : Settings). Keeps c.give_back_one.new.self (give_back_one x slot n t.now)) c.loop-job.invariant.config (c.give_back_one.ensures.past t.now (subst (λ (jobs : Table). Keeps (record c.loop-job.self { jobs = jobs }) t.now) (sym c.in-Some.ensures.kept) t.keeps))) (give_back_made k slot n t.now);
     }
 
 pub returns : goal.returns
@@ -42,6 +43,7 @@ returns c =
       others = c.loop-job.invariant.others;
       past = λ past keeps.
           let t = c.loop-job.invariant.past past keeps in
-          rising_done (give_back_each k slot) (give_back_one k slot) (λ p. refl) (λ n jobs p. refl) (is_run_by slot) c.args.self.now c.loop-job.self c.loop-job.invariant.config c.loop-job.after past t
-          (λ m e. runs_on c.loop-job.self t.now t.keeps m k slot e) c.in_default.ensures.last;
+          subst (λ (jobs : Table). Keeps (record c.loop-job.self { jobs = jobs }) (give_back_each k slot (rising past) past)) (sym c.in_default.ensures.kept)
+          (rising_done (give_back_each k slot) (give_back_one k slot) (λ p. refl) (λ n jobs p. refl) (is_run_by slot) c.args.self.now c.loop-job.self c.loop-job.invariant.config c.loop-job.after past t
+          (λ m e. runs_on c.loop-job.self t.now t.keeps m k slot e) c.in_default.ensures.last);
     }

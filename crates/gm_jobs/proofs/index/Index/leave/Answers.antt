@@ -17,8 +17,7 @@ returns-clause-found c =
     (λ n met which. elim which [
       | inl orphan ↦ c.join.ensures.kept n (subst (λ (l : HintList). IsHinted l n) (sym (ap (λ (x : HintTable). x.orphans) c.self.view_is ∙ took.orphans)) orphan)
       | inr heard ↦
-          c.join.ensures.came n (kept_hinted c.leave_each.new.hints c.keep.new.self n c.keep.ensures met
-          (kept_hinted c.take-hints.result c.leave_each.new.hints n c.leave_each.ensures.kept tt (subst (λ (l : HintList). IsHinted l n) (sym took.taken) heard)))
+          c.join.ensures.came n (kept_hinted c.take-hints.result c.leave_each.new.hints n c.leave_each.ensures.kept tt (subst (λ (l : HintList). IsHinted l n) (sym took.taken) heard))
     ])
     (ap (λ (x : HintTable). x.runs) c.self.view_is ∙ took.runs)
     (λ d ne. ap (λ (x : HintTable). at_slot x.heard d) c.self.view_is ∙ took.others d ne)

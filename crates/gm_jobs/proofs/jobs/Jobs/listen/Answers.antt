@@ -13,10 +13,10 @@ use Rattle.gm_jobs.proofs.jobs.Jobs.listen.Goals.{After-put}
 pub invariant_of-self : goal.invariant_of-self
 invariant_of-self c =
     let t = c.self.inside in
-    kept_roomy (beside t) t.jobs.entries c.reserve_listener.new.self t.reservation _ c.self.invariant c.reserve_listener.ensures
+    kept_roomy (beside t) t.jobs.entries c.reserve.new.self t.reservation _ c.self.invariant c.reserve.ensures
 
 more : (c : After-put) (q : Query) (m : ℕ) → IsSome (find_job c.self.inside.jobs.entries m) → IsHinted (hints_of c.self.inside.index q) m → IsHinted (hints_of c.put.new.self q) m
-more c q m live h = c.put.ensures.kept q m (c.reserve_listener.ensures q m live h)
+more c q m live h = c.put.ensures.kept q m (c.reserve.ensures q m live h)
 
 pub invariant_of-self-2 : goal.invariant_of-self-2
 invariant_of-self-2 c =
