@@ -229,6 +229,15 @@ impl Hints {
         next
     }
 
+    /// Gives back the room of a list without numbers.
+    pub(crate) fn release(&mut self, alloc: Global)
+        ensures { self.new ≡ self.old }
+    {
+        if self.numbers.is_empty() {
+            self.numbers = Vec::new(alloc);
+        }
+    }
+
     /// The numbers of another list as well. Where there are some already, these are missing.
     pub(crate) fn join(&mut self, other: Hints)
         ensures kept { (n : ℕ) → IsHinted self.old n → IsHinted self.new n }

@@ -67,7 +67,13 @@ fn reserve_at(lists: &mut Vec<Hints>, slot: u32, jobs: &JobMap) -> Result<(), Al
 }
 
 // The least number above `after` of a job that runs at a slot.
-fn next_run_at(lists: &mut Vec<Hints>, slot: u32, jobs: &JobMap, after: u64) -> Option<u64>
+fn next_run_at(
+    alloc: Global,
+    lists: &mut Vec<Hints>,
+    slot: u32,
+    jobs: &JobMap,
+    after: u64,
+) -> Option<u64>
     requires { (c : ℕ) → AllHinted (is_run_by c) jobs.now.entries (at_slot lists.old.items c) }
     ensures next { IfSome result (IsNext (is_run_by slot) after jobs.now.entries) }
     ensures last { IfNone result (IsLast (is_run_by slot) after jobs.now.entries) }
@@ -78,7 +84,9 @@ fn next_run_at(lists: &mut Vec<Hints>, slot: u32, jobs: &JobMap, after: u64) -> 
         return search(jobs, query, after);
     }
     let list = &mut lists[slot as usize];
-    list.next_or_keep(jobs, query, query, after)
+    let next = list.next_or_keep(jobs, query, query, after);
+    list.release(alloc);
+    next
 }
 
 // The slot doesn't listen any more to the jobs that are hinted at.
@@ -160,7 +168,7 @@ impl Index {
         ensures last { IfNone result (IsLast (is_run_by slot) after jobs.now.entries) }
         ensures kept { AllFound jobs.now.entries self.new }
     {
-        next_run_at(&mut self.runs, slot, jobs, after)
+        next_run_at(self.alloc, &mut self.runs, slot, jobs, after)
     }
 
     /// The least number above `after` of a job that waits though nobody wants it.
