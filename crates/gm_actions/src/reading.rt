@@ -1,13 +1,12 @@
 //! Packets as they come.
 
 ghost use Rattle.std.specs.Prelude.{◌≡◌, ◌≤◌, ℕ, true, false, [], ◌∷◌, Some, IfOk, length};
-ghost use Rattle.std.specs.Option.{ForSome};
 ghost use Rattle.std.specs.Str.{bytes_eq};
 ghost use Rattle.std.specs.Prelude.{codes};
-ghost use Rattle.gm_packet.specs.Answers.{answer_of, work_status};
-ghost use Rattle.gm_packet.specs.Kinds.{kind_of};
+ghost use Rattle.gm_packet.specs.Answers.{answer_of, work_status, work_fail};
+ghost use Rattle.gm_packet.specs.Kinds.{kind_of, Opaque};
 ghost use Rattle.gm_packet.specs.Packets.{has_nul};
-ghost use Rattle.gm_packet.specs.Requests.{request_of};
+ghost use Rattle.gm_packet.specs.Requests.{request_of, Spells};
 ghost use Rattle.gm_packet.specs.Views.{asked_of};
 ghost use Rattle.gm_notes.specs.Settings.{Settings};
 ghost use Rattle.gm_notes.specs.Past.{Past};
@@ -76,36 +75,39 @@ fn report_on<'a>(handle: &'a [u8], numerator: &'a [u8], denominator: &'a [u8]) -
     About { handle, said }
 }
 
-/// A packet about a job that is passed on to its listeners, or only to those with the exceptions option, with this body.
+/// A packet about a job, with this body: it is passed on to the job's listeners, or only to those with the exceptions option, and
+/// may end the job.
 fn pass_on<'a>(
     handle: &'a [u8],
     response: Response<'a>,
-    body: Data<'a>,
+    body: &'a [u8],
+    bytes: &Data<'a>,
     exceptions_only: bool,
+    ends: bool,
 ) -> About<'a>
-    requires { EndsWith body.bytes.now (answer_of response) }
+    requires spelled { Spells (Opaque 1) (handle.now ∷ body.now ∷ []) 0 bytes.now.bytes.now }
+    requires ends { EndsWith body.now (answer_of response) }
     ensures handle { result.handle.now ≡ handle.now }
-    ensures work { work_of result.said ≡ record (passing (answer_of response.entry)) { exceptions_only = exceptions_only } }
+    ensures work { work_of result.said ≡ record (passing (answer_of response.entry)) { exceptions_only = exceptions_only; ends = ends } }
 {
     let said = Said {
         response,
-        body: Some(body),
+        body: Some(bytes.suffix(body)),
         exceptions_only,
         report: None,
-        ends: false,
+        ends,
     };
     About { handle, said }
 }
 
-/// A packet about a job that ends it, with this body.
-fn end_with<'a>(handle: &'a [u8], response: Response<'a>, body: Option<Data<'a>>) -> About<'a>
-    requires { ForSome body (λ body. EndsWith body.bytes.now (answer_of response)) }
+/// A job has failed, as its worker says.
+fn fail<'a>(handle: &'a [u8]) -> About<'a>
     ensures handle { result.handle.now ≡ handle.now }
-    ensures work { work_of result.said ≡ ending (answer_of response.entry) }
+    ensures work { work_of result.said ≡ ending (work_fail handle.now) }
 {
     let said = Said {
-        response,
-        body,
+        response: Response::WorkFail { handle },
+        body: None,
         exceptions_only: false,
         report: None,
         ends: true,
@@ -159,14 +161,16 @@ fn check_option<'a>(name: &'a [u8]) -> Result<Action<'a>, Refusal>
 fn check_submission<'a>(
     function: &'a [u8],
     unique: &'a [u8],
-    body: Data<'a>,
+    body: &'a [u8],
+    bytes: &Data<'a>,
     priority: Priority,
     background: bool,
 ) -> Result<Action<'a>, Refusal>
-    ensures does { (k : Settings) (c : ℕ) (past : Past) → acted k c result past ≡ submit k c (submission priority background (function.now ∷ unique.now ∷ body.entry.bytes.now ∷ [])) past }
+    requires { Spells (Opaque 2) (function.now ∷ unique.now ∷ body.now ∷ []) 0 bytes.now.bytes.now }
+    ensures does { (k : Settings) (c : ℕ) (past : Past) → acted k c result past ≡ submit k c (submission priority background (function.now ∷ unique.now ∷ body.now ∷ [])) past }
     ensures named { IfOk result IsNamed }
     ensures no_grab { grabs result ≡ false }
-    ensures told { IsCarried function.now unique.now body.entry.bytes.now → IfOk result CanBeTold }
+    ensures told { IsCarried function.now unique.now body.now → IfOk result CanBeTold }
 {
     if is_bad_name(function) {
         Err(Refusal::BadFunction)
@@ -174,11 +178,34 @@ fn check_submission<'a>(
         Ok(Action::Submit(Submission {
             function,
             unique,
-            body,
+            body: bytes.suffix(body),
             priority,
             background,
         }))
     }
+}
+
+/// What a request asks: a row for each submission, with its priority and whether it is a background one; a row for each packet with a
+/// body about a job, with whether it is only for listeners with the exceptions option, and whether it ends the job; and an arm
+/// for each other.
+macro_rules! read_by_kind {
+    ($request:ident, $bytes:ident:
+        submissions { $($submit:ident: $priority:ident, $background:literal;)* }
+        reports { $($report:ident: $exceptions_only:literal, $ends:literal;)* }
+        others { $($other:pat => $action:expr;)* }
+    ) => {
+        match *$request {
+            $(Request::$submit { function, unique, body } => {
+                check_submission(function, unique, body, $bytes, Priority::$priority, $background)
+            })*
+            $(Request::$report { handle, body } => {
+                let response = Response::$report { handle, body };
+                let about = pass_on(handle, response, body, $bytes, $exceptions_only, $ends);
+                Ok(Action::Tell(about))
+            })*
+            $($other => $action,)*
+        }
+    };
 }
 
 /// What a request asks, or why it is refused whatever the server holds.
@@ -190,87 +217,39 @@ fn read_request<'a>(request: &Request<'a>, bytes: &Data<'a>) -> Result<Action<'a
     ensures memory { needs_no_memory (asked_of request.now).kind ≡ true → ActsWithoutMemory result }
     ensures grab { grabs result ≡ is_grab (asked_of request.now).kind }
 {
-    match *request {
-        Request::SubmitJob {
-            function,
-            unique,
-            body,
-        } => check_submission(
-            function,
-            unique,
-            bytes.suffix(body),
-            Priority::Normal,
-            false,
-        ),
-        Request::SubmitJobBg {
-            function,
-            unique,
-            body,
-        } => check_submission(function, unique, bytes.suffix(body), Priority::Normal, true),
-        Request::SubmitJobHigh {
-            function,
-            unique,
-            body,
-        } => check_submission(function, unique, bytes.suffix(body), Priority::High, false),
-        Request::SubmitJobHighBg {
-            function,
-            unique,
-            body,
-        } => check_submission(function, unique, bytes.suffix(body), Priority::High, true),
-        Request::SubmitJobLow {
-            function,
-            unique,
-            body,
-        } => check_submission(function, unique, bytes.suffix(body), Priority::Low, false),
-        Request::SubmitJobLowBg {
-            function,
-            unique,
-            body,
-        } => check_submission(function, unique, bytes.suffix(body), Priority::Low, true),
-        Request::WorkStatus {
-            handle,
-            numerator,
-            denominator,
-        } => Ok(Action::Tell(report_on(handle, numerator, denominator))),
-        Request::WorkData { handle, body } => {
-            let response = Response::WorkData { handle, body };
-            let about = pass_on(handle, response, bytes.suffix(body), false);
-            Ok(Action::Tell(about))
+    read_by_kind! { request, bytes:
+        submissions {
+            SubmitJob: Normal, false;
+            SubmitJobBg: Normal, true;
+            SubmitJobHigh: High, false;
+            SubmitJobHighBg: High, true;
+            SubmitJobLow: Low, false;
+            SubmitJobLowBg: Low, true;
         }
-        Request::WorkWarning { handle, body } => {
-            let response = Response::WorkWarning { handle, body };
-            let about = pass_on(handle, response, bytes.suffix(body), false);
-            Ok(Action::Tell(about))
+        reports {
+            WorkData: false, false;
+            WorkWarning: false, false;
+            WorkException: true, false;
+            WorkComplete: false, true;
         }
-        Request::WorkException { handle, body } => {
-            let response = Response::WorkException { handle, body };
-            let about = pass_on(handle, response, bytes.suffix(body), true);
-            Ok(Action::Tell(about))
+        others {
+            Request::WorkStatus { handle, numerator, denominator } => {
+                Ok(Action::Tell(report_on(handle, numerator, denominator)))
+            };
+            Request::WorkFail { handle } => Ok(Action::Tell(fail(handle)));
+            Request::CanDo { function } => check_can_do(function, 0);
+            Request::CanDoTimeout { function, timeout } => check_can_do(function, timeout);
+            Request::CantDo { function } => check_cant_do(function);
+            Request::ResetAbilities => Ok(Action::ResetAbilities);
+            Request::PreSleep => Ok(Action::PreSleep);
+            Request::GrabJob => Ok(Action::Grab { with_unique: false });
+            Request::GrabJobUniq => Ok(Action::Grab { with_unique: true });
+            Request::GetStatus { handle } => Ok(Action::GetStatus { handle });
+            Request::EchoReq { body } => Ok(Action::Echo { body: bytes.suffix(body) });
+            Request::SetClientId { id } => Ok(Action::SetClientId { id });
+            Request::OptionReq { name } => check_option(name);
+            Request::AllYours => Ok(Action::Nothing);
         }
-        Request::WorkComplete { handle, body } => {
-            let response = Response::WorkComplete { handle, body };
-            let about = end_with(handle, response, Some(bytes.suffix(body)));
-            Ok(Action::Tell(about))
-        }
-        Request::WorkFail { handle } => {
-            let about = end_with(handle, Response::WorkFail { handle }, None);
-            Ok(Action::Tell(about))
-        }
-        Request::CanDo { function } => check_can_do(function, 0),
-        Request::CanDoTimeout { function, timeout } => check_can_do(function, timeout),
-        Request::CantDo { function } => check_cant_do(function),
-        Request::ResetAbilities => Ok(Action::ResetAbilities),
-        Request::PreSleep => Ok(Action::PreSleep),
-        Request::GrabJob => Ok(Action::Grab { with_unique: false }),
-        Request::GrabJobUniq => Ok(Action::Grab { with_unique: true }),
-        Request::GetStatus { handle } => Ok(Action::GetStatus { handle }),
-        Request::EchoReq { body } => {
-            let body = bytes.suffix(body);
-            Ok(Action::Echo { body })
-        }
-        Request::SetClientId { id } => Ok(Action::SetClientId { id }),
-        Request::OptionReq { name } => check_option(name),
-        Request::AllYours => Ok(Action::Nothing),
     }
 }
 
