@@ -1,13 +1,8 @@
 -- The bytes that wait, slot by slot.
-use Rattle.std.proofs.Common.{◌≡◌, ◌≢◌, ℕ, ◌+◌, ◌-◌, ◌*◌, vec_len, vec_capacity, ◌<◌, ◌≤◌, Bool, true, false, refl, subst, List, [], ◌∷◌}
-use Rattle.std.proofs.Common.{◌++◌, length, map, get_or, set, replicate, sym, ap, ◌∙◌, arith, Vec, Global}
-use Rattle.std.proofs.lemmas.List.{map-set, get_or-map, get_or-set_same, get_or-set_other, length-map, length-set, map-append}
+use Rattle.std.proofs.Common.{◌≡◌, ℕ, ◌+◌, ◌<◌, List, [], ◌∷◌, ◌++◌, length, map, get_or, set, replicate, sym, ap, ◌∙◌, arith, Vec, Global}
+use Rattle.std.proofs.lemmas.List.{map-set, get_or-map, length-map, length-set, map-append}
 use Rattle.std.proofs.lemmas.List.{replicate-append-replicate}
-use Rattle.std.proofs.lemmas.Bool.Decides.{nat_tests}
-use Rattle.std.specs.Prelude.{◌==◌}
 use Rattle.std.proofs.Math.Seq.{map-set_same}
-use Rattle.std.proofs.Math.Nat.{mul-suc}
-use Rattle.std.proofs.Math.Numerals.{add-one}
 
 -- the bytes of one of them
 abbrev pub items_of : Vec ℕ Global → List ℕ
@@ -41,40 +36,3 @@ outbox_same f xs ys i old new view is e = map-set_same f xs i new old (e ∙ ap 
 -- their number stays
 pub outboxes_len : {V : Type 0} (f : V → List ℕ) (xs : List V) (ys : List (List ℕ)) (i : ℕ) (new : V) → map f xs ≡ ys → length (map f (set xs i new)) ≡ length ys
 outboxes_len f xs ys i new view = length-map (set xs i new) f ∙ length-set xs i new ∙ sym (length-map xs f) ∙ ap length view
-
--- ---- room
-
--- one of some numbers becomes another that is at most so much less
-room_at-set : (t : Bool) (ys : List ℕ) (i c new k : ℕ) → (c == i) ≡ t → i < length ys → get_or ys i 0 ≤ new + k → get_or ys c 0 ≤ get_or (set ys i new) c 0 + k
-room_at-set true ys i c new k is lt le =
-    let same : i ≡ c = grind (arith, nat_tests) in
-    subst (λ x. get_or ys x 0 ≤ get_or (set ys i new) x 0 + k) same (rw (get_or-set_same ys i new 0 lt) le)
-room_at-set false ys i c new k is lt le =
-    let other : c ≢ i = grind (arith, nat_tests) in
-    rw get_or-set_other (omega arith)
-
-pub room_set : {V : Type 0} (r : V → ℕ) (xs : List V) (i : ℕ) (old new : V) (k : ℕ) → i < length xs → old ≡ get_or xs i old → r old ≤ r new + k
-    → (c : ℕ) → get_or (map r xs) c 0 ≤ get_or (map r (set xs i new)) c 0 + k
-room_set r xs i old new k lt is le c =
-    let before : get_or (map r xs) i 0 ≡ r old = get_or-map r xs i old 0 lt ∙ ap r (sym is) in
-    subst (λ (l : List ℕ). get_or (map r xs) c 0 ≤ get_or l c 0 + k) (sym (map-set r xs i new))
-    (room_at-set (c == i) (map r xs) i c (r new) k refl (omega (arith, length-map xs r)) (subst (λ n. n ≤ r new + k) (sym before) le))
-
-pub room_here : {V : Type 0} (r : V → ℕ) (xs : List V) (i : ℕ) (new : V) → i < length xs → get_or (map r (set xs i new)) i 0 ≡ r new
-room_here r xs i new lt = ap (λ (l : List ℕ). get_or l i 0) (map-set r xs i new) ∙ get_or-set_same (map r xs) i (r new) 0 (omega (arith, length-map xs r))
-
-pub room_before : {V : Type 0} (r : V → ℕ) (xs : List V) (i : ℕ) (old : V) → i < length xs → old ≡ get_or xs i old → get_or (map r xs) i 0 ≡ r old
-room_before r xs i old lt is = get_or-map r xs i old 0 lt ∙ ap r (sym is)
-
-abbrev pub room_of : Vec ℕ Global → ℕ
-room_of outbox = vec_capacity outbox - vec_len outbox
-
-mul_below : (a b m : ℕ) → a ≤ b → m * a ≤ m * b
-mul_below a b m le = grind arith
-
--- after i of n puts of m bytes each there is room for one more
-pub room_left : (m n i start now : ℕ) → i < n → m * n ≤ start → start ≤ now + m * i → m ≤ now
-room_left m n i start now lt all left =
-    let more : m * (i + 1) ≤ m * n = mul_below (i + 1) n m (omega (arith, lt)) in
-    let step : m * (i + 1) ≡ m * i + m = ap (λ x. m * x) (add-one i) ∙ mul-suc m i in
-    omega (arith, more, step, all, left)

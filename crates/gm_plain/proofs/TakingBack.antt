@@ -1,17 +1,14 @@
 -- Notes and bytes that came are taken back.
 use Rattle.std.proofs.Common.{◌≡◌, ◌≢◌, ℕ, zero, suc, ◌+◌, ◌<◌, ◌≤◌, Bool, true, false, List, [], ◌∷◌, ◌++◌, length, map, take, drop}
-use Rattle.std.proofs.Common.{get_or, reverse, Result, Ok, Err, length-set, refl, sym, ap, ap₂, subst, ◌∙◌, arith}
+use Rattle.std.proofs.Common.{get_or, reverse, refl, sym, ap, ap₂, subst, ◌∙◌, arith}
 use Rattle.std.specs.Prelude.{◌==◌, nat_lt}
-use Rattle.std.specs.List.{All}
-use Rattle.std.specs.Result.{OnOk, OnErr}
-use Rattle.std.specs.declared.alloc.AllocError.{AllocError}
 use Rattle.std.proofs.lemmas.Bool.Decides.{nat_tests}
 use Rattle.std.proofs.lemmas.List.{get_or-set_same, get_or-set_other, take-append-le, take_all, take-append-drop, append_assoc}
 use Rattle.std.proofs.lemmas.List.{append-nil, reverse-append, reverse-reverse, length-reverse}
 use Rattle.std.proofs.Math.ListN.{get_or-eq_default}
 use Rattle.gm_notes.specs.declared.note.Note.{Note}
 use Rattle.gm_plain.specs.Logs.{paid, oldest}
-use Rattle.gm_plain.specs.Outboxes.{with_bytes, with_bytes_each, cut_to, AllGrew}
+use Rattle.gm_plain.specs.Outboxes.{with_bytes, cut_to, AllGrew}
 use Rattle.gm_plain.specs.Holds.{Contents, Grows}
 
 -- ---- notes
@@ -102,19 +99,6 @@ given_at false outboxes slot c text is lt =
 
 pub grew_given : (outboxes : List (List ℕ)) (slot : ℕ) (text : List ℕ) → slot < length outboxes → AllGrew outboxes (with_bytes slot text outboxes)
 grew_given outboxes slot text lt c = given_at (c == slot) outboxes slot c text refl lt
-
-grew_all : (outboxes : List (List ℕ)) (slots text : List ℕ) → All (λ c. c < length outboxes) slots → AllGrew outboxes (with_bytes_each text slots outboxes)
-grew_all outboxes [] text below = grew_none outboxes
-grew_all outboxes (slot ∷ slots) text below =
-    let lt : slot < length outboxes = below 0 0 (omega arith) in
-    let long = length-set outboxes slot (get_or outboxes slot [] ++ text) in
-    grew_then outboxes (with_bytes slot text outboxes) (with_bytes_each text slots (with_bytes slot text outboxes)) (grew_given outboxes slot text lt)
-    (grew_all (with_bytes slot text outboxes) slots text (λ k d h. subst (λ n. get_or slots k d < n) (sym long) (below (suc k) d (omega (arith, h)))))
-
-pub grew_done : (result : Result (Unit {0}) AllocError) (before after : List (List ℕ)) (slots text : List ℕ) → All (λ c. c < length before) slots
-    → OnOk result (after ≡ with_bytes_each text slots before) → OnErr result (after ≡ before) → AllGrew before after
-grew_done (Ok done) before after slots text below ok err = subst (AllGrew before) (sym ok) (grew_all before slots text below)
-grew_done (Err failed) before after slots text below ok err = subst (AllGrew before) (sym err) (grew_none before)
 
 -- ---- servers that grew
 

@@ -1,15 +1,11 @@
 -- The bytes that wait for each slot, as a plain server keeps them.
-use Rattle.std.specs.Prelude.{◌≡◌, ℕ, ◌-◌, List, [], ◌∷◌, ◌++◌, map, take, slice_set, vec_len, vec_capacity}
+use Rattle.std.specs.Prelude.{◌≡◌, ℕ, List, [], ◌∷◌, ◌++◌, map, take, slice_set}
 use Rattle.std.specs.List.{slice_index_or}
 use Rattle.std.specs.Global.{Vec}
 
 -- the bytes of each
 abbrev pub bytes_of : List (Vec ℕ) → List (List ℕ)
 bytes_of outboxes = map (λ outbox. outbox.items) outboxes
-
--- for how many bytes more slot c has memory
-abbrev pub room_at : ℕ → List (Vec ℕ) → ℕ
-room_at c outboxes = slice_index_or (map (λ outbox. vec_capacity outbox - vec_len outbox) outboxes) c 0
 
 -- the bytes of slot c grow
 abbrev pub with_bytes : ℕ → List ℕ → List (List ℕ) → List (List ℕ)

@@ -1,6 +1,6 @@
 //! The notes, and the room for more.
 
-ghost use Rattle.std.specs.Prelude.{◌≡◌, ◌+◌, ◌≤◌, [], ◌∷◌, reverse, length, OnOk, IfOk, Some, None};
+ghost use Rattle.std.specs.Prelude.{◌≡◌, ◌+◌, ◌^◌, ◌<◌, ◌≤◌, [], ◌∷◌, reverse, length, OnOk, Some, None};
 ghost use Rattle.gm_plain.specs.Logs.{NoteFits, AllFit, MayCome, AreNumbered, IsPaid, weight, paid, oldest, Spends};
 ghost use Rattle.std.specs.Fn.{FnReturnsAt};
 ghost use Rattle.gm_notes.specs.Jobs.{made};
@@ -27,14 +27,15 @@ fn weight(note: &Note) -> usize
 }
 
 /// The sum of the notes' weights.
-fn paid(notes: &[Note]) -> Result<usize, AllocError>
-    ensures { IfOk result (λ count. count ≡ paid (reverse notes.now)) }
+fn paid(notes: &[Note]) -> usize
+    requires { paid (reverse notes.now) < 2 ^ 63 }
+    ensures { result ≡ paid (reverse notes.now) }
 {
-    let mut count: usize = 0;
+    let mut count = 0;
     for note in notes {
-        count = count.checked_add(weight(note)).ok_or(AllocError)?;
+        count += weight(note);
     }
-    Ok(count)
+    count
 }
 
 /// The last answer that one of these notes, the newest last, gives, or this one where none gives any.
@@ -185,8 +186,7 @@ impl Log {
         ensures slots { self.new.slots ≡ self.old.slots }
         ensures first { self.new.first ≡ self.old.first }
     {
-        let paid = paid(self.notes.as_slice())?;
-        let whole = paid.checked_add(count as usize).ok_or(AllocError)?;
+        let whole = paid(self.notes.as_slice()) + count as usize;
         let more = whole.saturating_sub(self.notes.len());
         self.notes.reserve(more)?;
         Ok(())

@@ -1,8 +1,8 @@
 //! The bytes that wait for each slot.
 
-ghost use Rattle.std.specs.Prelude.{◌≡◌, ℕ, ◌+◌, ◌*◌, ◌<◌, ◌≤◌, ◌++◌, [], length, map, take, replicate, slice_set, IfOk, OnOk, OnErr};
+ghost use Rattle.std.specs.Prelude.{◌≡◌, List, ℕ, ◌<◌, ◌++◌, [], length, map, take, replicate, slice_set, IfOk, OnOk, OnErr};
 ghost use Rattle.std.specs.List.{All, slice_index_or};
-ghost use Rattle.gm_plain.specs.Outboxes.{bytes_of, room_at, with_bytes, with_bytes_each, cut_to};
+ghost use Rattle.gm_plain.specs.Outboxes.{bytes_of, with_bytes, with_bytes_each, cut_to, AllGrew};
 ghost use Rattle.gm_packet.specs.Answers.{answer_of, answer_packet};
 ghost use Rattle.gm_packet.specs.Packets.{Fits};
 ghost use Rattle.gm_notes.specs.Texts.{fault_text};
@@ -54,54 +54,6 @@ fn shorten_each(outboxes: &mut Vec<Vec<u8>>, counts: &[usize])
     }
 }
 
-/// Finds room for `count` more bytes in an outbox.
-fn reserve_in(outboxes: &mut Vec<Vec<u8>>, slot: u32, count: usize) -> Result<(), AllocError>
-    requires { slot < length outboxes.old.items }
-    ensures bytes { bytes_of outboxes.new.items ≡ bytes_of outboxes.old.items }
-    ensures len { length outboxes.new.items ≡ length outboxes.old.items }
-    ensures room { OnOk result (count ≤ room_at slot outboxes.new.items) }
-    ensures more { (c : ℕ) → room_at c outboxes.old.items ≤ room_at c outboxes.new.items }
-{
-    outboxes[slot as usize].reserve(count)?;
-    Ok(())
-}
-
-/// Finds room for `count` more bytes in the outbox of each of these slots.
-fn reserve_each(outboxes: &mut Vec<Vec<u8>>, slots: &[u32], count: usize) -> Result<(), AllocError>
-    requires { All (λ c. c < length outboxes.old.items) slots.now }
-    ensures bytes { bytes_of outboxes.new.items ≡ bytes_of outboxes.old.items }
-    ensures len { length outboxes.new.items ≡ length outboxes.old.items }
-    ensures room { OnOk result (All (λ c. count ≤ room_at c outboxes.new.items) slots.now) }
-{
-    for slot in slots {
-        reserve_in(outboxes, *slot, count)?;
-    }
-    Ok(())
-}
-
-/// Appends bytes to a outbox that has room for them.
-fn put_in(outboxes: &mut Vec<Vec<u8>>, slot: u32, text: &[u8])
-    requires slot { slot < length outboxes.old.items }
-    requires room { length text.now ≤ room_at slot outboxes.old.items }
-    ensures bytes { bytes_of outboxes.new.items ≡ with_bytes slot text.now (bytes_of outboxes.old.items) }
-    ensures len { length outboxes.new.items ≡ length outboxes.old.items }
-    ensures room { (c : ℕ) → room_at c outboxes.old.items ≤ room_at c outboxes.new.items + length text.now }
-{
-    outboxes[slot as usize].extend_from_slice(text).unwrap();
-}
-
-/// Appends bytes to the outbox of each of these slots, which have room for all of them.
-fn put_each(outboxes: &mut Vec<Vec<u8>>, slots: &[u32], text: &[u8])
-    requires slots { All (λ c. c < length outboxes.old.items) slots.now }
-    requires room { All (λ c. length text.now * length slots.now ≤ room_at c outboxes.old.items) slots.now }
-    ensures bytes { bytes_of outboxes.new.items ≡ with_bytes_each text.now slots.now (bytes_of outboxes.old.items) }
-    ensures len { length outboxes.new.items ≡ length outboxes.old.items }
-{
-    for slot in slots {
-        put_in(outboxes, *slot, text);
-    }
-}
-
 /// The bytes that wait, slot by slot.
 #[derive(Drop)]
 pub struct Outboxes {
@@ -135,10 +87,10 @@ impl Outboxes {
         count_each(alloc, self.outboxes.as_slice())
     }
 
-    /// Shortens each outbox to the bytes that waited before, of which these are the counts.
+    /// Takes back all bytes that came since these were the counts.
     pub fn truncate(&mut self, counts: &[usize])
         requires { length counts.now ≡ length self.old }
-        ensures bytes { (c : ℕ) → slice_index_or self.new c [] ≡ take (slice_index_or counts.now c 0) (slice_index_or self.old c []) }
+        ensures back { (before : List (List ℕ)) → counts.now ≡ map length before → AllGrew before self.old → self.new ≡ before }
         ensures len { length self.new ≡ length self.old }
     {
         shorten_each(&mut self.outboxes, counts);
@@ -185,6 +137,20 @@ impl Outboxes {
         append_fault(fault, outbox)
     }
 
+    /// Queues a response to each of these slots, as often as it is listed. Out of memory, only the first of them get it.
+    fn give_each(&mut self, slots: &[u32], response: &Response<'_>) -> Result<(), AllocError>
+        requires slots { All (λ c. c < length self.old) slots.now }
+        requires fits { Fits (answer_of response.now).arguments }
+        ensures ok { OnOk result (self.new ≡ with_bytes_each (answer_packet (answer_of response.now)) slots.now self.old) }
+        ensures grew { AllGrew self.old self.new }
+        ensures len { length self.new ≡ length self.old }
+    {
+        for slot in slots {
+            self.give(*slot, response)?;
+        }
+        Ok(())
+    }
+
     /// Queues a response to each of these slots, as often as it is listed.
     /// Out of memory, it changes nothing.
     pub fn give_all(
@@ -197,13 +163,14 @@ impl Outboxes {
         requires fits { Fits (answer_of response.now).arguments }
         ensures ok { OnOk result (self.new ≡ with_bytes_each (answer_packet (answer_of response.now)) slots.now self.old) }
         ensures err { OnErr result (self.new ≡ self.old) }
+        ensures grew { AllGrew self.old self.new }
         ensures len { length self.new ≡ length self.old }
     {
-        let mut packet = Vec::new(alloc);
-        write_response(response, &mut packet)?;
-        let all = packet.len().checked_mul(slots.len()).ok_or(AllocError)?;
-        reserve_each(&mut self.outboxes, slots, all)?;
-        put_each(&mut self.outboxes, slots, &packet);
+        let counts = self.counts(alloc)?;
+        if self.give_each(slots, response).is_err() {
+            self.truncate(&counts);
+            return Err(AllocError);
+        }
         Ok(())
     }
 

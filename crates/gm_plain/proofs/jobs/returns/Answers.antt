@@ -1,4 +1,4 @@
-use Rattle.std.proofs.Common.{◌≡◌, ◌<◌, arith}
+use Rattle.std.proofs.Common.{arith}
 use Rattle.std.proofs.lemmas.Grind.{common_steps}
 use Rattle.gm_plain.proofs.LogLemmas.{returns_next}
 use Rattle.gm_plain.proofs.jobs.returns.Goals as goal

@@ -1,8 +1,7 @@
 use Rattle.std.proofs.Common.{◌<◌, ℕ, [], refl, sym, subst}
 use Rattle.std.specs.List.{All}
-use Rattle.gm_packet.specs.Answers.{answer_of, answer_packet}
+use Rattle.gm_packet.specs.Answers.{answer_of}
 use Rattle.gm_plain.proofs.ServerLemmas.{holds_all}
-use Rattle.gm_plain.proofs.TakingBack.{grew_done}
 use Rattle.gm_plain.proofs.server.PlainServer.give_all.Goals as goal
 
 pub returns-clause-does : goal.returns-clause-does
@@ -18,7 +17,5 @@ pub returns-clause-grew : goal.returns-clause-grew
 returns-clause-grew c = record {
   config = refl;
   notes = ([], refl);
-  outboxes =
-      grew_done c.give_all.result c.args.self.now.outboxes c.give_all.new.self c.args.slots.now (answer_packet (answer_of c.args.response.now))
-      (subst (λ (n : ℕ). All (λ d. d < n) c.args.slots.now) (sym c.args.self.now.wide) c.requires.slots) c.give_all.ensures.ok c.give_all.ensures.err;
+  outboxes = c.give_all.ensures.grew;
 }

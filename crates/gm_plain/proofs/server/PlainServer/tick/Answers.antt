@@ -1,4 +1,4 @@
-use Rattle.std.proofs.Common.{◌≡◌, ℕ, List, [], take, get_or, Option, None, refl, sym, ap, ap₂, ◌∙◌}
+use Rattle.std.proofs.Common.{◌≡◌, ℕ, List, [], get_or, Option, None, refl, sym, ap, ap₂, ◌∙◌}
 use Rattle.std.specs.Prelude.{max}
 use Rattle.gm_notes.specs.declared.note.Note.TheVariants.{Now}
 use Rattle.gm_notes.specs.Settings.{Settings}
@@ -14,7 +14,7 @@ use Rattle.gm_actions.proofs.JobsMade.{none_made}
 use Rattle.gm_actions.proofs.JobsMade.{tick_made}
 use Rattle.gm_plain.specs.Logs.{oldest}
 use Rattle.gm_plain.specs.Holds.{Grew}
-use Rattle.gm_plain.proofs.TakingBack.{grows_then, grows_same, grows_by, oldest_are, back_again}
+use Rattle.gm_plain.proofs.TakingBack.{grows_then, grows_same, grows_by, oldest_are}
 use Rattle.gm_plain.proofs.server.PlainServer.tick.Goals as goal
 
 pub returns-in_err-make_room : goal.returns-in_err-make_room
@@ -38,11 +38,10 @@ returns c k steps agrees =
     let more = grows_then (grows_by (Now c.max-moment.result) c.note.ensures.goes.config c.note.ensures.notes c.note.ensures.outboxes) c.in-Err.ensures.grew in
     let all : Grew before c.expire_each.new.self = grows_then (grows_same c.make_room.ensures.goes.config c.make_room.ensures.notes c.make_room.ensures.outboxes) more in
     let notes = c.truncate.ensures.notes ∙ (ap₂ oldest c.len-notes.ensures.value all.notes.1 ∙ oldest_are all.notes.0 before.log.notes) in
-    let outboxes = back_again c.in_ok-counts.counts.items before.outboxes c.expire_each.new.self.outboxes c.truncate-in-Err.new.self c.in_ok-counts.ensures all.outboxes
-    (λ d. c.truncate-in-Err.ensures.bytes d ∙ ap (λ (l : List ℕ). take (get_or l d 0) (get_or c.expire_each.new.self.outboxes d [])) c.deref.ensures.value) in (
+    let outboxes = c.truncate-in-Err.ensures.back before.outboxes (c.deref.ensures.value ∙ c.in_ok-counts.ensures) all.outboxes in (
       refl,
       record {
         settings = all.config ∙ agrees.settings;
-        past = record { notes_are = notes ∙ agrees.past.notes_are; waiting_are = λ d. outboxes d ∙ agrees.past.waiting_are d };
+        past = record { notes_are = notes ∙ agrees.past.notes_are; waiting_are = λ d. ap (λ (l : List (List ℕ)). get_or l d []) outboxes ∙ agrees.past.waiting_are d };
       },
     )
