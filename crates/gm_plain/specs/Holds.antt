@@ -3,7 +3,6 @@ use Rattle.std.specs.Prelude.{◌≡◌, ℕ, List, [], ◌++◌, Option, Some, 
 use Rattle.std.specs.List.{slice_index_or}
 use Rattle.gm_notes.specs.declared.note.Note.{Note}
 use Rattle.gm_plain.specs.declared.server.PlainServer.{PlainServer}
-use Rattle.gm_plain.specs.declared.server.working.ReportCopy.{ReportCopy}
 use Rattle.gm_plain.specs.Outboxes.{AllGrew}
 use Rattle.gm_notes.specs.Settings.{Settings}
 use Rattle.gm_notes.specs.Flow.{waiting}
@@ -67,11 +66,6 @@ abbrev pub PlainAgrees : PlainServer → Settings → List Step → Type 0
 PlainAgrees server k steps = Agrees config_of HeldIn (contents_of server) k steps
 
 -- ---- what is handed on
-
--- a report that was copied
-abbrev pub copied_report : Option ReportCopy → Option (List ℕ × List ℕ)
-copied_report None = None
-copied_report (Some copy) = Some (copy.numerator, copy.denominator)
 
 -- the worker in slot c is owed a NOOP if it sleeps and can do such a job
 abbrev pub wake_one_for : Option Job → ℕ → Past → Past

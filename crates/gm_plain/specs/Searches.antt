@@ -7,7 +7,8 @@ use Rattle.gm_notes.specs.declared.states.Place.{Place}
 use Rattle.gm_notes.specs.declared.note.Note.{Note}
 use Rattle.gm_notes.specs.declared.note.Note.TheVariants.{Opened, Closed, Can, Cant, Reset, Made, Listens, Returned, Mention}
 use Rattle.gm_plain.specs.declared.abilities.Ability.{Ability as FoundAbility}
-use Rattle.gm_notes.specs.Notes.{last_said, said_of, is_open, phase, is_asleep}
+use Rattle.gm_plain.specs.declared.connections.Sight.{Sight}
+use Rattle.gm_notes.specs.Notes.{last_said, said_of, is_open, is_shut, addr, id, has_option, phase, is_asleep}
 use Rattle.gm_notes.specs.Jobs.{Job, Ability, put, is_of, is_able, is_job_of, job_state, job}
 use Rattle.gm_notes.specs.JobStates.{JobState, is_running, place_of}
 
@@ -40,6 +41,15 @@ Passed gives start step (n ∷ jobs) last = PassedNext gives step (Passed gives 
 -- places as servers tell them
 abbrev pub said_place : Option JobState → Option Place
 said_place said = option_map place_of said
+
+-- this is what the notes say of slot c
+pub record Sees (c : ℕ) (notes : List Note) (sight : Sight) : Type 0 where
+  pub is_open : sight.is_open ≡ is_open c notes
+  pub is_shut : sight.is_shut ≡ is_shut c notes
+  pub addr : sight.addr.now ≡ addr c notes
+  pub id : sight.id.now ≡ id c notes
+  pub has_option : sight.has_option ≡ has_option c notes
+  pub phase : sight.phase ≡ phase c notes
 
 -- whether the function was mentioned, where the note says so
 abbrev pub says_mentioned : List ℕ → Note → Option Bool

@@ -8,7 +8,7 @@ ghost use Rattle.gm_notes.specs.JobStates.{is_waiting};
 ghost use Rattle.gm_notes.specs.Notes.{is_open, phase, is_asleep};
 ghost use Rattle.gm_plain.specs.Searches.{says_able, ability_of, abilities_after, order_after, head, wakes_for};
 
-use crate::connections::{is_asleep, is_open};
+use crate::connections::{is_open, phase, seen};
 use crate::jobs::{is_job_with, is_waiting, job, job_in};
 use crate::log::Log;
 use gm_notes::{Config, Note, Pick, Priority};
@@ -67,7 +67,8 @@ pub fn is_to_wake(log: &Log, slot: u32, number: u64) -> bool
 {
     match job(log, number) {
         Some(found) => {
-            is_open(log, slot) && is_asleep(log, slot) && is_able(log, slot, found.function)
+            let seen = seen(log, slot);
+            seen.is_open && seen.phase.is_asleep() && is_able(log, slot, found.function)
         }
         None => false,
     }
@@ -222,7 +223,7 @@ pub fn wakes_at_once(
     ensures { IfOk result (λ wakes. wakes ≡ (is_asleep (phase slot log.now.notes) && not (is_empty (waiting_for function.now log.now.notes)))) }
 {
     let waits = anything_waits(alloc, log, function)?;
-    Ok(is_asleep(log, slot) && waits)
+    Ok(phase(log, slot).is_asleep() && waits)
 }
 
 /// The first of these jobs, in the order in which they came to wait, that one of the abilities is for.

@@ -1,23 +1,78 @@
 //! What notes say of connections and of the server, found by searching them.
 
-ghost use Rattle.std.specs.Prelude.{◌≡◌, ◌<◌, true};
-ghost use Rattle.std.specs.Option.{option_map};
-ghost use Rattle.gm_notes.specs.Notes.{says_addr, addr, says_id, id, says_open, is_open, says_shut, is_shut, takes_units, says_option};
-ghost use Rattle.gm_notes.specs.Notes.{has_option, says_phase, phase, is_asleep, is_awake, is_owed, says_moment, moment, says_mode, mode};
-ghost use Rattle.gm_notes.specs.Notes.{accepts_connections};
+ghost use Rattle.std.specs.Prelude.{◌≡◌, ◌<◌, ◌∷◌, List, true};
+ghost use Rattle.gm_notes.specs.declared.note.Note.{Note};
+ghost use Rattle.gm_notes.specs.Notes.{is_open, takes_units, phase, says_moment, moment, says_mode, mode, accepts_connections};
 ghost use Rattle.gm_notes.specs.Steps.{free_from};
+ghost use Rattle.gm_plain.specs.Searches.{Sees};
 
 use crate::log::Log;
 use gm_notes::{Mode, Note, Phase};
 
-fn says_open(note: &Note, slot: u32) -> Option<bool>
-    ensures { result ≡ says_open slot note.now }
+/// What notes say of a slot.
+#[derive(Clone, Copy)]
+pub struct Sight<'a> {
+    /// Whether it is open.
+    pub is_open: bool,
+    /// Whether it takes no more units, since it was opened.
+    pub is_shut: bool,
+    /// Where its connection comes from.
+    pub addr: &'a [u8],
+    /// The id that its connection gave itself.
+    pub id: &'a [u8],
+    /// Whether its connection wants exceptions.
+    pub has_option: bool,
+    /// Whether its worker sleeps, or is owed a NOOP.
+    pub phase: Phase,
+}
+
+/// What is seen of a slot of which no note says anything.
+const UNSEEN: Sight<'static> = Sight {
+    is_open: false,
+    is_shut: false,
+    addr: b"",
+    id: b"",
+    has_option: false,
+    phase: Phase::Awake,
+};
+
+/// What a note changes of what is seen of a slot.
+fn see<'a>(sight: &mut Sight<'a>, note: &'a Note, slot: u32)
+    ensures { (older : List Note) → Sees slot older sight.old → Sees slot (note.now ∷ older) sight.new }
 {
     match note {
-        Note::Opened { slot: opened, .. } if *opened == slot => Some(true),
-        Note::Closed { slot: closed } if *closed == slot => Some(false),
-        _ => None,
+        Note::Opened { slot: c, addr } if *c == slot => *sight = Sight {
+            is_open: true,
+            addr: addr.as_slice(),
+            ..UNSEEN
+        },
+        Note::Closed { slot: c } if *c == slot => {
+            sight.is_open = false;
+            sight.phase = Phase::Awake;
+        }
+        Note::Shut { slot: c } if *c == slot => sight.is_shut = true,
+        Note::Named { slot: c, id } if *c == slot => sight.id = id.as_slice(),
+        Note::OptionSet { slot: c } if *c == slot => sight.has_option = true,
+        Note::Slept { slot: c } if *c == slot => sight.phase = Phase::Asleep,
+        Note::Woken { slot: c } if *c == slot => sight.phase = Phase::Owed,
+        Note::Stirred { slot: c } if *c == slot => sight.phase = Phase::Awake,
+        Note::Took { slot: c } if *c == slot => sight.phase = Phase::Awake,
+        Note::Withdrew { slot: c } if *c == slot => sight.phase = Phase::Awake,
+        _ => {}
     }
+}
+
+/// What notes say of a slot.
+pub fn seen(log: &Log, slot: u32) -> Sight<'_>
+    ensures value { Sees slot log.now.notes result }
+    ensures below { result.is_open ≡ true → slot < log.now.slots }
+{
+    let notes = log.notes();
+    let mut sight = UNSEEN;
+    for note in notes {
+        see(&mut sight, note, slot);
+    }
+    sight
 }
 
 /// Whether a slot is open.
@@ -25,24 +80,7 @@ pub fn is_open(log: &Log, slot: u32) -> bool
     ensures value { result ≡ is_open slot log.now.notes }
     ensures below { result ≡ true → slot < log.now.slots }
 {
-    log.last_said(false, |note| says_open(note, slot))
-}
-
-fn says_shut(note: &Note, slot: u32) -> Option<bool>
-    ensures { result ≡ says_shut slot note.now }
-{
-    match note {
-        Note::Opened { slot: opened, .. } if *opened == slot => Some(false),
-        Note::Shut { slot: shut } if *shut == slot => Some(true),
-        _ => None,
-    }
-}
-
-/// Whether a slot takes no more units, since it was opened.
-pub fn is_shut(log: &Log, slot: u32) -> bool
-    ensures { result ≡ is_shut slot log.now.notes }
-{
-    log.last_said(false, |note| says_shut(note, slot))
+    seen(log, slot).is_open
 }
 
 /// Whether a slot takes units.
@@ -50,100 +88,15 @@ pub fn can_take_units(log: &Log, slot: u32) -> bool
     ensures value { result ≡ takes_units slot log.now.notes }
     ensures below { result ≡ true → slot < log.now.slots }
 {
-    is_open(log, slot) && !is_shut(log, slot)
-}
-
-fn says_addr(note: &Note, slot: u32) -> Option<&[u8]>
-    ensures { option_map (λ text. text.now) result ≡ says_addr slot note.now }
-{
-    match note {
-        Note::Opened { slot: opened, addr } if *opened == slot => Some(addr.as_slice()),
-        _ => None,
-    }
-}
-
-/// Where the connection in a slot comes from.
-pub fn addr(log: &Log, slot: u32) -> &[u8]
-    ensures { result.now ≡ addr slot log.now.notes }
-{
-    log.last_said(b"", |note| says_addr(note, slot))
-}
-
-fn says_id(note: &Note, slot: u32) -> Option<&[u8]>
-    ensures { option_map (λ text. text.now) result ≡ says_id slot note.now }
-{
-    match note {
-        Note::Opened { slot: opened, .. } if *opened == slot => Some(b""),
-        Note::Named { slot: named, id } if *named == slot => Some(id.as_slice()),
-        _ => None,
-    }
-}
-
-/// The id that the connection in a slot gave itself.
-pub fn id(log: &Log, slot: u32) -> &[u8]
-    ensures { result.now ≡ id slot log.now.notes }
-{
-    log.last_said(b"", |note| says_id(note, slot))
-}
-
-fn says_option(note: &Note, slot: u32) -> Option<bool>
-    ensures { result ≡ says_option slot note.now }
-{
-    match note {
-        Note::Opened { slot: opened, .. } if *opened == slot => Some(false),
-        Note::OptionSet { slot: set } if *set == slot => Some(true),
-        _ => None,
-    }
-}
-
-/// Whether the connection in a slot wants exceptions.
-pub fn has_option(log: &Log, slot: u32) -> bool
-    ensures { result ≡ has_option slot log.now.notes }
-{
-    log.last_said(false, |note| says_option(note, slot))
-}
-
-fn says_phase(note: &Note, slot: u32) -> Option<Phase>
-    ensures { result ≡ says_phase slot note.now }
-{
-    match note {
-        Note::Opened { slot: c, .. } if *c == slot => Some(Phase::Awake),
-        Note::Closed { slot: c } if *c == slot => Some(Phase::Awake),
-        Note::Slept { slot: c } if *c == slot => Some(Phase::Asleep),
-        Note::Woken { slot: c } if *c == slot => Some(Phase::Owed),
-        Note::Stirred { slot: c } if *c == slot => Some(Phase::Awake),
-        Note::Took { slot: c } if *c == slot => Some(Phase::Awake),
-        Note::Withdrew { slot: c } if *c == slot => Some(Phase::Awake),
-        _ => None,
-    }
+    let seen = seen(log, slot);
+    seen.is_open && !seen.is_shut
 }
 
 /// Whether the worker in a slot sleeps, or is owed a NOOP.
 pub fn phase(log: &Log, slot: u32) -> Phase
     ensures { result ≡ phase slot log.now.notes }
 {
-    log.last_said(Phase::Awake, |note| says_phase(note, slot))
-}
-
-/// Whether the worker in a slot is awake.
-pub fn is_awake(log: &Log, slot: u32) -> bool
-    ensures { result ≡ is_awake (phase slot log.now.notes) }
-{
-    phase(log, slot).is_awake()
-}
-
-/// Whether the worker in a slot sleeps.
-pub fn is_asleep(log: &Log, slot: u32) -> bool
-    ensures { result ≡ is_asleep (phase slot log.now.notes) }
-{
-    phase(log, slot).is_asleep()
-}
-
-/// Whether a NOOP is owed to the worker in a slot.
-pub fn is_owed(log: &Log, slot: u32) -> bool
-    ensures { result ≡ is_owed (phase slot log.now.notes) }
-{
-    phase(log, slot).is_owed()
+    seen(log, slot).phase
 }
 
 fn says_moment(note: &Note) -> Option<u64>

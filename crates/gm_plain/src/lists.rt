@@ -8,7 +8,7 @@ ghost use Rattle.gm_plain.specs.Searches.{ability_of};
 ghost use Rattle.gm_plain.specs.Listings.{status_line_of, worker_line_of};
 
 use crate::abilities::{Ability, abilities, able};
-use crate::connections::{addr, id, is_open};
+use crate::connections::{is_open, seen};
 use crate::function_facts::{functions, running, total};
 use crate::log::Log;
 use gm_admin::{StatusRow, WorkerRow, write_status, write_workers};
@@ -70,10 +70,11 @@ fn worker_of(alloc: Global, log: &Log, slot: u32) -> Result<WorkerRow<'_>, Alloc
     ensures { IfOk result (λ row. worker_of row ≡ worker_line_of log.now.notes slot) }
 {
     let abilities = abilities(alloc, log, slot)?;
+    let seen = seen(log, slot);
     Ok(WorkerRow {
         slot,
-        addr: addr(log, slot),
-        id: id(log, slot),
+        addr: seen.addr,
+        id: seen.id,
         functions: names_of(alloc, &abilities)?,
     })
 }

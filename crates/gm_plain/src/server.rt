@@ -22,7 +22,7 @@ mod submitting;
 mod ticking;
 mod working;
 
-use crate::connections::{is_open, is_owed, is_shut, mode};
+use crate::connections::{mode, seen};
 use crate::jobs::place;
 use crate::log::Log;
 use crate::outboxes::Outboxes;
@@ -169,11 +169,13 @@ impl JobServer for PlainServer {
     }
 
     fn owed(&self, slot: u32) -> bool {
-        is_open(&self.log, slot) && is_owed(&self.log, slot)
+        let seen = seen(&self.log, slot);
+        seen.is_open && seen.phase.is_owed()
     }
 
     fn shut(&self, slot: u32) -> bool {
-        is_open(&self.log, slot) && is_shut(&self.log, slot)
+        let seen = seen(&self.log, slot);
+        seen.is_open && seen.is_shut
     }
 
     fn mode(&self) -> Mode {

@@ -8,7 +8,7 @@ ghost use Rattle.gm_notes.specs.Servers.{Answers, steps_after};
 ghost use Rattle.gm_plain.specs.Holds.{PlainAgrees};
 
 use super::PlainServer;
-use crate::connections::{accepts_connections, can_take_units, free_slot, is_open, is_owed};
+use crate::connections::{accepts_connections, can_take_units, free_slot, seen};
 use crate::jobs::{count_made, newest};
 use gm_notes::{ApplyError, Done, Note, Text, UnitFault};
 
@@ -74,10 +74,11 @@ impl PlainServer {
         ensures below { OnOk result (slot < self.now.config.slots) }
         ensures owed { OnOk result (is_owed (phase slot self.now.log.notes) ≡ true) }
     {
-        if !is_open(&self.log, slot) {
+        let seen = seen(&self.log, slot);
+        if !seen.is_open {
             return Err(ApplyError::NotOpen);
         }
-        if !is_owed(&self.log, slot) {
+        if !seen.phase.is_owed() {
             return Err(ApplyError::NotOwed);
         }
         Ok(())

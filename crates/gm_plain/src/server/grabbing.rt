@@ -10,7 +10,7 @@ ghost use Rattle.gm_notes.specs.Workers.{wake_itself, tell_assigned, grab, give_
 
 use super::PlainServer;
 use crate::abilities::pick;
-use crate::connections::{is_asleep, moment};
+use crate::connections::{moment, phase};
 use crate::jobs::job;
 use gm_actions::{assignment, deadline_after, handle};
 use gm_notes::{Note, Pick};
@@ -72,7 +72,7 @@ impl PlainServer {
         ensures open { is_open slot self.new.log.notes ≡ is_open slot self.old.log.notes }
         ensures states { (n : ℕ) → job_state n self.new.log.notes ≡ job_state n self.old.log.notes }
     {
-        if is_asleep(&self.log, slot) {
+        if phase(&self.log, slot).is_asleep() {
             self.note(Note::Stirred { slot });
         }
     }

@@ -5,12 +5,12 @@ ghost use Rattle.gm_notes.specs.Notes.{is_open, has_option};
 ghost use Rattle.std.specs.List.{All};
 ghost use Rattle.gm_notes.specs.Jobs.{job_state, listeners};
 ghost use Rattle.gm_notes.specs.JobStates.{is_running};
-ghost use Rattle.gm_plain.specs.Holds.{Goes, Does, copied_report};
+ghost use Rattle.gm_plain.specs.Holds.{Goes, Does};
 ghost use Rattle.gm_actions.specs.Actions.{SaidFits, ReportFits, work_of, said_report};
 ghost use Rattle.gm_notes.specs.Workers.{hearers, keep_report, end_if, work, tell_work};
 
 use super::PlainServer;
-use crate::connections::{has_option, is_open};
+use crate::connections::seen;
 use crate::handles::job_of_handle;
 use crate::jobs::{is_running_at, listeners};
 use crate::log::Log;
@@ -18,24 +18,24 @@ use gm_actions::{Refusal, Report, Said};
 use gm_notes::{Note, Text};
 use std::alloc::{AllocError, Global};
 
-/// A report that was copied.
-#[derive(Drop)]
-struct ReportCopy {
-    numerator: Text,
-    denominator: Text,
+/// Copies the numerator and the denominator of a report, if there is one.
+fn copy_report(alloc: Global, said: Option<Report<'_>>) -> Result<Option<(Text, Text)>, AllocError>
+    ensures { IfOk result (λ kept. kept ≡ said_report said.entry) }
+{
+    let Some(report) = said else {
+        return Ok(None);
+    };
+    let numerator = Text::copy_of(alloc, report.numerator)?;
+    let denominator = Text::copy_of(alloc, report.denominator)?;
+    Ok(Some((numerator, denominator)))
 }
 
-/// Copies a report, if there is one.
-fn copy_report(alloc: Global, said: Option<Report<'_>>) -> Result<Option<ReportCopy>, AllocError>
-    ensures { IfOk result (λ kept. copied_report kept ≡ said_report said.entry) }
+/// Whether a slot is open, and its connection wants exceptions.
+fn wants_exceptions(log: &Log, slot: u32) -> bool
+    ensures { result ≡ (is_open slot log.now.notes && has_option slot log.now.notes) }
 {
-    match said {
-        Some(report) => Ok(Some(ReportCopy {
-            numerator: Text::copy_of(alloc, report.numerator)?,
-            denominator: Text::copy_of(alloc, report.denominator)?,
-        })),
-        None => Ok(None),
-    }
+    let seen = seen(log, slot);
+    seen.is_open && seen.has_option
 }
 
 /// Those of the slots whose connections want exceptions.
@@ -45,7 +45,7 @@ fn who_want_exceptions(alloc: Global, log: &Log, slots: &[u32]) -> Result<Vec<u3
     slots
         .iter()
         .copied()
-        .filter(|slot| is_open(log, *slot) && has_option(log, *slot))
+        .filter(|slot| wants_exceptions(log, *slot))
         .collect(alloc)
 }
 
@@ -113,17 +113,17 @@ impl PlainServer {
     }
 
     /// A report is kept, if there is one. There is room for a note.
-    fn keep_report(&mut self, job: u64, report: Option<ReportCopy>)
+    fn keep_report(&mut self, job: u64, report: Option<(Text, Text)>)
         requires room { 1 ≤ self.old.log.free }
-        requires fits { ReportFits (copied_report report) }
-        ensures goes { Goes self.old self.new (keep_report job (copied_report report)) }
+        requires fits { ReportFits report }
+        ensures goes { Goes self.old self.new (keep_report job report) }
         ensures job_state { job_state job self.new.log.notes ≡ job_state job self.old.log.notes }
     {
-        if let Some(kept) = report {
+        if let Some((numerator, denominator)) = report {
             self.note(Note::Report {
                 job,
-                numerator: kept.numerator,
-                denominator: kept.denominator,
+                numerator,
+                denominator,
             });
         }
     }

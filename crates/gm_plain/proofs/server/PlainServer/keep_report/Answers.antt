@@ -1,9 +1,8 @@
 use Rattle.std.proofs.Common.{ap, sym}
 use Rattle.gm_notes.specs.Workers.{keep_report}
-use Rattle.gm_plain.specs.Holds.{copied_report}
 use Rattle.gm_plain.proofs.ServerLemmas.{goes_as}
 use Rattle.gm_plain.proofs.server.PlainServer.keep_report.Goals as goal
 
 pub returns-in-Some-clause-goes : goal.returns-in-Some-clause-goes
 returns-in-Some-clause-goes c =
-    goes_as (keep_report c.args.job (copied_report c.args.report)) c.note.ensures.goes (λ p keeps. sym (ap (λ r. keep_report c.args.job (copied_report r) p) c.in-Some.is))
+    goes_as (keep_report c.args.job c.args.report) c.note.ensures.goes (λ p keeps. sym (ap (λ r. keep_report c.args.job r p) c.in-Some.is))
