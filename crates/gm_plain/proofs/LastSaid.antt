@@ -2,7 +2,6 @@
 use Rattle.std.proofs.Common.{◌≡◌, ℕ, ◌+◌, ◌<◌, Bool, true, false, if◌then◌else◌, List, [], ◌∷◌, length, take, get_or, reverse, filter}
 use Rattle.std.proofs.Common.{find, Option, Some, None, refl, sym, ap, ap₂, subst, ◌∙◌, arith}
 use Rattle.std.specs.Prelude.{unwrap_or}
-use Rattle.std.specs.Option.{option_map}
 use Rattle.gm_notes.specs.declared.note.Note.{Note}
 use Rattle.gm_notes.specs.Notes.{last_said}
 use Rattle.gm_notes.specs.declared.states.Priority.{Priority}
@@ -18,27 +17,6 @@ pub said_is : {T : Type 0} (says : Note → Option T) (gives : Note → Option T
 said_is says gives means otherwise [] last said = said
 said_is says gives means otherwise (note ∷ older) last said =
     said.is ∙ ap₂ unwrap_or (means note said.answer said.given) (said_is says gives means otherwise older said.before said.said)
-
-seen_or : {T A : Type 0} (view : T → A) (answer : Option T) (before : T) → view (unwrap_or answer before) ≡ unwrap_or (option_map view answer) (view before)
-seen_or view None before = refl
-seen_or view (Some last) before = refl
-
--- so it is where what is seen of each answer is what the note says
-pub said_seen : {T A : Type 0} (view : T → A) (says : Note → Option A) (gives : Note → Option T → Type 0)
-    → ((note : Note) (answer : Option T) → gives note answer → option_map view answer ≡ says note) → (otherwise : T) (notes : List Note) (last : T)
-    → Said gives otherwise notes last → view last ≡ last_said says (view otherwise) notes
-said_seen view says gives means otherwise [] last said = ap view said
-said_seen view says gives means otherwise (note ∷ older) last said =
-    ap view said.is
-    ∙ (seen_or view said.answer said.before
-    ∙ ap₂ unwrap_or (means note said.answer said.given) (said_seen view says gives means otherwise older said.before said.said))
-
--- the last answer, seen in another way, is the last of the answers seen so
-pub said_through : {A B : Type 0} (view : A → B) (says : Note → Option A) (otherwise : A) (notes : List Note)
-    → view (last_said says otherwise notes) ≡ last_said (λ note. option_map view (says note)) (view otherwise) notes
-said_through view says otherwise [] = refl
-said_through view says otherwise (note ∷ older) =
-    seen_or view (says note) (last_said says otherwise older) ∙ ap (unwrap_or (option_map view (says note))) (said_through view says otherwise older)
 
 -- ---- jobs that pass a test
 

@@ -6,12 +6,12 @@ use Rattle.std.specs.Option.{option_map}
 use Rattle.std.proofs.lemmas.Bool.Decides.{nat_tests}
 use Rattle.std.proofs.lemmas.List.Elements.{All-append, All-cons, All-filter}
 use Rattle.gm_notes.specs.declared.note.Note.{Note}
-use Rattle.gm_notes.specs.declared.note.Note.TheVariants.{Opened, Closed, Made, Listens, Report, Returned}
+use Rattle.gm_notes.specs.declared.note.Note.TheVariants.{Opened, Closed, Made, Listens, Report}
 use Rattle.gm_notes.specs.Notes.{is_open}
-use Rattle.gm_notes.specs.Jobs.{Job, job, report, listeners, returns}
+use Rattle.gm_notes.specs.Jobs.{Job, job, report, listeners}
 use Rattle.gm_actions.specs.declared.answers.JobRef.{JobRef}
 use Rattle.gm_actions.specs.Actions.{job_of}
-use Rattle.gm_plain.specs.Searches.{listeners_after, returns_after}
+use Rattle.gm_plain.specs.Searches.{listeners_after}
 use Rattle.gm_plain.specs.Logs.{AllFit}
 use Rattle.gm_actions.specs.Carried.{AreNumbers, IsCarried}
 
@@ -78,12 +78,6 @@ listeners_next n (Made m f p u body) older = refl
 listeners_next n (Listens m c) older = refl
 listeners_next n (Closed c) older = refl
 listeners_next n note older = refl
-
--- what a note changes of how often a job came back
-pub returns_next : (n : ℕ) (note : Note) (older : List Note) → returns n (note ∷ older) ≡ returns_after n note (returns n older)
-returns_next n (Made m f p u body) older = refl
-returns_next n (Returned m) older = refl
-returns_next n note older = refl
 
 -- ---- reports
 

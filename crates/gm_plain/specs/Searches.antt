@@ -1,16 +1,17 @@
 -- What single notes say, for the searches over them.
-use Rattle.std.specs.Prelude.{◌≡◌, ℕ, suc, Bool, true, false, not, ◌&&◌, ◌==◌, if◌then◌else◌, List, [], ◌∷◌, ◌++◌, filter, Option, Some, None}
+use Rattle.std.specs.Prelude.{◌≡◌, ℕ, Bool, true, false, not, ◌&&◌, ◌==◌, if◌then◌else◌, List, [], ◌∷◌, ◌++◌, filter, Option, Some, None}
 use Rattle.std.specs.Prelude.{unwrap_or}
 use Rattle.std.specs.Option.{option_map}
 use Rattle.std.specs.Str.{bytes_eq}
-use Rattle.gm_notes.specs.declared.states.Place.{Place}
 use Rattle.gm_notes.specs.declared.note.Note.{Note}
 use Rattle.gm_notes.specs.declared.note.Note.TheVariants.{Opened, Closed, Can, Cant, Reset, Made, Listens, Returned, Mention}
 use Rattle.gm_plain.specs.declared.abilities.Ability.{Ability as FoundAbility}
-use Rattle.gm_plain.specs.declared.connections.Sight.{Sight}
+use Rattle.gm_plain.specs.declared.connections.SlotFacts.{SlotFacts}
+use Rattle.gm_plain.specs.declared.jobs.JobFacts.{JobFacts}
 use Rattle.gm_notes.specs.Notes.{last_said, said_of, is_open, is_shut, addr, id, has_option, phase, is_asleep}
-use Rattle.gm_notes.specs.Jobs.{Job, Ability, put, is_of, is_able, is_job_of, job_state, job}
-use Rattle.gm_notes.specs.JobStates.{JobState, is_running, place_of}
+use Rattle.gm_notes.specs.Jobs.{Job, Ability, put, is_of, is_able, is_job_of, job_state, job, is_kept, report, returns, deadline}
+use Rattle.gm_notes.specs.JobStates.{is_running, place_of}
+use Rattle.gm_actions.specs.Actions.{job_of, report_of}
 
 -- one note more
 pub record SaidNext {T : Type 0} (gives : Note → Option T → Type 0) (older : T → Type 0) (note : Note) (last : T) : Type 0 where
@@ -38,18 +39,23 @@ abbrev pub Passed : {T : Type 0} → (ℕ → Bool → Type 0) → T → (ℕ �
 Passed gives start step [] last = last ≡ start
 Passed gives start step (n ∷ jobs) last = PassedNext gives step (Passed gives start step jobs) n last
 
--- places as servers tell them
-abbrev pub said_place : Option JobState → Option Place
-said_place said = option_map place_of said
-
 -- this is what the notes say of slot c
-pub record Sees (c : ℕ) (notes : List Note) (sight : Sight) : Type 0 where
-  pub is_open : sight.is_open ≡ is_open c notes
-  pub is_shut : sight.is_shut ≡ is_shut c notes
-  pub addr : sight.addr.now ≡ addr c notes
-  pub id : sight.id.now ≡ id c notes
-  pub has_option : sight.has_option ≡ has_option c notes
-  pub phase : sight.phase ≡ phase c notes
+pub record Sees (c : ℕ) (notes : List Note) (facts : SlotFacts) : Type 0 where
+  pub is_open : facts.is_open ≡ is_open c notes
+  pub is_shut : facts.is_shut ≡ is_shut c notes
+  pub addr : facts.addr.now ≡ addr c notes
+  pub id : facts.id.now ≡ id c notes
+  pub has_option : facts.has_option ≡ has_option c notes
+  pub phase : facts.phase ≡ phase c notes
+
+-- this is what the notes say of job n
+pub record Knows (n : ℕ) (notes : List Note) (facts : JobFacts) : Type 0 where
+  pub job : option_map job_of facts.job ≡ job n notes
+  pub place : facts.place ≡ place_of (job_state n notes)
+  pub is_kept : facts.is_kept ≡ is_kept n notes
+  pub report : report_of facts.report ≡ report n notes
+  pub returns : facts.returns ≡ returns n notes
+  pub deadline : facts.deadline ≡ deadline n notes
 
 -- whether the function was mentioned, where the note says so
 abbrev pub says_mentioned : List ℕ → Note → Option Bool
@@ -89,12 +95,6 @@ listeners_after n (Made m f p u body) slots = if n == m then [] else slots
 listeners_after n (Listens m c) slots = if n == m then slots ++ c ∷ [] else slots
 listeners_after n (Closed c) slots = filter (λ d. not (d == c)) slots
 listeners_after n note slots = slots
-
--- what the note changes of how often job n came back
-abbrev pub returns_after : ℕ → Note → ℕ → ℕ
-returns_after n (Made m f p u body) count = if n == m then 0 else count
-returns_after n (Returned m) count = if n == m then suc count else count
-returns_after n note count = count
 
 -- whether the connection in slot c listens to job n, where the note says so
 abbrev pub says_listening : ℕ → ℕ → Note → Option Bool

@@ -9,7 +9,7 @@ ghost use Rattle.gm_notes.specs.Notes.{is_open, phase, is_asleep};
 ghost use Rattle.gm_plain.specs.Searches.{says_able, ability_of, abilities_after, order_after, head, wakes_for};
 
 use crate::connections::{is_open, phase, seen};
-use crate::jobs::{is_job_with, is_waiting, job, job_in};
+use crate::jobs::{job, known, known_in};
 use crate::log::Log;
 use gm_notes::{Config, Note, Pick, Priority};
 use std::alloc::{AllocError, Global};
@@ -176,7 +176,13 @@ fn as_they_came(alloc: Global, log: &Log) -> Result<Vec<u64>, AllocError>
 fn is_queued(log: &Log, job: u64, function: &[u8], priority: Priority) -> bool
     ensures { result ≡ is_queued function.now priority log.now.notes job }
 {
-    is_waiting(log, job) && is_job_with(log, job, function, priority)
+    let known = known(log, job);
+    match known.job {
+        Some(found) => {
+            known.place.is_waiting() && found.function == function && found.priority == priority
+        }
+        None => false,
+    }
 }
 
 /// The first of these jobs that waits for a function with a priority.
@@ -253,7 +259,7 @@ fn last_function(log: &Log, slot: u32) -> Option<&[u8]>
             Note::Opened { slot: c, .. } if *c == slot => return None,
             // The job was made before it was given out.
             Note::Assigned { job, slot: c, .. } if *c == slot => {
-                return job_in(older, *job).map(|found| found.function);
+                return known_in(older, *job).job.map(|found| found.function);
             }
             _ => notes = older,
         }

@@ -11,7 +11,7 @@ use gm_notes::{Mode, Note, Phase};
 
 /// What notes say of a slot.
 #[derive(Clone, Copy)]
-pub struct Sight<'a> {
+pub struct SlotFacts<'a> {
     /// Whether it is open.
     pub is_open: bool,
     /// Whether it takes no more units, since it was opened.
@@ -27,7 +27,7 @@ pub struct Sight<'a> {
 }
 
 /// What is seen of a slot of which no note says anything.
-const UNSEEN: Sight<'static> = Sight {
+const UNSEEN: SlotFacts<'static> = SlotFacts {
     is_open: false,
     is_shut: false,
     addr: b"",
@@ -37,42 +37,42 @@ const UNSEEN: Sight<'static> = Sight {
 };
 
 /// What a note changes of what is seen of a slot.
-fn see<'a>(sight: &mut Sight<'a>, note: &'a Note, slot: u32)
-    ensures { (older : List Note) → Sees slot older sight.old → Sees slot (note.now ∷ older) sight.new }
+fn see<'a>(facts: &mut SlotFacts<'a>, note: &'a Note, slot: u32)
+    ensures { (older : List Note) → Sees slot older facts.old → Sees slot (note.now ∷ older) facts.new }
 {
     match note {
-        Note::Opened { slot: c, addr } if *c == slot => *sight = Sight {
+        Note::Opened { slot: c, addr } if *c == slot => *facts = SlotFacts {
             is_open: true,
             addr: addr.as_slice(),
             ..UNSEEN
         },
         Note::Closed { slot: c } if *c == slot => {
-            sight.is_open = false;
-            sight.phase = Phase::Awake;
+            facts.is_open = false;
+            facts.phase = Phase::Awake;
         }
-        Note::Shut { slot: c } if *c == slot => sight.is_shut = true,
-        Note::Named { slot: c, id } if *c == slot => sight.id = id.as_slice(),
-        Note::OptionSet { slot: c } if *c == slot => sight.has_option = true,
-        Note::Slept { slot: c } if *c == slot => sight.phase = Phase::Asleep,
-        Note::Woken { slot: c } if *c == slot => sight.phase = Phase::Owed,
-        Note::Stirred { slot: c } if *c == slot => sight.phase = Phase::Awake,
-        Note::Took { slot: c } if *c == slot => sight.phase = Phase::Awake,
-        Note::Withdrew { slot: c } if *c == slot => sight.phase = Phase::Awake,
+        Note::Shut { slot: c } if *c == slot => facts.is_shut = true,
+        Note::Named { slot: c, id } if *c == slot => facts.id = id.as_slice(),
+        Note::OptionSet { slot: c } if *c == slot => facts.has_option = true,
+        Note::Slept { slot: c } if *c == slot => facts.phase = Phase::Asleep,
+        Note::Woken { slot: c } if *c == slot => facts.phase = Phase::Owed,
+        Note::Stirred { slot: c } if *c == slot => facts.phase = Phase::Awake,
+        Note::Took { slot: c } if *c == slot => facts.phase = Phase::Awake,
+        Note::Withdrew { slot: c } if *c == slot => facts.phase = Phase::Awake,
         _ => {}
     }
 }
 
 /// What notes say of a slot.
-pub fn seen(log: &Log, slot: u32) -> Sight<'_>
+pub fn seen(log: &Log, slot: u32) -> SlotFacts<'_>
     ensures value { Sees slot log.now.notes result }
     ensures below { result.is_open ≡ true → slot < log.now.slots }
 {
     let notes = log.notes();
-    let mut sight = UNSEEN;
+    let mut facts = UNSEEN;
     for note in notes {
-        see(&mut sight, note, slot);
+        see(&mut facts, note, slot);
     }
-    sight
+    facts
 }
 
 /// Whether a slot is open.

@@ -1,44 +1,137 @@
 //! What notes say of jobs, found by searching them.
 
-ghost use Rattle.std.specs.Prelude.{◌≡◌, ◌<◌, ◌≤◌, ◌+◌, ◌^◌, ◌==◌, length, not, reverse, slice_get, map, IfSome, IfOk, OnOk};
+ghost use Rattle.std.specs.Prelude.{◌≡◌, ◌<◌, ◌≤◌, ◌+◌, ◌^◌, ◌==◌, ◌∷◌, List, length, not, reverse, slice_get, map, IfSome, IfOk, OnOk};
 ghost use Rattle.std.specs.Option.{option_map};
 ghost use Rattle.std.specs.List.{All};
-ghost use Rattle.gm_notes.specs.Jobs.{says_job_state, job_state, says_job, job, says_kept, is_kept, listeners, is_wanted, says_report};
-ghost use Rattle.gm_notes.specs.Jobs.{report, is_job_of, is_job_with, is_job_named, made};
-ghost use Rattle.gm_notes.specs.Jobs.{is_live_named, joined, next_number, says_deadline, deadline, returns, is_last_try};
+ghost use Rattle.gm_notes.specs.declared.note.Note.{Note};
+ghost use Rattle.gm_notes.specs.Jobs.{job_state, job, listeners, is_wanted, is_job_of, made};
+ghost use Rattle.gm_notes.specs.Jobs.{is_live_named, joined, next_number, deadline, is_last_try};
 ghost use Rattle.gm_notes.specs.JobStates.{is_live, is_waiting, is_running, is_running_at, place_of};
 ghost use Rattle.gm_notes.specs.Closings.{is_reached};
 ghost use Rattle.gm_notes.specs.Notes.{moment};
-ghost use Rattle.gm_actions.specs.Actions.{job_of, report_of};
+ghost use Rattle.gm_actions.specs.Actions.{job_of};
 ghost use Rattle.gm_actions.specs.Carried.{IsCarried, AreNumbers};
 ghost use Rattle.gm_notes.specs.Steps.{newest};
-ghost use Rattle.gm_plain.specs.Searches.{said_place, listeners_after, returns_after, says_listening, is_listening};
+ghost use Rattle.gm_plain.specs.Searches.{Knows, listeners_after, says_listening, is_listening};
 
 use crate::connections::moment;
-use crate::log::{Log, last_said};
+use crate::log::Log;
 use gm_actions::{JobRef, Report};
 use gm_notes::{Config, Note, Place, Priority, is_joining};
 use std::alloc::{AllocError, Global};
 
-fn says_place(note: &Note, job: u64) -> Option<Place>
-    ensures { result ≡ said_place (says_job_state job note.now) }
+/// What notes say of a job.
+#[derive(Clone, Copy)]
+pub struct JobFacts<'a> {
+    /// What it is, once it was made.
+    pub job: Option<JobRef<'a>>,
+    /// Where it is.
+    pub place: Place,
+    /// Whether a background submission made or joined it.
+    pub is_kept: bool,
+    /// How far it is, as its worker said last; `0` and `0` at first.
+    pub report: Report<'a>,
+    /// How often it came back from a worker that went.
+    pub returns: usize,
+    /// The moment at which it fails, if there is one.
+    pub deadline: Option<u64>,
+}
+
+/// What is known of a job of which no note says anything.
+const UNKNOWN: JobFacts<'static> = JobFacts {
+    job: None,
+    place: Place::Unmade,
+    is_kept: false,
+    report: Report {
+        numerator: b"0",
+        denominator: b"0",
+    },
+    returns: 0,
+    deadline: None,
+};
+
+/// What a note changes of what is known of a job.
+fn learn<'a>(facts: &mut JobFacts<'a>, note: &'a Note, job: u64)
+    requires { facts.old.returns < 2 ^ 63 }
+    ensures knows { (older : List Note) → Knows job older facts.old → Knows job (note.now ∷ older) facts.new }
+    ensures small { facts.new.returns ≤ facts.old.returns + 1 }
 {
     match note {
-        Note::Made { job: n, .. } if *n == job => Some(Place::Waiting),
-        Note::Returned { job: n } if *n == job => Some(Place::Waiting),
-        Note::Assigned { job: n, slot, .. } if *n == job => Some(Place::Running(*slot)),
-        Note::Lost { job: n } if *n == job => Some(Place::Lost),
-        Note::Ended { job: n } if *n == job => Some(Place::Gone),
-        Note::Discarded { job: n } if *n == job => Some(Place::Gone),
-        _ => None,
+        Note::Made {
+            job: n,
+            function,
+            priority,
+            unique,
+            body,
+        } if *n == job => *facts = JobFacts {
+            job: Some(JobRef {
+                function: function.as_slice(),
+                priority: *priority,
+                unique: unique.as_slice(),
+                body: body.as_slice(),
+            }),
+            place: Place::Waiting,
+            ..UNKNOWN
+        },
+        Note::Kept { job: n } if *n == job => facts.is_kept = true,
+        Note::Report {
+            job: n,
+            numerator,
+            denominator,
+        } if *n == job => facts.report = Report {
+            numerator: numerator.as_slice(),
+            denominator: denominator.as_slice(),
+        },
+        Note::Assigned {
+            job: n,
+            slot,
+            deadline,
+        } if *n == job => {
+            facts.place = Place::Running(*slot);
+            facts.deadline = *deadline;
+        }
+        Note::Returned { job: n } if *n == job => {
+            facts.place = Place::Waiting;
+            facts.returns += 1;
+            facts.deadline = None;
+        }
+        Note::Lost { job: n } if *n == job => {
+            facts.place = Place::Lost;
+            facts.deadline = Some(0);
+        }
+        Note::Ended { job: n } if *n == job => facts.place = Place::Gone,
+        Note::Discarded { job: n } if *n == job => facts.place = Place::Gone,
+        _ => {}
     }
+}
+
+/// What these notes, the newest last, say of a job.
+pub fn known_in(notes: &[Note], job: u64) -> JobFacts<'_>
+    ensures knows { Knows job (reverse notes.now) result }
+    ensures small { result.returns < 2 ^ 63 }
+{
+    let mut facts = UNKNOWN;
+    for note in notes {
+        learn(&mut facts, note, job);
+    }
+    facts
+}
+
+/// What notes say of a job.
+pub fn known(log: &Log, job: u64) -> JobFacts<'_>
+    ensures knows { Knows job log.now.notes result }
+    ensures small { result.returns < 2 ^ 63 }
+    ensures carried { IfSome result.job (λ found. IsCarried found.function.now found.unique.now found.body.now) }
+    ensures numbers { AreNumbers result.report.numerator.now result.report.denominator.now }
+{
+    known_in(log.notes(), job)
 }
 
 /// Where a job is.
 pub fn place(log: &Log, job: u64) -> Place
     ensures { result ≡ place_of (job_state job log.now.notes) }
 {
-    log.last_said(Place::Unmade, |note| says_place(note, job))
+    known(log, job).place
 }
 
 /// Whether a job waits or runs.
@@ -69,39 +162,12 @@ pub fn is_running(log: &Log, job: u64) -> bool
     place(log, job).is_running()
 }
 
-fn says_job(note: &Note, job: u64) -> Option<Option<JobRef<'_>>>
-    ensures { option_map (option_map job_of) result ≡ says_job job note.now }
-{
-    match note {
-        Note::Made {
-            job: n,
-            function,
-            priority,
-            unique,
-            body,
-        } if *n == job => Some(Some(JobRef {
-            function: function.as_slice(),
-            priority: *priority,
-            unique: unique.as_slice(),
-            body: body.as_slice(),
-        })),
-        _ => None,
-    }
-}
-
-/// What the job is by these notes, the newest last.
-pub fn job_in(notes: &[Note], number: u64) -> Option<JobRef<'_>>
-    ensures { option_map job_of result ≡ job number (reverse notes.now) }
-{
-    last_said(notes, None, |note| says_job(note, number))
-}
-
 /// What the job is.
 pub fn job(log: &Log, number: u64) -> Option<JobRef<'_>>
     ensures value { option_map job_of result ≡ job number log.now.notes }
     ensures carried { IfSome result (λ found. IsCarried found.function.now found.unique.now found.body.now) }
 {
-    job_in(log.notes(), number)
+    known(log, number).job
 }
 
 /// What a note changes of a job's listeners.
@@ -160,123 +226,25 @@ fn is_heard(log: &Log, job: u64) -> bool
     false
 }
 
-fn says_kept(note: &Note, job: u64) -> Option<bool>
-    ensures { result ≡ says_kept job note.now }
-{
-    match note {
-        Note::Made { job: n, .. } if *n == job => Some(false),
-        Note::Kept { job: n } if *n == job => Some(true),
-        _ => None,
-    }
-}
-
-/// Whether a background submission made or joined a job.
-fn is_kept(log: &Log, job: u64) -> bool
-    ensures { result ≡ is_kept job log.now.notes }
-{
-    log.last_said(false, |note| says_kept(note, job))
-}
-
 /// Whether a job is wanted.
 pub fn is_wanted(log: &Log, job: u64) -> bool
     ensures { result ≡ is_wanted job log.now.notes }
 {
-    is_kept(log, job) || is_heard(log, job)
-}
-
-fn says_report(note: &Note, job: u64) -> Option<Report<'_>>
-    ensures { option_map report_of result ≡ says_report job note.now }
-{
-    match note {
-        Note::Made { job: n, .. } if *n == job => Some(Report {
-            numerator: b"0",
-            denominator: b"0",
-        }),
-        Note::Report {
-            job: n,
-            numerator,
-            denominator,
-        } if *n == job => Some(Report {
-            numerator: numerator.as_slice(),
-            denominator: denominator.as_slice(),
-        }),
-        _ => None,
-    }
-}
-
-/// How far a job is, as its worker said last; `0` and `0` at first.
-pub fn last_report(log: &Log, job: u64) -> Report<'_>
-    ensures value { report_of result ≡ report job log.now.notes }
-    ensures carried { AreNumbers result.numerator.now result.denominator.now }
-{
-    let none = Report {
-        numerator: b"0",
-        denominator: b"0",
-    };
-    log.last_said(none, |note| says_report(note, job))
-}
-
-// How often a job came back, with this note.
-fn count_return(note: &Note, job: u64, count: usize) -> usize
-    requires { count < 2 ^ 63 }
-    ensures value { result ≡ returns_after job note.now count }
-    ensures small { result ≤ count + 1 }
-{
-    match note {
-        Note::Made { job: n, .. } if *n == job => 0,
-        Note::Returned { job: n } if *n == job => count + 1,
-        _ => count,
-    }
-}
-
-/// How often a job came back from a worker that went.
-fn returns(log: &Log, job: u64) -> usize
-    ensures value { result ≡ returns job log.now.notes }
-    ensures small { result < 2 ^ 63 }
-{
-    let notes = log.notes();
-    let mut count = 0;
-    for note in notes {
-        count = count_return(note, job, count);
-    }
-    count
+    known(log, job).is_kept || is_heard(log, job)
 }
 
 /// Whether the worker of a job is the last that it is given to, where there is a limit.
 pub fn is_last_try(config: &Config, log: &Log, job: u64) -> bool
     ensures { result ≡ is_last_try config.now job log.now.notes }
 {
-    config.retries() != 0 && config.retries() as usize <= returns(log, job) + 1
-}
-
-fn says_deadline(note: &Note, job: u64) -> Option<Option<u64>>
-    ensures { result ≡ says_deadline job note.now }
-{
-    match note {
-        Note::Made { job: n, .. } if *n == job => Some(None),
-        Note::Returned { job: n } if *n == job => Some(None),
-        Note::Lost { job: n } if *n == job => Some(Some(0)),
-        Note::Assigned {
-            job: n,
-            deadline,
-            ..
-        } if *n == job => Some(*deadline),
-        _ => None,
-    }
-}
-
-/// The moment at which a job fails, if there is one.
-fn deadline(log: &Log, job: u64) -> Option<u64>
-    ensures { result ≡ deadline job log.now.notes }
-{
-    log.last_said(None, |note| says_deadline(note, job))
+    config.retries() != 0 && config.retries() as usize <= known(log, job).returns + 1
 }
 
 /// Whether the moment has reached a job's deadline.
 pub fn is_late(log: &Log, job: u64) -> bool
     ensures { result ≡ is_reached (deadline job log.now.notes) (moment log.now.notes) }
 {
-    match deadline(log, job) {
+    match known(log, job).deadline {
         Some(late) => late <= moment(log),
         None => false,
     }
@@ -292,31 +260,17 @@ pub fn is_job_of(log: &Log, number: u64, function: &[u8]) -> bool
     }
 }
 
-/// Whether a job is of this function and priority.
-pub fn is_job_with(log: &Log, number: u64, function: &[u8], priority: Priority) -> bool
-    ensures { result ≡ is_job_with function.now priority (job number log.now.notes) }
-{
-    match job(log, number) {
-        Some(found) => found.function == function && found.priority == priority,
-        None => false,
-    }
-}
-
-/// Whether a job is of this function, with this unique id.
-fn is_job_named(log: &Log, number: u64, function: &[u8], unique: &[u8]) -> bool
-    ensures { result ≡ is_job_named function.now unique.now (job number log.now.notes) }
-{
-    match job(log, number) {
-        Some(found) => found.function == function && found.unique == unique,
-        None => false,
-    }
-}
-
 /// Whether a job waits or runs, and is of this function, with this unique id.
 fn is_live_named(log: &Log, number: u64, function: &[u8], unique: &[u8]) -> bool
     ensures { result ≡ is_live_named function.now unique.now log.now.notes number }
 {
-    is_live(log, number) && is_job_named(log, number, function, unique)
+    let known = known(log, number);
+    match known.job {
+        Some(found) => {
+            known.place.is_live() && found.function == function && found.unique == unique
+        }
+        None => false,
+    }
 }
 
 /// The live job of a function with a unique id that joins.

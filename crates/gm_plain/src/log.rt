@@ -38,22 +38,6 @@ fn paid(notes: &[Note]) -> usize
     count
 }
 
-/// The last answer that one of these notes, the newest last, gives, or this one where none gives any.
-pub fn last_said<'a, T: Drop, F: Fn(&'a Note) -> Option<T>>(
-    notes: &'a [Note],
-    otherwise: T,
-    says: F,
-) -> T
-    requires { F.IsAlwaysCallable says }
-    ensures { Said (FnReturnsAt F.Fn says) otherwise (reverse notes.now) result }
-{
-    let mut last = otherwise;
-    for note in notes {
-        last = says(note).unwrap_or(last);
-    }
-    last
-}
-
 /// The list of all that has happened, the newest last.
 ///
 /// There is always room for each note that may yet come without memory: one for each open connection, two
@@ -141,7 +125,12 @@ impl Log {
         ensures last { Said (FnReturnsAt F.Fn says) otherwise self.now.notes result }
         ensures fit { AllFit self.now.slots self.now.notes }
     {
-        last_said(self.notes.as_slice(), otherwise, says)
+        let notes = self.notes.as_slice();
+        let mut last = otherwise;
+        for note in notes {
+            last = says(note).unwrap_or(last);
+        }
+        last
     }
 
     /// How many of the jobs made pass a test.

@@ -9,7 +9,7 @@ ghost use Rattle.gm_notes.specs.Requests.{tell_status};
 
 use super::PlainServer;
 use crate::handles::job_of_handle;
-use crate::jobs::{is_live, is_running, last_report};
+use crate::jobs::{is_live, known};
 use gm_actions::{known_status, unknown_status};
 use std::alloc::AllocError;
 
@@ -45,9 +45,9 @@ impl PlainServer {
         requires short { length handle.now ≤ 1073741824 }
         ensures { Does self.old result self.new (λ past. known_told slot handle.now job past) }
     {
-        let running = is_running(&self.log, job);
-        let report = last_report(&self.log, job);
+        let known = known(&self.log, job);
+        let running = known.place.is_running();
         self.outboxes
-            .give(slot, &known_status(handle, running, report))
+            .give(slot, &known_status(handle, running, known.report))
     }
 }
