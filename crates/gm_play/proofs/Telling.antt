@@ -1,5 +1,5 @@
 -- Slots that are told of one after another.
-use Rattle.std.proofs.Common.{◌≡◌, ◌<◌, ◌≤◌, ◌+◌, ℕ, zero, suc, arith, Bool, true, false, not, ◌&&◌, List, [], ◌∷◌, ◌++◌, length, get_or, set, Option, Some, None, Err, refl, sym, ap, ap₂, subst, ◌∙◌, append_assoc, append-nil, length-set}
+use Rattle.std.proofs.Common.{◌≡◌, ◌<◌, ◌≤◌, ◌+◌, ℕ, zero, suc, arith, Bool, true, false, not, ◌&&◌, List, [], ◌∷◌, ◌++◌, length, get_or, set, Option, Some, None, Result, Ok, Err, refl, sym, ap, ap₂, subst, ◌∙◌, append_assoc, append-nil, length-set}
 use Rattle.std.specs.Prelude.{if◌then◌else◌}
 use Rattle.std.proofs.Math.Numerals.{add-one}
 use Rattle.gm_feeder.specs.declared.units.Limits.{Limits}
@@ -7,7 +7,7 @@ use Rattle.gm_packet.specs.Answers.{noop, answer_packet}
 use Rattle.gm_notes.specs.declared.event.ApplyError.{ApplyError}
 use Rattle.gm_notes.specs.declared.event.ApplyError.TheVariants.{NotOpen, NotOwed}
 use Rattle.gm_notes.specs.Settings.{Settings}
-use Rattle.gm_notes.specs.Notes.{is_open, is_shut, phase, is_owed}
+use Rattle.gm_notes.specs.Notes.{is_open, phase, is_owed}
 use Rattle.gm_notes.specs.Flow.{waiting}
 use Rattle.gm_notes.specs.Past.{Past}
 use Rattle.gm_notes.specs.Steps.{Step, Drain, Took, refusal, unless}
@@ -21,6 +21,13 @@ use Rattle.gm_front.specs.declared.input.StepError.TheVariants.{Refused, Cut}
 use Rattle.gm_front.specs.Fronts.{IsHeld, IsTaken, IsRefused, Answers}
 use Rattle.gm_play.specs.Prints.{bytes_text, shut_text, noop_if, took_if, told_of, drain_of, told, drained}
 use Rattle.gm_play.specs.Players.{IsHeldSince, TakesNoop, TellsOne, TellsAll}
+
+-- a drain is never refused
+pub drains : {S : Type 0} (agrees : S → Settings → List Step → Type 0) (k : Settings) (limits : Limits) (reading : Reading) (c : ℕ) (result : Result Stepped StepError) (front : Front S)
+    → ((stepped : Stepped) → result ≡ Ok stepped → ⊥) → Answers agrees k limits (Drains c) reading result front → ⊥
+drains agrees k limits reading c (Ok stepped) front refused answered = refused stepped refl
+drains agrees k limits reading c (Err (Refused error)) front refused answered = absurd (let wrong : None ≡ Some error = answered.stands in cc)
+drains agrees k limits reading c (Err (Cut units)) front refused answered = answered
 
 -- ---- the NOOP
 

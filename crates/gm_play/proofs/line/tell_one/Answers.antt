@@ -1,7 +1,7 @@
-use Rattle.std.proofs.Common.{◌≡◌, ℕ, Bool, true, false, not, ◌&&◌, List, ◌++◌, refl, sym, ap, subst, ◌∙◌}
+use Rattle.std.proofs.Common.{◌≡◌, ℕ, Bool, not, ◌&&◌, List, ◌++◌, sym, ap, subst, ◌∙◌}
 use Rattle.gm_play.specs.Prints.{bytes_text, shut_text}
 use Rattle.gm_play.specs.Players.{TakesNoop}
-use Rattle.gm_play.proofs.Telling.{tells}
+use Rattle.gm_play.proofs.Telling.{drains, tells}
 use Rattle.gm_play.proofs.line.tell_one.Goals as goal
 use Rattle.gm_play.proofs.line.tell_one.Goals.{then-shut, else-shut}
 
@@ -15,3 +15,7 @@ returns-in_ok-put_shut g c k limits reading h =
     (λ r i. subst (λ (l : List ℕ). TakesNoop g.S.JobServer.agrees k limits r c.args.slot l c.take_noop.new.front c.take_noop.new.out.items) c.in_ok-bytes.ensures (c.in_ok-take_noop.ensures k limits r i))
     (c.in_ok-put_bytes.ensures ∙ ap (λ (l : List ℕ). c.args.out.now.items ++ bytes_text c.args.slot l) c.deref.ensures.value)
     (c.in_ok-put_shut.ensures ∙ ap (λ (b : Bool). c.put_bytes.new.out.items ++ shut_text c.args.slot b) became)
+
+pub returns-in_default : goal.returns-in_default
+returns-in_default g c k limits reading h =
+    absurd (drains g.S.JobServer.agrees k limits reading c.args.slot c.step.result c.step.new.self c.in_default.not-Ok (c.step.ensures.answers k limits reading h))
