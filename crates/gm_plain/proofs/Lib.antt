@@ -3,7 +3,7 @@ pub mod Commands
 pub mod Counting
 pub mod Dues
 pub mod HandleTexts
-pub mod LastSaid
+pub mod Passing
 pub mod Listening
 pub mod LogLemmas
 pub mod MadeJobs

@@ -1,6 +1,5 @@
 -- What single notes say, for the searches over them.
 use Rattle.std.specs.Prelude.{◌≡◌, ℕ, Bool, true, false, not, ◌&&◌, ◌==◌, if◌then◌else◌, List, [], ◌∷◌, ◌++◌, filter, Option, Some, None}
-use Rattle.std.specs.Prelude.{unwrap_or}
 use Rattle.std.specs.Option.{option_map}
 use Rattle.std.specs.Str.{bytes_eq}
 use Rattle.gm_notes.specs.declared.note.Note.{Note}
@@ -12,19 +11,6 @@ use Rattle.gm_notes.specs.Notes.{last_said, said_of, is_open, is_shut, addr, id,
 use Rattle.gm_notes.specs.Jobs.{Job, Ability, put, is_of, is_able, is_job_of, job_state, job, is_kept, report, returns, deadline}
 use Rattle.gm_notes.specs.JobStates.{is_running, place_of}
 use Rattle.gm_actions.specs.Actions.{job_of, report_of}
-
--- one note more
-pub record SaidNext {T : Type 0} (gives : Note → Option T → Type 0) (older : T → Type 0) (note : Note) (last : T) : Type 0 where
-  pub before : T
-  pub answer : Option T
-  pub said : older before
-  pub given : gives note answer
-  pub is : last ≡ unwrap_or answer before
-
--- what the notes say last, where `gives` tells what each may answer
-abbrev pub Said : {T : Type 0} → (Note → Option T → Type 0) → T → List Note → T → Type 0
-Said gives otherwise [] last = last ≡ otherwise
-Said gives otherwise (note ∷ older) last = SaidNext gives (Said gives otherwise older) note last
 
 -- one job more
 pub record PassedNext {T : Type 0} (gives : ℕ → Bool → Type 0) (step : ℕ → T → T) (older : T → Type 0) (n : ℕ) (last : T) : Type 0 where

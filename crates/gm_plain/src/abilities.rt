@@ -6,7 +6,7 @@ ghost use Rattle.gm_notes.specs.Jobs.{job_state, job, is_of, put, abilities, is_
 ghost use Rattle.gm_notes.specs.Jobs.{pick_from, able, last_function, rotated, scan};
 ghost use Rattle.gm_notes.specs.JobStates.{is_waiting};
 ghost use Rattle.gm_notes.specs.Notes.{is_open, phase, is_asleep};
-ghost use Rattle.gm_plain.specs.Searches.{says_able, ability_of, abilities_after, order_after, head, wakes_for};
+ghost use Rattle.gm_plain.specs.Searches.{ability_of, abilities_after, order_after, head, wakes_for};
 
 use crate::connections::{is_open, phase, seen};
 use crate::jobs::{job, known, known_in};
@@ -14,31 +14,30 @@ use crate::log::Log;
 use gm_notes::{Config, Note, Pick, Priority};
 use std::alloc::{AllocError, Global};
 
-fn says_able(note: &Note, slot: u32, function: &[u8]) -> Option<bool>
-    ensures { result ≡ says_able slot function.now note.now }
-{
-    match note {
-        Note::Opened { slot: c, .. } if *c == slot => Some(false),
-        Note::Closed { slot: c } if *c == slot => Some(false),
-        Note::Reset { slot: c } if *c == slot => Some(false),
-        Note::Can {
-            slot: c,
-            function: f,
-            ..
-        } if *c == slot && f.as_slice() == function => Some(true),
-        Note::Cant {
-            slot: c,
-            function: f,
-        } if *c == slot && f.as_slice() == function => Some(false),
-        _ => None,
-    }
-}
-
 /// Whether the worker in a slot can do a function.
 pub fn is_able(log: &Log, slot: u32, function: &[u8]) -> bool
     ensures { result ≡ is_able slot function.now log.now.notes }
 {
-    log.last_said(false, |note| says_able(note, slot, function))
+    let notes = log.notes();
+    let mut is_able = false;
+    for note in notes {
+        match note {
+            Note::Opened { slot: c, .. } if *c == slot => is_able = false,
+            Note::Closed { slot: c } if *c == slot => is_able = false,
+            Note::Reset { slot: c } if *c == slot => is_able = false,
+            Note::Can {
+                slot: c,
+                function: f,
+                ..
+            } if *c == slot && f.as_slice() == function => is_able = true,
+            Note::Cant {
+                slot: c,
+                function: f,
+            } if *c == slot && f.as_slice() == function => is_able = false,
+            _ => {}
+        }
+    }
+    is_able
 }
 
 /// Whether a slot is open and its worker can do a function.

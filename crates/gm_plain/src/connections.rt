@@ -2,7 +2,7 @@
 
 ghost use Rattle.std.specs.Prelude.{◌≡◌, ◌<◌, ◌∷◌, List, true};
 ghost use Rattle.gm_notes.specs.declared.note.Note.{Note};
-ghost use Rattle.gm_notes.specs.Notes.{is_open, takes_units, phase, says_moment, moment, says_mode, mode, accepts_connections};
+ghost use Rattle.gm_notes.specs.Notes.{is_open, takes_units, phase, moment, mode, accepts_connections};
 ghost use Rattle.gm_notes.specs.Steps.{free_from};
 ghost use Rattle.gm_plain.specs.Searches.{Sees};
 
@@ -99,36 +99,32 @@ pub fn phase(log: &Log, slot: u32) -> Phase
     seen(log, slot).phase
 }
 
-fn says_moment(note: &Note) -> Option<u64>
-    ensures { result ≡ says_moment note.now }
-{
-    match note {
-        Note::Now { moment } => Some(*moment),
-        _ => None,
-    }
-}
-
 /// The moment, in seconds.
 pub fn moment(log: &Log) -> u64
     ensures { result ≡ moment log.now.notes }
 {
-    log.last_said(0, says_moment)
-}
-
-fn says_mode(note: &Note) -> Option<Mode>
-    ensures { result ≡ says_mode note.now }
-{
-    match note {
-        Note::Went { mode } => Some(*mode),
-        _ => None,
+    let notes = log.notes();
+    let mut last = 0;
+    for note in notes {
+        if let Note::Now { moment } = note {
+            last = *moment;
+        }
     }
+    last
 }
 
 /// Whether the server goes on.
 pub fn mode(log: &Log) -> Mode
     ensures { result ≡ mode log.now.notes }
 {
-    log.last_said(Mode::Running, says_mode)
+    let notes = log.notes();
+    let mut last = Mode::Running;
+    for note in notes {
+        if let Note::Went { mode } = note {
+            last = *mode;
+        }
+    }
+    last
 }
 
 /// Whether the server takes new connections.

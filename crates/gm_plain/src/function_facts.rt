@@ -1,9 +1,9 @@
 //! What the log says of functions.
 
 ghost use Rattle.std.specs.Prelude.{◌≡◌, length, map, IfOk};
-ghost use Rattle.gm_notes.specs.Jobs.{functions, is_mentioned, says_limit, limit, is_live_of, total, running};
+ghost use Rattle.gm_notes.specs.Jobs.{functions, is_mentioned, limit, is_live_of, total, running};
 ghost use Rattle.gm_notes.specs.Submissions.{is_one_too_many, is_full};
-ghost use Rattle.gm_plain.specs.Searches.{says_mentioned, is_running_of};
+ghost use Rattle.gm_plain.specs.Searches.{is_running_of};
 
 use crate::jobs::{is_job_of, is_live, is_running};
 use crate::log::Log;
@@ -38,23 +38,19 @@ pub fn running(log: &Log, function: &[u8]) -> usize
     log.count_made(|job| is_running_of(log, job, function))
 }
 
-fn says_limit(note: &Note, function: &[u8]) -> Option<u32>
-    ensures { result ≡ says_limit function.now note.now }
-{
-    match note {
-        Note::Limit {
-            function: limited,
-            size,
-        } if limited.as_slice() == function => Some(*size),
-        _ => None,
-    }
-}
-
 /// How many jobs of a function may be there; 0 is no limit.
 fn limit(log: &Log, function: &[u8]) -> u32
     ensures { result ≡ limit function.now log.now.notes }
 {
-    log.last_said(0, |note| says_limit(note, function))
+    let notes = log.notes();
+    let mut limit = 0;
+    for note in notes {
+        match note {
+            Note::Limit { function: f, size } if f.as_slice() == function => limit = *size,
+            _ => {}
+        }
+    }
+    limit
 }
 
 /// Whether no more jobs of a function may be there.
@@ -65,22 +61,19 @@ pub fn is_full(log: &Log, function: &[u8]) -> bool
     limit != 0 && limit as usize <= total(log, function)
 }
 
-fn says_mentioned(note: &Note, function: &[u8]) -> Option<bool>
-    ensures { result ≡ says_mentioned function.now note.now }
-{
-    match note {
-        Note::Mention {
-            function: mentioned,
-        } if mentioned.as_slice() == function => Some(true),
-        _ => None,
-    }
-}
-
 /// Whether a function was mentioned.
 pub fn is_mentioned(log: &Log, function: &[u8]) -> bool
     ensures { result ≡ is_mentioned function.now log.now.notes }
 {
-    log.last_said(false, |note| says_mentioned(note, function))
+    let notes = log.notes();
+    let mut is_mentioned = false;
+    for note in notes {
+        match note {
+            Note::Mention { function: f } if f.as_slice() == function => is_mentioned = true,
+            _ => {}
+        }
+    }
+    is_mentioned
 }
 
 /// The functions mentioned, in the order of mention.

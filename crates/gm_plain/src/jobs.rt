@@ -12,7 +12,7 @@ ghost use Rattle.gm_notes.specs.Notes.{moment};
 ghost use Rattle.gm_actions.specs.Actions.{job_of};
 ghost use Rattle.gm_actions.specs.Carried.{IsCarried, AreNumbers};
 ghost use Rattle.gm_notes.specs.Steps.{newest};
-ghost use Rattle.gm_plain.specs.Searches.{Knows, listeners_after, says_listening, is_listening};
+ghost use Rattle.gm_plain.specs.Searches.{Knows, listeners_after, is_listening};
 
 use crate::connections::moment;
 use crate::log::Log;
@@ -196,22 +196,21 @@ pub fn listeners(alloc: Global, log: &Log, job: u64) -> Result<Vec<u32>, AllocEr
     Ok(slots)
 }
 
-fn says_listening(note: &Note, job: u64, slot: u32) -> Option<bool>
-    ensures { result ≡ says_listening job slot note.now }
-{
-    match note {
-        Note::Made { job: n, .. } if *n == job => Some(false),
-        Note::Listens { job: n, slot: c } if *n == job && *c == slot => Some(true),
-        Note::Closed { slot: c } if *c == slot => Some(false),
-        _ => None,
-    }
-}
-
 /// Whether the connection in a slot listens to a job.
 fn is_listening(log: &Log, job: u64, slot: u32) -> bool
     ensures { result ≡ is_listening job slot log.now.notes }
 {
-    log.last_said(false, |note| says_listening(note, job, slot))
+    let notes = log.notes();
+    let mut is_listening = false;
+    for note in notes {
+        match note {
+            Note::Made { job: n, .. } if *n == job => is_listening = false,
+            Note::Listens { job: n, slot: c } if *n == job && *c == slot => is_listening = true,
+            Note::Closed { slot: c } if *c == slot => is_listening = false,
+            _ => {}
+        }
+    }
+    is_listening
 }
 
 /// Whether a job has a listener.

@@ -2,9 +2,8 @@
 
 ghost use Rattle.std.specs.Prelude.{◌≡◌, ◌+◌, ◌^◌, ◌<◌, ◌≤◌, [], ◌∷◌, reverse, length, OnOk, Some, None};
 ghost use Rattle.gm_plain.specs.Logs.{NoteFits, AllFit, MayCome, AreNumbered, IsPaid, weight, paid, oldest, Spends};
-ghost use Rattle.std.specs.Fn.{FnReturnsAt};
 ghost use Rattle.gm_notes.specs.Jobs.{made};
-ghost use Rattle.gm_plain.specs.Searches.{Said, Passed};
+ghost use Rattle.gm_plain.specs.Searches.{Passed};
 
 use gm_notes::Note;
 use std::alloc::{AllocError, Global};
@@ -113,24 +112,6 @@ impl Log {
         ensures numbered { AreNumbered self.now.first self.now.notes }
     {
         self.notes.as_slice()
-    }
-
-    /// The last answer that a note gives, or this one where none gives any.
-    pub fn last_said<'a, T: Drop, F: Fn(&'a Note) -> Option<T>>(
-        &'a self,
-        otherwise: T,
-        says: F,
-    ) -> T
-        requires { F.IsAlwaysCallable says }
-        ensures last { Said (FnReturnsAt F.Fn says) otherwise self.now.notes result }
-        ensures fit { AllFit self.now.slots self.now.notes }
-    {
-        let notes = self.notes.as_slice();
-        let mut last = otherwise;
-        for note in notes {
-            last = says(note).unwrap_or(last);
-        }
-        last
     }
 
     /// How many of the jobs made pass a test.

@@ -1,7 +1,7 @@
 use Rattle.std.proofs.Common.{rules}
 use Rattle.gm_notes.specs.Jobs.{made}
 use Rattle.gm_plain.specs.Searches.{is_running_of}
-use Rattle.gm_plain.proofs.LastSaid.{counted_is}
+use Rattle.gm_plain.proofs.Passing.{counted_is}
 use Rattle.gm_plain.proofs.function_facts.running.Goals as goal
 
 pub returns : goal.returns

@@ -1,6 +1,6 @@
 use Rattle.std.proofs.Common.{rules}
 use Rattle.gm_notes.specs.Jobs.{made, is_live_of}
-use Rattle.gm_plain.proofs.LastSaid.{counted_is}
+use Rattle.gm_plain.proofs.Passing.{counted_is}
 use Rattle.gm_plain.proofs.function_facts.total.Goals as goal
 
 pub returns : goal.returns

@@ -1,7 +1,7 @@
 use Rattle.std.proofs.Common.{rules, ◌∙◌}
 use Rattle.gm_notes.specs.Jobs.{made}
 use Rattle.gm_plain.specs.Searches.{is_number}
-use Rattle.gm_plain.proofs.LastSaid.{found_is}
+use Rattle.gm_plain.proofs.Passing.{found_is}
 use Rattle.gm_plain.proofs.HandleTexts.{handle_found}
 use Rattle.gm_plain.proofs.handles.job_of_handle.Goals as goal
 

@@ -1,6 +1,6 @@
 use Rattle.std.proofs.Common.{rules, true, length, List, ℕ, ap, ◌∙◌}
 use Rattle.gm_notes.specs.Jobs.{made}
-use Rattle.gm_plain.proofs.LastSaid.{counted_is, all_pass}
+use Rattle.gm_plain.proofs.Passing.{counted_is, all_pass}
 use Rattle.gm_plain.proofs.jobs.count_made.Goals as goal
 
 pub returns : goal.returns

@@ -1,6 +1,6 @@
 use Rattle.std.proofs.Common.{◌≡◌, true, find, rules, refl, sym, ◌∙◌}
 use Rattle.gm_notes.specs.Jobs.{made, joins, joined, is_live_named}
-use Rattle.gm_plain.proofs.LastSaid.{found_is}
+use Rattle.gm_plain.proofs.Passing.{found_is}
 use Rattle.gm_plain.proofs.jobs.joined.Goals as goal
 
 pub returns : goal.returns

@@ -1,6 +1,6 @@
 use Rattle.std.proofs.Common.{rules, true, ◌∙◌}
 use Rattle.gm_notes.specs.Jobs.{made}
-use Rattle.gm_plain.proofs.LastSaid.{found_is, newest_is}
+use Rattle.gm_plain.proofs.Passing.{found_is, newest_is}
 use Rattle.gm_plain.proofs.jobs.newest.Goals as goal
 
 pub returns : goal.returns

@@ -1,7 +1,7 @@
 use Rattle.std.proofs.Common.{◌+◌, true, false, subst, arith, take, reverse, sym}
 use Rattle.gm_notes.specs.Jobs.{made}
 use Rattle.gm_plain.specs.Searches.{Passed}
-use Rattle.gm_plain.proofs.LastSaid.{passed_made, passed_over}
+use Rattle.gm_plain.proofs.Passing.{passed_made, passed_over}
 use Rattle.gm_plain.proofs.log.Log.count_made.Goals as goal
 use Rattle.gm_plain.proofs.log.Log.count_made.Goals.{in-Made+then-test, in-Made+else-test, in_default}
 

@@ -1,24 +1,13 @@
--- What notes say last.
+-- The jobs made that pass a test.
 use Rattle.std.proofs.Common.{◌≡◌, ℕ, ◌+◌, ◌<◌, Bool, true, false, if◌then◌else◌, List, [], ◌∷◌, length, take, get_or, reverse, filter}
-use Rattle.std.proofs.Common.{find, Option, Some, None, refl, sym, ap, ap₂, subst, ◌∙◌, arith}
-use Rattle.std.specs.Prelude.{unwrap_or}
+use Rattle.std.proofs.Common.{find, Option, Some, None, refl, sym, ap, subst, ◌∙◌, arith}
 use Rattle.gm_notes.specs.declared.note.Note.{Note}
-use Rattle.gm_notes.specs.Notes.{last_said}
 use Rattle.gm_notes.specs.declared.states.Priority.{Priority}
 use Rattle.gm_notes.specs.declared.note.Note.TheVariants.{Made}
 use Rattle.gm_notes.specs.Jobs.{made}
 use Rattle.gm_notes.specs.Steps.{newest}
-use Rattle.gm_plain.specs.Searches.{Said, Passed}
+use Rattle.gm_plain.specs.Searches.{Passed}
 use Rattle.gm_plain.proofs.NoteLemmas.{note_next}
-
--- where each answer is what the note says, the last is what the notes say last
-pub said_is : {T : Type 0} (says : Note → Option T) (gives : Note → Option T → Type 0) → ((note : Note) (answer : Option T) → gives note answer → answer ≡ says note)
-    → (otherwise : T) (notes : List Note) (last : T) → Said gives otherwise notes last → last ≡ last_said says otherwise notes
-said_is says gives means otherwise [] last said = said
-said_is says gives means otherwise (note ∷ older) last said =
-    said.is ∙ ap₂ unwrap_or (means note said.answer said.given) (said_is says gives means otherwise older said.before said.said)
-
--- ---- jobs that pass a test
 
 module _ {T : Type 0} (gives : ℕ → Bool → Type 0) (start : T) (step : ℕ → T → T) (notes : List Note) (i : ℕ) (note : Note) (lt : i < length notes) (is : note ≡ get_or notes i note) where
   -- a note that makes a job
