@@ -3,12 +3,12 @@ pub mod Commands
 pub mod Counting
 pub mod Dues
 pub mod HandleTexts
-pub mod Passing
 pub mod Listening
 pub mod LogLemmas
 pub mod MadeJobs
 pub mod NoteLemmas
 pub mod OutboxLemmas
+pub mod Passing
 pub mod Picks
 pub mod ServerLemmas
 pub mod ServerLoops

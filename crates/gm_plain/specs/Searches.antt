@@ -12,19 +12,6 @@ use Rattle.gm_notes.specs.Jobs.{Job, Ability, put, is_of, is_able, is_job_of, jo
 use Rattle.gm_notes.specs.JobStates.{is_running, place_of}
 use Rattle.gm_actions.specs.Actions.{job_of, report_of}
 
--- one job more
-pub record PassedNext {T : Type 0} (gives : ℕ → Bool → Type 0) (step : ℕ → T → T) (older : T → Type 0) (n : ℕ) (last : T) : Type 0 where
-  pub before : T
-  pub passes : Bool
-  pub passed : older before
-  pub given : gives n passes
-  pub is : last ≡ (if passes then step n before else before)
-
--- what comes of taking a step at each job that passes, the oldest first, where `gives` tells whether it may pass
-abbrev pub Passed : {T : Type 0} → (ℕ → Bool → Type 0) → T → (ℕ → T → T) → List ℕ → T → Type 0
-Passed gives start step [] last = last ≡ start
-Passed gives start step (n ∷ jobs) last = PassedNext gives step (Passed gives start step jobs) n last
-
 -- this is what the notes say of slot c
 pub record Sees (c : ℕ) (notes : List Note) (facts : SlotFacts) : Type 0 where
   pub is_open : facts.is_open ≡ is_open c notes

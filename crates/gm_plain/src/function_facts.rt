@@ -21,7 +21,16 @@ fn is_live_of(log: &Log, number: u64, function: &[u8]) -> bool
 pub fn total(log: &Log, function: &[u8]) -> usize
     ensures { result ≡ total function.now log.now.notes }
 {
-    log.count_made(|job| is_live_of(log, job, function))
+    let notes = log.notes();
+    let mut count = 0;
+    for note in notes {
+        if let Note::Made { job, .. } = note {
+            if is_live_of(log, *job, function) {
+                count += 1;
+            }
+        }
+    }
+    count
 }
 
 /// Whether a job runs, and is of this function.
@@ -35,7 +44,16 @@ fn is_running_of(log: &Log, number: u64, function: &[u8]) -> bool
 pub fn running(log: &Log, function: &[u8]) -> usize
     ensures { result ≡ running function.now log.now.notes }
 {
-    log.count_made(|job| is_running_of(log, job, function))
+    let notes = log.notes();
+    let mut count = 0;
+    for note in notes {
+        if let Note::Made { job, .. } = note {
+            if is_running_of(log, *job, function) {
+                count += 1;
+            }
+        }
+    }
+    count
 }
 
 /// How many jobs of a function may be there; 0 is no limit.

@@ -6,7 +6,7 @@ ghost use Rattle.gm_plain.specs.Searches.{is_number};
 
 use crate::log::Log;
 use gm_actions::number_in;
-use gm_notes::Config;
+use gm_notes::{Config, Note};
 
 /// Whether a job has this number, if there is one.
 fn is_number(job: u64, number: Option<u64>) -> bool
@@ -23,5 +23,13 @@ pub fn job_of_handle(log: &Log, config: &Config, text: &[u8]) -> Option<u64>
     ensures { result ≡ job_of_handle config.now text.now log.now.notes }
 {
     let number = number_in(config, text);
-    log.last_made(|job| is_number(job, number))
+    let notes = log.notes();
+    let mut found = None;
+    for note in notes {
+        match note {
+            Note::Made { job, .. } if is_number(*job, number) => found = Some(*job),
+            _ => {}
+        }
+    }
+    found
 }

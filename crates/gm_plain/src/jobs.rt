@@ -279,14 +279,30 @@ pub fn joined(log: &Log, function: &[u8], unique: &[u8]) -> Option<u64>
     if !is_joining(unique) {
         return None;
     }
-    log.last_made(|job| is_live_named(log, job, function, unique))
+    let notes = log.notes();
+    let mut found = None;
+    for note in notes {
+        if let Note::Made { job, .. } = note {
+            if is_live_named(log, *job, function, unique) {
+                found = Some(*job);
+            }
+        }
+    }
+    found
 }
 
 /// How many jobs were made.
 pub fn count_made(log: &Log) -> usize
     ensures { result ≡ length (made log.now.notes) }
 {
-    log.count_made(|_| true)
+    let notes = log.notes();
+    let mut count = 0;
+    for note in notes {
+        if let Note::Made { .. } = note {
+            count += 1;
+        }
+    }
+    count
 }
 
 /// The job made as the one with this index, from 0.
@@ -310,7 +326,14 @@ pub fn job_at(log: &Log, index: usize) -> Option<u64>
 pub fn newest(log: &Log) -> Option<u64>
     ensures { result ≡ newest (made log.now.notes) }
 {
-    log.last_made(|_| true)
+    let notes = log.notes();
+    let mut newest = None;
+    for note in notes {
+        if let Note::Made { job, .. } = note {
+            newest = Some(*job);
+        }
+    }
+    newest
 }
 
 /// The number of the next job, where the first has this number; `None` once the last was given out.

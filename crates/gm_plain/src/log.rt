@@ -2,8 +2,6 @@
 
 ghost use Rattle.std.specs.Prelude.{◌≡◌, ◌+◌, ◌^◌, ◌<◌, ◌≤◌, [], ◌∷◌, reverse, length, OnOk, Some, None};
 ghost use Rattle.gm_plain.specs.Logs.{NoteFits, AllFit, MayCome, AreNumbered, IsPaid, weight, paid, oldest, Spends};
-ghost use Rattle.gm_notes.specs.Jobs.{made};
-ghost use Rattle.gm_plain.specs.Searches.{Passed};
 
 use gm_notes::Note;
 use std::alloc::{AllocError, Global};
@@ -112,41 +110,6 @@ impl Log {
         ensures numbered { AreNumbered self.now.first self.now.notes }
     {
         self.notes.as_slice()
-    }
-
-    /// How many of the jobs made pass a test.
-    pub fn count_made<F: Fn(u64) -> bool>(&self, test: F) -> usize
-        requires { F.IsAlwaysCallable test }
-        ensures { Passed (λ n passes. F.post test n passes) 0 (λ n count. count + 1) (made self.now.notes) result }
-    {
-        let notes = self.notes.as_slice();
-        let mut count = 0;
-        for note in notes {
-            if let Note::Made { job, .. } = note {
-                if test(*job) {
-                    count += 1;
-                }
-            }
-        }
-        count
-    }
-
-    /// The job made last of those that pass a test.
-    pub fn last_made<F: Fn(u64) -> bool>(&self, test: F) -> Option<u64>
-        requires { F.IsAlwaysCallable test }
-        ensures last { Passed (λ n passes. F.post test n passes) None (λ n found. Some n) (made self.now.notes) result }
-        ensures fit { AllFit self.now.slots self.now.notes }
-    {
-        let notes = self.notes.as_slice();
-        let mut found = None;
-        for note in notes {
-            if let Note::Made { job, .. } = note {
-                if test(*job) {
-                    found = Some(*job);
-                }
-            }
-        }
-        found
     }
 
     /// Finds memory for more notes, counted by their weight.

@@ -1,8 +1,20 @@
-use Rattle.std.proofs.Common.{rules}
-use Rattle.gm_notes.specs.Jobs.{made}
+use Rattle.std.proofs.Common.{sym, ◌∙◌}
 use Rattle.gm_plain.specs.Searches.{is_running_of}
-use Rattle.gm_plain.proofs.Passing.{counted_is}
+use Rattle.gm_plain.proofs.Passing.{counted_one, counted_none, counted_not}
 use Rattle.gm_plain.proofs.function_facts.running.Goals as goal
+use Rattle.gm_plain.proofs.function_facts.running.Goals.{in-Made+then-is_running_of, in-Made+else-is_running_of, in_default}
 
-pub returns : goal.returns
-returns c = counted_is (is_running_of c.args.function.now c.args.log.now.notes) _ (λ n passes given. search rules) (made c.args.log.now.notes) c.count_made.result c.count_made.ensures
+pub loop-note-preserved : goal.loop-note-preserved
+loop-note-preserved c =
+    let P = is_running_of c.args.function.now c.args.log.now.notes in
+    let i = c.loop-note.note-index in
+    let notes = c.notes-notes.result.now in
+    elim c.match-note.branch [
+      | in-Made+then-is_running_of w ↦
+          counted_one P notes i c.note-item.result c.loop-note-test.true c.note-item.is w.in-Made.job w.in-Made.function w.in-Made.priority w.in-Made.unique w.in-Made.body w.in-Made.is
+          c.loop-note.count c.match-note.count (sym w.is_running_of.ensures ∙ w.if-is_running_of.true) w.count-is c.loop-note.invariant
+      | in-Made+else-is_running_of w ↦
+          counted_none P notes i c.note-item.result c.loop-note-test.true c.note-item.is w.in-Made.job w.in-Made.function w.in-Made.priority w.in-Made.unique w.in-Made.body w.in-Made.is
+          c.loop-note.count c.match-note.count (sym w.is_running_of.ensures ∙ w.if-is_running_of.false) w.count-is c.loop-note.invariant
+      | in_default w ↦ counted_not P notes i c.note-item.result c.loop-note-test.true c.note-item.is w.in_default.not-Made c.loop-note.count c.match-note.count w.count-is c.loop-note.invariant
+    ]
