@@ -1,5 +1,5 @@
 -- What the notes that may yet come without memory cost, as one note comes.
-use Rattle.std.proofs.Common.{◌≡◌, ℕ, zero, suc, ◌+◌, ◌<◌, ◌≤◌, Bool, true, false, List, [], ◌∷◌, length, Some, None, refl, sym, ap}
+use Rattle.std.proofs.Common.{◌≡◌, ℕ, zero, suc, ◌+◌, ◌<◌, ◌≤◌, ◌^◌, Bool, true, false, List, [], ◌∷◌, ◌++◌, length, Some, None, refl, sym, ap, ap₂, ◌∙◌}
 use Rattle.std.proofs.Common.{subst, arith}
 use Rattle.std.specs.Prelude.{◌==◌, if◌then◌else◌, unwrap_or}
 use Rattle.std.proofs.lemmas.Bool.Decides.{nat_tests}
@@ -12,9 +12,10 @@ use Rattle.gm_notes.specs.Notes.{is_open, phase, is_asleep, is_owed}
 use Rattle.gm_notes.specs.Jobs.{job_state, made}
 use Rattle.gm_notes.specs.JobStates.{JobState, is_waiting, is_running, is_running_at, is_live}
 use Rattle.gm_notes.specs.JobStates as states
-use Rattle.gm_plain.specs.Logs.{NoteFits, AllFit, MayCome, AreNumbered, IsPaid, total_of, due_of_open, due_of_phase, due_of_job_state}
+use Rattle.gm_plain.specs.Logs.{NoteFits, AllFit, MayCome, AreNumbered, AreInOrder, IsPaid, numbers_from, total_of, due_of_open, due_of_phase, due_of_job_state}
 use Rattle.gm_plain.specs.Logs.{slot_due, slots_due, jobs_due, due, weight, paid}
 use Rattle.gm_plain.proofs.LogLemmas.{open_below}
+use Rattle.std.proofs.lemmas.List.{reverse-append}
 use Rattle.gm_plain.proofs.NoteLemmas.{self}
 
 -- ---- sums in which one term changes
@@ -243,11 +244,26 @@ numbered_next slots first (Ended m) notes stands numbered n = live_if (n == m) n
 numbered_next slots first (Discarded m) notes stands numbered n = live_if (n == m) n m first (length (made notes)) states.Discarded (job_state n notes) refl (λ live. absurd cc) (numbered n)
 numbered_next slots first note notes stands numbered n = numbered n
 
+in_order_after : (n count : ℕ) → numbers_from n count ++ (n + count) ∷ [] ≡ numbers_from n (suc count)
+in_order_after n zero = let same : n + 0 ≡ n = omega arith in ap (λ m. m ∷ []) same
+in_order_after n (suc count) =
+    let same : n + suc count ≡ suc n + count = omega arith in
+    ap (λ l. n ∷ l) (ap (λ m. numbers_from (suc n) count ++ m ∷ []) same ∙ in_order_after (suc n) count)
+
+in_order_next : (slots first : ℕ) (note : Note) (notes : List Note) → MayCome slots first note notes → NoteFits slots note → AreInOrder first notes → AreInOrder first (note ∷ notes)
+in_order_next slots first (Made n f p u body) notes stands fits ordered = record {
+  rising = reverse-append (n ∷ []) (made notes)
+      ∙ (ap₂ (λ (l : List ℕ) m. l ++ m ∷ []) ordered.rising stands ∙ in_order_after first (length (made notes)));
+  small = omega (arith, fits.1, stands);
+}
+in_order_next slots first note notes stands fits ordered = record { rising = ordered.rising; small = ordered.small }
+
 pub paid_next : (slots first : ℕ) (note : Note) (notes : List Note) → MayCome slots first note notes → NoteFits slots note → IsPaid slots first notes
     → IsPaid slots first (note ∷ notes)
 paid_next slots first note notes stands fits paid = record {
   fit = (fits, paid.fit);
   numbered = numbered_next slots first note notes stands paid.numbered;
+  in_order = in_order_next slots first note notes stands fits paid.in_order;
   covered = let next = due_next slots first note notes stands paid.fit paid.numbered in omega (arith, next, paid.covered);
 }
 
@@ -264,9 +280,10 @@ none_due f s (suc n) none =
     let rest = none_due f s n none in
     omega (arith, here, rest)
 
-pub nothing_due : (slots first : ℕ) → IsPaid slots first []
-nothing_due slots first = record {
+pub nothing_due : (slots first : ℕ) → first ≤ 2 ^ 64 → IsPaid slots first []
+nothing_due slots first small = record {
   fit = tt;
   numbered = λ n live. absurd cc;
+  in_order = record { rising = refl; small = omega (arith, small) };
   covered = let none = none_due (λ c. slot_due c []) 0 slots (λ c. refl) in omega (arith, none);
 }

@@ -1,7 +1,6 @@
 -- Loops of the plain server that go over slots or jobs.
-use Rattle.std.proofs.Common.{◌≡◌, ℕ, zero, suc, ◌+◌, ◌≤◌, List, [], ◌∷◌, length, drop, Option, Some, None, refl, sym, ap, subst, ◌∙◌}
+use Rattle.std.proofs.Common.{◌≡◌, ℕ, zero, suc, ◌+◌, ◌≤◌, List, [], ◌∷◌, length, drop, Some, sym, ap, subst, ◌∙◌}
 use Rattle.std.specs.Prelude.{slice_get}
-use Rattle.std.proofs.Math.Seq.{drop-nil}
 use Rattle.std.proofs.Math.ListN.{drop_of_length-le}
 use Rattle.std.proofs.Math.Numerals.{add-one}
 use Rattle.gm_notes.specs.Settings.{Settings}
@@ -32,11 +31,6 @@ job_next [] i n e = absurd cc
 job_next (x ∷ all) zero n e = let same : x ≡ n = cc in ap (λ y. y ∷ all) same
 job_next (x ∷ all) (suc i) n e = job_next all i n e
 
-none_next : (all : List ℕ) (i : ℕ) → slice_get all i ≡ None → drop i all ≡ drop (suc i) all
-none_next [] i e = drop-nil i ∙ sym (drop-nil (suc i))
-none_next (x ∷ all) zero e = absurd cc
-none_next (x ∷ all) (suc i) e = none_next all i e
-
 module _ (fold : List ℕ → Past → Past) (one : ℕ → Past → Past) (goes_on : (n : ℕ) (jobs : List ℕ) (past : Past) → fold (n ∷ jobs) past ≡ fold jobs (one n past)) where
   pub next_job : (old new : PlainServer) (all : List ℕ) (i n : ℕ) (past : Past) → slice_get all i ≡ Some n → ((p : Past) → Keeps old p → Keeps new (one n p))
       → Folding old fold (drop i all) all past → Folding new fold (drop (i + 1) all) all past
@@ -46,17 +40,6 @@ module _ (fold : List ℕ → Past → Past) (one : ℕ → Past → Past) (goes
     leads = so_far.leads ∙ (ap (λ (l : List ℕ). fold l so_far.now) (job_next all i n at) ∙ (goes_on n (drop (suc i) all) so_far.now ∙ ap (λ (j : ℕ). fold (drop j all) (one n so_far.now)) (sym (add-one i))));
   }
 
-  pub next_none : (old : PlainServer) (all : List ℕ) (i : ℕ) (past : Past) → slice_get all i ≡ None → Folding old fold (drop i all) all past → Folding old fold (drop (i + 1) all) all past
-  next_none old all i past at so_far = record {
-    now = so_far.now;
-    keeps = so_far.keeps;
-    leads = so_far.leads ∙ (ap (λ (l : List ℕ). fold l so_far.now) (none_next all i at) ∙ ap (λ (j : ℕ). fold (drop j all) so_far.now) (sym (add-one i)));
-  }
-
   pub folded : (server : PlainServer) (all : List ℕ) (i : ℕ) (past : Past) → ((p : Past) → fold [] p ≡ p) → length all ≤ i → Folding server fold (drop i all) all past → Keeps server (fold all past)
   folded server all i past ends le so_far =
       subst (Keeps server) (sym (so_far.leads ∙ (ap (λ (l : List ℕ). fold l so_far.now) (drop_of_length-le all le) ∙ ends so_far.now))) so_far.keeps
-
-pub not_some : (o : Option ℕ) → ((n : ℕ) → o ≡ Some n → ⊥) → o ≡ None
-not_some None other = refl
-not_some (Some n) other = absurd (other n refl)

@@ -116,10 +116,21 @@ MayCome slots first note older = Unit {0}
 abbrev pub AreNumbered : ℕ → List Note → Type 0
 AreNumbered first notes = (n : ℕ) → is_live (job_state n notes) ≡ true → (first ≤ n) × (n < first + length (made notes))
 
+-- so many numbers, from n on
+abbrev pub numbers_from : ℕ → ℕ → List ℕ
+numbers_from n zero = []
+numbers_from n (suc count) = n ∷ numbers_from (suc n) count
+
+-- the jobs made are numbered one after another
+pub record AreInOrder (first : ℕ) (notes : List Note) : Type 0 where
+  pub rising : reverse (made notes) ≡ numbers_from first (length (made notes))
+  pub small : first + length (made notes) ≤ 2 ^ 64
+
 -- what of the notes is kept, and what is paid for: all that is there, and all that may come without memory
 pub record IsPaid (slots first : ℕ) (notes : List Note) : Type 0 where
   pub fit : AllFit slots notes
   pub numbered : AreNumbered first notes
+  pub in_order : AreInOrder first notes
   pub covered : length notes + due slots first notes ≤ paid notes
 
 -- the most notes of the paying kinds that were added

@@ -1,6 +1,6 @@
 //! What notes say of jobs, found by searching them.
 
-ghost use Rattle.std.specs.Prelude.{◌≡◌, ◌<◌, ◌≤◌, ◌+◌, ◌^◌, ◌==◌, ◌∷◌, List, length, not, reverse, slice_get, map, IfSome, IfOk, OnOk};
+ghost use Rattle.std.specs.Prelude.{◌≡◌, ◌<◌, ◌≤◌, ◌+◌, ◌^◌, ◌==◌, ◌∷◌, List, length, not, reverse, slice_get, map, Some, IfSome, IfOk, OnOk};
 ghost use Rattle.std.specs.Option.{option_map};
 ghost use Rattle.std.specs.List.{All};
 ghost use Rattle.gm_notes.specs.declared.note.Note.{Note};
@@ -306,20 +306,11 @@ pub fn count_made(log: &Log) -> usize
 }
 
 /// The job made as the one with this index, from 0.
-pub fn job_at(log: &Log, index: usize) -> Option<u64>
-    ensures { result ≡ slice_get (reverse (made log.now.notes)) index }
+pub fn job_at(log: &Log, index: usize) -> u64
+    requires { index < length (made log.now.notes) }
+    ensures { slice_get (reverse (made log.now.notes)) index ≡ Some result }
 {
-    let notes = log.notes();
-    let mut before = index;
-    for note in notes {
-        if let Note::Made { job, .. } = note {
-            if before == 0 {
-                return Some(*job);
-            }
-            before -= 1;
-        }
-    }
-    None
+    log.first() + index as u64
 }
 
 /// The job made last.

@@ -1,7 +1,7 @@
 //! The notes, and the room for more.
 
 ghost use Rattle.std.specs.Prelude.{◌≡◌, ◌+◌, ◌^◌, ◌<◌, ◌≤◌, [], ◌∷◌, reverse, length, OnOk, Some, None};
-ghost use Rattle.gm_plain.specs.Logs.{NoteFits, AllFit, MayCome, AreNumbered, IsPaid, weight, paid, oldest, Spends};
+ghost use Rattle.gm_plain.specs.Logs.{NoteFits, AllFit, MayCome, AreInOrder, IsPaid, weight, paid, oldest, Spends};
 
 use gm_notes::Note;
 use std::alloc::{AllocError, Global};
@@ -103,11 +103,18 @@ impl Log {
         self.slots
     }
 
+    /// The number of the first job.
+    pub fn first(&self) -> u64
+        ensures value { result ≡ self.now.first }
+        ensures in_order { AreInOrder self.now.first self.now.notes }
+    {
+        self.first
+    }
+
     /// The notes, the newest last.
     pub fn notes(&self) -> &[Note]
         ensures order { reverse result.now ≡ self.now.notes }
         ensures fit { AllFit self.now.slots self.now.notes }
-        ensures numbered { AreNumbered self.now.first self.now.notes }
     {
         self.notes.as_slice()
     }

@@ -60,9 +60,8 @@ impl PlainServer {
         ensures { Goes self.old self.new (λ past. discard_each (rising past) past) }
     {
         for index in 0..count_made(&self.log) {
-            if let Some(job) = job_at(&self.log, index) {
-                self.discard_one(job);
-            }
+            let job = job_at(&self.log, index);
+            self.discard_one(job);
         }
     }
 
@@ -121,9 +120,8 @@ impl PlainServer {
         ensures { Goes self.old self.new (λ past. give_back_each self.old.config slot (rising past) past) }
     {
         for index in 0..count_made(&self.log) {
-            if let Some(job) = job_at(&self.log, index) {
-                self.give_back_one(slot, job);
-            }
+            let job = job_at(&self.log, index);
+            self.give_back_one(slot, job);
         }
     }
 }

@@ -61,9 +61,8 @@ impl PlainServer {
         ensures grew { Grew self.old self.new }
     {
         for index in 0..count_made(&self.log) {
-            if let Some(job) = job_at(&self.log, index) {
-                self.expire_one(job)?;
-            }
+            let job = job_at(&self.log, index);
+            self.expire_one(job)?;
         }
         Ok(())
     }
