@@ -1,13 +1,13 @@
 /* A worker (slot 0) that sleeps between jobs, and a client (slot 1) that submits JOBS foreground jobs; each with its reader
- * and its finisher, or with FEW with one I/O thread (Applier::step, take_turn and unload, applier.rt; Booked::hold, resolve_noop and
+ * and its finisher, or with FEW with one I/O thread (Applier::step and unload, applier.rt; ServerState::read and notify; Booked::hold, resolve_noop and
  * follow, book.rt; sync_word, words.rt; ServerState::deliver, state.rt; lane.rt). A turn ends after a unit of its choice, or with the last
  * one. Then others are notified.
  * The worker's peer is that of libgearman: GRAB_JOB until NO_JOB, then PRE_SLEEP, then nothing until a NOOP; IMPATIENT times
  * it may also ask by itself, and DROWSY times it answers a NOOP by another PRE_SLEEP. It goes by the order of its stream; a NOOP that
  * comes while it is awake is passed over. With SECONDS the clock goes on so often, the control thread and the worker's reader hand in
- * the time (ServerState::update_time and tick, state.rt), and a tick may end a running job.
+ * the time (Host::update and tick, host.rt), and a tick may end a running job.
  * NOOPs: in every quiescent state each job was done and its end sent, the worker sleeps, and nothing waits or is left; each NOOP owed
- * is sent once or withdrawn once. No deadlock, with batch_lock and long_piece_lock, the control desk and the book. Order.
+ * is sent once or withdrawn once. No deadlock, with the locks of turns, the control desk and the book. Order.
  * Ticks: each second is handed in once, in order, and a job is handed out only once the second that its worker's thread read was. */
 #define N 2
 #ifndef JOBS
@@ -42,8 +42,8 @@ byte parked = 0;         /* finishers that wait to be woken */
 #define JOB_ASSIGN 1
 #define ERROR      2
 
-bit  batch_lock = 0;
-bit  long_piece_lock = 0;
+bit  turn_lock = 0;
+bit  long_turn_lock = 0;
 /* The control desk's lock, the second that is kept beside it, the book's, and the clock */
 bit  control = 0;
 byte second = 0;
@@ -189,21 +189,23 @@ inline at_lane() {
     is_later = false
 }
 
-/* Batch::admit (batch.rt): each unit after the free ones waits for batch_lock, in a long turn behind long_piece_lock. */
+/* Batch::admit (batch.rt): each unit after the free ones waits for the lock of turns, in a long turn
+ * behind that of long ones. */
 inline admit() {
 #ifdef LONG
     if
     :: alone
     :: !alone
-    :: !alone -> LOCK(batch_lock); alone = true
-    :: !alone -> LOCK(long_piece_lock); queued = true; LOCK(batch_lock); alone = true
+    :: !alone -> LOCK(turn_lock); alone = true
+    :: !alone -> LOCK(long_turn_lock); queued = true; LOCK(turn_lock); alone = true
     fi
 #else
     skip
 #endif
 }
 
-/* ServerState::update_time and tick (state.rt). A tick may end a job that runs: its client is sent WORK_FAIL. */
+/* Host::update and tick (host.rt). A tick may end a job that runs: its client is sent WORK_FAIL. What a tick touched is added to
+ * the effects. */
 inline update_time() {
     read_second = clock;
 #if SECONDS > 0
@@ -225,7 +227,7 @@ inline update_time() {
                 assert(read_second > book_second);     /* ticks: each second once, in order */
                 book_second = read_second;
                 if
-                :: running > 0 -> running--; given_up++; put[1]++; todo = 2
+                :: running > 0 -> running--; given_up++; put[1]++; touched = touched | 2
                 :: true
                 fi };
 #ifndef M_SECOND_BEFORE_THE_TICK
@@ -239,14 +241,14 @@ inline update_time() {
 #endif
 }
 
-/* Applier::take_turn (applier.rt), as a turn ends: the locks are released, and others notified. */
+/* Applier::unload (applier.rt) and ServerState::read (serving.rt), as a turn ends: the locks are released, and others notified. */
 inline end_turn() {
     if
-    :: alone -> UNLOCK(batch_lock); alone = false
+    :: alone -> UNLOCK(turn_lock); alone = false
     :: else
     fi;
     if
-    :: queued -> UNLOCK(long_piece_lock); queued = false
+    :: queued -> UNLOCK(long_turn_lock); queued = false
     :: else
     fi;
     todo = touched; touched = 0
@@ -348,7 +350,7 @@ proctype Control() {
     :: true ->
 end_control: if
         :: clock < SECONDS -> clock++
-        :: second < clock -> update_time()
+        :: second < clock -> update_time(); todo = touched; touched = 0   /* ServerState::update_time (state.rt) */
         fi;
         at_lane();
         fin = NOTHING
@@ -395,7 +397,7 @@ init {
 #ifndef NO_MONITOR
 active proctype Monitor() {
 end: timeout ->
-    assert(book == 0 && batch_lock == 0 && long_piece_lock == 0 && control == 0);
+    assert(book == 0 && turn_lock == 0 && long_turn_lock == 0 && control == 0);
     assert(book_second == SECONDS);
     assert(lock[0] == 0 && lock[1] == 0 && lw[0] == LANE_IDLE && lw[1] == LANE_IDLE);
 #ifndef FEW

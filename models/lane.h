@@ -506,7 +506,8 @@ end_waits: (MATTERS(s));
 #endif
 }
 
-/* Lane::deliver_claimed (lane.rt), with Claim::hand_over, Attempt::hand_over and finish, and Lane::wake_for; fin says what came of it. */
+/* Lane::deliver_claimed (lane.rt), with Claim::hand_over, Attempt::hand_over and finish, and then Leftover::new and settle (finish.rt): the
+ * finisher is woken once the lane is left to it. fin says what came of it. */
 inline deliver_claimed(s) {
     attempts = 0;
     do
@@ -606,7 +607,7 @@ inline take_over(s) {
 inline deliver_as(s, deliverer) {
     atomic { take_over(s); who = deliverer; fin = (has -> NOTHING : PENDING) };
     if
-    :: !has && who < HURRIES -> token[s] = true     /* Lane::wake_for */
+    :: !has && who < HURRIES -> token[s] = true     /* Leftover::settle */
     :: else
     fi
 }

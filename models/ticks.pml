@@ -1,7 +1,7 @@
 /* THREADS threads that read from workers, which each grab GRABS times, the control thread, and a clock that goes on SECONDS times. Each of
- * them hands in the time before a grab, and the control thread before each connection that it takes (ServerState::update_time and tick,
- * state.rt; Applier::apply_unit, applier.rt; Control::take_all and admit, accepting.rt). With LONG a thread may hold its batch's locks
- * over its unit. What a tick queues is a count, and a slot's touch notes it (deliver.pml has what comes of a touch).
+ * them hands in the time before a grab, and the control thread before each connection that it takes (Host::update and tick,
+ * host.rt; Applier::apply_unit and prepare, applier.rt; Control::take_all and admit, accepting.rt). With LONG a thread may hold the locks
+ * of turns over its unit. Others are notified of a tick as the turn ends, with these locks released. What a tick queues is a count, and a slot's touch notes it (deliver.pml has what comes of a touch).
  * Ticks: each second is handed in once, in order; a grab comes only once the second that its thread read was; the last
  * second is; each slot that a tick touched is touched. No deadlock. */
 #ifndef THREADS
@@ -20,17 +20,17 @@
 #define UNLOCK(m) m = 0
 
 bit  book = 0;
-bit  control = 0;        /* ServerState::control */
-bit  batch_lock = 0;
-bit  long_piece_lock = 0;
-byte second = 0;         /* ServerState::second */
+bit  control = 0;        /* Host::desk */
+bit  turn_lock = 0;
+bit  long_turn_lock = 0;
+byte second = 0;         /* Host::second */
 byte book_second = 0;    /* the core's */
 byte clock = 0;
 byte queued = 0;         /* by ticks, for a slot that listens */
 byte touched = 0;        /* what its last touch came behind */
 byte opens = 0;
 
-/* ServerState::update_time and tick (state.rt) */
+/* Host::update and tick (host.rt): is_first if this thread handed the second in. */
 inline update_time() {
     now = clock;
     if
@@ -60,14 +60,18 @@ inline update_time() {
 #endif
 #endif
         fi;
-        UNLOCK(control);
+        UNLOCK(control)
+    :: else
+    fi
+}
+
+/* ServerState::notify (state.rt) */
+inline notify() {
 #ifdef M_TICK_NOTIFIES_NOBODY
-        is_first = false;
+    is_first = false;
 #endif
-        if
-        :: is_first -> touched = queued; is_first = false
-        :: else
-        fi
+    if
+    :: is_first -> touched = queued; is_first = false
     :: else
     fi
 }
@@ -80,8 +84,8 @@ proctype Thread() {
 #ifdef LONG
         if
         :: true
-        :: LOCK(batch_lock); alone = true
-        :: LOCK(long_piece_lock); long_lock = true; LOCK(batch_lock); alone = true
+        :: LOCK(turn_lock); alone = true
+        :: LOCK(long_turn_lock); long_lock = true; LOCK(turn_lock); alone = true
         fi;
 #endif
 #ifdef M_TIME_AFTER_THE_GRAB
@@ -91,13 +95,14 @@ proctype Thread() {
 #endif
         atomic { (book == 0) -> assert(book_second >= now) };   /* the grab */
         if
-        :: alone -> UNLOCK(batch_lock); alone = false
+        :: alone -> UNLOCK(turn_lock); alone = false
         :: else
         fi;
         if
-        :: long_lock -> UNLOCK(long_piece_lock); long_lock = false
+        :: long_lock -> UNLOCK(long_turn_lock); long_lock = false
         :: else
-        fi
+        fi;
+        notify()
     :: else -> break
     od
 }
@@ -106,10 +111,11 @@ active proctype Control() {
     byte now = 0; bool is_first = false;
     do
     :: clock < SECONDS -> clock++                  /* the clock goes on */
-    :: second < clock -> update_time()
+    :: second < clock -> update_time(); notify()   /* ServerState::update_time (state.rt) */
     :: opens < OPENS ->
         opens++;
         update_time();
+        notify();
         LOCK(control);                             /* ServerState::open (state.rt) */
         atomic { (book == 0) -> skip };
         UNLOCK(control)
@@ -130,5 +136,5 @@ active proctype Monitor() {
     timeout ->
     assert(book_second == SECONDS && second == SECONDS);
     assert(touched == queued);
-    assert(book == 0 && control == 0 && batch_lock == 0 && long_piece_lock == 0)
+    assert(book == 0 && control == 0 && turn_lock == 0 && long_turn_lock == 0)
 }

@@ -1,9 +1,7 @@
 //! How a connection ends.
 
-use crate::stage::Stage;
-use crate::timing::has_passed;
-use gm_shared::{BookName, Shared};
-use std::sync::Wait;
+use crate::stage::{ReadStage, ServerStage, Stage};
+use gm_report::has_passed;
 use std::time::{Clock, Duration, Instant};
 
 /// How long a connection that is to end has for what it is still to be sent: while its peer takes nothing, or from when the
@@ -14,36 +12,16 @@ pub(crate) const ENDING_TIME_MS: u64 = 2_000;
 /// How long it has for what it is still to be sent where its peer takes some.
 const MOST_ENDING_TIME_MS: u64 = 30_000;
 
-/// The stages of a connection.
-#[derive(Clone, Copy)]
-pub enum ReadStage {
-    /// Its requests are taken.
-    Serving,
-    /// No more of its requests are taken: what waits is sent, and then no more is.
-    Ending,
-    /// Nothing is read from it any more: what waits is sent, and then it is let go of.
-    Ended,
-}
-
-/// What lanes ask of their server.
-pub trait Server<K: BookName> {
-    /// The book, in which waits what is to be sent.
-    fn shared(&self) -> &Shared<K>;
-
-    /// Has the slot's finisher look at its lane: the thread that does what others leave of it.
-    fn wake_finisher(&self, slot: u32);
-
-    /// Whether all connections are to end.
-    fn is_stopping(&self) -> bool;
-
-    /// Counts a connection whose peer vanished.
-    fn count_timed_out(&self, rt: &impl Wait);
-}
-
-/// Whether a connection is to end.
-pub(crate) fn is_ending<K: BookName>(server: &impl Server<K>, stage: &Stage) -> bool {
+/// Whether a connection is to end, which is at its stage, and its server at its own.
+pub(crate) fn is_ending(server: &Stage, stage: &Stage) -> bool {
     // Modelled in models/lane.h.
-    stage.has_reached(ReadStage::Ending as u8) || server.is_stopping()
+    stage.has_reached(ReadStage::Ending as u8) || is_stopping(server)
+}
+
+/// Whether all connections of a server are to end.
+pub(crate) fn is_stopping(server: &Stage) -> bool {
+    // Modelled in models/shutdown.pml.
+    server.has_reached(ServerStage::Stopped as u8)
 }
 
 /// How long a connection's end has taken.

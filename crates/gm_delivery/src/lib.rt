@@ -5,16 +5,15 @@
 
 mod account;
 mod ending;
+mod finish;
 mod lane;
 mod sender;
 mod socket;
 mod stage;
-mod timing;
 
 pub use account::Ledger;
-pub use ending::{ReadStage, Server};
-pub use lane::{Deliverer, Finish, Lane};
+pub use finish::{Deliverer, Finish, Leftover};
+pub use lane::{DeliveryContext, Lane};
 pub use sender::Sender;
 pub use socket::{ReadHalf, WriteHalf, split};
-pub use stage::Stage;
-pub use timing::has_passed;
+pub use stage::{ReadStage, ServerStage, Stage};

@@ -8,8 +8,8 @@ ghost use Rattle.gm_delivery.specs.Sendings.{IsSender, DeliversTo, idle_in, afte
 use crate::account::Ledger;
 use crate::ending::ENDING_TIME_MS;
 use crate::socket::WriteHalf;
-use crate::timing::has_passed;
 use gm_outbox::{Delivery, Outbox, Wire};
+use gm_report::has_passed;
 use gm_shared::{BookName, Pen, Shared};
 use std::alloc::{AllocError, Global};
 use std::marker::Model;

@@ -3,7 +3,8 @@
 
 ghost use Rattle.std.specs.Prelude.{◌≡◌, [], IfOk};
 
-use crate::ending::{End, Server, is_ending};
+use crate::ending::{End, is_ending, is_stopping};
+use crate::lane::DeliveryContext;
 use crate::stage::Stage;
 use gm_feeder::{Patience, Source};
 use gm_outbox::{Line, LoggedWriter, Wire};
@@ -12,7 +13,6 @@ use libc::net::{MSG_DONTWAIT, MSG_NOSIGNAL, recv, send};
 use std::alloc::{AllocError, Global};
 use std::io;
 use std::io::{Error, ErrorKind};
-use std::marker::PhantomData;
 use std::net::{Shutdown, TcpStream};
 use std::os::fd::{AsRawFd, RawFd};
 use std::sync::{Arc, Wait};
@@ -124,14 +124,12 @@ impl WriteHalf {
     }
 }
 
-/// The thread that writes: it has a clock, is at a connection of a server, and waits for a slow peer or not.
+/// The thread that writes: it is at a connection of this stage, and waits for a slow peer or not.
 #[derive(Drop)]
-pub(crate) struct Writing<'a, K, R, S> {
-    pub(crate) rt: &'a R,
-    pub(crate) server: &'a S,
+pub(crate) struct Writing<'a, K: BookName, R> {
+    pub(crate) context: &'a DeliveryContext<'a, K, R>,
     pub(crate) stage: &'a Stage,
     pub(crate) patience: Patience,
-    pub(crate) book: PhantomData<K>,
 }
 
 impl Line for WriteHalf {
@@ -140,22 +138,24 @@ impl Line for WriteHalf {
     ghost contents = { λ w. Some w.socket.2 };
 }
 
-impl<'a, K: BookName, R: Wait + Clock, S: Server<K>> Wire<Writing<'a, K, R, S>> for WriteHalf {
-    fn write_by(&mut self, by: &Writing<'a, K, R, S>, bytes: &[u8]) -> io::Result<usize> {
+impl<'a, K: BookName, R: Wait + Clock> Wire<Writing<'a, K, R>> for WriteHalf {
+    fn write_by(&mut self, by: &Writing<'a, K, R>, bytes: &[u8]) -> io::Result<usize> {
         // Modelled in models/lane.h.
         // Once the connection is to end and has had its time, it takes no more.
         if self.end.deadline_passed {
             return Err(Error::from(ErrorKind::TimedOut));
         }
+        let context = by.context;
         let outcome = self.socket.write_by(&by.patience, bytes);
         self.takes_more = matches!(outcome, Ok(count) if count == bytes.len());
         // The system tells it to one call only: to this one or to a read.
         if matches!(&outcome, Err(error) if error.kind() == ErrorKind::TimedOut) {
-            by.server.count_timed_out(by.rt);
+            context.speaker.count_timed_out(context.rt);
         }
-        if is_ending(by.server, by.stage) {
+        if is_ending(context.server, by.stage) {
             let has_taken = matches!(outcome, Ok(count) if count > 0);
-            self.end.update(by.rt, by.server.is_stopping(), has_taken);
+            self.end
+                .update(context.rt, is_stopping(context.server), has_taken);
         }
         outcome
     }

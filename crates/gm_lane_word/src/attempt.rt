@@ -1,7 +1,6 @@
 //! Held by the thread that has the lane and has begun an attempt.
 
 ghost use Rattle.std.specs.Prelude.{◌≡◌};
-ghost use Rattle.std.specs.Fn.{FnOnceReturnsAt, FnOnceTakesAt};
 ghost use Rattle.std.specs.Result.{MatchResult};
 ghost use Rattle.gm_lane_word.specs.Seats.{with_hand_over};
 
@@ -51,17 +50,13 @@ impl<'a> Attempt<'a> {
         }
     }
 
-    /// Leaves the lane to the finisher, and then runs `wake`, which wakes it: for an attempt that met a slow peer.
-    pub fn hand_over<F: FnOnce(&Tally)>(self, wake: F) -> Tally
-        requires { FnOnceTakesAt F.FnOnce wake (with_hand_over self) }
-        ensures left { result ≡ with_hand_over self.entry }
-        ensures woken { FnOnceReturnsAt F.FnOnce wake (with_hand_over self.entry) tt }
+    /// Leaves the lane to the finisher, which is to be woken after this: for an attempt that met a slow peer.
+    pub fn hand_over(self) -> Tally
+        ensures { result ≡ with_hand_over self.entry }
     {
         // Modelled in models/lane.h.
         let Attempt { word, mut seat } = self;
         word.table.shared.swap::<HandOver>(&mut seat, 0, LEFT);
-        let tally = Tally { seat };
-        wake(&tally);
-        tally
+        Tally { seat }
     }
 }

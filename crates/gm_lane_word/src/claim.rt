@@ -47,17 +47,13 @@ impl<'a> Claim<'a> {
         (attempt, found)
     }
 
-    /// Leaves the lane and the attempt to the finisher, and then runs `wake`, which wakes it.
-    pub fn hand_over<F: FnOnce(&Tally)>(self, wake: F) -> Tally
-        requires { FnOnceTakesAt F.FnOnce wake (with_hand_over self) }
-        ensures left { result ≡ with_hand_over self.entry }
-        ensures woken { FnOnceReturnsAt F.FnOnce wake (with_hand_over self.entry) tt }
+    /// Leaves the lane and the attempt to the finisher, which is to be woken after this.
+    pub fn hand_over(self) -> Tally
+        ensures { result ≡ with_hand_over self.entry }
     {
         // Modelled in models/lane.h.
         let Claim { word, mut seat } = self;
         word.table.shared.swap::<HandOver>(&mut seat, 0, LEFT);
-        let tally = Tally { seat };
-        wake(&tally);
-        tally
+        Tally { seat }
     }
 }

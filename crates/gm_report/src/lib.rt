@@ -7,6 +7,7 @@ mod ready;
 mod speaking;
 mod summary;
 mod systemd;
+mod timing;
 
 pub use error::ServeError;
 pub use notices::{Counts, Trouble};
@@ -14,3 +15,4 @@ pub use ready::{Ready, Report};
 pub use speaking::Speaker;
 pub use summary::Summary;
 pub use systemd::{Systemd, first_socket, handed_sockets};
+pub use timing::has_passed;

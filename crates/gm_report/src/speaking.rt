@@ -4,6 +4,7 @@
 use crate::error::ServeError;
 use crate::notices::{Counts, Notices, Remark, TROUBLES, Trouble};
 use crate::summary::Summary;
+use crate::timing::has_passed;
 use crossbeam_utils::sync::{Parker, Unparker};
 use std::alloc::{AllocError, Global};
 use std::io::Error;
@@ -12,7 +13,7 @@ use std::sync::atomic::{AtomicBool, Ordering};
 use std::sync::{Arc, Mutex, Wait};
 use std::thread;
 use std::thread::Threads;
-use std::time::{Clock, Duration, Instant};
+use std::time::{Clock, Duration};
 
 /// How long it says nothing after it said something.
 const PAUSE_MS: u64 = 1_000;
@@ -131,12 +132,13 @@ impl Speaker {
 
     /// Waits for a while, or until the server ends.
     fn pause(&self, rt: &(impl Wait + Clock), parker: &Parker) {
-        let begun = Instant::now(rt).ok();
+        let pause = Duration::from_millis(PAUSE_MS);
+        let mut begun = None;
         for _ in rt.forever() {
-            if has_paused(rt, &begun) || self.has_ended(rt) {
+            if has_passed(rt, &mut begun, pause) || self.has_ended(rt) {
                 break;
             }
-            parker.park_timeout(rt, Duration::from_millis(PAUSE_MS));
+            parker.park_timeout(rt, pause);
         }
     }
 
@@ -156,17 +158,6 @@ impl Speaker {
                 parker.park(rt);
             }
         }
-    }
-}
-
-/// Whether the pause that began then is over. Where the clock can't be read, it is.
-fn has_paused(rt: &impl Clock, begun: &Option<Instant>) -> bool {
-    match begun {
-        Some(begun) => match begun.elapsed(rt) {
-            Ok(elapsed) => elapsed >= Duration::from_millis(PAUSE_MS),
-            Err(_) => true,
-        },
-        None => true,
     }
 }
 

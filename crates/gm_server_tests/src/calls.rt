@@ -14,6 +14,7 @@ use std::random::RandomSource;
 use std::sync::Wait;
 use std::test::Fail;
 use std::thread::Threads;
+use std::time::Clock;
 
 /// The slots of the set are these, in their order.
 fn assert_slots(rt: &impl Abort, event: Given, set: &SlotSet, slots: &[u32]) {
@@ -112,7 +113,7 @@ impl<'a> Scene for Calls<'a> {
         self.retries
     }
 
-    fn play<K: BookName + Send + Sync, R: Threads + Wait + Abort + Sync>(
+    fn play<K: BookName + Send + Sync, R: Threads + Wait + Clock + Abort + Sync>(
         &mut self,
         rt: &R,
         room: &mut Room<K>,
@@ -131,7 +132,7 @@ impl<'a> Scene for Calls<'a> {
 
 /// The calls are made in a new book with this many slots, by both calls of a desk. It gives the numbers of entries on the book's
 /// tape, which is settled.
-fn play_calls<R: RandomSource + Threads + Wait + Abort + AllocGlobal + Sync>(
+fn play_calls<R: RandomSource + Threads + Wait + Clock + Abort + AllocGlobal + Sync>(
     rt: &R,
     slots: u32,
     retries: u32,
@@ -152,7 +153,7 @@ fn play_calls<R: RandomSource + Threads + Wait + Abort + AllocGlobal + Sync>(
 }
 
 /// Without a tape there are no entries, and with one this many.
-fn play_both<R: RandomSource + Threads + Wait + Abort + AllocGlobal + Sync>(
+fn play_both<R: RandomSource + Threads + Wait + Clock + Abort + AllocGlobal + Sync>(
     rt: &R,
     slots: u32,
     retries: u32,
@@ -166,7 +167,7 @@ fn play_both<R: RandomSource + Threads + Wait + Abort + AllocGlobal + Sync>(
 }
 
 /// A worker that is owed a NOOP does this where the pen has taken the NOOP, and where it hasn't.
-fn play_owed<R: RandomSource + Threads + Wait + Abort + AllocGlobal + Sync>(
+fn play_owed<R: RandomSource + Threads + Wait + Clock + Abort + AllocGlobal + Sync>(
     rt: &R,
     end: &[Call],
     entries: usize,
@@ -197,7 +198,7 @@ fn found(entry: Option<&Entry>) -> Option<bool> {
 }
 
 /// The worker asks for a job, which the receipt tells to be entry 6. Before that its NOOP is entered, as taken or as withdrawn.
-fn assert_found<R: RandomSource + Threads + Wait + Abort + AllocGlobal + Sync>(
+fn assert_found<R: RandomSource + Threads + Wait + Clock + Abort + AllocGlobal + Sync>(
     rt: &R,
     parts: &[&[Call]],
     taken: bool,

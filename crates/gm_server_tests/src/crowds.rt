@@ -16,6 +16,7 @@ use std::random::RandomSource;
 use std::sync::Wait;
 use std::test::Fail;
 use std::thread::{Threads, map_vec};
+use std::time::Clock;
 
 /// How often each thread does what it does.
 const TIMES: usize = 1000;
@@ -112,7 +113,7 @@ fn told_by<K: BookName>(
 }
 
 /// Lets each of the desks work in a thread of its own, and gives the numbers that each one's receipts told.
-fn work_all<K: BookName + Send + Sync, R: Threads + Wait + Abort + Sync>(
+fn work_all<K: BookName + Send + Sync, R: Threads + Wait + Clock + Abort + Sync>(
     rt: &R,
     alloc: Global,
     room: &mut Room<K>,
@@ -312,7 +313,7 @@ fn assert_places<K: BookName, R: Wait + Abort>(
 }
 
 /// Two threads submit and the others, if any, grab. Then each number was told once, and each job waits or runs.
-fn crowd_in<K: BookName + Send + Sync, R: Threads + Wait + Abort + Sync>(
+fn crowd_in<K: BookName + Send + Sync, R: Threads + Wait + Clock + Abort + Sync>(
     rt: &R,
     alloc: Global,
     room: &mut Room<K>,
@@ -332,7 +333,7 @@ fn crowd_in<K: BookName + Send + Sync, R: Threads + Wait + Abort + Sync>(
 
 /// The same in a room of its own. What each desk and pen was told is on the tape, if one is kept, and has this
 /// many entries.
-fn crowd<K: BookName + Send + Sync, R: Threads + Wait + Abort + Sync>(
+fn crowd<K: BookName + Send + Sync, R: Threads + Wait + Clock + Abort + Sync>(
     rt: &R,
     alloc: Global,
     blank: Blank,
@@ -349,7 +350,7 @@ fn crowd<K: BookName + Send + Sync, R: Threads + Wait + Abort + Sync>(
 }
 
 /// The same in a new book.
-fn crowd_anew<R: RandomSource + Threads + Wait + Abort + Sync>(
+fn crowd_anew<R: RandomSource + Threads + Wait + Clock + Abort + Sync>(
     rt: &R,
     alloc: Global,
     slots: u32,
@@ -359,7 +360,7 @@ fn crowd_anew<R: RandomSource + Threads + Wait + Abort + Sync>(
 }
 
 /// The same without a tape, and with one, which has this many entries in the end.
-fn both_crowds<R: RandomSource + Threads + Wait + Abort + Sync>(
+fn both_crowds<R: RandomSource + Threads + Wait + Clock + Abort + Sync>(
     rt: &R,
     alloc: Global,
     slots: u32,

@@ -21,6 +21,7 @@ use std::random::RandomSource;
 use std::sync::Wait;
 use std::test::Fail;
 use std::thread::Threads;
+use std::time::Clock;
 
 /// The settings of a server with this many slots, which gives a job to at most this many workers; 0 is no limit. The rest is as
 /// it is where nothing else is asked for.
@@ -51,7 +52,7 @@ pub trait Scene {
         0
     }
 
-    fn play<K: BookName + Send + Sync, R: Threads + Wait + Abort + Sync>(
+    fn play<K: BookName + Send + Sync, R: Threads + Wait + Clock + Abort + Sync>(
         &mut self,
         rt: &R,
         room: &mut Room<K>,
@@ -198,7 +199,7 @@ impl<K: BookName> Room<K> {
 }
 
 /// Plays in a room with this book, which is settled then.
-fn play_at<K: BookName + Send + Sync, S: Scene, R: Threads + Wait + Abort + Sync>(
+fn play_at<K: BookName + Send + Sync, S: Scene, R: Threads + Wait + Clock + Abort + Sync>(
     rt: &R,
     alloc: Global,
     blank: Blank,
@@ -238,7 +239,7 @@ fn entries(outcome: &Result<Vec<Entry>, u8>) -> Result<usize, u8> {
 
 /// Plays in a new room with this many slots, with a tape or without, and says what the book's settling answers. It plays again
 /// with each growth refused that the scene lets be refused, and the answer has to be the same.
-pub fn play_to_the_end<S: Scene, R: RandomSource + Threads + Wait + Abort + Sync>(
+pub fn play_to_the_end<S: Scene, R: RandomSource + Threads + Wait + Clock + Abort + Sync>(
     rt: &R,
     alloc: Global,
     slots: u32,
@@ -260,7 +261,7 @@ pub fn play_to_the_end<S: Scene, R: RandomSource + Threads + Wait + Abort + Sync
 }
 
 /// The same where the book is settled: its tape.
-pub fn play_settled<S: Scene, R: RandomSource + Threads + Wait + Abort + Sync>(
+pub fn play_settled<S: Scene, R: RandomSource + Threads + Wait + Clock + Abort + Sync>(
     rt: &R,
     alloc: Global,
     slots: u32,

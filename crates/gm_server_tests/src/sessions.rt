@@ -13,6 +13,7 @@ use std::random::RandomSource;
 use std::sync::Wait;
 use std::test::Fail;
 use std::thread::Threads;
+use std::time::Clock;
 
 const LIMITS: Limits = Limits {
     max_bytes: 67_108_864,
@@ -30,7 +31,7 @@ struct OneSession<'a> {
 }
 
 impl<'a> Scene for OneSession<'a> {
-    fn play<K: BookName + Send + Sync, R: Threads + Wait + Abort + Sync>(
+    fn play<K: BookName + Send + Sync, R: Threads + Wait + Clock + Abort + Sync>(
         &mut self,
         rt: &R,
         room: &mut Room<K>,
@@ -58,7 +59,7 @@ impl<'a> Scene for OneSession<'a> {
 }
 
 /// A session at a new book with one slot ends like this, with these bytes waiting and this many entries on the tape.
-fn assert_session_with<R: RandomSource + Threads + Wait + Abort + AllocGlobal + Sync>(
+fn assert_session_with<R: RandomSource + Threads + Wait + Clock + Abort + AllocGlobal + Sync>(
     rt: &R,
     tape: TapeMode,
     is_open: bool,
@@ -80,7 +81,7 @@ fn assert_session_with<R: RandomSource + Threads + Wait + Abort + AllocGlobal + 
 }
 
 /// The same with a tape, which has this many entries, and without one.
-fn assert_session<R: RandomSource + Threads + Wait + Abort + AllocGlobal + Sync>(
+fn assert_session<R: RandomSource + Threads + Wait + Clock + Abort + AllocGlobal + Sync>(
     rt: &R,
     is_open: bool,
     reader: FailingReader<'_>,

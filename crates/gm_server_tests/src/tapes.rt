@@ -12,6 +12,7 @@ use std::random::RandomSource;
 use std::sync::Wait;
 use std::test::Fail;
 use std::thread::Threads;
+use std::time::Clock;
 
 /// What isn't given back in the end.
 #[derive(Clone, Copy, Debug, PartialEq, Eq)]
@@ -48,7 +49,7 @@ fn echo_once<K: BookName, R: Wait + Abort>(
 }
 
 impl Scene for Echo {
-    fn play<K: BookName + Send + Sync, R: Threads + Wait + Abort + Sync>(
+    fn play<K: BookName + Send + Sync, R: Threads + Wait + Clock + Abort + Sync>(
         &mut self,
         rt: &R,
         room: &mut Room<K>,
@@ -61,7 +62,7 @@ impl Scene for Echo {
 }
 
 /// The receipts tell these places, and that the server runs, and this many entries are settled in the end.
-fn assert_ends<R: RandomSource + Threads + Wait + Abort + AllocGlobal + Sync>(
+fn assert_ends<R: RandomSource + Threads + Wait + Clock + Abort + AllocGlobal + Sync>(
     rt: &R,
     tape: TapeMode,
     lost: Lost,
@@ -101,7 +102,7 @@ fn tape_and_shares(rt: HostRuntime) -> Result<(), Fail> {
 struct Goes;
 
 impl Scene for Goes {
-    fn play<K: BookName + Send + Sync, R: Threads + Wait + Abort + Sync>(
+    fn play<K: BookName + Send + Sync, R: Threads + Wait + Clock + Abort + Sync>(
         &mut self,
         rt: &R,
         room: &mut Room<K>,

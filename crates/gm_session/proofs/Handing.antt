@@ -1,12 +1,12 @@
 -- What a session hands in, unit after unit and piece after piece.
-use Rattle.std.proofs.Common.{◌≡◌, ℕ, Bool, true, false, List, [], ◌∷◌, ◌++◌, map, Option, Some, None, Result, Ok, Err, length}
+use Rattle.std.proofs.Common.{◌≡◌, ℕ, Bool, false, List, [], ◌∷◌, ◌++◌, map, Option, Some, None, Result, Ok, Err, length}
 use Rattle.std.proofs.Common.{refl, sym, ap, ap₂, subst, ◌∙◌, arith, length-append}
 use Rattle.std.specs.Prelude.{IfSome}
 use Rattle.std.proofs.lemmas.List.{append-nil, append_assoc, map-append, reverse-append}
 use Rattle.std.specs.Io.KnownBytes.{Consumes, Appends, Keeps}
 use Rattle.gm_feeder.specs.declared.units.Limits.{Limits}
 use Rattle.gm_feeder.specs.Units.{Item, IsUnitThen, Waits}
-use Rattle.gm_feeder.specs.Streams.{Stream, GivesUnit, GivesNone, TakesIn, with_bytes}
+use Rattle.gm_feeder.specs.Streams.{Stream, GivesUnit, GivesNone}
 use Rattle.gm_feeder.proofs.HeadLemmas.{empty_goes_on}
 use Rattle.gm_feeder.proofs.StreamLemmas.{unit_not_empty}
 use Rattle.gm_notes.specs.declared.event.UnitFault.{UnitFault}
@@ -22,7 +22,7 @@ use Rattle.gm_session.specs.declared.session.Turn.{Turn}
 use Rattle.gm_session.specs.declared.session.Turn.TheVariants as turns
 use Rattle.gm_session.specs.declared.applier.Taken.{Taken}
 use Rattle.gm_session.specs.declared.applier.Taken.TheVariants.{Unit as AUnit, Nothing}
-use Rattle.gm_session.specs.Sessions.{Adds, HandsIn, Reads, Applies, Stops, TakesNext, Unloads, Fed, Fills, Steps, Ends, broke, unread, IsShutBy, StandsNext, unit, broken, may_leave}
+use Rattle.gm_session.specs.Sessions.{Adds, HandsIn, Reads, Applies, Stops, TakesNext, Unloads, Fed, Steps, Ends, broke, unread, IsShutBy, StandsNext, unit, broken, may_leave}
 
 -- ---- events handed in, one after another
 
@@ -114,11 +114,10 @@ unloads_some k taped desk c old seen after new u = record {
   limited = u.limited;
 }
 
--- a unit was taken at the desk and the slot that these are
-pub at_home : (k : Settings) (taped : Bool) (desk c n d : ℕ) (mid new : Stream) (seen after : List Entry) (result : Result Taken SessionEnd) → n ≡ desk → d ≡ c
-    → TakesNext k taped n d mid result seen after new → TakesNext k taped desk c mid result seen after new
-at_home k taped desk c n d mid new seen after result same here t =
-    subst (λ (slot : ℕ). TakesNext k taped desk slot mid result seen after new) here (subst (λ (i : ℕ). TakesNext k taped i d mid result seen after new) same t)
+-- a unit was taken at the desk that this is
+pub at_home : (k : Settings) (taped : Bool) (desk c n : ℕ) (mid new : Stream) (seen after : List Entry) (result : Result Taken SessionEnd) → n ≡ desk
+    → TakesNext k taped n c mid result seen after new → TakesNext k taped desk c mid result seen after new
+at_home k taped desk c n mid new seen after result same t = subst (λ (i : ℕ). TakesNext k taped i c mid result seen after new) same t
 
 -- ---- the next unit
 
@@ -252,13 +251,11 @@ module _ (k : Settings) (taped : Bool) (desk c : ℕ) (limits : Limits) (old now
         waits = λ none. subst (λ (l : Limits). Waits l next.pending) r.limited (s.goes_on.waits (emptied turn none));
       }
 
-  pub reading_more : (n d : ℕ) → n ≡ desk → d ≡ c → (turn : Turn) (next : Stream) (left : Bool) → left ≡ may_leave turn → Steps k taped n d feeder units now new heard after_heard (Ok turn) mid after next
+  pub reading_more : (n : ℕ) → n ≡ desk → (turn : Turn) (next : Stream) (left : Bool) → left ≡ may_leave turn → Steps k taped n c feeder units now new heard after_heard (Ok turn) mid after next
       → Reading desk c limits old new seen after next left
-  reading_more n d same here turn next left is stepped =
+  reading_more n same turn next left is stepped =
       subst (λ (b : Bool). Reading desk c limits old new seen after next b) (sym is)
-      (reading_more_here turn next
-      (subst (λ (slot : ℕ). Steps k taped desk slot feeder units now new heard after_heard (Ok turn) mid after next) here
-      (subst (λ (i : ℕ). Steps k taped i d feeder units now new heard after_heard (Ok turn) mid after next) same stepped)))
+      (reading_more_here turn next (subst (λ (i : ℕ). Steps k taped i c feeder units now new heard after_heard (Ok turn) mid after next) same stepped))
 
   -- nothing was read any more
   pub reading_ends : (end : SessionEnd) → units ≡ false → Consumes now new [] → (end ≡ ends.Shut → ⊥) → Reads k taped desk c limits old new end seen mid
@@ -285,7 +282,5 @@ module _ (k : Settings) (taped : Bool) (desk c : ℕ) (limits : Limits) (old now
   }
   reading_over_here end (unread none consumes kept unshut same) = subst (λ (l : List Entry). Reads k taped desk c limits old new end seen l) (sym same) (reading_ends end none consumes unshut)
 
-  pub reading_over : (n d : ℕ) → n ≡ desk → d ≡ c → (end : SessionEnd) → Ends k taped n d feeder units now new heard after_heard end mid after → Reads k taped desk c limits old new end seen after
-  reading_over n d same here end ended =
-      reading_over_here end (subst (λ (slot : ℕ). Ends k taped desk slot feeder units now new heard after_heard end mid after) here
-      (subst (λ (i : ℕ). Ends k taped i d feeder units now new heard after_heard end mid after) same ended))
+  pub reading_over : (n : ℕ) → n ≡ desk → (end : SessionEnd) → Ends k taped n c feeder units now new heard after_heard end mid after → Reads k taped desk c limits old new end seen after
+  reading_over n same end ended = reading_over_here end (subst (λ (i : ℕ). Ends k taped i c feeder units now new heard after_heard end mid after) same ended)

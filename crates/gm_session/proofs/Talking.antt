@@ -3,7 +3,6 @@ use Rattle.std.proofs.Common.{◌≡◌, ℕ, List, [], ◌∷◌, ◌++◌, map
 use Rattle.std.specs.Prelude.{IfSome, IfOk, MatchResult, is_some}
 use Rattle.std.specs.Option.{option_map}
 use Rattle.std.specs.Result.{is_ok}
-use Rattle.std.specs.Io.KnownBytes.{Consumes}
 use Rattle.std.proofs.lemmas.List.{append-nil}
 use Rattle.gm_feeder.specs.declared.units.Limits.{Limits}
 use Rattle.gm_feeder.specs.Streams.{Stream}
@@ -17,12 +16,11 @@ use Rattle.gm_notes.specs.declared.event.ApplyError.{ApplyError}
 use Rattle.gm_shared.specs.declared.receipt.Receipt.{Receipt}
 use Rattle.gm_shared.specs.declared.tape.Entry.{Entry}
 use Rattle.gm_shared.specs.Calls.{HandedIn, if_taken}
-use Rattle.gm_session.specs.declared.heard.Heard.{Heard}
 use Rattle.gm_session.specs.declared.heard.Hearings.{Hearings}
 use Rattle.gm_session.specs.declared.session.SessionEnd.{SessionEnd}
 use Rattle.gm_session.specs.declared.session.Turn.{Turn}
-use Rattle.gm_session.specs.Hearings.{IsHeard, AreHeard, closed}
-use Rattle.gm_session.specs.Sessions.{Adds, HandsIn, Reads, Steps, Reaches, Ends, broke, unread as unread_end, may_leave}
+use Rattle.gm_session.specs.Hearings.{IsHeard, closed}
+use Rattle.gm_session.specs.Sessions.{Adds, HandsIn, Reads, Steps, Ends, broke, unread as unread_end, may_leave}
 use Rattle.gm_session.specs.Talks.{TalkingState, TalkState, IsTalk, IsTalking, IsTalkingBy, GoesOnSo, IsOverSo, unread, heard_of, Stepped, SteppedUnless, StepsOn}
 use Rattle.gm_session.proofs.Handing.{Reading, adds_none, adds_then, adds_same, waits_none, reading_more, reading_over}
 
@@ -73,7 +71,7 @@ module _ (k : Settings) (taped : Bool) (n : ℕ) (limits : Limits) (since seen :
       record { piece = s.piece; consumes = sym (append-nil s.piece); hears = s.hears; goes_on = s.goes_on } in
       goes_on_of n limits since seen_after (record { stream = next; has_units = units; is_over = false; heard = after })
       (subst (λ (l : List ℕ). Reading n n limits (Some l) (Some []) since seen_after next units) (sym s.hears)
-      (reading_more k taped n n limits (Some (t.heard ++ s.piece)) (Some s.piece) (Some []) (Some t.heard) (Some after) since seen seen_after t.stream t.has_units r n n refl refl turn next units is alone))
+      (reading_more k taped n n limits (Some (t.heard ++ s.piece)) (Some s.piece) (Some []) (Some t.heard) (Some after) since seen seen_after t.stream t.has_units r n refl turn next units is alone))
 
   -- it is over
   pub reads_all : (end : SessionEnd) (input left : Option (List ℕ)) (after : List ℕ) (seen_after : List Entry)
@@ -81,11 +79,11 @@ module _ (k : Settings) (taped : Bool) (n : ℕ) (limits : Limits) (since seen :
   reads_all end input left after seen_after (broke piece consumes hears b) =
       let r = fed n limits t.heard since seen t.stream t.has_units piece (reading_of n limits since seen t h) in
       subst (λ (l : List ℕ). Reads k taped n n limits (Some l) (Some []) end since seen_after) (sym hears)
-      (reading_over k taped n n limits (Some (t.heard ++ piece)) (Some piece) (Some []) (Some t.heard) (Some after) since seen seen_after t.stream t.has_units r n n refl refl end
+      (reading_over k taped n n limits (Some (t.heard ++ piece)) (Some piece) (Some []) (Some t.heard) (Some after) since seen seen_after t.stream t.has_units r n refl end
       (broke piece (sym (append-nil piece)) hears b))
   reads_all end input left after seen_after (unread_end none consumes kept unshut same) =
       subst (λ (l : List ℕ). Reads k taped n n limits (Some l) (Some []) end since seen_after) (sym kept)
-      (reading_over k taped n n limits (Some t.heard) (Some []) (Some []) (Some t.heard) (Some after) since seen seen_after t.stream t.has_units (reading_of n limits since seen t h) n n refl refl end
+      (reading_over k taped n n limits (Some t.heard) (Some []) (Some []) (Some t.heard) (Some after) since seen seen_after t.stream t.has_units (reading_of n limits since seen t h) n refl end
       (unread_end none refl kept unshut same))
 
   pub heard_more : (end : SessionEnd) (input left : Option (List ℕ)) (after : List ℕ) (seen_after : List Entry)

@@ -12,7 +12,6 @@ use Rattle.gm_shared.specs.declared.tape.Entry.{Entry}
 use Rattle.gm_shared.specs.Books.{KeepsSlots}
 use Rattle.gm_shared.specs.Calls.{DeskCalled, HandedIn}
 use Rattle.gm_session.specs.declared.effects.Effects.{Effects}
-use Rattle.gm_session.specs.declared.session.SessionEnd.{SessionEnd}
 
 -- nothing came of anything: no slot is touched, and the server goes on
 pub record IsNothing (effects : Effects) : Type 0 where
@@ -35,17 +34,18 @@ pub record Keeps (k : Settings) (taped : Bool) (s : Step) (desk : ℕ) (answer :
   pub called : DeskCalled k taped s desk answer new.touched before after
   pub kept : Kept answer old new
 
--- the same for a session, which is over where the event was refused
-abbrev pub KeepsUnit : Settings → Bool → Step → ℕ → Result (Unit {0}) SessionEnd → List Entry → List Entry → Effects → Effects → Type 0
-KeepsUnit k taped s desk (Ok done) before after old new = (receipt : Receipt) × Keeps k taped s desk (Ok receipt) before after old new
-KeepsUnit k taped s desk (Err end) before after old new = new ≡ old
+-- The present second may have been handed in at the control desk, and no slot that was touched is lost.
+pub record Ticks (old new : Effects) : Type 0 where
+  pub own : new.own ≡ old.own
+  pub slots : KeepsSlots old.touched new.touched
 
--- What came of each event that the desk handed in meanwhile was added to the effects, one event after another, and nothing was taken
--- out of them.
+-- What came of each event that the desk handed in meanwhile was added to the effects, one event after another, and perhaps what came of
+-- ticks; and nothing was taken out of them.
 pub data Gathers (k : Settings) (taped : Bool) (desk : ℕ) (seen : List Entry) (old : Effects) : List Entry → Effects → Type 0 where
   nothing : Gathers k taped desk seen old seen old
   event : (s : Step) (receipt : Receipt) (mid after : List Entry) (between new : Effects) → Gathers k taped desk seen old mid between
       → Keeps k taped s desk (Ok receipt) mid after between new → Gathers k taped desk seen old after new
+  tick : (mid : List Entry) (between new : Effects) → Gathers k taped desk seen old mid between → Ticks between new → Gathers k taped desk seen old mid new
   refusal : (mid after : List Entry) (between : Effects) → Gathers k taped desk seen old mid between → HandedIn desk [] mid after → Gathers k taped desk seen old after between
 
 -- What is due to a slot is taken out, and nothing else.

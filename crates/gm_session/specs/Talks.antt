@@ -7,7 +7,6 @@ use Rattle.gm_notes.specs.declared.event.ApplyError.{ApplyError}
 use Rattle.gm_notes.specs.declared.event.UnitFault.{UnitFault}
 use Rattle.gm_notes.specs.Settings.{Settings}
 use Rattle.gm_shared.specs.declared.receipt.Receipt.{Receipt}
-use Rattle.gm_shared.specs.declared.shared.Desk.{Desk}
 use Rattle.gm_shared.specs.declared.tape.Entry.{Entry}
 use Rattle.gm_session.specs.declared.heard.Hearings.{Hearings}
 use Rattle.gm_session.specs.declared.session.SessionEnd.{SessionEnd}

@@ -5,65 +5,20 @@ ghost use Rattle.std.specs.Io.KnownBytes.{IsAtEnd};
 ghost use Rattle.gm_session.specs.Sessions.{Reads};
 
 use crate::applier::{Applier, Around};
-use crate::effects::{Audience, Effects, Notify, Oddity};
+use crate::effects::Effects;
 use crate::gate::Gate;
 use crate::session::{Session, SessionEnd};
 use gm_feeder::Limits;
 use gm_shared::{BookName, Desk, Shared};
 use std::alloc::Global;
 use std::io::Read;
-use std::sync::{Mutex, Wait};
-use std::time::Instant;
-
-/// A session that is served alone: it notifies no other, and waits for none.
-#[derive(Drop)]
-pub struct Alone {
-    long_piece_lock: Mutex<()>,
-    batch_lock: Mutex<()>,
-}
-
-impl Alone {
-    /// For one session. Its locks for batches are free.
-    pub fn new() -> Alone {
-        Alone {
-            long_piece_lock: Mutex::new(()),
-            batch_lock: Mutex::new(()),
-        }
-    }
-}
-
-impl Audience for Alone {
-    ghost use Rattle.std.specs.Prelude.{true};
-
-    ghost is_nobody = { true };
-}
-
-impl<R> Notify<R> for Alone {
-    fn long_piece_lock(&self) -> &Mutex<()> {
-        &self.long_piece_lock
-    }
-
-    fn batch_lock(&self) -> &Mutex<()> {
-        &self.batch_lock
-    }
-
-    fn is_time(&self, _rt: &R, _begun: &mut Option<Instant>) -> bool {
-        false
-    }
-
-    fn update_time(&self, _rt: &R) {}
-
-    fn remark(&self, _rt: &R, _slot: u32, _oddity: Oddity) {}
-
-    fn notify(&self, _rt: &R, effects: &mut Effects) {
-        effects.forget(self);
-    }
-}
+use std::sync::Wait;
+use std::time::Clock;
 
 /// Reads a connection's stream to its end, cuts it into units and applies each at the slot, in order; where no
 /// continuation of what came can be read, it applies that fault and ends. Each unit passes the gate first. The desk is the
 /// slot's. With a tape the desk's share has these events and no others.
-pub fn read_session<'s, K: BookName, R: Wait, I: Read, G: Gate>(
+pub fn read_session<'s, K: BookName, R: Wait + Clock, I: Read, G: Gate>(
     rt: &'s R,
     alloc: Global,
     reader: &mut I,
@@ -77,17 +32,21 @@ pub fn read_session<'s, K: BookName, R: Wait, I: Read, G: Gate>(
     ensures reads { Reads K.settings K.taped desk.old.number slot limits (I.remaining reader.old) (I.remaining reader.new) result desk.old.witness.seen desk.new.witness.seen }
     ensures number { desk.new.number ≡ desk.old.number }
 {
-    let server = Alone::new();
     let around = Around {
         alloc,
         rt,
         shared,
         gate,
-        server: &server,
+        host: None,
     };
-    let mut applier = Applier::new(&around, slot);
+    let applier = Applier {
+        around: &around,
+        slot,
+        peer: None,
+    };
+    let mut effects = Effects::new(None);
     let mut session = Session::new(alloc, limits);
-    let end = applier.run(&mut session, desk, reader);
-    applier.discharge();
+    let end = applier.run(&mut session, desk, reader, &mut effects);
+    effects.abandon();
     end
 }

@@ -5,12 +5,13 @@ ghost use Rattle.std.specs.Io.KnownBytes.{IsAtEnd};
 ghost use Rattle.gm_actions.specs.ReadEvents.{ReadsEvent};
 ghost use Rattle.gm_notes.specs.Servers.{step_of, IsSized};
 ghost use Rattle.gm_notes.specs.Steps.{Packet};
-ghost use Rattle.gm_session.specs.Effects.{IsNothing, KeepsUnit, Gathers};
+ghost use Rattle.gm_session.specs.Effects.{Gathers, Ticks};
 ghost use Rattle.gm_session.specs.Sessions.{Applies, TakesNext, Unloads, Steps, Reads, may_leave};
 
 use crate::batch::Batch;
-use crate::effects::{Effects, Notify, Oddity, hand_in};
+use crate::effects::{Effects, hand_in};
 use crate::gate::Gate;
+use crate::host::Host;
 use crate::session::{FIRST_UNITS, Session, SessionEnd, Turn};
 use gm_actions::{Action, ReadEvent, Refusal};
 use gm_bytes::{Data, LONG, SharedBytes};
@@ -20,19 +21,22 @@ use gm_notes::{ApplyError, Event};
 use gm_shared::{BookName, Desk, Shared};
 use std::alloc::{AllocError, Global};
 use std::io::Read;
+use std::net::SocketAddr;
 use std::sync::Wait;
+use std::time::Clock;
 
 /// The most pieces that a session reads.
 const MOST_PIECES: u64 = 1_099_511_627_776;
 
-/// What is around a session: the book at which its units are handed in, what they pass before, and the server that notifies others.
+/// What is around a session: the book at which its units are handed in, what these pass before, and its server.
 #[derive(Drop)]
-pub struct Around<'s, K: BookName, R, G, N> {
+pub struct Around<'s, K: BookName, R, G> {
     pub alloc: Global,
     pub rt: &'s R,
     pub shared: &'s Shared<K>,
     pub gate: &'s G,
-    pub server: &'s N,
+    /// None of a session that is read by itself.
+    pub host: Option<&'s Host<K>>,
 }
 
 /// The data of a packet, to be shared.
@@ -51,129 +55,123 @@ pub(crate) enum Taken {
     Nothing,
 }
 
-/// What cuts a connection's bytes into units, and applies each at its desk: past the gate.
-pub(crate) struct Applier<'s, K: BookName, R, G, N> {
-    around: &'s Around<'s, K, R, G, N>,
-    slot: u32,
-    /// What came of the events since others were notified last.
-    effects: Effects,
+/// What cuts a connection's bytes into units, and applies each at its desk: past the gate. What comes of them is added to effects.
+#[derive(Drop)]
+pub(crate) struct Applier<'s, K: BookName, R, G> {
+    pub(crate) around: &'s Around<'s, K, R, G>,
+    pub(crate) slot: u32,
+    /// The connection's peer, for operators.
+    pub(crate) peer: Option<SocketAddr>,
 }
 
-impl<'s, K: BookName, R, G, N> Applier<'s, K, R, G, N> {
-    pub(crate) fn new(around: &'s Around<'s, K, R, G, N>, slot: u32) -> Applier<'s, K, R, G, N>
-        ensures nothing { IsNothing result.effects }
-        ensures slot { result.slot ≡ slot }
-    {
-        Applier {
-            around,
-            slot,
-            effects: Effects::new(Some(slot)),
-        }
-    }
-
-    /// Others were notified of all that came of its units.
-    pub(crate) fn discharge(self)
-        requires { IsNothing self.effects }
-    {
-        let Applier {
-            around: _,
-            slot: _,
-            effects,
-        } = self;
-        effects.discharge();
-    }
-}
-
-impl<'s, K: BookName, R: Wait, G: Gate, N: Notify<R>> Applier<'s, K, R, G, N> {
+impl<'s, K: BookName, R: Wait + Clock, G: Gate> Applier<'s, K, R, G> {
     /// Applies an event. Where it is refused, the session is over.
-    fn apply(&mut self, desk: &mut Desk<K>, read: &ReadEvent<'_>) -> Result<(), SessionEnd>
+    fn apply(
+        &self,
+        desk: &mut Desk<K>,
+        read: &ReadEvent<'_>,
+        effects: &mut Effects,
+    ) -> Result<(), SessionEnd>
         requires size { IsSized read.now.event }
         requires reads { ReadsEvent read.now.event read.now.action }
         ensures applies { Applies K.settings K.taped desk.old.number (step_of read.now.event) result desk.old.witness.seen desk.new.witness.seen }
-        ensures keeps { KeepsUnit K.settings K.taped (step_of read.now.event) desk.old.number result
-            desk.old.witness.seen desk.new.witness.seen self.old.effects self.new.effects }
+        ensures gathers { Gathers K.settings K.taped desk.old.number desk.old.witness.seen effects.old desk.new.witness.seen effects.new }
         ensures number { desk.new.number ≡ desk.old.number }
-        ensures slot { self.new.slot ≡ self.old.slot }
     {
         // Modelled in models/jobs.pml.
-        match hand_in(
-            self.around.rt,
-            self.around.shared,
-            desk,
-            read,
-            &mut self.effects,
-        ) {
+        match hand_in(self.around.rt, self.around.shared, desk, read, effects) {
             Ok(_) => Ok(()),
             Err(ApplyError::Memory) => Err(SessionEnd::Memory),
             Err(_) => Err(SessionEnd::Shut),
         }
     }
 
-    /// Lets a unit pass the gate, and applies it, before a grab with the present second.
-    fn apply_unit(
-        &mut self,
-        desk: &mut Desk<K>,
-        index: u64,
-        event: Event<'_>,
-    ) -> Result<(), SessionEnd>
-        requires { IsSized event }
-        ensures applies { Applies K.settings K.taped desk.old.number (step_of event.entry) result desk.old.witness.seen desk.new.witness.seen }
-        ensures keeps { KeepsUnit K.settings K.taped (step_of event.entry) desk.old.number result
-            desk.old.witness.seen desk.new.witness.seen self.old.effects self.new.effects }
-        ensures number { desk.new.number ≡ desk.old.number }
-        ensures slot { self.new.slot ≡ self.old.slot }
+    /// Before a grab it hands in the present second: a job's time limit counts from the last second that was handed in. A packet of no
+    /// request's type is said to operators.
+    fn prepare(&self, read: &ReadEvent<'_>, effects: &mut Effects)
+        ensures { Ticks effects.old effects.new }
     {
         // Modelled in models/jobs.pml and ticks.pml.
         let around = self.around;
-        around.gate.pass(around.rt, self.slot, index);
-        let read = ReadEvent::new(event);
+        let Some(host) = around.host else {
+            return;
+        };
         match (&read.action, &read.event) {
-            (Ok(Action::Grab { .. }), _) => around.server.update_time(around.rt),
-            (Err(Refusal::UnknownCommand), Event::Packet { kind, .. }) => around
-                .server
-                .remark(around.rt, self.slot, Oddity::UnknownType(*kind)),
+            (Ok(Action::Grab { .. }), _) => host.update(around.rt, around.shared, effects),
+            (Err(Refusal::UnknownCommand), Event::Packet { kind, .. }) => {
+                host.speaker.remark_type(around.rt, *kind, self.peer);
+            }
             _ => {}
         }
-        self.apply(desk, &read)
+    }
+
+    /// Lets a unit pass the gate, and applies it, before a grab with the present second.
+    fn apply_unit(
+        &self,
+        desk: &mut Desk<K>,
+        index: u64,
+        event: Event<'_>,
+        effects: &mut Effects,
+    ) -> Result<(), SessionEnd>
+        requires { IsSized event }
+        ensures applies { Applies K.settings K.taped desk.old.number (step_of event.entry) result desk.old.witness.seen desk.new.witness.seen }
+        ensures gathers { Gathers K.settings K.taped desk.old.number desk.old.witness.seen effects.old desk.new.witness.seen effects.new }
+        ensures number { desk.new.number ≡ desk.old.number }
+    {
+        // Modelled in models/jobs.pml and ticks.pml.
+        self.around.gate.pass(self.around.rt, self.slot, index);
+        let read = ReadEvent::new(event);
+        self.prepare(&read, effects);
+        self.apply(desk, &read, effects)
+    }
+
+    /// Lets the next unit into its batch.
+    fn admit(&self, batch: &mut Batch<'s>) {
+        // Modelled in models/jobs.pml.
+        if let Some(host) = self.around.host {
+            batch.admit(host, self.around.rt);
+        }
     }
 
     /// Takes the next unit in the feeder, or the fault there. A long packet is taken with its
     /// memory, so that its data are shared and not copied. Where the session is over, it says why.
     fn take_unit(
-        &mut self,
+        &self,
         session: &mut Session,
         desk: &mut Desk<K>,
         batch: &mut Batch<'s>,
+        effects: &mut Effects,
     ) -> Result<Taken, SessionEnd>
-        ensures takes { TakesNext K.settings K.taped desk.old.number self.old.slot session.old.feeder result desk.old.witness.seen desk.new.witness.seen session.new.feeder }
-        ensures gathers { Gathers K.settings K.taped desk.old.number desk.old.witness.seen self.old.effects desk.new.witness.seen self.new.effects }
+        ensures takes { TakesNext K.settings K.taped desk.old.number self.now.slot session.old.feeder result desk.old.witness.seen desk.new.witness.seen session.new.feeder }
+        ensures gathers { Gathers K.settings K.taped desk.old.number desk.old.witness.seen effects.old desk.new.witness.seen effects.new }
         ensures number { desk.new.number ≡ desk.old.number }
-        ensures slot { self.new.slot ≡ self.old.slot }
     {
         // Modelled in models/jobs.pml.
         let slot = self.slot;
         let around = self.around;
         let index = session.index;
         if let Some(packet) = session.feeder.take_packet(LONG) {
-            batch.admit(around.server, around.rt);
+            self.admit(batch);
             session.index = index.saturating_add(1);
-            self.take_long(desk, index, packet)?;
+            self.take_long(desk, index, packet, effects)?;
             return Ok(Taken::Unit { is_line: false });
         }
         match next_event(&mut session.feeder, slot) {
             Next::Unit(event) => {
                 let is_line = matches!(event, Event::Line { .. });
-                batch.admit(around.server, around.rt);
+                self.admit(batch);
                 session.index = index.saturating_add(1);
-                self.apply_unit(desk, index, event)?;
+                self.apply_unit(desk, index, event, effects)?;
                 Ok(Taken::Unit { is_line })
             }
             Next::Wait => Ok(Taken::Nothing),
             Next::Fault(fault) => {
-                around.server.remark(around.rt, slot, Oddity::Fault);
+                if let Some(host) = around.host {
+                    host.speaker.count_faulty(around.rt);
+                }
                 let event = Event::Fault { slot, fault };
                 let action = Ok(Action::Nothing);
-                self.apply(desk, &ReadEvent { event, action })?;
+                self.apply(desk, &ReadEvent { event, action }, effects)?;
                 Err(SessionEnd::Shut)
             }
         }
@@ -181,18 +179,17 @@ impl<'s, K: BookName, R: Wait, G: Gate, N: Notify<R>> Applier<'s, K, R, G, N> {
 
     /// Applies a packet that was taken with its memory.
     fn take_long(
-        &mut self,
+        &self,
         desk: &mut Desk<K>,
         index: u64,
         packet: OwnedPacket,
+        effects: &mut Effects,
     ) -> Result<(), SessionEnd>
         requires { length (drop packet.data_at packet.bytes.items) ≤ 1073741824 }
-        ensures applies { Applies K.settings K.taped desk.old.number (Packet self.old.slot packet.kind (drop packet.data_at packet.bytes.items)) result
+        ensures applies { Applies K.settings K.taped desk.old.number (Packet self.now.slot packet.kind (drop packet.data_at packet.bytes.items)) result
             desk.old.witness.seen desk.new.witness.seen }
-        ensures keeps { KeepsUnit K.settings K.taped (Packet self.old.slot packet.kind (drop packet.data_at packet.bytes.items)) desk.old.number result
-            desk.old.witness.seen desk.new.witness.seen self.old.effects self.new.effects }
+        ensures gathers { Gathers K.settings K.taped desk.old.number desk.old.witness.seen effects.old desk.new.witness.seen effects.new }
         ensures number { desk.new.number ≡ desk.old.number }
-        ensures slot { self.new.slot ≡ self.old.slot }
     {
         let slot = self.slot;
         let kind = packet.kind;
@@ -200,86 +197,70 @@ impl<'s, K: BookName, R: Wait, G: Gate, N: Notify<R>> Applier<'s, K, R, G, N> {
             return Err(SessionEnd::Memory);
         };
         let bytes = Data::shared(&data);
-        self.apply_unit(desk, index, Event::Packet { slot, kind, bytes })
+        self.apply_unit(desk, index, Event::Packet { slot, kind, bytes }, effects)
     }
 
-    /// Takes units, and the fault after them, until there is none, or their batch has ended. Where the session is over, it says why.
-    fn unload(&mut self, session: &mut Session, desk: &mut Desk<K>) -> Result<Turn, SessionEnd>
-        ensures unloads { Unloads K.settings K.taped desk.old.number self.old.slot session.old.feeder result desk.old.witness.seen desk.new.witness.seen session.new.feeder }
-        ensures gathers { Gathers K.settings K.taped desk.old.number desk.old.witness.seen self.old.effects desk.new.witness.seen self.new.effects }
+    /// A session's turn: takes units, and the fault after them, until there is none, or their batch has ended, and says whether there may
+    /// be more. Where the session is over, it says why.
+    fn unload(
+        &self,
+        session: &mut Session,
+        desk: &mut Desk<K>,
+        effects: &mut Effects,
+    ) -> Result<Turn, SessionEnd>
+        ensures unloads { Unloads K.settings K.taped desk.old.number self.now.slot session.old.feeder result desk.old.witness.seen desk.new.witness.seen session.new.feeder }
+        ensures gathers { Gathers K.settings K.taped desk.old.number desk.old.witness.seen effects.old desk.new.witness.seen effects.new }
         ensures number { desk.new.number ≡ desk.old.number }
-        ensures slot { self.new.slot ≡ self.old.slot }
     {
         // Modelled in models/jobs.pml and polling.pml.
-        let around = self.around;
         let length = session.feeder.pending().len();
         let mut batch = Batch::new(session.free_units(length), length);
         loop {
-            let Taken::Unit { is_line } = self.take_unit(session, desk, &mut batch)? else {
+            let Taken::Unit { is_line } = self.take_unit(session, desk, &mut batch, effects)? else {
                 session.is_pipelining = batch.units > FIRST_UNITS;
                 return Ok(Turn::Emptied);
             };
-            if batch.has_ended(around.server, around.rt, is_line) {
+            if batch.has_ended(self.around.rt, is_line) {
                 session.is_pipelining = batch.units > FIRST_UNITS;
                 return Ok(Turn::Cut);
             }
         }
     }
 
-    /// A session's turn: takes units, notifies others of what came of them, and says whether there may be more. Where the session is
-    /// over, it says why.
-    pub(crate) fn take_turn(
-        &mut self,
-        session: &mut Session,
-        desk: &mut Desk<K>,
-    ) -> Result<Turn, SessionEnd>
-        ensures nothing { IsNothing self.new.effects }
-        ensures unloads { Unloads K.settings K.taped desk.old.number self.old.slot session.old.feeder result desk.old.witness.seen desk.new.witness.seen session.new.feeder }
-        ensures number { desk.new.number ≡ desk.old.number }
-        ensures slot { self.new.slot ≡ self.old.slot }
-    {
-        // Modelled in models/jobs.pml.
-        let outcome = self.unload(session, desk);
-        self.around.server.notify(self.around.rt, &mut self.effects);
-        outcome
-    }
-
     /// Reads a piece, unless the last turn may have left whole units, and then takes its turn. Where the session is over, it says why.
     pub(crate) fn step<E, S: Source<E>>(
-        &mut self,
+        &self,
         session: &mut Session,
         desk: &mut Desk<K>,
         source: &mut S,
         by: &E,
+        effects: &mut Effects,
     ) -> Result<Turn, SessionEnd>
-        requires nothing { IsNothing self.old.effects }
-        ensures nothing { IsNothing self.new.effects }
         ensures ended { IfErr result (λ end. end ≡ SessionEnd.Ended → IsAtEnd (S.remaining source.new)) }
-        ensures steps { Steps K.settings K.taped desk.old.number self.old.slot session.old.feeder session.old.has_units (S.remaining source.old) (S.remaining source.new)
+        ensures steps { Steps K.settings K.taped desk.old.number self.now.slot session.old.feeder session.old.has_units (S.remaining source.old) (S.remaining source.new)
             (S.heard source.old) (S.heard source.new) result desk.old.witness.seen desk.new.witness.seen session.new.feeder }
         ensures units { IfOk result (λ turn. session.new.has_units ≡ may_leave turn) }
+        ensures gathers { Gathers K.settings K.taped desk.old.number desk.old.witness.seen effects.old desk.new.witness.seen effects.new }
         ensures number { desk.new.number ≡ desk.old.number }
-        ensures slot { self.new.slot ≡ self.old.slot }
     {
         // Modelled in models/jobs.pml and polling.pml.
         session.fill(source, by)?;
-        let turn = self.take_turn(session, desk)?;
+        let turn = self.unload(session, desk, effects)?;
         session.has_units = turn == Turn::Cut;
         Ok(turn)
     }
 
     /// Reads a connection's stream to its end.
     pub(crate) fn run<I: Read>(
-        &mut self,
+        &self,
         session: &mut Session,
         desk: &mut Desk<K>,
         reader: &mut I,
+        effects: &mut Effects,
     ) -> SessionEnd
-        requires feeder { session.old.feeder.pending ≡ [] }
-        requires nothing { IsNothing self.old.effects }
-        ensures nothing { IsNothing self.new.effects }
+        requires { session.old.feeder.pending ≡ [] }
         ensures ended { result ≡ SessionEnd.Ended → IsAtEnd (I.remaining reader.new) }
-        ensures reads { Reads K.settings K.taped desk.old.number self.old.slot session.old.feeder.limits (I.remaining reader.old) (I.remaining reader.new) result
+        ensures reads { Reads K.settings K.taped desk.old.number self.now.slot session.old.feeder.limits (I.remaining reader.old) (I.remaining reader.new) result
             desk.old.witness.seen desk.new.witness.seen }
         ensures number { desk.new.number ≡ desk.old.number }
     {
@@ -291,7 +272,7 @@ impl<'s, K: BookName, R: Wait, G: Gate, N: Notify<R>> Applier<'s, K, R, G, N> {
                 }
                 pieces_left -= 1;
             }
-            match self.step(session, desk, reader, &()) {
+            match self.step(session, desk, reader, &(), effects) {
                 Ok(_) => {}
                 Err(end) => return end,
             }

@@ -2,9 +2,11 @@
 
 ghost use Rattle.std.specs.Prelude.{◌≡◌, ◌+◌, ◌%◌, ◌^◌, ◌<◌, ◌≤◌, true, false, None, IsSome, IsNone};
 
-use crate::effects::Notify;
+use crate::host::Host;
+use gm_report::has_passed;
+use gm_shared::BookName;
 use std::sync::{MutexGuard, Wait};
-use std::time::Instant;
+use std::time::{Clock, Duration, Instant};
 
 /// The most bytes of a turn that doesn't wait behind the long turns that wait: several requests. It waits for the batch that
 /// goes on.
@@ -16,6 +18,9 @@ const MOST_UNITS: u32 = 64;
 /// After how many units a turn reads the clock. It does so after each text line too, which may be the work of many units.
 const UNITS_PER_CLOCK_READ: u32 = 8;
 
+/// How long a turn may be.
+const TURN_TIME_US: u64 = 250;
+
 /// The units of a turn, after which others are notified of what came of them.
 #[derive(Drop)]
 pub(crate) struct Batch<'s> {
@@ -23,12 +28,10 @@ pub(crate) struct Batch<'s> {
     free_units: u32,
     /// Whether its turn is long, and waits behind the other long ones.
     is_long: bool,
-    /// Held over the other units, so that no other session has such a batch. Many units in a row, of several connections at
-    /// once, would wake and sleep at the book's lock at each unit.
-    alone: Option<MutexGuard<'s, ()>>,
-    /// The lock of long pieces, held with `alone`. So at most one thread with a long turn waits for `alone`, beside those with
-    /// shorter ones.
-    long_lock: Option<MutexGuard<'s, ()>>,
+    /// Held over the other units, so that no other session has such a batch.
+    turn: Option<MutexGuard<'s, ()>>,
+    /// Held with `turn`, if the turn is long.
+    long_turn: Option<MutexGuard<'s, ()>>,
     pub(crate) units: u32,
     begun: Option<Instant>,
 }
@@ -39,15 +42,15 @@ impl<'s> Batch<'s> {
         ensures free { result.free_units ≡ free_units }
         ensures units { result.units ≡ 0 }
         ensures long { 2048 < length → result.is_long ≡ true }
-        ensures alone { IsNone result.alone }
-        ensures long_lock { IsNone result.long_lock }
+        ensures turn { IsNone result.turn }
+        ensures long_turn { IsNone result.long_turn }
         ensures begun { result.begun ≡ None }
     {
         Batch {
             free_units,
             is_long: length > MIDDLE_PIECE,
-            alone: None,
-            long_lock: None,
+            turn: None,
+            long_turn: None,
             units: 0,
             begun: None,
         }
@@ -55,25 +58,25 @@ impl<'s> Batch<'s> {
 
     /// Lets the next unit in. The first that isn't free waits until no other session has such a batch, in a long turn behind
     /// the other long ones.
-    pub(crate) fn admit<R: Wait, N: Notify<R>>(&mut self, server: &'s N, rt: &R)
+    pub(crate) fn admit<K: BookName>(&mut self, host: &'s Host<K>, rt: &impl Wait)
         ensures free { self.new.free_units ≡ self.old.free_units }
         ensures units { self.new.units ≡ self.old.units }
-        ensures waits { self.old.free_units ≤ self.old.units → IsSome self.new.alone }
-        ensures long_lock { self.old.free_units ≤ self.old.units → IsNone self.old.alone → self.old.is_long ≡ true → IsSome self.new.long_lock }
+        ensures waits { self.old.free_units ≤ self.old.units → IsSome self.new.turn }
+        ensures long_turn { self.old.free_units ≤ self.old.units → IsNone self.old.turn → self.old.is_long ≡ true → IsSome self.new.long_turn }
         ensures long { self.new.is_long ≡ self.old.is_long }
         ensures begun { self.new.begun ≡ self.old.begun }
     {
         // Modelled in models/jobs.pml.
-        if self.units >= self.free_units && self.alone.is_none() {
+        if self.units >= self.free_units && self.turn.is_none() {
             if self.is_long {
-                self.long_lock = Some(server.long_piece_lock().lock(rt));
+                self.long_turn = Some(host.long_turn.lock(rt));
             }
-            self.alone = Some(server.batch_lock().lock(rt));
+            self.turn = Some(host.turn.lock(rt));
         }
     }
 
     /// Whether it has ended, after a unit more.
-    pub(crate) fn has_ended<R, N: Notify<R>>(&mut self, server: &N, rt: &R, is_line: bool) -> bool
+    pub(crate) fn has_ended(&mut self, rt: &impl Clock, is_line: bool) -> bool
         ensures free { self.new.free_units ≡ self.old.free_units }
         ensures units { self.new.units ≡ (self.old.units + 1) % 2 ^ 32 }
         ensures most { 64 ≤ self.new.units → result ≡ true }
@@ -83,6 +86,6 @@ impl<'s> Batch<'s> {
         self.units = self.units.wrapping_add(1);
         self.units >= MOST_UNITS
             || (is_line || self.units % UNITS_PER_CLOCK_READ == 0)
-                && server.is_time(rt, &mut self.begun)
+                && has_passed(rt, &mut self.begun, Duration::from_micros(TURN_TIME_US))
     }
 }

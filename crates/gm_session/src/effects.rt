@@ -1,6 +1,6 @@
 //! What came of events, for the threads that are notified.
 
-ghost use Rattle.std.specs.Prelude.{◌≡◌, true};
+ghost use Rattle.std.specs.Prelude.{◌≡◌};
 ghost use Rattle.std.specs.Result.{IsErrOf};
 ghost use Rattle.gm_actions.specs.ReadEvents.{ReadsEvent};
 ghost use Rattle.gm_notes.specs.Servers.{step_of, IsSized};
@@ -13,8 +13,7 @@ use gm_conns::SlotSet;
 use gm_lane_word::Due;
 use gm_notes::{ApplyError, Mode};
 use gm_shared::{BookName, Desk, Receipt, Shared};
-use std::sync::{Mutex, Wait};
-use std::time::Instant;
+use std::sync::Wait;
 
 /// What came of some events. It can't be dropped: what is due to each touched slot is taken out of it, and then it is ended.
 pub struct Effects {
@@ -72,20 +71,19 @@ impl Effects {
         Some(Due::new(own))
     }
 
-    /// Forgets what is due, of a session that notifies nobody.
-    pub(crate) fn forget<N: Audience>(&mut self, _nobody: &N)
-        requires { N.is_nobody ≡ true }
-        ensures own { self.new.own ≡ self.old.own }
-        ensures nothing { IsNothing self.new }
-    {
-        self.touched = SlotSet::new();
-        self.mode = Mode::Running;
-    }
-
     /// Discharges it, where nothing is due to any slot any more.
     pub fn discharge(self)
         requires { IsNothing self }
     {
+        let Effects {
+            own: _,
+            touched: _,
+            mode: _,
+        } = self;
+    }
+
+    /// Ends it, of a session that is read by itself: no thread is notified.
+    pub(crate) fn abandon(self) {
         let Effects {
             own: _,
             touched: _,
@@ -113,45 +111,4 @@ pub(crate) fn hand_in<K: BookName>(
     let receipt = desk.apply_with(rt, shared, read, &mut effects.touched)?;
     effects.mode = receipt.mode;
     Ok(receipt)
-}
-
-/// Whom a session notifies.
-pub trait Audience {
-    ghost use Rattle.std.specs.Prelude.{Bool, false};
-
-    // Whether there is nobody.
-    ghost is_nobody: { Bool } = { false };
-}
-
-/// What a session meets that is said to operators.
-#[derive(Clone, Copy, Debug, PartialEq, Eq)]
-pub enum Oddity {
-    /// A packet of this type, which isn't a request's.
-    UnknownType(u32),
-    /// A fault in the stream.
-    Fault,
-}
-
-/// What a session needs of the threads around it: whom it notifies of what came of its units, and whether it is time for that.
-pub trait Notify<R>: Audience {
-    /// Long pieces pass it one after another. It is taken before `batch_lock`, and held with it.
-    fn long_piece_lock(&self) -> &Mutex<()>;
-
-    /// Batches pass it one after another, of long pieces and of others.
-    fn batch_lock(&self) -> &Mutex<()>;
-
-    /// Whether a turn has had its time. It keeps when it was first asked.
-    fn is_time(&self, rt: &R, begun: &mut Option<Instant>) -> bool;
-
-    /// Hands in the present second, if it is a later one. It is called before each grab: a job's time limit counts from the last
-    /// second that was handed in.
-    fn update_time(&self, rt: &R);
-
-    /// The session of this slot's connection met this.
-    fn remark(&self, rt: &R, slot: u32, oddity: Oddity);
-
-    /// Notifies others of what came of some events, with the book's lock let go.
-    fn notify(&self, rt: &R, effects: &mut Effects)
-        ensures own { effects.new.own ≡ effects.old.own }
-        ensures nothing { IsNothing effects.new };
 }

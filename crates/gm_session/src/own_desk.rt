@@ -1,21 +1,15 @@
 //! A desk at which no other slot's connection speaks.
 
-ghost use Rattle.std.specs.Prelude.{◌≡◌, true, false, [], IfOk, IfErr};
+ghost use Rattle.std.specs.Prelude.{◌≡◌, true, []};
 ghost use Rattle.std.specs.Result.{IsErrOf};
-ghost use Rattle.std.specs.Io.KnownBytes.{IsAtEnd};
 ghost use Rattle.gm_notes.specs.Servers.{step_of, IsSized};
 ghost use Rattle.gm_shared.specs.Books.{NeedsNoMemory};
 ghost use Rattle.gm_shared.specs.Calls.{HandedIn, if_taken};
 ghost use Rattle.gm_session.specs.Effects.{Keeps};
 ghost use Rattle.gm_session.specs.Owners.{is_said_by, SaysOwn};
-ghost use Rattle.gm_session.specs.Sessions.{Steps, may_leave};
 
-use crate::applier::{Applier, Around};
-use crate::effects::{Effects, Notify, hand_in};
-use crate::gate::Gate;
-use crate::session::{Session, SessionEnd, Turn};
+use crate::effects::{Effects, hand_in};
 use gm_actions::ReadEvent;
-use gm_feeder::Source;
 use gm_notes::{ApplyError, Event};
 use gm_shared::{BookName, Desk, Receipt, Shared};
 use std::sync::Wait;
@@ -69,26 +63,5 @@ impl<K: BookName> OwnDesk<K> {
         ensures { result ≡ self.now.desk.number }
     {
         self.desk.number()
-    }
-
-    /// Goes on with a session of the slot's connection: reads a piece, unless whole units may be left, and takes a turn. Where the session
-    /// is over, it says why.
-    pub(crate) fn step<R: Wait, G: Gate, N: Notify<R>, E, S: Source<E>>(
-        &mut self,
-        around: &Around<'_, K, R, G, N>,
-        session: &mut Session,
-        source: &mut S,
-        by: &E,
-    ) -> Result<Turn, SessionEnd>
-        ensures ended { IfErr result (λ end. end ≡ SessionEnd.Ended → IsAtEnd (S.remaining source.new)) }
-        ensures steps { Steps K.settings K.taped self.old.desk.number self.old.desk.number session.old.feeder session.old.has_units (S.remaining source.old) (S.remaining source.new)
-            (S.heard source.old) (S.heard source.new) result self.old.desk.witness.seen self.new.desk.witness.seen session.new.feeder }
-        ensures units { IfOk result (λ turn. session.new.has_units ≡ may_leave turn) }
-        ensures number { self.new.desk.number ≡ self.old.desk.number }
-    {
-        let mut applier = Applier::new(around, self.desk.number());
-        let outcome = applier.step(session, &mut self.desk, source, by);
-        applier.discharge();
-        outcome
     }
 }

@@ -6,13 +6,13 @@ ghost use Rattle.std.specs.Io.KnownBytes.{IsAtEnd};
 ghost use Rattle.gm_notes.specs.Steps.{Close};
 ghost use Rattle.gm_shared.specs.Books.{NeedsNoMemory};
 ghost use Rattle.gm_shared.specs.Calls.{Called};
-ghost use Rattle.gm_session.specs.Effects.{Keeps};
+ghost use Rattle.gm_session.specs.Effects.{Keeps, Gathers};
 ghost use Rattle.gm_session.specs.Hearings.{blank};
 ghost use Rattle.gm_session.specs.Sessions.{Steps, may_leave};
 ghost use Rattle.gm_session.specs.Talks.{IsTalk, begun, StepsOn, Discards, Closes};
 
-use crate::applier::Around;
-use crate::effects::{Effects, Notify};
+use crate::applier::{Applier, Around};
+use crate::effects::Effects;
 use crate::gate::Gate;
 use crate::heard::{HearingLedger, LoggedSource};
 use crate::own_desk::OwnDesk;
@@ -23,13 +23,17 @@ use gm_shared::{BookName, Desk, Receipt, Shared};
 use std::alloc::{AllocError, Global};
 use std::io;
 use std::marker::Model;
+use std::net::SocketAddr;
 use std::sync::Wait;
+use std::time::Clock;
 
 /// A connection that is read, until its slot is closed.
 #[derive(Drop)]
 struct Talking<I: Source<Patience>> {
     session: Session,
     source: LoggedSource<I>,
+    /// The connection's peer, for operators.
+    peer: Option<SocketAddr>,
     /// The session is over: what still comes is dropped.
     is_over: bool,
     /// Nothing is read any more.
@@ -72,20 +76,33 @@ impl<K: BookName, I: Source<Patience>> Model for Talk<K, I> {
 }
 
 /// Goes on with a session at its desk.
-fn step_on<K: BookName, R: Wait, G: Gate, N: Notify<R>, I: Source<Patience>>(
+fn step_on<K: BookName, R: Wait + Clock, G: Gate, I: Source<Patience>>(
     desk: &mut OwnDesk<K>,
     talking: &mut Talking<I>,
-    around: &Around<'_, K, R, G, N>,
+    around: &Around<'_, K, R, G>,
     by: &Patience,
+    effects: &mut Effects,
 ) -> Result<Turn, SessionEnd>
     ensures steps { Steps K.settings K.taped desk.old.desk.number desk.old.desk.number talking.old.session.feeder talking.old.session.has_units
         (I.remaining talking.old.source.0) (I.remaining talking.new.source.0) (Some talking.old.source.2) (Some talking.new.source.2) result
         desk.old.desk.witness.seen desk.new.desk.witness.seen talking.new.session.feeder }
     ensures units { IfOk result (λ turn. talking.new.session.has_units ≡ may_leave turn) }
     ensures over { MatchResult result (λ _. talking.new.is_over ≡ false) (λ _. talking.new.is_over ≡ true) }
+    ensures gathers { Gathers K.settings K.taped desk.old.desk.number desk.old.desk.witness.seen effects.old desk.new.desk.witness.seen effects.new }
     ensures number { desk.new.desk.number ≡ desk.old.desk.number }
 {
-    let outcome = desk.step(around, &mut talking.session, &mut talking.source, by);
+    let applier = Applier {
+        around,
+        slot: desk.number(),
+        peer: talking.peer,
+    };
+    let outcome = applier.step(
+        &mut talking.session,
+        &mut desk.desk,
+        &mut talking.source,
+        by,
+        effects,
+    );
     talking.is_over = outcome.is_err();
     outcome
 }
@@ -139,7 +156,12 @@ impl<K: BookName, I: Source<Patience> + Drop> Talk<K, I> {
     }
 
     /// Takes a connection, of which nothing was read yet. It says whether it could: not before the slot was closed after the last one.
-    pub fn begin(&mut self, alloc: Global, source: LoggedSource<I>) -> bool
+    pub fn begin(
+        &mut self,
+        alloc: Global,
+        source: LoggedSource<I>,
+        peer: Option<SocketAddr>,
+    ) -> bool
         requires { source.2 ≡ [] }
         ensures { MatchBool result (self.new ≡ begun self.old) (self.new ≡ self.old) }
     {
@@ -150,6 +172,7 @@ impl<K: BookName, I: Source<Patience> + Drop> Talk<K, I> {
         self.talking = Some(Talking {
             session: Session::new(alloc, self.limits),
             source,
+            peer,
             is_over: false,
             has_ended: false,
         });
@@ -192,17 +215,26 @@ impl<K: BookName, I: Source<Patience> + Drop> Talk<K, I> {
         }
     }
 
-    /// Goes on with the session: reads a piece, unless whole units may be left, and takes a turn. Where the session is over, it says why.
-    pub fn step<R: Wait, G: Gate, N: Notify<R>>(
+    /// Goes on with the session: reads a piece, unless whole units may be left, and takes a turn. What came of its units is added to the
+    /// effects. Where the session is over, it says why.
+    pub fn step<R: Wait + Clock, G: Gate>(
         &mut self,
-        around: &Around<'_, K, R, G, N>,
+        around: &Around<'_, K, R, G>,
         by: &Patience,
+        effects: &mut Effects,
     ) -> Result<Turn, SessionEnd>
-        ensures { StepsOn self.old.talking K.settings K.taped result self.old self.new }
+        ensures steps { StepsOn self.old.talking K.settings K.taped result self.old self.new }
+        ensures gathers { Gathers K.settings K.taped self.old.number self.old.seen effects.old self.new.seen effects.new }
     {
         // Modelled in models/polling.pml.
         match &mut self.talking {
-            Some(talking) if !talking.is_over => step_on(&mut self.desk, talking, around, by),
+            Some(talking) if !talking.is_over => step_on(
+                &mut self.desk,
+                talking,
+                around,
+                by,
+                effects,
+            ),
             _ => Err(SessionEnd::Shut),
         }
     }

@@ -1,4 +1,4 @@
-//! One slot: its reading side, its lane and its peer's address.
+//! One slot: its reading side and its lane.
 
 ghost use Rattle.std.specs.Prelude.{◌≡◌, [], All, IfOk, length, map};
 ghost use Rattle.gm_promise.specs.Accounts.{IsAccount};
@@ -9,18 +9,15 @@ use gm_promise::Account;
 use gm_session::{OwnDesk, Talk};
 use gm_shared::{BookName, Desk, Pen};
 use std::alloc::{AllocError, Global};
-use std::net::SocketAddr;
 use std::sync::Mutex;
 
-/// One slot: its reading side, its lane and its peer's address.
+/// One slot: its reading side and its lane.
 #[derive(Drop)]
 pub struct Slot<K: BookName> {
     /// What its connection says. The thread that reads from it has it meanwhile.
     pub talk: Mutex<Talk<K, ReadHalf>>,
     /// What its connection is sent.
     pub lane: Lane<K>,
-    /// Its connection's peer.
-    pub peer: Mutex<Option<SocketAddr>>,
 }
 
 /// What was given to a slot, and the account of its connections.
@@ -37,7 +34,7 @@ impl<K: BookName> Slot<K> {
         ensures { IsAccount (result.desk.desk.number, result.desk.desk.witness.seen) (result.pen.slot, result.pen.witness.seen, result.pen.seat.takes)
             result.account.limits result.account.heard result.account.sent }
     {
-        let Slot { talk, lane, .. } = self;
+        let Slot { talk, lane } = self;
         let (desk, limits, heard) = talk.into_inner().into_parts();
         let (pen, sent) = lane.into_parts();
         let account = Account {
@@ -70,7 +67,6 @@ pub fn new_slots<K: BookName>(
         slots.push(Slot {
             talk: Mutex::new(Talk::new(alloc, desk, limits)?),
             lane: Lane::new(alloc, pen)?,
-            peer: Mutex::new(None),
         })?;
     }
     Ok(slots)

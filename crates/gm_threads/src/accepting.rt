@@ -5,9 +5,8 @@ ghost use Rattle.std.specs.Prelude.{◌≡◌, [], pos};
 use crate::crews;
 use crate::error::ControlError;
 use crate::keepalive::set_peer_timeout;
-use crate::stage::ServerStage;
 use crate::state::ServerState;
-use gm_delivery::{ReadHalf, WriteHalf, split};
+use gm_delivery::{ReadHalf, ServerStage, WriteHalf, split};
 use gm_report::{Ready, Report, Trouble};
 use gm_session::{Gate, LoggedSource};
 use gm_shared::BookName;
@@ -160,11 +159,10 @@ impl<'s, K: BookName + Send + Sync> Control<'s, K> {
         let state = self.state;
         let Halves { reading, writing } = halves;
         let fd = reading.source().descriptor();
-        *slot.peer.lock(rt) = Some(peer);
-        slot.lane.open(rt, state, opening, writing);
+        state.wake_for(slot.lane.open(&state.delivery(rt), opening, writing));
         // Under the lock, so that the connection isn't over before its socket is known.
         let mut talk = slot.talk.lock(rt);
-        talk.begin(state.alloc, reading);
+        talk.begin(state.alloc, reading, Some(peer));
         if let Err(error) = state.crews.begin(slot.lane.number(), fd) {
             state.end(rt, slot, &mut talk);
             return Err(Refusal {
@@ -189,7 +187,7 @@ impl<'s, K: BookName + Send + Sync> Control<'s, K> {
         let ip = peer.ip();
         let addr = format!(in state.alloc; "{ip}")?;
         let halves = Halves::new(state.alloc, stream)?;
-        let mut desk = state.control.lock(rt);
+        let mut desk = state.host.desk().lock(rt);
         let opened = state.open(rt, &mut desk, addr.as_bytes());
         drop(desk);
         let opened = opened.and_then(|(number, opening)| Some((state.slot(number)?, opening)));
@@ -219,7 +217,7 @@ impl<'s, K: BookName + Send + Sync> Control<'s, K> {
         let Ok(()) = prepare(&stream, self.peer_timeout) else {
             return;
         };
-        let speaker = &self.state.speaker;
+        let speaker = &self.state.host.speaker;
         match self.open(scope, rt, gate, stream, peer) {
             Ok(()) => speaker.clear(rt),
             Err(Refusal { trouble, error }) => {
@@ -238,16 +236,16 @@ impl<'s, K: BookName + Send + Sync> Control<'s, K> {
         } else {
             Trouble::Accept
         };
-        self.state.speaker.remark(rt, trouble, code);
+        self.state.host.speaker.remark(rt, trouble, code);
         thread::sleep(rt, Duration::from_millis(ACCEPT_TIMEOUT_MS));
     }
 
     /// Tells how the server is, once in a second.
     fn tell(&mut self, rt: &impl Wait, ready: &mut impl Ready) {
-        let second = self.state.last_second();
+        let second = self.state.host.last_second();
         if self.told != second {
             self.told = second;
-            let counts = self.state.speaker.counts(rt);
+            let counts = self.state.host.speaker.counts(rt);
             ready.go_on(Report {
                 connections: self.state.connections(),
                 slots: self.state.slot_count,

@@ -1,10 +1,9 @@
 //! The threads that serve connections: how they wait, and how they are woken. What they do then is one for both ways (`serving`).
 
 use crate::serving::Then;
-use crate::stage::ServerStage;
 use crate::state::ServerState;
 use crossbeam_utils::sync::{Parker, Unparker};
-use gm_delivery::{Finish, ReadHalf};
+use gm_delivery::{Finish, ReadHalf, ServerStage};
 use gm_feeder::Patience;
 use gm_poll::{Hub, Poller};
 use gm_session::{Gate, Talk};
@@ -242,7 +241,7 @@ fn run_finisher<K: BookName, R: Wait + Clock>(
     for _ in rt.forever() {
         match finish {
             Finish::Pending => parker.park_timeout(rt, Duration::from_millis(AGAIN_MS)),
-            Finish::Idle | Finish::Gone => parker.park(rt),
+            Finish::Idle | Finish::Again | Finish::Gone => parker.park(rt),
         }
         if state.has_ended() {
             break;

@@ -13,7 +13,6 @@ mod keepalive;
 mod server;
 mod serving;
 mod settings;
-mod stage;
 mod state;
 
 pub use crews::Crews;

@@ -1,8 +1,7 @@
 //! How a connection is served, by whichever threads do: it is read by turns and ended, and what others leave of its lane is done.
 
-use crate::stage::ServerStage;
 use crate::state::ServerState;
-use gm_delivery::{Deliverer, Finish, ReadHalf, ReadStage, Server};
+use gm_delivery::{Deliverer, Finish, Leftover, ReadHalf, ReadStage, ServerStage};
 use gm_feeder::Patience;
 use gm_notes::ApplyError;
 use gm_poll::{Call, Next};
@@ -104,9 +103,12 @@ impl<K: BookName> ServerState<K> {
                 rt,
                 shared: &self.shared,
                 gate,
-                server: self,
+                host: Some(&self.host),
             };
-            talk.step(&around, &patience)
+            let mut effects = Effects::new(Some(talk.number()));
+            let outcome = talk.step(&around, &patience, &mut effects);
+            self.notify(rt, effects);
+            outcome
         };
         match outcome {
             Ok(Turn::Cut) => Then::More,
@@ -114,15 +116,15 @@ impl<K: BookName> ServerState<K> {
             Err(SessionEnd::Ended) => Then::Ends,
             Err(SessionEnd::ReadFault) => {
                 if has_timed_out(talk) {
-                    self.count_timed_out(rt);
+                    self.host.speaker.count_timed_out(rt);
                 }
                 Then::Ends
             }
             Err(end) => {
                 if end == SessionEnd::Memory {
-                    self.speaker.remark(rt, Trouble::Cut, 0);
+                    self.host.speaker.remark(rt, Trouble::Cut, 0);
                 }
-                slot.lane.end(rt, self, ReadStage::Ending);
+                self.wake_for(slot.lane.end(&self.delivery(rt), ReadStage::Ending));
                 discard(talk, patience)
             }
         }
@@ -137,7 +139,8 @@ impl<K: BookName> ServerState<K> {
     ) {
         // Modelled in models/serving.h.
         talk.stop_reading();
-        if slot.lane.end(rt, self, ReadStage::Ended) == Finish::Gone {
+        let leftover = slot.lane.end(&self.delivery(rt), ReadStage::Ended);
+        if self.wake_for(leftover) == Finish::Gone {
             self.close(rt, talk);
         }
     }
@@ -150,17 +153,18 @@ impl<K: BookName> ServerState<K> {
         patience: Patience,
     ) -> Finish {
         // Modelled in models/serving.h.
-        let finish = slot.lane.deliver(rt, self, Deliverer::Finisher(patience));
-        self.close_if_gone(rt, slot, finish);
-        finish
+        let finisher = Deliverer::Finisher(patience);
+        self.settle_lane(rt, slot, slot.lane.deliver(&self.delivery(rt), finisher))
     }
 
-    /// Closes a slot whose connection was let go of.
-    fn close_if_gone<R: Wait + Clock>(&self, rt: &R, slot: &Slot<K>, finish: Finish) {
+    /// Does what a finisher's delivery left to do, and says what came of it: a slot whose connection was let go of is closed.
+    fn settle_lane<R: Wait + Clock>(&self, rt: &R, slot: &Slot<K>, leftover: Leftover) -> Finish {
         // Modelled in models/serving.h.
+        let finish = self.wake_for(leftover);
         if finish == Finish::Gone {
             self.close(rt, &mut slot.talk.lock(rt));
         }
+        finish
     }
 
     /// Closes the slot of a connection that is gone. With a tape there may be no memory for that. Then the slot stays open in the book, and
@@ -171,7 +175,7 @@ impl<K: BookName> ServerState<K> {
         if let Err(ApplyError::Memory) = talk.close(rt, &self.shared, &mut effects) {
             self.stage.rise(ServerStage::Failed as u8);
         }
-        self.notify_all(rt, effects);
+        self.notify(rt, effects);
         self.end_connection();
     }
 
@@ -187,9 +191,7 @@ impl<K: BookName> ServerState<K> {
         let finish = if call.is_woken {
             self.finish(rt, slot, Patience::Hurries)
         } else {
-            let finish = slot.lane.deliver_left(rt, self);
-            self.close_if_gone(rt, slot, finish);
-            finish
+            self.settle_lane(rt, slot, slot.lane.deliver_left(&self.delivery(rt)))
         };
         let mut talk = slot.talk.lock(rt);
         let is_now = talk.is_reading()

@@ -7,25 +7,21 @@ ghost use Rattle.gm_session.specs.Owners.{Opens};
 ghost use Rattle.gm_slots.specs.Served.{SettledSo};
 
 use crate::crews::Crews;
-use crate::stage::ServerStage;
-use gm_delivery::{Lane, Server, Stage, has_passed};
+use gm_delivery::{DeliveryContext, Finish, Lane, Leftover, ServerStage, Stage};
 use gm_feeder::Limits;
 use gm_lane_word::{Due, Lanes};
 use gm_notes::{Event, Mode};
-use gm_report::{Speaker, Trouble};
-use gm_session::{Audience, Effects, Notify, Oddity, OwnDesk};
+use gm_report::{Speaker, Trouble, has_passed};
+use gm_session::{Effects, Host, OwnDesk};
 use gm_shared::{Blank, BookName, Shared};
 use gm_slots::{Served, Slot, new_slots, settle_slots};
 use std::alloc::{AllocError, Global};
 use std::sync::atomic::{AtomicU64, Ordering};
-use std::sync::{Arc, Mutex, Wait};
+use std::sync::{Arc, Wait};
 use std::time::{Clock, Duration, Instant};
 
 /// How long a thread goes on writing to others. The slots' finishers do the rest.
 const DELIVERING_TIME_MS: u64 = 10;
-
-/// How long a turn of a session may be.
-const TURN_TIME_US: u64 = 250;
 
 /// What all threads of a server share.
 #[derive(Drop)]
@@ -37,18 +33,8 @@ pub(crate) struct ServerState<K: BookName> {
     pub(crate) slots: Vec<Slot<K>>,
     // How many slots the book has.
     pub(crate) slot_count: u32,
-    // Where connections are opened, and ticks handed in.
-    pub(crate) control: Mutex<OwnDesk<K>>,
-    // What is said while the server runs.
-    pub(crate) speaker: Arc<Speaker, Global>,
-    // When the server began, if the clock could be read.
-    begun: Option<Instant>,
-    // The last second since then that was handed in.
-    second: AtomicU64,
-    // Long pieces pass it one after another.
-    long_piece_lock: Mutex<()>,
-    // So do batches, of long pieces and of others.
-    batch_lock: Mutex<()>,
+    // What its sessions share.
+    pub(crate) host: Host<K>,
     // How many connections are open.
     connections: AtomicU64,
     pub(crate) stage: Stage,
@@ -112,12 +98,7 @@ impl<K: BookName> ServerState<K> {
             crews,
             slots,
             slot_count,
-            control: Mutex::new(OwnDesk::new(control)),
-            speaker,
-            begun: Instant::now(rt).ok(),
-            second: AtomicU64::new(0),
-            long_piece_lock: Mutex::new(()),
-            batch_lock: Mutex::new(()),
+            host: Host::new(rt, OwnDesk::new(control), speaker),
             connections: AtomicU64::new(0),
             stage: Stage::new(),
         })
@@ -132,7 +113,7 @@ impl<K: BookName> ServerState<K> {
             shared,
             slots,
             slot_count,
-            control,
+            host,
             ..
         } = self;
         settle_slots(
@@ -140,7 +121,7 @@ impl<K: BookName> ServerState<K> {
             shared,
             slots,
             slot_count,
-            control.into_inner(),
+            host.into_desk(),
             connections,
         )
     }
@@ -171,11 +152,6 @@ impl<K: BookName> ServerState<K> {
         } else {
             Trouble::Slots
         }
-    }
-
-    /// The last second that was handed in.
-    pub(crate) fn last_second(&self) -> u64 {
-        self.second.load(Ordering::SeqCst)
     }
 
     /// Whether there are no connections any more, and none comes.
@@ -233,11 +209,28 @@ impl<K: BookName> ServerState<K> {
             due.without_lane(self);
             return;
         };
-        if delivering.is_over(rt) {
-            slot.lane.touch_for_finisher(self, due);
+        let leftover = if delivering.is_over(rt) {
+            slot.lane.touch_for_finisher(due)
         } else {
-            slot.lane.touch(rt, self, due);
+            slot.lane.touch(&self.delivery(rt), due)
+        };
+        self.wake_for(leftover);
+    }
+
+    /// What is around a delivery of this thread.
+    pub(crate) fn delivery<'a, R>(&'a self, rt: &'a R) -> DeliveryContext<'a, K, R> {
+        DeliveryContext {
+            rt,
+            shared: &self.shared,
+            server: &self.stage,
+            speaker: &self.host.speaker,
         }
+    }
+
+    /// Has a lane's finisher woken, if that is left to do, and says what came of the delivery.
+    pub(crate) fn wake_for(&self, leftover: Leftover) -> Finish {
+        // Modelled in models/lane.h.
+        leftover.settle(|slot| self.crews.wake(slot))
     }
 
     /// Touches the lane of each touched slot, and delivers where nobody else does, until the time is over; then it has the
@@ -259,10 +252,11 @@ impl<K: BookName> ServerState<K> {
         }
     }
 
-    /// Notifies others of what came of an event.
-    pub(crate) fn notify_all<R: Wait + Clock>(&self, rt: &R, mut effects: Effects) {
-        // Modelled in models/jobs.pml and ticks.pml.
-        self.notify(rt, &mut effects);
+    /// Notifies others of what came of events, with the book's lock let go.
+    pub(crate) fn notify<R: Wait + Clock>(&self, rt: &R, mut effects: Effects) {
+        // Modelled in models/jobs.pml, ticks.pml, deliver.pml and serving.h.
+        self.follow(effects.take_mode());
+        self.deliver(rt, &mut effects);
         effects.discharge();
     }
 
@@ -279,41 +273,17 @@ impl<K: BookName> ServerState<K> {
         // Modelled in models/shutdown.pml and ticks.pml.
         let mut effects = Effects::new(None);
         let answer = desk.apply(rt, &self.shared, Event::Open { addr }, &mut effects);
-        self.notify_all(rt, effects);
+        self.notify(rt, effects);
         let receipt = answer.ok()?;
         Some((receipt.done.opened?, receipt.opening))
     }
 
-    /// How many seconds the server has run, if the clock can be read.
-    fn seconds(&self, rt: &impl Clock) -> Option<u64> {
-        // Modelled in models/ticks.pml.
-        let elapsed = self.begun.as_ref()?.elapsed(rt).ok()?;
-        Some(elapsed.as_secs())
-    }
-
-    /// Hands in the present second, if it is later than the last that was. Where the clock can't be read, there is no tick.
+    /// Hands in the present second, if it is later than the last that was, and notifies others of what came of it.
     pub(crate) fn update_time<R: Wait + Clock>(&self, rt: &R) {
-        // Modelled in models/jobs.pml and ticks.pml.
-        if let Some(now) = self.seconds(rt) {
-            if self.last_second() < now {
-                self.tick(rt, now);
-            }
-        }
-    }
-
-    /// Hands in this second, unless another thread was first. If there is no memory for that, the book gets the next
-    /// second.
-    fn tick<R: Wait + Clock>(&self, rt: &R, now: u64) {
-        // Modelled in models/jobs.pml and ticks.pml.
+        // Modelled in models/ticks.pml.
         let mut effects = Effects::new(None);
-        let mut desk = self.control.lock(rt);
-        if self.last_second() < now {
-            let _ = desk.apply(rt, &self.shared, Event::Tick { now }, &mut effects);
-            // Only now: a thread that reads it hands in a grab without a tick.
-            self.second.store(now, Ordering::SeqCst);
-        }
-        drop(desk);
-        self.notify_all(rt, effects);
+        self.host.update(rt, &self.shared, &mut effects);
+        self.notify(rt, effects);
     }
 }
 
@@ -321,62 +291,4 @@ impl<K: BookName> Lanes for ServerState<K> {
     ghost use Rattle.std.specs.Prelude.{length};
 
     ghost count = { λ s. length s.slots.items };
-}
-
-impl<K: BookName> Server<K> for ServerState<K> {
-    fn shared(&self) -> &Shared<K> {
-        &self.shared
-    }
-
-    fn wake_finisher(&self, slot: u32) {
-        self.crews.wake(slot);
-    }
-
-    fn is_stopping(&self) -> bool {
-        // Modelled in models/shutdown.pml.
-        self.stage.has_reached(ServerStage::Stopped as u8)
-    }
-
-    fn count_timed_out(&self, rt: &impl Wait) {
-        self.speaker.count_timed_out(rt);
-    }
-}
-
-impl<K: BookName> Audience for ServerState<K> {}
-
-impl<K: BookName, R: Wait + Clock> Notify<R> for ServerState<K> {
-    fn long_piece_lock(&self) -> &Mutex<()> {
-        &self.long_piece_lock
-    }
-
-    fn batch_lock(&self) -> &Mutex<()> {
-        &self.batch_lock
-    }
-
-    fn is_time(&self, rt: &R, begun: &mut Option<Instant>) -> bool {
-        has_passed(rt, begun, Duration::from_micros(TURN_TIME_US))
-    }
-
-    fn update_time(&self, rt: &R) {
-        ServerState::update_time(self, rt);
-    }
-
-    fn remark(&self, rt: &R, slot: u32, oddity: Oddity) {
-        match oddity {
-            Oddity::UnknownType(kind) => {
-                let peer = match self.slot(slot) {
-                    Some(slot) => *slot.peer.lock(rt),
-                    None => None,
-                };
-                self.speaker.remark_type(rt, kind, peer);
-            }
-            Oddity::Fault => self.speaker.count_faulty(rt),
-        }
-    }
-
-    fn notify(&self, rt: &R, effects: &mut Effects) {
-        // Modelled in models/deliver.pml and serving.h.
-        self.follow(effects.take_mode());
-        self.deliver(rt, effects);
-    }
 }

@@ -4,23 +4,19 @@ use Rattle.gm_session.proofs.applier.Applier.run.Goals as goal
 
 pub loop-init : goal.loop-init
 loop-init g c = record {
-  reading = reading_none c.args.desk.now.number c.args.self.now.slot (g.I.Read.remaining c.args.reader.now) c.args.desk.now.witness.seen c.args.session.now.feeder c.args.session.now.has_units c.requires.feeder;
-  nothing = c.requires.nothing;
+  reading = reading_none c.args.desk.now.number c.args.self.now.slot (g.I.Read.remaining c.args.reader.now) c.args.desk.now.witness.seen c.args.session.now.feeder c.args.session.now.has_units c.requires;
   number = refl;
-  slot = refl;
 }
 
 pub loop-preserved : goal.loop-preserved
 loop-preserved g c = record {
   reading = reading_more g.K.BookName.settings g.K.BookName.taped c.args.desk.now.number _ _ _ (g.I.Read.remaining c.loop.reader) (g.I.Read.remaining c.step.new.source) None None _ c.loop.desk.witness.seen
-      c.step.new.desk.witness.seen c.loop.session.feeder c.loop.session.has_units c.loop.invariant.reading c.loop.desk.number c.loop.self.slot c.loop.invariant.number c.loop.invariant.slot c.in-Ok.field-0 c.step.new.session.feeder
+      c.step.new.desk.witness.seen c.loop.session.feeder c.loop.session.has_units c.loop.invariant.reading c.loop.desk.number c.loop.invariant.number c.in-Ok.field-0 c.step.new.session.feeder
       c.step.new.session.has_units c.in-Ok.ensures.units c.in-Ok.ensures.steps;
-  nothing = c.in-Ok.ensures.nothing;
   number = c.in-Ok.ensures.number ∙ c.loop.invariant.number;
-  slot = c.in-Ok.ensures.slot ∙ c.loop.invariant.slot;
 }
 
 pub returns-in-Err-clause-reads : goal.returns-in-Err-clause-reads
 returns-in-Err-clause-reads g c =
     reading_over g.K.BookName.settings g.K.BookName.taped c.args.desk.now.number _ _ _ (g.I.Read.remaining c.loop.reader) (g.I.Read.remaining c.step.new.source) None None _ c.loop.desk.witness.seen
-    c.step.new.desk.witness.seen c.loop.session.feeder c.loop.session.has_units c.loop.invariant.reading c.loop.desk.number c.loop.self.slot c.loop.invariant.number c.loop.invariant.slot c.in-Err.end c.in-Err.ensures.steps
+    c.step.new.desk.witness.seen c.loop.session.feeder c.loop.session.has_units c.loop.invariant.reading c.loop.desk.number c.loop.invariant.number c.in-Err.end c.in-Err.ensures.steps

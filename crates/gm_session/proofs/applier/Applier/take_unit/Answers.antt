@@ -1,9 +1,8 @@
-use Rattle.std.proofs.Common.{refl, true, Ok, Err}
+use Rattle.std.proofs.Common.{refl, true}
 use Rattle.std.proofs.lemmas.Result.{err_from_is_err_and}
 use Rattle.gm_feeder.specs.Streams.{item_in}
 use Rattle.gm_notes.specs.Servers.{step_of}
 use Rattle.gm_session.specs.Effects.{nothing}
-use Rattle.gm_session.proofs.Gathering.{gathers_one}
 use Rattle.gm_session.proofs.Handing.{next_unit, next_fault, unit_stops, fault_stops, packet_stops}
 use Rattle.gm_session.proofs.applier.Applier.take_unit.Goals as goal
 
@@ -38,31 +37,5 @@ returns-in_err-apply-in-Fault-clause-takes g c =
     (fault_stops _ _ _ c.args.self.now.slot c.args.session.now.feeder c.take_packet.new.self _ _ _ c.in_default.ensures.none c.in-Fault.fault c.in_err-apply-in-Fault.field-0.0
     (rw c.in-Fault.is at c.next_event.follows.holds-at-none) c.in_err-apply-in-Fault.ensures.applies)
 
-pub returns-in_err-take_long-clause-gathers : goal.returns-in_err-take_long-clause-gathers
-returns-in_err-take_long-clause-gathers g c =
-    gathers_one g.K.BookName.settings g.K.BookName.taped c.args.desk.now.number _ (Err c.in_err-take_long.field-0.0) _ _ _ _ c.in_err-take_long.ensures.applies c.in_err-take_long.ensures.keeps
-
-pub returns-in-Some-clause-gathers : goal.returns-in-Some-clause-gathers
-returns-in-Some-clause-gathers g c =
-    gathers_one g.K.BookName.settings g.K.BookName.taped c.args.desk.now.number _ (Ok tt) _ _ _ _ c.in_ok-take_long.ensures.applies c.in_ok-take_long.ensures.keeps
-
-pub returns-in_err-apply_unit-in-Unit-clause-gathers : goal.returns-in_err-apply_unit-in-Unit-clause-gathers
-returns-in_err-apply_unit-in-Unit-clause-gathers g c =
-    gathers_one g.K.BookName.settings g.K.BookName.taped c.args.desk.now.number _ (Err c.in_err-apply_unit-in-Unit.field-0.0) _ _ _ _ c.in_err-apply_unit-in-Unit.ensures.applies
-    c.in_err-apply_unit-in-Unit.ensures.keeps
-
-pub returns-in_err-apply-in-Fault-clause-gathers : goal.returns-in_err-apply-in-Fault-clause-gathers
-returns-in_err-apply-in-Fault-clause-gathers g c =
-    gathers_one g.K.BookName.settings g.K.BookName.taped c.args.desk.now.number _ (Err c.in_err-apply-in-Fault.field-0.0) _ _ _ _ c.in_err-apply-in-Fault.ensures.applies
-    c.in_err-apply-in-Fault.ensures.keeps
-
-pub returns-in_ok-apply_unit-in-Unit-clause-gathers : goal.returns-in_ok-apply_unit-in-Unit-clause-gathers
-returns-in_ok-apply_unit-in-Unit-clause-gathers g c =
-    gathers_one g.K.BookName.settings g.K.BookName.taped c.args.desk.now.number _ (Ok tt) _ _ _ _ c.in_ok-apply_unit-in-Unit.ensures.applies c.in_ok-apply_unit-in-Unit.ensures.keeps
-
 pub returns-in-Wait-clause-gathers : goal.returns-in-Wait-clause-gathers
 returns-in-Wait-clause-gathers g c = nothing
-
-pub returns-in_ok-apply-in-Fault-clause-gathers : goal.returns-in_ok-apply-in-Fault-clause-gathers
-returns-in_ok-apply-in-Fault-clause-gathers g c =
-    gathers_one g.K.BookName.settings g.K.BookName.taped c.args.desk.now.number _ (Ok tt) _ _ _ _ c.in_ok-apply-in-Fault.ensures.applies c.in_ok-apply-in-Fault.ensures.keeps

@@ -8,7 +8,7 @@ use Rattle.gm_session.proofs.Handing.{at_home, unloading_none, unloading_more, u
 use Rattle.gm_session.proofs.applier.Applier.unload.Goals as goal
 
 pub loop-batch-init : goal.loop-batch-init
-loop-batch-init g c = record { unloading = unloading_none c.args.desk.now.number c.args.self.now.slot c.args.session.now.feeder c.args.desk.now.witness.seen; gathers = nothing; number = refl; slot = refl }
+loop-batch-init g c = record { unloading = unloading_none c.args.desk.now.number c.args.self.now.slot c.args.session.now.feeder c.args.desk.now.witness.seen; gathers = nothing; number = refl }
 
 pub loop-batch-smaller : goal.loop-batch-smaller
 loop-batch-smaller g c =
@@ -19,13 +19,12 @@ pub loop-batch-preserved : goal.loop-batch-preserved
 loop-batch-preserved g c =
     let k = g.K.BookName.settings in
     let taped = g.K.BookName.taped in
-    let t = at_home k taped c.args.desk.now.number c.args.self.now.slot _ _ c.loop-batch.session.feeder c.take_unit.new.session.feeder _ c.take_unit.new.desk.witness.seen (Ok (AUnit c.in-Unit.is_line))
-    c.loop-batch.invariant.number c.loop-batch.invariant.slot (rw c.in-Unit.is at c.in_ok-is_line.ensures.takes) in
+    let t = at_home k taped c.args.desk.now.number c.args.self.now.slot _ c.loop-batch.session.feeder c.take_unit.new.session.feeder _ c.take_unit.new.desk.witness.seen (Ok (AUnit c.in-Unit.is_line))
+    c.loop-batch.invariant.number (rw c.in-Unit.is at c.in_ok-is_line.ensures.takes) in
     record {
       unloading = unloading_more k taped c.args.desk.now.number c.args.self.now.slot _ _ _ _ _ _ c.loop-batch.invariant.unloading c.in-Unit.is_line t;
       gathers = gathers_then k taped _ _ _ _ _ _ _ _ c.loop-batch.invariant.number c.loop-batch.invariant.gathers c.in_ok-is_line.ensures.gathers;
       number = c.in_ok-is_line.ensures.number ∙ c.loop-batch.invariant.number;
-      slot = c.in_ok-is_line.ensures.slot ∙ c.loop-batch.invariant.slot;
     }
 
 pub returns-in_err-is_line-clause-unloads : goal.returns-in_err-is_line-clause-unloads
@@ -36,8 +35,8 @@ returns-in_err-is_line-clause-unloads g c =
     let end = c.in_err-is_line.field-0.0 in
     rw (e.1, e.2)
     (unloads_stops k taped c.args.desk.now.number c.args.self.now.slot _ _ _ _ _ c.take_unit.new.session.feeder c.loop-batch.invariant.unloading end
-    (at_home k taped c.args.desk.now.number c.args.self.now.slot _ _ c.loop-batch.session.feeder c.take_unit.new.session.feeder _ c.take_unit.new.desk.witness.seen (Err end)
-    c.loop-batch.invariant.number c.loop-batch.invariant.slot c.in_err-is_line.ensures.takes))
+    (at_home k taped c.args.desk.now.number c.args.self.now.slot _ c.loop-batch.session.feeder c.take_unit.new.session.feeder _ c.take_unit.new.desk.witness.seen (Err end)
+    c.loop-batch.invariant.number c.in_err-is_line.ensures.takes))
 
 pub returns-in_err-is_line-clause-gathers : goal.returns-in_err-is_line-clause-gathers
 returns-in_err-is_line-clause-gathers g c =
@@ -48,8 +47,8 @@ returns-in_default-clause-unloads g c =
     let k = g.K.BookName.settings in
     let taped = g.K.BookName.taped in
     unloads_all k taped c.args.desk.now.number c.args.self.now.slot _ _ _ _ _ c.take_unit.new.session.feeder c.loop-batch.invariant.unloading
-    (at_home k taped c.args.desk.now.number c.args.self.now.slot _ _ c.loop-batch.session.feeder c.take_unit.new.session.feeder _ c.take_unit.new.desk.witness.seen (Ok Nothing)
-    c.loop-batch.invariant.number c.loop-batch.invariant.slot (rw c.in_default.is at c.in_ok-is_line.ensures.takes))
+    (at_home k taped c.args.desk.now.number c.args.self.now.slot _ c.loop-batch.session.feeder c.take_unit.new.session.feeder _ c.take_unit.new.desk.witness.seen (Ok Nothing)
+    c.loop-batch.invariant.number (rw c.in_default.is at c.in_ok-is_line.ensures.takes))
 
 pub returns-in_default-clause-gathers : goal.returns-in_default-clause-gathers
 returns-in_default-clause-gathers g c =
@@ -59,8 +58,8 @@ pub returns-then-has_ended-clause-unloads : goal.returns-then-has_ended-clause-u
 returns-then-has_ended-clause-unloads g c =
     let k = g.K.BookName.settings in
     let taped = g.K.BookName.taped in
-    let t = at_home k taped c.args.desk.now.number c.args.self.now.slot _ _ c.loop-batch.session.feeder c.take_unit.new.session.feeder _ c.take_unit.new.desk.witness.seen (Ok (AUnit c.in-Unit.is_line))
-    c.loop-batch.invariant.number c.loop-batch.invariant.slot (rw c.in-Unit.is at c.in_ok-is_line.ensures.takes) in
+    let t = at_home k taped c.args.desk.now.number c.args.self.now.slot _ c.loop-batch.session.feeder c.take_unit.new.session.feeder _ c.take_unit.new.desk.witness.seen (Ok (AUnit c.in-Unit.is_line))
+    c.loop-batch.invariant.number (rw c.in-Unit.is at c.in_ok-is_line.ensures.takes) in
     unloads_some k taped c.args.desk.now.number c.args.self.now.slot _ c.args.desk.now.witness.seen c.take_unit.new.desk.witness.seen c.take_unit.new.session.feeder
     (unloading_more k taped c.args.desk.now.number c.args.self.now.slot _ _ _ _ _ _ c.loop-batch.invariant.unloading c.in-Unit.is_line t)
 
