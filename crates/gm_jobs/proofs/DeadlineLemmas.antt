@@ -3,11 +3,21 @@ use Rattle.std.proofs.Common.{◌≡◌, ℕ, ◌<◌, ◌≤◌, ◌⊎◌, inl
 use Rattle.std.proofs.Common.{None, refl, sym, ap, subst, ◌∙◌, arith}
 use Rattle.std.proofs.lemmas.Bool.{false≢true}
 use Rattle.std.proofs.lemmas.Bool.Decides.{nat_tests}
+use Rattle.gm_jobs.specs.declared.job.Query.TheVariants.{Started}
+use Rattle.gm_jobs.specs.Queries.{meets}
 use Rattle.gm_jobs.specs.Live.{Live, is_due, is_reached, waits}
 use Rattle.gm_jobs.specs.Tables.{find_job, passes}
 use Rattle.gm_jobs.specs.MinHeap.{Pair, Has, first_of}
 use Rattle.gm_jobs.specs.Hints.{HintList, IsHinted, AllHinted, KeepsHints}
 use Rattle.gm_jobs.specs.Deadlines.{AllListed, AllLater, listing}
+
+-- a job that runs stays listed
+pub listed_kept : (jobs : List (ℕ × Live)) (waiting : List Pair) (old new : HintList) → AllListed jobs (listing waiting old) → KeepsHints (λ n. passes (meets Started) (find_job jobs n) ≡ true) old new → AllListed jobs (listing waiting new)
+listed_kept jobs waiting old new listed keeps n live found whole d runs is = by (listed n live found (keeps.whole whole) d runs is)
+  where
+    by : Has waiting d n ⊎ Contains old.numbers n → Has waiting d n ⊎ Contains new.numbers n
+    by (inl there) = inl there
+    by (inr there) = inr (keeps.numbers n (ap (passes (meets Started)) found ∙ ap not runs) there)
 
 -- the one that goes is a due job's, which is among the reached, or no deadline of a job that runs
 pub listed_popped : (jobs : List (ℕ × Live)) (waiting waiting' : List Pair) (reached reached' : HintList) (now d n : ℕ)

@@ -1,6 +1,6 @@
 //! When running jobs are due.
 
-ghost use Rattle.std.specs.Prelude.{◌≡◌, ◌≢◌, ℕ, true, Some, slice_get, IfSome, IfNone};
+ghost use Rattle.std.specs.Prelude.{◌≡◌, ◌≢◌, ℕ, true, false, Some, slice_get, IfSome, IfNone};
 ghost use Rattle.gm_jobs.specs.Live.{Live, is_due};
 ghost use Rattle.gm_jobs.specs.Tables.{find_job, IsNext, IsLast};
 ghost use Rattle.gm_jobs.specs.MinHeap.{Has};
@@ -57,6 +57,16 @@ fn list_deadlines(heap: &mut MinHeap, jobs: &JobMap) -> bool
         }
     }
     true
+}
+
+// Whether a deadline is reached.
+fn is_reached(waiting: &MinHeap, now: u64) -> bool
+    ensures { result ≡ false → AllLater now waiting.now }
+{
+    match waiting.first() {
+        Some((deadline, _number)) => deadline <= now,
+        None => false,
+    }
 }
 
 // The jobs that are due are among the reached then.
@@ -117,6 +127,19 @@ impl Deadlines {
         }
     }
 
+    // The jobs that are due are among the reached then. Those that were reached before and don't run any more go first, which
+    // leaves room.
+    fn collect(&mut self, jobs: &JobMap, now: u64)
+        requires { AllListed jobs.now.entries self.old }
+        ensures listed { AllListed jobs.now.entries self.new }
+        ensures later { AllLater now self.new.waiting }
+    {
+        if is_reached(&self.waiting, now) {
+            self.reached.keep(jobs, Query::Started);
+            gather(&mut self.waiting, &mut self.reached, jobs, now);
+        }
+    }
+
     /// The least number above `after` of a job that is due.
     pub(crate) fn next(&mut self, jobs: &JobMap, now: u64, after: u64) -> Option<u64>
         requires { AllListed jobs.now.entries self.old }
@@ -124,7 +147,7 @@ impl Deadlines {
         ensures next { IfSome result (IsNext (is_due now) after jobs.now.entries) }
         ensures last { IfNone result (IsLast (is_due now) after jobs.now.entries) }
     {
-        gather(&mut self.waiting, &mut self.reached, jobs, now);
+        self.collect(jobs, now);
         self.reached
             .next_or_keep(jobs, Query::Due(now), Query::Started, after)
     }

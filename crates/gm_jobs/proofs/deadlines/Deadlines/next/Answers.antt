@@ -1,21 +1,13 @@
-use Rattle.std.proofs.Common.{◌≡◌, inl, inr, true, not, sym, ap, subst, ◌∙◌}
-use Rattle.gm_jobs.specs.Live.{Live}
-use Rattle.gm_jobs.specs.Tables.{passes}
-use Rattle.gm_jobs.specs.Queries.{meets}
-use Rattle.gm_jobs.specs.declared.job.Query.TheVariants.{Started}
-use Rattle.gm_jobs.specs.Deadlines.{DeadlineTable, AllListed}
-use Rattle.gm_jobs.proofs.DeadlineLemmas.{due_reached}
+use Rattle.std.proofs.Common.{sym, subst}
+use Rattle.gm_jobs.specs.Deadlines.{DeadlineTable, AllListed, AllLater}
+use Rattle.gm_jobs.proofs.DeadlineLemmas.{due_reached, listed_kept}
 use Rattle.gm_jobs.proofs.deadlines.Deadlines.next.Goals as goal
 
-pub gather-requires : goal.gather-requires
-gather-requires c = subst (λ (t : DeadlineTable). AllListed c.args.jobs.now.entries t) (sym c.self.view_is) c.requires
-
 pub next_or_keep-requires : goal.next_or_keep-requires
-next_or_keep-requires c = due_reached c.args.jobs.now.entries c.gather.new.waiting c.gather.new.reached c.args.now c.gather.ensures.listed c.gather.ensures.later
+next_or_keep-requires c =
+    due_reached c.args.jobs.now.entries c.self.inside.waiting c.self.inside.reached c.args.now (subst (λ (t : DeadlineTable). AllListed c.args.jobs.now.entries t) (sym c.self.view_is) c.collect.ensures.listed)
+    (subst (λ (t : DeadlineTable). AllLater c.args.now t.waiting) (sym c.self.view_is) c.collect.ensures.later)
 
 pub returns-clause-listed : goal.returns-clause-listed
-returns-clause-listed c = λ n live found whole d runs is.
-    elim (c.gather.ensures.listed n live found (c.next_or_keep.ensures.kept.whole whole) d runs is) [
-      | inl there ↦ inl there
-      | inr there ↦ inr (c.next_or_keep.ensures.kept.numbers n (ap (passes (meets Started)) found ∙ ap not runs) there)
-    ]
+returns-clause-listed c =
+    listed_kept c.args.jobs.now.entries c.self.inside.waiting c.self.inside.reached c.next_or_keep.new.self (subst (λ (t : DeadlineTable). AllListed c.args.jobs.now.entries t) (sym c.self.view_is) c.collect.ensures.listed) c.next_or_keep.ensures.kept
