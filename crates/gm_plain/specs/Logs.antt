@@ -116,7 +116,7 @@ MayCome slots first note older = Unit {0}
 abbrev pub AreNumbered : ℕ → List Note → Type 0
 AreNumbered first notes = (n : ℕ) → is_live (job_state n notes) ≡ true → (first ≤ n) × (n < first + length (made notes))
 
--- so many numbers, from n on
+-- this many numbers in a row, the first of which is n
 abbrev pub numbers_from : ℕ → ℕ → List ℕ
 numbers_from n zero = []
 numbers_from n (suc count) = n ∷ numbers_from (suc n) count
