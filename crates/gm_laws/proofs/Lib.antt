@@ -34,10 +34,10 @@ pub mod Wakes
 pub mod Taken
 pub mod Rests
 pub mod Hearers
-mod Firsts
-mod Refusals
-mod Parting
-mod Lines
-mod Assigning
-mod Barred
-mod News
+pub mod Firsts
+pub mod Refusals
+pub mod Parting
+pub mod Lines
+pub mod Assigning
+pub mod Barred
+pub mod News

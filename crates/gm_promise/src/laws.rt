@@ -6,10 +6,19 @@ ghost use Rattle.gm_promise.specs.Promise.{NoSlotSpeaksForAnother, SessionsAreIn
 ghost use Rattle.gm_promise.specs.Promise.{InEachEntry, WhatIsSubmittedIsWorkedOn, ClientsAreTold};
 ghost use Rattle.gm_promise.specs.Promise.{JobsEndOnce, NoWorkerSleepsBesideItsWork, WaitingJobsAreWanted};
 ghost use Rattle.gm_promise.specs.Connections.{ConnectionsAreServed};
+ghost use Rattle.gm_laws.specs.Answered.{TicksAreTaken, ShutdownIsAnswered};
+ghost use Rattle.gm_laws.specs.Barred.{OnlyTheBarredIsRefused};
+ghost use Rattle.gm_laws.specs.Closing.{ClosingCloses};
+ghost use Rattle.gm_laws.specs.Done.{AnswersNameWhatIsNew};
+ghost use Rattle.gm_laws.specs.Exceptions.{ExceptionsArePassedOn};
+ghost use Rattle.gm_laws.specs.Firsts.{FirstAbilityWins};
+ghost use Rattle.gm_laws.specs.Lines.{AdminTellsTheTruth, ConnectionsAreNamed};
+ghost use Rattle.gm_laws.specs.Refusals.{RefusalsHaveTheirReason};
+ghost use Rattle.gm_laws.specs.Sleeping.{SleepersAskedForIt, AskingIsEnough};
 ghost use Rattle.gm_laws.specs.Laws.{WorkersAndClocksEndJobs};
 ghost use Rattle.gm_laws.specs.Limits.{LimitsHold};
 ghost use Rattle.gm_laws.specs.Listeners.{AnswersStayHome, EachListenerIsTold};
-ghost use Rattle.gm_laws.specs.Submitted.{SubmissionsAreAnswered};
+ghost use Rattle.gm_laws.specs.Submitted.{SubmissionsAreAnswered, OneAssignmentOneJob};
 ghost use Rattle.gm_laws.specs.Waiting.{FirstComeFirstServed};
 
 /// The units, faults and closings of each slot, in their order, are those that its desk handed in; and what waited for it, its pen
@@ -92,4 +101,25 @@ pub fn no_worker_sleeps_beside_its_work()
 /// At each moment each job that waits is wanted: a background submission keeps it, or a slot listens to it.
 pub fn waiting_jobs_are_wanted()
     ensures { WaitingJobsAreWanted }
+{}
+
+/// Each entry does what its step says. A Close closes its slot, and its jobs wait again, are lost or are discarded. A slot sleeps, or is owed a
+/// NOOP, exactly after a PRE_SLEEP, until it grabs, closes or the NOOP is taken or withdrawn. JOB_ASSIGN is queued only where the job is given.
+/// Each ERROR and `ERR` line has its reason, and only what has a reason is refused. Without `--round-robin` the first ability with a waiting job
+/// wins. `status`, `workers`, `version` and ECHO_RES are true, and each connection has the name that it was given. Exceptions are passed on, ticks
+/// are taken, `shutdown` is answered. The answer names what is new.
+pub fn each_entry_does_what_it_says()
+    ensures closing { InEachEntry ClosingCloses }
+    ensures asking { InEachEntry AskingIsEnough }
+    ensures sleepers { InEachEntry SleepersAskedForIt }
+    ensures assignments { InEachEntry OneAssignmentOneJob }
+    ensures refusals { InEachEntry RefusalsHaveTheirReason }
+    ensures barred { InEachEntry OnlyTheBarredIsRefused }
+    ensures abilities { InEachEntry FirstAbilityWins }
+    ensures admin { InEachEntry AdminTellsTheTruth }
+    ensures names { InEachEntry ConnectionsAreNamed }
+    ensures exceptions { InEachEntry ExceptionsArePassedOn }
+    ensures ticks { InEachEntry TicksAreTaken }
+    ensures shutdown { InEachEntry ShutdownIsAnswered }
+    ensures answers { InEachEntry AnswersNameWhatIsNew }
 {}
