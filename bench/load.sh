@@ -1,8 +1,9 @@
 #!/bin/sh
-# Puts gmd, gmd with two I/O threads, and Debian's gearmand (package gearman-job-server) with one thread and with four under the same loads
-# in turn, and prints the figures of the run: bench/load.sh [ROUNDS [LOADS [OPTIONS of load.rs]]], at the top of the repository, once gmd is
-# built. bench/picture takes what it prints. Five rounds of all loads take some ten minutes, one takes two.
-# GMD and GEARMAND name other programs, PORT the first of four ports. Figures of one run alone can be compared.
+# Puts five servers under the same loads in turn, and prints the figures of the run: gmd as it is by default, gmd with one I/O thread and
+# Debian's gearmand (package gearman-job-server) with one thread, and both with four. A server is labelled by its program and its threads.
+# bench/load.sh [ROUNDS [LOADS [OPTIONS of load.rs]]] runs at the top of the repository, once gmd is built. bench/picture takes what it prints.
+# Five rounds of all loads take some ten minutes, and one takes two.
+# GMD and GEARMAND name other programs, PORT the first of five ports. Figures of one run alone can be compared.
 set -eu
 busy=$(cut -d ' ' -f 1 /proc/loadavg)
 rounds=${1:-5}
@@ -32,16 +33,19 @@ serve() {
 }
 rustc --edition 2021 -O -o "$work/load" bench/load.rs
 serve gmd "$gmd" --slots 1024
-serve gmd-io "$gmd" --slots 1024 --io-threads 2
 for threads in 1 4; do
+    serve "gmd-$threads" "$gmd" --slots 1024 --io-threads "$threads"
     serve "gearmand-$threads" "$gearmand" --threads "$threads" --log-file none
 done
 sleep 1
 for pid in $pids; do
     kill -0 "$pid" || { cat "$work"/g*; exit 1; }
 done
+# Figures that this run replaces don't make the clone another one.
+commit=$(git describe --always 2>"$work/git" || echo unknown)
+[ "$commit" = unknown ] || git diff --quiet HEAD -- . ':!bench/figures' || commit=$commit-dirty
 echo "# $("$gmd" --version), gearmand $("$gearmand" --version | grep -o '[0-9.]*' | head -n 1), $(nproc) processors" \
-    "($(sed -n 's/^model name.*: //p' /proc/cpuinfo | head -n 1)), medians of $rounds in turn, $(date +%F), commit $(git describe --always --dirty 2>/dev/null || echo unknown), load average before it $busy"
+    "($(sed -n 's/^model name.*: //p' /proc/cpuinfo | head -n 1)), medians of $rounds in turn, $(date +%F), commit $commit, load average before it $busy"
 printf '# load\tserver\toperations a second\tprocessor us an operation\tp50 us\tp99 us\n'
 # shellcheck disable=SC2086
 "$work/load" multi $servers --only "$loads" --cap 3 --rounds "$rounds" "$@"
