@@ -7,7 +7,7 @@ use Rattle.std.proofs.lemmas.Bool.Decides.{nat_tests}
 use Rattle.gm_packet.specs.Answers.{Answer, work_fail}
 use Rattle.gm_admin.specs.declared.fault.AdminFault.{AdminFault}
 use Rattle.gm_admin.specs.declared.fault.AdminError.TheVariants as errors
-use Rattle.gm_admin.specs.Commands.{Asked, Status, Workers, MaxQueue, Version, Shutdown}
+use Rattle.gm_admin.specs.Commands.{Commanded, Status, Workers, MaxQueue, Version, Shutdown}
 use Rattle.gm_admin.specs.Answers.{ok_text}
 use Rattle.gm_notes.specs.declared.note.Note.TheVariants.{Woken, Stirred, Returned, Lost, Discarded, Ended, Now, Shut, Limit, Went, Mention}
 use Rattle.gm_notes.specs.declared.states.Mode.{Mode}
@@ -132,7 +132,7 @@ maxqueue_made k c f size past =
     either (is_bad_word f) (made past.notes) (refuse_line c errors.BadFunction past) (if is_one_too_many k f past.notes then many else limited) refl
     (either (is_one_too_many k f past.notes) (made past.notes) many limited refl (either (is_mentioned f past.notes) (made past.notes) past (with_note (Mention f) past) refl refl))
 
-pub command_made : (k : Settings) (c : ℕ) (asked : Result Asked AdminFault) (past : Past) → made (command k c asked past).notes ≡ made past.notes
+pub command_made : (k : Settings) (c : ℕ) (asked : Result Commanded AdminFault) (past : Past) → made (command k c asked past).notes ≡ made past.notes
 command_made k c (Err fault) past = refl
 command_made k c (Ok Status) past = refl
 command_made k c (Ok Workers) past = refl

@@ -12,8 +12,8 @@ use Rattle.gm_packet.specs.Requests.{Asked, arguments_of, read_kind}
 use Rattle.gm_packet.specs.Views.{asking}
 use Rattle.gm_notes.specs.Settings.{Settings}
 use Rattle.gm_notes.specs.Past.{Past, refuse}
-use Rattle.gm_actions.specs.declared.actions.Said.{Said}
-use Rattle.gm_actions.specs.Actions.{serve, unread, work_of, ReportFits, SaidFits}
+use Rattle.gm_actions.specs.declared.actions.WorkPacket.{WorkPacket}
+use Rattle.gm_actions.specs.Actions.{serve, unread, work_of, ReportFits, WorkFits}
 use Rattle.gm_packet.specs.Packets.{Fits}
 use Rattle.gm_packet.specs.Answers.{work_status}
 use Rattle.gm_notes.specs.Workers.{Work}
@@ -60,9 +60,9 @@ stripped_short bytes = go (ends_with_byte 0 bytes) where
   go false = search rules
 
 -- a report can be passed on, and its numbers told again
-pub report_fits : (handle numerator denominator : List ℕ) (said : Said) → HasCome (asking kinds.WorkStatus (handle ∷ numerator ∷ denominator ∷ []))
-    → work_of said ≡ record (passing (work_status handle numerator denominator)) { report = Some (numerator, denominator) } → SaidFits said
-report_fits h a b said come is =
+pub report_fits : (handle numerator denominator : List ℕ) (packet : WorkPacket) → HasCome (asking kinds.WorkStatus (handle ∷ numerator ∷ denominator ∷ []))
+    → work_of packet ≡ record (passing (work_status handle numerator denominator)) { report = Some (numerator, denominator) } → WorkFits packet
+report_fits h a b packet come is =
     let long : length (strip_last 0 come.bytes) ≡ length h + length (0 ∷ (a ++ 0 ∷ b)) = ap length come.spelled.3 ∙ length-append h (0 ∷ (a ++ 0 ∷ b)) in
     let texts : Fits (h ∷ a ∷ b ∷ []) = search rules in
     let numbers : AreNumbers a b = record { separable = search rules; sized = omega (arith, long, stripped_short come.bytes, come.sized) } in

@@ -16,12 +16,12 @@ use Rattle.gm_notes.specs.Submissions.{Submission, is_bad_name, submit}
 use Rattle.gm_notes.specs.Requests.{set_option, tell_status, request}
 use Rattle.gm_notes.specs.Workers.{Work, can_do, cant_do, pre_sleep, grab, work}
 use Rattle.gm_actions.specs.declared.actions.Action.{Action}
-use Rattle.gm_actions.specs.declared.actions.Action.TheVariants.{CanDo, CantDo, ResetAbilities, PreSleep, Grab, Submit, Tell}
+use Rattle.gm_actions.specs.declared.actions.Action.TheVariants.{CanDo, CantDo, ResetAbilities, PreSleep, Grab, Submit, Work as Worked}
 use Rattle.gm_actions.specs.declared.actions.Action.TheVariants.{GetStatus, Echo, SetClientId, SetOption, Nothing}
 use Rattle.gm_actions.specs.declared.actions.Submission.{Submission as Found}
 use Rattle.gm_actions.specs.declared.actions.Report.{Report}
 use Rattle.gm_actions.specs.declared.answers.JobRef.{JobRef}
-use Rattle.gm_actions.specs.declared.actions.Said.{Said}
+use Rattle.gm_actions.specs.declared.actions.WorkPacket.{WorkPacket}
 use Rattle.gm_actions.specs.declared.refusal.Refusal.{Refusal}
 use Rattle.gm_actions.specs.declared.refusal.Refusal.TheVariants.{UnknownCommand, BadArguments}
 use Rattle.gm_actions.specs.Refusals.{code_of}
@@ -47,14 +47,14 @@ assigned false text job = job_assign text job.function job.body
 abbrev pub report_of : Report → List ℕ × List ℕ
 report_of report = (report.numerator.now, report.denominator.now)
 
--- what a worker says of its job
-abbrev pub said_report : Option Report → Option (List ℕ × List ℕ)
-said_report None = None
-said_report (Some report) = Some (report_of report)
+-- how far a job is, if a packet says it
+abbrev pub option_report : Option Report → Option (List ℕ × List ℕ)
+option_report None = None
+option_report (Some report) = Some (report_of report)
 
-abbrev pub work_of : Said → Work
-work_of said =
-    record { answer = answer_of said.response; exceptions_only = said.exceptions_only; report = said_report said.report; ends = said.ends }
+abbrev pub work_of : WorkPacket → Work
+work_of packet =
+    record { answer = answer_of packet.response; exceptions_only = packet.exceptions_only; report = option_report packet.report; ends = packet.ends }
 
 -- ---- what is done
 
@@ -70,7 +70,7 @@ act k c ResetAbilities past = with_note (Reset c) past
 act k c PreSleep past = pre_sleep k c past
 act k c (Grab with_unique) past = grab k c with_unique past
 act k c (Submit asked) past = submit k c (submission_of asked) past
-act k c (Tell about) past = work k c about.handle.now (work_of about.said) past
+act k c (Worked packet) past = work k c packet.handle.now (work_of packet) past
 act k c (GetStatus handle) past = tell_status k c handle.now (job_of_handle k handle.now past.notes) past
 act k c (Echo body) past = give c (echo_res body.bytes.now) past
 act k c (SetClientId id) past = with_note (Named c id.now) past
@@ -90,12 +90,12 @@ unread (Some kind) = BadArguments
 -- ---- what is known of the texts
 
 -- a function that it names can be one, and an option that it names is one
-abbrev pub IsNamed : Action → Type 0
-IsNamed (CanDo function timeout) = is_bad_name function.now ≡ false
-IsNamed (CantDo function) = is_bad_name function.now ≡ false
-IsNamed (Submit asked) = is_bad_name asked.function.now ≡ false
-IsNamed (SetOption name) = bytes_eq name.now (codes "exceptions") ≡ true
-IsNamed action = Unit {0}
+abbrev pub HasGoodNames : Action → Type 0
+HasGoodNames (CanDo function timeout) = is_bad_name function.now ≡ false
+HasGoodNames (CantDo function) = is_bad_name function.now ≡ false
+HasGoodNames (Submit asked) = is_bad_name asked.function.now ≡ false
+HasGoodNames (SetOption name) = bytes_eq name.now (codes "exceptions") ≡ true
+HasGoodNames action = Unit {0}
 
 -- a text without NUL that came in a packet
 pub record IsWord (text : List ℕ) : Type 0 where
@@ -107,15 +107,15 @@ ReportFits None = Unit {0}
 ReportFits (Some numbers) = AreNumbers numbers.0 numbers.1
 
 -- it can be passed on, and its report can be answered again
-pub record SaidFits (said : Said) : Type 0 where
-  pub response : Fits (answer_of said.response).arguments
-  pub report : ReportFits (said_report said.report)
+pub record WorkFits (packet : WorkPacket) : Type 0 where
+  pub response : Fits (answer_of packet.response).arguments
+  pub report : ReportFits (option_report packet.report)
 
 -- a packet can carry again what came in one
 abbrev pub CanBeTold : Action → Type 0
 CanBeTold (CanDo function timeout) = has_nul function.now ≡ false
 CanBeTold (Submit asked) = IsCarried asked.function.now asked.unique.now asked.body.bytes.now
-CanBeTold (Tell about) = SaidFits about.said
+CanBeTold (Worked packet) = WorkFits packet
 CanBeTold (GetStatus handle) = IsWord handle.now
 CanBeTold (Echo body) = length body.bytes.now ≤ 1073741824
 CanBeTold action = Unit {0}

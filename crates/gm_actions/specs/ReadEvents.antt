@@ -11,7 +11,7 @@ use Rattle.gm_notes.specs.Withdrawals.{asks_a_job}
 use Rattle.gm_actions.specs.declared.actions.Action.{Action}
 use Rattle.gm_actions.specs.declared.actions.Action.TheVariants.{Grab}
 use Rattle.gm_actions.specs.declared.refusal.Refusal.{Refusal}
-use Rattle.gm_actions.specs.Actions.{acted, IsNamed, CanBeTold, NeedsNoMemory, ActsWithoutMemory}
+use Rattle.gm_actions.specs.Actions.{acted, HasGoodNames, CanBeTold, NeedsNoMemory, ActsWithoutMemory}
 
 -- what was read asks for a job
 abbrev pub grabs : Result Action Refusal → Bool
@@ -21,7 +21,7 @@ grabs other = false
 -- a packet of this kind, with these data, asks this, or is refused for this
 pub record ReadsPacket (kind : ℕ) (bytes : List ℕ) (action : Result Action Refusal) : Type 0 where
   pub does : (k : Settings) (c : ℕ) (past : Past) → acted k c action past ≡ packet_of k c (kind_of kind) bytes past
-  pub named : IfOk action IsNamed
+  pub named : IfOk action HasGoodNames
   pub told : length bytes ≤ 1073741824 → IfOk action CanBeTold
   pub memory : NeedsNoMemory kind bytes → ActsWithoutMemory action
   pub grab : grabs action ≡ asks_a_job (request_of kind bytes)

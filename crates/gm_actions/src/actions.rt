@@ -32,10 +32,12 @@ pub struct Report<'a> {
     pub denominator: &'a [u8],
 }
 
-/// A worker's report on its job: the packet that is passed on, whether only to listeners with the exceptions option,
-/// how far the job is, if it says so, and whether the job ends with it.
+/// A WORK packet of a worker: the handle of its job, the packet that is passed on, whether only to listeners with the exceptions
+/// option, how far the job is, if it says so, and whether the job ends with it.
 #[derive(Clone, Copy)]
-pub struct Said<'a> {
+pub struct WorkPacket<'a> {
+    /// The handle of the job.
+    pub handle: &'a [u8],
     /// The packet that is passed on.
     pub response: Response<'a>,
     /// Its last argument, if that is a body.
@@ -47,15 +49,6 @@ pub struct Said<'a> {
     pub report: Option<Report<'a>>,
     /// Whether the job ends.
     pub ends: bool,
-}
-
-/// What a worker says, and the handle of the job of which it says it.
-#[derive(Clone, Copy)]
-pub struct About<'a> {
-    /// The handle.
-    pub handle: &'a [u8],
-    /// What is said.
-    pub said: Said<'a>,
 }
 
 /// What a packet asks a server to do.
@@ -73,8 +66,8 @@ pub enum Action<'a> {
     Grab { with_unique: bool },
     /// A job is submitted.
     Submit(Submission<'a>),
-    /// The worker tells something of its job.
-    Tell(About<'a>),
+    /// The worker sends a WORK packet on its job.
+    Work(WorkPacket<'a>),
     /// The client asks how far a job is.
     GetStatus { handle: &'a [u8] },
     /// The bytes are wanted back.

@@ -7,6 +7,7 @@ ghost use Rattle.gm_packet.specs.Packets.{Fits};
 ghost use Rattle.gm_packet.specs.Answers.{status_res};
 ghost use Rattle.gm_notes.specs.Settings.{Settings};
 ghost use Rattle.gm_notes.specs.Jobs.{handle};
+ghost use Rattle.gm_notes.specs.Submissions.{max_name};
 ghost use Rattle.gm_notes.specs.Workers.{assignment};
 ghost use Rattle.gm_actions.specs.Actions.{job_of, assigned, IsWord};
 
@@ -32,7 +33,7 @@ pub struct JobRef<'a> {
 pub fn assignment<'a>(text: &'a [u8], job: &JobRef<'a>, with_unique: bool) -> Response<'a>
     ensures exact { answer_of result ≡ assigned with_unique text.now (job_of job.now) }
     ensures value { (k : Settings) (n : ℕ) → text.now ≡ handle k n → answer_of result ≡ assignment k with_unique n (job_of job.now) }
-    ensures fits { has_nul text.now ≡ false → length text.now ≤ 64 → has_nul job.now.function.now ≡ false → length job.now.function.now ≤ 512
+    ensures fits { has_nul text.now ≡ false → length text.now ≤ 64 → has_nul job.now.function.now ≡ false → length job.now.function.now ≤ max_name
         → has_nul job.now.unique.now ≡ false → length job.now.unique.now + length job.now.body.now ≤ 1073741824 → Fits (answer_of result).arguments }
 {
     if with_unique {

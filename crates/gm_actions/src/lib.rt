@@ -12,7 +12,7 @@ mod lines;
 mod reading;
 mod refusal;
 
-pub use actions::{About, Action, Report, Said, Submission};
+pub use actions::{Action, Report, Submission, WorkPacket};
 pub use answers::{JobRef, assignment, known_status, unknown_status};
 pub use deadlines::deadline_after;
 pub use events::ReadEvent;

@@ -3,7 +3,7 @@
 ghost use Rattle.std.specs.Prelude.{◌≡◌, ◌==◌, ℕ, IfOk};
 ghost use Rattle.std.specs.List.{list_any};
 ghost use Rattle.gm_admin.specs.Commands.{command_of};
-ghost use Rattle.gm_admin.specs.Views.{asked_of};
+ghost use Rattle.gm_admin.specs.Views.{commanded_of};
 ghost use Rattle.gm_notes.specs.Settings.{Settings};
 ghost use Rattle.gm_notes.specs.Past.{Past};
 ghost use Rattle.gm_notes.specs.Lines.{command, maxqueue, fault_error, is_bad_word};

@@ -15,12 +15,12 @@ ghost use Rattle.gm_notes.specs.Submissions.{is_bad_name, submit};
 ghost use Rattle.gm_notes.specs.Workers.{can_do, cant_do};
 ghost use Rattle.gm_notes.specs.Withdrawals.{is_grab, asks_a_job};
 ghost use Rattle.gm_actions.specs.ReadEvents.{grabs};
-ghost use Rattle.gm_actions.specs.Actions.{acted, serve, unread, work_of, needs_no_memory, NeedsNoMemory, IsNamed};
+ghost use Rattle.gm_actions.specs.Actions.{acted, serve, unread, work_of, needs_no_memory, NeedsNoMemory, HasGoodNames};
 ghost use Rattle.gm_actions.specs.Actions.{CanBeTold, ActsWithoutMemory};
 ghost use Rattle.gm_actions.specs.Carried.{HasCome, IsCarried};
 ghost use Rattle.gm_actions.specs.Bodies.{IsSpelledBy, EndsWith};
 
-use crate::actions::{About, Action, Report, Said, Submission};
+use crate::actions::{Action, Report, Submission, WorkPacket};
 use crate::refusal::Refusal;
 use gm_bytes::Data;
 use gm_notes::Priority;
@@ -54,11 +54,12 @@ fn is_option(name: &[u8]) -> bool
 }
 
 /// How far a job is, as its worker says.
-fn report_on<'a>(handle: &'a [u8], numerator: &'a [u8], denominator: &'a [u8]) -> About<'a>
+fn report_on<'a>(handle: &'a [u8], numerator: &'a [u8], denominator: &'a [u8]) -> WorkPacket<'a>
     ensures handle { result.handle.now ≡ handle.now }
-    ensures work { work_of result.said ≡ record (passing (work_status handle.now numerator.now denominator.now)) { report = Some (numerator.now, denominator.now) } }
+    ensures work { work_of result ≡ record (passing (work_status handle.now numerator.now denominator.now)) { report = Some (numerator.now, denominator.now) } }
 {
-    let said = Said {
+    WorkPacket {
+        handle,
         response: Response::WorkStatus {
             handle,
             numerator,
@@ -71,8 +72,7 @@ fn report_on<'a>(handle: &'a [u8], numerator: &'a [u8], denominator: &'a [u8]) -
             denominator,
         }),
         ends: false,
-    };
-    About { handle, said }
+    }
 }
 
 /// A packet about a job, with this body: it is passed on to the job's listeners, or only to those with the exceptions option, and
@@ -84,41 +84,41 @@ fn pass_on<'a>(
     bytes: &Data<'a>,
     exceptions_only: bool,
     ends: bool,
-) -> About<'a>
+) -> WorkPacket<'a>
     requires spelled { Spells (Opaque 1) (handle.now ∷ body.now ∷ []) 0 bytes.now.bytes.now }
     requires ends { EndsWith body.now (answer_of response) }
     ensures handle { result.handle.now ≡ handle.now }
-    ensures work { work_of result.said ≡ record (passing (answer_of response.entry)) { exceptions_only = exceptions_only; ends = ends } }
+    ensures work { work_of result ≡ record (passing (answer_of response.entry)) { exceptions_only = exceptions_only; ends = ends } }
 {
-    let said = Said {
+    WorkPacket {
+        handle,
         response,
         body: Some(bytes.suffix(body)),
         exceptions_only,
         report: None,
         ends,
-    };
-    About { handle, said }
+    }
 }
 
 /// A job has failed, as its worker says.
-fn fail<'a>(handle: &'a [u8]) -> About<'a>
+fn fail<'a>(handle: &'a [u8]) -> WorkPacket<'a>
     ensures handle { result.handle.now ≡ handle.now }
-    ensures work { work_of result.said ≡ ending (work_fail handle.now) }
+    ensures work { work_of result ≡ ending (work_fail handle.now) }
 {
-    let said = Said {
+    WorkPacket {
+        handle,
         response: Response::WorkFail { handle },
         body: None,
         exceptions_only: false,
         report: None,
         ends: true,
-    };
-    About { handle, said }
+    }
 }
 
 /// A function that a worker can do, if it can be one.
 fn check_can_do<'a>(function: &'a [u8], timeout: u32) -> Result<Action<'a>, Refusal>
     ensures does { (k : Settings) (c : ℕ) (past : Past) → acted k c result past ≡ can_do k c function.now timeout past }
-    ensures named { IfOk result IsNamed }
+    ensures named { IfOk result HasGoodNames }
     ensures no_grab { grabs result ≡ false }
     ensures told { has_nul function.now ≡ false → IfOk result CanBeTold }
 {
@@ -132,7 +132,7 @@ fn check_can_do<'a>(function: &'a [u8], timeout: u32) -> Result<Action<'a>, Refu
 /// A function that a worker can't do any longer, if it can be one.
 fn check_cant_do<'a>(function: &'a [u8]) -> Result<Action<'a>, Refusal>
     ensures does { (k : Settings) (c : ℕ) (past : Past) → acted k c result past ≡ cant_do c function.now past }
-    ensures named { IfOk result IsNamed }
+    ensures named { IfOk result HasGoodNames }
     ensures no_grab { grabs result ≡ false }
     ensures told { IfOk result CanBeTold }
 {
@@ -146,7 +146,7 @@ fn check_cant_do<'a>(function: &'a [u8]) -> Result<Action<'a>, Refusal>
 /// An option that is set, if there is one of this name.
 fn check_option<'a>(name: &'a [u8]) -> Result<Action<'a>, Refusal>
     ensures does { (k : Settings) (c : ℕ) (past : Past) → acted k c result past ≡ set_option c name.now past }
-    ensures named { IfOk result IsNamed }
+    ensures named { IfOk result HasGoodNames }
     ensures no_grab { grabs result ≡ false }
     ensures told { IfOk result CanBeTold }
 {
@@ -168,7 +168,7 @@ fn check_submission<'a>(
 ) -> Result<Action<'a>, Refusal>
     requires { Spells (Opaque 2) (function.now ∷ unique.now ∷ body.now ∷ []) 0 bytes.now.bytes.now }
     ensures does { (k : Settings) (c : ℕ) (past : Past) → acted k c result past ≡ submit k c (submission priority background (function.now ∷ unique.now ∷ body.now ∷ [])) past }
-    ensures named { IfOk result IsNamed }
+    ensures named { IfOk result HasGoodNames }
     ensures no_grab { grabs result ≡ false }
     ensures told { IsCarried function.now unique.now body.now → IfOk result CanBeTold }
 {
@@ -201,7 +201,7 @@ macro_rules! read_by_kind {
             $(Request::$report { handle, body } => {
                 let response = Response::$report { handle, body };
                 let about = pass_on(handle, response, body, $bytes, $exceptions_only, $ends);
-                Ok(Action::Tell(about))
+                Ok(Action::Work(about))
             })*
             $($other => $action,)*
         }
@@ -212,7 +212,7 @@ macro_rules! read_by_kind {
 fn read_request<'a>(request: &Request<'a>, bytes: &Data<'a>) -> Result<Action<'a>, Refusal>
     requires { IsSpelledBy (asked_of request.now) bytes.now.bytes.now }
     ensures does { (k : Settings) (c : ℕ) (past : Past) → acted k c result past ≡ serve k c (asked_of request.now) past }
-    ensures named { IfOk result IsNamed }
+    ensures named { IfOk result HasGoodNames }
     ensures told { HasCome (asked_of request.now) → IfOk result CanBeTold }
     ensures memory { needs_no_memory (asked_of request.now).kind ≡ true → ActsWithoutMemory result }
     ensures grab { grabs result ≡ is_grab (asked_of request.now).kind }
@@ -234,9 +234,9 @@ fn read_request<'a>(request: &Request<'a>, bytes: &Data<'a>) -> Result<Action<'a
         }
         others {
             Request::WorkStatus { handle, numerator, denominator } => {
-                Ok(Action::Tell(report_on(handle, numerator, denominator)))
+                Ok(Action::Work(report_on(handle, numerator, denominator)))
             };
-            Request::WorkFail { handle } => Ok(Action::Tell(fail(handle)));
+            Request::WorkFail { handle } => Ok(Action::Work(fail(handle)));
             Request::CanDo { function } => check_can_do(function, 0);
             Request::CanDoTimeout { function, timeout } => check_can_do(function, timeout);
             Request::CantDo { function } => check_cant_do(function);
@@ -257,7 +257,7 @@ impl<'a> Action<'a> {
     /// Reads a packet: what it asks, or why it is refused whatever the server holds.
     pub fn read(kind: u32, bytes: &Data<'a>) -> Result<Action<'a>, Refusal>
         ensures does { (k : Settings) (c : ℕ) (past : Past) → acted k c result past ≡ packet_of k c (kind_of kind) bytes.now.bytes.now past }
-        ensures named { IfOk result IsNamed }
+        ensures named { IfOk result HasGoodNames }
         ensures told { length bytes.now.bytes.now ≤ 1073741824 → IfOk result CanBeTold }
         ensures memory { NeedsNoMemory kind bytes.now.bytes.now → ActsWithoutMemory result }
         ensures grab { grabs result ≡ asks_a_job (request_of kind bytes.now.bytes.now) }

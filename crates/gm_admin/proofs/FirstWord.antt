@@ -7,7 +7,7 @@ use Rattle.std.proofs.Math.Numerals.{one-add}
 use Rattle.std.proofs.lemmas.List.{length-drop}
 use Rattle.std.proofs.lemmas.List.Sums.{prefix_len-le-length}
 use Rattle.std.proofs.lemmas.Bool.Decides.{nat_tests}
-use Rattle.gm_admin.specs.Commands.{is_gap, with_head, joined, words_of}
+use Rattle.gm_admin.specs.Commands.{is_gap, with_head, words_with, words_of}
 
 -- how many gaps come first
 abbrev pub gaps : List ℕ → ℕ
@@ -32,15 +32,15 @@ run_none : (b : ℕ) (bytes : List ℕ) → is_gap b ≡ true → run (b ∷ byt
 run_none b bytes is = ap (λ t. cond (not t) (1 + run bytes) 0) is
 
 words_gap : (b : ℕ) (bytes : List ℕ) → is_gap b ≡ true → words_of (b ∷ bytes) ≡ words_of bytes
-words_gap b bytes is = ap (λ t. if t then words_of bytes else joined b bytes (words_of bytes)) is
+words_gap b bytes is = ap (λ t. if t then words_of bytes else words_with b bytes (words_of bytes)) is
 
-words_run : (b : ℕ) (bytes : List ℕ) → is_gap b ≡ false → words_of (b ∷ bytes) ≡ joined b bytes (words_of bytes)
-words_run b bytes is = ap (λ t. if t then words_of bytes else joined b bytes (words_of bytes)) is
+words_run : (b : ℕ) (bytes : List ℕ) → is_gap b ≡ false → words_of (b ∷ bytes) ≡ words_with b bytes (words_of bytes)
+words_run b bytes is = ap (λ t. if t then words_of bytes else words_with b bytes (words_of bytes)) is
 
-joined_gap : (b c : ℕ) (bytes : List ℕ) (words : List (List ℕ)) → is_gap c ≡ true → joined b (c ∷ bytes) words ≡ (b ∷ []) ∷ words
+joined_gap : (b c : ℕ) (bytes : List ℕ) (words : List (List ℕ)) → is_gap c ≡ true → words_with b (c ∷ bytes) words ≡ (b ∷ []) ∷ words
 joined_gap b c bytes words is = ap (λ t. if t then (b ∷ []) ∷ words else with_head b words) is
 
-joined_run : (b c : ℕ) (bytes : List ℕ) (words : List (List ℕ)) → is_gap c ≡ false → joined b (c ∷ bytes) words ≡ with_head b words
+joined_run : (b c : ℕ) (bytes : List ℕ) (words : List (List ℕ)) → is_gap c ≡ false → words_with b (c ∷ bytes) words ≡ with_head b words
 joined_run b c bytes words is = ap (λ t. if t then (b ∷ []) ∷ words else with_head b words) is
 
 -- ---- a word at the head

@@ -8,12 +8,12 @@ use Rattle.gm_admin.specs.declared.fault.AdminFault.{AdminFault}
 use Rattle.gm_admin.specs.declared.fault.AdminFault.TheVariants.{UnknownCommand, MissingName, BadSize}
 
 -- what a line commands, wherever its bytes lie; a size of 0 is no limit
-pub data Asked : Type 0 where
-  Status : Asked
-  Workers : Asked
-  MaxQueue : List ℕ → ℕ → Asked
-  Version : Asked
-  Shutdown : Bool → Asked
+pub data Commanded : Type 0 where
+  Status : Commanded
+  Workers : Commanded
+  MaxQueue : List ℕ → ℕ → Commanded
+  Version : Commanded
+  Shutdown : Bool → Commanded
 
 -- ---- words
 
@@ -27,14 +27,14 @@ with_head b [] = (b ∷ []) ∷ []
 with_head b (word ∷ words) = (b ∷ word) ∷ words
 
 -- b before these bytes, whose words are these: it is a word of its own where a gap or the end follows
-abbrev pub joined : ℕ → List ℕ → List (List ℕ) → List (List ℕ)
-joined b [] words = (b ∷ []) ∷ words
-joined b (next ∷ bytes) words = if is_gap next then (b ∷ []) ∷ words else with_head b words
+abbrev pub words_with : ℕ → List ℕ → List (List ℕ) → List (List ℕ)
+words_with b [] words = (b ∷ []) ∷ words
+words_with b (next ∷ bytes) words = if is_gap next then (b ∷ []) ∷ words else with_head b words
 
 -- the longest runs of bytes that are no gaps
 abbrev pub words_of : List ℕ → List (List ℕ)
 words_of [] = []
-words_of (b ∷ bytes) = if is_gap b then words_of bytes else joined b bytes (words_of bytes)
+words_of (b ∷ bytes) = if is_gap b then words_of bytes else words_with b bytes (words_of bytes)
 
 -- whether a word is this one, in any case of its ASCII letters; the second is in lower case
 abbrev pub is_word : List ℕ → List ℕ → Bool
@@ -54,31 +54,31 @@ size_of (b ∷ bytes) = if b == 45 then negative (decimal_below (2 ^ 32) 10 byte
 
 -- ---- commands
 
-abbrev pub sized : List ℕ → Option ℕ → Result Asked AdminFault
+abbrev pub sized : List ℕ → Option ℕ → Result Commanded AdminFault
 sized function None = Err BadSize
 sized function (Some size) = Ok (MaxQueue function size)
 
-abbrev pub maxqueue : List (List ℕ) → Result Asked AdminFault
-maxqueue [] = Err MissingName
-maxqueue (function ∷ []) = Ok (MaxQueue function 0)
-maxqueue (function ∷ size ∷ []) = sized function (size_of size)
-maxqueue (function ∷ size ∷ other ∷ words) = Err BadSize
+abbrev pub maxqueue_of : List (List ℕ) → Result Commanded AdminFault
+maxqueue_of [] = Err MissingName
+maxqueue_of (function ∷ []) = Ok (MaxQueue function 0)
+maxqueue_of (function ∷ size ∷ []) = sized function (size_of size)
+maxqueue_of (function ∷ size ∷ other ∷ words) = Err BadSize
 
-abbrev pub shutdown : List (List ℕ) → Result Asked AdminFault
-shutdown [] = Ok (Shutdown false)
-shutdown (word ∷ []) = if is_word word (codes "graceful") then Ok (Shutdown true) else Err UnknownCommand
-shutdown (word ∷ other ∷ words) = Err UnknownCommand
+abbrev pub shutdown_of : List (List ℕ) → Result Commanded AdminFault
+shutdown_of [] = Ok (Shutdown false)
+shutdown_of (word ∷ []) = if is_word word (codes "graceful") then Ok (Shutdown true) else Err UnknownCommand
+shutdown_of (word ∷ other ∷ words) = Err UnknownCommand
 
-abbrev pub command_of_words : List (List ℕ) → Result Asked AdminFault
+abbrev pub command_of_words : List (List ℕ) → Result Commanded AdminFault
 command_of_words [] = Err UnknownCommand
 command_of_words (word ∷ words) =
     if is_word word (codes "status") then Ok Status
     else (if is_word word (codes "workers") then Ok Workers
-    else (if is_word word (codes "maxqueue") then maxqueue words
+    else (if is_word word (codes "maxqueue") then maxqueue_of words
     else (if is_word word (codes "version") then Ok Version
-    else (if is_word word (codes "shutdown") then shutdown words
+    else (if is_word word (codes "shutdown") then shutdown_of words
     else Err UnknownCommand))))
 
 -- what a line commands, or why it commands nothing
-abbrev pub command_of : List ℕ → Result Asked AdminFault
+abbrev pub command_of : List ℕ → Result Commanded AdminFault
 command_of line = command_of_words (words_of line)

@@ -6,21 +6,21 @@ use Rattle.gm_admin.specs.declared.fault.AdminFault.{AdminFault}
 use Rattle.gm_admin.specs.declared.fault.AdminFault.TheVariants.{UnknownCommand, MissingName, BadSize}
 use Rattle.gm_admin.specs.declared.lines.StatusRow.{StatusRow}
 use Rattle.gm_admin.specs.declared.lines.WorkerRow.{WorkerRow}
-use Rattle.gm_admin.specs.Commands.{Asked}
+use Rattle.gm_admin.specs.Commands.{Commanded}
 use Rattle.gm_admin.specs.Commands as twin
 use Rattle.gm_admin.specs.Answers.{StatusLine, WorkerLine}
 
-abbrev pub asked_of : Command → Asked
-asked_of Status = twin.Status
-asked_of Workers = twin.Workers
-asked_of (MaxQueue name size) = twin.MaxQueue name.now size
-asked_of Version = twin.Version
-asked_of (Shutdown graceful) = twin.Shutdown graceful
+abbrev pub commanded_of : Command → Commanded
+commanded_of Status = twin.Status
+commanded_of Workers = twin.Workers
+commanded_of (MaxQueue name size) = twin.MaxQueue name.now size
+commanded_of Version = twin.Version
+commanded_of (Shutdown graceful) = twin.Shutdown graceful
 
 -- the same of what reading answers
-abbrev pub asked_result : Result Command AdminFault → Result Asked AdminFault
-asked_result (Ok command) = Ok (asked_of command)
-asked_result (Err fault) = Err fault
+abbrev pub commanded_result : Result Command AdminFault → Result Commanded AdminFault
+commanded_result (Ok command) = Ok (commanded_of command)
+commanded_result (Err fault) = Err fault
 
 -- the number of a refusal
 abbrev pub number_of_fault : AdminFault → ℕ

@@ -1,8 +1,8 @@
 //! Reads the command of a line.
 
 ghost use Rattle.std.specs.Prelude.{◌≡◌};
-ghost use Rattle.gm_admin.specs.Commands.{words_of, command_of, maxqueue, shutdown};
-ghost use Rattle.gm_admin.specs.Views.{asked_result};
+ghost use Rattle.gm_admin.specs.Commands.{words_of, command_of, maxqueue_of, shutdown_of};
+ghost use Rattle.gm_admin.specs.Views.{commanded_result};
 
 use crate::fault::AdminFault;
 use crate::sizes::size;
@@ -25,7 +25,7 @@ pub enum Command<'a> {
 
 /// The command of `maxqueue` and the words that follow.
 fn read_maxqueue(rest: &[u8]) -> Result<Command<'_>, AdminFault>
-    ensures { asked_result result ≡ maxqueue (words_of rest.now) }
+    ensures { commanded_result result ≡ maxqueue_of (words_of rest.now) }
 {
     let Some((name, rest)) = next_word(rest) else {
         return Err(AdminFault::MissingName);
@@ -44,7 +44,7 @@ fn read_maxqueue(rest: &[u8]) -> Result<Command<'_>, AdminFault>
 
 /// The command of `shutdown` and the words that follow.
 fn read_shutdown(rest: &[u8]) -> Result<Command<'_>, AdminFault>
-    ensures { asked_result result ≡ shutdown (words_of rest.now) }
+    ensures { commanded_result result ≡ shutdown_of (words_of rest.now) }
 {
     let Some((word, rest)) = next_word(rest) else {
         return Ok(Command::Shutdown { graceful: false });
@@ -64,7 +64,7 @@ impl<'a> Command<'a> {
     /// isn't 1 to 10 digits with a value that fits 32 bits, after a minus or not, or is followed by a word. It
     /// takes no memory.
     pub fn read(line: &'a [u8]) -> Result<Command<'a>, AdminFault>
-        ensures { asked_result result ≡ command_of line.now }
+        ensures { commanded_result result ≡ command_of line.now }
     {
         let Some((word, rest)) = next_word(line) else {
             return Err(AdminFault::UnknownCommand);

@@ -8,8 +8,8 @@ pub record Queued : Type 0 where
   pub room : ℕ
 
 -- nothing waits, and no room is reserved
-abbrev pub nothing : Queued
-nothing = record { bytes = []; room = 0 }
+abbrev pub empty_queue : Queued
+empty_queue = record { bytes = []; room = 0 }
 
 -- room for n bytes beyond those that wait
 abbrev pub with_room : ℕ → Queued → Queued
@@ -22,9 +22,9 @@ with_bytes bytes cost queue = record { bytes = queue.bytes ++ bytes; room = queu
 -- ---- how it is kept
 
 -- the copied bytes, with the shared ones where they come
-abbrev pub joined : List Run → List ℕ → List ℕ
-joined [] copied = copied
-joined (run ∷ runs) copied = (take run.before copied ++ run.bytes) ++ joined runs (drop run.before copied)
+abbrev pub with_shared : List Run → List ℕ → List ℕ
+with_shared [] copied = copied
+with_shared (run ∷ runs) copied = (take run.before copied ++ run.bytes) ++ with_shared runs (drop run.before copied)
 
 -- how many copied bytes come before the last run
 abbrev pub before_last : List Run → ℕ

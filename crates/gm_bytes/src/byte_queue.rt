@@ -1,7 +1,7 @@
 //! Bytes that wait, or are being sent.
 
 ghost use Rattle.std.specs.Prelude.{◌≡◌, ℕ, ◌+◌, ◌<◌, ◌≤◌, not, ◌==◌, List, [], ◌++◌, length, drop, IfOk, OnOk, OnErr};
-ghost use Rattle.gm_bytes.specs.Queues.{nothing, with_room, with_bytes};
+ghost use Rattle.gm_bytes.specs.Queues.{empty_queue, with_room, with_bytes};
 
 use crate::run::Run;
 use crate::shared_bytes::SharedBytes;
@@ -34,11 +34,11 @@ impl Model for ByteQueue {
     ghost use Rattle.std.specs.Vec.{vec_len, vec_capacity};
     ghost use Rattle.std.specs.VecDeque.{deque_len, deque_capacity};
     ghost use Rattle.gm_bytes.specs.declared.run.Run.{Run};
-    ghost use Rattle.gm_bytes.specs.Queues.{Queued, joined, before_last, first_len};
+    ghost use Rattle.gm_bytes.specs.Queues.{Queued, with_shared, before_last, first_len};
 
     ghost Value = { Queued };
 
-    ghost view = { λ q. record { bytes = drop q.passed (joined q.runs.items (drop q.start q.copied.items)); room = q.room } };
+    ghost view = { λ q. record { bytes = drop q.passed (with_shared q.runs.items (drop q.start q.copied.items)); room = q.room } };
 
     ghost invariant = { λ q. (q.start + before_last q.runs.items + q.behind ≡ length q.copied.items)
         × All (λ (run : Run). 0 < length run.bytes) q.runs.items
@@ -50,7 +50,7 @@ impl Model for ByteQueue {
 impl ByteQueue {
     /// Nothing.
     pub fn new(alloc: Global) -> ByteQueue
-        ensures { result ≡ nothing }
+        ensures { result ≡ empty_queue }
     {
         ByteQueue::from_vec(Vec::new(alloc))
     }
@@ -170,7 +170,7 @@ impl ByteQueue {
     /// Takes out the bytes. No room is reserved then.
     pub fn take(&mut self) -> ByteQueue
         ensures taken { result.bytes ≡ self.old.bytes }
-        ensures left { self.new ≡ nothing }
+        ensures left { self.new ≡ empty_queue }
     {
         let alloc = *self.copied.allocator();
         mem::replace(self, ByteQueue::new(alloc))

@@ -63,8 +63,8 @@ abbrev pub with_bytes : List ℕ → ℕ → Connection → Connection
 with_bytes bytes cost conn = record conn { waiting = conn.waiting ++ bytes; room = conn.room - cost }
 
 -- nothing waits, and no room is reserved
-abbrev pub drained : Connection → Connection
-drained conn = record conn { waiting = []; room = 0 }
+abbrev pub emptied : Connection → Connection
+emptied conn = record conn { waiting = []; room = 0 }
 
 -- the timeout of the ability for a function
 abbrev pub timeout_of : ℕ → Connection → Option ℕ

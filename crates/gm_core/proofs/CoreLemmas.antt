@@ -161,7 +161,7 @@ module _ {old new : Tables} (c : ℕ) (only : OnlyConns old new) where
       goes_conn c unseen (λ w. w ++ bytes) (with_output c bytes) only changes (touched_told c changes) (λ p keeps. record { opens = λ x. refl; shown = λ x able. refl; waiting = λ x. refl; able = λ x able. able })
       (record { opens = λ p. refl; seen = λ p d. same_here (d == c) (seen d p.notes); waiting = λ p d. refl; functions = λ p. refl; jobs = λ p. refl; moment = λ p. refl; mode = λ p. refl })
 
-  pub goes_drained : Changes c conns.drained true old.conns new.conns → Goes old new (with_flow (Drained c))
+  pub goes_drained : Changes c conns.emptied true old.conns new.conns → Goes old new (with_flow (Drained c))
   goes_drained changes =
       goes_conn c unseen (λ w. []) (with_flow (Drained c)) only changes (touched_told c changes) (λ p keeps. record { opens = λ x. refl; shown = λ x able. refl; waiting = λ x. refl; able = λ x able. able })
       (record { opens = λ p. refl; seen = λ p d. same_here (d == c) (seen d p.notes); waiting = λ p d. refl; functions = λ p. refl; jobs = λ p. refl; moment = λ p. refl; mode = λ p. refl })

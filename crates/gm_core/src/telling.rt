@@ -3,7 +3,7 @@
 ghost use Rattle.std.specs.Prelude.{◌≡◌, ℕ, ◌+◌, ◌≤◌, List, filter, IsTrue, OnOk, length};
 ghost use Rattle.gm_packet.specs.Answers.{answer_of, answer_packet};
 ghost use Rattle.gm_notes.specs.Settings.{Settings};
-ghost use Rattle.gm_actions.specs.Actions.{SaidFits};
+ghost use Rattle.gm_actions.specs.Actions.{WorkFits};
 ghost use Rattle.gm_conns.specs.ConnTables.{IsOpen, conn};
 ghost use Rattle.gm_core.specs.Facts.{ConnFacts};
 ghost use Rattle.gm_core.specs.Holds.{HoldsConns};
@@ -11,7 +11,7 @@ ghost use Rattle.gm_core.specs.Telling.{hears, poured, needed, Roomed, Poured};
 ghost use Rattle.gm_core.specs.Writing.{IsFor};
 
 use crate::written::Written;
-use gm_actions::Said;
+use gm_actions::WorkPacket;
 use gm_conns::Conns;
 use std::alloc::AllocError;
 
@@ -60,23 +60,23 @@ pub(crate) fn reserve_each(
     Ok(())
 }
 
-/// Writes what a worker says of its job, and makes room for it at each of these slots, which listen to the job.
+/// Writes the packet that is passed on of a WORK packet, and makes room for it at each of these slots, which listen to the job.
 pub(crate) fn prepare_each(
     conns: &mut Conns,
     text: &mut Written,
     slots: &[u32],
-    said: &Said<'_>,
+    packet: &WorkPacket<'_>,
 ) -> Result<(), AllocError>
-    requires fits { SaidFits said.now }
+    requires fits { WorkFits packet.now }
     ensures roomed { Roomed conns.old conns.new }
-    ensures text { OnOk result (text.new.bytes ≡ answer_packet (answer_of said.now.response)) }
+    ensures text { OnOk result (text.new.bytes ≡ answer_packet (answer_of packet.now.response)) }
     ensures owned { OnOk result (IsFor (length slots.now) text.new) }
-    ensures room { OnOk result ((c : ℕ) → needed text.new.cost c (filter (hears conns.new said.now.exceptions_only) slots.now) ≤ (conn conns.new c).room) }
+    ensures room { OnOk result ((c : ℕ) → needed text.new.cost c (filter (hears conns.new packet.now.exceptions_only) slots.now) ≤ (conn conns.new c).room) }
 {
-    text.write(&said.response, said.body.as_ref())?;
+    text.write(&packet.response, packet.body.as_ref())?;
     let cost = text.cost();
     text.own(slots.len())?;
-    reserve_each(conns, slots, said.exceptions_only, cost)
+    reserve_each(conns, slots, packet.exceptions_only, cost)
 }
 
 /// Queues a text to each of these slots that hears, where there is room.

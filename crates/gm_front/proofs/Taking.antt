@@ -28,7 +28,7 @@ use Rattle.gm_front.specs.declared.input.Stepped.{Stepped}
 use Rattle.gm_front.specs.declared.input.StepError.{StepError}
 use Rattle.gm_front.specs.declared.input.StepError.TheVariants.{Refused, Cut}
 use Rattle.gm_front.specs.Units.{Stands, BeginsWith, ComesNext}
-use Rattle.gm_front.specs.Inputs.{Input, Opens, Gives, Cuts, Closes, Ticks, Takes, Withdraws, Drains, Reading, fresh}
+use Rattle.gm_front.specs.Inputs.{Input, Opens, Gives, Cuts, Closes, Ticks, Takes, Withdraws, Drains, Reading, nothing_read}
 use Rattle.gm_front.specs.Inputs.{with_step, with_rest, with_units, with_fault, kept_if, given, closed, AddsUnless, refusal_of}
 use Rattle.gm_front.specs.Inputs.{created_since, done_by}
 use Rattle.gm_front.specs.Feeding.{TakesPiece, CutsShort}
@@ -415,7 +415,7 @@ pub begins : {S : Type 0} (agrees : S → Settings → List Step → Type 0) (k 
     → ((c : ℕ) → get_or front.feeders.items c None ≡ None) → Agrees agrees k front.limits [] front
 begins agrees k front few agreed count empty =
     record {
-      reading = fresh;
+      reading = nothing_read;
       reads = refl;
       held = record {
         agreed = agreed;

@@ -89,15 +89,15 @@ IsCut agrees k limits (Gives c piece) old units front = IsCutAt agrees k limits 
 IsCut agrees k limits other old units front = ⊥
 
 -- what an input is answered after these, and what the front holds then
-abbrev pub Answers : {S : Type 0} → (S → Settings → List Step → Type 0) → Settings → Limits → Input → Reading → Result Stepped StepError → Front S → Type 0
-Answers agrees k limits input old (Ok stepped) front = IsTaken agrees k limits input old stepped front
-Answers agrees k limits input old (Err (Refused refused)) front = IsRefused agrees k limits input old refused front
-Answers agrees k limits input old (Err (Cut units)) front = IsCut agrees k limits input old units front
+abbrev pub AnswersInput : {S : Type 0} → (S → Settings → List Step → Type 0) → Settings → Limits → Input → Reading → Result Stepped StepError → Front S → Type 0
+AnswersInput agrees k limits input old (Ok stepped) front = IsTaken agrees k limits input old stepped front
+AnswersInput agrees k limits input old (Err (Refused refused)) front = IsRefused agrees k limits input old refused front
+AnswersInput agrees k limits input old (Err (Cut units)) front = IsCut agrees k limits input old units front
 
 -- so it does, whatever the front held before
 abbrev pub Serves : {S : Type 0} → (S → Settings → List Step → Type 0) → Input → Front S → Result Stepped StepError → Front S → Type 0
 Serves agrees input old result new =
-    (k : Settings) (limits : Limits) (reading : Reading) → IsHeld agrees k limits reading old → Answers agrees k limits input reading result new
+    (k : Settings) (limits : Limits) (reading : Reading) → IsHeld agrees k limits reading old → AnswersInput agrees k limits input reading result new
 
 -- the inputs, once one more is answered so: it was taken, it was cut, or it was refused
 abbrev pub inputs_after : Result Stepped StepError → Input → List Input → List Input

@@ -49,8 +49,8 @@ pub record Reading : Type 0 where
   pub rests : ℕ → List ℕ
 
 -- nothing yet
-abbrev pub fresh : Reading
-fresh = record { steps = []; rests = λ c. [] }
+abbrev pub nothing_read : Reading
+nothing_read = record { steps = []; rests = λ c. [] }
 
 -- with one step more
 abbrev pub with_step : Step → Reading → Reading
@@ -153,7 +153,7 @@ LeadsTo k limits input old new = AddsUnless (refusal_of k input old) k limits in
 
 -- these inputs, the newest first, spell this
 abbrev pub Reads : Settings → Limits → List Input → Reading → Type 0
-Reads k limits [] reading = reading ≡ fresh
+Reads k limits [] reading = reading ≡ nothing_read
 Reads k limits (input ∷ older) reading = (before : Reading) × Reads k limits older before × LeadsTo k limits input before reading
 
 -- ---- answers

@@ -16,7 +16,7 @@ use Rattle.gm_notes.specs.Settings.{Settings}
 use Rattle.gm_notes.specs.Past.{Past}
 use Rattle.gm_notes.specs.Requests.{request, request_if_read, packet_of}
 use Rattle.gm_notes.specs.Steps.{Step, Packet, Close}
-use Rattle.gm_history.specs.Causes.{Caused, is_one_of, is_request, asks, Asks, priority_of, seconds_of, is_submission, is_enabling, is_close}
+use Rattle.gm_history.specs.Causes.{Caused, is_one_of, is_request, asks, PacketAsks, priority_of, job_seconds, is_submission, is_enabling, is_close}
 use Rattle.gm_history.proofs.Finding.{same_number}
 
 -- ---- packets
@@ -52,11 +52,11 @@ module _ (bytes : List ℕ) (asked : Asked) where
 
 -- ---- what a step asks
 
-pub request_is : (kinds : Kind → Bool) (c : ℕ) (s : Step) (asked : Asked) → Asks c s asked → is_request kinds s ≡ kinds asked.kind
+pub request_is : (kinds : Kind → Bool) (c : ℕ) (s : Step) (asked : Asked) → PacketAsks c s asked → is_request kinds s ≡ kinds asked.kind
 request_is kinds c (Packet d number bytes) asked a = asked_kind bytes asked kinds (kind_of number) a.1
 request_is kinds c other asked a = absurd a
 
-pub request_asks : (kinds : Kind → Bool) (c : ℕ) (s : Step) (asked : Asked) → Asks c s asked → kinds asked.kind ≡ true → is_request kinds s ≡ true
+pub request_asks : (kinds : Kind → Bool) (c : ℕ) (s : Step) (asked : Asked) → PacketAsks c s asked → kinds asked.kind ≡ true → is_request kinds s ≡ true
 request_asks kinds c s asked a e = request_is kinds c s asked a ∙ e
 
 -- a request of some slot
@@ -82,12 +82,12 @@ apart_requests these those apart (Packet c number bytes) e = by (kind_of number)
     by (Some kind) e = apart kind e
 apart_requests these those apart other e = refl
 
-pub slot_asks : (kinds : Kind → Bool) (c : ℕ) (s : Step) (asked : Asked) → Asks c s asked → kinds asked.kind ≡ true → asks kinds c s ≡ true
+pub slot_asks : (kinds : Kind → Bool) (c : ℕ) (s : Step) (asked : Asked) → PacketAsks c s asked → kinds asked.kind ≡ true → asks kinds c s ≡ true
 slot_asks kinds c (Packet d number bytes) asked a e =
     and_from (c == d) (is_one_of kinds (kind_of number)) (subst (λ x. (c == x) ≡ true) a.0 (same_number c)) (request_asks kinds c (Packet d number bytes) asked a e)
 slot_asks kinds c other asked a e = absurd a
 
-pub closing_asks : (c : ℕ) (s : Step) (asked : Asked) → is_close s ≡ true → Asks c s asked → ⊥
+pub closing_asks : (c : ℕ) (s : Step) (asked : Asked) → is_close s ≡ true → PacketAsks c s asked → ⊥
 closing_asks c (Close d) asked e a = a
 closing_asks c (Packet d number bytes) asked e a = let bad : ⊥ = cc in bad
 closing_asks c other asked e a = a
@@ -103,7 +103,7 @@ submission_kind SubmitJobLow p e = refl
 submission_kind SubmitJobLowBg p e = refl
 submission_kind kind p e = absurd cc
 
-pub enabling_kind : (kind : Kind) (timeout t : ℕ) → seconds_of kind timeout ≡ Some t → is_enabling kind ≡ true
+pub enabling_kind : (kind : Kind) (timeout t : ℕ) → job_seconds kind timeout ≡ Some t → is_enabling kind ≡ true
 enabling_kind CanDo timeout t e = refl
 enabling_kind CanDoTimeout timeout t e = refl
 enabling_kind kind timeout t e = absurd cc

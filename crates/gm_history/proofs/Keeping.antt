@@ -28,7 +28,7 @@ use Rattle.gm_notes.specs.Workers.{tell_assigned, give_out, grab, Work, keep_rep
 use Rattle.gm_notes.specs.Requests.{first, second, third}
 use Rattle.gm_notes.specs.Steps.{Step}
 use Rattle.gm_history.specs.History.{runs_at_a_slot, IsBelowLimit, HasWork, Allowed, History}
-use Rattle.gm_history.specs.Causes.{Caused, Ends, IsOfEnd, IsAssignment, MaySay, Asks, IsFor, Mentions, priority_of, is_ending, is_tick, is_request}
+use Rattle.gm_history.specs.Causes.{Caused, Ends, IsOfEnd, IsAssignment, MaySay, PacketAsks, IsFor, Mentions, priority_of, is_ending, is_tick, is_request}
 use Rattle.gm_history.specs.Causes.{is_submission, is_foreground, is_background, is_enabling, is_sleeping, is_grab, is_close, asks, closes}
 use Rattle.gm_history.specs.Hearing.{AllOpen}
 use Rattle.gm_history.specs.Hearing.{listens, MayGet}
@@ -81,7 +81,7 @@ kept_if P false a b p q = q
 -- the step is a submission of slot c
 pub record MaySubmit (s : Step) (c : ℕ) (sub : Submission) : Type 0 where
   pub asked : Asked
-  pub asks : Asks c s asked
+  pub asks : PacketAsks c s asked
   pub priority : priority_of asked.kind ≡ Some sub.priority
   pub function : first asked.arguments ≡ sub.function
   pub unique : second asked.arguments ≡ sub.unique

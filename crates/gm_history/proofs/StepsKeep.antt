@@ -24,7 +24,7 @@ use Rattle.gm_notes.specs.declared.states.Priority.TheVariants.{High, Normal, Lo
 use Rattle.gm_admin.specs.declared.fault.AdminFault.{AdminFault}
 use Rattle.gm_admin.specs.declared.fault.AdminError.{AdminError}
 use Rattle.gm_admin.specs.declared.fault.AdminError.TheVariants as errors
-use Rattle.gm_admin.specs.Commands.{Asked as Commanded, Status, Workers, MaxQueue, Version, Shutdown, command_of}
+use Rattle.gm_admin.specs.Commands.{Commanded, Status, Workers, MaxQueue, Version, Shutdown, command_of}
 use Rattle.gm_admin.specs.Answers.{ok_text, version_text, error_text, status_text, workers_text}
 use Rattle.gm_notes.specs.declared.states.Mode.{Mode}
 use Rattle.gm_notes.specs.declared.states.Mode.TheVariants as modes
@@ -55,7 +55,7 @@ use Rattle.gm_notes.proofs.FreeSlots.{free_is}
 use Rattle.gm_history.specs.History.{runs_at_a_slot, progress, Allowed, History}
 use Rattle.gm_history.specs.Causes.{is_one_of, asks, is_request, is_submission, is_foreground, is_background, is_enabling}
 use Rattle.gm_history.specs.Causes.{is_sleeping, is_grab, is_ending, is_close, closes}
-use Rattle.gm_history.specs.Causes.{priority_of, seconds_of, Commands, Ends}
+use Rattle.gm_history.specs.Causes.{priority_of, job_seconds, Commands, Ends}
 use Rattle.gm_history.specs.Hearing.{listens, passed_on, MayGet}
 use Rattle.gm_history.proofs.Asking.{kind_read, request_asks, slot_asks, enabling_kind}
 use Rattle.gm_history.proofs.Finding.{same_number}
@@ -91,7 +91,7 @@ module _ {k : Settings} {I : Past → Type 0} (start : Past) (c number : ℕ) (b
     by_slot : (kinds : Kind → Bool) → kinds asked.kind ≡ true → asks kinds c the_step ≡ true
     by_slot kinds e = slot_asks kinds c the_step asked (refl, reads) e
 
-    enables : (t : ℕ) → seconds_of asked.kind asked.timeout ≡ Some t → Held k I (can_do k c (first asked.arguments) t start)
+    enables : (t : ℕ) → job_seconds asked.kind asked.timeout ≡ Some t → Held k I (can_do k c (first asked.arguments) t start)
     enables t seconds =
         let kind = enabling_kind asked.kind asked.timeout t seconds in
         can_do_keeps K c home (first asked.arguments) t start (by_slot is_enabling kind)

@@ -8,7 +8,7 @@ use Rattle.gm_packet.specs.declared.kind.Kind.TheVariants.{SubmitJobLow, SubmitJ
 use Rattle.gm_packet.specs.Kinds.{number, kind_of}
 use Rattle.gm_packet.specs.Requests.{Asked, request_of}
 use Rattle.gm_packet.specs.Answers.{Answer, answer_packet, no_job}
-use Rattle.gm_admin.specs.Commands.{Asked as Commanded, MaxQueue, Shutdown, command_of}
+use Rattle.gm_admin.specs.Commands.{Commanded, MaxQueue, Shutdown, command_of}
 use Rattle.gm_notes.specs.declared.states.Priority.{Priority}
 use Rattle.gm_notes.specs.declared.states.Priority.TheVariants.{High, Normal, Low}
 use Rattle.gm_notes.specs.declared.states.Mode.{Mode}
@@ -69,10 +69,10 @@ priority_of SubmitJobLowBg = Some Low
 priority_of kind = None
 
 -- how many seconds the jobs of an ability may take, 0 where there is no limit, by the request and the seconds that it says
-abbrev pub seconds_of : Kind → ℕ → Option ℕ
-seconds_of CanDo timeout = Some 0
-seconds_of CanDoTimeout timeout = Some timeout
-seconds_of kind timeout = None
+abbrev pub job_seconds : Kind → ℕ → Option ℕ
+job_seconds CanDo timeout = Some 0
+job_seconds CanDoTimeout timeout = Some timeout
+job_seconds kind timeout = None
 
 -- ---- steps
 
@@ -109,9 +109,9 @@ is_tick other = false
 -- ---- what a step asks
 
 -- the step is a packet of slot c that asks this
-abbrev pub Asks : ℕ → Step → Asked → Type 0
-Asks c (Packet d number bytes) asked = (c ≡ d) × (request_of number bytes ≡ Ok asked)
-Asks c other asked = ⊥
+abbrev pub PacketAsks : ℕ → Step → Asked → Type 0
+PacketAsks c (Packet d number bytes) asked = (c ≡ d) × (request_of number bytes ≡ Ok asked)
+PacketAsks c other asked = ⊥
 
 -- it is a text line that commands this
 abbrev pub Commands : Step → Commanded → Type 0
@@ -131,7 +131,7 @@ IsFor asked what = (first asked.arguments ≡ what.function) × (second asked.ar
 -- it mentions the function
 abbrev pub Mentions : Step → List ℕ → Type 0
 Mentions s f =
-    ((c : ℕ) × (asked : Asked) × Asks c s asked × ((is_submission asked.kind || is_enabling asked.kind) ≡ true) × (first asked.arguments ≡ f))
+    ((c : ℕ) × (asked : Asked) × PacketAsks c s asked × ((is_submission asked.kind || is_enabling asked.kind) ≡ true) × (first asked.arguments ≡ f))
     ⊎ ((size : ℕ) × Commands s (MaxQueue f size))
 
 -- it brings the server into this mode
@@ -159,13 +159,13 @@ Caused k before s (notes.Opened c addr) older = s ≡ Open addr
 -- a fault of the slot, or a shutdown that isn't graceful
 Caused k before s (notes.Shut c) older = (faults c s ≡ true) ⊎ Commands s (Shutdown false)
 Caused k before s (notes.Closed c) older = s ≡ Close c
-Caused k before s (notes.Named c id) older = (asked : Asked) × Asks c s asked × (asked.kind ≡ SetClientId) × (first asked.arguments ≡ id)
+Caused k before s (notes.Named c id) older = (asked : Asked) × PacketAsks c s asked × (asked.kind ≡ SetClientId) × (first asked.arguments ≡ id)
 Caused k before s (notes.OptionSet c) older =
-    (asked : Asked) × Asks c s asked × (asked.kind ≡ OptionReq) × (first asked.arguments ≡ codes "exceptions")
+    (asked : Asked) × PacketAsks c s asked × (asked.kind ≡ OptionReq) × (first asked.arguments ≡ codes "exceptions")
 Caused k before s (notes.Can c f t) older =
-    (asked : Asked) × Asks c s asked × (seconds_of asked.kind asked.timeout ≡ Some t) × (first asked.arguments ≡ f)
-Caused k before s (notes.Cant c f) older = (asked : Asked) × Asks c s asked × (asked.kind ≡ CantDo) × (first asked.arguments ≡ f)
-Caused k before s (notes.Reset c) older = (asked : Asked) × Asks c s asked × (asked.kind ≡ ResetAbilities)
+    (asked : Asked) × PacketAsks c s asked × (job_seconds asked.kind asked.timeout ≡ Some t) × (first asked.arguments ≡ f)
+Caused k before s (notes.Cant c f) older = (asked : Asked) × PacketAsks c s asked × (asked.kind ≡ CantDo) × (first asked.arguments ≡ f)
+Caused k before s (notes.Reset c) older = (asked : Asked) × PacketAsks c s asked × (asked.kind ≡ ResetAbilities)
 Caused k before s (notes.Slept c) older = asks is_sleeping c s ≡ true
 Caused k before s (notes.Woken c) older = (is_request is_submission s || asks is_enabling c s || asks is_sleeping c s || is_close s) ≡ true
 Caused k before s (notes.Stirred c) older = (asks is_grab c s || closes c s) ≡ true
@@ -173,12 +173,12 @@ Caused k before s (notes.Took c) older = s ≡ Took c
 Caused k before s (notes.Withdrew c) older = s ≡ Withdrew c
 -- a submission of just this job
 Caused k before s (notes.Made n f p u body) older =
-    (c : ℕ) × (asked : Asked) × Asks c s asked × Submits asked (record { function = f; priority = p; unique = u; body = body })
+    (c : ℕ) × (asked : Asked) × PacketAsks c s asked × Submits asked (record { function = f; priority = p; unique = u; body = body })
 -- a submission in the background, or one of the slot in the foreground, of the job's function and unique id
 Caused k before s (notes.Kept n) older =
-    (c : ℕ) × (asked : Asked) × Asks c s asked × (is_background asked.kind ≡ true) × (what : Job) × (job n older ≡ Some what) × IsFor asked what
+    (c : ℕ) × (asked : Asked) × PacketAsks c s asked × (is_background asked.kind ≡ true) × (what : Job) × (job n older ≡ Some what) × IsFor asked what
 Caused k before s (notes.Listens n c) older =
-    (asked : Asked) × Asks c s asked × (is_foreground asked.kind ≡ true) × (what : Job) × (job n older ≡ Some what) × IsFor asked what
+    (asked : Asked) × PacketAsks c s asked × (is_foreground asked.kind ≡ true) × (what : Job) × (job n older ≡ Some what) × IsFor asked what
 -- a grab gets the pick that there was before it
 Caused k before s (notes.Assigned n c late) older = (asks is_grab c s ≡ true) × Gets k c n before
 Caused k before s (notes.Returned n) older = (c : ℕ) × (s ≡ Close c) × (is_running_at c (job_state n older) ≡ true)
@@ -187,7 +187,7 @@ Caused k before s (notes.Ended n) older = Ends k before s n
 Caused k before s (notes.Discarded n) older = is_close s ≡ true
 -- WORK_STATUS with the job's handle and these numbers, of the slot where it runs
 Caused k before s (notes.Report n a b) older =
-    (c : ℕ) × (asked : Asked) × Asks c s asked × (asked.kind ≡ WorkStatus) × (job_state n before ≡ states.Running c)
+    (c : ℕ) × (asked : Asked) × PacketAsks c s asked × (asked.kind ≡ WorkStatus) × (job_state n before ≡ states.Running c)
     × (first asked.arguments ≡ handle k n) × (second asked.arguments ≡ a) × (third asked.arguments ≡ b)
 Caused k before s (notes.Mention f) older = Mentions s f
 Caused k before s (notes.Limit f size) older = Commands s (MaxQueue f size)

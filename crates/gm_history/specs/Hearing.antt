@@ -12,7 +12,7 @@ use Rattle.gm_notes.specs.Jobs.{job_state, listeners, handle}
 use Rattle.gm_notes.specs.JobStates as states
 use Rattle.gm_notes.specs.Requests.{first, second, third}
 use Rattle.gm_notes.specs.Steps.{Step, Packet, Line, Fault, Tick}
-use Rattle.gm_history.specs.Causes.{Asks, Ends}
+use Rattle.gm_history.specs.Causes.{PacketAsks, Ends}
 
 -- these slots are open
 abbrev pub AllOpen : List ℕ → List Note → Type 0
@@ -36,7 +36,7 @@ passed_on k n kind a = None
 -- slot c, where job n runs, asks that these bytes be passed on, and slot d listens to the job
 abbrev pub PassesOn : Settings → List Note → ℕ → Step → ℕ → List ℕ → Type 0
 PassesOn k before c s d bytes =
-    (n : ℕ) × (asked : Asked) × (answer : Answer) × Asks c s asked × (job_state n before ≡ states.Running c) × (first asked.arguments ≡ handle k n)
+    (n : ℕ) × (asked : Asked) × (answer : Answer) × PacketAsks c s asked × (job_state n before ≡ states.Running c) × (first asked.arguments ≡ handle k n)
     × (passed_on k n asked.kind asked.arguments ≡ Some answer) × (bytes ≡ answer_packet answer) × (0 < listens d n before)
 
 -- The step after these notes may queue the bytes to slot d. What a slot asks is answered only to it. Another slot gets reports of the

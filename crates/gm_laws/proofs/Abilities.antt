@@ -21,7 +21,7 @@ use Rattle.gm_notes.specs.Workers.{wake_if, add_ability, can_do, cant_do}
 use Rattle.gm_notes.specs.Requests.{first, request}
 use Rattle.gm_notes.specs.Steps.{Step, step, run}
 use Rattle.gm_history.specs.History.{Allowed, History}
-use Rattle.gm_history.specs.Causes.{Caused, Asks, seconds_of, closes, is_enabling}
+use Rattle.gm_history.specs.Causes.{Caused, PacketAsks, job_seconds, closes, is_enabling}
 use Rattle.gm_history.specs.History.{is_able_within}
 use Rattle.gm_laws.specs.Abilities.{Enables, Disables, IsRejected, AbilitiesCome, AbilitiesAreAsAsked}
 use Rattle.gm_laws.specs.Refusals.{names_function}
@@ -145,7 +145,7 @@ module _ (k : Settings) (s : Step) (start : Past) (history : History k start.not
   wanted ability = is_of f ability && ability.timeout == seconds
 
   abbrev Came : List Note → Type 0
-  Came l = is_able_within c f seconds l ≡ true → (is_able_within c f seconds start.notes ≡ true) ⊎ ((asked : Asked) × Asks c s asked × Enables asked f seconds)
+  Came l = is_able_within c f seconds l ≡ true → (is_able_within c f seconds start.notes ≡ true) ⊎ ((asked : Asked) × PacketAsks c s asked × Enables asked f seconds)
 
   none_or : (t : Bool) (all : List Ability) → list_any wanted (cond t [] all) ≡ true → list_any wanted all ≡ true
   none_or true all e = absurd cc
@@ -163,25 +163,25 @@ module _ (k : Settings) (s : Step) (start : Past) (history : History k start.not
   came_more (notes.Can d g t) older cause p e = by (c == d) refl e
     where
       here : (c == d) ≡ true → (wanted (record { function = g; timeout = t }) ≡ true) ⊎ (list_any wanted (abilities c older) ≡ true)
-          → (is_able_within c f seconds start.notes ≡ true) ⊎ ((asked : Asked) × Asks c s asked × Enables asked f seconds)
+          → (is_able_within c f seconds start.notes ≡ true) ⊎ ((asked : Asked) × PacketAsks c s asked × Enables asked f seconds)
       here is (inr was) = p was
       here is (inl new) =
           let parts = and_parts (bytes_eq g f) (t == seconds) new in
           let slot : d ≡ c = sym (is_same c d is) in
           inr (
             cause.0,
-            subst (λ x. Asks x s cause.0) slot cause.1,
+            subst (λ x. PacketAsks x s cause.0) slot cause.1,
             (cause.3 ∙ (bytes_eq-Decides g f).0 parts.0, cause.2 ∙ ap Some (is_same t seconds parts.1)),
           )
 
       by : (u : Bool) → (c == d) ≡ u → list_any wanted (cond u (put g t (abilities c older)) (abilities c older)) ≡ true
-          → (is_able_within c f seconds start.notes ≡ true) ⊎ ((asked : Asked) × Asks c s asked × Enables asked f seconds)
+          → (is_able_within c f seconds start.notes ≡ true) ⊎ ((asked : Asked) × PacketAsks c s asked × Enables asked f seconds)
       by true is e = here is (put_before wanted g t (abilities c older) e)
       by false is e = p e
   came_more note older cause p e = p e
 
   abbrev Left : Type 0
-  Left = (closes c s ≡ true) ⊎ ((asked : Asked) × Asks c s asked × (Disables asked f ⊎ ((other : ℕ) × Enables asked f other)))
+  Left = (closes c s ≡ true) ⊎ ((asked : Asked) × PacketAsks c s asked × (Disables asked f ⊎ ((other : ℕ) × Enables asked f other)))
 
   abbrev Stays : List Note → Type 0
   Stays l = is_able_within c f seconds start.notes ≡ true → (is_able_within c f seconds l ≡ true) ⊎ Left
@@ -215,7 +215,7 @@ module _ (k : Settings) (s : Step) (start : Past) (history : History k start.not
     where
       by : (t : Bool) → (c == d) ≡ t → (list_any wanted (abilities c older) ≡ true) ⊎ Left → (list_any wanted (cond t [] (abilities c older)) ≡ true) ⊎ Left
       by t is (inr left) = inr left
-      by true is (inl e) = inr (inr (cause.0, subst (λ x. Asks x s cause.0) (sym (is_same c d is)) cause.1, inl (inr cause.2)))
+      by true is (inl e) = inr (inr (cause.0, subst (λ x. PacketAsks x s cause.0) (sym (is_same c d is)) cause.1, inl (inr cause.2)))
       by false is (inl e) = inl e
   stays_more (notes.Cant d g) older allowed cause h p was = by (c == d) (bytes_eq g f) refl refl (p was)
     where
@@ -223,7 +223,7 @@ module _ (k : Settings) (s : Step) (start : Past) (history : History k start.not
           → (list_any wanted (cond t (filter (λ ability. not (is_of g ability)) (abilities c older)) (abilities c older)) ≡ true) ⊎ Left
       by t u is same (inr left) = inr left
       by false u is same (inl e) = inl e
-      by true true is same (inl e) = inr (inr (cause.0, subst (λ x. Asks x s cause.0) (sym (is_same c d is)) cause.1, inl (inl (cause.2, cause.3 ∙ (bytes_eq-Decides g f).0 same))))
+      by true true is same (inl e) = inr (inr (cause.0, subst (λ x. PacketAsks x s cause.0) (sym (is_same c d is)) cause.1, inl (inl (cause.2, cause.3 ∙ (bytes_eq-Decides g f).0 same))))
       by true false is same (inl e) = inl (kept_stays wanted (λ ability. not (is_of g ability)) (abilities c older) (λ ability w. ap not (of_f g same ability w)) e)
   stays_more (notes.Can d g t) older allowed cause h p was = by (c == d) (bytes_eq g f) refl refl (p was)
     where
@@ -231,7 +231,7 @@ module _ (k : Settings) (s : Step) (start : Past) (history : History k start.not
       by u v is same (inr left) = inr left
       by false v is same (inl e) = inl e
       by true true is same (inl e) =
-          inr (inr (cause.0, subst (λ x. Asks x s cause.0) (sym (is_same c d is)) cause.1, inr (t, (cause.3 ∙ (bytes_eq-Decides g f).0 same, cause.2))))
+          inr (inr (cause.0, subst (λ x. PacketAsks x s cause.0) (sym (is_same c d is)) cause.1, inr (t, (cause.3 ∙ (bytes_eq-Decides g f).0 same, cause.2))))
       by true false is same (inl e) = inl (put_stays wanted g t (abilities c older) (of_f g same) e)
   stays_more note older allowed cause h p was = p was
 
@@ -282,7 +282,7 @@ module _ (k : Settings) (c : ℕ) (start : Past) (a : List (List ℕ)) (timeout 
       by true bad = inr (badly CantDo refl bad)
       by false bad = inl cant_now
 
-  enables_does : (kind : Kind) (seconds : ℕ) → seconds_of kind timeout ≡ Some seconds
+  enables_does : (kind : Kind) (seconds : ℕ) → job_seconds kind timeout ≡ Some seconds
       → (is_able_within c f seconds (request k c kind a timeout start).notes ≡ true) ⊎ IsRejected k c (asked kind) start (request k c kind a timeout start)
   enables_does CanDo seconds e =
       subst (λ t. (is_able_within c f t (can_do k c f 0 start).notes ≡ true) ⊎ IsRejected k c (asked CanDo) start (can_do k c f 0 start)) (same_Some 0 seconds e) (can_does CanDo refl refl 0)

@@ -15,11 +15,11 @@ use Rattle.gm_notes.specs.Past.{Past, refuse}
 use Rattle.gm_notes.specs.Texts.{error_of, spaced}
 use Rattle.gm_notes.specs.Requests.{packet_of}
 use Rattle.gm_notes.specs.Steps.{Step, Packet, unless, unless_not_open, run}
-use Rattle.gm_history.specs.Causes.{Asks, IsAssignment, JustQueues, is_one_of, is_request, is_grab}
+use Rattle.gm_history.specs.Causes.{PacketAsks, IsAssignment, JustQueues, is_one_of, is_request, is_grab}
 use Rattle.gm_history.proofs.Sayings.{error_other, no_job_other}
 use Rattle.gm_history.proofs.StepsKeep.{run_history}
 use Rattle.gm_laws.specs.Listeners.{outputs, Queues, copies}
-use Rattle.gm_laws.specs.Submitted.{assigned, OneAssignmentOneJob}
+use Rattle.gm_laws.specs.Submitted.{grab_answer, OneAssignmentOneJob}
 use Rattle.gm_laws.specs.Waiting.{HasNoWork, IsGiven}
 use Rattle.gm_laws.proofs.JobLaws.{is_same}
 use Rattle.gm_laws.proofs.Moving.{both_not}
@@ -35,7 +35,7 @@ module _ (k : Settings) (steps : List Step) (c : ℕ) (newer : List (List ℕ)) 
   abbrev GivenSo : Step → Past → Type 0
   GivenSo s after = (n : ℕ) × (what : Job) × (asked : Asked) × (told : Answer)
       × (job_state n start.notes ≡ states.Waiting) × (job_state n after.notes ≡ states.Running c) × (job n start.notes ≡ Some what)
-      × Asks c s asked × (assigned k n what asked.kind ≡ Some told) × (answer_packet answer ≡ answer_packet told) × (newer ≡ answer_packet told ∷ [])
+      × PacketAsks c s asked × (grab_answer k n what asked.kind ≡ Some told) × (answer_packet answer ≡ answer_packet told) × (newer ≡ answer_packet told ∷ [])
 
   -- where just one answer is queued, it is that
   just : (d : ℕ) (told : Answer) (after : Past) → JustQueues d told start after → Queues c newer start after → (c ≡ d) × (newer ≡ answer_packet told ∷ []) × (answer_packet answer ≡ answer_packet told)
@@ -67,7 +67,7 @@ module _ (k : Settings) (steps : List Step) (c : ℕ) (newer : List (List ℕ)) 
             g.3,
             subst (λ x. job_state g.0 (run k (Packet d number [] ∷ steps)).notes ≡ states.Running x) (sym is.0) g.6,
             told.3,
-            subst (λ x. Asks x (Packet d number []) told.1) (sym is.0) told.4,
+            subst (λ x. PacketAsks x (Packet d number []) told.1) (sym is.0) told.4,
             told.5,
             is.2,
             is.1,

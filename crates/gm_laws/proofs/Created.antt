@@ -29,7 +29,7 @@ use Rattle.gm_history.specs.History.{History}
 use Rattle.gm_history.specs.Causes.{is_foreground, is_background, is_submission, priority_of, JustQueues}
 use Rattle.gm_history.specs.Laws.{InEachStep}
 use Rattle.gm_history.specs.Hearing.{listens}
-use Rattle.gm_laws.specs.Submitted.{IsJoined, JoinsNone, IsNew, KeepsOrListens, IsCreated, HasNoRoom, HasBadName, IsRefused, SubmissionsAreAnswered}
+use Rattle.gm_laws.specs.Submitted.{IsJoined, JoinsNone, IsNew, KeepsOrListens, IsCreated, HasNoRoom, HasBadName, IsTurnedDown, SubmissionsAreAnswered}
 use Rattle.gm_history.proofs.Asking.{packet_does}
 use Rattle.gm_history.proofs.Finding.{joined_is, same_number}
 use Rattle.gm_laws.proofs.JobLaws.{is_same, none_joins, unmade}
@@ -133,7 +133,7 @@ pub record Created (k : Settings) (c : ℕ) (asked : Asked) (start past : Past) 
   pub others : (m : ℕ) → (job m past.notes ≡ job m start.notes) ⊎ ((m ≡ n) × IsNew asked n start past)
 
 abbrev pub Answered : Settings → ℕ → Asked → Past → Past → Type 0
-Answered k c asked start past = Created k c asked start past ⊎ IsRefused k c asked start past
+Answered k c asked start past = Created k c asked start past ⊎ IsTurnedDown k c asked start past
 
 -- only the job that is made is new
 one_new : (n m : ℕ) (what : Job) (old : Option Job) (t : Bool) → (m == n) ≡ t → (unwrap_or (cond t (Some (Some what)) None) old ≡ old) ⊎ (m ≡ n)
@@ -247,7 +247,7 @@ pub submissions_answered : InEachStep SubmissionsAreAnswered
 submissions_answered k steps (Packet d number bytes) c asked takes (is, reads) e = by (subst (λ d. Answered k c asked (run k steps) (run k (Packet d number bytes ∷ steps))) is
     (packet_answered k (run k steps) (run_history k steps) c number bytes asked takes reads e))
   where
-    by : Answered k c asked (run k steps) (run k (Packet d number bytes ∷ steps)) → IsCreated k c asked (run k steps) (run k (Packet d number bytes ∷ steps)) ⊎ IsRefused k c asked (run k steps) (run k (Packet d number bytes ∷ steps))
+    by : Answered k c asked (run k steps) (run k (Packet d number bytes ∷ steps)) → IsCreated k c asked (run k steps) (run k (Packet d number bytes ∷ steps)) ⊎ IsTurnedDown k c asked (run k steps) (run k (Packet d number bytes ∷ steps))
     by (inl r) = inl (r.n, r.queued, r.lives, r.how, r.keeps)
     by (inr r) = inr r
 submissions_answered k steps other c asked takes asks e = absurd asks

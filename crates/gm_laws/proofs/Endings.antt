@@ -22,7 +22,7 @@ use Rattle.gm_notes.specs.Steps.{Step, Packet, Tick, unless, unless_not_open, ru
 use Rattle.gm_history.specs.History.{History}
 use Rattle.gm_history.specs.Causes.{Ends, is_ending}
 use Rattle.gm_laws.specs.Laws.{has_place}
-use Rattle.gm_laws.specs.Listeners.{outputs, Queues, copies, hears, TellsEnd, EachListenerIsTold}
+use Rattle.gm_laws.specs.Listeners.{outputs, Queues, copies, times_heard, TellsEnd, EachListenerIsTold}
 use Rattle.gm_history.specs.Hearing.{listens, passed_on}
 use Rattle.gm_history.proofs.Finding.{same_number}
 use Rattle.gm_laws.proofs.JobLaws.{is_same, running_place}
@@ -41,7 +41,7 @@ use Rattle.gm_history.proofs.StepsKeep.{run_history}
 record SaysEnd (k : Settings) (n : ℕ) (kind : Kind) (a : List (List ℕ)) : Type 0 where
   answer : Answer
   is : passed_on k n kind a ≡ Some answer
-  to_all : (c : ℕ) (l : List Note) → hears c n kind l ≡ listens c n l
+  to_all : (c : ℕ) (l : List Note) → times_heard c n kind l ≡ listens c n l
 
 says_end : (k : Settings) (n : ℕ) (kind : Kind) (a : List (List ℕ)) → is_ending kind ≡ true → SaysEnd k n kind a
 says_end k n WorkComplete a e = record { answer = _; is = refl; to_all = λ c l. refl }
@@ -64,9 +64,9 @@ module _ (k : Settings) (start : Past) (history : History k start.notes) (n : �
         says.answer,
         (asked, names.1, may, says.is),
         λ c. (
-          replicate (hears c n asked.kind start.notes) (answer_packet says.answer),
+          replicate (times_heard c n asked.kind start.notes) (answer_packet says.answer),
           passed k start history worker n number bytes asked says.answer takes e.1 names.1 names.2 says.is c,
-          copies_same (answer_packet says.answer) (hears c n asked.kind start.notes) ∙ says.to_all c start.notes,
+          copies_same (answer_packet says.answer) (times_heard c n asked.kind start.notes) ∙ says.to_all c start.notes,
         ),
       )
 

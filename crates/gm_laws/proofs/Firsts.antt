@@ -12,11 +12,11 @@ use Rattle.gm_notes.specs.Notes.{takes_units, phase, is_asleep}
 use Rattle.gm_notes.specs.Jobs.{put, is_of, is_able, is_mentioned}
 use Rattle.gm_notes.specs.Past.{with_note, refuse, with_mention}
 use Rattle.gm_notes.specs.Submissions.{is_bad_name, is_one_too_many}
-use Rattle.gm_notes.specs.Workers.{wake_if, can_do as can_do_so, cant_do}
+use Rattle.gm_notes.specs.Workers.{wake_if, can_do, cant_do}
 use Rattle.gm_notes.specs.Requests.{first, request}
 use Rattle.gm_notes.specs.Steps.{step}
 use Rattle.gm_history.specs.History.{History}
-use Rattle.gm_history.specs.Causes.{Caused, Asks, seconds_of}
+use Rattle.gm_history.specs.Causes.{Caused, PacketAsks, job_seconds}
 use Rattle.gm_history.proofs.Finding.{same_number}
 use Rattle.gm_history.proofs.Caused.{note_law}
 use Rattle.gm_laws.proofs.JobLaws.{is_same}
@@ -32,7 +32,7 @@ use Rattle.gm_notes.specs.Past.{Past}
 use Rattle.gm_notes.specs.Steps.{Step, run}
 use Rattle.gm_history.proofs.Finding.{WaitsFor, waiting_for_waits, job_of}
 use Rattle.gm_history.proofs.StepsKeep.{run_history}
-use Rattle.gm_laws.specs.Firsts.{HasNoneWaiting, can_do, GivesOfTheFirst, FirstAbilityWins}
+use Rattle.gm_laws.specs.Firsts.{HasNoneWaiting, functions_of, GivesOfTheFirst, FirstAbilityWins}
 use Rattle.gm_laws.proofs.Moving.{from, both_not}
 use Rattle.gm_laws.proofs.StepLaws.{gives}
 use Rattle.gm_laws.proofs.Waiting.{something_waits}
@@ -114,32 +114,32 @@ is_placing kind = false
 module _ (c : ℕ) (start : Past) where
   abbrev Ordered : List Note → Type 0
   Ordered l =
-      ((keeps : List ℕ → Bool) × (can_do c l ≡ filter keeps (can_do c start.notes)))
-      ⊎ ((f : List ℕ) × (is_able c f start.notes ≡ false) × (can_do c l ≡ can_do c start.notes ++ f ∷ []))
+      ((keeps : List ℕ → Bool) × (functions_of c l ≡ filter keeps (functions_of c start.notes)))
+      ⊎ ((f : List ℕ) × (is_able c f start.notes ≡ false) × (functions_of c l ≡ functions_of c start.notes ++ f ∷ []))
 
-  same_order : (l : List Note) → can_do c l ≡ can_do c start.notes → Ordered l
-  same_order l e = inl (λ f. true, e ∙ sym (all_kept (can_do c start.notes)))
+  same_order : (l : List Note) → functions_of c l ≡ functions_of c start.notes → Ordered l
+  same_order l e = inl (λ f. true, e ∙ sym (all_kept (functions_of c start.notes)))
 
-  emptied : (l : List Note) → can_do c l ≡ [] → Ordered l
-  emptied l e = inl (λ f. false, e ∙ sym (none_kept (can_do c start.notes)))
+  emptied : (l : List Note) → functions_of c l ≡ [] → Ordered l
+  emptied l e = inl (λ f. false, e ∙ sym (none_kept (functions_of c start.notes)))
 
   -- what these requests do
   module _ (k : Settings) (f : List ℕ) (t : ℕ) where
-    placed : can_do c (notes.Can c f t ∷ start.notes) ≡ cond (is_able c f start.notes) (can_do c start.notes) (can_do c start.notes ++ f ∷ [])
+    placed : functions_of c (notes.Can c f t ∷ start.notes) ≡ cond (is_able c f start.notes) (functions_of c start.notes) (functions_of c start.notes ++ f ∷ [])
     placed = rw (same_number c) (put_order f t (abilities c start.notes))
 
-    placed_so : (l : List Note) → can_do c l ≡ cond (is_able c f start.notes) (can_do c start.notes) (can_do c start.notes ++ f ∷ []) → Ordered l
+    placed_so : (l : List Note) → functions_of c l ≡ cond (is_able c f start.notes) (functions_of c start.notes) (functions_of c start.notes ++ f ∷ []) → Ordered l
     placed_so l e = by (is_able c f start.notes) refl e
       where
-        by : (u : Bool) → is_able c f start.notes ≡ u → can_do c l ≡ cond u (can_do c start.notes) (can_do c start.notes ++ f ∷ []) → Ordered l
+        by : (u : Bool) → is_able c f start.notes ≡ u → functions_of c l ≡ cond u (functions_of c start.notes) (functions_of c start.notes ++ f ∷ []) → Ordered l
         by true able e = same_order l e
         by false new e = inr (f, new, e)
 
-    mentions : (u : Bool) → can_do c (notes.Can c f t ∷ (cond u start (with_note (notes.Mention f) start)).notes) ≡ can_do c (notes.Can c f t ∷ start.notes)
+    mentions : (u : Bool) → functions_of c (notes.Can c f t ∷ (cond u start (with_note (notes.Mention f) start)).notes) ≡ functions_of c (notes.Can c f t ∷ start.notes)
     mentions true = refl
     mentions false = refl
 
-    can_order : Ordered (can_do_so k c f t start).notes
+    can_order : Ordered (can_do k c f t start).notes
     can_order = by (is_bad_name f) (is_one_too_many k f start.notes) (is_asleep (phase c start.notes) && not (is_empty (waiting_for f start.notes)))
       where
         by : (u v w : Bool) → Ordered (cond u (refuse c (codes "bad_function") start) (cond v (refuse c (codes "too_many_functions") start) (wake_if w c (with_note (notes.Can c f t) (with_mention f start))))).notes
@@ -151,7 +151,7 @@ module _ (c : ℕ) (start : Past) where
     cant_ordered : Ordered (cant_do c f start).notes
     cant_ordered = by (is_bad_name f)
       where
-        gone : can_do c (notes.Cant c f ∷ start.notes) ≡ filter (λ g. not (bytes_eq g f)) (can_do c start.notes)
+        gone : functions_of c (notes.Cant c f ∷ start.notes) ≡ filter (λ g. not (bytes_eq g f)) (functions_of c start.notes)
         gone = rw (same_number c) (cant_order f (abilities c start.notes))
 
         by : (u : Bool) → Ordered (cond u (refuse c (codes "bad_function") start) (with_note (notes.Cant c f) start)).notes
@@ -167,19 +167,19 @@ module _ (c : ℕ) (start : Past) where
   -- a step does nothing to them, or takes all, or is such a request
   module _ (k : Settings) (s : Step) (history : History k start.notes) where
     abbrev LeftSo : List Note → Type 0
-    LeftSo l = (can_do c l ≡ can_do c start.notes) ⊎ ((can_do c l ≡ []) ⊎ ((asked : Asked) × Asks c s asked × (is_placing asked.kind ≡ true)))
+    LeftSo l = (functions_of c l ≡ functions_of c start.notes) ⊎ ((functions_of c l ≡ []) ⊎ ((asked : Asked) × PacketAsks c s asked × (is_placing asked.kind ≡ true)))
 
-    taken_all : (note : Note) (older : List Note) (t : Bool) → can_do c (note ∷ older) ≡ cond t [] (can_do c older) → LeftSo older → LeftSo (note ∷ older)
+    taken_all : (note : Note) (older : List Note) (t : Bool) → functions_of c (note ∷ older) ≡ cond t [] (functions_of c older) → LeftSo older → LeftSo (note ∷ older)
     taken_all note older true e p = inr (inl e)
     taken_all note older false e (inl p) = inl (e ∙ p)
     taken_all note older false e (inr (inl p)) = inr (inl (e ∙ p))
     taken_all note older false e (inr (inr p)) = inr (inr p)
 
-    placing : (note : Note) (older : List Note) (d : ℕ) (asked : Asked) → Asks d s asked → is_placing asked.kind ≡ true → ((c == d) ≡ false → can_do c (note ∷ older) ≡ can_do c older) → LeftSo older → LeftSo (note ∷ older)
+    placing : (note : Note) (older : List Note) (d : ℕ) (asked : Asked) → PacketAsks d s asked → is_placing asked.kind ≡ true → ((c == d) ≡ false → functions_of c (note ∷ older) ≡ functions_of c older) → LeftSo older → LeftSo (note ∷ older)
     placing note older d asked a e other p = by (c == d) refl p
       where
         by : (t : Bool) → (c == d) ≡ t → LeftSo older → LeftSo (note ∷ older)
-        by true is p = inr (inr (asked, subst (λ x. Asks x s asked) (sym (is_same c d is)) a, e))
+        by true is p = inr (inr (asked, subst (λ x. PacketAsks x s asked) (sym (is_same c d is)) a, e))
         by false is (inl p) = inl (other is ∙ p)
         by false is (inr (inl p)) = inr (inl (other is ∙ p))
         by false is (inr (inr p)) = inr (inr p)
@@ -188,7 +188,7 @@ module _ (c : ℕ) (start : Past) where
     emptying true all = refl
     emptying false all = refl
 
-    enabling_places : (kind : Kind) (timeout t : ℕ) → seconds_of kind timeout ≡ Some t → is_placing kind ≡ true
+    enabling_places : (kind : Kind) (timeout t : ℕ) → job_seconds kind timeout ≡ Some t → is_placing kind ≡ true
     enabling_places CanDo timeout t e = refl
     enabling_places CanDoTimeout timeout t e = refl
     enabling_places kind timeout t e = absurd cc
@@ -204,7 +204,7 @@ module _ (c : ℕ) (start : Past) where
     ordered_so : Ordered (step k s start).notes
     ordered_so = by (note_law k s start history LeftSo (λ note older allowed cause h p. left_more note older cause p) (inl refl))
       where
-        asked_so : (asked : Asked) → Asks c s asked → is_placing asked.kind ≡ true → (t : Bool) → takes_units c start.notes ≡ t → Ordered (step k s start).notes
+        asked_so : (asked : Asked) → PacketAsks c s asked → is_placing asked.kind ≡ true → (t : Bool) → takes_units c start.notes ≡ t → Ordered (step k s start).notes
         asked_so asked a e true takes = subst (λ (past : Past). Ordered past.notes) (sym (request_does k s start c asked takes a)) (places_so k asked.kind asked.arguments asked.timeout e)
         asked_so asked a e false shut = subst (λ (past : Past). Ordered past.notes) (sym (request_shut k s start c asked shut a)) (same_order start.notes refl)
 

@@ -14,7 +14,7 @@ use Rattle.gm_notes.specs.declared.note.Note.{Note}
 use Rattle.gm_notes.specs.Settings.{Settings}
 use Rattle.gm_notes.specs.Jobs.{job_state, made, handle, is_handle, job_of_handle}
 use Rattle.gm_history.specs.History.{History}
-use Rattle.gm_laws.specs.Laws.{AreNumbers, has_place}
+use Rattle.gm_laws.specs.Laws.{AreConsecutive, has_place}
 use Rattle.gm_laws.proofs.NumberLaws.{numbers}
 use Rattle.gm_laws.proofs.JobLaws.{is_same, places}
 
@@ -36,7 +36,7 @@ module _ (k : Settings) (n : ℕ) where
   small_at m true more is lt rest any = subst (λ x. x < 2 ^ 64) (is_same m n is) lt
   small_at m false more is lt rest any = rest any
 
-  made_small : (ns : List ℕ) → AreNumbers k ns → list_any (λ m. m == n) ns ≡ true → n < 2 ^ 64
+  made_small : (ns : List ℕ) → AreConsecutive k ns → list_any (λ m. m == n) ns ≡ true → n < 2 ^ 64
   made_small [] h e = absurd cc
   made_small (m ∷ ns) h e = small_at m (m == n) (list_any (λ x. x == n) ns) refl h.1 (made_small ns h.2) e
 
@@ -51,7 +51,7 @@ module _ (k : Settings) (n : ℕ) where
   found_at m true more o is small lt rest any = ap Some (same_handle k m n small lt ((bytes_eq-Decides (handle k m) (handle k n)).0 is))
   found_at m false more o is small lt rest any = later_at m (m == n) more o refl is rest any
 
-  found_among : (ns : List ℕ) → n < 2 ^ 64 → AreNumbers k ns → list_any (λ m. m == n) ns ≡ true → find (is_handle k (handle k n)) ns ≡ Some n
+  found_among : (ns : List ℕ) → n < 2 ^ 64 → AreConsecutive k ns → list_any (λ m. m == n) ns ≡ true → find (is_handle k (handle k n)) ns ≡ Some n
   found_among [] lt h e = absurd cc
   found_among (m ∷ ns) lt h e =
       found_at m (is_handle k (handle k n) m) (list_any (λ x. x == n) ns) (find (is_handle k (handle k n)) ns) refl h.1 lt (found_among ns lt h.2) e

@@ -15,7 +15,7 @@ use Rattle.gm_notes.specs.JobStates.{JobState, is_live, is_waiting, is_running}
 use Rattle.gm_notes.specs.JobStates as states
 use Rattle.gm_notes.specs.Steps.{Step, run}
 use Rattle.gm_history.specs.History.{runs_at_a_slot, Allowed, History}
-use Rattle.gm_laws.specs.Laws.{AreNumbers, is_made, has_place, HavePlaces, AreOne, is_gone, StayGone}
+use Rattle.gm_laws.specs.Laws.{AreConsecutive, was_made, has_place, HavePlaces, AreOne, is_gone, StayGone}
 use Rattle.gm_history.proofs.StepsKeep.{step_keeps, run_history}
 use Rattle.gm_history.proofs.Keeping.{keeps_notes, slot_runs}
 use Rattle.gm_laws.proofs.NumberLaws.{next_is, numbers}
@@ -71,19 +71,19 @@ place_still true new old p q = p
 place_still false new old p q = q
 
 -- a new place for job m, which had one
-place_moved : (n m : ℕ) (older : List Note) (new : JobState) (t : Bool) → (n == m) ≡ t → has_place new ≡ true → has_place (job_state m older) ≡ true → has_place (job_state n older) ≡ is_made n older → has_place (unwrap_or (cond t (Some new) None) (job_state n older)) ≡ is_made n older
+place_moved : (n m : ℕ) (older : List Note) (new : JobState) (t : Bool) → (n == m) ≡ t → has_place new ≡ true → has_place (job_state m older) ≡ true → has_place (job_state n older) ≡ was_made n older → has_place (unwrap_or (cond t (Some new) None) (job_state n older)) ≡ was_made n older
 place_moved n m older new true is placed had rest =
     let same : m ≡ n = sym (is_same n m is) in
     placed ∙ sym (subst (λ x. has_place (job_state x older) ≡ true) same had) ∙ rest
 place_moved n m older new false is placed had rest = rest
 
-place_made : (n m : ℕ) (older : List Note) (t : Bool) → has_place (job_state n older) ≡ is_made n older → has_place (unwrap_or (cond t (Some states.Waiting) None) (job_state n older)) ≡ (t || is_made n older)
+place_made : (n m : ℕ) (older : List Note) (t : Bool) → has_place (job_state n older) ≡ was_made n older → has_place (unwrap_or (cond t (Some states.Waiting) None) (job_state n older)) ≡ (t || was_made n older)
 place_made n m older true rest = refl
 place_made n m older false rest = rest
 
 pub places : (k : Settings) (notes : List Note) → History k notes → HavePlaces k notes
 places k [] h n = refl
-places k (Made m f p u body ∷ older) h n = place_made n m older (n == m) (places k older h.1 n) ∙ ap (λ t. t || is_made n older) (sym (same_test n m))
+places k (Made m f p u body ∷ older) h n = place_made n m older (n == m) (places k older h.1 n) ∙ ap (λ t. t || was_made n older) (sym (same_test n m))
 places k (Returned m ∷ older) h n = place_moved n m older states.Waiting (n == m) refl refl (slot_place (job_state m older) h.0.0) (places k older h.1 n)
 places k (Lost m ∷ older) h n = place_moved n m older states.Lost (n == m) refl refl (slot_place (job_state m older) h.0.0) (places k older h.1 n)
 places k (Assigned m c late ∷ older) h n = place_moved n m older (states.Running c) (n == m) refl refl (waiting_place (job_state m older) h.0.0) (places k older h.1 n)
@@ -112,7 +112,7 @@ pub none_joins : (k : Settings) (f u : List ℕ) (n : ℕ) (older : List Note) �
 none_joins k f u n older h joining none e =
     let searched : find (λ m. is_live (job_state m older) && is_job_named f u (job m older)) (made older) ≡ None =
     ap (λ t. cond t (find (λ m. is_live (job_state m older) && is_job_named f u (job m older)) (made older)) None) (sym joining) ∙ none in
-    let there : is_made n older ≡ true = sym (places k older h n) ∙ live_place (job_state n older) (live_named_parts f u n older e).0 in
+    let there : was_made n older ≡ true = sym (places k older h n) ∙ live_place (job_state n older) (live_named_parts f u n older e).0 in
     let fails = none_passes (λ m. is_live (job_state m older) && is_job_named f u (job m older)) (made older) n searched there in
     let bad : ⊥ = cc in bad
 
@@ -183,7 +183,7 @@ below_head k ns m n true same is rest e = let eq = is_same m n same in omega ari
 below_head k ns m n false same is rest e = let lt = rest e in omega arith
 
 -- the numbers made are below the next one
-pub below_next : (k : Settings) (ns : List ℕ) (n : ℕ) → AreNumbers k ns → list_any (λ m. m == n) ns ≡ true → n < k.first_job + length ns
+pub below_next : (k : Settings) (ns : List ℕ) (n : ℕ) → AreConsecutive k ns → list_any (λ m. m == n) ns ≡ true → n < k.first_job + length ns
 below_next k [] n h e = absurd cc
 below_next k (m ∷ ns) n h e = below_head k ns m n (m == n) refl h.0 (below_next k ns n h.2) e
 

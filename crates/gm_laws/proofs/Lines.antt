@@ -11,7 +11,7 @@ use Rattle.std.proofs.lemmas.Slice.Eq.{bytes_eq-Decides}
 use Rattle.gm_packet.specs.declared.kind.Kind.TheVariants.{EchoReq, SetClientId}
 use Rattle.gm_packet.specs.Requests.{Asked}
 use Rattle.gm_packet.specs.Answers.{echo_res}
-use Rattle.gm_admin.specs.Commands.{Asked as Commanded, Status, Workers, Version}
+use Rattle.gm_admin.specs.Commands.{Commanded, Status, Workers, Version}
 use Rattle.gm_admin.specs.Answers.{StatusLine, WorkerLine}
 use Rattle.gm_notes.specs.declared.note.Note.{Note}
 use Rattle.gm_notes.specs.declared.note.Note.TheVariants as notes
@@ -26,14 +26,14 @@ use Rattle.gm_notes.specs.Steps.{Step, Open, free_from, free_slot, opening, unle
 use Rattle.gm_notes.specs.declared.event.ApplyError.{ApplyError}
 use Rattle.std.proofs.lemmas.Option.{same_Some}
 use Rattle.gm_history.specs.History.{Allowed, History}
-use Rattle.gm_history.specs.Causes.{Caused, Asks, closes}
+use Rattle.gm_history.specs.Causes.{Caused, PacketAsks, closes}
 use Rattle.gm_history.proofs.Finding.{job_of, same_number}
 use Rattle.gm_history.proofs.StepsKeep.{run_history}
 use Rattle.gm_history.proofs.Caused.{note_law}
-use Rattle.gm_laws.specs.Laws.{AreNumbers, has_place}
+use Rattle.gm_laws.specs.Laws.{AreConsecutive, has_place}
 use Rattle.gm_laws.specs.Answered.{IsCommanded}
-use Rattle.gm_laws.specs.Firsts.{can_do}
-use Rattle.gm_laws.specs.Lines.{is_in, AreApart, Counts, IsOf, IsTrueOf, StatusTells, IsRising, AreOpen, IsOfConnection, WorkersTells, AdminTellsTheTruth}
+use Rattle.gm_laws.specs.Firsts.{functions_of}
+use Rattle.gm_laws.specs.Lines.{is_in, AreApart, Counts, IsOf, IsTrueOf, StatusTells, IsRising, AreOpenSlots, IsOfConnection, WorkersTells, AdminTellsTheTruth}
 use Rattle.gm_laws.specs.Lines.{FunctionsGrow, ConnectionsAreNamed}
 use Rattle.gm_laws.proofs.JobLaws.{is_same, places, live_place, running_place, below_next}
 use Rattle.gm_laws.proofs.Moving.{both_not}
@@ -92,7 +92,7 @@ rising_apart (m ∷ ms) r = (by (is_in m ms) refl, rising_apart ms r.1)
     by false is = refl
 
 -- the numbers made are apart
-pub made_apart : (k : Settings) (ms : List ℕ) → AreNumbers k ms → AreApart ms
+pub made_apart : (k : Settings) (ms : List ℕ) → AreConsecutive k ms → AreApart ms
 made_apart k [] h = tt
 made_apart k (m ∷ ms) h = (by (is_in m ms) refl, made_apart k ms h.2)
   where
@@ -184,7 +184,7 @@ module _ (k : Settings) (l : List Note) (history : History k l) where
   abbrev opened : List ℕ
   opened = filter (λ c. is_open c l) (slots_from 0 k.slots)
 
-  opened_so : AreOpen l opened
+  opened_so : AreOpenSlots l opened
   opened_so = (
     rising_filtered (λ c. is_open c l) (slots_from 0 k.slots) (slots_rise 0 k.slots),
     λ c. by c (is_open c l) refl,
@@ -198,9 +198,9 @@ module _ (k : Settings) (l : List Note) (history : History k l) where
       by c true is = let lt = slots k l history c is in in_kept (λ c. is_open c l) c (slots_from 0 k.slots) (slots_there c 0 k.slots (omega arith) (omega arith)) is
       by c false is = none c is (is_in c (filter (λ c. is_open c l) (slots_from 0 k.slots))) refl
 
-  workers_true : AreOpen l (map (λ (row : WorkerLine). row.slot) (worker_rows k l)) × All (IsOfConnection l) (worker_rows k l)
+  workers_true : AreOpenSlots l (map (λ (row : WorkerLine). row.slot) (worker_rows k l)) × All (IsOfConnection l) (worker_rows k l)
   workers_true = (
-    subst (AreOpen l) (sym (back (λ (row : WorkerLine). row.slot) worker_row (λ c. refl) opened)) opened_so,
+    subst (AreOpenSlots l) (sym (back (λ (row : WorkerLine). row.slot) worker_row (λ c. refl) opened)) opened_so,
     All-map (IsOfConnection l) worker_row opened (each (λ c. IsOfConnection l (worker_row c)) (λ c. (refl, refl, refl)) opened),
   )
 
@@ -220,7 +220,7 @@ module _ (k : Settings) (s : Step) (start : Past) (history : History k start.not
       subst (λ after. WorkersTells c start after × (after.notes ≡ start.notes)) (sym (commanded c Workers is))
       ((worker_rows k start.notes, refl, (workers_true k start.notes history).0, (workers_true k start.notes history).1), refl)
 
-  echoes : (c : ℕ) (asked : Asked) → takes_units c start.notes ≡ true → Asks c s asked → asked.kind ≡ EchoReq → step k s start ≡ give c (echo_res (first asked.arguments)) start
+  echoes : (c : ℕ) (asked : Asked) → takes_units c start.notes ≡ true → PacketAsks c s asked → asked.kind ≡ EchoReq → step k s start ≡ give c (echo_res (first asked.arguments)) start
   echoes c asked takes a is = request_does k s start c asked takes a ∙ ap (λ kind. request k c kind asked.arguments asked.timeout start) is
 
 pub admin : (k : Settings) (steps : List Step) (s : Step) → AdminTellsTheTruth k (run k steps) s (run k (s ∷ steps))
@@ -262,20 +262,20 @@ opens_free k start addr c shut e = by (refusal k (Open addr) start) (free_slot k
     by None (Some d) e = at d (c == d) refl e
 
 module _ (k : Settings) (s : Step) (start : Past) (history : History k start.notes) (c : ℕ) where
-  not_both_ways : (address : List ℕ) (d : ℕ) (asked : Asked) → s ≡ Open address → Asks d s asked → ⊥
-  not_both_ways address d asked is a = subst (λ x. Asks d x asked) is a
+  not_both_ways : (address : List ℕ) (d : ℕ) (asked : Asked) → s ≡ Open address → PacketAsks d s asked → ⊥
+  not_both_ways address d asked is a = subst (λ x. PacketAsks d x asked) is a
 
   -- ---- as it is opened
 
   abbrev NewSo : List Note → Type 0
-  NewSo l = is_open c l ≡ true → (is_open c start.notes ≡ true) ⊎ ((s ≡ Open (addr c l)) × (id c l ≡ []) × (can_do c l ≡ []))
+  NewSo l = is_open c l ≡ true → (is_open c start.notes ≡ true) ⊎ ((s ≡ Open (addr c l)) × (id c l ≡ []) × (functions_of c l ≡ []))
 
   -- a note of a request
-  asked_new : (note : Note) (older : List Note) (d : ℕ) (asked : Asked) → Asks d s asked → (is_open c (note ∷ older) ≡ true → is_open c older ≡ true) → NewSo older → NewSo (note ∷ older)
+  asked_new : (note : Note) (older : List Note) (d : ℕ) (asked : Asked) → PacketAsks d s asked → (is_open c (note ∷ older) ≡ true → is_open c older ≡ true) → NewSo older → NewSo (note ∷ older)
   asked_new note older d asked a opened p e = by (p (opened e))
     where
-      by : (is_open c start.notes ≡ true) ⊎ ((s ≡ Open (addr c older)) × (id c older ≡ []) × (can_do c older ≡ []))
-          → (is_open c start.notes ≡ true) ⊎ ((s ≡ Open (addr c (note ∷ older))) × (id c (note ∷ older) ≡ []) × (can_do c (note ∷ older) ≡ []))
+      by : (is_open c start.notes ≡ true) ⊎ ((s ≡ Open (addr c older)) × (id c older ≡ []) × (functions_of c older ≡ []))
+          → (is_open c start.notes ≡ true) ⊎ ((s ≡ Open (addr c (note ∷ older))) × (id c (note ∷ older) ≡ []) × (functions_of c (note ∷ older) ≡ []))
       by (inl was) = inl was
       by (inr new) = absurd (not_both_ways (addr c older) d asked new.0 a)
 
@@ -283,13 +283,13 @@ module _ (k : Settings) (s : Step) (start : Past) (history : History k start.not
   new_more (notes.Opened d address) older cause p e = by (c == d) refl e
     where
       by : (t : Bool) → (c == d) ≡ t → unwrap_or (cond t (Some true) None) (is_open c older) ≡ true
-          → (is_open c start.notes ≡ true) ⊎ ((s ≡ Open (addr c (notes.Opened d address ∷ older))) × (id c (notes.Opened d address ∷ older) ≡ []) × (can_do c (notes.Opened d address ∷ older) ≡ []))
+          → (is_open c start.notes ≡ true) ⊎ ((s ≡ Open (addr c (notes.Opened d address ∷ older))) × (id c (notes.Opened d address ∷ older) ≡ []) × (functions_of c (notes.Opened d address ∷ older) ≡ []))
       by true is e = inr (rw is cause, rw is refl, rw is refl)
       by false is e = rw is (p e)
   new_more (notes.Closed d) older cause p e = by (c == d) refl e
     where
       by : (t : Bool) → (c == d) ≡ t → unwrap_or (cond t (Some false) None) (is_open c older) ≡ true
-          → (is_open c start.notes ≡ true) ⊎ ((s ≡ Open (addr c older)) × (id c older ≡ []) × (can_do c (notes.Closed d ∷ older) ≡ []))
+          → (is_open c start.notes ≡ true) ⊎ ((s ≡ Open (addr c older)) × (id c older ≡ []) × (functions_of c (notes.Closed d ∷ older) ≡ []))
       by true is e = absurd cc
       by false is e = rw is (p e)
   new_more (notes.Named d name) older cause p e = asked_new (notes.Named d name) older d cause.0 cause.1 (λ o. o) p e
@@ -299,11 +299,11 @@ module _ (k : Settings) (s : Step) (start : Past) (history : History k start.not
   new_more note older cause p e = p e
 
   new_so : is_open c start.notes ≡ false → is_open c (step k s start).notes ≡ true
-      → (s ≡ Open (addr c (step k s start).notes)) × (id c (step k s start).notes ≡ []) × (can_do c (step k s start).notes ≡ [])
+      → (s ≡ Open (addr c (step k s start).notes)) × (id c (step k s start).notes ≡ []) × (functions_of c (step k s start).notes ≡ [])
   new_so shut e = by (note_law k s start history NewSo (λ note older allowed cause h p. new_more note older cause p) (λ o. inl o) e)
     where
-      by : (is_open c start.notes ≡ true) ⊎ ((s ≡ Open (addr c (step k s start).notes)) × (id c (step k s start).notes ≡ []) × (can_do c (step k s start).notes ≡ []))
-          → (s ≡ Open (addr c (step k s start).notes)) × (id c (step k s start).notes ≡ []) × (can_do c (step k s start).notes ≡ [])
+      by : (is_open c start.notes ≡ true) ⊎ ((s ≡ Open (addr c (step k s start).notes)) × (id c (step k s start).notes ≡ []) × (functions_of c (step k s start).notes ≡ []))
+          → (s ≡ Open (addr c (step k s start).notes)) × (id c (step k s start).notes ≡ []) × (functions_of c (step k s start).notes ≡ [])
       by (inl o) = absurd (both_not (is_open c start.notes) o shut)
       by (inr new) = new
 
@@ -315,7 +315,7 @@ module _ (k : Settings) (s : Step) (start : Past) (history : History k start.not
   -- ---- as it goes on
 
   abbrev Names : List Note → Type 0
-  Names l = (id c l ≡ id c start.notes) ⊎ ((asked : Asked) × Asks c s asked × (asked.kind ≡ SetClientId) × (first asked.arguments ≡ id c l))
+  Names l = (id c l ≡ id c start.notes) ⊎ ((asked : Asked) × PacketAsks c s asked × (asked.kind ≡ SetClientId) × (first asked.arguments ≡ id c l))
 
   record CalledSo (l : List Note) : Type 0 where
     there : (is_open c l ≡ true) ⊎ (closes c s ≡ true)
@@ -336,15 +336,15 @@ module _ (k : Settings) (s : Step) (start : Past) (history : History k start.not
       by false is there = there
   called_more (notes.Named d name) older allowed cause p = record { there = p.there; address = p.address; named = by (c == d) refl }
     where
-      by : (t : Bool) → (c == d) ≡ t → (unwrap_or (cond t (Some name) None) (id c older) ≡ id c start.notes) ⊎ ((asked : Asked) × Asks c s asked × (asked.kind ≡ SetClientId) × (first asked.arguments ≡ unwrap_or (cond t (Some name) None) (id c older)))
-      by true is = inr (cause.0, subst (λ x. Asks x s cause.0) (sym (is_same c d is)) cause.1, cause.2, cause.3)
+      by : (t : Bool) → (c == d) ≡ t → (unwrap_or (cond t (Some name) None) (id c older) ≡ id c start.notes) ⊎ ((asked : Asked) × PacketAsks c s asked × (asked.kind ≡ SetClientId) × (first asked.arguments ≡ unwrap_or (cond t (Some name) None) (id c older)))
+      by true is = inr (cause.0, subst (λ x. PacketAsks x s cause.0) (sym (is_same c d is)) cause.1, cause.2, cause.3)
       by false is = p.named
   called_more note older allowed cause p = record { there = p.there; address = p.address; named = p.named }
 
   called_so : is_open c start.notes ≡ true → CalledSo (step k s start).notes
   called_so o = note_law k s start history CalledSo (λ note older allowed cause h p. called_more note older allowed cause p) (record { there = inl o; address = refl; named = inl refl })
 
-  names_itself : (asked : Asked) → takes_units c start.notes ≡ true → Asks c s asked → asked.kind ≡ SetClientId → id c (step k s start).notes ≡ first asked.arguments
+  names_itself : (asked : Asked) → takes_units c start.notes ≡ true → PacketAsks c s asked → asked.kind ≡ SetClientId → id c (step k s start).notes ≡ first asked.arguments
   names_itself asked takes a is =
       let here : id c (notes.Named c (first asked.arguments) ∷ start.notes) ≡ first asked.arguments = rw (same_number c) refl in
       ap (λ (past : Past). id c past.notes) (request_does k s start c asked takes a ∙ ap (λ kind. request k c kind asked.arguments asked.timeout start) is) ∙ here

@@ -5,7 +5,7 @@ use Rattle.std.specs.Prelude.{◌==◌, unwrap_or}
 use Rattle.std.proofs.lemmas.Bool.{and_parts, and_from}
 use Rattle.std.proofs.lemmas.Bool.Decides.{nat_tests}
 use Rattle.gm_admin.specs.declared.fault.AdminFault.{AdminFault}
-use Rattle.gm_admin.specs.Commands.{Asked as Commanded, Shutdown, command_of}
+use Rattle.gm_admin.specs.Commands.{Commanded, Shutdown, command_of}
 use Rattle.gm_notes.specs.declared.states.Mode.{Mode}
 use Rattle.gm_notes.specs.declared.states.Mode.TheVariants.{Running, Graceful, Stopped}
 use Rattle.gm_notes.specs.declared.note.Note.{Note}

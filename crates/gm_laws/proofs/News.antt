@@ -26,7 +26,7 @@ use Rattle.gm_history.proofs.Finding.{same_number}
 use Rattle.gm_history.proofs.Keeping.{kept_if}
 use Rattle.gm_history.proofs.StepsKeep.{taken_or_not, packet_of_kinds, run_history}
 use Rattle.gm_history.proofs.Caused.{note_law}
-use Rattle.gm_laws.specs.Laws.{is_made}
+use Rattle.gm_laws.specs.Laws.{was_made}
 use Rattle.gm_laws.specs.Lines.{is_in, AreApart}
 use Rattle.std.proofs.lemmas.Bool.{or_left}
 use Rattle.gm_laws.specs.Done.{IsOpenedBy, IsMadeBy, AnswersNameWhatIsNew}
@@ -113,7 +113,7 @@ module _ (k : Settings) (start : Past) (history : History k start.notes) where
       let all : (length (made after.notes) == length (made start.notes)) ≡ true = ap (λ l. length l == length (made start.notes)) same ∙ same_number (length (made start.notes)) in
       ap (λ t. cond t None (newest (made after.notes))) all in (
         (λ e. let bad : None ≡ Some n = sym none ∙ e in let worse : ⊥ = cc in absurd worse),
-        λ m. absurd (both_not (is_made n after.notes) m.1 (ap (is_in n) same ∙ m.0)),
+        λ m. absurd (both_not (was_made n after.notes) m.1 (ap (is_in n) same ∙ m.0)),
       )
   names_job n after h (inr (m, more)) =
       let apart = made_apart k (made after.notes) (numbers k after.notes h) in
@@ -129,7 +129,7 @@ module _ (k : Settings) (start : Past) (history : History k start.notes) where
 
       by : m ≡ n → AreApart (m ∷ made start.notes) → IsMadeBy n start after
       by same a = (
-        subst (λ x. is_made x start.notes ≡ false) same a.0,
+        subst (λ x. was_made x start.notes ≡ false) same a.0,
         subst (λ l. is_in n l ≡ true) (sym more) (or_left (m == n) (is_in n (made start.notes)) (subst (λ x. (m == x) ≡ true) same (same_number m))),
       )
 

@@ -11,7 +11,7 @@ use Rattle.gm_notes.specs.Settings.{Settings}
 use Rattle.gm_notes.specs.Notes.{is_open}
 use Rattle.gm_notes.specs.Jobs.{made, next_number}
 use Rattle.gm_history.specs.History.{History}
-use Rattle.gm_laws.specs.Laws.{AreNumbers, AreSlots}
+use Rattle.gm_laws.specs.Laws.{AreConsecutive, AreSlots}
 
 -- ---- numbers
 
@@ -24,7 +24,7 @@ next_at k older n false is e = absurd cc
 pub next_is : (k : Settings) (older : List Note) (n : ℕ) → next_number k older ≡ Some n → (n ≡ k.first_job + length (made older)) × (n < 2 ^ 64)
 next_is k older n e = next_at k older n (ltb (k.first_job + length (made older)) (2 ^ 64)) refl e
 
-pub numbers : (k : Settings) (notes : List Note) → History k notes → AreNumbers k (made notes)
+pub numbers : (k : Settings) (notes : List Note) → History k notes → AreConsecutive k (made notes)
 numbers k [] h = tt
 numbers k (Made n f p u body ∷ older) h =
     let is = next_is k older n h.0.0 in

@@ -14,7 +14,7 @@ use Rattle.gm_notes.specs.declared.states.Priority.{Priority}
 use Rattle.gm_notes.specs.declared.states.Priority.TheVariants.{High, Normal, Low}
 use Rattle.gm_notes.specs.declared.states.Pick.{Pick}
 use Rattle.gm_notes.specs.Settings.{Settings}
-use Rattle.gm_notes.specs.Jobs.{Job, Ability, job_state, job, as_they_came, same_priority, is_job_with, is_queued, queue, waiting_for, first_of, pick_from, scan}
+use Rattle.gm_notes.specs.Jobs.{Job, Ability, job_state, job, as_they_came, same_priority, rank, is_job_with, is_queued, queue, waiting_for, first_of, pick_from, scan}
 use Rattle.gm_notes.specs.JobStates.{JobState, is_waiting}
 use Rattle.gm_notes.specs.JobStates as states
 use Rattle.gm_notes.specs.Past.{Past}
@@ -22,7 +22,7 @@ use Rattle.gm_notes.specs.Steps.{Step, Close, step, run}
 use Rattle.gm_history.specs.History.{runs_at_a_slot, Allowed, History}
 use Rattle.gm_history.specs.Causes.{Caused, asks, is_grab}
 use Rattle.gm_laws.specs.Laws.{has_place}
-use Rattle.gm_laws.specs.Waiting.{rank, came, GoesBefore, GivesTheFirst, NothingGetsInBefore, FirstComeFirstServed}
+use Rattle.gm_laws.specs.Waiting.{came, GoesBefore, GivesTheFirst, NothingGetsInBefore, FirstComeFirstServed}
 use Rattle.gm_history.proofs.Finding.{WaitsFor, waiting_for_waits, job_of, same_number}
 use Rattle.gm_laws.proofs.JobLaws.{is_same, unmade, place_still}
 use Rattle.gm_laws.proofs.Moving.{from, moved, In, both_not}

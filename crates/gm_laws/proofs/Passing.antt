@@ -22,7 +22,7 @@ use Rattle.gm_notes.specs.Steps.{Packet, run, step}
 use Rattle.gm_history.specs.History.{History}
 use Rattle.gm_history.specs.Hearing.{AllOpen}
 use Rattle.gm_laws.specs.Laws.{has_place}
-use Rattle.gm_laws.specs.Listeners.{outputs, Queues, hears, WhatWorkersSayIsPassedOn}
+use Rattle.gm_laws.specs.Listeners.{outputs, Queues, times_heard, WhatWorkersSayIsPassedOn}
 use Rattle.gm_history.specs.Hearing.{listens, passed_on}
 use Rattle.gm_history.proofs.Finding.{same_number}
 use Rattle.gm_laws.proofs.JobLaws.{is_same}
@@ -118,7 +118,7 @@ module _ (k : Settings) (worker n : ℕ) (start : Past) (history : History k sta
       works w (first a) names c ∙ ap (λ (x : Answer). outputs c start.flow ++ replicate (heard w.exceptions_only c n start.notes) (answer_packet x)) is
 
   asks : (kind : Kind) (a : List (List ℕ)) (timeout : ℕ) (answer : Answer) → first a ≡ handle k n → passed_on k n kind a ≡ Some answer → (c : ℕ)
-      → Queues c (replicate (hears c n kind start.notes) (answer_packet answer)) start (request k worker kind a timeout start)
+      → Queues c (replicate (times_heard c n kind start.notes) (answer_packet answer)) start (request k worker kind a timeout start)
   asks WorkStatus a timeout answer names is c =
       passes (record (passing (work_status (first a) (second a) (third a))) { report = Some (second a, third a) }) a answer names
       (ap (λ h. work_status h (second a) (third a)) names ∙ same_Some (work_status (handle k n) (second a) (third a)) answer is) c
@@ -140,7 +140,7 @@ module _ (k : Settings) (worker n : ℕ) (start : Past) (history : History k sta
 pub passed : (k : Settings) (start : Past) → History k start.notes → (worker n number : ℕ) (bytes : List ℕ) (asked : Asked) (answer : Answer)
     → takes_units worker start.notes ≡ true → job_state n start.notes ≡ states.Running worker
     → request_of number bytes ≡ Ok asked → first asked.arguments ≡ handle k n → passed_on k n asked.kind asked.arguments ≡ Some answer
-    → (c : ℕ) → Queues c (replicate (hears c n asked.kind start.notes) (answer_packet answer)) start (step k (Packet worker number bytes) start)
+    → (c : ℕ) → Queues c (replicate (times_heard c n asked.kind start.notes) (answer_packet answer)) start (step k (Packet worker number bytes) start)
 passed k start history worker n number bytes asked answer takes runs reads names is c =
     ap (λ (past : Past). outputs c past.flow)
     (taken_is (takes_units worker start.notes) (packet_of k worker (kind_of number) bytes start) start takes ∙ packet_does bytes asked k worker start (kind_of number) reads)

@@ -24,7 +24,7 @@ use Rattle.gm_admin.specs.declared.fault.AdminFault.{AdminFault}
 use Rattle.gm_admin.specs.declared.fault.AdminFault.TheVariants as faults
 use Rattle.gm_admin.specs.declared.fault.AdminError.{AdminError}
 use Rattle.gm_admin.specs.declared.fault.AdminError.TheVariants as errors
-use Rattle.gm_admin.specs.Commands.{Asked as Commanded, MaxQueue, command_of}
+use Rattle.gm_admin.specs.Commands.{Commanded, MaxQueue, command_of}
 use Rattle.gm_notes.specs.declared.states.Priority.{Priority}
 use Rattle.gm_notes.specs.declared.states.Priority.TheVariants.{High, Normal, Low}
 use Rattle.gm_notes.specs.declared.states.Pick.{Pick}
@@ -51,8 +51,8 @@ use Rattle.gm_history.specs.Causes.{is_enabling, is_submission}
 use Rattle.gm_history.proofs.Finding.{joined_is}
 use Rattle.gm_history.proofs.Keeping.{handled_is, runs_there}
 use Rattle.gm_history.proofs.StepsKeep.{run_history}
-use Rattle.gm_laws.specs.Submitted.{JoinsNone}
-use Rattle.gm_laws.specs.Refusals.{IsError, IsErr, IsBadName, IsBadWord, IsOneTooMany, IsFull, names_function, names_run, BringsFunction}
+use Rattle.gm_laws.specs.Submitted.{JoinsNone, IsBadName}
+use Rattle.gm_laws.specs.Refusals.{IsError, IsErr, IsBadWord, IsOneTooMany, IsAtLimit, names_function, names_run, BringsFunction}
 use Rattle.gm_laws.specs.Refusals.{HasReason, IsUnserved, IsErroneous, IsToldOf, answers, AllAnswer, JustAnswers, RefusalsHaveTheirReason}
 use Rattle.gm_laws.proofs.Created.{bad_name, too_many, full, joins_so, mention_flow, request_answered, Answered as SubmittedSo}
 use Rattle.gm_laws.proofs.Handles.{handle_names}
@@ -103,13 +103,13 @@ word_well f good = is_false (is_bad_word f) (λ e. good (bad_word f e))
 few_still : (k : Settings) (f : List ℕ) (past : Past) → (IsOneTooMany k f past.notes → ⊥) → is_one_too_many k f past.notes ≡ false
 few_still k f past few = is_false (is_one_too_many k f past.notes) (λ e. few (too_many k f past.notes e))
 
-full_so : (f : List ℕ) (past : Past) → IsFull f past.notes → is_full f past.notes ≡ true
+full_so : (f : List ℕ) (past : Past) → IsAtLimit f past.notes → is_full f past.notes ≡ true
 full_so f past m =
     let some : (limit f past.notes == 0) ≡ false = let lt = m.0 in grind (arith, nat_tests) in
     let le : nat_le (limit f past.notes) (total f past.notes) ≡ true = let less = m.1 in grind (arith, nat_tests) in
     rw (some, le) refl
 
-room_so : (f : List ℕ) (past : Past) → (IsFull f past.notes → ⊥) → is_full f past.notes ≡ false
+room_so : (f : List ℕ) (past : Past) → (IsAtLimit f past.notes → ⊥) → is_full f past.notes ≡ false
 room_so f past room = is_false (is_full f past.notes) (λ e. room (full f past.notes e))
 
 numberless : (k : Settings) (past : Past) → 2 ^ 64 ≤ k.first_job + length (made past.notes) → next_number k past.notes ≡ None
@@ -148,10 +148,10 @@ module _ (k : Settings) (c : ℕ) (start : Past) where
     submit_many : (IsBadName f → ⊥) → JoinsNone asked start → IsOneTooMany k f start.notes → submit k c sub start ≡ refuse c (codes "too_many_functions") start
     submit_many good none many = rw (named_well f good, none_joined asked start none, many_too k f start many) refl
 
-    submit_full : (IsBadName f → ⊥) → JoinsNone asked start → (IsOneTooMany k f start.notes → ⊥) → IsFull f start.notes → submit k c sub start ≡ refuse c (codes "queue_full") start
+    submit_full : (IsBadName f → ⊥) → JoinsNone asked start → (IsOneTooMany k f start.notes → ⊥) → IsAtLimit f start.notes → submit k c sub start ≡ refuse c (codes "queue_full") start
     submit_full good none few fills = rw (named_well f good, none_joined asked start none, few_still k f start few, full_so f start fills) refl
 
-    submit_last : (IsBadName f → ⊥) → JoinsNone asked start → (IsOneTooMany k f start.notes → ⊥) → (IsFull f start.notes → ⊥) → 2 ^ 64 ≤ k.first_job + length (made start.notes)
+    submit_last : (IsBadName f → ⊥) → JoinsNone asked start → (IsOneTooMany k f start.notes → ⊥) → (IsAtLimit f start.notes → ⊥) → 2 ^ 64 ≤ k.first_job + length (made start.notes)
         → submit k c sub start ≡ refuse c (codes "no_numbers") start
     submit_last good none few room most = rw (named_well f good, none_joined asked start none, few_still k f start few, room_so f start room, numberless k start most) refl
 
@@ -354,7 +354,7 @@ module _ (k : Settings) (c : ℕ) (start : Past) (history : History k start.note
       many_then : IsOneTooMany k (first a) start.notes → Answered kind (request k c kind a timeout start)
       many_then many = inl (codes "too_many_functions", inr (inl (refl, good, inr (submits, none), many)))
 
-      fills_then : IsFull (first a) start.notes → Answered kind (request k c kind a timeout start)
+      fills_then : IsAtLimit (first a) start.notes → Answered kind (request k c kind a timeout start)
       fills_then fills = by (is_one_too_many k (first a) start.notes) refl
         where
           by : (t : Bool) → is_one_too_many k (first a) start.notes ≡ t → Answered kind (request k c kind a timeout start)

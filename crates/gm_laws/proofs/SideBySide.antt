@@ -14,7 +14,7 @@ use Rattle.gm_packet.specs.Requests.{Asked, read_as}
 use Rattle.gm_packet.specs.Answers.{Answer, status_res, echo_res, option_res, work_status, work_complete, work_fail, work_data}
 use Rattle.gm_packet.specs.Answers.{work_warning, work_exception, job_created, no_job}
 use Rattle.gm_admin.specs.declared.fault.AdminFault.{AdminFault}
-use Rattle.gm_admin.specs.Commands.{Asked as Commanded, Status, Workers, MaxQueue, Version, Shutdown, command_of}
+use Rattle.gm_admin.specs.Commands.{Commanded, Status, Workers, MaxQueue, Version, Shutdown, command_of}
 use Rattle.gm_admin.specs.Answers.{status_text, workers_text}
 use Rattle.gm_notes.specs.declared.states.Priority.TheVariants.{High, Normal, Low}
 use Rattle.gm_notes.specs.declared.states.Mode.{Mode}

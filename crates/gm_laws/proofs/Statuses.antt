@@ -25,8 +25,8 @@ use Rattle.gm_notes.specs.Workers.{Work}
 use Rattle.gm_notes.specs.Requests.{first, second, third, passing, request, tell_status, packet_of}
 use Rattle.gm_notes.specs.Steps.{Step, Packet, unless, unless_not_open, step, run}
 use Rattle.gm_history.specs.History.{Allowed, History}
-use Rattle.gm_history.specs.Causes.{Caused, Asks}
-use Rattle.gm_laws.specs.Statuses.{is_reporting, numbers_of, reported, last_reported, TellsOfJob, TellsOfNone, StatusIsTrue}
+use Rattle.gm_history.specs.Causes.{Caused, PacketAsks}
+use Rattle.gm_laws.specs.Statuses.{is_reporting, numbers_of, reported_numbers, last_reported, TellsOfJob, TellsOfNone, StatusIsTrue}
 use Rattle.gm_history.proofs.Asking.{packet_does}
 use Rattle.gm_history.proofs.Finding.{same_number}
 use Rattle.gm_laws.proofs.Handles.{handle_names}
@@ -135,7 +135,7 @@ module _ (k : Settings) (n : ℕ) (start : Past) (history : History k start.note
 still_told : (k : Settings) (n : ℕ) (s : Step) (start : Past) → ((c number : ℕ) (bytes : List ℕ) → s ≡ Packet c number bytes → ⊥) → History k start.notes → report n (step k s start).notes ≡ report n start.notes
 still_told k n s start other history = note_law k s start history (λ l. report n l ≡ report n start.notes) (λ note older allowed cause h p. more note older allowed cause h p) refl
   where
-    asked_by : (c : ℕ) (asked : Asked) (s : Step) → ((d number : ℕ) (bytes : List ℕ) → s ≡ Packet d number bytes → ⊥) → Asks c s asked → ⊥
+    asked_by : (c : ℕ) (asked : Asked) (s : Step) → ((d number : ℕ) (bytes : List ℕ) → s ≡ Packet d number bytes → ⊥) → PacketAsks c s asked → ⊥
     asked_by c asked (Packet d number bytes) other a = other d number bytes refl
     asked_by c asked s other a = a
 
@@ -144,7 +144,7 @@ still_told k n s start other history = note_law k s start history (λ l. report 
     more (notes.Report m a b) older allowed cause h e = absurd (asked_by cause.0 cause.1 s other cause.2)
     more note older allowed cause h e = e
 
-step_reports : (k : Settings) (n : ℕ) (s : Step) (start : Past) → History k start.notes → report n (step k s start).notes ≡ unwrap_or (reported k n start s) (report n start.notes)
+step_reports : (k : Settings) (n : ℕ) (s : Step) (start : Past) → History k start.notes → report n (step k s start).notes ≡ unwrap_or (reported_numbers k n start s) (report n start.notes)
 step_reports k n (Packet c number bytes) start history = by (takes_units c start.notes) refl
   where
     by : (t : Bool) → takes_units c start.notes ≡ t
@@ -156,7 +156,7 @@ step_reports k n s start history = still_told k n s start (λ c number bytes e. 
 -- what is told is what was last reported
 pub told_is_reported : (k : Settings) (n : ℕ) (steps : List Step) → report n (run k steps).notes ≡ last_reported k n steps
 told_is_reported k n [] = refl
-told_is_reported k n (s ∷ earlier) = step_reports k n s (run k earlier) (run_history k earlier) ∙ ap (unwrap_or (reported k n (run k earlier) s)) (told_is_reported k n earlier)
+told_is_reported k n (s ∷ earlier) = step_reports k n s (run k earlier) (run_history k earlier) ∙ ap (unwrap_or (reported_numbers k n (run k earlier) s)) (told_is_reported k n earlier)
 
 -- ---- the answer
 

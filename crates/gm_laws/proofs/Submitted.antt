@@ -25,8 +25,8 @@ use Rattle.gm_notes.specs.Workers.{wake_itself, deadline_after, assignment, tell
 use Rattle.gm_notes.specs.Requests.{request, request_if_read, packet_of}
 use Rattle.gm_notes.specs.Steps.{Step, Packet, unless, unless_not_open, step, run}
 use Rattle.gm_history.specs.History.{Gets, Allowed, History}
-use Rattle.gm_history.specs.Causes.{Caused, is_one_of, asks, Asks, Submits, is_submission, is_grab, JustQueues}
-use Rattle.gm_laws.specs.Submitted.{assigned, MakesJob, GivesTheJob, WhatIsSubmittedIsWorkedOn}
+use Rattle.gm_history.specs.Causes.{Caused, is_one_of, asks, PacketAsks, Submits, is_submission, is_grab, JustQueues}
+use Rattle.gm_laws.specs.Submitted.{grab_answer, MakesJob, GivesTheJob, WhatIsSubmittedIsWorkedOn}
 use Rattle.gm_laws.specs.Turns.{One}
 use Rattle.gm_history.proofs.Asking.{kind_read, submission_kind}
 use Rattle.gm_laws.proofs.Created.{Answered, packet_answered}
@@ -63,12 +63,12 @@ module _ (k : Settings) (s : Step) (start : Past) (history : History k start.not
 
   -- it is what it was, or the step is a submission
   abbrev KnownSo : List Note → Type 0
-  KnownSo l = (job n l ≡ job n start.notes) ⊎ ((c : ℕ) × (asked : Asked) × Asks c s asked × (is_submission asked.kind ≡ true))
+  KnownSo l = (job n l ≡ job n start.notes) ⊎ ((c : ℕ) × (asked : Asked) × PacketAsks c s asked × (is_submission asked.kind ≡ true))
 
   submitted_more : (note : Note) (older : List Note) → Caused k start.notes s note older → KnownSo older → KnownSo (note ∷ older)
   submitted_more (notes.Made m f p u body) older cause e = by (n == m)
     where
-      by : (t : Bool) → (unwrap_or (cond t (Some (Some (record { function = f; priority = p; unique = u; body = body }))) None) (job n older) ≡ job n start.notes) ⊎ ((c : ℕ) × (asked : Asked) × Asks c s asked × (is_submission asked.kind ≡ true))
+      by : (t : Bool) → (unwrap_or (cond t (Some (Some (record { function = f; priority = p; unique = u; body = body }))) None) (job n older) ≡ job n start.notes) ⊎ ((c : ℕ) × (asked : Asked) × PacketAsks c s asked × (is_submission asked.kind ≡ true))
       by true = inr (cause.0, cause.1, cause.2, submission_kind cause.1.kind p cause.3.0)
       by false = e
   submitted_more note older cause e = e
@@ -82,13 +82,13 @@ module _ (k : Settings) (n : ℕ) (what : Job) (earlier : List Step) (none : job
 
   abbrev Makes : Step → Past → Type 0
   Makes s after = job n after.notes ≡ Some what →
-      (c : ℕ) × (asked : Asked) × Asks c s asked × Submits asked what × (job n start.notes ≡ None) × JustQueues c (job_created (handle k n)) start after
+      (c : ℕ) × (asked : Asked) × PacketAsks c s asked × Submits asked what × (job n start.notes ≡ None) × JustQueues c (job_created (handle k n)) start after
 
   -- nothing is new where the notes are the same
   same_makes : (s : Step) (after : Past) → job n after.notes ≡ job n start.notes → Makes s after
   same_makes s after same e = let bad : None ≡ Some what = sym none ∙ (sym same ∙ e) in absurd cc
 
-  answered_makes : (c : ℕ) (asked : Asked) (s : Step) (after : Past) → Asks c s asked → Answered k c asked start after → Makes s after
+  answered_makes : (c : ℕ) (asked : Asked) (s : Step) (after : Past) → PacketAsks c s asked → Answered k c asked start after → Makes s after
   answered_makes c asked s after a (inr r) e = same_makes s after (ap (job n) r.3) e
   answered_makes c asked s after a (inl r) e = from (r.others n) (λ same. same_makes s after same e)
       (λ x.
@@ -96,7 +96,7 @@ module _ (k : Settings) (n : ℕ) (what : Job) (earlier : List Step) (none : job
       let same : x.1.0 ≡ what = same_Some x.1.0 what (sym x.1.1 ∙ here) in
       (c, asked, a, subst (Submits asked) same x.1.2, none, subst (λ m. JustQueues c (job_created (handle k m)) start after) (sym x.0) r.queued))
 
-  packet_makes : (c d number : ℕ) (bytes : List ℕ) (asked : Asked) → Asks c (Packet d number bytes) asked → is_submission asked.kind ≡ true → Makes (Packet d number bytes) (run k (Packet d number bytes ∷ earlier))
+  packet_makes : (c d number : ℕ) (bytes : List ℕ) (asked : Asked) → PacketAsks c (Packet d number bytes) asked → is_submission asked.kind ≡ true → Makes (Packet d number bytes) (run k (Packet d number bytes ∷ earlier))
   packet_makes c d number bytes asked a e = by (takes_units d start.notes) refl
     where
       by : (t : Bool) → takes_units d start.notes ≡ t → Makes (Packet d number bytes) (step k (Packet d number bytes) start)
@@ -106,7 +106,7 @@ module _ (k : Settings) (n : ℕ) (what : Job) (earlier : List Step) (none : job
   step_makes : (s : Step) → Makes s (run k (s ∷ earlier))
   step_makes s e = from (submitted_so k s start (run_history k earlier) n) (λ same. same_makes s (run k (s ∷ earlier)) same e) (λ x. by s x e)
     where
-      by : (s : Step) → (c : ℕ) × (asked : Asked) × Asks c s asked × (is_submission asked.kind ≡ true) → Makes s (run k (s ∷ earlier))
+      by : (s : Step) → (c : ℕ) × (asked : Asked) × PacketAsks c s asked × (is_submission asked.kind ≡ true) → Makes s (run k (s ∷ earlier))
       by (Packet d number bytes) x = packet_makes x.0 d number bytes x.1 x.2 x.3
       by other x = absurd x.2
 
@@ -125,9 +125,9 @@ each_submitted k (s ∷ earlier) n what e = by (job n (run k earlier).notes) ref
 module _ (k : Settings) (c : ℕ) (start : Past) (n : ℕ) (gets : Gets k c n start.notes) where
   -- what the job is, and that just this is told
   abbrev Given : Kind → Past → Type 0
-  Given kind after = (what : Job) × (answer : Answer) × (job n start.notes ≡ Some what) × (assigned k n what kind ≡ Some answer) × JustQueues c answer start after
+  Given kind after = (what : Job) × (answer : Answer) × (job n start.notes ≡ Some what) × (grab_answer k n what kind ≡ Some answer) × JustQueues c answer start after
 
-  assigned_is : (kind : Kind) (uniq : Bool) → ((what : Job) → assigned k n what kind ≡ Some (assignment k uniq n what)) → (o : Option Pick) → pick k c start.notes ≡ o → Given kind (give_out k c uniq o (wake_itself c start))
+  assigned_is : (kind : Kind) (uniq : Bool) → ((what : Job) → grab_answer k n what kind ≡ Some (assignment k uniq n what)) → (o : Option Pick) → pick k c start.notes ≡ o → Given kind (give_out k c uniq o (wake_itself c start))
   assigned_is kind uniq says None is = let bad = sym is ∙ gets.1 in absurd cc
   assigned_is kind uniq says (Some found) is =
       let there = pick_found k c found start.notes is in
@@ -154,7 +154,7 @@ module _ (k : Settings) (c : ℕ) (start : Past) (n : ℕ) (gets : Gets k c n st
   abbrev GivesIt : ℕ → List ℕ → Past → Type 0
   GivesIt number bytes after = job_state n after.notes ≡ states.Running c →
       (what : Job) × (asked : Asked) × (answer : Answer)
-      × (job n start.notes ≡ Some what) × (request_of number bytes ≡ Ok asked) × (assigned k n what asked.kind ≡ Some answer) × JustQueues c answer start after
+      × (job n start.notes ≡ Some what) × (request_of number bytes ≡ Ok asked) × (grab_answer k n what asked.kind ≡ Some answer) × JustQueues c answer start after
 
   module _ (waits : job_state n start.notes ≡ states.Waiting) where
     same_gives : (number : ℕ) (bytes : List ℕ) (after : Past) → job_state n after.notes ≡ job_state n start.notes → GivesIt number bytes after
@@ -182,7 +182,7 @@ gives_job k steps s n c waits runs =
   where
     by : (s : Step) → asks is_grab c s ≡ true → Gets k c n (run k steps).notes → job_state n (run k (s ∷ steps)).notes ≡ states.Running c
         → (what : Job) × (asked : Asked) × (answer : Answer)
-        × (job n (run k steps).notes ≡ Some what) × Asks c s asked × (assigned k n what asked.kind ≡ Some answer) × JustQueues c answer (run k steps) (run k (s ∷ steps))
+        × (job n (run k steps).notes ≡ Some what) × PacketAsks c s asked × (grab_answer k n what asked.kind ≡ Some answer) × JustQueues c answer (run k steps) (run k (s ∷ steps))
     by (Packet d number bytes) e gets runs =
         let parts = and_parts (c == d) (is_one_of is_grab (kind_of number)) e in
         let same = is_same c d parts.0 in

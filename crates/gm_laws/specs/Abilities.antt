@@ -8,13 +8,13 @@ use Rattle.gm_notes.specs.Jobs.{is_able}
 use Rattle.gm_notes.specs.Past.{Past}
 use Rattle.gm_notes.specs.Requests.{first}
 use Rattle.gm_notes.specs.Steps.{Step}
-use Rattle.gm_history.specs.Causes.{Asks, seconds_of, closes}
+use Rattle.gm_history.specs.Causes.{PacketAsks, job_seconds, closes}
 use Rattle.gm_history.specs.History.{is_able_within}
 use Rattle.gm_laws.specs.Refusals.{IsError, HasReason}
 
 -- what is asked is to do this function from now on, within these seconds
 abbrev pub Enables : Asked → List ℕ → ℕ → Type 0
-Enables asked f seconds = (first asked.arguments ≡ f) × (seconds_of asked.kind asked.timeout ≡ Some seconds)
+Enables asked f seconds = (first asked.arguments ≡ f) × (job_seconds asked.kind asked.timeout ≡ Some seconds)
 
 -- it is to do it no more
 abbrev pub Disables : Asked → List ℕ → Type 0
@@ -26,7 +26,7 @@ IsRejected k c asked before after = (code : List ℕ) × HasReason k c asked bef
 
 -- what a slot that takes units asks comes true, or is answered with an ERROR
 abbrev pub AbilitiesCome : Settings → Past → Step → Past → Type 0
-AbilitiesCome k before s after = (c : ℕ) (asked : Asked) (f : List ℕ) → takes_units c before.notes ≡ true → Asks c s asked →
+AbilitiesCome k before s after = (c : ℕ) (asked : Asked) (f : List ℕ) → takes_units c before.notes ≡ true → PacketAsks c s asked →
     ((seconds : ℕ) → Enables asked f seconds → (is_able_within c f seconds after.notes ≡ true) ⊎ IsRejected k c asked before after)
     × (Disables asked f → (is_able c f after.notes ≡ false) ⊎ IsRejected k c asked before after)
 
@@ -34,10 +34,10 @@ AbilitiesCome k before s after = (c : ℕ) (asked : Asked) (f : List ℕ) → ta
 abbrev pub AbilitiesStay : Past → Step → Past → Type 0
 AbilitiesStay before s after = (c : ℕ) (f : List ℕ) (seconds : ℕ) →
     (is_able_within c f seconds after.notes ≡ true →
-    (is_able_within c f seconds before.notes ≡ true) ⊎ ((asked : Asked) × Asks c s asked × Enables asked f seconds))
+    (is_able_within c f seconds before.notes ≡ true) ⊎ ((asked : Asked) × PacketAsks c s asked × Enables asked f seconds))
     × (is_able_within c f seconds before.notes ≡ true →
     (is_able_within c f seconds after.notes ≡ true) ⊎ ((closes c s ≡ true)
-    ⊎ ((asked : Asked) × Asks c s asked × (Disables asked f ⊎ ((other : ℕ) × Enables asked f other)))))
+    ⊎ ((asked : Asked) × PacketAsks c s asked × (Disables asked f ⊎ ((other : ℕ) × Enables asked f other)))))
 
 abbrev pub AbilitiesAreAsAsked : Settings → Past → Step → Past → Type 0
 AbilitiesAreAsAsked k before s after = AbilitiesCome k before s after × AbilitiesStay before s after

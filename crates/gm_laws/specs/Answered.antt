@@ -1,6 +1,6 @@
 -- Ticks, and the text lines whose answer is one line.
 use Rattle.std.specs.Prelude.{◌≡◌, ◌⊎◌, ℕ, Bool, true, max, List, ◌∷◌, None}
-use Rattle.gm_admin.specs.Commands.{Asked as Commanded, Shutdown}
+use Rattle.gm_admin.specs.Commands.{Commanded, Shutdown}
 use Rattle.gm_admin.specs.Answers.{ok_text}
 use Rattle.gm_notes.specs.Settings.{Settings}
 use Rattle.gm_notes.specs.Notes.{takes_units, moment}

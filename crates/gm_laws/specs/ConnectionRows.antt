@@ -8,28 +8,28 @@ use Rattle.gm_laws.specs.RowWords.{defaults, given_to, two_slots, four_slots, co
 use Rattle.gm_laws.specs.RowWords.{grab_job, work_complete, work_fail, get_status, echo_req, submit_job_bg, submit_job_high}
 use Rattle.gm_laws.specs.RowWords.{set_client_id, work_exception, option_req, work_data, submit_job_high_bg, line, page, counts, created, no_job}
 use Rattle.gm_laws.specs.RowWords.{assigned, completed, failed, data_was, status, echoed, option_set, error, Plays, Owes, Waits, IsSent}
-use Rattle.gm_laws.specs.RowWords.{Answers, opened, made, nothing_made, Stands, Refuses, Takes}
+use Rattle.gm_laws.specs.RowWords.{IsDone, opened, made, nothing_made, JobIsAt, Refuses, Takes}
 
 -- an opening gets the least slot that isn't open
 abbrev pub LeastSlot : Type 0
 LeastSlot =
-    Answers four_slots (
+    IsDone four_slots (
     connect ∷ connect ∷ connect ∷ Close 1 ∷ Close 0 ∷ []) (connect) (opened 0)
-    × Answers four_slots (
+    × IsDone four_slots (
     connect ∷ connect ∷ connect ∷ Close 1 ∷ Close 0 ∷ connect ∷ []) (connect) (opened 1)
-    × Answers four_slots (
+    × IsDone four_slots (
     connect ∷ connect ∷ connect ∷ Close 1 ∷ Close 0 ∷ connect ∷ connect ∷ []) (connect) (opened 3)
 
 -- a submission's receipt names the job that it made, if it made one
 abbrev pub MadeJobs : Type 0
 MadeJobs =
-    Answers four_slots (
+    IsDone four_slots (
     connect ∷ []) (submit_job 0 "f" "a" "1") (made 1)
-    × Answers four_slots (
+    × IsDone four_slots (
     connect ∷ submit_job 0 "f" "a" "1" ∷ []) (submit_job 0 "f" "a" "2") nothing_made
-    × Answers four_slots (
+    × IsDone four_slots (
     connect ∷ submit_job 0 "f" "a" "1" ∷ []) (submit_job 0 "" "b" "2") nothing_made
-    × Answers four_slots (
+    × IsDone four_slots (
     connect ∷ submit_job 0 "f" "a" "1" ∷ []) (submit_job_bg 0 "f" "" "2") (made 2)
 
 -- when every slot is open, another opening is refused
@@ -161,10 +161,10 @@ JobRetries =
     created 0 "H:gmd:1" ∷ assigned 1 "H:gmd:1" "f" "1" ∷ assigned 1 "H:gmd:1" "f" "1" ∷ data_was 0 "H:gmd:1" "z"
     ∷ status 0 "H:gmd:1" true true "0" "0" ∷ counts 0 (("f", "1", "1", "0") ∷ []) ∷ no_job 1
     ∷ error 1 "job_not_found" "job not found" ∷ failed 0 "H:gmd:1" ∷ status 0 "H:gmd:1" false false "0" "0" ∷ [])
-    × Stands (given_to 2) lost 1 places.Lost
-    × Stands (given_to 2) failed_job 1 places.Gone
-    × Stands (given_to 3) lost 1 places.Waiting
-    × Stands defaults lost 1 places.Waiting
+    × JobIsAt (given_to 2) lost 1 places.Lost
+    × JobIsAt (given_to 2) failed_job 1 places.Gone
+    × JobIsAt (given_to 3) lost 1 places.Waiting
+    × JobIsAt defaults lost 1 places.Waiting
 
 -- A lost job can be joined, stays when a listener leaves, and fails in the next tick
 abbrev pub LostJob : Type 0
@@ -177,8 +177,8 @@ LostJob =
     Plays (given_to 1) (lost ++ Tick 5 ∷ []) (told ++ failed 2 "H:gmd:1" ∷ [])
     × Plays (given_to 1) (lost ++ Close 2 ∷ connect ∷ get_status 0 "H:gmd:1" ∷ Tick 5 ∷ submit_job 0 "f" "x" "3" ∷ []) (
     told ++ status 0 "H:gmd:1" true true "0" "0" ∷ created 0 "H:gmd:2" ∷ [])
-    × Stands (given_to 1) (lost ++ Close 2 ∷ []) 1 places.Lost
-    × Stands (given_to 1) (lost ++ Close 2 ∷ Tick 5 ∷ []) 1 places.Gone
+    × JobIsAt (given_to 1) (lost ++ Close 2 ∷ []) 1 places.Lost
+    × JobIsAt (given_to 1) (lost ++ Close 2 ∷ Tick 5 ∷ []) 1 places.Gone
 
 -- a disconnected worker's jobs wait again, and wake only sleeping workers that can do them
 abbrev pub WokenByReturn : Type 0

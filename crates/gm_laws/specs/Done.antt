@@ -4,7 +4,7 @@ use Rattle.gm_notes.specs.Settings.{Settings}
 use Rattle.gm_notes.specs.Notes.{is_open}
 use Rattle.gm_notes.specs.Past.{Past}
 use Rattle.gm_notes.specs.Steps.{Step, refusal, done}
-use Rattle.gm_laws.specs.Laws.{is_made}
+use Rattle.gm_laws.specs.Laws.{was_made}
 
 -- the step opens slot c
 abbrev pub IsOpenedBy : ℕ → Past → Past → Type 0
@@ -12,7 +12,7 @@ IsOpenedBy c before after = (is_open c before.notes ≡ false) × (is_open c aft
 
 -- it makes job n
 abbrev pub IsMadeBy : ℕ → Past → Past → Type 0
-IsMadeBy n before after = (is_made n before.notes ≡ false) × (is_made n after.notes ≡ true)
+IsMadeBy n before after = (was_made n before.notes ≡ false) × (was_made n after.notes ≡ true)
 
 -- the answer names the slot that the step opens, and the job that it makes, and no other
 abbrev pub AnswersNameWhatIsNew : Settings → Past → Step → Past → Type 0

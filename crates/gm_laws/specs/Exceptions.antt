@@ -8,11 +8,11 @@ use Rattle.gm_notes.specs.Notes.{is_open, takes_units, has_option}
 use Rattle.gm_notes.specs.Past.{Past}
 use Rattle.gm_notes.specs.Requests.{first}
 use Rattle.gm_notes.specs.Steps.{Step}
-use Rattle.gm_history.specs.Causes.{Asks, closes, JustQueues}
+use Rattle.gm_history.specs.Causes.{PacketAsks, closes, JustQueues}
 
 -- the step is the OPTION_REQ of slot c for exceptions
 abbrev pub WantsExceptions : ℕ → Step → Type 0
-WantsExceptions c s = (asked : Asked) × Asks c s asked × (asked.kind ≡ OptionReq) × (first asked.arguments ≡ codes "exceptions")
+WantsExceptions c s = (asked : Asked) × PacketAsks c s asked × (asked.kind ≡ OptionReq) × (first asked.arguments ≡ codes "exceptions")
 
 -- the slot is open, and gets exceptions
 abbrev pub GetsExceptions : ℕ → Past → Type 0

@@ -13,20 +13,20 @@ abbrev pub HasNoneWaiting : List Note → List ℕ → Type 0
 HasNoneWaiting notes f = (n : ℕ) (what : Job) → job_state n notes ≡ states.Waiting → job n notes ≡ Some what → what.function ≡ f → ⊥
 
 -- what slot c can do
-abbrev pub can_do : ℕ → List Note → List (List ℕ)
-can_do c notes = map (λ ability. ability.function) (abilities c notes)
+abbrev pub functions_of : ℕ → List Note → List (List ℕ)
+functions_of c notes = map (λ ability. ability.function) (abilities c notes)
 
 -- without round-robin the job that a slot is given is of its first function for which one waits
 abbrev pub GivesOfTheFirst : Settings → Past → Past → Type 0
 GivesOfTheFirst k before after = (n c : ℕ) (what : Job) → k.round_robin ≡ false →
     job_state n before.notes ≡ states.Waiting → job_state n after.notes ≡ states.Running c → job n before.notes ≡ Some what →
-    (earlier later : List (List ℕ)) × (can_do c before.notes ≡ earlier ++ what.function ∷ later) × All (HasNoneWaiting before.notes) earlier
+    (earlier later : List (List ℕ)) × (functions_of c before.notes ≡ earlier ++ what.function ∷ later) × All (HasNoneWaiting before.notes) earlier
 
 -- a step leaves the functions of a slot in their order: some may go, or one that the slot couldn't do comes last
 abbrev pub KeepsTheirOrder : Past → Past → Type 0
 KeepsTheirOrder before after = (c : ℕ) →
-    ((keeps : List ℕ → Bool) × (can_do c after.notes ≡ filter keeps (can_do c before.notes)))
-    ⊎ ((f : List ℕ) × (is_able c f before.notes ≡ false) × (can_do c after.notes ≡ can_do c before.notes ++ f ∷ []))
+    ((keeps : List ℕ → Bool) × (functions_of c after.notes ≡ filter keeps (functions_of c before.notes)))
+    ⊎ ((f : List ℕ) × (is_able c f before.notes ≡ false) × (functions_of c after.notes ≡ functions_of c before.notes ++ f ∷ []))
 
 abbrev pub FirstAbilityWins : Settings → Past → Step → Past → Type 0
 FirstAbilityWins k before s after = GivesOfTheFirst k before after × KeepsTheirOrder before after

@@ -4,12 +4,12 @@ use Rattle.std.specs.Prelude.{true, false, [], ◌∷◌, ◌++◌, replicate, c
 use Rattle.gm_notes.specs.Steps.{Close}
 use Rattle.gm_packet.specs.Answers.{job_assign_uniq}
 use Rattle.gm_notes.specs.declared.states.Place.TheVariants as places
-use Rattle.gm_laws.specs.RowWords.{settings, defaults, from_the_last, one_function, four_slots, connect, says, asks, can_do}
+use Rattle.gm_laws.specs.RowWords.{settings, defaults, from_the_last, one_function, four_slots, connect, says, sends, can_do}
 use Rattle.gm_laws.specs.RowWords.{cant_do, pre_sleep, submit_job, grab_job, work_status, work_complete, work_fail, get_status}
 use Rattle.gm_laws.specs.RowWords.{submit_job_bg, submit_job_high, can_do_timeout, all_yours, work_exception, option_req}
 use Rattle.gm_laws.specs.RowWords.{work_data, work_warning, grab_job_uniq, submit_job_high_bg, submit_job_low}
 use Rattle.gm_laws.specs.RowWords.{submit_job_low_bg, to, line, counts, created, no_job, assigned, assigned_uniq, status_was}
-use Rattle.gm_laws.specs.RowWords.{completed, failed, raised, data_was, warned, status, option_set, error, Plays, Owes, Stands}
+use Rattle.gm_laws.specs.RowWords.{completed, failed, raised, data_was, warned, status, option_set, error, Plays, Owes, JobIsAt}
 
 -- high priority goes before normal, and normal before low
 abbrev pub Priorities : Type 0
@@ -154,7 +154,7 @@ ExceptionsOption =
 abbrev pub DataWithNul : Type 0
 DataWithNul =
     Plays defaults (
-    connect ∷ connect ∷ asks 0 7 (codes "f" ∷ codes "u" ∷ codes "a" ∷ codes "b" ∷ []) ∷ can_do 1 "f"
+    connect ∷ connect ∷ sends 0 7 (codes "f" ∷ codes "u" ∷ codes "a" ∷ codes "b" ∷ []) ∷ can_do 1 "f"
     ∷ grab_job_uniq 1 ∷ []) (
     created 0 "H:gmd:1" ∷ to 1 (job_assign_uniq (codes "H:gmd:1") (codes "f") (codes "u") (97 ∷ 0 ∷ 98 ∷ []))
     ∷ [])
@@ -183,7 +183,7 @@ LimitCounts =
 abbrev pub FunctionLimit : Type 0
 FunctionLimit =
     Plays one_function (
-    connect ∷ can_do 0 "f" ∷ can_do 0 "g" ∷ submit_job 0 "g" "a" "1" ∷ says 0 "maxqueue g 1" ∷ asks 0 1 []
+    connect ∷ can_do 0 "f" ∷ can_do 0 "g" ∷ submit_job 0 "g" "a" "1" ∷ says 0 "maxqueue g 1" ∷ sends 0 1 []
     ∷ can_do_timeout 0 "f" "x" ∷ all_yours 0 ∷ []) (
     error 0 "too_many_functions" "too many functions" ∷ error 0 "too_many_functions" "too many functions"
     ∷ line 0 "ERR too_many_functions" ∷ error 0 "bad_function" "bad function" ∷ error 0 "bad_arguments" "bad arguments" ∷ [])
@@ -209,9 +209,9 @@ RefusalOrder =
 abbrev pub FunctionNames : Type 0
 FunctionNames =
     Plays defaults (
-    connect ∷ asks 0 1 (replicate 513 97 ∷ []) ∷ asks 0 2 (replicate 513 97 ∷ []) ∷ cant_do 0 ""
-    ∷ asks 0 23 (replicate 513 97 ∷ codes "5" ∷ []) ∷ asks 0 7 (replicate 513 97 ∷ [] ∷ [] ∷ []) ∷ says 0 "status"
-    ∷ asks 0 1 (replicate 512 97 ∷ []) ∷ asks 0 2 (replicate 512 97 ∷ []) ∷ asks 0 7 (replicate 512 97 ∷ [] ∷ [] ∷ []) ∷ []) (
+    connect ∷ sends 0 1 (replicate 513 97 ∷ []) ∷ sends 0 2 (replicate 513 97 ∷ []) ∷ cant_do 0 ""
+    ∷ sends 0 23 (replicate 513 97 ∷ codes "5" ∷ []) ∷ sends 0 7 (replicate 513 97 ∷ [] ∷ [] ∷ []) ∷ says 0 "status"
+    ∷ sends 0 1 (replicate 512 97 ∷ []) ∷ sends 0 2 (replicate 512 97 ∷ []) ∷ sends 0 7 (replicate 512 97 ∷ [] ∷ [] ∷ []) ∷ []) (
     error 0 "bad_function" "bad function" ∷ error 0 "bad_function" "bad function" ∷ error 0 "bad_function" "bad function"
     ∷ error 0 "bad_function" "bad function" ∷ error 0 "bad_function" "bad function" ∷ line 0 "." ∷ created 0 "H:gmd:1" ∷ [])
 
@@ -230,10 +230,10 @@ Places =
     let given = submitted ++ can_do 1 "f" ∷ grab_job 1 ∷ [] in
     let back = given ++ Close 1 ∷ [] in
     let again = back ++ can_do 2 "f" ∷ grab_job 2 ∷ [] in
-    Stands four_slots [] 1 places.Unmade
-    × Stands four_slots submitted 1 places.Waiting
-    × Stands four_slots given 1 (places.Running 1)
-    × Stands four_slots back 1 places.Waiting
-    × Stands four_slots again 1 (places.Running 2)
-    × Stands four_slots (again ++ work_complete 2 "H:gmd:1" "x" ∷ []) 1 places.Gone
-    × Stands four_slots (submitted ++ Close 0 ∷ []) 1 places.Gone
+    JobIsAt four_slots [] 1 places.Unmade
+    × JobIsAt four_slots submitted 1 places.Waiting
+    × JobIsAt four_slots given 1 (places.Running 1)
+    × JobIsAt four_slots back 1 places.Waiting
+    × JobIsAt four_slots again 1 (places.Running 2)
+    × JobIsAt four_slots (again ++ work_complete 2 "H:gmd:1" "x" ∷ []) 1 places.Gone
+    × JobIsAt four_slots (submitted ++ Close 0 ∷ []) 1 places.Gone

@@ -22,24 +22,24 @@ use Rattle.gm_history.specs.History.{Gets, progress}
 use Rattle.gm_history.specs.Causes.{Ends, Commands, AllSaid, asks, is_grab, is_sleeping, is_one_of, is_close, closes}
 
 -- the numbers made are the first and its successors, each once, none above the greatest of 64 bits; the newest first
-abbrev pub AreNumbers : Settings → List ℕ → Type 0
-AreNumbers k [] = Unit {0}
-AreNumbers k (n ∷ older) = (n ≡ k.first_job + length older) × (n < 2 ^ 64) × AreNumbers k older
+abbrev pub AreConsecutive : Settings → List ℕ → Type 0
+AreConsecutive k [] = Unit {0}
+AreConsecutive k (n ∷ older) = (n ≡ k.first_job + length older) × (n < 2 ^ 64) × AreConsecutive k older
 
 -- an open slot is one of those that there are
 abbrev pub AreSlots : Settings → List Note → Type 0
 AreSlots k notes = (c : ℕ) → is_open c notes ≡ true → c < k.slots
 
 -- a job has a place exactly where it was made
-abbrev pub is_made : ℕ → List Note → Bool
-is_made n notes = list_any (λ m. m == n) (made notes)
+abbrev pub was_made : ℕ → List Note → Bool
+was_made n notes = list_any (λ m. m == n) (made notes)
 
 abbrev pub has_place : JobState → Bool
 has_place states.Unmade = false
 has_place other = true
 
 abbrev pub HavePlaces : Settings → List Note → Type 0
-HavePlaces k notes = (n : ℕ) → has_place (job_state n notes) ≡ is_made n notes
+HavePlaces k notes = (n : ℕ) → has_place (job_state n notes) ≡ was_made n notes
 
 -- live jobs of one function and one id that joins are one job
 abbrev pub AreOne : Settings → List Note → Type 0

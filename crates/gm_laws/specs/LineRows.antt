@@ -8,7 +8,7 @@ use Rattle.gm_notes.specs.declared.states.Mode.TheVariants as modes
 use Rattle.gm_notes.specs.Numbers.{apply_error_number, unit_fault_number}
 use Rattle.gm_notes.specs.Settings.{config_fault, config_error_number, Settings}
 use Rattle.gm_packet.specs.Answers.{echo_res}
-use Rattle.gm_laws.specs.RowWords.{AreShut, GoesOn, settings, defaults, four_slots, connect_from, connect, says, asks, can_do}
+use Rattle.gm_laws.specs.RowWords.{AreShut, GoesOn, settings, defaults, four_slots, connect_from, connect, says, sends, can_do}
 use Rattle.gm_laws.specs.RowWords.{cant_do, reset_abilities, submit_job, grab_job, work_complete, echo_req, submit_job_bg}
 use Rattle.gm_laws.specs.RowWords.{set_client_id, all_yours, to, line, page, counts, created, assigned, completed, status}
 use Rattle.gm_laws.specs.RowWords.{echoed, error, Plays, Refuses, Takes}
@@ -21,8 +21,8 @@ named name = record (settings 1 4 9) { name = name }
 abbrev pub PlainAnswers : Type 0
 PlainAnswers =
     Plays four_slots (
-    connect ∷ echo_req 0 "hi" ∷ asks 0 16 (codes "a" ∷ [] ∷ []) ∷ all_yours 0 ∷ asks 0 36 [] ∷ asks 0 5 []
-    ∷ asks 0 24 (codes "x" ∷ []) ∷ asks 0 9 (codes "x" ∷ []) ∷ asks 0 7 (codes "f" ∷ codes "a" ∷ []) ∷ []) (
+    connect ∷ echo_req 0 "hi" ∷ sends 0 16 (codes "a" ∷ [] ∷ []) ∷ all_yours 0 ∷ sends 0 36 [] ∷ sends 0 5 []
+    ∷ sends 0 24 (codes "x" ∷ []) ∷ sends 0 9 (codes "x" ∷ []) ∷ sends 0 7 (codes "f" ∷ codes "a" ∷ []) ∷ []) (
     echoed 0 "hi" ∷ to 0 (echo_res (97 ∷ 0 ∷ [])) ∷ error 0 "unknown_command" "unknown command"
     ∷ error 0 "unknown_command" "unknown command" ∷ error 0 "bad_arguments" "bad arguments"
     ∷ error 0 "bad_arguments" "bad arguments" ∷ error 0 "bad_arguments" "bad arguments" ∷ [])
@@ -31,9 +31,9 @@ PlainAnswers =
 abbrev pub TrailingNul : Type 0
 TrailingNul =
     Plays defaults (
-    connect ∷ connect ∷ submit_job_bg 0 "f" "a" "1" ∷ asks 0 15 (codes "H:gmd:1" ∷ [] ∷ [])
-    ∷ asks 1 1 (codes "f" ∷ [] ∷ []) ∷ grab_job 1 ∷ says 0 "STATUS" ∷ asks 0 15 (codes "a" ∷ codes "b" ∷ [])
-    ∷ asks 0 15 (codes "a" ∷ [] ∷ [] ∷ []) ∷ []) (
+    connect ∷ connect ∷ submit_job_bg 0 "f" "a" "1" ∷ sends 0 15 (codes "H:gmd:1" ∷ [] ∷ [])
+    ∷ sends 1 1 (codes "f" ∷ [] ∷ []) ∷ grab_job 1 ∷ says 0 "STATUS" ∷ sends 0 15 (codes "a" ∷ codes "b" ∷ [])
+    ∷ sends 0 15 (codes "a" ∷ [] ∷ [] ∷ []) ∷ []) (
     created 0 "H:gmd:1" ∷ status 0 "H:gmd:1" true false "0" "0" ∷ assigned 1 "H:gmd:1" "f" "1"
     ∷ counts 0 (("f", "1", "1", "1") ∷ []) ∷ error 0 "bad_arguments" "bad arguments"
     ∷ error 0 "bad_arguments" "bad arguments" ∷ [])

@@ -14,9 +14,9 @@ use Rattle.gm_notes.specs.JobStates.{is_live, is_running}
 use Rattle.gm_notes.specs.Past.{Past}
 use Rattle.gm_notes.specs.Requests.{first}
 use Rattle.gm_notes.specs.Steps.{Step, Open}
-use Rattle.gm_history.specs.Causes.{Asks, JustQueues}
+use Rattle.gm_history.specs.Causes.{PacketAsks, JustQueues}
 use Rattle.gm_laws.specs.Answered.{IsCommanded, JustWrites}
-use Rattle.gm_laws.specs.Firsts.{can_do}
+use Rattle.gm_laws.specs.Firsts.{functions_of}
 
 -- ---- counts
 
@@ -56,16 +56,16 @@ IsRising [] = Unit {0}
 IsRising (c ∷ slots) = ((d : ℕ) → is_in d slots ≡ true → c < d) × IsRising slots
 
 -- these are the open slots, in their order
-abbrev pub AreOpen : List Note → List ℕ → Type 0
-AreOpen notes slots = IsRising slots × ((c : ℕ) → is_in c slots ≡ is_open c notes)
+abbrev pub AreOpenSlots : List Note → List ℕ → Type 0
+AreOpenSlots notes slots = IsRising slots × ((c : ℕ) → is_in c slots ≡ is_open c notes)
 
 -- the row has the address, the id and the functions of the connection in its slot
 abbrev pub IsOfConnection : List Note → WorkerLine → Type 0
-IsOfConnection notes row = (row.addr ≡ addr row.slot notes) × (row.id ≡ id row.slot notes) × (row.functions ≡ can_do row.slot notes)
+IsOfConnection notes row = (row.addr ≡ addr row.slot notes) × (row.id ≡ id row.slot notes) × (row.functions ≡ functions_of row.slot notes)
 
 abbrev pub WorkersTells : ℕ → Past → Past → Type 0
 WorkersTells c before after =
-    (rows : List WorkerLine) × JustWrites c (workers_text rows) before after × AreOpen before.notes (map (λ row. row.slot) rows) × All (IsOfConnection before.notes) rows
+    (rows : List WorkerLine) × JustWrites c (workers_text rows) before after × AreOpenSlots before.notes (map (λ row. row.slot) rows) × All (IsOfConnection before.notes) rows
 
 -- ---- the law
 
@@ -75,7 +75,7 @@ AdminTellsTheTruth k before s after =
     ((c : ℕ) → IsCommanded c Status before s → StatusTells c before after × (after.notes ≡ before.notes))
     × ((c : ℕ) → IsCommanded c Workers before s → WorkersTells c before after × (after.notes ≡ before.notes))
     × ((c : ℕ) → IsCommanded c Version before s → JustWrites c version_text before after × (after.notes ≡ before.notes))
-    × ((c : ℕ) (asked : Asked) → takes_units c before.notes ≡ true → Asks c s asked → asked.kind ≡ EchoReq →
+    × ((c : ℕ) (asked : Asked) → takes_units c before.notes ≡ true → PacketAsks c s asked → asked.kind ≡ EchoReq →
     JustQueues c (echo_res (first asked.arguments)) before after × (after.notes ≡ before.notes))
 
 -- ---- what a connection is called
@@ -83,14 +83,14 @@ AdminTellsTheTruth k before s after =
 -- a connection gets the least slot that is free, has the address from which it was opened, and no id and no functions at first
 abbrev pub OpensAs : Past → Step → Past → Type 0
 OpensAs before s after = (c : ℕ) → is_open c before.notes ≡ false → is_open c after.notes ≡ true →
-    ((d : ℕ) → d < c → is_open d before.notes ≡ true) × (s ≡ Open (addr c after.notes)) × (id c after.notes ≡ []) × (can_do c after.notes ≡ [])
+    ((d : ℕ) → d < c → is_open d before.notes ≡ true) × (s ≡ Open (addr c after.notes)) × (id c after.notes ≡ []) × (functions_of c after.notes ≡ [])
 
 -- its address stays, and its id is what its last SET_CLIENT_ID said
 abbrev pub StaysAs : Past → Step → Past → Type 0
 StaysAs before s after = (c : ℕ) → is_open c before.notes ≡ true →
     (addr c after.notes ≡ addr c before.notes)
-    × ((id c after.notes ≡ id c before.notes) ⊎ ((asked : Asked) × Asks c s asked × (asked.kind ≡ SetClientId) × (first asked.arguments ≡ id c after.notes)))
-    × ((asked : Asked) → takes_units c before.notes ≡ true → Asks c s asked → asked.kind ≡ SetClientId → id c after.notes ≡ first asked.arguments)
+    × ((id c after.notes ≡ id c before.notes) ⊎ ((asked : Asked) × PacketAsks c s asked × (asked.kind ≡ SetClientId) × (first asked.arguments ≡ id c after.notes)))
+    × ((asked : Asked) → takes_units c before.notes ≡ true → PacketAsks c s asked → asked.kind ≡ SetClientId → id c after.notes ≡ first asked.arguments)
 
 -- the functions that there are keep their order, and new ones come last
 abbrev pub FunctionsGrow : Past → Past → Type 0

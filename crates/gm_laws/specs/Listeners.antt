@@ -20,7 +20,7 @@ use Rattle.gm_notes.specs.Requests.{first}
 use Rattle.gm_notes.specs.Steps.{Step, Packet, Tick, run}
 use Rattle.gm_history.specs.Hearing.{listens, passed_on, MayGet}
 use Rattle.gm_history.specs.Causes.{asks, is_foreground, is_ending, closes, IsOfEnd}
-use Rattle.gm_laws.specs.Laws.{is_made}
+use Rattle.gm_laws.specs.Laws.{was_made}
 use Rattle.gm_laws.specs.Turns.{One}
 
 -- ---- what is queued to a slot
@@ -48,9 +48,9 @@ copies bytes queued = length (filter (bytes_eq bytes) queued)
 -- ---- what is told
 
 -- how often slot c gets it: as often as it listens, but of a WORK_EXCEPTION only with the exceptions option
-abbrev pub hears : ℕ → ℕ → Kind → List Note → ℕ
-hears c n WorkException notes = if has_option c notes then listens c n notes else 0
-hears c n kind notes = listens c n notes
+abbrev pub times_heard : ℕ → ℕ → Kind → List Note → ℕ
+times_heard c n WorkException notes = if has_option c notes then listens c n notes else 0
+times_heard c n kind notes = listens c n notes
 
 -- Reports by the slot where a job runs are passed on to each slot as often as that is to get it, and nothing else is queued.
 abbrev pub WhatWorkersSayIsPassedOn : Type 0
@@ -58,7 +58,7 @@ WhatWorkersSayIsPassedOn = (k : Settings) (steps : List Step) (worker n number :
     let before = run k steps in
     takes_units worker before.notes ≡ true → job_state n before.notes ≡ states.Running worker →
     request_of number bytes ≡ Ok asked → first asked.arguments ≡ handle k n → passed_on k n asked.kind asked.arguments ≡ Some answer →
-    (c : ℕ) → Queues c (replicate (hears c n asked.kind before.notes) (answer_packet answer)) before (run k (Packet worker number bytes ∷ steps))
+    (c : ℕ) → Queues c (replicate (times_heard c n asked.kind before.notes) (answer_packet answer)) before (run k (Packet worker number bytes ∷ steps))
 
 -- ---- which slots may get what
 
@@ -113,4 +113,4 @@ WhoStaysIsTold = (k : Settings) (c : ℕ) (text : List ℕ) (earlier later : Lis
 -- Of the end of a job that was made by then no slot is told in two steps.
 abbrev pub NobodyIsToldTwice : Type 0
 NobodyIsToldTwice = (k : Settings) (c n : ℕ) (earlier between : List Step) (one other : Step) →
-    is_made n (run k (one ∷ earlier)).notes ≡ true → Tells k c n earlier one → Tells k c n (between ++ one ∷ earlier) other → ⊥
+    was_made n (run k (one ∷ earlier)).notes ≡ true → Tells k c n earlier one → Tells k c n (between ++ one ∷ earlier) other → ⊥

@@ -13,7 +13,7 @@ use Rattle.gm_admin.specs.declared.fault.AdminFault.{AdminFault}
 use Rattle.gm_admin.specs.declared.fault.AdminFault.TheVariants as faults
 use Rattle.gm_admin.specs.declared.fault.AdminError.{AdminError}
 use Rattle.gm_admin.specs.declared.fault.AdminError.TheVariants as errors
-use Rattle.gm_admin.specs.Commands.{Asked as Commanded, MaxQueue, command_of}
+use Rattle.gm_admin.specs.Commands.{Commanded, MaxQueue, command_of}
 use Rattle.gm_admin.specs.Answers.{error_text}
 use Rattle.gm_notes.specs.declared.event.UnitFault.{UnitFault}
 use Rattle.gm_notes.specs.declared.event.UnitFault.TheVariants.{BadMagic, PacketTooLarge, LineTooLong}
@@ -25,9 +25,10 @@ use Rattle.gm_notes.specs.Jobs.{job_state, functions, is_mentioned, limit, total
 use Rattle.gm_notes.specs.JobStates as states
 use Rattle.gm_notes.specs.Past.{Past}
 use Rattle.gm_notes.specs.Requests.{first}
+use Rattle.gm_notes.specs.Submissions.{max_name}
 use Rattle.gm_notes.specs.Steps.{Step, Packet, Line, Fault}
-use Rattle.gm_history.specs.Causes.{Asks, is_enabling, is_submission, JustQueues}
-use Rattle.gm_laws.specs.Submitted.{JoinsNone}
+use Rattle.gm_history.specs.Causes.{PacketAsks, is_enabling, is_submission, JustQueues}
+use Rattle.gm_laws.specs.Submitted.{JoinsNone, IsBadName}
 
 -- an ERROR with this code is the answer, and nothing happened
 abbrev pub IsError : ℕ → List ℕ → Past → Past → Type 0
@@ -39,21 +40,17 @@ IsErr c error before after = (after.flow ≡ Queued c (error_text error) ∷ bef
 
 -- ---- functions
 
--- the name has no byte, or more than 512
-abbrev pub IsBadName : List ℕ → Type 0
-IsBadName f = (f ≡ []) ⊎ (512 < length f)
-
--- a word of a line with more than 512 bytes, or with a NUL
+-- a word of a line has too many bytes, or a NUL
 abbrev pub IsBadWord : List ℕ → Type 0
-IsBadWord f = (512 < length f) ⊎ (list_any (λ b. b == 0) f ≡ true)
+IsBadWord f = (max_name < length f) ⊎ (list_any (λ b. b == 0) f ≡ true)
 
 -- it would be one function more than the settings allow
 abbrev pub IsOneTooMany : Settings → List ℕ → List Note → Type 0
 IsOneTooMany k f notes = (is_mentioned f notes ≡ false) × (k.max_functions ≤ length (functions notes))
 
 -- it has as many jobs as its limit says
-abbrev pub IsFull : List ℕ → List Note → Type 0
-IsFull f notes = (0 < limit f notes) × (limit f notes ≤ total f notes)
+abbrev pub IsAtLimit : List ℕ → List Note → Type 0
+IsAtLimit f notes = (0 < limit f notes) × (limit f notes ≤ total f notes)
 
 -- ---- requests
 
@@ -86,8 +83,8 @@ HasReason k c asked before code =
     let f = first asked.arguments in
     ((code ≡ codes "bad_function") × (names_function asked.kind ≡ true) × IsBadName f)
     ⊎ (((code ≡ codes "too_many_functions") × (IsBadName f → ⊥) × BringsFunction asked before × IsOneTooMany k f before.notes)
-    ⊎ (((code ≡ codes "queue_full") × (IsBadName f → ⊥) × BringsJob k asked before × IsFull f before.notes)
-    ⊎ (((code ≡ codes "no_numbers") × (IsBadName f → ⊥) × BringsJob k asked before × (IsFull f before.notes → ⊥) × (2 ^ 64 ≤ k.first_job + length (made before.notes)))
+    ⊎ (((code ≡ codes "queue_full") × (IsBadName f → ⊥) × BringsJob k asked before × IsAtLimit f before.notes)
+    ⊎ (((code ≡ codes "no_numbers") × (IsBadName f → ⊥) × BringsJob k asked before × (IsAtLimit f before.notes → ⊥) × (2 ^ 64 ≤ k.first_job + length (made before.notes)))
     ⊎ (((code ≡ codes "job_not_found") × (names_run asked.kind ≡ true) × ((n : ℕ) → job_state n before.notes ≡ states.Running c → f ≡ handle k n → ⊥))
     ⊎ ((code ≡ codes "unknown_option") × (asked.kind ≡ OptionReq) × (f ≡ codes "exceptions" → ⊥))))))
 
@@ -118,7 +115,7 @@ IsToldOf c LineTooLong before after = after.flow ≡ Queued c (error_text errors
 
 -- ---- the law
 
--- of which types a request's answers are, and what is passed on for it, but for ERROR
+-- the packet types that may answer a request or be passed on for it, but for ERROR
 abbrev pub answers : Kind → ℕ → Bool
 answers GrabJob type = type == 10 || type == 11
 answers GrabJobUniq type = type == 10 || type == 31
@@ -143,4 +140,4 @@ RefusalsHaveTheirReason k before s after = (c : ℕ) → takes_units c before.no
     ((number : ℕ) (bytes code : List ℕ) → s ≡ Packet c number bytes → IsUnserved k c (request_of number bytes) before code → IsError c code before after)
     × ((line : List ℕ) (error : AdminError) → s ≡ Line c line → IsErroneous k (command_of line) before error → IsErr c error before after)
     × ((fault : UnitFault) → s ≡ Fault c fault → IsToldOf c fault before after)
-    × ((asked : Asked) → Asks c s asked → ((code : List ℕ) × HasReason k c asked before code) ⊎ JustAnswers asked.kind before after)
+    × ((asked : Asked) → PacketAsks c s asked → ((code : List ℕ) × HasReason k c asked before code) ⊎ JustAnswers asked.kind before after)

@@ -58,80 +58,80 @@ abbrev pub says : ℕ → String → Step
 says c line = Line c (codes line)
 
 -- a packet of slot c with these arguments
-abbrev pub asks : ℕ → ℕ → List (List ℕ) → Step
-asks c kind arguments = Packet c kind (join_with_byte 0 arguments)
+abbrev pub sends : ℕ → ℕ → List (List ℕ) → Step
+sends c kind arguments = Packet c kind (join_with_byte 0 arguments)
 
 abbrev pub can_do : ℕ → String → Step
-can_do c f = asks c 1 (codes f ∷ [])
+can_do c f = sends c 1 (codes f ∷ [])
 
 abbrev pub cant_do : ℕ → String → Step
-cant_do c f = asks c 2 (codes f ∷ [])
+cant_do c f = sends c 2 (codes f ∷ [])
 
 abbrev pub reset_abilities : ℕ → Step
-reset_abilities c = asks c 3 []
+reset_abilities c = sends c 3 []
 
 abbrev pub pre_sleep : ℕ → Step
-pre_sleep c = asks c 4 []
+pre_sleep c = sends c 4 []
 
 abbrev pub submit_job : ℕ → String → String → String → Step
-submit_job c f u body = asks c 7 (codes f ∷ codes u ∷ codes body ∷ [])
+submit_job c f u body = sends c 7 (codes f ∷ codes u ∷ codes body ∷ [])
 
 abbrev pub grab_job : ℕ → Step
-grab_job c = asks c 9 []
+grab_job c = sends c 9 []
 
 abbrev pub work_status : ℕ → String → String → String → Step
-work_status c handle numerator denominator = asks c 12 (codes handle ∷ codes numerator ∷ codes denominator ∷ [])
+work_status c handle numerator denominator = sends c 12 (codes handle ∷ codes numerator ∷ codes denominator ∷ [])
 
 abbrev pub work_complete : ℕ → String → String → Step
-work_complete c handle body = asks c 13 (codes handle ∷ codes body ∷ [])
+work_complete c handle body = sends c 13 (codes handle ∷ codes body ∷ [])
 
 abbrev pub work_fail : ℕ → String → Step
-work_fail c handle = asks c 14 (codes handle ∷ [])
+work_fail c handle = sends c 14 (codes handle ∷ [])
 
 abbrev pub get_status : ℕ → String → Step
-get_status c handle = asks c 15 (codes handle ∷ [])
+get_status c handle = sends c 15 (codes handle ∷ [])
 
 abbrev pub echo_req : ℕ → String → Step
-echo_req c body = asks c 16 (codes body ∷ [])
+echo_req c body = sends c 16 (codes body ∷ [])
 
 abbrev pub submit_job_bg : ℕ → String → String → String → Step
-submit_job_bg c f u body = asks c 18 (codes f ∷ codes u ∷ codes body ∷ [])
+submit_job_bg c f u body = sends c 18 (codes f ∷ codes u ∷ codes body ∷ [])
 
 abbrev pub submit_job_high : ℕ → String → String → String → Step
-submit_job_high c f u body = asks c 21 (codes f ∷ codes u ∷ codes body ∷ [])
+submit_job_high c f u body = sends c 21 (codes f ∷ codes u ∷ codes body ∷ [])
 
 abbrev pub set_client_id : ℕ → String → Step
-set_client_id c id = asks c 22 (codes id ∷ [])
+set_client_id c id = sends c 22 (codes id ∷ [])
 
 abbrev pub can_do_timeout : ℕ → String → String → Step
-can_do_timeout c f seconds = asks c 23 (codes f ∷ codes seconds ∷ [])
+can_do_timeout c f seconds = sends c 23 (codes f ∷ codes seconds ∷ [])
 
 abbrev pub all_yours : ℕ → Step
-all_yours c = asks c 24 []
+all_yours c = sends c 24 []
 
 abbrev pub work_exception : ℕ → String → String → Step
-work_exception c handle body = asks c 25 (codes handle ∷ codes body ∷ [])
+work_exception c handle body = sends c 25 (codes handle ∷ codes body ∷ [])
 
 abbrev pub option_req : ℕ → String → Step
-option_req c name = asks c 26 (codes name ∷ [])
+option_req c name = sends c 26 (codes name ∷ [])
 
 abbrev pub work_data : ℕ → String → String → Step
-work_data c handle body = asks c 28 (codes handle ∷ codes body ∷ [])
+work_data c handle body = sends c 28 (codes handle ∷ codes body ∷ [])
 
 abbrev pub work_warning : ℕ → String → String → Step
-work_warning c handle body = asks c 29 (codes handle ∷ codes body ∷ [])
+work_warning c handle body = sends c 29 (codes handle ∷ codes body ∷ [])
 
 abbrev pub grab_job_uniq : ℕ → Step
-grab_job_uniq c = asks c 30 []
+grab_job_uniq c = sends c 30 []
 
 abbrev pub submit_job_high_bg : ℕ → String → String → String → Step
-submit_job_high_bg c f u body = asks c 32 (codes f ∷ codes u ∷ codes body ∷ [])
+submit_job_high_bg c f u body = sends c 32 (codes f ∷ codes u ∷ codes body ∷ [])
 
 abbrev pub submit_job_low : ℕ → String → String → String → Step
-submit_job_low c f u body = asks c 33 (codes f ∷ codes u ∷ codes body ∷ [])
+submit_job_low c f u body = sends c 33 (codes f ∷ codes u ∷ codes body ∷ [])
 
 abbrev pub submit_job_low_bg : ℕ → String → String → String → Step
-submit_job_low_bg c f u body = asks c 34 (codes f ∷ codes u ∷ codes body ∷ [])
+submit_job_low_bg c f u body = sends c 34 (codes f ∷ codes u ∷ codes body ∷ [])
 
 -- ---- what is queued, and to which slot
 
@@ -237,8 +237,8 @@ abbrev pub IsSent : Settings → List Step → ℕ → List ℕ → Type 0
 IsSent k steps c bytes = sent c (after k steps).flow ≡ bytes
 
 -- what one step more answers
-abbrev pub Answers : Settings → List Step → Step → Done → Type 0
-Answers k steps s answer = done k s (after k steps) ≡ answer
+abbrev pub IsDone : Settings → List Step → Step → Done → Type 0
+IsDone k steps s answer = done k s (after k steps) ≡ answer
 
 abbrev pub opened : ℕ → Done
 opened c = record { opened = Some c; created = None }
@@ -250,8 +250,8 @@ abbrev pub nothing_made : Done
 nothing_made = record { opened = None; created = None }
 
 -- where the job is after them
-abbrev pub Stands : Settings → List Step → ℕ → Place → Type 0
-Stands k steps n place = place_of (job_state n (after k steps).notes) ≡ place
+abbrev pub JobIsAt : Settings → List Step → ℕ → Place → Type 0
+JobIsAt k steps n place = place_of (job_state n (after k steps).notes) ≡ place
 
 -- one step more is refused so, or is taken
 abbrev pub Refuses : Settings → List Step → Step → ApplyError → Type 0

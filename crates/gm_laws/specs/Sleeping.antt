@@ -8,7 +8,7 @@ use Rattle.gm_notes.specs.Notes.{takes_units, phase, is_asleep, is_awake}
 use Rattle.gm_notes.specs.Past.{Past}
 use Rattle.gm_notes.specs.Servers.{owes}
 use Rattle.gm_notes.specs.Steps.{Step, Packet, Close, Took, Withdrew}
-use Rattle.gm_history.specs.Causes.{Asks, asks, is_sleeping, is_grab}
+use Rattle.gm_history.specs.Causes.{PacketAsks, asks, is_sleeping, is_grab}
 
 -- slot c sleeps, or is owed a NOOP
 abbrev pub Rests : ℕ → Past → Type 0
@@ -26,11 +26,11 @@ rouses c other = false
 abbrev pub SleepersAskedForIt : Settings → Past → Step → Past → Type 0
 SleepersAskedForIt k before s after =
     ((c : ℕ) → Rests c after → Rests c before ⊎ (asks is_sleeping c s ≡ true))
-    × ((c : ℕ) (asked : Asked) → takes_units c before.notes ≡ true → Asks c s asked → is_grab asked.kind ≡ true → is_asleep (phase c after.notes) ≡ false)
+    × ((c : ℕ) (asked : Asked) → takes_units c before.notes ≡ true → PacketAsks c s asked → is_grab asked.kind ≡ true → is_asleep (phase c after.notes) ≡ false)
     × ((c : ℕ) → owes c before ≡ true → (s ≡ Took c) ⊎ (s ≡ Withdrew c) → phase c after.notes ≡ Awake)
 
 -- PRE_SLEEP of a slot that takes units is enough, and nothing but what rouses it ends its rest
 abbrev pub AskingIsEnough : Settings → Past → Step → Past → Type 0
 AskingIsEnough k before s after =
-    ((c : ℕ) (asked : Asked) → takes_units c before.notes ≡ true → Asks c s asked → asked.kind ≡ PreSleep → Rests c after)
+    ((c : ℕ) (asked : Asked) → takes_units c before.notes ≡ true → PacketAsks c s asked → asked.kind ≡ PreSleep → Rests c after)
     × ((c : ℕ) → Rests c before → rouses c s ≡ false → Rests c after)

@@ -28,15 +28,15 @@ numbers_of k n (Ok asked) =
 numbers_of k n (Err fault) = None
 
 -- the numbers that the step reports of job n: WORK_STATUS with its handle, of the slot where it runs
-abbrev pub reported : Settings → ℕ → Past → Step → Option (List ℕ × List ℕ)
-reported k n before (Packet c number bytes) =
+abbrev pub reported_numbers : Settings → ℕ → Past → Step → Option (List ℕ × List ℕ)
+reported_numbers k n before (Packet c number bytes) =
     if takes_units c before.notes && is_running_at c (job_state n before.notes) then numbers_of k n (request_of number bytes) else None
-reported k n before other = None
+reported_numbers k n before other = None
 
 -- those of the last step that reports some, or 0 and 0
 abbrev pub last_reported : Settings → ℕ → List Step → List ℕ × List ℕ
 last_reported k n [] = (codes "0", codes "0")
-last_reported k n (s ∷ earlier) = unwrap_or (reported k n (run k earlier) s) (last_reported k n earlier)
+last_reported k n (s ∷ earlier) = unwrap_or (reported_numbers k n (run k earlier) s) (last_reported k n earlier)
 
 -- ---- the law
 

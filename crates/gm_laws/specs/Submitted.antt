@@ -11,8 +11,9 @@ use Rattle.gm_notes.specs.JobStates.{is_live}
 use Rattle.gm_notes.specs.JobStates as states
 use Rattle.gm_notes.specs.Past.{Past}
 use Rattle.gm_notes.specs.Requests.{first}
+use Rattle.gm_notes.specs.Submissions.{max_name}
 use Rattle.gm_notes.specs.Steps.{Step, run}
-use Rattle.gm_history.specs.Causes.{Asks, Submits, IsFor, is_foreground, is_background, is_submission, IsAssignment, JustQueues}
+use Rattle.gm_history.specs.Causes.{PacketAsks, Submits, IsFor, is_foreground, is_background, is_submission, IsAssignment, JustQueues}
 use Rattle.gm_history.specs.Laws.{InEachStep}
 use Rattle.gm_history.specs.Hearing.{listens}
 use Rattle.gm_laws.specs.Listeners.{Queues, copies}
@@ -53,39 +54,42 @@ HasNoRoom k asked before code =
     ⊎ (((code ≡ codes "queue_full") × (0 < limit (first asked.arguments) before.notes) × (limit (first asked.arguments) before.notes ≤ total (first asked.arguments) before.notes))
     ⊎ ((code ≡ codes "no_numbers") × (2 ^ 64 ≤ k.first_job + length (made before.notes)))))
 
--- the function's name has no byte, or more than 512
+-- a function's name has no byte, or too many
+abbrev pub IsBadName : List ℕ → Type 0
+IsBadName f = (f ≡ []) ⊎ (max_name < length f)
+
 abbrev pub HasBadName : Asked → List ℕ → Type 0
-HasBadName asked code = (code ≡ codes "bad_function") × ((first asked.arguments ≡ []) ⊎ (512 < length (first asked.arguments)))
+HasBadName asked code = (code ≡ codes "bad_function") × IsBadName (first asked.arguments)
 
 -- an ERROR says why, and nothing happened
-abbrev pub IsRefused : Settings → ℕ → Asked → Past → Past → Type 0
-IsRefused k c asked before after =
+abbrev pub IsTurnedDown : Settings → ℕ → Asked → Past → Past → Type 0
+IsTurnedDown k c asked before after =
     (code : List ℕ) × (text : List ℕ) × JustQueues c (error code text) before after × (after.notes ≡ before.notes) × (HasBadName asked code ⊎ HasNoRoom k asked before code)
 
 -- Each submission of a slot that takes units gets one answer, or the other.
 abbrev pub SubmissionsAreAnswered : Settings → Past → Step → Past → Type 0
-SubmissionsAreAnswered k before s after = (c : ℕ) (asked : Asked) → takes_units c before.notes ≡ true → Asks c s asked → is_submission asked.kind ≡ true →
-    IsCreated k c asked before after ⊎ IsRefused k c asked before after
+SubmissionsAreAnswered k before s after = (c : ℕ) (asked : Asked) → takes_units c before.notes ≡ true → PacketAsks c s asked → is_submission asked.kind ≡ true →
+    IsCreated k c asked before after ⊎ IsTurnedDown k c asked before after
 
 -- ---- what is worked on
 
 -- the step after these earlier ones submits job n, which is this, and is answered with its handle
 abbrev pub MakesJob : Settings → ℕ → Job → List Step → Step → Type 0
 MakesJob k n what earlier s =
-    (c : ℕ) × (asked : Asked) × Asks c s asked × Submits asked what × (job n (run k earlier).notes ≡ None)
+    (c : ℕ) × (asked : Asked) × PacketAsks c s asked × Submits asked what × (job n (run k earlier).notes ≡ None)
     × JustQueues c (job_created (handle k n)) (run k earlier) (run k (s ∷ earlier))
 
 -- how a grab that gets this job is answered
-abbrev pub assigned : Settings → ℕ → Job → Kind → Option Answer
-assigned k n what GrabJob = Some (job_assign (handle k n) what.function what.body)
-assigned k n what GrabJobUniq = Some (job_assign_uniq (handle k n) what.function what.unique what.body)
-assigned k n what kind = None
+abbrev pub grab_answer : Settings → ℕ → Job → Kind → Option Answer
+grab_answer k n what GrabJob = Some (job_assign (handle k n) what.function what.body)
+grab_answer k n what GrabJobUniq = Some (job_assign_uniq (handle k n) what.function what.unique what.body)
+grab_answer k n what kind = None
 
 -- in the step that gives a slot a job, the slot is told what the job is, and nobody is told anything else
 abbrev pub GivesTheJob : Settings → Past → Step → Past → Type 0
 GivesTheJob k before s after = (n c : ℕ) → job_state n before.notes ≡ states.Waiting → job_state n after.notes ≡ states.Running c →
     (what : Job) × (asked : Asked) × (answer : Answer)
-    × (job n before.notes ≡ Some what) × Asks c s asked × (assigned k n what asked.kind ≡ Some answer) × JustQueues c answer before after
+    × (job n before.notes ≡ Some what) × PacketAsks c s asked × (grab_answer k n what asked.kind ≡ Some answer) × JustQueues c answer before after
 
 -- JOB_ASSIGN and JOB_ASSIGN_UNIQ are queued to a slot only in the step that gives it a job that waited, once, as what that job is
 abbrev pub OneAssignmentOneJob : Settings → Past → Step → Past → Type 0
@@ -93,7 +97,7 @@ OneAssignmentOneJob k before s after = (c : ℕ) (newer : List (List ℕ)) (answ
     Queues c newer before after → IsAssignment answer → 0 < copies (answer_packet answer) newer →
     (n : ℕ) × (what : Job) × (asked : Asked) × (told : Answer)
     × (job_state n before.notes ≡ states.Waiting) × (job_state n after.notes ≡ states.Running c) × (job n before.notes ≡ Some what)
-    × Asks c s asked × (assigned k n what asked.kind ≡ Some told) × (answer_packet answer ≡ answer_packet told) × (newer ≡ answer_packet told ∷ [])
+    × PacketAsks c s asked × (grab_answer k n what asked.kind ≡ Some told) × (answer_packet answer ≡ answer_packet told) × (newer ≡ answer_packet told ∷ [])
 
 -- Each job is what one of the steps submitted, and the slot that is given it gets just this.
 abbrev pub WhatIsSubmittedIsWorkedOn : Type 0

@@ -4,12 +4,11 @@ use Rattle.std.specs.Prelude.{List, [], ◌∷◌, length, Option, Some, None}
 use Rattle.gm_packet.specs.Kinds.{kind_of}
 use Rattle.gm_packet.specs.Answers.{no_job}
 use Rattle.gm_notes.specs.declared.states.Priority.{Priority}
-use Rattle.gm_notes.specs.declared.states.Priority.TheVariants.{High, Normal, Low}
 use Rattle.gm_notes.specs.declared.note.Note.{Note}
 use Rattle.gm_notes.specs.declared.note.Note.TheVariants.{Made, Returned}
 use Rattle.gm_notes.specs.Settings.{Settings}
 use Rattle.gm_notes.specs.Notes.{takes_units, moment}
-use Rattle.gm_notes.specs.Jobs.{Job, job_state, job, deadline}
+use Rattle.gm_notes.specs.Jobs.{Job, rank, job_state, job, deadline}
 use Rattle.gm_notes.specs.JobStates as states
 use Rattle.gm_notes.specs.Past.{Past}
 use Rattle.gm_notes.specs.Servers.{owes}
@@ -18,12 +17,6 @@ use Rattle.gm_history.specs.History.{HasWork, is_able_within}
 use Rattle.gm_history.specs.Causes.{is_one_of, is_grab, JustQueues}
 
 -- ---- which job goes first
-
--- high goes before normal, and normal before low
-abbrev pub rank : Priority → ℕ
-rank High = 0
-rank Normal = 1
-rank Low = 2
 
 -- when the job last came to wait: how many notes there were before
 abbrev pub came : ℕ → List Note → ℕ

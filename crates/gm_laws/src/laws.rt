@@ -4,7 +4,7 @@
 ghost use Rattle.gm_notes.specs.Jobs.{made};
 ghost use Rattle.gm_history.specs.Laws.{AfterAnySteps, InEachStep};
 ghost use Rattle.gm_laws.specs.Abilities.{AbilitiesAreAsAsked};
-ghost use Rattle.gm_laws.specs.Laws.{AreNumbers, AreSlots, HavePlaces, AreOne, StayGone, AllIsSent};
+ghost use Rattle.gm_laws.specs.Laws.{AreConsecutive, AreSlots, HavePlaces, AreOne, StayGone, AllIsSent};
 ghost use Rattle.gm_laws.specs.Laws.{DiscardsTheUnwanted, EndsWithItsWorker, WorkersAndClocksEndJobs, GivesThePick};
 ghost use Rattle.gm_laws.specs.Laws.{GrabsGetThePick, SaysNoJobWhereNoneIs, OnlyDrainsTake, ModesNeverGoBack, MayBeTakenLater};
 ghost use Rattle.gm_laws.specs.Listeners.{OutputsAreSent, WhatWorkersSayIsPassedOn, EachListenerIsTold, OnlyEndsAreTold};
@@ -30,7 +30,7 @@ ghost use Rattle.gm_laws.specs.Done.{AnswersNameWhatIsNew};
 
 /// The numbers made are the first and its successors, each once, none above 18446744073709551615.
 pub fn numbers_are_consecutive()
-    ensures { AfterAnySteps (λ k notes. AreNumbers k (made notes)) }
+    ensures { AfterAnySteps (λ k notes. AreConsecutive k (made notes)) }
 {}
 
 /// An open connection has a slot below the number of slots.

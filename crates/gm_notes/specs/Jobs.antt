@@ -168,6 +168,12 @@ same_priority Normal Low = false
 same_priority Low High = false
 same_priority Low Normal = false
 
+-- high goes before normal, and normal before low
+abbrev pub rank : Priority → ℕ
+rank High = 0
+rank Normal = 1
+rank Low = 2
+
 abbrev pub is_job_of : List ℕ → Option Job → Bool
 is_job_of f None = false
 is_job_of f (Some job) = bytes_eq job.function f

@@ -6,7 +6,7 @@ use Rattle.gm_admin.specs.declared.fault.AdminFault.{AdminFault}
 use Rattle.gm_admin.specs.declared.fault.AdminFault.TheVariants as faults
 use Rattle.gm_admin.specs.declared.fault.AdminError.{AdminError}
 use Rattle.gm_admin.specs.declared.fault.AdminError.TheVariants as errors
-use Rattle.gm_admin.specs.Commands.{Asked, Status, Workers, MaxQueue, Version, Shutdown}
+use Rattle.gm_admin.specs.Commands.{Commanded, Status, Workers, MaxQueue, Version, Shutdown}
 use Rattle.gm_admin.specs.Answers.{StatusLine, WorkerLine, status_text, workers_text, ok_text, version_text, error_text}
 use Rattle.gm_notes.specs.declared.states.Mode.{Mode}
 use Rattle.gm_notes.specs.declared.states.Mode.TheVariants.{Running, Graceful, Stopped}
@@ -16,7 +16,7 @@ use Rattle.gm_notes.specs.Settings.{Settings}
 use Rattle.gm_notes.specs.Notes.{is_open, is_shut, addr, id, mode, slots_from}
 use Rattle.gm_notes.specs.Jobs.{functions, abilities, total, running, able}
 use Rattle.gm_notes.specs.Past.{Past, with_note, with_output, with_mention}
-use Rattle.gm_notes.specs.Submissions.{is_one_too_many}
+use Rattle.gm_notes.specs.Submissions.{max_name, is_one_too_many}
 
 -- a line that is refused is answered with an `ERR` line, and adds no note
 abbrev pub refuse_line : ℕ → AdminError → Past → Past
@@ -41,9 +41,9 @@ worker_rows k notes =
 
 -- ---- commands
 
--- a name over 512 bytes or with a NUL in it is no function; no word is empty
+-- a word with too many bytes or with a NUL in it is no name of a function; no word is empty
 abbrev pub is_bad_word : List ℕ → Bool
-is_bad_word f = nat_lt 512 (length f) || list_any (λ b. b == 0) f
+is_bad_word f = nat_lt max_name (length f) || list_any (λ b. b == 0) f
 
 abbrev pub maxqueue : Settings → ℕ → List ℕ → ℕ → Past → Past
 maxqueue k c f size past =
@@ -70,7 +70,7 @@ shutdown k c true past = with_output c ok_text (go_graceful (mode past.notes) pa
 shutdown k c false past = shut_each (slots_from 0 k.slots) (with_output c ok_text (with_note (Went Stopped) past))
 
 -- what a line of slot c does
-abbrev pub command : Settings → ℕ → Result Asked AdminFault → Past → Past
+abbrev pub command : Settings → ℕ → Result Commanded AdminFault → Past → Past
 command k c (Err fault) past = refuse_line c (fault_error fault) past
 command k c (Ok Status) past = with_output c (status_text (status_rows k past.notes)) past
 command k c (Ok Workers) past = with_output c (workers_text (worker_rows k past.notes)) past

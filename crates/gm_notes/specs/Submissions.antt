@@ -16,9 +16,13 @@ pub record Submission : Type 0 where
   pub priority : Priority
   pub background : Bool
 
--- a function's name has 1 to 512 bytes
+-- how many bytes a function's name may have
+abbrev pub max_name : ℕ
+max_name = 512
+
+-- it has at least one
 abbrev pub is_bad_name : List ℕ → Bool
-is_bad_name f = length f == 0 || nat_lt 512 (length f)
+is_bad_name f = length f == 0 || nat_lt max_name (length f)
 
 -- one function more can't be known
 abbrev pub is_one_too_many : Settings → List ℕ → List Note → Bool

@@ -69,8 +69,8 @@ grab k c uniq past = give_out k c uniq (pick k c past.notes) (wake_itself c past
 
 -- ---- work
 
--- a worker's report on its job: the packet to be passed on, whether only to listeners with the exceptions option,
--- the report that it holds, and whether the job ends with it
+-- what a WORK packet says of its job: the packet to be passed on, whether only to listeners with the exceptions option,
+-- the report of how far the job is, if it holds one, and whether the job ends with it
 pub record Work : Type 0 where
   pub answer : Answer
   pub exceptions_only : Bool

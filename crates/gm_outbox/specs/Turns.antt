@@ -1,6 +1,8 @@
 -- What is sent to a connection: the bytes that were drained, and then a NOOP where one was taken.
 use Rattle.std.specs.Prelude.{◌≡◌, ◌<◌, ◌≤◌, ◌^◌, ◌-◌, ℕ, List, [], ◌++◌, length, take, Bool, true, false, Option}
 use Rattle.std.specs.Io.KnownBytes.{Appends}
+use Rattle.std.specs.declared.io.ErrorKind.{ErrorKind}
+use Rattle.std.specs.declared.io.ErrorKind.TheVariants.{WouldBlock, TimedOut, Interrupted}
 use Rattle.gm_packet.specs.Answers.{noop, answer_packet}
 use Rattle.gm_outbox.specs.declared.message.Sent.{Sent}
 use Rattle.gm_outbox.specs.declared.message.Sent.TheVariants as sent
@@ -13,6 +15,13 @@ noop_if false = []
 -- what a turn sends: the bytes that were drained, and then a NOOP where one was taken
 abbrev pub turn_of : Bool → List ℕ → List ℕ
 turn_of took drained = drained ++ noop_if took
+
+-- what comes of a write that failed so: one that only came too early can be tried again
+abbrev pub sent_on : ErrorKind → Sent
+sent_on WouldBlock = sent.Some
+sent_on TimedOut = sent.Some
+sent_on Interrupted = sent.Some
+sent_on kind = sent.Failed
 
 -- A write took this many of the bytes, which are in order the next that the writer was given: all of them exactly where that is
 -- said, and none where there is no peer to write to.

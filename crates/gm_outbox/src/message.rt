@@ -1,7 +1,8 @@
 //! What is written to a socket at a time.
 
 ghost use Rattle.std.specs.Prelude.{◌≡◌};
-ghost use Rattle.gm_outbox.specs.Turns.{noop_if, Writes};
+ghost use Rattle.std.specs.IoError.{error_kind};
+ghost use Rattle.gm_outbox.specs.Turns.{noop_if, sent_on, Writes};
 
 use crate::wire::Wire;
 use std::io::{Error, ErrorKind};
@@ -20,11 +21,15 @@ pub enum Sent {
     Failed,
 }
 
-/// Whether a write only came too early.
-fn is_blocked(error: &Error) -> bool {
+/// What comes of a write that failed: one that only came too early can be tried again.
+fn sent_on(error: &Error) -> Sent
+    ensures { result ≡ sent_on (error_kind error.now) }
+{
     // Modelled in models/lane.h.
-    let kind = error.kind();
-    kind == ErrorKind::WouldBlock || kind == ErrorKind::TimedOut || kind == ErrorKind::Interrupted
+    match error.kind() {
+        ErrorKind::WouldBlock | ErrorKind::TimedOut | ErrorKind::Interrupted => Sent::Some,
+        _ => Sent::Failed,
+    }
 }
 
 /// A NOOP, where one was taken.
@@ -47,13 +52,6 @@ pub(crate) fn write_once<E, W: Wire<E>>(bytes: &[u8], w: &mut W, by: &E) -> (usi
         Ok(count) if count == bytes.len() => (count, Sent::All),
         Ok(0) => (0, Sent::Failed),
         Ok(count) => (count, Sent::Some),
-        Err(error) => (
-            0,
-            if is_blocked(&error) {
-                Sent::Some
-            } else {
-                Sent::Failed
-            },
-        ),
+        Err(error) => (0, sent_on(&error)),
     }
 }

@@ -1,6 +1,6 @@
 //! What is to be sent to a connection, and how it is sent.
 
-ghost use Rattle.std.specs.Prelude.{◌≡◌, ◌<◌, ◌≤◌, ℕ, List, [], ◌++◌, length, max, not, is_some, true};
+ghost use Rattle.std.specs.Prelude.{◌≡◌, ◌⊎◌, ◌<◌, ◌≤◌, ◌+◌, ℕ, List, [], ◌++◌, length, max, not, is_some, true};
 ghost use Rattle.gm_outbox.specs.Turns.{BeginsIf};
 
 use crate::message::{Sent, noop_if, write_once};
@@ -225,7 +225,7 @@ impl<K: BookName> Outbox<K> {
     }
 
     /// Sends what was left, and then what waits in the book: the bytes, and a NOOP where one is owed. What waits for another opening of the
-    /// slot than the connection's is sent to nobody.
+    /// slot than the connection's is sent to nobody. Where the book is asked for bytes, it is asked for the NOOP first.
     pub fn deliver<E, W: Wire<E>>(
         &mut self,
         rt: &impl Wait,
@@ -236,6 +236,7 @@ impl<K: BookName> Outbox<K> {
         ensures delivers { Delivers K.settings K.taped result self.old.pen.slot self.old.opening self.new.opening self.old.pen.seat.takes self.new.pen.seat.takes
             self.old.pen.witness.seen self.new.pen.witness.seen (W.contents w.old) (W.contents w.new) (left_in self.old.left) (left_in self.new.left) }
         ensures slot { self.new.pen.slot ≡ self.old.pen.slot }
+        ensures asks { (self.new.pen ≡ self.old.pen) ⊎ (self.new.pen.seat.tries ≡ self.old.pen.seat.tries + 1) }
     {
         // Modelled in models/lane.h.
         match self.send_left(w, by) {

@@ -6,7 +6,7 @@ use Rattle.gm_notes.specs.declared.note.Note.TheVariants.{Made}
 use Rattle.gm_notes.specs.Jobs.{made}
 use Rattle.gm_plain.proofs.NoteLemmas.{note_next}
 
--- of the oldest notes, so many jobs pass
+-- how many of the oldest notes' jobs pass
 abbrev pub Counted : (ℕ → Bool) → List Note → ℕ → ℕ → Type 0
 Counted P notes i count = (count ≡ length (filter P (made (reverse (take i notes))))) × (count ≤ i)
 

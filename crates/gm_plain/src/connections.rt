@@ -26,7 +26,7 @@ pub struct SlotFacts<'a> {
     pub phase: Phase,
 }
 
-/// What is seen of a slot of which no note says anything.
+/// A slot that no note mentions.
 const UNSEEN: SlotFacts<'static> = SlotFacts {
     is_open: false,
     is_shut: false,

@@ -12,7 +12,7 @@ use Rattle.gm_notes.specs.Steps.{run}
 use Rattle.gm_notes.specs.Servers.{IsRefusal}
 use Rattle.gm_front.specs.declared.front.Front.{Front}
 use Rattle.gm_front.specs.declared.input.Stepped.{Stepped}
-use Rattle.gm_front.specs.Inputs.{Input, Opens, Gives, Cuts, Closes, Ticks, Takes, Withdraws, Drains, Reading, fresh, refusal_of, opened_by}
+use Rattle.gm_front.specs.Inputs.{Input, Opens, Gives, Cuts, Closes, Ticks, Takes, Withdraws, Drains, Reading, nothing_read, refusal_of, opened_by}
 use Rattle.gm_front.specs.Fronts.{IsHeld, Agrees, IsTaken, IsRefused, Refuses}
 use Rattle.gm_play.specs.Scripts.{Skip, Hands}
 use Rattle.gm_play.specs.Prints.{refused_text, said_of, told, drained, Handing}
@@ -87,7 +87,7 @@ none_shut (suc n) zero = refl
 none_shut (suc n) (suc c) = none_shut n c
 
 pub ready : {S : Type 0} (agrees : S → Settings → List Step → Type 0) (k : Settings) (limits : Limits) (front : Front S) (slots : List Bool) (n : ℕ) → Agrees agrees k limits [] front → slots ≡ replicate n false → n ≡ k.slots
-    → IsReady agrees k limits fresh front slots
+    → IsReady agrees k limits nothing_read front slots
 ready agrees k limits front slots n a all count =
     record {
       held = subst (λ (r : Reading). IsHeld agrees k limits r front) a.reads a.held;

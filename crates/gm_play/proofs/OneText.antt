@@ -4,7 +4,7 @@ use Rattle.gm_feeder.specs.declared.units.Limits.{Limits}
 use Rattle.gm_notes.specs.declared.event.ApplyError.{ApplyError}
 use Rattle.gm_notes.specs.Settings.{Settings}
 use Rattle.gm_notes.specs.Steps.{run}
-use Rattle.gm_front.specs.Inputs.{Input, Reading, fresh, refusal_of, opened_by}
+use Rattle.gm_front.specs.Inputs.{Input, Reading, nothing_read, refusal_of, opened_by}
 use Rattle.gm_front.proofs.OneReading.{one_adding}
 use Rattle.gm_play.specs.Scripts.{Order, Skip, Bad, Hands, order_of, lines_of}
 use Rattle.gm_play.specs.Prints.{Settles, Handing, Tells, Prints, IsTextOf, told, drained, said_of}
@@ -33,4 +33,4 @@ one_print k limits reading (line ∷ lines) a b p q =
     p.5 ∙ (ap₂ (λ (l m : List ℕ). l ++ m) same.0 more ∙ sym q.5)
 
 pub one_text : (k : Settings) (limits : Limits) (script a b : List ℕ) → IsTextOf k limits script a → IsTextOf k limits script b → a ≡ b
-one_text k limits script a b p q = one_print k limits fresh (lines_of script) a b p q
+one_text k limits script a b p q = one_print k limits nothing_read (lines_of script) a b p q

@@ -18,13 +18,13 @@ use Rattle.gm_front.specs.declared.input.Stepped.{Stepped}
 use Rattle.gm_front.specs.Inputs.{Takes, Drains, Reading}
 use Rattle.gm_front.specs.declared.input.StepError.{StepError}
 use Rattle.gm_front.specs.declared.input.StepError.TheVariants.{Refused, Cut}
-use Rattle.gm_front.specs.Fronts.{IsHeld, IsTaken, IsRefused, Answers}
+use Rattle.gm_front.specs.Fronts.{IsHeld, IsTaken, IsRefused, AnswersInput}
 use Rattle.gm_play.specs.Prints.{bytes_text, shut_text, noop_if, took_if, told_of, drain_of, told, drained}
 use Rattle.gm_play.specs.Players.{IsHeldSince, TakesNoop, TellsOne, TellsAll}
 
 -- a drain is never refused
 pub drains : {S : Type 0} (agrees : S → Settings → List Step → Type 0) (k : Settings) (limits : Limits) (reading : Reading) (c : ℕ) (result : Result Stepped StepError) (front : Front S)
-    → ((stepped : Stepped) → result ≡ Ok stepped → ⊥) → Answers agrees k limits (Drains c) reading result front → ⊥
+    → ((stepped : Stepped) → result ≡ Ok stepped → ⊥) → AnswersInput agrees k limits (Drains c) reading result front → ⊥
 drains agrees k limits reading c (Ok stepped) front refused answered = refused stepped refl
 drains agrees k limits reading c (Err (Refused error)) front refused answered = absurd (let wrong : None ≡ Some error = answered.stands in cc)
 drains agrees k limits reading c (Err (Cut units)) front refused answered = answered
@@ -62,7 +62,7 @@ takes_none agrees k limits reading c out refused front t =
     }
 
 pub takes_not : {S : Type 0} (agrees : S → Settings → List Step → Type 0) (k : Settings) (limits : Limits) (reading : Reading) (c : ℕ) (out : List ℕ) (error : StepError) (front : Front S)
-    → Answers agrees k limits (Takes c) reading (Err error) front → TakesNoop agrees k limits reading c out front out
+    → AnswersInput agrees k limits (Takes c) reading (Err error) front → TakesNoop agrees k limits reading c out front out
 takes_not agrees k limits reading c out (Refused refused) front a = takes_none agrees k limits reading c out refused front a
 takes_not agrees k limits reading c out (Cut units) front a = absurd a
 

@@ -13,7 +13,7 @@ use Rattle.gm_notes.specs.Past.{Past}
 use Rattle.gm_notes.specs.Steps.{Step, Took, Drain}
 use Rattle.gm_notes.specs.Steps.{run}
 use Rattle.gm_notes.specs.Servers.{is_closing, owes}
-use Rattle.gm_front.specs.Inputs.{Input, Reading, fresh, Adds, refusal_of, opened_by}
+use Rattle.gm_front.specs.Inputs.{Input, Reading, nothing_read, Adds, refusal_of, opened_by}
 use Rattle.gm_play.specs.Scripts.{Order, Skip, Bad, Hands, order_of, lines_of}
 
 -- ---- printed lines, each with its newline (10)
@@ -110,4 +110,4 @@ Prints k limits reading (line ∷ lines) text =
 
 -- the text that a script prints, on a server with these settings and feeders with these limits
 abbrev pub IsTextOf : Settings → Limits → List ℕ → List ℕ → Type 0
-IsTextOf k limits script text = Prints k limits fresh (lines_of script) text
+IsTextOf k limits script text = Prints k limits nothing_read (lines_of script) text

@@ -553,9 +553,13 @@ are_served k limits log legal own c takes heard past since heard_until given_unt
     let all : events_of c log ≡ units ++ events =
     ap events_in (calls_known log (2 * c) heard_until knows)
     ∙ (ap (events_of c) lead.adds.goes_on ∙ (events_of_more c lead.adds.newer since ∙ ap₂ (λ xs ys. xs ++ ys) lead.adds.events_are (events_are c limits heard since are))) in
+    let said : said_at c (steps_of log) ≡ units ++ events =
+    said_own c log own ∙ (ap (said_at c) all ∙ (said_units c units events (session_units c lead.items lead.fault) ∙ ap (λ l. units ++ l) (said_heard c limits heard since are))) in
+    let closed : closings c (said_at c (steps_of log)) ≡ length heard =
+    ap (closings c) said ∙ (closings_units c units events (session_units c lead.items lead.fault) ∙ closings_heard c limits heard since are) in
     record {
-      handed_in = handed_in c k limits log legal heard since are units
-          (said_own c log own ∙ (ap (said_at c) all ∙ (said_units c units events (session_units c lead.items lead.fault) ∙ ap (λ l. units ++ l) (said_heard c limits heard since are))));
+      handed_in = handed_in c k limits log legal heard since are units said;
+      all = balance k c log legal ∙ ap (λ (n : ℕ). n + one_if (is_open c (past_of k log).notes)) closed;
       sent = All-from_recursion (IsSent k log c) past (are_sent k log legal own c past given_until takes gave.newer gave.goes_on are_past);
       rise = rise;
     }

@@ -6,6 +6,7 @@ use Rattle.gm_feeder.specs.Units.{Item}
 use Rattle.gm_front.specs.Units.{steps_of as steps_of_units, IsFaultAt, BeginsWith}
 use Rattle.gm_notes.specs.declared.event.UnitFault.{UnitFault}
 use Rattle.gm_notes.specs.Settings.{Settings}
+use Rattle.gm_notes.specs.Notes.{is_open}
 use Rattle.gm_notes.specs.Flow.{sent}
 use Rattle.gm_notes.specs.Steps.{Step, Close}
 use Rattle.gm_history.specs.Laws.{IsPrefix}
@@ -65,10 +66,11 @@ pub record IsSent (k : Settings) (log : List Entry) (c : ℕ) (p : Past) : Type 
 
 -- ---- the law
 
--- What was read from each connection of slot c that is closed is handed in, and what was written to each that is gone was sent to it. No two that were
--- written to are of one opening.
+-- What was read from each connection of slot c that is closed is handed in. There is one for each opening of the slot, but for the last one while the
+-- slot is open. What was written to each that is gone was sent to it, and no two that were written to are of one opening.
 pub record AreServed (k : Settings) (limits : Limits) (log : List Entry) (c : ℕ) (heard : List Heard) (past : List Past) : Type 0 where
   pub handed_in : AreHandedIn limits log c heard
+  pub all : openings c log ≡ length heard + (if is_open c (past_of k log).notes then 1 else 0)
   pub sent : All (IsSent k log c) past
   pub rise : Rise past
 

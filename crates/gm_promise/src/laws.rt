@@ -39,7 +39,8 @@ pub fn bytes_are_in_the_history()
 {}
 
 /// A connection's whole life: what was handed in of it are the first units of what was read from it, and what was written to it is a prefix of
-/// what the abstract server sent to it, each NOOP behind the bytes that were drained with it.
+/// what the abstract server sent to it, each NOOP behind the bytes that were drained with it. Each opening of a slot but one that is still open
+/// has its own account of what was read.
 pub fn connections_are_served()
     ensures { ConnectionsAreServed }
 {}

@@ -5,7 +5,8 @@ use Rattle.std.proofs.lemmas.Bool.{cases_lt}
 use Rattle.gm_notes.specs.declared.states.Priority.{Priority}
 use Rattle.gm_notes.specs.declared.states.Priority.TheVariants.{High, Normal, Low}
 use Rattle.gm_queues.specs.Queues.{no_jobs}
-use Rattle.gm_queues.specs.FunctionTables.{Table, rank, ChangesNames, IsFree}
+use Rattle.gm_notes.specs.Jobs.{rank}
+use Rattle.gm_queues.specs.FunctionTables.{Table, ChangesNames, IsFree}
 
 module _ {A : Type 0} (d : A) where
   -- a list with defaults at its end has the same element everywhere

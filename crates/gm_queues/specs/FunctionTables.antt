@@ -6,7 +6,8 @@ use Rattle.std.specs.declared.hash.RandomState.{RandomState}
 use Rattle.gm_packet.specs.Packets.{has_nul}
 use Rattle.gm_notes.specs.declared.states.Priority.{Priority}
 use Rattle.gm_notes.specs.declared.states.Priority.TheVariants.{High, Normal, Low}
-use Rattle.gm_notes.specs.Jobs.{same_priority}
+use Rattle.gm_notes.specs.Jobs.{same_priority, rank}
+use Rattle.gm_notes.specs.Submissions.{max_name}
 use Rattle.gm_queues.specs.Queues.{Queue, Leaves, no_jobs, idle}
 
 -- The seed with which it hashes; how many functions there may be; their names in the order of mention; their limits; and their
@@ -18,15 +19,10 @@ pub record Table : Type 0 where
   pub limits : List ℕ
   pub queues : List Queue
 
--- a name that packets can carry: of at most 512 bytes, and without NUL
+-- a name that packets can carry: not too long, and without NUL
 pub record IsName (name : List ℕ) : Type 0 where
   pub plain : has_nul name ≡ false
-  pub sized : length name ≤ 512
-
-abbrev pub rank : Priority → ℕ
-rank High = 0
-rank Normal = 1
-rank Low = 2
+  pub sized : length name ≤ max_name
 
 -- no functions, with this bound on their number
 abbrev pub no_functions : RandomState → ℕ → Table

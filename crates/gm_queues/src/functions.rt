@@ -7,7 +7,8 @@ ghost use Rattle.std.specs.Str.{bytes_eq};
 ghost use Rattle.gm_queues.specs.Queues.{no_jobs, with_reserved_one, without_reserved_one, with_job, without_first};
 ghost use Rattle.std.specs.Vec.{vec_len, vec_capacity};
 ghost use Rattle.indexmap.specs.IndexSet.{spare, hasher_of};
-ghost use Rattle.gm_queues.specs.FunctionTables.{no_functions, IsName, rank, number_of, limit, queue, waiting_for, running_of, HasIdleRoom};
+ghost use Rattle.gm_notes.specs.Jobs.{rank};
+ghost use Rattle.gm_queues.specs.FunctionTables.{no_functions, IsName, number_of, limit, queue, waiting_for, running_of, HasIdleRoom};
 ghost use Rattle.gm_queues.specs.FunctionTables.{ChangesQueue, ForgetsJob, SetsLimit, ChangesNames, IsFree};
 
 use crate::name_hash::NameHash;

@@ -16,7 +16,7 @@ use Rattle.gm_promise.specs.Owners.{AreOwn}
 use Rattle.gm_promise.specs.declared.account.Account.{Account}
 use Rattle.gm_promise.specs.Accounts.{AreAccounted}
 use Rattle.gm_slots.specs.declared.served.Served.{Served}
-use Rattle.gm_slots.specs.Served.{HasEverybody, IsWhole, SettledSo, EndsSo}
+use Rattle.gm_slots.specs.Served.{HasEverybody, AllClosed, IsWhole, SettledSo, EndsSo}
 use Rattle.gm_promise.proofs.Owning.{map_twice}
 
 -- the settings of the blank book are those that were asked for
@@ -27,8 +27,8 @@ ends_as k asked taped kept history served settings tape so =
 -- the history that is handed out is that of which all this is known
 pub whole_of : (k : Settings) (taped : Bool) (history : TableId) (settled : Settled) (accounts : List Account) (log : List Entry) → settled.history.log ≡ log → settled.history.table ≡ history
     → Legal k log → CoreAgrees settled.core k (steps_of log) → AreOwn log → settled.tape.items ≡ (if taped then reverse log else []) → AddUp settled.tape.items (map told_by settled.shares.items)
-    → HasEverybody k settled → AreAccounted k log accounts → IsWhole k taped history settled accounts
-whole_of k taped history settled accounts log is of legal agrees own tape up everybody accounted =
+    → HasEverybody k settled → AllClosed k (steps_of settled.history.log) → AreAccounted k log accounts → IsWhole k taped history settled accounts
+whole_of k taped history settled accounts log is of legal agrees own tape up everybody closed accounted =
     let same = sym is in
     record {
       of = of;
@@ -38,6 +38,7 @@ whole_of k taped history settled accounts log is of legal agrees own tape up eve
       tape = tape ∙ ap (λ (l : List Entry). if taped then reverse l else []) same;
       up = up;
       everybody = everybody;
+      closed = closed;
       accounted = subst (λ l. AreAccounted k l accounts) same accounted;
     }
 
@@ -45,6 +46,6 @@ whole_of k taped history settled accounts log is of legal agrees own tape up eve
 pub not_settled : (k : Settings) (taped : Bool) (history : TableId) (accounts : List Account) (error : SettleError) (shares : List (Actor × List Told)) (witnesses : List WitnessState) → WhySo k taped error shares witnesses
     → SettledSo k taped history (Err error) accounts
 not_settled k taped history accounts Memory shares witnesses why = tt
-not_settled k taped history accounts (Differs settled) shares witnesses why = λ all.
+not_settled k taped history accounts (Differs settled) shares witnesses why = λ all closed.
     let first : Actor × List Told → Actor = λ share. share.0 in
     why.missing (ap (map first) (sym why.ended.shares_are) ∙ (map_twice told_by first settled.shares.items ∙ all))

@@ -1,7 +1,9 @@
 -- How a server ended.
-use Rattle.std.specs.Prelude.{◌≡◌, ℕ, Bool, if◌then◌else◌, List, [], map, reverse, Result, Ok, Err, vec_len}
+use Rattle.std.specs.Prelude.{◌≡◌, ℕ, ◌<◌, Bool, false, if◌then◌else◌, List, [], map, reverse, Result, Ok, Err, vec_len}
 use Rattle.atomic_table.specs.Seated.{TableId}
 use Rattle.gm_notes.specs.Settings.{Settings as BookSettings}
+use Rattle.gm_notes.specs.Notes.{is_open}
+use Rattle.gm_notes.specs.Steps.{Step, run}
 use Rattle.gm_shared.specs.declared.settling.Settled.{Settled}
 use Rattle.gm_shared.specs.declared.tape.Share.{Share}
 use Rattle.gm_shared.specs.declared.settling.SettleError.{SettleError}
@@ -22,8 +24,13 @@ use Rattle.gm_report.specs.declared.summary.Summary.{Summary}
 abbrev pub HasEverybody : BookSettings → Settled → Type 0
 HasEverybody k settled = map (λ (share : Share). share.actor) settled.shares.items ≡ everybody k.slots
 
+-- No slot is open after these steps.
+abbrev pub AllClosed : BookSettings → List Step → Type 0
+AllClosed k steps = (c : ℕ) → c < k.slots → is_open c (run k steps).notes ≡ false
+
 -- A server ended with the history of this book, which is legal, and in which each entry is its desk's or pen's own. The core is what it leads to,
--- and the tape, where one was kept, is it. The shares add up with the tape, and none is missing. Each connection was served as it says.
+-- and the tape, where one was kept, is it. The shares add up with the tape, and none is missing. No slot is open, and each connection was served as it
+-- says.
 pub record IsWhole (k : BookSettings) (taped : Bool) (history : TableId) (settled : Settled) (accounts : List Account) : Type 0 where
   pub of : settled.history.table ≡ history
   pub legal : Legal k settled.history.log
@@ -32,17 +39,18 @@ pub record IsWhole (k : BookSettings) (taped : Bool) (history : TableId) (settle
   pub tape : settled.tape.items ≡ (if taped then reverse settled.history.log else [])
   pub up : AddUp settled.tape.items (map told_by settled.shares.items)
   pub everybody : HasEverybody k settled
+  pub closed : AllClosed k (steps_of settled.history.log)
   pub accounted : AreAccounted k settled.history.log accounts
 
--- A share is missing.
-abbrev pub LacksAShare : BookSettings → Settled → Type 0
-LacksAShare k settled = HasEverybody k settled → ⊥
+-- A share is missing, or a slot is open.
+abbrev pub IsPartial : BookSettings → Settled → Type 0
+IsPartial k settled = HasEverybody k settled → AllClosed k (steps_of settled.history.log) → ⊥
 
 -- how a book with this history was settled, with the accounts of its slots, or that it couldn't be
 abbrev pub SettledSo : BookSettings → Bool → TableId → Result Settled SettleError → List Account → Type 0
 SettledSo k taped history (Ok settled) accounts = IsWhole k taped history settled accounts
 SettledSo k taped history (Err of_book.Memory) accounts = Unit {0}
-SettledSo k taped history (Err (of_book.Differs settled)) accounts = LacksAShare k settled
+SettledSo k taped history (Err (of_book.Differs settled)) accounts = IsPartial k settled
 
 -- a server with these settings served, and its book was settled so: the one history is that which is handed out
 abbrev pub EndsSo : BookSettings → Bool → Served → Type 0

@@ -3,15 +3,19 @@
 ghost use Rattle.std.specs.Prelude.{◌≡◌, Bool, List, [], ◌∷◌, IfOk, MatchBool, All, map, length, true};
 ghost use Rattle.atomic_table.specs.Seated.{TableId};
 ghost use Rattle.gm_notes.specs.Settings.{Settings as BookSettings};
+ghost use Rattle.gm_notes.specs.Steps.{Step};
+ghost use Rattle.gm_core.specs.Holds.{CoreAgrees};
+ghost use Rattle.gm_shared.specs.Tapes.{steps_of};
 ghost use Rattle.gm_shared.specs.declared.tape.Actor.TheVariants as actors;
 ghost use Rattle.gm_shared.specs.Shared.{everybody, numbers_below};
 ghost use Rattle.gm_session.specs.Owners.{SaysOwn};
 ghost use Rattle.gm_promise.specs.declared.account.Account.{Account};
 ghost use Rattle.gm_promise.specs.Accounts.{AreAccounts};
-ghost use Rattle.gm_slots.specs.Served.{HasEverybody, IsWhole, SettledSo};
+ghost use Rattle.gm_slots.specs.Served.{HasEverybody, AllClosed, IsWhole, SettledSo};
 
 use crate::served::Served;
 use crate::slot::{Slot, SlotParts};
+use gm_core::Core;
 use gm_promise::Account;
 use gm_session::OwnDesk;
 use gm_shared::{Actor, BookName, Desk, Pen, SettleError, Settled, Share, Shared, settle};
@@ -85,12 +89,26 @@ fn all_parts<K: BookName>(
     })
 }
 
-/// A book that is settled, if everybody's share is there.
-fn with_everybody(settled: Settled, actors: &[Actor]) -> Result<Settled, SettleError>
-    ensures { (k : BookSettings) (taped : Bool) (history : TableId) (accounts : List Account) → actors.now ≡ everybody k.slots
-        → (HasEverybody k settled → IsWhole k taped history settled accounts) → SettledSo k taped history result accounts }
+/// Whether none of a book's slots, of which there are this many, is open any more.
+fn are_closed(core: &Core, slots: u32) -> bool
+    ensures { (k : BookSettings) (steps : List Step) → k.slots ≡ slots → CoreAgrees core.now k steps → MatchBool result (AllClosed k steps) (AllClosed k steps → ⊥) }
 {
-    if are_of(settled.shares.as_slice(), actors) {
+    let (conns, _, _) = core.parts();
+    for slot in 0..slots {
+        if conns.is_open(slot) {
+            return false;
+        }
+    }
+    true
+}
+
+/// A book that is settled, if everybody's share is there and no slot is open.
+fn with_everybody(settled: Settled, actors: &[Actor], slots: u32) -> Result<Settled, SettleError>
+    ensures { (k : BookSettings) (taped : Bool) (history : TableId) (accounts : List Account) → actors.now ≡ everybody k.slots → k.slots ≡ slots
+        → CoreAgrees settled.core k (steps_of settled.history.log)
+        → (HasEverybody k settled → AllClosed k (steps_of settled.history.log) → IsWhole k taped history settled accounts) → SettledSo k taped history result accounts }
+{
+    if are_of(settled.shares.as_slice(), actors) && are_closed(&settled.core, slots) {
         Ok(settled)
     } else {
         Err(SettleError::Differs(settled))
@@ -118,7 +136,7 @@ pub fn settle_slots<K: BookName>(
         accounts,
     } = all_parts(alloc, slots, control)?;
     let book = match settle(alloc, shared, desks, pens) {
-        Ok(settled) => with_everybody(settled, actors.as_slice()),
+        Ok(settled) => with_everybody(settled, actors.as_slice(), slot_count),
         Err(error) => Err(error),
     };
     Ok(Served {

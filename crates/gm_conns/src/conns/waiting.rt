@@ -1,7 +1,7 @@
 //! The bytes that wait for connections.
 
 ghost use Rattle.std.specs.Prelude.{◌≡◌, ◌≤◌, true, false, ◌++◌, ◌+◌, length, OnOk, OnErr};
-ghost use Rattle.gm_conns.specs.Connections.{with_room, with_bytes, drained};
+ghost use Rattle.gm_conns.specs.Connections.{with_room, with_bytes, emptied};
 ghost use Rattle.gm_conns.specs.ConnTables.{conn, IsOpen, Changes};
 
 use super::Conns;
@@ -56,7 +56,7 @@ impl Conns {
     pub fn drain(&mut self, slot: u32) -> ByteQueue
         requires { IsOpen self.old slot }
         ensures bytes { result.bytes ≡ (conn self.old slot).waiting }
-        ensures rest { Changes slot drained true self.old self.new }
+        ensures rest { Changes slot emptied true self.old self.new }
     {
         let conn = &mut self.conns[slot as usize];
         let bytes = conn.queue.take();

@@ -3,7 +3,7 @@
 ghost use Rattle.std.specs.Prelude.{◌≡◌, true, false, List, Ok, OnOk, length, ◌≤◌};
 ghost use Rattle.gm_admin.specs.Answers.{ok_text, version_text};
 ghost use Rattle.gm_admin.specs.Commands.{command_of};
-ghost use Rattle.gm_admin.specs.Views.{asked_of};
+ghost use Rattle.gm_admin.specs.Views.{commanded_of};
 ghost use Rattle.gm_conns.specs.ConnTables.{IsOpen, conn};
 ghost use Rattle.gm_notes.specs.Notes.{mode, slots_from};
 ghost use Rattle.gm_notes.specs.Settings.{Settings};
@@ -55,7 +55,7 @@ impl Tables {
         requires open { IsOpen self.old.conns slot }
         requires named { NamesFunction asked.now }
         requires kept { IsKept self.old }
-        ensures { Does self.old result self.new (command self.old.config slot (Ok (asked_of asked.now))) }
+        ensures { Does self.old result self.new (command self.old.config slot (Ok (commanded_of asked.now))) }
     {
         match *asked {
             Command::Status => self.list_functions(slot),

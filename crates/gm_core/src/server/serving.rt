@@ -7,7 +7,7 @@ ghost use Rattle.gm_notes.specs.Past.{give};
 ghost use Rattle.gm_notes.specs.Servers.{Answers, steps_after};
 ghost use Rattle.gm_notes.specs.Settings.{Settings};
 ghost use Rattle.gm_notes.specs.Steps.{Step, Packet};
-ghost use Rattle.gm_actions.specs.Actions.{act, acted, IsNamed, CanBeTold, acts_without_memory, ActsWithoutMemory};
+ghost use Rattle.gm_actions.specs.Actions.{act, acted, HasGoodNames, CanBeTold, acts_without_memory, ActsWithoutMemory};
 ghost use Rattle.gm_actions.specs.ReadEvents.{ReadsPacket};
 
 use super::Tables;
@@ -28,7 +28,7 @@ impl Tables {
         action: &Result<Action<'_>, Refusal>,
         freed: &mut Option<SharedBytes>,
     ) -> Result<Done, ApplyError>
-        requires named { IfOk action.now IsNamed }
+        requires named { IfOk action.now HasGoodNames }
         requires told { IfOk action.now CanBeTold }
         requires kept { IsKept self.old }
         ensures answers { (kind : ℕ) (bytes : List ℕ) → ReadsPacket kind bytes action.now → (k : Settings) (steps : List Step) → CoreAgrees self.old k steps
@@ -55,7 +55,7 @@ impl Tables {
         freed: &mut Option<SharedBytes>,
     ) -> Result<Option<u64>, AllocError>
         requires open { IsOpen self.old.conns slot }
-        requires named { IfOk action.now IsNamed }
+        requires named { IfOk action.now HasGoodNames }
         requires told { IfOk action.now CanBeTold }
         requires kept { IsKept self.old }
         ensures does { Does self.old result self.new (acted self.old.config slot action.now) }
@@ -80,7 +80,7 @@ impl Tables {
         freed: &mut Option<SharedBytes>,
     ) -> Result<Option<u64>, AllocError>
         requires open { IsOpen self.old.conns slot }
-        requires named { IsNamed action.now }
+        requires named { HasGoodNames action.now }
         requires told { CanBeTold action.now }
         requires kept { IsKept self.old }
         ensures does { Does self.old result self.new (act self.old.config slot action.now) }
@@ -95,7 +95,7 @@ impl Tables {
             Action::ResetAbilities => self.reset(slot),
             Action::PreSleep => self.pre_sleep(slot),
             Action::Grab { with_unique } => self.grab(slot, with_unique)?,
-            Action::Tell(about) => self.work(slot, about.handle, &about.said, freed)?,
+            Action::Work(packet) => self.work(slot, &packet, freed)?,
             Action::GetStatus { handle } => self.tell_status(slot, handle)?,
             Action::Echo { body } => self.echo(slot, &body)?,
             Action::SetClientId { id } => self.set_client_id(slot, id)?,

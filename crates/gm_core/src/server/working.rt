@@ -9,7 +9,7 @@ ghost use Rattle.gm_notes.specs.Jobs.{job_of_handle};
 ghost use Rattle.gm_notes.specs.Past.{Past, with_note};
 ghost use Rattle.gm_notes.specs.declared.note.Note.TheVariants.{Discarded, Ended};
 ghost use Rattle.gm_notes.specs.Workers.{end_if, work};
-ghost use Rattle.gm_actions.specs.Actions.{SaidFits, work_of};
+ghost use Rattle.gm_actions.specs.Actions.{WorkFits, work_of};
 ghost use Rattle.gm_core.specs.Facts.{job_facts};
 ghost use Rattle.gm_core.specs.Holds.{HoldsJobs};
 ghost use Rattle.gm_core.specs.Ticks.{OthersStay};
@@ -18,7 +18,7 @@ ghost use Rattle.gm_core.specs.Freed.{body_at, Frees};
 
 use super::Tables;
 use crate::telling::{prepare_each, put_each};
-use gm_actions::{Refusal, Said, number_in};
+use gm_actions::{Refusal, WorkPacket, number_in};
 use gm_bytes::SharedBytes;
 use gm_jobs::{Job, Jobs};
 use gm_notes::Config;
@@ -48,34 +48,33 @@ fn running_at<'a>(
 impl Tables {
     ghost use Rattle.gm_core.specs.Holds.{IsKept, Goes, Does};
 
-    /// The worker in a slot says something of the job that a handle names, if that runs there: it is told to those that hear
-    /// it, kept, and perhaps ends the job.
+    /// The worker in a slot sends a WORK packet. If its job runs there, those that listen are told, how far the job is is kept, and
+    /// perhaps the job ends.
     pub(super) fn work(
         &mut self,
         slot: u32,
-        handle: &[u8],
-        said: &Said<'_>,
+        packet: &WorkPacket<'_>,
         freed: &mut Option<SharedBytes>,
     ) -> Result<(), AllocError>
         requires open { IsOpen self.old.conns slot }
-        requires fits { SaidFits said.now }
+        requires fits { WorkFits packet.now }
         requires kept { IsKept self.old }
-        ensures does { Does self.old result self.new (work self.old.config slot handle.now (work_of said.now)) }
+        ensures does { Does self.old result self.new (work self.old.config slot packet.now.handle.now (work_of packet.now)) }
         ensures freed { Frees self.old.jobs self.new.jobs freed.old freed.new }
     {
-        let Some((job, slots)) = running_at(&self.config, &self.jobs, slot, handle) else {
+        let Some((job, slots)) = running_at(&self.config, &self.jobs, slot, packet.handle) else {
             return self.refuse(slot, Refusal::JobNotFound);
         };
-        prepare_each(&mut self.conns, &mut self.text, slots, said)?;
-        match said.report {
-            None => put_each(&mut self.conns, slots, said.exceptions_only, &mut self.text),
+        prepare_each(&mut self.conns, &mut self.text, slots, packet)?;
+        match packet.report {
+            None => put_each(&mut self.conns, slots, packet.exceptions_only, &mut self.text),
             Some(report) => {
                 self.jobs.report(job, report.numerator, report.denominator)?;
                 let slots = self.jobs.listeners(job);
-                put_each(&mut self.conns, slots, said.exceptions_only, &mut self.text);
+                put_each(&mut self.conns, slots, packet.exceptions_only, &mut self.text);
             }
         }
-        self.end_if(job, said.ends, freed);
+        self.end_if(job, packet.ends, freed);
         Ok(())
     }
 

@@ -3,7 +3,7 @@
 ghost use Rattle.std.specs.Prelude.{◌≡◌, ◌<◌, ◌≤◌, true, false, List, Ok};
 ghost use Rattle.gm_admin.specs.Answers.{status_text, workers_text, ok_text, version_text};
 ghost use Rattle.gm_admin.specs.Commands.{command_of};
-ghost use Rattle.gm_admin.specs.Views.{asked_of};
+ghost use Rattle.gm_admin.specs.Views.{commanded_of};
 ghost use Rattle.gm_notes.specs.Settings.{Settings};
 ghost use Rattle.gm_notes.specs.Notes.{slots_from};
 ghost use Rattle.gm_notes.specs.Past.{with_output, with_note, with_mention};
@@ -51,7 +51,7 @@ impl PlainServer {
     fn obey(&mut self, slot: u32, asked: &Command<'_>) -> Result<(), AllocError>
         requires slot { slot < self.old.config.slots }
         requires named { NamesFunction asked.now }
-        ensures { Does self.old result self.new (command self.old.config slot (Ok (asked_of asked.now))) }
+        ensures { Does self.old result self.new (command self.old.config slot (Ok (commanded_of asked.now))) }
     {
         match *asked {
             Command::Status => self.list_functions(slot),

@@ -4,7 +4,7 @@ ghost use Rattle.std.specs.Prelude.{◌<◌, ◌≤◌, length};
 ghost use Rattle.gm_packet.specs.Kinds.{kind_of};
 ghost use Rattle.gm_plain.specs.Holds.{Does};
 ghost use Rattle.gm_notes.specs.Requests.{packet_of};
-ghost use Rattle.gm_actions.specs.Actions.{act, IsNamed, CanBeTold};
+ghost use Rattle.gm_actions.specs.Actions.{act, HasGoodNames, CanBeTold};
 
 use super::PlainServer;
 use gm_actions::Action;
@@ -28,7 +28,7 @@ impl PlainServer {
     /// Does what is asked of a slot.
     fn act(&mut self, slot: u32, action: &Action<'_>) -> Result<(), AllocError>
         requires slot { slot < self.old.config.slots }
-        requires named { IsNamed action.now }
+        requires named { HasGoodNames action.now }
         requires told { CanBeTold action.now }
         ensures { Does self.old result self.new (act self.old.config slot action.now) }
     {
@@ -39,7 +39,7 @@ impl PlainServer {
             Action::PreSleep => self.pre_sleep(slot),
             Action::Grab { with_unique } => self.grab(slot, with_unique),
             Action::Submit(asked) => self.submit(slot, &asked),
-            Action::Tell(about) => self.work(slot, about.handle, &about.said),
+            Action::Work(packet) => self.work(slot, &packet),
             Action::GetStatus { handle } => self.tell_status(slot, handle),
             Action::Echo { body } => {
                 let body = body.as_slice();

@@ -6,7 +6,7 @@ ghost use Rattle.std.specs.List.{All};
 ghost use Rattle.gm_notes.specs.Jobs.{job_state, listeners};
 ghost use Rattle.gm_notes.specs.JobStates.{is_running};
 ghost use Rattle.gm_plain.specs.Holds.{Goes, Does};
-ghost use Rattle.gm_actions.specs.Actions.{SaidFits, ReportFits, work_of, said_report};
+ghost use Rattle.gm_actions.specs.Actions.{WorkFits, ReportFits, work_of, option_report};
 ghost use Rattle.gm_notes.specs.Workers.{hearers, keep_report, end_if, work, tell_work};
 
 use super::PlainServer;
@@ -14,15 +14,18 @@ use crate::connections::seen;
 use crate::handles::job_of_handle;
 use crate::jobs::{is_running_at, listeners};
 use crate::log::Log;
-use gm_actions::{Refusal, Report, Said};
+use gm_actions::{Refusal, Report, WorkPacket};
 use gm_notes::{Note, Text};
 use std::alloc::{AllocError, Global};
 
 /// Copies the numerator and the denominator of a report, if there is one.
-fn copy_report(alloc: Global, said: Option<Report<'_>>) -> Result<Option<(Text, Text)>, AllocError>
-    ensures { IfOk result (λ kept. kept ≡ said_report said.entry) }
+fn copy_report(
+    alloc: Global,
+    report: Option<Report<'_>>,
+) -> Result<Option<(Text, Text)>, AllocError>
+    ensures { IfOk result (λ kept. kept ≡ option_report report.entry) }
 {
-    let Some(report) = said else {
+    let Some(report) = report else {
         return Ok(None);
     };
     let numerator = Text::copy_of(alloc, report.numerator)?;
@@ -68,37 +71,32 @@ fn hearers(
 }
 
 impl PlainServer {
-    /// The worker in a slot says something of the job that a handle names.
-    pub(super) fn work(
-        &mut self,
-        slot: u32,
-        handle: &[u8],
-        said: &Said<'_>,
-    ) -> Result<(), AllocError>
+    /// The worker in a slot sends a WORK packet on a job.
+    pub(super) fn work(&mut self, slot: u32, packet: &WorkPacket<'_>) -> Result<(), AllocError>
         requires slot { slot < self.old.config.slots }
-        requires fits { SaidFits said.now }
-        ensures { Does self.old result self.new (work self.old.config slot handle.now (work_of said.now)) }
+        requires fits { WorkFits packet.now }
+        ensures { Does self.old result self.new (work self.old.config slot packet.now.handle.now (work_of packet.now)) }
     {
-        let Some(job) = job_of_handle(&self.log, &self.config, handle) else {
+        let Some(job) = job_of_handle(&self.log, &self.config, packet.handle) else {
             return self.refuse(slot, Refusal::JobNotFound);
         };
         if !is_running_at(&self.log, job, slot) {
             return self.refuse(slot, Refusal::JobNotFound);
         }
-        self.tell_work(job, said)
+        self.tell_work(job, packet)
     }
 
-    fn tell_work(&mut self, job: u64, said: &Said<'_>) -> Result<(), AllocError>
+    fn tell_work(&mut self, job: u64, packet: &WorkPacket<'_>) -> Result<(), AllocError>
         requires runs { is_running (job_state job self.old.log.notes) ≡ true }
-        requires fits { SaidFits said.now }
-        ensures { Does self.old result self.new (tell_work (work_of said.now) job) }
+        requires fits { WorkFits packet.now }
+        ensures { Does self.old result self.new (tell_work (work_of packet.now) job) }
     {
-        let slots = hearers(self.alloc, &self.log, job, said.exceptions_only)?;
-        let report = copy_report(self.alloc, said.report)?;
+        let slots = hearers(self.alloc, &self.log, job, packet.exceptions_only)?;
+        let report = copy_report(self.alloc, packet.report)?;
         self.make_room(1)?;
-        self.give_all(&slots, &said.response)?;
+        self.give_all(&slots, &packet.response)?;
         self.keep_report(job, report);
-        self.end_if(job, said.ends);
+        self.end_if(job, packet.ends);
         Ok(())
     }
 

@@ -4,7 +4,7 @@ use Rattle.std.proofs.lemmas.List.Elements.{All-drop}
 use Rattle.std.proofs.Math.Seq.{drop-cons}
 use Rattle.std.specs.List.{All}
 use Rattle.gm_bytes.specs.declared.run.Run.{Run}
-use Rattle.gm_bytes.specs.Queues.{joined, before_last, first_len}
+use Rattle.gm_bytes.specs.Queues.{with_shared, before_last, first_len}
 use Rattle.gm_bytes.proofs.QueueLemmas.{first_some, parts, passes, passes_within}
 use Rattle.gm_bytes.proofs.byte_queue.ByteQueue.advance.Goals as goal
 
@@ -30,11 +30,11 @@ loop-run-preserved-else-left-first_len c =
       places = omega (arith, kept.places, c.pop_front-gone.ensures.len, c.pop_front-gone.ensures.capacity);
       room_is = kept.room_is;
       left =
-          subst (λ (l : List ℕ). c.loop-run.left - ((run.before + length c.as_slice.result.now) - q.passed) ≤ length (joined rest l)) at
-          (subst (λ n. c.loop-run.left - ((run.before + n) - q.passed) ≤ length (joined rest (drop run.before copied))) (sym run_len)
+          subst (λ (l : List ℕ). c.loop-run.left - ((run.before + length c.as_slice.result.now) - q.passed) ≤ length (with_shared rest l)) at
+          (subst (λ n. c.loop-run.left - ((run.before + n) - q.passed) ≤ length (with_shared rest (drop run.before copied))) (sym run_len)
           (passes_within runs rest run copied q.passed is p.0 p.2 c.loop-run.left kept.left));
       rest =
-          (λ j. drop (c.loop-run.left - ((run.before + run_len j) - q.passed)) (joined rest (sym at j)))
+          (λ j. drop (c.loop-run.left - ((run.before + run_len j) - q.passed)) (with_shared rest (sym at j)))
           ∙ (sym (passes runs rest run copied q.passed is p.0 p.2 c.loop-run.left (omega (arith, run_len, c.if-left-first_len.false))) ∙ kept.rest);
     }
 
@@ -61,7 +61,7 @@ invariant_of-self-2 c =
     let kept = c.loop-run.invariant in
     let q = c.loop-run.self-inside in
     let none : q.runs.items ≡ [] = search rules in
-    let left = subst (λ (l : List Run). c.loop-run.left ≤ length (drop q.passed (joined l (drop q.start q.copied.items)))) none kept.left in
+    let left = subst (λ (l : List Run). c.loop-run.left ≤ length (drop q.passed (with_shared l (drop q.start q.copied.items)))) none kept.left in
     let all = subst (λ (l : List Run). q.start + before_last l + q.behind ≡ length q.copied.items) none kept.all in
     let within = subst (λ (l : List Run). q.passed + min 1 (length l) ≤ first_len l q.behind) none kept.within in (
       kept.all,

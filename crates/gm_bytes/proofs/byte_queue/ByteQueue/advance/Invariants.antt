@@ -1,7 +1,7 @@
 use Rattle.std.proofs.Common.{◌≡◌, ◌+◌, ◌/◌, ◌<◌, ◌≤◌, length, drop, min, vec_len, vec_capacity, deque_len, deque_capacity}
 use Rattle.std.specs.List.{All}
 use Rattle.gm_bytes.specs.declared.run.Run.{Run}
-use Rattle.gm_bytes.specs.Queues.{joined, before_last, first_len}
+use Rattle.gm_bytes.specs.Queues.{with_shared, before_last, first_len}
 use Rattle.gm_bytes.proofs.byte_queue.ByteQueue.advance.Given as goal
 
 abbrev pub invariant-loop-run : goal.invariant-loop-run
@@ -12,8 +12,8 @@ invariant-loop-run l = record {
   fits : vec_len l.self-inside.copied + l.self-inside.room ≤ vec_capacity l.self-inside.copied;
   places : deque_len l.self-inside.runs + l.self-inside.room / 512 ≤ deque_capacity l.self-inside.runs;
   room_is : l.self-inside.room ≡ l.fn.self.room;
-  left : l.left ≤ length (drop l.self-inside.passed (joined l.self-inside.runs.items (drop l.self-inside.start l.self-inside.copied.items)));
-  rest : drop l.left (drop l.self-inside.passed (joined l.self-inside.runs.items (drop l.self-inside.start l.self-inside.copied.items))) ≡ drop l.fn.count l.fn.self.bytes;
+  left : l.left ≤ length (drop l.self-inside.passed (with_shared l.self-inside.runs.items (drop l.self-inside.start l.self-inside.copied.items)));
+  rest : drop l.left (drop l.self-inside.passed (with_shared l.self-inside.runs.items (drop l.self-inside.start l.self-inside.copied.items))) ≡ drop l.fn.count l.fn.self.bytes;
 }
 
 abbrev pub decreases-loop-run : goal.decreases-loop-run

@@ -2,7 +2,7 @@ use Rattle.std.proofs.Common.{◌≡◌, ◌+◌, ◌-◌, ◌<◌, ◌≤◌, �
 use Rattle.std.proofs.lemmas.List.{length-drop}
 use Rattle.std.proofs.Math.Seq.{drop-cons}
 use Rattle.gm_bytes.specs.declared.run.Run.{Run}
-use Rattle.gm_bytes.specs.Queues.{Queued, joined, before_last, first_len}
+use Rattle.gm_bytes.specs.Queues.{Queued, with_shared, before_last, first_len}
 use Rattle.gm_bytes.proofs.QueueLemmas.{begins, parts, front-run, front-before}
 use Rattle.gm_bytes.proofs.byte_queue.ByteQueue.first.Goals as goal
 
@@ -13,7 +13,7 @@ returns-in-Some-clause-front c =
     let run = c.in-Some.run'.now in
     let rest = drop 1 runs in
     let copied = drop q.start q.copied.items in
-    let others = joined rest (drop run.before copied) in
+    let others = with_shared rest (drop run.before copied) in
     let is : runs ≡ run ∷ rest = drop-cons runs 0 run (c.in-Some.ensures.item.3.0) ∙ (λ j. sym c.in-Some.ensures.lookup j ∷ rest) in
     let p = parts runs rest run q.copied.items q.start q.passed q.behind is c.self.invariant.0 c.self.invariant.2 in (
       others,
@@ -30,7 +30,7 @@ returns-in-Some-2-clause-front c =
     let run = c.in-Some.run'.now in
     let rest = drop 1 runs in
     let copied = drop q.start q.copied.items in
-    let others = joined rest (drop run.before copied) in
+    let others = with_shared rest (drop run.before copied) in
     let is : runs ≡ run ∷ rest = drop-cons runs 0 run (c.in-Some.ensures.item.3.0) ∙ (λ j. sym c.in-Some.ensures.lookup j ∷ rest) in
     let p = parts runs rest run q.copied.items q.start q.passed q.behind is c.self.invariant.0 c.self.invariant.2 in (
       run.bytes ++ others,

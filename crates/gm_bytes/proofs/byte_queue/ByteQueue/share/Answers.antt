@@ -3,7 +3,7 @@ use Rattle.std.proofs.lemmas.Bool.Decides.{nat_tests}
 use Rattle.std.proofs.lemmas.List.Elements.{All-append, All-cons}
 use Rattle.std.specs.List.{All}
 use Rattle.gm_bytes.specs.declared.run.Run.{Run}
-use Rattle.gm_bytes.specs.Queues.{Queued, with_bytes, joined, before_last, first_len}
+use Rattle.gm_bytes.specs.Queues.{Queued, with_bytes, with_shared, before_last, first_len}
 use Rattle.gm_bytes.proofs.QueueLemmas.{before_last-more, first_some, first_more, run-behind}
 use Rattle.gm_bytes.proofs.byte_queue.ByteQueue.share.Goals as goal
 
@@ -29,6 +29,6 @@ returns-then-not-is_empty c =
     let q = c.self.inside in
     let run : Run = record { before = q.behind; bytes = c.args.tail } in
     ap (λ (b : List ℕ). record { bytes = b; room = q.room - 512 })
-    (ap (λ (l : List Run). drop q.passed (joined l (drop q.start q.copied.items))) c.push_back_reserved.ensures.items
+    (ap (λ (l : List Run). drop q.passed (with_shared l (drop q.start q.copied.items))) c.push_back_reserved.ensures.items
     ∙ run-behind q.runs.items q.copied.items q.start q.passed q.behind c.self.invariant.0 c.self.invariant.2 run refl)
     ∙ ap (with_bytes c.args.tail 512) c.self.view_is

@@ -7,11 +7,11 @@ use Rattle.gm_actions.specs.Actions.{act, work_of}
 use Rattle.gm_core.proofs.PacketLemmas.{none_by, work_on_made}
 use Rattle.gm_core.proofs.server.Tables.act.Goals as goal
 
-pub returns-in_ok-work-in-Tell-clause-made : goal.returns-in_ok-work-in-Tell-clause-made
-returns-in_ok-work-in-Tell-clause-made c past keeps =
+pub returns-in_ok-work-in-Work-clause-made : goal.returns-in_ok-work-in-Work-clause-made
+returns-in_ok-work-in-Work-clause-made c past keeps =
     let k = c.args.self.now.config in
     let slot = c.args.slot in
-    let about = c.in-Tell.about in
+    let packet = c.in-Work.packet in
     let none : Option ℕ = None in
-    subst (λ (action : Action). none ≡ made_since (made past.notes) (made (act k slot action past).notes)) (sym c.in-Tell.is)
-    (none_by past (work k slot about.handle.now (work_of about.said) past) (work_on_made slot (work_of about.said) (job_of_handle k about.handle.now past.notes) past))
+    subst (λ (action : Action). none ≡ made_since (made past.notes) (made (act k slot action past).notes)) (sym c.in-Work.is)
+    (none_by past (work k slot packet.handle.now (work_of packet) past) (work_on_made slot (work_of packet) (job_of_handle k packet.handle.now past.notes) past))

@@ -11,7 +11,7 @@ use Rattle.gm_jobs.specs.Live.{reported}
 use Rattle.gm_jobs.specs.Tables as jobs
 use Rattle.gm_jobs.specs.Tables.{job, listeners_of}
 use Rattle.gm_actions.specs.declared.actions.Report.{Report}
-use Rattle.gm_actions.specs.Actions.{said_report, work_of}
+use Rattle.gm_actions.specs.Actions.{option_report, work_of}
 use Rattle.gm_core.specs.declared.server.Tables.{Tables}
 use Rattle.gm_core.specs.Facts.{ConnFacts}
 use Rattle.gm_core.specs.Holds.{AllTouched, Goes, HoldsConns}
@@ -28,29 +28,29 @@ ready c = record c.args.self.now { conns = c.prepare_each.new.conns; text = c.pr
 
 abbrev telling : In_ok-prepare_each → Past → Past
 telling c p =
-    let kept = keep_report c.in-Some.job (said_report c.args.said.now.report) p in
-    tell_all (answer_of c.args.said.now.response) (hearers c.args.said.now.exceptions_only (listeners c.in-Some.job kept.notes) kept.notes) kept
+    let kept = keep_report c.in-Some.job (option_report c.args.packet.now.report) p in
+    tell_all (answer_of c.args.packet.now.response) (hearers c.args.packet.now.exceptions_only (listeners c.in-Some.job kept.notes) kept.notes) kept
 
 abbrev Pours : In_ok-prepare_each → List ℕ → conns.Table → Type 0
 Pours c slots told =
     (k : Settings) (names : List (List ℕ)) (facts : ConnFacts) (bytes : ℕ → List ℕ) → HoldsConns k c.prepare_each.new.conns names facts bytes
-    → HoldsConns k told names facts (poured c.prepare_each.new.text.bytes (filter (hears c.prepare_each.new.conns c.args.said.now.exceptions_only) slots) bytes)
+    → HoldsConns k told names facts (poured c.prepare_each.new.text.bytes (filter (hears c.prepare_each.new.conns c.args.packet.now.exceptions_only) slots) bytes)
 
 roomed : (c : In_ok-prepare_each) → Goes c.args.self.now (ready c) (λ p. p)
 roomed c = goes_with_room {old = c.args.self.now} {new = ready c} (record { config = refl; functions = refl; jobs = refl; moment = refl; mode = refl }) c.in_ok-prepare_each.ensures.roomed
 
 -- without numbers
-plain : (c : In_ok-prepare_each) (told : conns.Table) (text : Text) → c.args.said.now.report ≡ None → AllTouched c.prepare_each.new.conns told → Pours c c.in-Some.slots.now told
+plain : (c : In_ok-prepare_each) (told : conns.Table) (text : Text) → c.args.packet.now.report ≡ None → AllTouched c.prepare_each.new.conns told → Pours c c.in-Some.slots.now told
     → Goes c.args.self.now (record (ready c) { conns = told; text = text }) (telling c)
 plain c told text none touched pours =
     let n = c.in-Some.job in
     goes_as (telling c)
-    (goes_then (roomed c) (told_each (ready c) told text n c.args.said.now.exceptions_only c.in-Some.slots.now c.in-Some.ensures.runs c.in-Some.ensures.listeners touched pours
-    (answer_of c.args.said.now.response) c.in_ok-prepare_each.ensures.text))
-    (λ p keeps. ap (λ r. let kept = keep_report n (said_report r) p in tell_all (answer_of c.args.said.now.response) (hearers c.args.said.now.exceptions_only (listeners n kept.notes) kept.notes) kept) (sym none))
+    (goes_then (roomed c) (told_each (ready c) told text n c.args.packet.now.exceptions_only c.in-Some.slots.now c.in-Some.ensures.runs c.in-Some.ensures.listeners touched pours
+    (answer_of c.args.packet.now.response) c.in_ok-prepare_each.ensures.text))
+    (λ p keeps. ap (λ r. let kept = keep_report n (option_report r) p in tell_all (answer_of c.args.packet.now.response) (hearers c.args.packet.now.exceptions_only (listeners n kept.notes) kept.notes) kept) (sym none))
 
 -- with numbers, which are kept first
-numbered : (c : In_ok-prepare_each) (report : Report) (table : jobs.Table) (slots : List ℕ) (told : conns.Table) (text : Text) → c.args.said.now.report ≡ Some report
+numbered : (c : In_ok-prepare_each) (report : Report) (table : jobs.Table) (slots : List ℕ) (told : conns.Table) (text : Text) → c.args.packet.now.report ≡ Some report
     → jobs.Changes c.in-Some.job (reported report.numerator.now report.denominator.now) c.args.self.now.jobs table → slots ≡ listeners_of (job table c.in-Some.job)
     → AllTouched c.prepare_each.new.conns told → Pours c slots told
     → Goes c.args.self.now (record (ready c) { jobs = table; conns = told; text = text }) (telling c)
@@ -62,20 +62,20 @@ numbered c report table slots told text some changes listening touched pours =
     let runs = reported_runs c.args.self.now.jobs table n a b (Ok tt) changes tt c.in-Some.ensures.runs in
     goes_as (telling c)
     (goes_then (goes_then (roomed c) (does_report (ready c) known n a b (Ok tt) (record { config = refl; conns = refl; functions = refl; moment = refl; mode = refl }) changes tt))
-    (told_each known told text n c.args.said.now.exceptions_only slots runs listening touched pours (answer_of c.args.said.now.response) c.in_ok-prepare_each.ensures.text))
-    (λ p keeps. ap (λ r. let kept = keep_report n (said_report r) p in tell_all (answer_of c.args.said.now.response) (hearers c.args.said.now.exceptions_only (listeners n kept.notes) kept.notes) kept) (sym some))
+    (told_each known told text n c.args.packet.now.exceptions_only slots runs listening touched pours (answer_of c.args.packet.now.response) c.in_ok-prepare_each.ensures.text))
+    (λ p keeps. ap (λ r. let kept = keep_report n (option_report r) p in tell_all (answer_of c.args.packet.now.response) (hearers c.args.packet.now.exceptions_only (listeners n kept.notes) kept.notes) kept) (sym some))
 
 pub returns-in_default-clause-does : goal.returns-in_default-clause-does
 returns-in_default-clause-does c =
     let old = c.args.self.now in
     let none = ap (option_map (λ (found : ℕ × Bor (List ℕ)). found.0)) (sym c.in_default.is) in
-    does_as {f = refuse c.args.slot (codes "job_not_found")} c.refuse.result (work old.config c.args.slot c.args.handle.now (work_of c.args.said.now)) c.refuse.ensures
-    (λ p keeps. works_nowhere c.args.slot (work_of c.args.said.now) (job_of_handle old.config c.args.handle.now p.notes) p (none ∙ c.running_at.ensures.value old.functions _ p keeps.jobs))
+    does_as {f = refuse c.args.slot (codes "job_not_found")} c.refuse.result (work old.config c.args.slot c.args.packet.now.handle.now (work_of c.args.packet.now)) c.refuse.ensures
+    (λ p keeps. works_nowhere c.args.slot (work_of c.args.packet.now) (job_of_handle old.config c.args.packet.now.handle.now p.notes) p (none ∙ c.running_at.ensures.value old.functions _ p keeps.jobs))
 
 pub returns-in_err-prepare_each-clause-does : goal.returns-in_err-prepare_each-clause-does
 returns-in_err-prepare_each-clause-does c =
     let old = c.args.self.now in
-    does_not c.from_residual.result (work old.config c.args.slot c.args.handle.now (work_of c.args.said.now)) c.from_residual.ensures
+    does_not c.from_residual.result (work old.config c.args.slot c.args.packet.now.handle.now (work_of c.args.packet.now)) c.from_residual.ensures
     (goes_with_room {old = old} {new = record old { conns = c.prepare_each.new.conns; text = c.prepare_each.new.text }}
     (record { config = refl; functions = refl; jobs = refl; moment = refl; mode = refl }) c.in_err-prepare_each.ensures.roomed)
 
@@ -83,7 +83,7 @@ pub returns-in_err-report-in-Some-report-clause-does : goal.returns-in_err-repor
 returns-in_err-report-in-Some-report-clause-does c =
     let old = c.args.self.now in
     let ready = ready (goal.at.returns-in_err-report-in-Some-report-clause-does c).In_ok-prepare_each in
-    does_not c.from_residual-in_err-report-in-Some-report.result (work old.config c.args.slot c.args.handle.now (work_of c.args.said.now)) c.from_residual-in_err-report-in-Some-report.ensures
+    does_not c.from_residual-in_err-report-in-Some-report.result (work old.config c.args.slot c.args.packet.now.handle.now (work_of c.args.packet.now)) c.from_residual-in_err-report-in-Some-report.ensures
     (goes_then (roomed (goal.at.returns-in_err-report-in-Some-report-clause-does c).In_ok-prepare_each)
     (goes_nothing {a = ready} {b = record ready { jobs = c.report.new.self }} refl refl refl c.in_err-report-in-Some-report.ensures.err refl refl))
 
@@ -93,13 +93,13 @@ put_each-requires-in-Some-report-clause-room c =
     let same = c.in-Some.ensures.listeners
     ∙ sym (reported_listeners c.args.self.now.jobs c.report.new.self n c.in-Some-report.report.numerator.now c.in-Some-report.report.denominator.now c.report.result c.report.ensures.ok c.report.ensures.err)
     ∙ sym c.listeners-slots.ensures in
-    subst (λ (slots : List ℕ). (d : ℕ) → needed c.prepare_each.new.text.cost d (filter (hears c.prepare_each.new.conns c.args.said.now.exceptions_only) slots) ≤ (conns.conn c.prepare_each.new.conns d).room)
+    subst (λ (slots : List ℕ). (d : ℕ) → needed c.prepare_each.new.text.cost d (filter (hears c.prepare_each.new.conns c.args.packet.now.exceptions_only) slots) ≤ (conns.conn c.prepare_each.new.conns d).room)
     same c.in_ok-prepare_each.ensures.room
 
 pub end_if-requires-clause-kept : goal.end_if-requires-clause-kept
 end_if-requires-clause-kept c =
     let ready = (goal.at.end_if-requires-clause-kept c).In_ok-prepare_each in
-    let told : Goes c.args.self.now c.match-said.self (telling ready) = elim c.match-said.branch [
+    let told : Goes c.args.self.now c.match-packet.self (telling ready) = elim c.match-packet.branch [
       | in-None w ↦
           subst (λ (new : Tables). Goes c.args.self.now new (telling ready)) (sym w.self-is)
           (plain ready w.put_each.new.conns w.put_each.new.text w.in-None.is w.put_each.ensures.poured.touched w.put_each.ensures.holds)
@@ -113,11 +113,11 @@ end_if-requires-clause-kept c =
 pub returns-clause-does : goal.returns-clause-does
 returns-clause-does c =
     let old = c.args.self.now in
-    let said = c.args.said.now in
+    let packet = c.args.packet.now in
     let n = c.in-Some.job in
     let some = ap (option_map (λ (found : ℕ × Bor (List ℕ)). found.0)) (sym c.in-Some.is) in
     let ready = (goal.at.returns-clause-does c).In_ok-prepare_each in
-    let told : Goes c.args.self.now c.match-said.self (telling ready) = elim c.match-said.branch [
+    let told : Goes c.args.self.now c.match-packet.self (telling ready) = elim c.match-packet.branch [
       | in-None w ↦
           subst (λ (new : Tables). Goes c.args.self.now new (telling ready)) (sym w.self-is)
           (plain ready w.put_each.new.conns w.put_each.new.text w.in-None.is w.put_each.ensures.poured.touched w.put_each.ensures.holds)
@@ -126,7 +126,7 @@ returns-clause-does c =
           (numbered ready w.in-Some-report.report w.report.new.self w.listeners-slots.result.now w.put_each-in-Some-report.new.conns w.put_each-in-Some-report.new.text w.in-Some-report.is
           w.in_ok-report-in-Some-report.ensures.ok w.listeners-slots.ensures w.put_each-in-Some-report.ensures.poured.touched w.put_each-in-Some-report.ensures.holds)
     ] in
-    goes_as (work old.config c.args.slot c.args.handle.now (work_of said)) (goes_then told c.end_if.ensures.goes)
+    goes_as (work old.config c.args.slot c.args.packet.now.handle.now (work_of packet)) (goes_then told c.end_if.ensures.goes)
     (λ p keeps.
-    told_after said.ends n (answer_of said.response) said.exceptions_only (said_report said.report) p
-    ∙ works_there c.args.slot (work_of said) n (job_of_handle old.config c.args.handle.now p.notes) p (some ∙ c.running_at.ensures.value old.functions _ p keeps.jobs))
+    told_after packet.ends n (answer_of packet.response) packet.exceptions_only (option_report packet.report) p
+    ∙ works_there c.args.slot (work_of packet) n (job_of_handle old.config c.args.packet.now.handle.now p.notes) p (some ∙ c.running_at.ensures.value old.functions _ p keeps.jobs))

@@ -9,16 +9,16 @@ use Rattle.gm_plain.proofs.server.PlainServer.tell_work.Goals as goal
 
 pub returns-in_err-make_room : goal.returns-in_err-make_room
 returns-in_err-make_room c =
-    does_not c.from_residual-in_err-make_room.result (tell_work (work_of c.args.said.now) c.args.job) c.from_residual-in_err-make_room.ensures c.make_room.ensures.goes
+    does_not c.from_residual-in_err-make_room.result (tell_work (work_of c.args.packet.now) c.args.job) c.from_residual-in_err-make_room.ensures c.make_room.ensures.goes
 
 pub returns-in_err-give_all : goal.returns-in_err-give_all
 returns-in_err-give_all c =
-    does_not c.from_residual-in_err-give_all.result (tell_work (work_of c.args.said.now) c.args.job) c.from_residual-in_err-give_all.ensures
+    does_not c.from_residual-in_err-give_all.result (tell_work (work_of c.args.packet.now) c.args.job) c.from_residual-in_err-give_all.ensures
     (goes_then c.make_room.ensures.goes c.in_err-give_all.ensures.does)
 
 pub returns : goal.returns
 returns c =
-    let w = work_of c.args.said.now in
+    let w = work_of c.args.packet.now in
     goes_as (tell_work w c.args.job) (goes_then (goes_then (goes_then c.make_room.ensures.goes c.in_ok-give_all.ensures.does) c.keep_report.ensures.goes) c.end_if.ensures)
     (λ p keeps.
     let slots : c.deref.result.now ≡ hearers w.exceptions_only (listeners c.args.job p.notes) p.notes =
