@@ -25,10 +25,9 @@ use Rattle.gm_notes.specs.Jobs.{job_state, functions, is_mentioned, limit, total
 use Rattle.gm_notes.specs.JobStates as states
 use Rattle.gm_notes.specs.Past.{Past}
 use Rattle.gm_notes.specs.Requests.{first}
-use Rattle.gm_notes.specs.Submissions.{max_name}
 use Rattle.gm_notes.specs.Steps.{Step, Packet, Line, Fault}
 use Rattle.gm_history.specs.Causes.{PacketAsks, is_enabling, is_submission, JustQueues}
-use Rattle.gm_laws.specs.Submitted.{JoinsNone, IsBadName}
+use Rattle.gm_laws.specs.Submitted.{JoinsNone, IsLong, IsBadName}
 
 -- an ERROR with this code is the answer, and nothing happened
 abbrev pub IsError : ℕ → List ℕ → Past → Past → Type 0
@@ -40,9 +39,9 @@ IsErr c error before after = (after.flow ≡ Queued c (error_text error) ∷ bef
 
 -- ---- functions
 
--- a word of a line has too many bytes, or a NUL
+-- a word of a line is too long, or has a NUL
 abbrev pub IsBadWord : List ℕ → Type 0
-IsBadWord f = (max_name < length f) ⊎ (list_any (λ b. b == 0) f ≡ true)
+IsBadWord word = IsLong word ⊎ (list_any (λ b. b == 0) word ≡ true)
 
 -- it would be one function more than the settings allow
 abbrev pub IsOneTooMany : Settings → List ℕ → List Note → Type 0

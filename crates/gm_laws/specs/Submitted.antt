@@ -11,7 +11,6 @@ use Rattle.gm_notes.specs.JobStates.{is_live}
 use Rattle.gm_notes.specs.JobStates as states
 use Rattle.gm_notes.specs.Past.{Past}
 use Rattle.gm_notes.specs.Requests.{first}
-use Rattle.gm_notes.specs.Submissions.{max_name}
 use Rattle.gm_notes.specs.Steps.{Step, run}
 use Rattle.gm_history.specs.Causes.{PacketAsks, Submits, IsFor, is_foreground, is_background, is_submission, IsAssignment, JustQueues}
 use Rattle.gm_history.specs.Laws.{InEachStep}
@@ -54,9 +53,12 @@ HasNoRoom k asked before code =
     ⊎ (((code ≡ codes "queue_full") × (0 < limit (first asked.arguments) before.notes) × (limit (first asked.arguments) before.notes ≤ total (first asked.arguments) before.notes))
     ⊎ ((code ≡ codes "no_numbers") × (2 ^ 64 ≤ k.first_job + length (made before.notes)))))
 
--- a function's name has no byte, or too many
+-- too long for a function's name
+abbrev pub IsLong : List ℕ → Type 0
+IsLong name = 512 < length name
+
 abbrev pub IsBadName : List ℕ → Type 0
-IsBadName f = (f ≡ []) ⊎ (max_name < length f)
+IsBadName name = (name ≡ []) ⊎ IsLong name
 
 abbrev pub HasBadName : Asked → List ℕ → Type 0
 HasBadName asked code = (code ≡ codes "bad_function") × IsBadName (first asked.arguments)
