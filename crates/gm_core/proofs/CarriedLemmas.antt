@@ -4,7 +4,7 @@ use Rattle.std.specs.List.{join_with_byte, list_any}
 use Rattle.std.proofs.lemmas.List.{length-append}
 use Rattle.std.proofs.lemmas.Bool.Decides.{nat_tests}
 use Rattle.gm_packet.specs.Packets.{has_nul}
-use Rattle.gm_notes.specs.Submissions.{is_bad_name}
+use Rattle.gm_notes.specs.Submissions.{max_name, is_bad_name}
 use Rattle.gm_notes.specs.Lines.{is_bad_word}
 use Rattle.gm_queues.specs.FunctionTables.{IsName}
 use Rattle.gm_jobs.specs.Live.{AreCarried}
@@ -16,12 +16,12 @@ neither true b e = absurd cc
 
 pub name_told : (f : List ℕ) → is_bad_name f ≡ false → has_nul f ≡ false → IsName f
 name_told f good plain =
-    let short = (neither (length f == 0) (nat_lt 512 (length f)) good).1 in
+    let short = (neither (length f == 0) (nat_lt max_name (length f)) good).1 in
     record { plain = plain; sized = grind (arith, nat_tests) }
 
 pub name_written : (f : List ℕ) → is_bad_word f ≡ false → IsName f
 name_written f good =
-    let both = neither (nat_lt 512 (length f)) (has_nul f) good in
+    let both = neither (nat_lt max_name (length f)) (has_nul f) good in
     let short = both.0 in
     record { plain = both.1; sized = grind (arith, nat_tests) }
 

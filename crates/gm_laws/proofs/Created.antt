@@ -22,14 +22,14 @@ use Rattle.gm_notes.specs.Jobs.{Job, job_state, job, is_kept, listeners, made, f
 use Rattle.gm_notes.specs.JobStates.{is_live}
 use Rattle.gm_notes.specs.Past.{Past, with_note, give, refuse, with_mention, wake, wake_one, wake_each}
 use Rattle.gm_notes.specs.Texts.{spaced}
-use Rattle.gm_notes.specs.Submissions.{Submission, is_bad_name, is_one_too_many, is_full, keep_or_listen, make, join_or_make, submit}
+use Rattle.gm_notes.specs.Submissions.{Submission, max_name, is_bad_name, is_one_too_many, is_full, keep_or_listen, make, join_or_make, submit}
 use Rattle.gm_notes.specs.Requests.{first, second, third, submission, request, packet_of}
 use Rattle.gm_notes.specs.Steps.{Packet, step, run}
 use Rattle.gm_history.specs.History.{History}
 use Rattle.gm_history.specs.Causes.{is_foreground, is_background, is_submission, priority_of, JustQueues}
 use Rattle.gm_history.specs.Laws.{InEachStep}
 use Rattle.gm_history.specs.Hearing.{listens}
-use Rattle.gm_laws.specs.Submitted.{IsJoined, JoinsNone, IsNew, KeepsOrListens, IsCreated, HasNoRoom, HasBadName, IsTurnedDown, SubmissionsAreAnswered}
+use Rattle.gm_laws.specs.Submitted.{IsJoined, JoinsNone, IsNew, KeepsOrListens, IsCreated, HasNoRoom, IsLong, IsBadName, HasBadName, IsTurnedDown, SubmissionsAreAnswered}
 use Rattle.gm_history.proofs.Asking.{packet_does}
 use Rattle.gm_history.proofs.Finding.{joined_is, same_number}
 use Rattle.gm_laws.proofs.JobLaws.{is_same, none_joins, unmade}
@@ -73,11 +73,11 @@ listens_once_more c n older = rw (same_number n) (counts_one_more c (listeners n
 
 -- ---- why it is refused
 
-pub bad_name : (f : List ℕ) → is_bad_name f ≡ true → (f ≡ []) ⊎ (512 < length f)
+pub bad_name : (f : List ℕ) → is_bad_name f ≡ true → IsBadName f
 bad_name [] e = inl refl
-bad_name (b ∷ f) e = inr (by (suc (length f) == 0) (nat_lt 512 (suc (length f))) refl refl e)
+bad_name (b ∷ f) e = inr (by (suc (length f) == 0) (nat_lt max_name (suc (length f))) refl refl e)
   where
-    by : (t u : Bool) → (suc (length f) == 0) ≡ t → nat_lt 512 (suc (length f)) ≡ u → (t || u) ≡ true → 512 < suc (length f)
+    by : (t u : Bool) → (suc (length f) == 0) ≡ t → nat_lt max_name (suc (length f)) ≡ u → (t || u) ≡ true → IsLong (b ∷ f)
     by true u none lt e = absurd (let some : (suc (length f) == 0) ≡ false = grind (arith, nat_tests) in let bad : true ≡ false = sym none ∙ some in cc)
     by false true none lt e = grind (arith, nat_tests)
     by false false none lt e = absurd cc

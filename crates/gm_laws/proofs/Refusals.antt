@@ -40,7 +40,7 @@ use Rattle.gm_notes.specs.Past.{Past, with_note, with_output, give, refuse, with
 use Rattle.gm_notes.specs.Texts.{spaced, fault_text}
 use Rattle.gm_notes.specs.declared.event.UnitFault.{UnitFault}
 use Rattle.gm_notes.specs.declared.event.UnitFault.TheVariants.{BadMagic, PacketTooLarge, LineTooLong}
-use Rattle.gm_notes.specs.Submissions.{Submission, is_bad_name, is_one_too_many, is_full, submit}
+use Rattle.gm_notes.specs.Submissions.{Submission, max_name, is_bad_name, is_one_too_many, is_full, submit}
 use Rattle.gm_notes.specs.Workers.{wake_if, add_ability, can_do, cant_do, sleep_beside, pre_sleep, wake_itself, assignment, tell_assigned, give_out, grab}
 use Rattle.gm_notes.specs.Workers.{Work, keep_report, end_if, hearers, tell_work, work_on, work}
 use Rattle.gm_notes.specs.Requests.{first, second, third, submission, passing, ending, tell_status, set_option, request, request_if_read, packet_of}
@@ -75,7 +75,7 @@ is_false false other = refl
 
 pub named_badly : (f : List ℕ) → IsBadName f → is_bad_name f ≡ true
 named_badly f (inl none) = subst (λ g. is_bad_name g ≡ true) (sym none) refl
-named_badly f (inr long) = or_right (length f == 0) (nat_lt 512 (length f)) (grind (arith, nat_tests))
+named_badly f (inr long) = or_right (length f == 0) (nat_lt max_name (length f)) (grind (arith, nat_tests))
 
 pub named_well : (f : List ℕ) → (IsBadName f → ⊥) → is_bad_name f ≡ false
 named_well f good = is_false (is_bad_name f) (λ e. good (bad_name f e))
@@ -86,13 +86,13 @@ many_too k f past m =
     rw (m.0, le) refl
 
 pub word_badly : (f : List ℕ) → IsBadWord f → is_bad_word f ≡ true
-word_badly f (inl long) = or_left (nat_lt 512 (length f)) (list_any (λ b. b == 0) f) (grind (arith, nat_tests))
-word_badly f (inr nul) = or_right (nat_lt 512 (length f)) (list_any (λ b. b == 0) f) nul
+word_badly f (inl long) = or_left (nat_lt max_name (length f)) (list_any (λ b. b == 0) f) (grind (arith, nat_tests))
+word_badly f (inr nul) = or_right (nat_lt max_name (length f)) (list_any (λ b. b == 0) f) nul
 
 pub bad_word : (f : List ℕ) → is_bad_word f ≡ true → IsBadWord f
-bad_word f e = by (nat_lt 512 (length f)) (list_any (λ b. b == 0) f) refl refl e
+bad_word f e = by (nat_lt max_name (length f)) (list_any (λ b. b == 0) f) refl refl e
   where
-    by : (t u : Bool) → nat_lt 512 (length f) ≡ t → list_any (λ b. b == 0) f ≡ u → (t || u) ≡ true → IsBadWord f
+    by : (t u : Bool) → nat_lt max_name (length f) ≡ t → list_any (λ b. b == 0) f ≡ u → (t || u) ≡ true → IsBadWord f
     by true u long nul e = inl (grind (arith, nat_tests))
     by false true long nul e = inr nul
     by false false long nul e = absurd cc
