@@ -1,7 +1,7 @@
 -- Connections' lives, of the histories that desks and pens have seen.
-use Rattle.std.proofs.Common.{◌≡◌, ◌≢◌, ℕ, zero, suc, ◌+◌, ◌*◌, ◌<◌, ◌≤◌, Bool, true, false, if◌then◌else◌, List, [], ◌∷◌, ◌++◌, length, All}
+use Rattle.std.proofs.Common.{◌≡◌, ℕ, ◌+◌, ◌*◌, ◌<◌, ◌≤◌, Bool, true, false, if◌then◌else◌, List, [], ◌∷◌, ◌++◌, length}
 use Rattle.std.proofs.Common.{Option, Some, None, refl, sym, ap, ap₂, subst, ◌∙◌, arith, append_assoc, eq-eqb, eqb-true, ne_eqb}
-use Rattle.std.specs.Prelude.{◌==◌, ◌&&◌, not, reverse, map, IfSome, unwrap_or}
+use Rattle.std.specs.Prelude.{◌==◌, ◌&&◌, reverse, map, unwrap_or}
 use Rattle.std.specs.List.{AllByRecursion as ByRecursion}
 use Rattle.std.proofs.lemmas.List.{append-nil, reverse-append}
 use Rattle.std.proofs.lemmas.List.Elements.{All-head, All-tail, All-from_recursion}
@@ -10,7 +10,6 @@ use Rattle.gm_feeder.specs.declared.units.Limits.{Limits}
 use Rattle.gm_feeder.specs.Units.{Item, APacket, ALine}
 use Rattle.gm_front.specs.Units.{step_of_unit, fault_steps, steps_of as steps_of_units}
 use Rattle.gm_notes.specs.declared.event.UnitFault.{UnitFault}
-use Rattle.gm_notes.specs.declared.event.ApplyError.{ApplyError}
 use Rattle.gm_notes.specs.declared.states.Mode.{Mode}
 use Rattle.gm_notes.specs.declared.states.Mode.TheVariants.{Running, Graceful, Stopped}
 use Rattle.gm_notes.specs.declared.note.Note.TheVariants as notes
@@ -19,7 +18,7 @@ use Rattle.gm_notes.specs.Notes.{is_open, mode}
 use Rattle.gm_notes.specs.Flow.{sent, waiting}
 use Rattle.gm_notes.specs.Past.{Past as PastOf}
 use Rattle.gm_notes.specs.Closings.{close}
-use Rattle.gm_notes.specs.Steps.{Step, Open, Packet, Line, Fault, Close, Tick, Took, Withdrew, Drain, if_accepted, refusal, unless, add, opening, free_slot, run}
+use Rattle.gm_notes.specs.Steps.{Step, Open, Packet, Line, Fault, Close, Tick, Took, Withdrew, Drain, if_accepted, refusal, unless, add, opening, free_slot}
 use Rattle.gm_notes.proofs.FreeSlots.{free_is}
 use Rattle.gm_history.specs.Laws.{IsPrefix}
 use Rattle.gm_history.specs.History.{History}
@@ -34,20 +33,20 @@ use Rattle.gm_shared.specs.declared.tape.Answer.TheVariants as answers
 use Rattle.gm_shared.specs.declared.tape.Entry.{Entry}
 use Rattle.gm_shared.specs.Events.{slot_of}
 use Rattle.gm_shared.specs.Tapes.{actor_code, step_in, steps_of, answer_to, is_drain_of, Legal}
-use Rattle.gm_shared.specs.Histories.{calls_by, Knows}
+use Rattle.gm_shared.specs.Histories.{Knows}
 use Rattle.gm_shared.specs.Openings.{if_one_more, opened_by, openings}
 use Rattle.gm_shared.specs.Calls.{events_in, events_of, past_of}
 use Rattle.gm_shared.proofs.Logs.{calls_known}
 use Rattle.gm_shared.proofs.Sharing.{events_of_more, itself}
 use Rattle.gm_session.specs.declared.heard.Heard.{Heard}
-use Rattle.gm_session.specs.Hearings.{IsHeard, AreHeard}
+use Rattle.gm_session.specs.Hearings.{AreHeard}
 use Rattle.gm_session.specs.Sessions.{Adds}
 use Rattle.gm_session.specs.Talks.{TalkingState, IsTalking, IsTalkingBy}
 use Rattle.gm_delivery.specs.declared.account.Past.{Past}
-use Rattle.gm_delivery.specs.Accounts.{bytes_in, given_at, Turn, sent_by, given_in, WrittenTo, ArePast, Rise}
+use Rattle.gm_delivery.specs.Accounts.{bytes_in, given_at, ArePast, Rise}
 use Rattle.gm_promise.specs.Owners.{is_own, AreOwn}
 use Rattle.gm_promise.specs.Promise.{says, said_at, if_opened, given_by, given, GivenSo}
-use Rattle.gm_promise.specs.Connections.{sent_at, said_since, IsHandedIn, AreHandedIn, IsSent, AreServed}
+use Rattle.gm_promise.specs.Connections.{sent_at, said_since, AreHandedIn, IsSent, AreServed}
 use Rattle.gm_promise.proofs.Owning.{said_own, drain_own}
 use Rattle.gm_promise.proofs.Promised.{all_given}
 

@@ -1,5 +1,5 @@
 -- How a server ends, said of its own settings.
-use Rattle.std.proofs.Common.{◌≡◌, Bool, if◌then◌else◌, List, [], map, reverse, Result, Err, sym, ap, ◌∙◌, subst}
+use Rattle.std.proofs.Common.{◌≡◌, Bool, if◌then◌else◌, List, [], map, reverse, Err, sym, ap, ◌∙◌, subst}
 use Rattle.atomic_table.specs.Seated.{TableId}
 use Rattle.gm_notes.specs.Settings.{Settings}
 use Rattle.gm_shared.specs.declared.settling.Settled.{Settled}

@@ -1,10 +1,9 @@
 use Rattle.std.proofs.Common.{◌∙◌, ap, sym, subst, get_or}
-use Rattle.gm_shared.specs.Tapes.{AddUp, Legal, steps_of}
+use Rattle.gm_shared.specs.Tapes.{AddUp, steps_of}
 use Rattle.gm_shared.specs.Shared.{everybody}
 use Rattle.gm_core.specs.Holds.{CoreAgrees}
 use Rattle.gm_promise.specs.Owners.{AreOwn}
 use Rattle.gm_slots.specs.Served.{HasEverybody}
-use Rattle.gm_promise.specs.Accounts.{AreAccounted}
 use Rattle.gm_promise.proofs.Owning.{ended_own}
 use Rattle.gm_slots.proofs.Numbering.{as_many}
 use Rattle.gm_promise.proofs.Accounted.{accounted}
@@ -26,8 +25,9 @@ returns g c = elim c.match-settle.branch [
       (λ i none lt. let desk = get_or desks i none in (desk.witnessed.1, all.own i none lt))
       (λ i none lt. let pen = get_or pens i none in (pen.witnessed.1, pen.own)) same in
       rw w.book-is (w.with_everybody-book.ensures k g.K.BookName.taped g.K.BookName.history _ (w.as_slice.ensures.value ∙ (c.in_ok-actors.ensures ∙ ap everybody c.requires.sized))
-      (λ same. whole_of k g.K.BookName.taped g.K.BookName.history w.in-Ok.settled _ ended.log ended.log_is w.in-Ok.ensures.history ended.legal ended.agrees (own same) ended.tape
-      (subst (AddUp w.in-Ok.settled.tape.items) (sym ended.shares_are) settled.up) same
+      (sym c.requires.sized) (subst (λ l. CoreAgrees w.in-Ok.settled.core k (steps_of l)) (sym ended.log_is) ended.agrees)
+      (λ same closed. whole_of k g.K.BookName.taped g.K.BookName.history w.in-Ok.settled _ ended.log ended.log_is w.in-Ok.ensures.history ended.legal ended.agrees (own same) ended.tape
+      (subst (AddUp w.in-Ok.settled.tape.items) (sym ended.shares_are) settled.up) same closed
       (accounted (λ desk. desk.number) (λ desk. desk.share.items) (λ desk. desk.witness) (λ pen. pen.slot) (λ pen. pen.share.items) (λ pen. pen.witness) (λ pen. pen.seat.takes) k ended.log ended.legal (own same)
       desks pens w.in-Ok.settled.shares.items c.in_ok-desks.field-0.accounts.items ended.shares_are ended.seen
       (λ i none lt. (get_or desks i none).witnessed.1) (λ i none lt. (get_or pens i none).witnessed.1) same all.accounts
