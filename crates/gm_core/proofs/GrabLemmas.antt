@@ -26,7 +26,7 @@ use Rattle.gm_jobs.specs.Tables as jobs
 use Rattle.gm_core.specs.Facts.{FunctionFacts, job_facts, waits_with}
 use Rattle.gm_core.specs.Holds.{name_at, job_state_at, jobs_named, HoldsFunctions, HoldsJobs}
 use Rattle.gm_core.proofs.FunctionLemmas.{apart, named, some_same}
-use Rattle.gm_core.proofs.AssignLemmas.{same_one}
+use Rattle.gm_core.proofs.CloseLemmas.{same_one}
 
 -- what heads the three queues heads one of them
 pub record Heads (table : Table) (f n : ℕ) : Type 0 where

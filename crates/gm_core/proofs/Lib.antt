@@ -1,6 +1,5 @@
 mod Running
 pub mod AddLemmas
-pub mod AssignLemmas
 pub mod CarriedLemmas
 pub mod CloseLemmas
 pub mod CommandLemmas
@@ -18,7 +17,6 @@ pub mod MadeLemmas
 pub mod MentionLemmas
 pub mod OnceLemmas
 pub mod OpenLemmas
-pub mod OverLemmas
 pub mod PacketLemmas
 pub mod Ranges
 pub mod RisingLemmas

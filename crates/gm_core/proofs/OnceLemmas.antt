@@ -1,6 +1,8 @@
 -- Lists in which a number stands once.
-use Rattle.std.proofs.Common.{◌≡◌, ◌≢◌, ℕ, zero, suc, ◌+◌, ◌<◌, ◌≤◌, Bool, true, false, ◌==◌, if◌then◌else◌, List, [], ◌∷◌}
-use Rattle.std.proofs.Common.{length, filter, refl, sym, ap, ◌∙◌, arith}
+use Rattle.std.proofs.Common.{◌≡◌, ◌≢◌, ℕ, zero, suc, ◌+◌, ◌<◌, ◌≤◌, Bool, true, false, not, ◌==◌, if◌then◌else◌, List, [], ◌∷◌, ◌++◌}
+use Rattle.std.proofs.Common.{length, length-append, filter, Contains, refl, sym, ap, ◌∙◌, arith}
+use Rattle.std.proofs.lemmas.List.{append-nil}
+use Rattle.std.proofs.lemmas.List.Elements.{filter-append}
 use Rattle.std.proofs.lemmas.Bool.Decides.{nat_tests}
 use Rattle.std.proofs.lemmas.Bool.{false≢true}
 use Rattle.gm_core.specs.Holds.{numbers_down}
@@ -78,3 +80,98 @@ first_leaves P Q n rest (x ∷ xs) once same passes fails is = by (x == n) refl 
         skip : (t : Bool) → P x ≡ t → (if t then x ∷ filter P xs else filter P xs) ≡ n ∷ rest → (if Q x then x ∷ filter Q xs else filter Q xs) ≡ rest
         skip false h is = let other : Q x ≡ false = sym (same x e) ∙ h in rw other (more count is)
         skip true h is = absurd (let it = head x n (filter P xs) rest is in let other : x ≢ n = grind (arith, nat_tests) in other it)
+
+-- ---- what passes, beside it
+
+module _ (n : ℕ) where
+  abbrev without : List ℕ → List ℕ
+  without xs = filter (λ m. not (m == n)) xs
+
+  -- it stands as often among what passes, if it passes
+  pub counted_in : (P : ℕ → Bool) (xs : List ℕ) → P n ≡ true → times n (filter P xs) ≡ times n xs
+  counted_in P [] passes = refl
+  counted_in P (x ∷ xs) passes = by (P x) (x == n) refl refl (counted_in P xs passes)
+    where
+      by : (t s : Bool) → P x ≡ t → (x == n) ≡ s → times n (filter P xs) ≡ times n xs
+          → times n (if t then x ∷ filter P xs else filter P xs) ≡ length (if s then x ∷ filter (λ m. m == n) xs else filter (λ m. m == n) xs)
+      by true true h e rest = rw e (omega (arith, rest))
+      by true false h e rest = rw e rest
+      by false true h e rest = absurd (false≢true (sym h ∙ (ap P (same_number x n e) ∙ passes)))
+      by false false h e rest = rest
+
+  pub contains_of : (xs : List ℕ) → 1 ≤ times n xs → Contains xs n
+  contains_of [] some = absurd (omega (arith, some))
+  contains_of (x ∷ xs) some = by (x == n) refl some (λ more. contains_of xs more)
+    where
+      by : (t : Bool) → (x == n) ≡ t → 1 ≤ length (if t then x ∷ filter (λ m. m == n) xs else filter (λ m. m == n) xs) → (1 ≤ times n xs → Contains xs n) → Contains (x ∷ xs) n
+      by true e some rest = (0, omega arith, same_number x n e)
+      by false e some rest = let it = rest some in let h = it.1 in (suc it.0, omega (arith, h), it.2)
+
+  -- what passes without it is what passes once it doesn't
+  pub without_passed : (P Q : ℕ → Bool) (xs : List ℕ) → ((m : ℕ) → (m == n) ≡ false → P m ≡ Q m) → Q n ≡ false → without (filter P xs) ≡ filter Q xs
+  without_passed P Q [] same fails = refl
+  without_passed P Q (x ∷ xs) same fails = by (x == n) (P x) refl refl (without_passed P Q xs same fails)
+    where
+      by : (s t : Bool) → (x == n) ≡ s → P x ≡ t → without (filter P xs) ≡ filter Q xs
+          → without (if t then x ∷ filter P xs else filter P xs) ≡ (if Q x then x ∷ filter Q xs else filter Q xs)
+      by true true e h rest = let off : Q x ≡ false = ap Q (same_number x n e) ∙ fails in rw (e, off) rest
+      by true false e h rest = let off : Q x ≡ false = ap Q (same_number x n e) ∙ fails in rw off rest
+      by false true e h rest = let on : Q x ≡ true = sym (same x e) ∙ h in rw (e, on) (ap (λ (l : List ℕ). x ∷ l) rest)
+      by false false e h rest = let on : Q x ≡ false = sym (same x e) ∙ h in rw on rest
+
+  -- what passes among the others is what passed while it didn't
+  pub skipped : (P Q : ℕ → Bool) (xs : List ℕ) → ((m : ℕ) → (m == n) ≡ false → P m ≡ Q m) → P n ≡ false → filter Q (without xs) ≡ filter P xs
+  skipped P Q [] same fails = refl
+  skipped P Q (x ∷ xs) same fails = by (x == n) (P x) refl refl (skipped P Q xs same fails)
+    where
+      by : (s t : Bool) → (x == n) ≡ s → P x ≡ t → filter Q (without xs) ≡ filter P xs
+          → filter Q (if not s then x ∷ without xs else without xs) ≡ (if t then x ∷ filter P xs else filter P xs)
+      by true true e h rest = absurd (false≢true (sym (ap P (same_number x n e) ∙ fails) ∙ h))
+      by true false e h rest = rest
+      by false true e h rest = let on : Q x ≡ true = sym (same x e) ∙ h in rw on (ap (λ (l : List ℕ). x ∷ l) rest)
+      by false false e h rest = let on : Q x ≡ false = sym (same x e) ∙ h in rw on rest
+
+  none_left : (xs : List ℕ) → times n xs ≡ 0 → without xs ≡ xs
+  none_left [] none = refl
+  none_left (x ∷ xs) none = by (x == n) none (λ more. none_left xs more)
+    where
+      by : (t : Bool) → length (if t then x ∷ filter (λ m. m == n) xs else filter (λ m. m == n) xs) ≡ 0 → (times n xs ≡ 0 → without xs ≡ xs)
+          → (if not t then x ∷ without xs else without xs) ≡ x ∷ xs
+      by true none rest = absurd (omega (arith, none))
+      by false none rest = ap (λ (l : List ℕ). x ∷ l) (rest none)
+
+  -- what passes is as much, where it goes to the end
+  taken : (P : ℕ → Bool) (xs : List ℕ) → times n xs ≡ 1 → length (filter P (without xs)) + length (filter P (n ∷ [])) ≡ length (filter P xs)
+  taken P [] once = absurd (omega (arith, once))
+  taken P (x ∷ xs) once = by (x == n) refl once (λ more. taken P xs more)
+    where
+      here : (t : Bool) → length (filter P xs) + length (if t then n ∷ [] else []) ≡ length (if t then x ∷ filter P xs else filter P xs)
+      here true = omega arith
+      here false = omega arith
+
+      there : (t : Bool) → length (filter P (without xs)) + length (filter P (n ∷ [])) ≡ length (filter P xs)
+          → length (if t then x ∷ filter P (without xs) else filter P (without xs)) + length (filter P (n ∷ [])) ≡ length (if t then x ∷ filter P xs else filter P xs)
+      there true rest = omega (arith, rest)
+      there false rest = rest
+
+      by : (s : Bool) → (x == n) ≡ s → length (if s then x ∷ filter (λ m. m == n) xs else filter (λ m. m == n) xs) ≡ 1
+          → (times n xs ≡ 1 → length (filter P (without xs)) + length (filter P (n ∷ [])) ≡ length (filter P xs))
+          → length (filter P (if not s then x ∷ without xs else without xs)) + length (filter P (n ∷ [])) ≡ length (if P x then x ∷ filter P xs else filter P xs)
+      by true e once rest =
+          let none : times n xs ≡ 0 = omega (arith, once) in
+          ap (λ (l : List ℕ). length (filter P l) + length (filter P (n ∷ []))) (none_left xs none)
+          ∙ (here (P n) ∙ ap (λ b. length (if b then x ∷ filter P xs else filter P xs)) (ap P (sym (same_number x n e))))
+      by false e once rest = there (P x) (rest once)
+
+  pub came_back : (P : ℕ → Bool) (xs : List ℕ) → times n xs ≡ 1 → length (filter P (without xs ++ n ∷ [])) ≡ length (filter P xs)
+  came_back P xs once = ap (λ (l : List ℕ). length l) (filter-append P (without xs) (n ∷ [])) ∙ (length-append (filter P (without xs)) (filter P (n ∷ [])) ∙ taken P xs once)
+
+  pub last_in : (P Q : ℕ → Bool) (xs : List ℕ) → ((m : ℕ) → (m == n) ≡ false → P m ≡ Q m) → P n ≡ false → Q n ≡ true → filter Q (without xs ++ n ∷ []) ≡ filter P xs ++ n ∷ []
+  last_in P Q xs same fails passes =
+      let last : filter Q (n ∷ []) ≡ n ∷ [] = rw passes refl in
+      filter-append Q (without xs) (n ∷ []) ∙ (λ i. skipped P Q xs same fails i ++ last i)
+
+  pub not_in : (P Q : ℕ → Bool) (xs : List ℕ) → ((m : ℕ) → (m == n) ≡ false → P m ≡ Q m) → P n ≡ false → Q n ≡ false → filter Q (without xs ++ n ∷ []) ≡ filter P xs
+  not_in P Q xs same fails fails_too =
+      let last : filter Q (n ∷ []) ≡ [] = rw fails_too refl in
+      filter-append Q (without xs) (n ∷ []) ∙ ((λ i. skipped P Q xs same fails i ++ last i) ∙ append-nil (filter P xs))

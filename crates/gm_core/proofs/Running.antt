@@ -10,7 +10,7 @@ use Rattle.gm_core.specs.Facts.{conn_facts, function_facts}
 use Rattle.gm_core.specs.Holds.{IsKept}
 use Rattle.gm_core.specs.Telling.{IsRunning}
 use Rattle.gm_core.proofs.EndLemmas.{run_there}
-use Rattle.gm_core.proofs.OverLemmas.{has_idle_room}
+use Rattle.gm_core.proofs.CloseLemmas.{place_for}
 
 pub record Runs (table : Table) (n : ℕ) : Type 0 where
   pub live : Live
@@ -42,4 +42,4 @@ own_room tables n kept it f p same_f same_p =
     let functions = tables.functions in
     subst (λ (x : ℕ). HasIdleRoom functions x p) (sym same_f)
     (subst (λ (q : Priority). HasIdleRoom functions it.live.function q) (sym same_p)
-    (has_idle_room tables.config functions functions tables.jobs tables.jobs (conn_facts past.notes).is_open past.notes (function_facts past.notes) kept.1.functions kept.1.jobs n it.live it.at it.runs))
+    (place_for tables.config functions tables.jobs (conn_facts past.notes).is_open past.notes (function_facts past.notes) kept.1.functions kept.1.jobs n it.live it.at it.runs))

@@ -6,7 +6,8 @@ use Rattle.gm_queues.specs.FunctionTables.{queue, ForgetsJob}
 use Rattle.gm_jobs.specs.Live.{is_orphan}
 use Rattle.gm_jobs.specs.Tables.{job, passes}
 use Rattle.gm_core.specs.Facts.{conn_facts, function_facts}
-use Rattle.gm_core.proofs.EndLemmas.{jobs_discarded, stands_in, orphan_waits, goes_moved}
+use Rattle.gm_core.proofs.CloseLemmas.{jobs_discarded, stands_in}
+use Rattle.gm_core.proofs.EndLemmas.{orphan_waits, goes_moved}
 use Rattle.gm_core.proofs.server.Tables.discard.Goals as goal
 use Rattle.gm_core.proofs.server.Tables.discard.Goals.{After-p}
 

@@ -13,7 +13,8 @@ use Rattle.gm_core.specs.Facts.{conn_facts, function_facts}
 use Rattle.gm_core.specs.Holds.{name_at}
 use Rattle.gm_core.specs.Telling.{IsRunning}
 use Rattle.gm_core.proofs.CoreLemmas.{goes_then, goes_as}
-use Rattle.gm_core.proofs.EndLemmas.{jobs_returned, jobs_lost, last_try_is, goes_moved, given_back, given_up}
+use Rattle.gm_core.proofs.CloseLemmas.{jobs_returned, jobs_lost, last_try_is}
+use Rattle.gm_core.proofs.EndLemmas.{goes_moved, given_back, given_up}
 use Rattle.gm_core.proofs.Running.{Runs, run_by_running, own_room}
 use Rattle.gm_core.proofs.server.Tables.give_back_one.Goals as goal
 use Rattle.gm_core.proofs.server.Tables.give_back_one.Goals.{After-unwrap-found}

@@ -14,7 +14,8 @@ use Rattle.gm_conns.specs.Connections.{with_last}
 use Rattle.gm_notes.specs.Flow.{waiting}
 use Rattle.gm_notes.specs.Jobs.{Job, job, last_function}
 use Rattle.gm_core.proofs.FunctionLemmas.{some_same}
-use Rattle.gm_core.proofs.AssignLemmas.{jobs_assigned, functions_popped, conns_popped}
+use Rattle.gm_core.proofs.CloseLemmas.{jobs_assigned}
+use Rattle.gm_core.proofs.EndLemmas.{conns_still, functions_still}
 use Rattle.gm_core.proofs.GrabLemmas.{given}
 use Rattle.gm_core.proofs.server.Tables.give_out.Goals as goal
 
@@ -40,13 +41,13 @@ returns c = record {
       let changes : Changes n (assigned c.args.slot late) old.jobs c.assign.new.self =
       subst (λ (d : Option ℕ). Changes n (assigned c.args.slot d) old.jobs c.assign.new.self) c.deadline_after-deadline.ensures c.assign.ensures in
       record {
-        conns = conns_popped old.config c.pop-job.ensures.rest
+        conns = conns_still old.config old.functions c.pop-job.new.self pops.most pops.names pops.limits
             (conn_changes c.args.slot (with_last f) (lemmas.with_last name) (λ bytes. bytes) c.set_last.ensures (λ x. refl) (λ x known. refl) (λ x. refl) (λ x known. (known.0, c.requires.within))
             (λ d. refl) (λ d. last_seen name (d == c.args.slot) (seen d past.notes) ∙ ap (λ (o : Option (List ℕ)). record (seen d past.notes) { last = if d == c.args.slot then o else last_function d past.notes }) (sym given_of))
             (λ d. same_here (d == c.args.slot) (waiting d past.flow)) keeps.conns);
-        functions = functions_popped old.config c.pop-job.ensures.rest keeps.functions;
-        jobs = jobs_assigned old.config old.functions c.pop-job.new.self old.jobs c.assign.new.self (conn_facts past.notes).is_open past.notes (function_facts past.notes) keeps.functions keeps.jobs
-            n c.args.slot late it.live it.at it.waits it.rest it.first pops changes;
+        functions = functions_still old.config old.functions c.pop-job.new.self pops.most pops.names pops.limits keeps.functions;
+        jobs = jobs_assigned old.config old.functions old.jobs (conn_facts past.notes).is_open past.notes (function_facts past.notes) keeps.functions keeps.jobs n it.live it.at it.waits c.args.slot late
+            it.rest c.pop-job.new.self c.assign.new.self it.first pops changes;
         moment = keeps.moment;
         mode = keeps.mode;
       };
