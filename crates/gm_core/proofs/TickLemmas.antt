@@ -16,7 +16,7 @@ use Rattle.gm_notes.specs.Past.{Past, with_note, tell_all}
 use Rattle.gm_notes.specs.Closings.{is_reached, expire_one, expire_each, rising}
 use Rattle.gm_conns.specs.ConnTables.{conn}
 use Rattle.gm_conns.specs.ConnTables as conns
-use Rattle.gm_jobs.specs.Live.{Live, waits, is_due, is_reached as is_past}
+use Rattle.gm_jobs.specs.Live.{Live, waits, is_due}
 use Rattle.gm_jobs.specs.Tables.{Table, job, passes, place_or, is_made, listeners_of, IsNext}
 use Rattle.gm_core.specs.declared.server.Tables.{Tables}
 use Rattle.gm_core.specs.declared.server.ticking.Late.{Late}
@@ -32,10 +32,6 @@ use Rattle.gm_core.proofs.RisingLemmas.{Rising, rising_begins, rising_on, rising
 
 -- ---- whose deadlines are reached
 
-reached_same : (now : ℕ) (o : Option ℕ) → is_reached o now ≡ is_past now o
-reached_same now None = refl
-reached_same now (Some late) = refl
-
 dead : (t : Bool) (at : JobState) → place_or None t ≡ place_of at → is_running at ≡ false
 dead t states.Unmade e = refl
 dead t states.Waiting e = refl
@@ -48,7 +44,7 @@ dead t states.Discarded e = refl
 
 pub due_runs : (now : ℕ) (o : Option Live) → passes (is_due now) o ≡ true → IsRunning o
 due_runs now None e = absurd (false≢true e)
-due_runs now (Some live) e = by (waits live.live_place) (and_parts (not (waits live.live_place)) (is_past now live.deadline) e).0
+due_runs now (Some live) e = by (waits live.live_place) (and_parts (not (waits live.live_place)) (is_reached live.deadline now) e).0
   where
     by : (t : Bool) → not t ≡ true → t ≡ false
     by true e = absurd (false≢true e)
@@ -58,7 +54,7 @@ module _ (core : Tables) (past : Past) (keeps : Keeps core past) (n : ℕ) where
   late_at : (live : Live) → job core.jobs n ≡ Some live → (is_running (job_state n past.notes) && is_reached (deadline n past.notes) (moment past.notes)) ≡ is_due core.moment live
   late_at live at =
       let is = keeps.jobs.live n live at in
-      (λ i. is_running (is.job_state i) && is_reached (is.deadline i) (sym keeps.moment i)) ∙ (λ i. state_runs live.live_place i && reached_same core.moment live.deadline i)
+      (λ i. is_running (is.job_state i) && is_reached (is.deadline i) (sym keeps.moment i)) ∙ ap (λ b. b && is_reached live.deadline core.moment) (state_runs live.live_place)
 
   late_is : (is_running (job_state n past.notes) && is_reached (deadline n past.notes) (moment past.notes)) ≡ passes (is_due core.moment) (job core.jobs n)
   late_is = by (job core.jobs n) refl

@@ -1,11 +1,12 @@
 -- What is true of the deadlines that are kept.
-use Rattle.std.proofs.Common.{◌≡◌, ℕ, ◌<◌, ◌≤◌, ◌⊎◌, inl, inr, Bool, true, false, not, ◌&&◌, List, Contains, Option, Some}
+use Rattle.std.proofs.Common.{◌≡◌, ℕ, ◌≤◌, ◌⊎◌, inl, inr, Bool, true, false, not, ◌&&◌, List, Contains, Option, Some}
 use Rattle.std.proofs.Common.{None, refl, sym, ap, subst, ◌∙◌, arith}
 use Rattle.std.proofs.lemmas.Bool.{false≢true}
 use Rattle.std.proofs.lemmas.Bool.Decides.{nat_tests}
 use Rattle.gm_jobs.specs.declared.job.Query.TheVariants.{Started}
 use Rattle.gm_jobs.specs.Queries.{meets}
-use Rattle.gm_jobs.specs.Live.{Live, is_due, is_reached, waits}
+use Rattle.gm_notes.specs.Closings.{is_reached}
+use Rattle.gm_jobs.specs.Live.{Live, is_due, waits}
 use Rattle.gm_jobs.specs.Tables.{find_job, passes}
 use Rattle.gm_jobs.specs.MinHeap.{Pair, Has, first_of}
 use Rattle.gm_jobs.specs.Hints.{HintList, IsHinted, AllHinted, KeepsHints}
@@ -32,7 +33,7 @@ listed_popped jobs waiting waiting' reached reached' now d n listed pops keeps f
     same_pair x y h = cc
 
     is_it : e ≤ now → is_due now live ≡ true
-    is_it soon = (λ i. not (runs i) && is_reached now (is i)) ∙ grind (arith, nat_tests)
+    is_it soon = (λ i. not (runs i) && is_reached (is i) now) ∙ grind (arith, nat_tests)
 
     at : Has waiting' e m ⊎ (first_of waiting ≡ Some (e, m)) → Has waiting' e m ⊎ Contains reached'.numbers m
     at (inl there) = inl there
@@ -50,7 +51,7 @@ listed_popped jobs waiting waiting' reached reached' now d n listed pops keeps f
 pub due_reached : (jobs : List (ℕ × Live)) (waiting : List Pair) (reached : HintList) (now : ℕ) → AllListed jobs (listing waiting reached) → AllLater now waiting → AllHinted (is_due now) jobs reached
 due_reached jobs waiting reached now listed later n due whole = by (find_job jobs n) refl due
   where
-    here : (live : Live) → find_job jobs n ≡ Some live → (s : Bool) → waits live.live_place ≡ s → (o : Option ℕ) → live.deadline ≡ o → (not s && is_reached now o) ≡ true → Contains reached.numbers n
+    here : (live : Live) → find_job jobs n ≡ Some live → (s : Bool) → waits live.live_place ≡ s → (o : Option ℕ) → live.deadline ≡ o → (not s && is_reached o now) ≡ true → Contains reached.numbers n
     here live e true runs o is h = absurd (false≢true h)
     here live e false runs None is h = absurd (false≢true h)
     here live e false runs (Some d) is h = at (listed n live e whole d runs is)

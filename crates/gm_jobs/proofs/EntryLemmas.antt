@@ -204,6 +204,17 @@ module _ (at : At) where
       by (Some q) e h zero rest = sym (ap (option_map (λ (r : ℕ × Live). (p.0, r.1))) e)
       by (Some q) e h (suc j) rest = rest j
 
+-- a change at a key leaves the numbers
+pub numbers_same : (keys : List (ℕ × ℕ)) (at at' : At) → ((k : ℕ) → is_some (at' k) ≡ is_some (at k)) → keys_of (jobs_of keys at') ≡ keys_of (jobs_of keys at)
+numbers_same [] at at' same = refl
+numbers_same (p ∷ ps) at at' same = by (at p.1) (at' p.1) (same p.1) (numbers_same ps at at' same)
+  where
+    by : (o o' : Option (ℕ × Live)) → is_some o' ≡ is_some o → keys_of (jobs_of ps at') ≡ keys_of (jobs_of ps at) → keys_of (with_job p.0 o' (jobs_of ps at')) ≡ keys_of (with_job p.0 o (jobs_of ps at))
+    by None None e rest = rest
+    by None (Some q) e rest = absurd (false≢true (sym e))
+    by (Some q) None e rest = absurd (false≢true e)
+    by (Some q) (Some r) e rest = ap (λ (ns : List ℕ). p.0 ∷ ns) rest
+
 -- a job that isn't live doesn't change
 pub changes_none : (n : ℕ) (f : Live → Live) (jobs : List (ℕ × Live)) → find_job jobs n ≡ None → ChangesJob n f jobs jobs
 changes_none n f jobs none = λ m. at_number n m _ _ _

@@ -1,5 +1,5 @@
 -- What is true of hints, and of what is asked of jobs.
-use Rattle.std.proofs.Common.{◌≡◌, ℕ, zero, suc, ◌<◌, ◌≤◌, ◌⊎◌, inl, inr, Bool, true, false, not, ◌&&◌, ◌||◌, ◌==◌, ◌++◌, List, [], ◌∷◌, length, slice_index_or, get_or, set, min, Contains, Option, Some}
+use Rattle.std.proofs.Common.{◌≡◌, ℕ, ◌<◌, ◌≤◌, ◌⊎◌, inl, inr, Bool, true, false, not, ◌&&◌, ◌||◌, ◌==◌, ◌++◌, List, [], ◌∷◌, length, slice_index_or, get_or, set, min, Contains, Option, Some, slice_get, if◌then◌else◌}
 use Rattle.std.proofs.Common.{None, refl, sym, ap, subst, ◌∙◌, arith, length-append}
 use Rattle.std.specs.List.{list_any}
 use Rattle.std.specs.List.Sorted.{IsNonDecreasingBy}
@@ -11,8 +11,13 @@ use Rattle.gm_jobs.specs.declared.job.Query.{Query}
 use Rattle.gm_jobs.specs.declared.job.Query.TheVariants.{Orphan, RunBy, HeardBy, Due, Started, Live as Lives}
 use Rattle.gm_jobs.specs.Live.{Live, kept, reported, assigned, with_listener, waits, is_orphan, is_run_by}
 use Rattle.gm_jobs.specs.Queries.{meets, is_heard_by}
-use Rattle.gm_jobs.specs.Tables.{find_job, passes, IsNext, IsLast}
-use Rattle.gm_jobs.specs.Hints.{HintList, HintTable, missing, IsHinted, AllHinted, KeepsHints, NoneMet, IsFirstMet, at_slot, hints_of, AllFound, least_of}
+use Rattle.gm_jobs.specs.Tables.{find_job, passes}
+use Rattle.gm_jobs.specs.Hints.{HintList, HintTable, missing, IsHinted, AllHinted, KeepsHints, at_slot, hints_of, AllFound, least_of, numbers_in}
+use Rattle.gm_jobs.proofs.ListLemmas.{found_at}
+use Rattle.std.specs.Map.{keys_of}
+use Rattle.std.specs.Option.{option_map}
+use Rattle.std.proofs.lemmas.Map.Entries.{length-keys_of}
+use Rattle.std.proofs.lemmas.Option.{slice_get-map, get_or_from_slice_get}
 
 pub is_false : (b : Bool) → (b ≡ true → ⊥) → b ≡ false
 is_false true never = absurd (never refl)
@@ -28,30 +33,31 @@ passes_live test (Some live) h = (live, refl, h)
 pub kept_hinted : {Stays : ℕ → Type 0} (old new : HintList) (n : ℕ) → KeepsHints Stays old new → Stays n → IsHinted old n → IsHinted new n
 kept_hinted old new n keeps stays hinted = λ whole. keeps.numbers n stays (hinted (keeps.whole whole))
 
--- no job of a number before an index passes, where that is above `after`
-pub not_met : (test : Live → Bool) (jobs : List (ℕ × Live)) (numbers : List ℕ) (after start i : ℕ) → IsNonDecreasingBy (λ n. n) numbers → ((k d : ℕ) → k < start → slice_index_or numbers k d ≤ after)
-    → ((k : ℕ) → start ≤ k → k < i → passes test (find_job jobs (slice_index_or numbers k 0)) ≡ false)
+-- no job of a number above `after` and before an index passes
+pub not_met : (test : Live → Bool) (jobs : List (ℕ × Live)) (numbers : List ℕ) (after i : ℕ) → IsNonDecreasingBy (λ n. n) numbers
+    → ((k : ℕ) → k < i → after < slice_index_or numbers k 0 → passes test (find_job jobs (slice_index_or numbers k 0)) ≡ false)
     → (m : ℕ) → Contains numbers m → after < m → (i < length numbers → m < slice_index_or numbers i 0) → passes test (find_job jobs m) ≡ false
-not_met test jobs numbers after start i rises below none m (k, w, e) above before = by (cases_lt k start) (cases_lt k i)
+not_met test jobs numbers after i rises none m (k, w, e) above before = by (cases_lt k i)
   where
     is : slice_index_or numbers k 0 ≡ m
     is = get_or_default numbers k 0 m w ∙ e
 
-    by : (k < start) ⊎ (start ≤ k) → (k < i) ⊎ (i ≤ k) → passes test (find_job jobs m) ≡ false
-    by (inl early) other = absurd (omega (arith, below k 0 early, is))
-    by (inr from) (inl passed) = ap (λ n. passes test (find_job jobs n)) (sym is) ∙ none k from passed
-    by (inr from) (inr late) = absurd (let more = rises i k 0 late w in let less = before (omega arith) in omega (arith, is))
+    by : (k < i) ⊎ (i ≤ k) → passes test (find_job jobs m) ≡ false
+    by (inl passed) = ap (λ n. passes test (find_job jobs n)) (sym is) ∙ none k passed (subst (λ n. after < n) (sym is) above)
+    by (inr late) = absurd (let more = rises i k 0 late w in let less = before (omega arith) in omega (arith, is))
 
-module _ (test : Live → Bool) (jobs : List (ℕ × Live)) (numbers : List ℕ) (after : ℕ) (there : (m : ℕ) → passes test (find_job jobs m) ≡ true → Contains numbers m) where
-  pub met_next : (n : ℕ) → IsFirstMet test after jobs numbers n → IsNext test after jobs n
-  met_next n first = record {
-    above = first.above;
-    found = first.met;
-    least = λ m above below. is_false _ (λ met. false≢true (sym (first.least m (there m met) above below) ∙ met));
-  }
-
-  pub met_last : NoneMet test after jobs numbers → IsLast test after jobs
-  met_last none = λ m above. is_false _ (λ met. false≢true (sym (none m (there m met) above) ∙ met))
+-- where a number is among those to be looked at
+pub numbered : (test : Live → Bool) (jobs : List (ℕ × Live)) (hints : HintList) → AllHinted test jobs hints → (n : ℕ) → passes test (find_job jobs n) ≡ true → Contains (numbers_in hints jobs) n
+numbered test jobs hints all n met = by hints.whole (all n met)
+  where
+    by : (whole : Bool) → (whole ≡ true → Contains hints.numbers n) → Contains (if whole then hints.numbers else keys_of jobs) n
+    by true there = there refl
+    by false there =
+        let l = passes_live test (find_job jobs n) met in
+        let at = found_at jobs n l.0 l.1 in
+        let w = at.1 in
+        let key : slice_get (keys_of jobs) at.0 ≡ Some n = slice_get-map (λ (p : ℕ × Live). p.0) jobs at.0 ∙ ap (option_map (λ (p : ℕ × Live). p.0)) at.2 in
+        (at.0, omega (arith, w, length-keys_of jobs), get_or_from_slice_get (keys_of jobs) at.0 n n key)
 
 -- ---- the lesser of two
 

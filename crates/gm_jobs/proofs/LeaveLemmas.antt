@@ -1,28 +1,17 @@
 -- What is true where a slot leaves.
-use Rattle.std.proofs.Common.{◌≡◌, ◌≢◌, ℕ, ◌<◌, ◌≤◌, ◌-◌, ◌^◌, ◌⊎◌, inl, inr, Bool, true, false, cond, not, ◌&&◌, ◌||◌, ◌==◌, List, [], ◌∷◌, filter, length, Option, Some, None, IfSome, IfNone}
-use Rattle.std.proofs.Common.{refl, sym, ap, subst, ◌∙◌, arith}
+use Rattle.std.proofs.Common.{◌≡◌, ◌≢◌, ℕ, ◌⊎◌, inl, inr, Bool, true, false, cond, not, ◌||◌, ◌==◌, List, [], ◌∷◌, filter, Contains, Option, Some, None}
+use Rattle.std.proofs.Common.{refl, sym, ap, subst, ◌∙◌}
 use Rattle.std.specs.List.{list_any}
 use Rattle.std.specs.Option.{option_map}
-use Rattle.std.proofs.lemmas.Bool.{cases_lt, cases_eq, true≢false, false≢true}
-use Rattle.std.proofs.lemmas.Bool.Decides.{nat_tests}
+use Rattle.std.proofs.lemmas.Bool.{cases_eq, true≢false, false≢true}
 use Rattle.gm_jobs.specs.declared.job.Query.TheVariants.{Orphan, RunBy, HeardBy}
 use Rattle.gm_jobs.specs.Live.{Live, is_orphan, is_run_by, without_listener}
 use Rattle.gm_jobs.specs.Queries.{is_heard_by}
-use Rattle.gm_jobs.specs.Tables.{find_job, passes, IsNext, IsLast}
-use Rattle.gm_jobs.specs.Changes.{ChangesJob, LeavesEach}
-use Rattle.gm_jobs.specs.Hints.{HintList, HintTable, IsHinted, AllHinted, KeepsHints, AllFound, at_slot}
-use Rattle.gm_jobs.proofs.HintLemmas.{kept_hinted, passes_live, table_found}
+use Rattle.gm_jobs.specs.Tables.{find_job, passes}
+use Rattle.gm_jobs.specs.Changes.{ChangesJob, LeavesEach, LeavesSome}
+use Rattle.gm_jobs.specs.Hints.{HintList, HintTable, IsHinted, AllHinted, AllFound, at_slot, numbers_in}
+use Rattle.gm_jobs.proofs.HintLemmas.{table_found, numbered}
 use Rattle.gm_jobs.proofs.JobLemmas.{this_job, other_job}
-
--- below the next number, or where there is none
-abbrev pub before : Option ℕ → ℕ → Type 0
-before None m = Unit {0}
-before (Some k) m = m < k
-
--- how far it is to the end
-abbrev pub to_go : Option ℕ → ℕ
-to_go None = 0
-to_go (Some k) = 2 ^ 64 - k
 
 module _ (slot : ℕ) where
   -- who left doesn't listen
@@ -68,53 +57,41 @@ module _ (slot : ℕ) where
   unheard_same (Some live) h = ap (λ l. Some l) (same_live live h)
 
   -- ---- it leaves one job after another
-  module _ (first now mid : List (ℕ × Live)) (number : ℕ) (change : ChangesJob number (without_listener slot) now mid) (left : (m : ℕ) → m < number → find_job now m ≡ option_map (without_listener slot) (find_job first m))
-      (rest : (m : ℕ) → (m < number → ⊥) → find_job now m ≡ find_job first m) where
-    left_more : (m : ℕ) → m ≤ number → find_job mid m ≡ option_map (without_listener slot) (find_job first m)
-    left_more m less = by (cases_eq m number)
+  abbrev pub LeavesOne : ℕ → List (ℕ × Live) → List (ℕ × Live) → Type 0
+  LeavesOne n old new = find_job new n ≡ option_map (without_listener slot) (find_job old n)
+
+  module _ (first now mid : List (ℕ × Live)) (number : ℕ) (change : ChangesJob number (without_listener slot) now mid) (some : LeavesSome slot first now) where
+    pub left_here : LeavesOne number first mid
+    left_here = this_job number (without_listener slot) now mid change ∙ by (some number)
       where
-        by : (m ≡ number) ⊎ (m ≡ number → ⊥) → find_job mid m ≡ option_map (without_listener slot) (find_job first m)
-        by (inl e) =
-            ap (find_job mid) e ∙ this_job number (without_listener slot) now mid change ∙ ap (option_map (without_listener slot)) (rest number (λ h. omega arith)) ∙ ap (λ i. option_map (without_listener slot) (find_job first i)) (sym e)
-        by (inr ne) = other_job number (without_listener slot) now mid change m ne ∙ left m (omega arith)
+        by : (find_job now number ≡ find_job first number) ⊎ LeavesOne number first now → option_map (without_listener slot) (find_job now number) ≡ option_map (without_listener slot) (find_job first number)
+        by (inl same) = ap (option_map (without_listener slot)) same
+        by (inr left) = ap (option_map (without_listener slot)) left ∙ unheard_same (option_map (without_listener slot) (find_job first number)) (left_unheard (find_job first number))
 
-    rest_more : (m : ℕ) → number < m → find_job mid m ≡ find_job first m
-    rest_more m more = other_job number (without_listener slot) now mid change m (λ e. omega arith) ∙ rest m (λ h. omega arith)
-
-    -- which jobs are left to find is known still
-    pub hinted_still : (old new : HintList) → AllHinted (is_heard_by slot) first old → KeepsHints (λ n. Unit {0}) old new → AllHinted (is_heard_by slot) mid new
-    hinted_still old new all keeps m met = by (cases_lt number m)
+    pub left_still : (m : ℕ) → LeavesOne m first now → LeavesOne m first mid
+    left_still m left = by (cases_eq m number)
       where
-        by : (number < m) ⊎ (m ≤ number) → IsHinted new m
-        by (inl more) = kept_hinted old new m keeps tt (all m (ap (passes (is_heard_by slot)) (sym (rest_more m more)) ∙ met))
-        by (inr less) = absurd (false≢true (sym (ap (passes (is_heard_by slot)) (left_more m less) ∙ left_unheard (find_job first m)) ∙ met))
+        by : (m ≡ number) ⊎ (m ≡ number → ⊥) → LeavesOne m first mid
+        by (inl e) = subst (λ i. LeavesOne i first mid) (sym e) left_here
+        by (inr ne) = other_job number (without_listener slot) now mid change m ne ∙ left
 
-    passed : (m : ℕ) → number < m → passes (is_heard_by slot) (find_job mid m) ≡ false → find_job mid m ≡ option_map (without_listener slot) (find_job first m)
-    passed m more none = rest_more m more ∙ sym (unheard_same (find_job first m) (ap (passes (is_heard_by slot)) (sym (rest_more m more)) ∙ none))
-
-    pub left_then : (o : Option ℕ) → IfSome o (IsNext (is_heard_by slot) number mid) → IfNone o (IsLast (is_heard_by slot) number mid) → (m : ℕ) → before o m → find_job mid m ≡ option_map (without_listener slot) (find_job first m)
-    left_then None next last m h = by (cases_lt number m)
+    pub left_some : LeavesSome slot first mid
+    left_some m = by (some m) (cases_eq m number)
       where
-        by : (number < m) ⊎ (m ≤ number) → find_job mid m ≡ option_map (without_listener slot) (find_job first m)
-        by (inl more) = passed m more (last m more)
-        by (inr less) = left_more m less
-    left_then (Some k) next last m h = by (cases_lt number m)
-      where
-        by : (number < m) ⊎ (m ≤ number) → find_job mid m ≡ option_map (without_listener slot) (find_job first m)
-        by (inl more) = passed m more (next.least m more h)
-        by (inr less) = left_more m less
+        by : (find_job now m ≡ find_job first m) ⊎ LeavesOne m first now → (m ≡ number) ⊎ (m ≡ number → ⊥) → (find_job mid m ≡ find_job first m) ⊎ LeavesOne m first mid
+        by (inr left) which = inr (left_still m left)
+        by (inl same) (inl e) = inr (subst (λ i. LeavesOne i first mid) (sym e) left_here)
+        by (inl same) (inr ne) = inl (other_job number (without_listener slot) now mid change m ne ∙ same)
 
-    pub rest_then : (o : Option ℕ) → IfSome o (IsNext (is_heard_by slot) number mid) → (m : ℕ) → (before o m → ⊥) → find_job mid m ≡ find_job first m
-    rest_then None next m h = absurd (h tt)
-    rest_then (Some k) next m h = rest_more m (let above = next.above in by (cases_lt m k) above)
-      where
-        by : (m < k) ⊎ (k ≤ m) → number < k → number < m
-        by (inl less) above = absurd (h less)
-        by (inr more) above = omega arith
-
-    pub goes_on : (o : Option ℕ) → IfSome o (IsNext (is_heard_by slot) number mid) → number < 2 ^ 64 → to_go o < 2 ^ 64 - number
-    goes_on None next small = omega arith
-    goes_on (Some k) next small = let above = next.above in omega arith
+  -- where it left those that are hinted at, it left all
+  pub left_each : (first now : List (ℕ × Live)) (hints : HintList) → AllHinted (is_heard_by slot) first hints → LeavesSome slot first now → ((n : ℕ) → Contains (numbers_in hints first) n → LeavesOne n first now)
+      → LeavesEach slot first now
+  left_each first now hints all some these n = by (passes (is_heard_by slot) (find_job first n)) refl (some n)
+    where
+      by : (heard : Bool) → passes (is_heard_by slot) (find_job first n) ≡ heard → (find_job now n ≡ find_job first n) ⊎ LeavesOne n first now → LeavesOne n first now
+      by true e which = these n (numbered (is_heard_by slot) first hints all n e)
+      by false e (inl same) = same ∙ sym (unheard_same (find_job first n) e)
+      by false e (inr left) = left
 
   -- ---- what is found then
   module _ (old new : List (ℕ × Live)) (left : LeavesEach slot old new) (index index' : HintTable) (found : AllFound old index) where

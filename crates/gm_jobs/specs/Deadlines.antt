@@ -1,5 +1,5 @@
 -- What is kept of the moments at which running jobs are due.
-use Rattle.std.specs.Prelude.{◌≡◌, ℕ, ◌<◌, ◌⊎◌, true, false, List, Contains, Option, Some}
+use Rattle.std.specs.Prelude.{◌≡◌, ℕ, ◌<◌, ◌⊎◌, true, false, List, Contains, Some}
 use Rattle.gm_jobs.specs.Live.{Live, waits}
 use Rattle.gm_jobs.specs.Tables.{find_job}
 use Rattle.gm_jobs.specs.MinHeap.{Pair, Has}

@@ -1,5 +1,6 @@
--- What is kept of which jobs are worth a look.
-use Rattle.std.specs.Prelude.{◌≡◌, ℕ, ◌<◌, Bool, true, false, List, [], Contains, slice_index_or, Option, Some, None, min}
+-- The numbers of jobs that may be of the kind that is asked for.
+use Rattle.std.specs.Prelude.{◌≡◌, ℕ, Bool, true, false, List, [], Contains, slice_index_or, Option, Some, None, min, if◌then◌else◌}
+use Rattle.std.specs.Map.{keys_of}
 use Rattle.gm_jobs.specs.declared.job.Query.{Query}
 use Rattle.gm_jobs.specs.declared.job.Query.TheVariants.{Orphan, RunBy, HeardBy, Due, Started, Live as Lives}
 use Rattle.gm_jobs.specs.Live.{Live}
@@ -27,21 +28,15 @@ pub record KeepsHints (Stays : ℕ → Type 0) (old new : HintList) : Type 0 whe
   pub whole : new.whole ≡ true → old.whole ≡ true
   pub numbers : (n : ℕ) → Stays n → Contains old.numbers n → Contains new.numbers n
 
--- no job of these numbers above `after` passes
-abbrev pub NoneMet : (Live → Bool) → ℕ → List (ℕ × Live) → List ℕ → Type 0
-NoneMet test after jobs numbers = (n : ℕ) → Contains numbers n → after < n → passes test (find_job jobs n) ≡ false
-
--- the least of these numbers above `after` whose job passes
-pub record IsFirstMet (test : Live → Bool) (after : ℕ) (jobs : List (ℕ × Live)) (numbers : List ℕ) (n : ℕ) : Type 0 where
-  pub above : after < n
-  pub met : passes test (find_job jobs n) ≡ true
-  pub least : (m : ℕ) → Contains numbers m → after < m → m < n → passes test (find_job jobs m) ≡ false
-
 -- the lesser of two numbers, where there are any
 abbrev pub least_of : Option ℕ → Option ℕ → Option ℕ
 least_of None b = b
 least_of (Some a) None = Some a
 least_of (Some a) (Some b) = Some (min a b)
+
+-- these numbers, or those of all jobs where some are missing
+abbrev pub numbers_in : HintList → List (ℕ × Live) → List ℕ
+numbers_in hints jobs = if hints.whole then hints.numbers else keys_of jobs
 
 -- ---- for each question
 

@@ -6,6 +6,7 @@ use Rattle.gm_packet.specs.Packets.{has_nul}
 use Rattle.gm_notes.specs.declared.states.Priority.{Priority}
 use Rattle.gm_notes.specs.declared.states.Place.{Place}
 use Rattle.gm_notes.specs.declared.states.Place.TheVariants as places
+use Rattle.gm_notes.specs.Closings.{is_reached}
 use Rattle.gm_jobs.specs.declared.job.LivePlace.{LivePlace}
 use Rattle.gm_jobs.specs.declared.job.LivePlace.TheVariants.{Waiting, Running, Lost}
 use Rattle.gm_jobs.specs.declared.job.Body.{Body}
@@ -96,10 +97,6 @@ runs_at slot Waiting = false
 runs_at slot (Running c) = c == slot
 runs_at slot Lost = false
 
-abbrev pub is_reached : ℕ → Option ℕ → Bool
-is_reached now None = false
-is_reached now (Some deadline) = nat_le deadline now
-
 -- it runs at the slot
 abbrev pub is_run_by : ℕ → Live → Bool
 is_run_by slot live = runs_at slot live.live_place
@@ -114,4 +111,4 @@ is_orphan live = waits live.live_place && not live.kept && length live.listeners
 
 -- it doesn't wait, and its deadline is reached
 abbrev pub is_due : ℕ → Live → Bool
-is_due now live = not (waits live.live_place) && is_reached now live.deadline
+is_due now live = not (waits live.live_place) && is_reached live.deadline now

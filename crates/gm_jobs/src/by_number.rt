@@ -1,7 +1,8 @@
 //! The jobs by their numbers.
 
-ghost use Rattle.std.specs.Prelude.{◌≡◌, ℕ, ◌+◌, ◌<◌, ◌≤◌, ◌^◌, ◌==◌, if◌then◌else◌, false, [], length, slice_get, Some, None, IfSome, IsOk, OnOk, OnErr};
+ghost use Rattle.std.specs.Prelude.{◌≡◌, ℕ, ◌+◌, ◌<◌, ◌≤◌, ◌^◌, ◌==◌, if◌then◌else◌, false, [], length, slice_get, Some, None, IsSome, IfSome, IsOk, OnOk, OnErr};
 ghost use Rattle.std.specs.Option.{option_copied, option_map};
+ghost use Rattle.std.specs.Map.{keys_of};
 ghost use Rattle.gm_jobs.specs.Tables.{find_job};
 ghost use Rattle.gm_jobs.specs.Changes.{CanBeTold, changed, takes_memory, ChangesJob};
 ghost use Rattle.gm_jobs.specs.ByNumber.{Changed};
@@ -131,7 +132,10 @@ impl JobMap {
     pub(crate) fn at(&self, i: usize) -> Option<(u64, &Job)>
         ensures entry { option_map (λ p. (p.0, p.1.now)) result ≡ slice_get self.now.entries i }
         ensures live { IfSome result (λ p. find_job self.now.entries p.0 ≡ Some p.1.now) }
+        ensures small { IsSome result → i < 2 ^ 63 }
     {
+        // Which says that no position is large.
+        let _count = self.len();
         match self.keys.get_index(i) {
             Some((number, key)) => match self.slab.get(*key) {
                 Some(entry) => Some((*number, &entry.job)),
@@ -145,6 +149,7 @@ impl JobMap {
     pub(crate) fn change(&mut self, number: u64, change: Change<'_>) -> Result<(), AllocError>
         requires { CanBeTold change }
         ensures ok { OnOk result (ChangesJob number (changed change.entry) self.old.entries self.new.entries) }
+        ensures numbers { keys_of self.new.entries ≡ keys_of self.old.entries }
         ensures err { OnErr result (self.new.entries ≡ self.old.entries) }
         ensures free { takes_memory change.entry ≡ false → ChangesJob number (changed change.entry) self.old.entries self.new.entries }
         ensures room { self.new.room ≡ self.old.room }

@@ -149,6 +149,6 @@ impl Deadlines {
     {
         self.collect(jobs, now);
         self.reached
-            .next_or_keep(jobs, Query::Due(now), Query::Started, after)
+            .next(jobs, Query::Due(now), Query::Started, after)
     }
 }

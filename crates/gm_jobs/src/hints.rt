@@ -1,18 +1,18 @@
-//! Hints: the numbers of jobs that are worth a look.
+//! Hints: the numbers of jobs that may be of the kind that is asked for.
 
-ghost use Rattle.std.specs.Prelude.{◌≡◌, ℕ, ◌<◌, true, Option, Some, None, Contains, slice_get, [], IfSome, IfNone, IsSome};
+ghost use Rattle.std.specs.Prelude.{◌≡◌, ℕ, ◌<◌, true, Option, Some, None, Contains, slice_get, slice_index_or, [], IfSome, IfNone, IsSome, ◌≤◌, ◌^◌};
 ghost use Rattle.std.specs.List.Sorted.{IsNonDecreasingBy};
 ghost use Rattle.gm_jobs.specs.Live.{Live};
 ghost use Rattle.gm_jobs.specs.Queries.{meets};
 ghost use Rattle.gm_jobs.specs.Tables.{find_job, passes, IsNext, IsLast};
-ghost use Rattle.gm_jobs.specs.Hints.{IsHinted, AllHinted, KeepsHints, IsFirstMet, NoneMet, least_of};
+ghost use Rattle.gm_jobs.specs.Hints.{IsHinted, AllHinted, KeepsHints, least_of, numbers_in};
 
 use crate::by_number::JobMap;
 use crate::job::Query;
 use std::alloc::{AllocError, Global};
 use std::marker::Model;
 
-/// The numbers of jobs that are worth a look where jobs of some kind are looked for.
+/// The numbers of jobs that may be of the kind that is asked for.
 ///
 /// Each is compared with its job, so a number whose job isn't of that kind any more does no harm. A number for which
 /// there was no room is missing: from then on all jobs are looked at.
@@ -21,6 +21,8 @@ pub(crate) struct Hints {
     numbers: Vec<u64>,
     // Whether they are in their order.
     sorted: bool,
+    // Where the number is that was found last, if one was, or a position before it: the next question goes on there.
+    found: u32,
     // Whether none is missing.
     whole: bool,
 }
@@ -89,22 +91,6 @@ pub(crate) fn search(jobs: &JobMap, query: Query, after: u64) -> Option<u64>
     best
 }
 
-// The least of these numbers above `after` whose job is what is asked for.
-fn first_met(numbers: &[u64], jobs: &JobMap, query: Query, after: u64) -> Option<u64>
-    requires { IsNonDecreasingBy (λ n. n) numbers.now }
-    ensures first { IfSome result (IsFirstMet (meets query) after jobs.now.entries numbers.now) }
-    ensures none { IfNone result (NoneMet (meets query) after jobs.now.entries numbers.now) }
-{
-    let start = numbers.partition_point(|number| *number <= after);
-    for i in start..numbers.len() {
-        let number = numbers[i];
-        if is_met(jobs, number, query) {
-            return Some(number);
-        }
-    }
-    None
-}
-
 impl Hints {
     /// No numbers: none is missing, or all are.
     pub(crate) fn new(alloc: Global, whole: bool) -> Hints
@@ -113,6 +99,7 @@ impl Hints {
         Hints {
             numbers: Vec::new(alloc),
             sorted: true,
+            found: 0,
             whole,
         }
     }
@@ -186,7 +173,6 @@ impl Hints {
     // The numbers come in their order.
     fn sort(&mut self)
         ensures kept { KeepsHints (λ n. Unit {0}) self.old self.new }
-        ensures whole { self.new.whole ≡ self.old.whole }
         ensures sorted { IsNonDecreasingBy (λ n. n) self.new.numbers }
     {
         if !self.sorted {
@@ -195,22 +181,20 @@ impl Hints {
         }
     }
 
-    /// The least number above `after` of a job that is what is asked for.
-    pub(crate) fn next(&mut self, jobs: &JobMap, query: Query, after: u64) -> Option<u64>
-        requires { AllHinted (meets query) jobs.now.entries self.old }
-        ensures next { IfSome result (IsNext (meets query) after jobs.now.entries) }
-        ensures last { IfNone result (IsLast (meets query) after jobs.now.entries) }
-        ensures kept { KeepsHints (λ n. Unit {0}) self.old self.new }
+    // Where numbers above `after` are looked for: where one was found last, unless that is above it.
+    fn start(&self, after: u64) -> usize
+        requires { IsNonDecreasingBy (λ n. n) self.now.numbers }
+        ensures { (k d : ℕ) → k < result → slice_index_or self.now.numbers k d ≤ after }
     {
-        if !self.whole {
-            return search(jobs, query, after);
+        match self.numbers.get(self.found as usize) {
+            Some(number) if *number <= after => self.found as usize,
+            _ => 0,
         }
-        self.sort();
-        first_met(self.numbers.as_slice(), jobs, query, after)
     }
 
-    /// The same. Where there is no such job, it lets go of the numbers whose jobs aren't what `rest` asks for.
-    pub(crate) fn next_or_keep(
+    /// The least number above `after` of a job that is what is asked for. Where there is none, it lets go of the numbers whose
+    /// jobs aren't what `rest` asks for.
+    pub(crate) fn next(
         &mut self,
         jobs: &JobMap,
         query: Query,
@@ -222,11 +206,33 @@ impl Hints {
         ensures last { IfNone result (IsLast (meets query) after jobs.now.entries) }
         ensures kept { KeepsHints (λ n. passes (meets rest) (find_job jobs.now.entries n) ≡ true) self.old self.new }
     {
-        let next = self.next(jobs, query, after);
-        if next.is_none() {
-            self.keep(jobs, rest);
+        if !self.whole {
+            return search(jobs, query, after);
         }
-        next
+        self.sort();
+        for i in self.start(after)..self.numbers.len() {
+            let number = self.numbers[i];
+            if number > after && is_met(jobs, number, query) {
+                self.found = i.min(u32::MAX as usize) as u32;
+                return Some(number);
+            }
+        }
+        self.keep(jobs, rest);
+        None
+    }
+
+    /// The number at this position, or where some are missing that of the job there among all.
+    pub(crate) fn number_at(&self, jobs: &JobMap, i: usize) -> Option<u64>
+        ensures number { result ≡ slice_get (numbers_in self.now jobs.now.entries) i }
+        ensures small { IsSome result → i < 2 ^ 63 }
+    {
+        if self.whole {
+            return self.numbers.get(i).copied();
+        }
+        match jobs.at(i) {
+            Some((number, _job)) => Some(number),
+            None => None,
+        }
     }
 
     /// Gives back the room of a list without numbers.

@@ -84,22 +84,21 @@ fn next_run_at(
         return search(jobs, query, after);
     }
     let list = &mut lists[slot as usize];
-    let next = list.next_or_keep(jobs, query, query, after);
+    let next = list.next(jobs, query, query, after);
     list.release(alloc);
     next
 }
 
 // The slot doesn't listen any more to the jobs that are hinted at.
-fn leave_each(jobs: &mut JobMap, hints: &mut Hints, slot: u32)
-    requires { AllHinted (is_heard_by slot) jobs.old.entries hints.old }
+fn leave_each(jobs: &mut JobMap, hints: &Hints, slot: u32)
+    requires { AllHinted (is_heard_by slot) jobs.old.entries hints.now }
     ensures left { LeavesEach slot jobs.old.entries jobs.new.entries }
-    ensures kept { KeepsHints (λ n. Unit {0}) hints.old hints.new }
     ensures slots { jobs.new.room ≡ jobs.old.room }
 {
-    let mut next = Some(0);
-    while let Some(number) = next {
+    let mut i = 0;
+    while let Some(number) = hints.number_at(jobs, i) {
         let _left = jobs.change(number, Change::Leave(slot));
-        next = hints.next(jobs, Query::HeardBy(slot), number);
+        i += 1;
     }
 }
 
@@ -179,7 +178,7 @@ impl Index {
         ensures kept { AllFound jobs.now.entries self.new }
     {
         let query = Query::Orphan;
-        self.orphans.next_or_keep(jobs, query, query, after)
+        self.orphans.next(jobs, query, query, after)
     }
 
     // Takes out the hints at the jobs to which a slot listens.
@@ -202,8 +201,8 @@ impl Index {
         ensures found { AllFound jobs.new.entries self.new }
         ensures slots { jobs.new.room ≡ jobs.old.room }
     {
-        let mut hints = self.take(slot);
-        leave_each(jobs, &mut hints, slot);
+        let hints = self.take(slot);
+        leave_each(jobs, &hints, slot);
         self.orphans.join(hints);
     }
 }

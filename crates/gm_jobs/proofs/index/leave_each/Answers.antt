@@ -1,50 +1,46 @@
-use Rattle.std.proofs.Common.{◌≡◌, ℕ, ◌<◌, ◌^◌, ◌-◌, Option, Some, refl, sym, ap, subst, ◌∙◌, arith}
-use Rattle.std.specs.Option.{option_map}
-use Rattle.gm_jobs.specs.Live.{without_listener}
-use Rattle.gm_jobs.specs.Tables.{find_job}
-use Rattle.gm_jobs.proofs.LeaveLemmas.{before, to_go, hinted_still, left_then, rest_then, goes_on}
+use Rattle.std.proofs.Common.{◌≡◌, ◌<◌, ℕ, List, None, is_some, slice_get, below_more, inl, inr, get_or, if◌then◌else◌, refl, sym, ap, subst, ◌∙◌, arith}
+use Rattle.std.proofs.lemmas.List.{get_or_default}
+use Rattle.std.proofs.lemmas.Option.{get_or_from_slice_get, slice_get_cases}
+use Rattle.gm_jobs.specs.Hints.{numbers_in}
+use Rattle.gm_jobs.proofs.LeaveLemmas.{LeavesOne, left_here, left_still, left_some, left_each}
+use Rattle.gm_jobs.proofs.NumberLemmas.{not_some}
 use Rattle.gm_jobs.proofs.index.leave_each.Goals as goal
-use Rattle.gm_jobs.proofs.index.leave_each.Goals.{In-Some}
 
-pub loop-next-init : goal.loop-next-init
-loop-next-init c = record {
-  left = λ m h. absurd (omega arith);
-  rest = λ m h. refl;
-  kept = record { whole = λ e. e; numbers = λ n _ h. h };
-  slots = refl;
-}
+pub loop-number-init : goal.loop-number-init
+loop-number-init c = record { some = λ n. inl refl; these = λ k h. absurd (omega arith); numbers = refl; slots = refl }
 
-left : (c : In-Some) (m : ℕ) → m < c.in-Some.number → find_job c.loop-next.jobs.entries m ≡ option_map (without_listener c.args.slot) (find_job c.args.jobs.now.entries m)
-left c m less = c.loop-next.invariant.left m (subst (λ o. before o m) (sym c.in-Some.is) less)
-
-rest : (c : In-Some) (m : ℕ) → (m < c.in-Some.number → ⊥) → find_job c.loop-next.jobs.entries m ≡ find_job c.args.jobs.now.entries m
-rest c m over = c.loop-next.invariant.rest m (λ h. over (subst (λ o. before o m) c.in-Some.is h))
-
-pub next-next-requires : goal.next-next-requires
-next-next-requires c =
-    let d = (goal.at.next-next-requires c).In-Some in
-    hinted_still c.args.slot c.args.jobs.now.entries c.loop-next.jobs.entries c.change-left.new.self.entries c.in-Some.number (c.change-left.ensures.free refl) (left d) (rest d)
-    c.args.hints.now c.loop-next.hints c.requires c.loop-next.invariant.kept
-
-pub loop-next-preserved : goal.loop-next-preserved
-loop-next-preserved c =
-    let d = (goal.at.loop-next-preserved c).In-Some in
+pub loop-number-preserved : goal.loop-number-preserved
+loop-number-preserved c =
+    let slot = c.args.slot in
     let first = c.args.jobs.now.entries in
-    let now = c.loop-next.jobs.entries in
+    let now = c.loop-number.jobs.entries in
     let mid = c.change-left.new.self.entries in
     let change = c.change-left.ensures.free refl in
+    let before = c.loop-number.invariant in
+    let numbers = numbers_in c.args.hints.now first in
+    let is : get_or numbers c.loop-number.i 0 ≡ c.in-Some.number =
+    get_or_from_slice_get numbers c.loop-number.i c.in-Some.number 0
+    (ap (λ (keys : List ℕ). slice_get (if c.args.hints.now.whole then c.args.hints.now.numbers else keys) c.loop-number.i) (sym before.numbers) ∙ (sym c.number_at.ensures.number ∙ c.in-Some.is)) in
     record {
-      left = left_then c.args.slot first now mid c.in-Some.number change (left d) (rest d) c.next-next.result c.next-next.ensures.next c.next-next.ensures.last;
-      rest = rest_then c.args.slot first now mid c.in-Some.number change (left d) (rest d) c.next-next.result c.next-next.ensures.next;
-      kept = record {
-        whole = λ e. c.loop-next.invariant.kept.whole (c.next-next.ensures.kept.whole e);
-        numbers = λ n _ h. c.next-next.ensures.kept.numbers n tt (c.loop-next.invariant.kept.numbers n tt h);
-      };
-      slots = c.change-left.ensures.room ∙ c.loop-next.invariant.slots;
+      some = left_some slot first now mid c.in-Some.number change before.some;
+      these = below_more (λ k. LeavesOne slot (get_or numbers k 0) first mid) c.loop-number.i
+          (λ k h. left_still slot first now mid c.in-Some.number change before.some _ (before.these k h))
+          (subst (λ n. LeavesOne slot n first mid) (sym is) (left_here slot first now mid c.in-Some.number change before.some));
+      numbers = c.change-left.ensures.numbers ∙ before.numbers;
+      slots = c.change-left.ensures.room ∙ before.slots;
     }
 
-pub loop-next-smaller : goal.loop-next-smaller
-loop-next-smaller c =
-    let d = (goal.at.loop-next-smaller c).In-Some in
-    subst (λ o. to_go c.next-next.result < to_go o) (sym c.in-Some.is)
-    (goes_on c.args.slot c.args.jobs.now.entries c.loop-next.jobs.entries c.change-left.new.self.entries c.in-Some.number (c.change-left.ensures.free refl) (left d) (rest d) c.next-next.result c.next-next.ensures.next (omega arith))
+pub returns-clause-left : goal.returns-clause-left
+returns-clause-left c =
+    let first = c.args.jobs.now.entries in
+    let numbers = numbers_in c.args.hints.now first in
+    let none : slice_get numbers c.loop-number.i ≡ None =
+    ap (λ (keys : List ℕ). slice_get (if c.args.hints.now.whole then c.args.hints.now.numbers else keys) c.loop-number.i) (sym c.loop-number.invariant.numbers) ∙ (sym c.number_at.ensures.number ∙ c.in_default.is) in
+    left_each c.args.slot first c.loop-number.jobs.entries c.args.hints.now c.requires c.loop-number.invariant.some
+    (λ n there.
+    let within = there.1 in
+    let past : there.0 < c.loop-number.i = elim (slice_get_cases numbers c.loop-number.i).1 [
+      | inl some ↦ absurd (not_some (slice_get numbers c.loop-number.i) none (ap is_some some.2))
+      | inr late ↦ (let more = late.0 in omega (arith, within, more))
+    ] in
+    subst (λ i. LeavesOne c.args.slot i first c.loop-number.jobs.entries) (get_or_default numbers there.0 0 n within ∙ there.2) (c.loop-number.invariant.these there.0 past))

@@ -1,9 +1,11 @@
-use Rattle.std.proofs.Common.{inl, inr, sym, ap, subst, ◌∙◌}
+use Rattle.std.proofs.Common.{◌≡◌, ◌⊎◌, ℕ, Option, Some, None, is_some, inl, inr, refl, sym, ap, subst, ◌∙◌}
+use Rattle.std.specs.Map.{keys_of}
+use Rattle.std.proofs.lemmas.Bool.{cases_eq}
 use Rattle.gm_jobs.specs.Live.{Live}
 use Rattle.gm_jobs.specs.Tables.{find_job}
 use Rattle.gm_jobs.specs.Changes.{changed, ChangesJob}
-use Rattle.gm_jobs.specs.ByNumber.{JobTable, held, jobs_of, Changed, IsIndexed}
-use Rattle.gm_jobs.proofs.EntryLemmas.{find_none, indexed_changed, changes_job, changes_none}
+use Rattle.gm_jobs.specs.ByNumber.{JobTable, held, jobs_of, with_live, Changed, IsIndexed}
+use Rattle.gm_jobs.proofs.EntryLemmas.{find_none, indexed_changed, changes_job, changes_none, numbers_same}
 use Rattle.gm_jobs.proofs.NumberLemmas.{either, on_ok, on_ok_map}
 use Rattle.gm_jobs.proofs.by_number.JobMap.change.Goals as goal
 use Rattle.gm_jobs.proofs.by_number.JobMap.change.Goals.{After-change_at}
@@ -43,3 +45,24 @@ pub returns-in-None-clause-free : goal.returns-in-None-clause-free
 returns-in-None-clause-free c =
     let t = c.self.inside in
     λ free. changes_none c.args.number (changed c.args.change) c.args.self.now.entries (sym (ap (λ (s : JobTable). find_job s.entries c.args.number) c.self.view_is) ∙ find_none t.keys.entries (held t.slab) c.self.invariant c.args.number (sym c.in-None.ensures.value))
+
+stays_there : (c : After-change_at) (f : Live → Live) → Changed c.in-Some.key.now f c.self.inside.slab c.change_at.new.slab → (k : ℕ) → is_some (held c.change_at.new.slab k) ≡ is_some (held c.self.inside.slab k)
+stays_there c f change k = by (cases_eq k c.in-Some.key.now)
+  where
+    with_some : (o : Option (ℕ × Live)) → is_some (with_live f o) ≡ is_some o
+    with_some None = refl
+    with_some (Some q) = refl
+
+    by : (k ≡ c.in-Some.key.now) ⊎ (k ≡ c.in-Some.key.now → ⊥) → is_some (held c.change_at.new.slab k) ≡ is_some (held c.self.inside.slab k)
+    by (inl e) = subst (λ i. is_some (held c.change_at.new.slab i) ≡ is_some (held c.self.inside.slab i)) (sym e) (ap is_some change.here ∙ with_some (held c.self.inside.slab c.in-Some.key.now))
+    by (inr ne) = ap is_some (change.others k ne)
+
+pub returns-in-Some-clause-numbers : goal.returns-in-Some-clause-numbers
+returns-in-Some-clause-numbers c =
+    let d = (goal.at.returns-in-Some-clause-numbers c).After-change_at in
+    numbers_same c.self.inside.keys.entries (held c.self.inside.slab) (held c.change_at.new.slab)
+    (elim (either c.change_at.result c.change_at.ensures.ok c.change_at.ensures.err) [
+      | inl change ↦ stays_there d (changed c.args.change) change
+      | inr same ↦ stays_there d (λ live. live) same
+    ])
+    ∙ ap (λ (s : JobTable). keys_of s.entries) c.self.view_is

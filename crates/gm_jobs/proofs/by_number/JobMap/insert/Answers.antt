@@ -1,5 +1,4 @@
 use Rattle.std.proofs.Common.{◌≡◌, ◌≢◌, ℕ, ◌==◌, if◌then◌else◌, nat_eq, IsOk, Some, None, ap, subst, ◌∙◌, arith}
-use Rattle.gm_jobs.specs.declared.by_number.Entry.{Entry}
 use Rattle.std.specs.Map.{lookup}
 use Rattle.gm_jobs.specs.Tables.{find_job}
 use Rattle.gm_jobs.specs.ByNumber.{JobTable, card, held, jobs_of, IsIndexed}

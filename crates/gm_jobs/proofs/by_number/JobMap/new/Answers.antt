@@ -1,4 +1,4 @@
-use Rattle.std.proofs.Common.{◌≡◌, ℕ, nat_eq, slice_index_or, Option, None, is_some, List, ap}
+use Rattle.std.proofs.Common.{ℕ, nat_eq, slice_index_or, Option, None, is_some, List, ap}
 use Rattle.std.specs.Map.{lookup}
 use Rattle.gm_jobs.specs.declared.by_number.Entry.{Entry}
 use Rattle.gm_jobs.specs.ByNumber.{card, held}

@@ -1,7 +1,6 @@
-use Rattle.std.proofs.Common.{◌≡◌, ◌⊎◌, inl, inr, sym, ap, subst, ◌∙◌}
+use Rattle.std.proofs.Common.{inl, inr, sym, ap, subst, ◌∙◌}
 use Rattle.gm_jobs.specs.declared.job.Query.TheVariants.{HeardBy}
-use Rattle.gm_jobs.specs.Hints.{HintList, HintTable, IsHinted, AllFound, at_slot, hints_of}
-use Rattle.gm_jobs.proofs.HintLemmas.{kept_hinted}
+use Rattle.gm_jobs.specs.Hints.{HintList, HintTable, IsHinted, at_slot}
 use Rattle.gm_jobs.proofs.LeaveLemmas.{found_left}
 use Rattle.gm_jobs.proofs.index.Index.leave.Goals as goal
 
@@ -17,7 +16,7 @@ returns-clause-found c =
     (λ n met which. elim which [
       | inl orphan ↦ c.join.ensures.kept n (subst (λ (l : HintList). IsHinted l n) (sym (ap (λ (x : HintTable). x.orphans) c.self.view_is ∙ took.orphans)) orphan)
       | inr heard ↦
-          c.join.ensures.came n (kept_hinted c.take-hints.result c.leave_each.new.hints n c.leave_each.ensures.kept tt (subst (λ (l : HintList). IsHinted l n) (sym took.taken) heard))
+          c.join.ensures.came n (subst (λ (l : HintList). IsHinted l n) (sym took.taken) heard)
     ])
     (ap (λ (x : HintTable). x.runs) c.self.view_is ∙ took.runs)
     (λ d ne. ap (λ (x : HintTable). at_slot x.heard d) c.self.view_is ∙ took.others d ne)

@@ -1,4 +1,4 @@
-use Rattle.std.proofs.Common.{◌≡◌, ℕ, subst, sym}
+use Rattle.std.proofs.Common.{subst, sym}
 use Rattle.gm_jobs.specs.Hints.{HintTable, IsHinted, hints_of}
 use Rattle.gm_jobs.proofs.HintLemmas.{kept_hinted, table_hinted}
 use Rattle.gm_jobs.proofs.index.Index.put.Goals as goal

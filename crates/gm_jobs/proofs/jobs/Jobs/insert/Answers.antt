@@ -1,4 +1,4 @@
-use Rattle.std.proofs.Common.{◌≡◌, ℕ, ◌+◌, ◌^◌, ◌==◌, true, if◌then◌else◌, Contains, Option, Some, None, is_some}
+use Rattle.std.proofs.Common.{◌≡◌, ℕ, ◌+◌, ◌^◌, ◌==◌, true, if◌then◌else◌, Option, Some, None, is_some}
 use Rattle.std.proofs.Common.{unwrap_or, sym, ap, subst, ◌∙◌, arith}
 use Rattle.gm_notes.specs.Jobs.{joins}
 use Rattle.gm_jobs.specs.Live.{Live, is_named}

@@ -1,4 +1,4 @@
-use Rattle.std.proofs.Common.{inl, inr, ◌≡◌, ℕ, IsSome, refl, sym, subst, arith}
+use Rattle.std.proofs.Common.{inl, inr, ℕ, IsSome, refl, sym, subst}
 use Rattle.gm_jobs.specs.declared.job.Query.{Query}
 use Rattle.gm_jobs.specs.Live.{with_listener}
 use Rattle.gm_jobs.specs.Tables.{find_job}

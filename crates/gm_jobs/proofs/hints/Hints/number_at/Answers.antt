@@ -1,0 +1,19 @@
+use Rattle.std.proofs.Common.{◌≡◌, ℕ, Bool, Option, Some, None, slice_get, if◌then◌else◌, sym, ap, ◌∙◌}
+use Rattle.std.specs.Option.{option_map}
+use Rattle.std.specs.Map.{keys_of}
+use Rattle.std.proofs.lemmas.Option.{slice_get-map}
+use Rattle.gm_jobs.specs.Live.{Live}
+use Rattle.gm_jobs.specs.Hints.{HintList, numbers_in}
+use Rattle.gm_jobs.proofs.hints.Hints.number_at.Goals as goal
+use Rattle.gm_jobs.proofs.hints.Hints.number_at.Goals.{After-at}
+
+all : (c : After-at) (o : Option (ℕ × Live)) → o ≡ slice_get c.args.jobs.now.entries c.args.i → option_map (λ (p : ℕ × Live). p.0) o ≡ slice_get (numbers_in c.args.self.now c.args.jobs.now.entries) c.args.i
+all c o is =
+    ap (option_map (λ (p : ℕ × Live). p.0)) is ∙ sym (slice_get-map (λ (p : ℕ × Live). p.0) c.args.jobs.now.entries c.args.i)
+    ∙ ap (λ (whole : Bool). slice_get (if whole then c.args.self.now.numbers else keys_of c.args.jobs.now.entries) c.args.i) (sym (ap (λ (h : HintList). h.whole) (sym c.self.view_is) ∙ c.if-self.false))
+
+pub returns-in-Some-clause-number : goal.returns-in-Some-clause-number
+returns-in-Some-clause-number c = all (goal.at.returns-in-Some-clause-number c).After-at (Some (c.in-Some.number, c.in-Some._job.now)) c.in-Some.ensures.entry
+
+pub returns-in-None-clause-number : goal.returns-in-None-clause-number
+returns-in-None-clause-number c = all (goal.at.returns-in-None-clause-number c).After-at None c.in-None.ensures.entry
