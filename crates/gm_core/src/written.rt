@@ -123,16 +123,6 @@ impl Written {
         }
     }
 
-    /// Writes a text.
-    pub(crate) fn set(&mut self, text: &[u8]) -> Result<(), AllocError>
-        ensures { OnOk result (self.new ≡ copied_text text.now) }
-    {
-        self.body = None;
-        self.owners.clear();
-        self.copied.clear();
-        self.copied.extend_from_slice(text)
-    }
-
     /// How much of a queue's room it takes.
     pub(crate) fn cost(&self) -> usize
         ensures { result ≡ self.now.cost }

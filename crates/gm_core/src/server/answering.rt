@@ -1,14 +1,14 @@
 //! Answers: a packet or a text is written, room is made for it where it goes, and then it is queued.
 
-ghost use Rattle.std.specs.Prelude.{◌≡◌, ◌≤◌, false, IfSome, OnOk, OnErr, length};
+ghost use Rattle.std.specs.Prelude.{◌≡◌, false, IfSome, OnOk, OnErr};
 ghost use Rattle.gm_packet.specs.Answers.{answer_of, answer_packet};
 ghost use Rattle.gm_packet.specs.Packets.{Fits};
 ghost use Rattle.gm_conns.specs.Connections.{with_room};
-ghost use Rattle.gm_conns.specs.ConnTables.{IsOpen, conn, Changes};
+ghost use Rattle.gm_conns.specs.ConnTables.{IsOpen, Changes};
 ghost use Rattle.gm_notes.specs.Past.{with_output, give, refuse};
 ghost use Rattle.gm_actions.specs.Bodies.{EndsWith};
 ghost use Rattle.gm_actions.specs.Refusals.{code_of};
-ghost use Rattle.gm_core.specs.Writing.{copied_text, IsFor};
+ghost use Rattle.gm_core.specs.Writing.{IsFor};
 
 use super::Tables;
 use crate::written::Written;
@@ -41,18 +41,6 @@ pub(super) fn prepare(
 
 impl Tables {
     ghost use Rattle.gm_core.specs.Holds.{CanSend, KeepsTables, Goes, Does};
-
-    /// Writes a text, and makes room for it at a slot.
-    pub(super) fn prepare_text(&mut self, slot: u32, text: &[u8]) -> Result<(), AllocError>
-        requires { IsOpen self.old.conns slot }
-        ensures goes { Goes self.old self.new (λ past. past) }
-        ensures open { IsOpen self.new.conns slot }
-        ensures text { OnOk result (self.new.text ≡ copied_text text.now) }
-        ensures room { OnOk result (length text.now ≤ (conn self.new.conns slot).room) }
-    {
-        self.text.set(text)?;
-        self.conns.reserve_out(slot, text.len())
-    }
 
     /// Queues the packet that was written to a slot, where there is room for it.
     pub(super) fn send(&mut self, slot: u32)

@@ -1,10 +1,10 @@
 //! What administrators command in text lines.
 
-ghost use Rattle.std.specs.Prelude.{◌≡◌, true, false, List, Ok, OnOk, length, ◌≤◌};
+ghost use Rattle.std.specs.Prelude.{◌≡◌, true, false, List, Ok, IfOk};
 ghost use Rattle.gm_admin.specs.Answers.{ok_text, version_text};
 ghost use Rattle.gm_admin.specs.Commands.{command_of};
 ghost use Rattle.gm_admin.specs.Views.{commanded_of};
-ghost use Rattle.gm_conns.specs.ConnTables.{IsOpen, conn};
+ghost use Rattle.gm_conns.specs.ConnTables.{IsOpen};
 ghost use Rattle.gm_notes.specs.Notes.{mode, slots_from};
 ghost use Rattle.gm_notes.specs.Settings.{Settings};
 ghost use Rattle.gm_notes.specs.Steps.{Step, Line};
@@ -12,14 +12,22 @@ ghost use Rattle.gm_notes.specs.Servers.{Answers, steps_after};
 ghost use Rattle.gm_notes.specs.Past.{with_output};
 ghost use Rattle.gm_notes.specs.Lines.{refuse_line, is_bad_word, maxqueue, go_graceful, shut_one, shut_each, shutdown, command};
 ghost use Rattle.gm_actions.specs.Lines.{NamesFunction};
-ghost use Rattle.gm_core.specs.Writing.{copied_text};
 
 use super::Tables;
 use gm_actions::read_line;
 use gm_admin::{AdminError, Command, write_fault, write_ok, write_version};
 use gm_notes::{ApplyError, Done, Mode};
 use gm_queues::MentionError;
-use std::alloc::AllocError;
+use std::alloc::{AllocError, Global};
+
+/// That a command was done.
+fn ok(alloc: Global) -> Result<Vec<u8>, AllocError>
+    ensures { IfOk result (λ text. text.items ≡ ok_text) }
+{
+    let mut text = Vec::new(alloc);
+    write_ok(&mut text)?;
+    Ok(text)
+}
 
 impl Tables {
     ghost use Rattle.gm_core.specs.Holds.{IsKept, Goes, Does, AllTouched, CoreAgrees};
@@ -77,28 +85,14 @@ impl Tables {
         self.say(slot, text)
     }
 
-    /// Writes that a command was done, and makes room for it at a slot.
-    fn prepare_ok(&mut self, slot: u32) -> Result<(), AllocError>
-        requires { IsOpen self.old.conns slot }
-        ensures goes { Goes self.old self.new (λ past. past) }
-        ensures open { IsOpen self.new.conns slot }
-        ensures text { OnOk result (self.new.text ≡ copied_text ok_text) }
-        ensures room { OnOk result (self.new.text.cost ≤ (conn self.new.conns slot).room) }
-    {
-        let mut text = Vec::new(self.alloc);
-        write_ok(&mut text)?;
-        self.prepare_text(slot, text.as_slice())
-    }
-
     /// Tells a slot that its command was done.
     fn say_ok(&mut self, slot: u32) -> Result<(), AllocError>
         requires { IsOpen self.old.conns slot }
         ensures does { Does self.old result self.new (with_output slot ok_text) }
         ensures open { IsOpen self.new.conns slot }
     {
-        self.prepare_ok(slot)?;
-        self.send(slot);
-        Ok(())
+        let text = ok(self.alloc)?;
+        self.say(slot, text)
     }
 
     /// Tells a slot the version of the server.
@@ -117,11 +111,12 @@ impl Tables {
         requires named { is_bad_word name.now ≡ false }
         ensures { Does self.old result self.new (maxqueue self.old.config slot name.now size) }
     {
-        self.prepare_ok(slot)?;
+        let text = ok(self.alloc)?;
+        self.conns.reserve_out(slot, text.len())?;
         match self.functions.mention(name) {
             Ok(f) => {
                 self.functions.set_limit(f, size);
-                self.send(slot);
+                self.conns.put_out(slot, text.as_slice());
                 Ok(())
             }
             Err(MentionError::TooManyFunctions) => {
