@@ -139,6 +139,10 @@ Drains k steps pen slot (Err refused) old new told =
 abbrev pub KeepsSlots : List ℕ → List ℕ → Type 0
 KeepsSlots old new = (c : ℕ) → has old c ≡ true → has new c ≡ true
 
+-- each of these slots is one of the book's, which has this many
+abbrev pub AreSlots : ℕ → List ℕ → Type 0
+AreSlots slots set = (c : ℕ) → has set c ≡ true → c < slots
+
 -- these slots are in the set too
 abbrev pub AddsSlots : (ℕ → Bool) → List ℕ → List ℕ → Type 0
 AddsSlots these old new = (c : ℕ) → has new c ≡ (these c || has old c)

@@ -49,7 +49,7 @@ pub(crate) struct DeskCall<'a> {
 }
 
 impl Booked {
-    ghost use Rattle.gm_shared.specs.Books.{Holds, BookedAgrees, Held, NeedsNoMemory, Drains, AsksWord, KeepsSlots, FollowsTouched, FollowsCore};
+    ghost use Rattle.gm_shared.specs.Books.{Holds, BookedAgrees, Held, NeedsNoMemory, Drains, AsksWord, KeepsSlots, AreSlots, FollowsTouched, FollowsCore};
     ghost use Rattle.gm_shared.specs.Events.{slot_of, MayFind, entered};
     ghost use Rattle.gm_notes.specs.Withdrawals.{withdraws_noop};
     ghost use Rattle.gm_actions.specs.ReadEvents.{ReadsEvent};
@@ -112,6 +112,7 @@ impl Booked {
             × Held k steps (step_of call.entry.read.now.event) call.entry.desk found.new result touched.new self.old self.new told }
         ensures refused { IfErr result (λ _. touched.new ≡ touched.old) }
         ensures kept { KeepsSlots touched.old touched.new }
+        ensures within { AreSlots self.old.slots touched.old → AreSlots self.old.slots touched.new }
         ensures memory { NeedsNoMemory self.old.tape.on (step_of call.entry.read.now.event) → IsErrOf result ApplyError.Memory → ⊥ }
         ensures table { self.new.seat.table ≡ self.old.seat.table }
         ensures opened { MatchResult result (λ receipt. (self.new.openings ≡ counted_up receipt.done.opened self.old.openings)
@@ -199,6 +200,7 @@ impl Booked {
         ensures asks { (k : Settings) (steps : List Step) → Holds self.old k steps
             → AsksWord (slot_of (step_of read.now.event)) (run k steps) self.old.seat.lines self.new.seat.lines }
         ensures touched { AllTouched self.old.core.conns self.new.core.conns }
+        ensures slots { self.new.slots ≡ self.old.slots }
         ensures table { self.new.seat.table ≡ self.old.seat.table }
         ensures tape { self.new.tape ≡ self.old.tape }
         ensures openings { self.new.openings ≡ self.old.openings }
@@ -230,6 +232,7 @@ impl Booked {
     fn follow_touched(&mut self, table: &SleepTable, touched: &mut SlotSet)
         requires { self.old.seat.table ≡ table.now }
         ensures follows { FollowsTouched self.old self.new touched.old touched.new }
+        ensures within { AreSlots self.old.slots touched.old → AreSlots self.old.slots touched.new }
         ensures tape { self.new.tape ≡ self.old.tape }
         ensures openings { self.new.openings ≡ self.old.openings }
     {
@@ -251,6 +254,7 @@ impl Booked {
     fn follow(&mut self, table: &SleepTable, event: &Event<'_>, touched: &mut SlotSet)
         requires { self.old.seat.table ≡ table.now }
         ensures follows { FollowsCore (step_of event.now) self.old self.new touched.old touched.new }
+        ensures within { AreSlots self.old.slots touched.old → AreSlots self.old.slots touched.new }
         ensures tape { self.new.tape ≡ self.old.tape }
         ensures openings { self.new.openings ≡ self.old.openings }
     {

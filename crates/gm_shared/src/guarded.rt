@@ -3,7 +3,7 @@
 ghost use Rattle.std.specs.Prelude.{◌≡◌, [], IfErr};
 ghost use Rattle.gm_actions.specs.ReadEvents.{ReadsEvent};
 ghost use Rattle.gm_notes.specs.Servers.{step_of, IsSized};
-ghost use Rattle.gm_shared.specs.Books.{NeedsNoMemory, KeepsSlots};
+ghost use Rattle.gm_shared.specs.Books.{NeedsNoMemory, KeepsSlots, AreSlots};
 ghost use Rattle.gm_shared.specs.Calls.{DeskCalled, PenCalled, done_in};
 ghost use Rattle.gm_shared.specs.Shared.{IsGuarded, HasSeenOwn, actor_count};
 ghost use Rattle.std.specs.Result.{IsErrOf};
@@ -79,6 +79,7 @@ impl<K: BookName> Guarded<K> {
         ensures called { DeskCalled K.settings K.taped (step_of read.now.event) desk.old.number result touched.new desk.old.witness.seen desk.new.witness.seen }
         ensures refused { IfErr result (λ _. touched.new ≡ touched.old) }
         ensures kept { KeepsSlots touched.old touched.new }
+        ensures within { AreSlots K.settings.slots touched.old → AreSlots K.settings.slots touched.new }
         ensures memory { NeedsNoMemory K.taped (step_of read.now.event) → IsErrOf result ApplyError.Memory → ⊥ }
         ensures number { desk.new.number ≡ desk.old.number }
     {

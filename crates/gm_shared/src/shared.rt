@@ -5,7 +5,7 @@ ghost use Rattle.std.specs.Prelude.{◌≡◌, ◌+◌, ◌*◌, IfOk, IfErr, On
 ghost use Rattle.gm_actions.specs.ReadEvents.{ReadsEvent};
 ghost use Rattle.gm_notes.specs.Servers.{step_of, IsSized};
 ghost use Rattle.gm_word.specs.Seats.{fresh_pens};
-ghost use Rattle.gm_shared.specs.Books.{NeedsNoMemory, KeepsSlots};
+ghost use Rattle.gm_shared.specs.Books.{NeedsNoMemory, KeepsSlots, AreSlots};
 ghost use Rattle.gm_shared.specs.Tapes.{drains_alone, share_of};
 ghost use Rattle.gm_shared.specs.declared.tape.Actor.TheVariants as actors;
 ghost use Rattle.gm_shared.specs.Histories.{calls_by};
@@ -124,7 +124,7 @@ impl<K: BookName> Desk<K> {
     }
 
     /// As `apply`. Each slot whose waiting bytes, phase or shut changed and to which something is to be delivered is put into `touched`,
-    /// and perhaps more: it is for them that a writer may have something to do. A refused event adds none.
+    /// and perhaps more of the book's slots: it is for them that a writer may have something to do. A refused event adds none.
     pub fn apply_with(
         &mut self,
         rt: &impl Wait,
@@ -137,6 +137,7 @@ impl<K: BookName> Desk<K> {
         ensures called { DeskCalled K.settings K.taped (step_of read.now.event) self.old.number result touched.new self.old.witness.seen self.new.witness.seen }
         ensures refused { IfErr result (λ _. touched.new ≡ touched.old) }
         ensures kept { KeepsSlots touched.old touched.new }
+        ensures within { AreSlots K.settings.slots touched.old → AreSlots K.settings.slots touched.new }
         ensures hands { HandedIn self.old.number (if_taken (step_of read.now.event) result) self.old.witness.seen self.new.witness.seen }
         ensures memory { NeedsNoMemory K.taped (step_of read.now.event) → IsErrOf result ApplyError.Memory → ⊥ }
         ensures number { self.new.number ≡ self.old.number }

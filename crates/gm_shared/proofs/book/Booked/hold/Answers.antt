@@ -6,7 +6,7 @@ use Rattle.gm_notes.specs.declared.states.Phase.TheVariants.{Owed}
 use Rattle.gm_notes.specs.Steps.{Step, Close, run}
 use Rattle.gm_notes.specs.Servers.{step_of}
 use Rattle.gm_shared.specs.Events.{slot_of, MayFind, entered}
-use Rattle.gm_shared.specs.Books.{asked}
+use Rattle.gm_shared.specs.Books.{asked, AreSlots}
 use Rattle.gm_shared.specs.Tapes.{AreCopies, tape_step, noop_entries, event_entry, told_of}
 use Rattle.gm_shared.proofs.Taping.{grows_none, grows_same, grows_twice, place_after, tape_same, tape_after, noop_tape, event_tape}
 use Rattle.gm_shared.proofs.Keeping.{held_so}
@@ -95,3 +95,7 @@ returns-clause-holding c = λ k steps h.
 
 pub returns-clause-kept : goal.returns-clause-kept
 returns-clause-kept c = keeps_added c.follow.ensures.follows.touched.these _ _ c.follow.ensures.follows.touched.adds
+
+pub returns-clause-within : goal.returns-clause-within
+returns-clause-within c =
+    subst (λ slots. AreSlots slots c.args.touched.now → AreSlots slots c.follow.new.touched) c.resolve_noop-noop.ensures.slots c.follow.ensures.within

@@ -8,6 +8,7 @@ use Rattle.gm_shared.specs.Histories.{Knows, AreOf, AreBelow}
 use Rattle.gm_shared.specs.Tokens.{if_done}
 use Rattle.gm_shared.specs.Calls.{Calls}
 use Rattle.gm_shared.specs.Shared.{IsGuarded}
+use Rattle.gm_shared.specs.Books.{AreSlots}
 use Rattle.gm_shared.proofs.Entries.{own_added, held_log, held_guarded, held_calls, held_shares}
 use Rattle.gm_shared.proofs.guarded.Guarded.apply.Goals as goal
 
@@ -71,3 +72,7 @@ invariant_of-desk g c =
     (subst (λ who. Knows log who c.args.desk.now.witness.seen) c.args.desk.now.witnessed.1 c.enter.ensures.knows) _ _ c.args.desk.now.told h.1
     ∙ ap (share_of g.K.BookName.taped (actors.Desk desk)) (sym is) in
     record { witnessed = search rules; told = told }
+
+pub returns-clause-within : goal.returns-clause-within
+returns-clause-within g c =
+    subst (λ slots. AreSlots slots c.args.touched.now → AreSlots slots c.hold-result.new.touched) c.self.invariant.0.agrees.holds.slots c.hold-result.ensures.within
