@@ -1,6 +1,6 @@
 /* A worker (slot 0) that sleeps between jobs, and a client (slot 1) that submits JOBS foreground jobs; each with its reader
  * and its finisher, or with FEW with one I/O thread (Applier::step and unload, applier.rt; ServerState::read and notify; Booked::hold, resolve_noop and
- * follow, book.rt; sync_word, words.rt; ServerState::deliver, state.rt; lane.rt). A turn ends after a unit of its choice, or with the last
+ * follow, book.rt; sync_word, words.rt; lane.rt). A turn ends after a unit of its choice, or with the last
  * one. Then others are notified.
  * The worker's peer is that of libgearman: GRAB_JOB until NO_JOB, then PRE_SLEEP, then nothing until a NOOP; IMPATIENT times
  * it may also ask by itself, and DROWSY times it answers a NOOP by another PRE_SLEEP. It goes by the order of its stream; a NOOP that
@@ -172,8 +172,8 @@ inline apply(s, unit) {
     fi
 }
 
-/* What is to be done at lanes: the slots of `todo` are touched (ServerState::deliver and touch, state.rt), one's own first. The
- * others may be left to their finishers for the time, from the second on (Delivering::is_over, state.rt). */
+/* What is to be done at lanes: the slots of `todo` are touched (ServerState::notify and touch, state.rt), one's own first. The
+ * others may be left to their finishers for the time, from the second slot on. */
 inline at_lane() {
     do
     :: has -> deliver_claimed(cur)

@@ -59,7 +59,7 @@ inline book_close(s) {
 }
 
 /* What a process does at a lane: it delivers where it has it; closes the slot once the connection was let go of
- * (ServerState::settle_lane and close, serving.rt); follows the mode of a receipt and touches what it touched (notify and deliver,
+ * (ServerState::settle_lane and close, serving.rt); follows the mode of a receipt and touches what it touched (notify,
  * state.rt), where the time is over at will; and ends the connection, once its session is over. */
 inline at_lane() {
     do
@@ -115,7 +115,7 @@ inline at_lane() {
     od;
     if
     :: closing ->
-        atomic { connections--; closing = false; fin = NOTHING };    /* ServerState::end_connection */
+        atomic { connections--; closing = false; fin = NOTHING };    /* Progress::end_connection */
 #ifdef M_COUNT_BEFORE_FAILED
         if
         :: fails_later -> fails_later = false; RISE(FAILED)

@@ -102,7 +102,7 @@ inline stop() {
 #endif
 }
 
-/* ServerState::can_end (state.rt) */
+/* Progress::can_end (progress.rt) */
 #ifdef M_OVER_WITHOUT_ENDING
 #define CAN_END (server_stage >= FAILED || connections == 0)
 #else

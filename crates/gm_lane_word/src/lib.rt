@@ -30,6 +30,6 @@ mod word;
 
 pub use attempt::Attempt;
 pub use claim::Claim;
-pub use due::{Due, Lanes};
+pub use due::Due;
 pub use tally::Tally;
 pub use word::LaneWord;

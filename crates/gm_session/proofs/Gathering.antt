@@ -1,23 +1,16 @@
 -- What came of events, one after another.
-use Rattle.std.proofs.Common.{◌≡◌, ℕ, Bool, List, Result, Ok, Err, refl, sym, subst}
+use Rattle.std.proofs.Common.{◌≡◌, ℕ, Bool, List, Result, Ok, Err, sym, subst}
 use Rattle.gm_notes.specs.declared.event.ApplyError.{ApplyError}
 use Rattle.gm_notes.specs.Settings.{Settings}
 use Rattle.gm_notes.specs.Steps.{Step}
 use Rattle.gm_shared.specs.declared.receipt.Receipt.{Receipt}
 use Rattle.gm_shared.specs.declared.tape.Entry.{Entry}
 use Rattle.gm_shared.specs.Calls.{HandedIn, if_taken}
-use Rattle.gm_session.specs.declared.effects.Effects.{Effects}
 use Rattle.gm_session.specs.Talks.{TalkState}
-use Rattle.gm_session.specs.Effects.{Keeps, Gathers, nothing, event, tick, refusal, Ticks}
+use Rattle.gm_session.specs.Effects.{EffectsState, Keeps, Gathers, nothing, event, tick, refusal, Ticks}
 
-pub gathers_one : (k : Settings) (taped : Bool) (desk : ℕ) (s : Step) (result : Result Receipt ApplyError) (seen after : List Entry) (old new : Effects)
-    → Keeps k taped s desk result seen after old new → HandedIn desk (if_taken s result) seen after → Gathers k taped desk seen old after new
-gathers_one k taped desk s (Ok receipt) seen after old new keeps hands = event s receipt seen after old new nothing keeps
-gathers_one k taped desk s (Err refused) seen after old new keeps hands =
-    subst (λ (e : Effects). Gathers k taped desk seen old after e) (sym keeps.kept) (refusal seen after old nothing hands)
-
-gathers_on : (k : Settings) (taped : Bool) (desk : ℕ) (seen mid : List Entry) (old between : Effects) → Gathers k taped desk seen old mid between
-    → (after : List Entry) (new : Effects) → Gathers k taped desk mid between after new → Gathers k taped desk seen old after new
+gathers_on : (k : Settings) (taped : Bool) (desk : ℕ) (seen mid : List Entry) (old between : EffectsState) → Gathers k taped desk seen old mid between
+    → (after : List Entry) (new : EffectsState) → Gathers k taped desk mid between after new → Gathers k taped desk seen old after new
 gathers_on k taped desk seen mid old between g after new nothing = g
 gathers_on k taped desk seen mid old between g after new (event s receipt here there some more h keeps) =
     event s receipt here there some more (gathers_on k taped desk seen mid old between g here some h) keeps
@@ -25,26 +18,25 @@ gathers_on k taped desk seen mid old between g after new (tick here some more h 
 gathers_on k taped desk seen mid old between g after new (refusal here there some h handed) =
     refusal here there some (gathers_on k taped desk seen mid old between g here some h) handed
 
-pub gathers_then : (k : Settings) (taped : Bool) (desk n : ℕ) (seen mid after : List Entry) (old between new : Effects) → n ≡ desk → Gathers k taped desk seen old mid between
+pub gathers_then : (k : Settings) (taped : Bool) (desk n : ℕ) (seen mid after : List Entry) (old between new : EffectsState) → n ≡ desk → Gathers k taped desk seen old mid between
     → Gathers k taped n mid between after new → Gathers k taped desk seen old after new
 gathers_then k taped desk n seen mid after old between new same g h =
     gathers_on k taped desk seen mid old between g after new (subst (λ (i : ℕ). Gathers k taped i mid between after new) same h)
 
--- after a tick
-pub gathers_after : (k : Settings) (taped : Bool) (desk : ℕ) (seen after : List Entry) (old between new : Effects) → Ticks old between
-    → Gathers k taped desk seen between after new → Gathers k taped desk seen old after new
-gathers_after k taped desk seen after old between new ticks h = gathers_on k taped desk seen seen old between (tick seen old between nothing ticks) after new h
+-- an event that was handed in after ticks
+pub gathers_ticked : (k : Settings) (taped : Bool) (desk : ℕ) (s : Step) (result : Result Receipt ApplyError) (seen after : List Entry) (old between new : EffectsState) → Ticks old between
+    → Keeps k taped s desk result seen after between new → HandedIn desk (if_taken s result) seen after → Gathers k taped desk seen old after new
+gathers_ticked k taped desk s (Ok receipt) seen after old between new ticks keeps hands = event s receipt seen after between new (tick seen old between nothing ticks) keeps
+gathers_ticked k taped desk s (Err refused) seen after old between new ticks keeps hands =
+    subst (λ (e : EffectsState). Gathers k taped desk seen old after e) (sym keeps.kept) (refusal seen after between (tick seen old between nothing ticks) hands)
 
 -- the same of a talk that is seen so
-pub gathers_from : (k : Settings) (taped : Bool) (t u : TalkState) (after : List Entry) (old new : Effects) → u ≡ t → Gathers k taped u.number u.seen old after new → Gathers k taped t.number t.seen old after new
+pub gathers_from : (k : Settings) (taped : Bool) (t u : TalkState) (after : List Entry) (old new : EffectsState) → u ≡ t → Gathers k taped u.number u.seen old after new → Gathers k taped t.number t.seen old after new
 gathers_from k taped t u after old new is g = subst (λ (s : TalkState). Gathers k taped s.number s.seen old after new) is g
 
 -- ---- ticks
 
-pub ticks_none : (effects : Effects) → Ticks effects effects
-ticks_none effects = record { own = refl; slots = λ c h. h }
-
-pub ticks_one : (k : Settings) (taped : Bool) (s : Step) (desk : ℕ) (answer : Result Receipt ApplyError) (before after : List Entry) (old new : Effects)
+pub ticks_one : (k : Settings) (taped : Bool) (s : Step) (desk : ℕ) (answer : Result Receipt ApplyError) (before after : List Entry) (old new : EffectsState)
     → Keeps k taped s desk answer before after old new → Ticks old new
-ticks_one k taped s desk (Ok receipt) before after old new keeps = record { own = keeps.kept.own; slots = keeps.kept.slots }
-ticks_one k taped s desk (Err refused) before after old new keeps = subst (λ (e : Effects). Ticks old e) (sym keeps.kept) (ticks_none old)
+ticks_one k taped s desk (Ok receipt) before after old new keeps = keeps.kept.slots
+ticks_one k taped s desk (Err refused) before after old new keeps = subst (λ (e : EffectsState). Ticks old e) (sym keeps.kept) (λ c h. h)

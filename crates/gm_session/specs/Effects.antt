@@ -11,56 +11,58 @@ use Rattle.gm_shared.specs.declared.receipt.Receipt.{Receipt}
 use Rattle.gm_shared.specs.declared.tape.Entry.{Entry}
 use Rattle.gm_shared.specs.Books.{KeepsSlots}
 use Rattle.gm_shared.specs.Calls.{DeskCalled, HandedIn}
-use Rattle.gm_session.specs.declared.effects.Effects.{Effects}
+
+-- the slots that were touched, and whether the server goes on
+pub record EffectsState : Type 0 where
+  pub touched : List ℕ
+  pub mode : Mode
 
 -- nothing came of anything: no slot is touched, and the server goes on
-pub record IsNothing (effects : Effects) : Type 0 where
+pub record IsNothing (effects : EffectsState) : Type 0 where
   pub touched : (c : ℕ) → has effects.touched c ≡ false
   pub mode : effects.mode ≡ Running
 
 -- No touched slot is lost, and this is the server's mode now.
-pub record Collects (mode : Mode) (old new : Effects) : Type 0 where
-  pub own : new.own ≡ old.own
+pub record Collects (mode : Mode) (old new : EffectsState) : Type 0 where
   pub slots : KeepsSlots old.touched new.touched
   pub mode_is : new.mode ≡ mode
 
 -- what came of an event is kept; where it was refused, nothing came of it
-abbrev pub Kept : Result Receipt ApplyError → Effects → Effects → Type 0
+abbrev pub Kept : Result Receipt ApplyError → EffectsState → EffectsState → Type 0
 Kept (Ok receipt) old new = Collects receipt.mode old new
 Kept (Err refused) old new = new ≡ old
 
 -- An event was handed in at the desk, and no slot that it touched, or that was touched before, is lost to the threads that are notified.
-pub record Keeps (k : Settings) (taped : Bool) (s : Step) (desk : ℕ) (answer : Result Receipt ApplyError) (before after : List Entry) (old new : Effects) : Type 0 where
+pub record Keeps (k : Settings) (taped : Bool) (s : Step) (desk : ℕ) (answer : Result Receipt ApplyError) (before after : List Entry) (old new : EffectsState) : Type 0 where
   pub called : DeskCalled k taped s desk answer new.touched before after
   pub kept : Kept answer old new
 
--- The present second may have been handed in at the control desk, and no slot that was touched is lost.
-pub record Ticks (old new : Effects) : Type 0 where
-  pub own : new.own ≡ old.own
-  pub slots : KeepsSlots old.touched new.touched
+-- the present second may have been handed in at the control desk, and no slot that was touched is lost
+abbrev pub Ticks : EffectsState → EffectsState → Type 0
+Ticks old new = KeepsSlots old.touched new.touched
 
 -- What came of each event that the desk handed in meanwhile was added to the effects, one event after another, and perhaps what came of
 -- ticks; and nothing was taken out of them.
-pub data Gathers (k : Settings) (taped : Bool) (desk : ℕ) (seen : List Entry) (old : Effects) : List Entry → Effects → Type 0 where
+pub data Gathers (k : Settings) (taped : Bool) (desk : ℕ) (seen : List Entry) (old : EffectsState) : List Entry → EffectsState → Type 0 where
   nothing : Gathers k taped desk seen old seen old
-  event : (s : Step) (receipt : Receipt) (mid after : List Entry) (between new : Effects) → Gathers k taped desk seen old mid between
+  event : (s : Step) (receipt : Receipt) (mid after : List Entry) (between new : EffectsState) → Gathers k taped desk seen old mid between
       → Keeps k taped s desk (Ok receipt) mid after between new → Gathers k taped desk seen old after new
-  tick : (mid : List Entry) (between new : Effects) → Gathers k taped desk seen old mid between → Ticks between new → Gathers k taped desk seen old mid new
-  refusal : (mid after : List Entry) (between : Effects) → Gathers k taped desk seen old mid between → HandedIn desk [] mid after → Gathers k taped desk seen old after between
+  tick : (mid : List Entry) (between new : EffectsState) → Gathers k taped desk seen old mid between → Ticks between new → Gathers k taped desk seen old mid new
+  refusal : (mid after : List Entry) (between : EffectsState) → Gathers k taped desk seen old mid between → HandedIn desk [] mid after → Gathers k taped desk seen old after between
 
--- What is due to a slot is taken out, and nothing else.
-pub record Takes (due : Due) (old new : Effects) : Type 0 where
+-- What is due to a slot of the book is taken out, and nothing else.
+pub record Takes (k : Settings) (due : Due) (old new : EffectsState) : Type 0 where
+  pub within : due.slot < k.slots
   pub was : has old.touched due.slot ≡ true
   pub slots : (c : ℕ) → has new.touched c ≡ (not (c == due.slot) && has old.touched c)
   pub mode : new.mode ≡ old.mode
-  pub own : new.own ≡ old.own
 
 -- it is that of the first touched slot from one on; none where there is no such slot
-abbrev pub TakesDue : ℕ → Option Due → Effects → Effects → Type 0
-TakesDue from None old new = (new ≡ old) × ((c : ℕ) → from ≤ c → has old.touched c ≡ false)
-TakesDue from (Some due) old new = (from ≤ due.slot) × (due.slot < 1024) × ((c : ℕ) → from ≤ c → c < due.slot → has old.touched c ≡ false) × Takes due old new
+abbrev pub TakesDue : Settings → ℕ → Option Due → EffectsState → EffectsState → Type 0
+TakesDue k from None old new = (new ≡ old) × ((c : ℕ) → from ≤ c → has old.touched c ≡ false)
+TakesDue k from (Some due) old new = (from ≤ due.slot) × ((c : ℕ) → from ≤ c → c < due.slot → has old.touched c ≡ false) × Takes k due old new
 
--- it is that of one's own slot, if it is touched
-abbrev pub TakesOwn : Option Due → Effects → Effects → Type 0
-TakesOwn None old new = (new ≡ old) × ((c : ℕ) → old.own ≡ Some c → has old.touched c ≡ false)
-TakesOwn (Some due) old new = (old.own ≡ Some due.slot) × Takes due old new
+-- it is that of this slot, if it is touched
+abbrev pub TakesAt : Settings → ℕ → Option Due → EffectsState → EffectsState → Type 0
+TakesAt k slot None old new = (new ≡ old) × (has old.touched slot ≡ false)
+TakesAt k slot (Some due) old new = (due.slot ≡ slot) × Takes k due old new

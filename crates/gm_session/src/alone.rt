@@ -39,12 +39,13 @@ pub fn read_session<'s, K: BookName, R: Wait + Clock, I: Read, G: Gate>(
         gate,
         host: None,
     };
+    let peer = None;
     let applier = Applier {
         around: &around,
         slot,
-        peer: None,
+        peer: &peer,
     };
-    let mut effects = Effects::new(None);
+    let mut effects = Effects::new();
     let mut session = Session::new(alloc, limits);
     let end = applier.run(&mut session, desk, reader, &mut effects);
     effects.abandon();

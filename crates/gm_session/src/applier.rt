@@ -61,16 +61,34 @@ pub(crate) struct Applier<'s, K: BookName, R, G> {
     pub(crate) around: &'s Around<'s, K, R, G>,
     pub(crate) slot: u32,
     /// The connection's peer, for operators.
-    pub(crate) peer: Option<SocketAddr>,
+    pub(crate) peer: &'s Option<SocketAddr>,
 }
 
 impl<'s, K: BookName, R: Wait + Clock, G: Gate> Applier<'s, K, R, G> {
-    /// Applies an event. Where it is refused, the session is over.
+    /// Before a grab it hands in the present second: a job's time limit counts from the last second that was handed in. A packet of no
+    /// request's type is said to operators.
+    fn prepare(&self, read: &ReadEvent<'_>, effects: &mut Effects<K>)
+        ensures { Ticks effects.old effects.new }
+    {
+        // Modelled in models/jobs.pml and ticks.pml.
+        let around = self.around;
+        match (&read.action, &read.event, around.host) {
+            (Ok(Action::Grab { .. }), _, Some(host)) => {
+                host.update(around.rt, around.shared, effects);
+            }
+            (Err(Refusal::UnknownCommand), Event::Packet { kind, .. }, Some(host)) => {
+                host.speaker.remark_type(around.rt, *kind, *self.peer);
+            }
+            _ => {}
+        }
+    }
+
+    /// Applies an event, before a grab with the present second. Where it is refused, the session is over.
     fn apply(
         &self,
         desk: &mut Desk<K>,
         read: &ReadEvent<'_>,
-        effects: &mut Effects,
+        effects: &mut Effects<K>,
     ) -> Result<(), SessionEnd>
         requires size { IsSized read.now.event }
         requires reads { ReadsEvent read.now.event read.now.action }
@@ -78,7 +96,8 @@ impl<'s, K: BookName, R: Wait + Clock, G: Gate> Applier<'s, K, R, G> {
         ensures gathers { Gathers K.settings K.taped desk.old.number desk.old.witness.seen effects.old desk.new.witness.seen effects.new }
         ensures number { desk.new.number ≡ desk.old.number }
     {
-        // Modelled in models/jobs.pml.
+        // Modelled in models/jobs.pml and ticks.pml.
+        self.prepare(read, effects);
         match hand_in(self.around.rt, self.around.shared, desk, read, effects) {
             Ok(_) => Ok(()),
             Err(ApplyError::Memory) => Err(SessionEnd::Memory),
@@ -86,51 +105,23 @@ impl<'s, K: BookName, R: Wait + Clock, G: Gate> Applier<'s, K, R, G> {
         }
     }
 
-    /// Before a grab it hands in the present second: a job's time limit counts from the last second that was handed in. A packet of no
-    /// request's type is said to operators.
-    fn prepare(&self, read: &ReadEvent<'_>, effects: &mut Effects)
-        ensures { Ticks effects.old effects.new }
-    {
-        // Modelled in models/jobs.pml and ticks.pml.
-        let around = self.around;
-        let Some(host) = around.host else {
-            return;
-        };
-        match (&read.action, &read.event) {
-            (Ok(Action::Grab { .. }), _) => host.update(around.rt, around.shared, effects),
-            (Err(Refusal::UnknownCommand), Event::Packet { kind, .. }) => {
-                host.speaker.remark_type(around.rt, *kind, self.peer);
-            }
-            _ => {}
-        }
-    }
-
-    /// Lets a unit pass the gate, and applies it, before a grab with the present second.
+    /// Lets a unit pass the gate, and applies it.
     fn apply_unit(
         &self,
         desk: &mut Desk<K>,
         index: u64,
         event: Event<'_>,
-        effects: &mut Effects,
+        effects: &mut Effects<K>,
     ) -> Result<(), SessionEnd>
         requires { IsSized event }
         ensures applies { Applies K.settings K.taped desk.old.number (step_of event.entry) result desk.old.witness.seen desk.new.witness.seen }
         ensures gathers { Gathers K.settings K.taped desk.old.number desk.old.witness.seen effects.old desk.new.witness.seen effects.new }
         ensures number { desk.new.number ≡ desk.old.number }
     {
-        // Modelled in models/jobs.pml and ticks.pml.
-        self.around.gate.pass(self.around.rt, self.slot, index);
-        let read = ReadEvent::new(event);
-        self.prepare(&read, effects);
-        self.apply(desk, &read, effects)
-    }
-
-    /// Lets the next unit into its batch.
-    fn admit(&self, batch: &mut Batch<'s>) {
         // Modelled in models/jobs.pml.
-        if let Some(host) = self.around.host {
-            batch.admit(host, self.around.rt);
-        }
+        self.around.gate.pass(self.around.rt, self.slot, index);
+        // What was read is large, and so it isn't moved.
+        self.apply(desk, &ReadEvent::new(event), effects)
     }
 
     /// Takes the next unit in the feeder, or the fault there. A long packet is taken with its
@@ -140,7 +131,7 @@ impl<'s, K: BookName, R: Wait + Clock, G: Gate> Applier<'s, K, R, G> {
         session: &mut Session,
         desk: &mut Desk<K>,
         batch: &mut Batch<'s>,
-        effects: &mut Effects,
+        effects: &mut Effects<K>,
     ) -> Result<Taken, SessionEnd>
         ensures takes { TakesNext K.settings K.taped desk.old.number self.now.slot session.old.feeder result desk.old.witness.seen desk.new.witness.seen session.new.feeder }
         ensures gathers { Gathers K.settings K.taped desk.old.number desk.old.witness.seen effects.old desk.new.witness.seen effects.new }
@@ -151,7 +142,7 @@ impl<'s, K: BookName, R: Wait + Clock, G: Gate> Applier<'s, K, R, G> {
         let around = self.around;
         let index = session.index;
         if let Some(packet) = session.feeder.take_packet(LONG) {
-            self.admit(batch);
+            batch.admit(around.host, around.rt);
             session.index = index.saturating_add(1);
             self.take_long(desk, index, packet, effects)?;
             return Ok(Taken::Unit { is_line: false });
@@ -159,7 +150,7 @@ impl<'s, K: BookName, R: Wait + Clock, G: Gate> Applier<'s, K, R, G> {
         match next_event(&mut session.feeder, slot) {
             Next::Unit(event) => {
                 let is_line = matches!(event, Event::Line { .. });
-                self.admit(batch);
+                batch.admit(around.host, around.rt);
                 session.index = index.saturating_add(1);
                 self.apply_unit(desk, index, event, effects)?;
                 Ok(Taken::Unit { is_line })
@@ -183,7 +174,7 @@ impl<'s, K: BookName, R: Wait + Clock, G: Gate> Applier<'s, K, R, G> {
         desk: &mut Desk<K>,
         index: u64,
         packet: OwnedPacket,
-        effects: &mut Effects,
+        effects: &mut Effects<K>,
     ) -> Result<(), SessionEnd>
         requires { length (drop packet.data_at packet.bytes.items) ≤ 1073741824 }
         ensures applies { Applies K.settings K.taped desk.old.number (Packet self.now.slot packet.kind (drop packet.data_at packet.bytes.items)) result
@@ -206,7 +197,7 @@ impl<'s, K: BookName, R: Wait + Clock, G: Gate> Applier<'s, K, R, G> {
         &self,
         session: &mut Session,
         desk: &mut Desk<K>,
-        effects: &mut Effects,
+        effects: &mut Effects<K>,
     ) -> Result<Turn, SessionEnd>
         ensures unloads { Unloads K.settings K.taped desk.old.number self.now.slot session.old.feeder result desk.old.witness.seen desk.new.witness.seen session.new.feeder }
         ensures gathers { Gathers K.settings K.taped desk.old.number desk.old.witness.seen effects.old desk.new.witness.seen effects.new }
@@ -234,7 +225,7 @@ impl<'s, K: BookName, R: Wait + Clock, G: Gate> Applier<'s, K, R, G> {
         desk: &mut Desk<K>,
         source: &mut S,
         by: &E,
-        effects: &mut Effects,
+        effects: &mut Effects<K>,
     ) -> Result<Turn, SessionEnd>
         ensures ended { IfErr result (λ end. end ≡ SessionEnd.Ended → IsAtEnd (S.remaining source.new)) }
         ensures steps { Steps K.settings K.taped desk.old.number self.now.slot session.old.feeder session.old.has_units (S.remaining source.old) (S.remaining source.new)
@@ -256,7 +247,7 @@ impl<'s, K: BookName, R: Wait + Clock, G: Gate> Applier<'s, K, R, G> {
         session: &mut Session,
         desk: &mut Desk<K>,
         reader: &mut I,
-        effects: &mut Effects,
+        effects: &mut Effects<K>,
     ) -> SessionEnd
         requires { session.old.feeder.pending ≡ [] }
         ensures ended { result ≡ SessionEnd.Ended → IsAtEnd (I.remaining reader.new) }

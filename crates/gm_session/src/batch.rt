@@ -56,18 +56,22 @@ impl<'s> Batch<'s> {
         }
     }
 
-    /// Lets the next unit in. The first that isn't free waits until no other session has such a batch, in a long turn behind
-    /// the other long ones.
-    pub(crate) fn admit<K: BookName>(&mut self, host: &'s Host<K>, rt: &impl Wait)
+    /// Lets the next unit in. The first that isn't free waits until no other session of the server has such a batch, in a long turn
+    /// behind the other long ones.
+    #[inline(always)]
+    pub(crate) fn admit<K: BookName>(&mut self, host: Option<&'s Host<K>>, rt: &impl Wait)
         ensures free { self.new.free_units ≡ self.old.free_units }
         ensures units { self.new.units ≡ self.old.units }
-        ensures waits { self.old.free_units ≤ self.old.units → IsSome self.new.turn }
-        ensures long_turn { self.old.free_units ≤ self.old.units → IsNone self.old.turn → self.old.is_long ≡ true → IsSome self.new.long_turn }
+        ensures waits { IsSome host.entry → self.old.free_units ≤ self.old.units → IsSome self.new.turn }
+        ensures long_turn { IsSome host.entry → self.old.free_units ≤ self.old.units → IsNone self.old.turn → self.old.is_long ≡ true → IsSome self.new.long_turn }
         ensures long { self.new.is_long ≡ self.old.is_long }
         ensures begun { self.new.begun ≡ self.old.begun }
     {
         // Modelled in models/jobs.pml.
-        if self.units >= self.free_units && self.turn.is_none() {
+        if self.units >= self.free_units
+            && self.turn.is_none()
+            && let Some(host) = host
+        {
             if self.is_long {
                 self.long_turn = Some(host.long_turn.lock(rt));
             }

@@ -6,35 +6,46 @@ ghost use Rattle.gm_actions.specs.ReadEvents.{ReadsEvent};
 ghost use Rattle.gm_notes.specs.Servers.{step_of, IsSized};
 ghost use Rattle.gm_shared.specs.Books.{NeedsNoMemory};
 ghost use Rattle.gm_shared.specs.Calls.{HandedIn, if_taken};
-ghost use Rattle.gm_session.specs.Effects.{IsNothing, Keeps, TakesDue, TakesOwn};
+ghost use Rattle.gm_session.specs.Effects.{IsNothing, Keeps, TakesDue, TakesAt};
 
 use gm_actions::ReadEvent;
 use gm_conns::SlotSet;
 use gm_lane_word::Due;
 use gm_notes::{ApplyError, Mode};
 use gm_shared::{BookName, Desk, Receipt, Shared};
+use std::marker::{Model, PhantomData};
 use std::sync::Wait;
 
-/// What came of some events. It can't be dropped: what is due to each touched slot is taken out of it, and then it is ended.
-pub struct Effects {
-    // The slot whose connection's events they were, if they were a connection's.
-    own: Option<u32>,
+/// What came of some events at the book that `K` names. It can't be dropped: what is due to each touched slot is taken out of it, and
+/// then it is ended. Contracts see the touched slots, which are the book's, and the mode.
+pub struct Effects<K: BookName> {
     // The slots for which there may be something to send.
     touched: SlotSet,
     // Whether the server goes on.
     mode: Mode,
+    of: PhantomData<K>,
 }
 
-impl Effects {
-    /// Nothing came of the events of this slot's connection, or of nobody's.
-    pub fn new(own: Option<u32>) -> Effects
-        ensures own { result.own ≡ own }
-        ensures nothing { IsNothing result }
+impl<K: BookName> Model for Effects<K> {
+    ghost use Rattle.gm_shared.specs.Books.{AreSlots};
+    ghost use Rattle.gm_session.specs.Effects.{EffectsState};
+
+    ghost Value = { EffectsState };
+
+    ghost view = { λ e. record { touched = e.touched; mode = e.mode } };
+
+    ghost invariant = { λ e. AreSlots K.settings.slots e.touched };
+}
+
+impl<K: BookName> Effects<K> {
+    /// Nothing came of anything.
+    pub fn new() -> Effects<K>
+        ensures { IsNothing result }
     {
         Effects {
-            own,
             touched: SlotSet::new(),
             mode: Mode::Running,
+            of: PhantomData,
         }
     }
 
@@ -43,14 +54,13 @@ impl Effects {
         ensures mode { result ≡ self.old.mode }
         ensures taken { self.new.mode ≡ Mode.Running }
         ensures touched { self.new.touched ≡ self.old.touched }
-        ensures own { self.new.own ≡ self.old.own }
     {
         std::mem::replace(&mut self.mode, Mode::Running)
     }
 
     /// Takes what is due to the first slot from `from` on, if anything is due to one.
     pub fn take_next(&mut self, from: u32) -> Option<Due>
-        ensures { TakesDue from result self.old self.new }
+        ensures { TakesDue K.settings from result self.old self.new }
     {
         // Modelled in models/jobs.pml.
         let slot = self.touched.next(from)?;
@@ -58,17 +68,16 @@ impl Effects {
         Some(Due::new(slot))
     }
 
-    /// Takes what is due to the slot whose connection's events they were, if anything is.
-    pub fn take_own(&mut self) -> Option<Due>
-        ensures { TakesOwn result self.old self.new }
+    /// Takes what is due to this slot, if anything is.
+    pub fn take(&mut self, slot: u32) -> Option<Due>
+        ensures { TakesAt K.settings slot result self.old self.new }
     {
         // Modelled in models/jobs.pml.
-        let own = self.own?;
-        if !self.touched.contains(own) {
+        if !self.touched.contains(slot) {
             return None;
         }
-        self.touched.remove(own);
-        Some(Due::new(own))
+        self.touched.remove(slot);
+        Some(Due::new(slot))
     }
 
     /// Discharges it, where nothing is due to any slot any more.
@@ -76,18 +85,18 @@ impl Effects {
         requires { IsNothing self }
     {
         let Effects {
-            own: _,
             touched: _,
             mode: _,
+            of: _,
         } = self;
     }
 
     /// Ends it, of a session that is read by itself: no thread is notified.
     pub(crate) fn abandon(self) {
         let Effects {
-            own: _,
             touched: _,
             mode: _,
+            of: _,
         } = self;
     }
 }
@@ -98,7 +107,7 @@ pub(crate) fn hand_in<K: BookName>(
     shared: &Shared<K>,
     desk: &mut Desk<K>,
     read: &ReadEvent<'_>,
-    effects: &mut Effects,
+    effects: &mut Effects<K>,
 ) -> Result<Receipt, ApplyError>
     requires size { IsSized read.now.event }
     requires reads { ReadsEvent read.now.event read.now.action }

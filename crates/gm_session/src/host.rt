@@ -70,7 +70,7 @@ impl<K: BookName> Host<K> {
 
     /// Hands in the present second, if it is later than the last that was, and adds what came of it. Where the clock can't be read, there
     /// is no tick.
-    pub fn update<R: Wait + Clock>(&self, rt: &R, shared: &Shared<K>, effects: &mut Effects)
+    pub fn update<R: Wait + Clock>(&self, rt: &R, shared: &Shared<K>, effects: &mut Effects<K>)
         ensures { Ticks effects.old effects.new }
     {
         // Modelled in models/jobs.pml and ticks.pml.
@@ -83,7 +83,7 @@ impl<K: BookName> Host<K> {
 
     /// Hands in this second, unless another thread was first. If there is no memory for that, the book gets the next
     /// second.
-    fn tick(&self, rt: &impl Wait, shared: &Shared<K>, now: u64, effects: &mut Effects)
+    fn tick(&self, rt: &impl Wait, shared: &Shared<K>, now: u64, effects: &mut Effects<K>)
         ensures { Ticks effects.old effects.new }
     {
         // Modelled in models/jobs.pml and ticks.pml.

@@ -44,7 +44,7 @@ impl<K: BookName> OwnDesk<K> {
         rt: &impl Wait,
         shared: &Shared<K>,
         event: Event<'_>,
-        effects: &mut Effects,
+        effects: &mut Effects<K>,
     ) -> Result<Receipt, ApplyError>
         requires size { IsSized event }
         requires own { is_said_by self.old.desk.number (step_of event) ≡ true }

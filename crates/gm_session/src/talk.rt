@@ -81,7 +81,7 @@ fn step_on<K: BookName, R: Wait + Clock, G: Gate, I: Source<Patience>>(
     talking: &mut Talking<I>,
     around: &Around<'_, K, R, G>,
     by: &Patience,
-    effects: &mut Effects,
+    effects: &mut Effects<K>,
 ) -> Result<Turn, SessionEnd>
     ensures steps { Steps K.settings K.taped desk.old.desk.number desk.old.desk.number talking.old.session.feeder talking.old.session.has_units
         (I.remaining talking.old.source.0) (I.remaining talking.new.source.0) (Some talking.old.source.2) (Some talking.new.source.2) result
@@ -94,7 +94,7 @@ fn step_on<K: BookName, R: Wait + Clock, G: Gate, I: Source<Patience>>(
     let applier = Applier {
         around,
         slot: desk.number(),
-        peer: talking.peer,
+        peer: &talking.peer,
     };
     let outcome = applier.step(
         &mut talking.session,
@@ -221,7 +221,7 @@ impl<K: BookName, I: Source<Patience> + Drop> Talk<K, I> {
         &mut self,
         around: &Around<'_, K, R, G>,
         by: &Patience,
-        effects: &mut Effects,
+        effects: &mut Effects<K>,
     ) -> Result<Turn, SessionEnd>
         ensures steps { StepsOn self.old.talking K.settings K.taped result self.old self.new }
         ensures gathers { Gathers K.settings K.taped self.old.number self.old.seen effects.old self.new.seen effects.new }
@@ -254,7 +254,7 @@ impl<K: BookName, I: Source<Patience> + Drop> Talk<K, I> {
         &mut self,
         rt: &impl Wait,
         shared: &Shared<K>,
-        effects: &mut Effects,
+        effects: &mut Effects<K>,
     ) -> Result<Receipt, ApplyError>
         ensures closes { Closes K.settings K.taped result self.old self.new }
         ensures keeps { Keeps K.settings K.taped (Close self.old.number) self.old.number result self.old.seen self.new.seen effects.old effects.new }

@@ -1,5 +1,5 @@
 -- A slot's place in the list of slots is its number.
-use Rattle.std.proofs.Common.{◌≡◌, ◌≢◌, ◌<◌, ◌==◌, ℕ, zero, suc, Bool, true, false, List, [], ◌∷◌, ◌++◌, map, length, get_or, Option, Some, None, IfSome, refl, sym, ap, ◌∙◌, arith, length-append}
+use Rattle.std.proofs.Common.{◌≡◌, ◌≢◌, ◌<◌, ◌≤◌, ◌==◌, ℕ, zero, suc, Bool, true, false, List, [], ◌∷◌, ◌++◌, map, length, get_or, Option, Some, None, IfSome, IfNone, refl, sym, ap, ◌∙◌, arith, length-append}
 use Rattle.std.proofs.lemmas.Bool.Decides.{nat_tests}
 use Rattle.std.proofs.lemmas.List.{get_or_at, get_or_append_left, get_or-map, length-map, append_assoc, map-append}
 use Rattle.std.specs.List.{ItemBy}
@@ -38,6 +38,10 @@ module _ {A : Type 0} (number : A → ℕ) where
   pub item_numbered : {R : Type 0} (now : R → A) (xs : List A) (n i : ℕ) (r : Option R) → ItemBy now xs i i r → map number xs ≡ numbers_below n → IfSome r (λ x. number (now x) ≡ i)
   item_numbered now xs n i None item are = tt
   item_numbered now xs n i (Some x) item are = ap number item.1 ∙ numbered_at xs n i (now x) are item.3.0
+
+  pub none_numbered : {R : Type 0} (now : R → A) (xs : List A) (n i : ℕ) (r : Option R) → ItemBy now xs i i r → map number xs ≡ numbers_below n → IfNone r (n ≤ i)
+  none_numbered now xs n i None item are = omega (arith, as_many number xs n are, item.3)
+  none_numbered now xs n i (Some x) item are = tt
 
   -- one more is put behind those that there are, and is taken from the rest
   pub numbered_more : {B : Type 0} (of : B → ℕ) (xs after : List A) (x : A) (all more rest : List B) (y : B) → map number xs ++ map of more ≡ map of all

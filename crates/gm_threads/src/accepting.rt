@@ -5,6 +5,7 @@ ghost use Rattle.std.specs.Prelude.{◌≡◌, [], pos};
 use crate::crews;
 use crate::error::ControlError;
 use crate::keepalive::set_peer_timeout;
+use crate::progress::Progress;
 use crate::state::ServerState;
 use gm_delivery::{ReadHalf, ServerStage, WriteHalf, split};
 use gm_report::{Ready, Report, Trouble};
@@ -71,10 +72,10 @@ fn is_usual(error: &io::Error) -> bool {
 }
 
 /// Waits until each connection has ended.
-fn wait_for_ends<K: BookName>(rt: &(impl Wait + Clock), state: &ServerState<K>) {
+fn wait_for_ends(rt: &(impl Wait + Clock), progress: &Progress) {
     // Modelled in models/shutdown.pml.
     for _ in rt.forever() {
-        if state.connections() == 0 {
+        if progress.connections() == 0 {
             return;
         }
         thread::sleep(rt, Duration::from_millis(ACCEPT_TIMEOUT_MS));
@@ -192,9 +193,9 @@ impl<'s, K: BookName + Send + Sync> Control<'s, K> {
         drop(desk);
         let opened = opened.and_then(|(number, opening)| Some((state.slot(number)?, opening)));
         let Some((slot, opening)) = opened else {
-            return Err(Refusal::new(state.want_of_slot()));
+            return Err(Refusal::new(state.progress.want_of_slot(state.slot_count)));
         };
-        state.begin_connection();
+        state.progress.begin_connection();
         if !crews::prepare(scope, rt, state, gate, slot) {
             state.close(rt, &mut slot.talk.lock(rt));
             return Err(Refusal::new(Trouble::Threads));
@@ -221,7 +222,7 @@ impl<'s, K: BookName + Send + Sync> Control<'s, K> {
         match self.open(scope, rt, gate, stream, peer) {
             Ok(()) => speaker.clear(rt),
             Err(Refusal { trouble, error }) => {
-                if self.state.is_running() {
+                if self.state.progress.is_running() {
                     speaker.remark(rt, trouble, error);
                 }
             }
@@ -247,7 +248,7 @@ impl<'s, K: BookName + Send + Sync> Control<'s, K> {
             self.told = second;
             let counts = self.state.host.speaker.counts(rt);
             ready.go_on(Report {
-                connections: self.state.connections(),
+                connections: self.state.progress.connections(),
                 slots: self.state.slot_count,
                 refused: counts.refused,
                 cut: counts.cut,
@@ -274,11 +275,16 @@ impl<'s, K: BookName + Send + Sync> Control<'s, K> {
                 Err(error) if is_fatal(&error) => return Err(ControlError::Listen),
                 Err(error) => self.hold_on(rt, &error),
             }
-            if self.state.can_end() {
+            if self.state.progress.can_end() {
                 break;
             }
         }
-        if self.state.stage.has_reached(ServerStage::Failed as u8) {
+        if self
+            .state
+            .progress
+            .stage
+            .has_reached(ServerStage::Failed as u8)
+        {
             return Err(ControlError::Memory);
         }
         Ok(())
@@ -315,7 +321,7 @@ impl<'s, K: BookName + Send + Sync> Control<'s, K> {
         let outcome = self.serve(scope, rt, gate, listener, ready);
         if outcome.is_err() {
             self.state.stop();
-            wait_for_ends(rt, self.state);
+            wait_for_ends(rt, &self.state.progress);
         }
         crews::dismiss(rt, self.state);
         outcome?;

@@ -180,7 +180,7 @@ pub(crate) fn prepare<'s, E, K: BookName + Send + Sync, G: Gate, R: Threads + Wa
 /// Has all threads leave, which have no connection any more.
 pub(crate) fn dismiss<K: BookName>(rt: &impl Wait, state: &ServerState<K>) {
     // Modelled in models/serving.h.
-    state.stage.rise(ServerStage::Ended as u8);
+    state.progress.stage.rise(ServerStage::Ended as u8);
     state.crews.wake_all();
     if let Crews::Pairs(pairs) = &state.crews {
         for (slot, pair) in state.slots.iter().zip(pairs.iter()) {
@@ -201,9 +201,10 @@ fn run_reader<K: BookName, G: Gate, R: Wait + Clock>(
     pair: &Pair,
 ) {
     // Modelled in models/serving.h.
+    let progress = &state.progress;
     for _ in rt.forever() {
         let mut talk = pair.arrived.wait_while(rt, slot.talk.lock(rt), |talk| {
-            !talk.is_reading() && !state.has_ended()
+            !talk.is_reading() && !progress.has_ended()
         });
         if !talk.is_reading() {
             break;
@@ -243,7 +244,7 @@ fn run_finisher<K: BookName, R: Wait + Clock>(
             Finish::Pending => parker.park_timeout(rt, Duration::from_millis(AGAIN_MS)),
             Finish::Idle | Finish::Again | Finish::Gone => parker.park(rt),
         }
-        if state.has_ended() {
+        if state.progress.has_ended() {
             break;
         }
         finish = state.finish(rt, slot, Patience::Waits);
@@ -283,7 +284,7 @@ fn run_few<K: BookName, G: Gate, R: Wait + Clock>(
     let mut poller = poller;
     for _ in rt.forever() {
         poller.wait(rt, hub);
-        if state.has_ended() {
+        if state.progress.has_ended() {
             break;
         }
         serve_round(rt, state, gate, &mut poller);

@@ -10,6 +10,7 @@ mod accepting;
 mod crews;
 mod error;
 mod keepalive;
+mod progress;
 mod server;
 mod serving;
 mod settings;

@@ -95,7 +95,7 @@ impl<K: BookName> ServerState<K> {
     ) -> Then {
         // Modelled in models/polling.pml and serving.h.
         let has_read = !talk.has_units();
-        let outcome = if self.stage.has_reached(ServerStage::Stopped as u8) {
+        let outcome = if self.progress.stage.has_reached(ServerStage::Stopped as u8) {
             Err(SessionEnd::Shut)
         } else {
             let around = Around {
@@ -105,9 +105,10 @@ impl<K: BookName> ServerState<K> {
                 gate,
                 host: Some(&self.host),
             };
-            let mut effects = Effects::new(Some(talk.number()));
+            let mut effects = Effects::new();
             let outcome = talk.step(&around, &patience, &mut effects);
-            self.notify(rt, effects);
+            self.notify(rt, Some(talk.number()), &mut effects);
+            effects.discharge();
             outcome
         };
         match outcome {
@@ -171,12 +172,13 @@ impl<K: BookName> ServerState<K> {
     /// the server ends.
     pub(crate) fn close<R: Wait + Clock>(&self, rt: &R, talk: &mut Talk<K, ReadHalf>) {
         // Modelled in models/serving.h.
-        let mut effects = Effects::new(None);
+        let mut effects = Effects::new();
         if let Err(ApplyError::Memory) = talk.close(rt, &self.shared, &mut effects) {
-            self.stage.rise(ServerStage::Failed as u8);
+            self.progress.stage.rise(ServerStage::Failed as u8);
         }
-        self.notify(rt, effects);
-        self.end_connection();
+        self.notify(rt, None, &mut effects);
+        effects.discharge();
+        self.progress.end_connection();
     }
 
     /// Serves a slot without waiting, as the thread that has many.

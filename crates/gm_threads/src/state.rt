@@ -1,24 +1,24 @@
 //! What all threads of a server share.
 
-ghost use Rattle.std.specs.Prelude.{◌≡◌, ◌≤◌, ℕ, All, [], true, false, None, IfSome, IfNone, IfOk, length, map};
-ghost use Rattle.gm_conns.specs.Slots.{has};
+ghost use Rattle.std.specs.Prelude.{◌≡◌, ◌<◌, ◌≤◌, All, [], IfSome, IfNone, IfOk, map};
 ghost use Rattle.gm_shared.specs.Shared.{numbers_below};
+ghost use Rattle.gm_session.specs.Effects.{IsNothing};
 ghost use Rattle.gm_session.specs.Owners.{Opens};
 ghost use Rattle.gm_slots.specs.Served.{SettledSo};
 
 use crate::crews::Crews;
-use gm_delivery::{DeliveryContext, Finish, Lane, Leftover, ServerStage, Stage};
+use crate::progress::Progress;
+use gm_delivery::{DeliveryContext, Finish, Leftover, ServerStage};
 use gm_feeder::Limits;
-use gm_lane_word::{Due, Lanes};
+use gm_lane_word::Due;
 use gm_notes::{Event, Mode};
-use gm_report::{Speaker, Trouble, has_passed};
+use gm_report::{Speaker, has_passed};
 use gm_session::{Effects, Host, OwnDesk};
 use gm_shared::{Blank, BookName, Shared};
 use gm_slots::{Served, Slot, new_slots, settle_slots};
 use std::alloc::{AllocError, Global};
-use std::sync::atomic::{AtomicU64, Ordering};
 use std::sync::{Arc, Wait};
-use std::time::{Clock, Duration, Instant};
+use std::time::{Clock, Duration};
 
 /// How long a thread goes on writing to others. The slots' finishers do the rest.
 const DELIVERING_TIME_MS: u64 = 10;
@@ -35,43 +35,9 @@ pub(crate) struct ServerState<K: BookName> {
     pub(crate) slot_count: u32,
     // What its sessions share.
     pub(crate) host: Host<K>,
-    // How many connections are open.
-    connections: AtomicU64,
-    pub(crate) stage: Stage,
+    pub(crate) progress: Progress,
     ghost sized: { slot_count ≡ K.settings.slots },
     ghost numbered: { map (λ slot. slot.lane.slot) slots.items ≡ numbers_below slot_count },
-}
-
-/// How far a thread is that delivers to others.
-#[derive(Drop)]
-struct Delivering {
-    has_begun: bool,
-    /// When the clock was first read: for one slot it isn't.
-    begun: Option<Instant>,
-}
-
-impl Delivering {
-    fn new() -> Delivering
-        ensures begun { result.has_begun ≡ false }
-        ensures clock { result.begun ≡ None }
-    {
-        Delivering {
-            has_begun: false,
-            begun: None,
-        }
-    }
-
-    /// Whether the rest is for the finishers. It is asked before each slot.
-    fn is_over(&mut self, rt: &impl Clock) -> bool
-        ensures begun { self.new.has_begun ≡ true }
-        ensures first { self.old.has_begun ≡ false → result ≡ false }
-    {
-        // Modelled in models/jobs.pml.
-        let is_first = !self.has_begun;
-        self.has_begun = true;
-        let time = Duration::from_millis(DELIVERING_TIME_MS);
-        !is_first && has_passed(rt, &mut self.begun, time)
-    }
 }
 
 impl<K: BookName> ServerState<K> {
@@ -99,8 +65,7 @@ impl<K: BookName> ServerState<K> {
             slots,
             slot_count,
             host: Host::new(rt, OwnDesk::new(control), speaker),
-            connections: AtomicU64::new(0),
-            stage: Stage::new(),
+            progress: Progress::new(),
         })
     }
 
@@ -128,60 +93,15 @@ impl<K: BookName> ServerState<K> {
 
     pub(crate) fn slot(&self, number: u32) -> Option<&Slot<K>>
         ensures some { IfSome result (λ slot. slot.now.lane.slot ≡ number) }
-        ensures none { IfNone result (length self.now.slots.items ≤ number) }
+        ensures none { IfNone result (self.now.slot_count ≤ number) }
     {
         self.slots.get(number as usize)
-    }
-
-    /// Whether the server takes no new connections, and has none; or has failed.
-    pub(crate) fn can_end(&self) -> bool {
-        // Modelled in models/shutdown.pml.
-        self.stage.has_reached(ServerStage::Failed as u8)
-            || !self.is_running() && self.connections() == 0
-    }
-
-    /// Whether the server takes connections.
-    pub(crate) fn is_running(&self) -> bool {
-        !self.stage.has_reached(ServerStage::Graceful as u8)
-    }
-
-    /// Why a connection was refused for which there was no slot.
-    pub(crate) fn want_of_slot(&self) -> Trouble {
-        if self.connections() < self.slot_count as u64 {
-            Trouble::Memory
-        } else {
-            Trouble::Slots
-        }
-    }
-
-    /// Whether there are no connections any more, and none comes.
-    pub(crate) fn has_ended(&self) -> bool {
-        // Modelled in models/shutdown.pml.
-        self.stage.has_reached(ServerStage::Ended as u8)
-    }
-
-    /// How many connections are open, or about to start.
-    pub(crate) fn connections(&self) -> u64 {
-        // Modelled in models/shutdown.pml.
-        self.connections.load(Ordering::SeqCst)
-    }
-
-    /// Counts a connection that is about to start.
-    pub(crate) fn begin_connection(&self) {
-        // Modelled in models/shutdown.pml.
-        self.connections.fetch_add(1, Ordering::SeqCst);
-    }
-
-    /// Counts a connection that is gone.
-    pub(crate) fn end_connection(&self) {
-        // Modelled in models/serving.h.
-        self.connections.fetch_sub(1, Ordering::SeqCst);
     }
 
     /// Has each connection end.
     pub(crate) fn stop(&self) {
         // Modelled in models/shutdown.pml.
-        self.stage.rise(ServerStage::Stopped as u8);
+        self.progress.stage.rise(ServerStage::Stopped as u8);
         self.crews.wake_all();
     }
 
@@ -191,28 +111,28 @@ impl<K: BookName> ServerState<K> {
         match mode {
             Mode::Running => {}
             Mode::Graceful => {
-                self.stage.rise(ServerStage::Graceful as u8);
+                self.progress.stage.rise(ServerStage::Graceful as u8);
             }
             Mode::Stopped => {
-                if self.stage.rise(ServerStage::Stopped as u8) {
+                if self.progress.stage.rise(ServerStage::Stopped as u8) {
                     self.crews.wake_all();
                 }
             }
         }
     }
 
-    /// Delivers to a slot that has something due, unless another thread does; or leaves that to its finisher, where the time for
-    /// delivering is over.
-    fn touch<R: Wait + Clock>(&self, rt: &R, due: Due, delivering: &mut Delivering) {
+    /// Delivers to a slot that has something due, unless another thread does; or leaves that to its finisher, where it is late.
+    fn touch<R: Wait + Clock>(&self, context: &DeliveryContext<'_, K, R>, due: Due, is_late: bool)
+        requires { due.slot < K.settings.slots }
+    {
         // Modelled in models/deliver.pml.
         let Some(slot) = self.slot(due.slot()) else {
-            due.without_lane(self);
-            return;
+            unreachable!()
         };
-        let leftover = if delivering.is_over(rt) {
+        let leftover = if is_late {
             slot.lane.touch_for_finisher(due)
         } else {
-            slot.lane.touch(&self.delivery(rt), due)
+            slot.lane.touch(context, due)
         };
         self.wake_for(leftover);
     }
@@ -222,42 +142,41 @@ impl<K: BookName> ServerState<K> {
         DeliveryContext {
             rt,
             shared: &self.shared,
-            server: &self.stage,
+            server: &self.progress.stage,
             speaker: &self.host.speaker,
         }
     }
 
     /// Has a lane's finisher woken, if that is left to do, and says what came of the delivery.
+    #[inline(always)]
     pub(crate) fn wake_for(&self, leftover: Leftover) -> Finish {
         // Modelled in models/lane.h.
         leftover.settle(|slot| self.crews.wake(slot))
     }
 
-    /// Touches the lane of each touched slot, and delivers where nobody else does, until the time is over; then it has the
-    /// finishers do so. One's own connection is answered first: there may be a thousand others.
-    fn deliver<R: Wait + Clock>(&self, rt: &R, effects: &mut Effects)
-        ensures own { effects.new.own ≡ effects.old.own }
-        ensures mode { effects.new.mode ≡ effects.old.mode }
-        ensures nothing { (slot : ℕ) → has effects.new.touched slot ≡ false }
+    /// Notifies others of what came of events, with the book's lock let go: touches the lane of each touched slot, and delivers where
+    /// nobody else does, until the time is over; then it has the finishers do so. The slot whose connection's events they were is
+    /// answered first: there may be a thousand others.
+    pub(crate) fn notify<R: Wait + Clock>(&self, rt: &R, own: Option<u32>, effects: &mut Effects<K>)
+        ensures { IsNothing effects.new }
     {
-        // Modelled in models/jobs.pml and serving.h.
-        let mut delivering = Delivering::new();
-        if let Some(due) = effects.take_own() {
-            self.touch(rt, due, &mut delivering);
-        }
-        let mut from = 0;
-        while let Some(due) = effects.take_next(from) {
-            from = due.slot() + 1;
-            self.touch(rt, due, &mut delivering);
-        }
-    }
-
-    /// Notifies others of what came of events, with the book's lock let go.
-    pub(crate) fn notify<R: Wait + Clock>(&self, rt: &R, mut effects: Effects) {
         // Modelled in models/jobs.pml, ticks.pml, deliver.pml and serving.h.
         self.follow(effects.take_mode());
-        self.deliver(rt, &mut effects);
-        effects.discharge();
+        let context = self.delivery(rt);
+        if let Some(number) = own
+            && let Some(due) = effects.take(number)
+        {
+            self.touch(&context, due, false);
+        }
+        // For one slot the clock isn't read.
+        let mut begun = None;
+        let mut from = 0;
+        while let Some(due) = effects.take_next(from) {
+            let time = Duration::from_millis(DELIVERING_TIME_MS);
+            let is_late = from > 0 && has_passed(rt, &mut begun, time);
+            from = due.slot() + 1;
+            self.touch(&context, due, is_late);
+        }
     }
 
     /// Opens a connection from this address, and answers its slot, and how often that was opened with it; none where it is refused.
@@ -271,9 +190,10 @@ impl<K: BookName> ServerState<K> {
         ensures number { desk.new.desk.number ≡ desk.old.desk.number }
     {
         // Modelled in models/shutdown.pml and ticks.pml.
-        let mut effects = Effects::new(None);
+        let mut effects = Effects::new();
         let answer = desk.apply(rt, &self.shared, Event::Open { addr }, &mut effects);
-        self.notify(rt, effects);
+        self.notify(rt, None, &mut effects);
+        effects.discharge();
         let receipt = answer.ok()?;
         Some((receipt.done.opened?, receipt.opening))
     }
@@ -281,14 +201,9 @@ impl<K: BookName> ServerState<K> {
     /// Hands in the present second, if it is later than the last that was, and notifies others of what came of it.
     pub(crate) fn update_time<R: Wait + Clock>(&self, rt: &R) {
         // Modelled in models/ticks.pml.
-        let mut effects = Effects::new(None);
+        let mut effects = Effects::new();
         self.host.update(rt, &self.shared, &mut effects);
-        self.notify(rt, effects);
+        self.notify(rt, None, &mut effects);
+        effects.discharge();
     }
-}
-
-impl<K: BookName> Lanes for ServerState<K> {
-    ghost use Rattle.std.specs.Prelude.{length};
-
-    ghost count = { λ s. length s.slots.items };
 }

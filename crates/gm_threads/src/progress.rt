@@ -1,0 +1,67 @@
+//! How far a server is.
+
+use gm_delivery::{ServerStage, Stage};
+use gm_report::Trouble;
+use std::sync::atomic::{AtomicU64, Ordering};
+
+/// How far a server is, and how many connections it has.
+#[derive(Drop)]
+pub(crate) struct Progress {
+    pub(crate) stage: Stage,
+    // How many connections are open, or about to start.
+    connections: AtomicU64,
+}
+
+impl Progress {
+    pub(crate) fn new() -> Progress {
+        Progress {
+            stage: Stage::new(),
+            connections: AtomicU64::new(0),
+        }
+    }
+
+    /// Whether the server takes no new connections, and has none; or has failed.
+    pub(crate) fn can_end(&self) -> bool {
+        // Modelled in models/shutdown.pml.
+        self.stage.has_reached(ServerStage::Failed as u8)
+            || !self.is_running() && self.connections() == 0
+    }
+
+    /// Whether the server takes connections.
+    pub(crate) fn is_running(&self) -> bool {
+        !self.stage.has_reached(ServerStage::Graceful as u8)
+    }
+
+    /// Why a connection was refused for which there was no slot, of so many.
+    pub(crate) fn want_of_slot(&self, slots: u32) -> Trouble {
+        if self.connections() < slots as u64 {
+            Trouble::Memory
+        } else {
+            Trouble::Slots
+        }
+    }
+
+    /// Whether there are no connections any more, and none comes.
+    pub(crate) fn has_ended(&self) -> bool {
+        // Modelled in models/shutdown.pml.
+        self.stage.has_reached(ServerStage::Ended as u8)
+    }
+
+    /// How many connections are open, or about to start.
+    pub(crate) fn connections(&self) -> u64 {
+        // Modelled in models/shutdown.pml.
+        self.connections.load(Ordering::SeqCst)
+    }
+
+    /// Counts a connection that is about to start.
+    pub(crate) fn begin_connection(&self) {
+        // Modelled in models/shutdown.pml.
+        self.connections.fetch_add(1, Ordering::SeqCst);
+    }
+
+    /// Counts a connection that is gone.
+    pub(crate) fn end_connection(&self) {
+        // Modelled in models/serving.h.
+        self.connections.fetch_sub(1, Ordering::SeqCst);
+    }
+}
