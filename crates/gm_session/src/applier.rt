@@ -84,6 +84,7 @@ impl<'s, K: BookName, R: Wait + Clock, G: Gate> Applier<'s, K, R, G> {
     }
 
     /// Applies an event, before a grab with the present second. Where it is refused, the session is over.
+    #[tactic(auto, using(crate::proofs::Gathering::gathers_ticked))]
     fn apply(
         &self,
         desk: &mut Desk<K>,
