@@ -119,13 +119,9 @@ impl JobMap {
     pub(crate) fn get(&self, number: u64) -> Option<&Job>
         ensures { option_copied result ≡ find_job self.now.entries number }
     {
-        match self.keys.get(&number) {
-            Some(key) => match self.slab.get(*key) {
-                Some(entry) => Some(&entry.job),
-                None => None,
-            },
-            None => None,
-        }
+        let key = self.keys.get(&number)?;
+        let entry = self.slab.get(*key)?;
+        Some(&entry.job)
     }
 
     /// The job at this position among all, in no particular order, with its number.

@@ -229,10 +229,8 @@ impl Hints {
         if self.whole {
             return self.numbers.get(i).copied();
         }
-        match jobs.at(i) {
-            Some((number, _job)) => Some(number),
-            None => None,
-        }
+        let (number, _job) = jobs.at(i)?;
+        Some(number)
     }
 
     /// Gives back the room of a list without numbers.

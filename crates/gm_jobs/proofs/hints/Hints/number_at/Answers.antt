@@ -12,8 +12,8 @@ all c o is =
     ap (option_map (λ (p : ℕ × Live). p.0)) is ∙ sym (slice_get-map (λ (p : ℕ × Live). p.0) c.args.jobs.now.entries c.args.i)
     ∙ ap (λ (whole : Bool). slice_get (if whole then c.args.self.now.numbers else keys_of c.args.jobs.now.entries) c.args.i) (sym (ap (λ (h : HintList). h.whole) (sym c.self.view_is) ∙ c.if-self.false))
 
-pub returns-in-Some-clause-number : goal.returns-in-Some-clause-number
-returns-in-Some-clause-number c = all (goal.at.returns-in-Some-clause-number c).After-at (Some (c.in-Some.number, c.in-Some._job.now)) c.in-Some.ensures.entry
+pub returns-clause-number : goal.returns-clause-number
+returns-clause-number c = all (goal.at.returns-clause-number c).After-at (Some (c.in_ok-number.number, c.in_ok-number._job.now)) c.in_ok-number.ensures.entry
 
-pub returns-in-None-clause-number : goal.returns-in-None-clause-number
-returns-in-None-clause-number c = all (goal.at.returns-in-None-clause-number c).After-at None c.in-None.ensures.entry
+pub returns-in_err-number-clause-number : goal.returns-in_err-number-clause-number
+returns-in_err-number-clause-number c = c.from_residual.ensures ∙ all (goal.at.returns-in_err-number-clause-number c).After-at None c.in_err-number.ensures.entry
