@@ -56,10 +56,7 @@ pub(crate) fn digest(seed: &RandomState, f: u32, unique: &[u8]) -> u64
 fn is_named(jobs: &JobMap, number: u64, f: u32, unique: &[u8]) -> bool
     ensures { result ≡ passes (is_named f unique.now) (find_job jobs.now.entries number) }
 {
-    match jobs.get(number) {
-        Some(job) => job.is_named(f, unique),
-        None => false,
-    }
+    jobs.get(number).is_some_and(|job| job.is_named(f, unique))
 }
 
 // The first of these numbers whose job is live and has this name.
