@@ -67,11 +67,21 @@ impl Tables {
         };
         prepare_each(&mut self.conns, &mut self.text, slots, packet)?;
         match packet.report {
-            None => put_each(&mut self.conns, slots, packet.exceptions_only, &mut self.text),
+            None => put_each(
+                &mut self.conns,
+                slots,
+                packet.exceptions_only,
+                &mut self.text,
+            ),
             Some(report) => {
                 self.jobs.report(job, report.numerator, report.denominator)?;
                 let slots = self.jobs.listeners(job);
-                put_each(&mut self.conns, slots, packet.exceptions_only, &mut self.text);
+                put_each(
+                    &mut self.conns,
+                    slots,
+                    packet.exceptions_only,
+                    &mut self.text,
+                );
             }
         }
         self.end_if(job, packet.ends, freed);
