@@ -32,7 +32,7 @@ impl Progress {
         !self.stage.has_reached(ServerStage::Graceful as u8)
     }
 
-    /// Why a connection was refused for which there was no slot, of so many.
+    /// Why a connection was refused for which there was no slot, where there are this many.
     pub(crate) fn want_of_slot(&self, slots: u32) -> Trouble {
         if self.connections() < slots as u64 {
             Trouble::Memory
