@@ -3,7 +3,7 @@
  * to the finisher (ServerState::touch, state.rt). The lane is idle at first, or left, as the last connection leaves it. With FEW the
  * finisher is an I/O thread's part that never waits (ServerState::visit, serving.rt), and the socket may report that it takes bytes.
  * Delivery: in every quiescent state nothing waits, no NOOP is owed and nothing is left, unless the peer is deaf. No deadlock.
- * Order: in the order of the queue, each once. Only the finisher waits, by default.
+ * Order: in the order of the queue, each once.
  * ENDLESS: the threads go on for ever; put is a mark, no count; writes to a peer that reads are blocked BLOCKS times between two messages at
  * most. Then each infinite run has infinitely many deliveries. */
 #ifndef TOUCHERS
@@ -159,11 +159,7 @@ end: timeout ->
     assert(owners[0] <= 1);
     if
     :: deaf[0] && has_left[0] ->                   /* what is left for a deaf peer is the finisher's */
-#ifdef FEW
         assert(lw[0] == LANE_LEFT && again[0])
-#else
-        assert(parked == 0 && patient[0] && lw[0] != LANE_IDLE && lw[0] != LANE_LEFT)
-#endif
     :: else ->
         assert(lock[0] == 0);
         assert(lw[0] == LANE_IDLE);
@@ -172,8 +168,7 @@ end: timeout ->
         assert(word[0] != OWED);
         assert(!has_left[0]);
         assert(received[0] == put[0]);
-        assert(noops[0] == takes[0] && takes[0] == wakes[0]);
-        assert(!patient[0])
+        assert(noops[0] == takes[0] && takes[0] == wakes[0])
     fi
 }
 #endif

@@ -271,7 +271,7 @@ inline end_turn() {
 #ifdef FEW
 #define FINISHES(s) \
         :: atomic { step == NEXT && IS_CALLED(s) -> token[s] = false; again[s] = false }; \
-            cur = s; deliver_as(s, HURRIES)
+            cur = s; deliver_as(s, FINISHER)
 #else
 #define FINISHES(s)
 #endif
@@ -365,7 +365,7 @@ proctype Finisher(byte me) {
     :: true ->
         parked++;
 end_finisher: atomic { IS_CALLED(me) -> token[me] = false; again[me] = false; parked-- };
-        deliver_as(me, WAITS);
+        deliver_as(me, FINISHER);
         if
         :: has -> deliver_claimed(me)
         :: else

@@ -1,4 +1,4 @@
-/* What the models share: a slot's lane (lane.rt, sender.rt, socket.rt, ending.rt of gm_delivery) over its word (gm_lane_word), its outbox
+/* What the models share: a slot's lane (lane.rt, sender.rt, socket.rt, life.rt of gm_delivery) over its word (gm_lane_word), its outbox
  * (gm_outbox), its pen (gm_shared, gm_word) and the book. A comment before each inline names the function that it mirrors, and its file.
  *
  * Modes. By default a slot's finisher waits in a write (Pairs of crews.rt). With -DFEW it is the I/O thread that also reads, and never
@@ -21,7 +21,7 @@
 #ifndef MOST_ATTEMPTS
 #define MOST_ATTEMPTS 2      /* lane.rt: 16 */
 #endif
-/* The time of an end, in calls of `End::update`: ending.rt has 2 s and 30 s. A slow peer blocks for less than the first. */
+/* The time of an end, in calls of `Life::look`: timing.rt has 2 s and 30 s. A slow peer blocks for less than the first. */
 #define ENDING_TIME 2
 #define MOST_ENDING_TIME 4
 
@@ -55,16 +55,10 @@
 #define PENDING 1
 #define GONE    2
 
-/* Deliverer (lane.rt); the finisher waits, or not */
-#define OTHER   0
-#define READER  1
-#define HURRIES 2
-#define WAITS   3
-#ifdef FEW
-#define FINISHER HURRIES
-#else
-#define FINISHER WAITS
-#endif
+/* Deliverer (finish.rt) */
+#define OTHER    0
+#define READER   1
+#define FINISHER 2
 
 /* a lane's word (word.rt of gm_lane_word) */
 #define LANE_IDLE 0
@@ -72,13 +66,13 @@
 #define LANE_CLAIMED 2
 #define LANE_LEFT 3
 
-/* sender.connection: none, or its LineState (sender.rt) */
+/* sender.connection: none, or its LineState (life.rt) */
 #define NO_LINE  0
 #define OPEN     1
 #define FINISHED 2
 #define CUT      3
 
-/* ReadStage (ending.rt) of a connection */
+/* What is asked of a connection (lane.rt): nothing, MUST_END, INPUT_ENDED */
 #define SERVING 0
 #define ENDING  1
 #define ENDED   2
@@ -119,18 +113,15 @@ byte server_stage = RUNNING;
 /* -- Lane. The Mutex<Sender>, and what it guards */
 bit  lock[N];
 byte line[N];            /* sender.connection, */
-byte line_gen[N];        /*   of this opening */
-byte lingers[N];         /*   and how often `finished` was looked at */
+byte line_gen[N];        /*   of this opening; */
+byte until[N];           /*   how many calls of its Life's look are left to `until`, */
+byte last[N];            /*   and to `last`; */
+bool end_over[N];        /*   and its is_over */
 bool has_left[N];        /* sender.outbox.left is Some */
 byte l_gen[N];
 byte l_next[N];
 byte l_to[N];
 bool l_noop[N];
-bool patient[N];         /* its finisher waits in a write */
-byte end_begun[N];       /* its End: for how many calls `begun` runs, */
-byte end_stopped[N];     /*   `stopped` runs, */
-byte end_stalled[N];     /*   `stalled` runs, */
-bool end_over[N];        /*   and deadline_passed */
 
 /* -- the finisher's parker, or its mark and waker: it was woken; and it comes again in a while */
 bool token[N];
@@ -162,7 +153,7 @@ byte owners[N];          /* how many have the lane */
 #define COUNT_BLOCK(s)  blocks[s]--
 #endif
 
-/* is_ending (ending.rt) */
+/* Writing::is_ending (lane.rt) */
 #define IS_ENDING(s) (stage[s] != SERVING || server_stage >= STOPPED)
 #ifdef M_TIME_BEFORE_THE_END
 #define ENDS(s) true
@@ -185,51 +176,37 @@ inline forget(s) {
     has_left[s] = false; l_gen[s] = 0; l_next[s] = 0; l_to[s] = 0; l_noop[s] = false
 }
 
-/* Connection::go_on (sender.rt) to Cut, and hang_up (socket.rt), under the lane's lock */
+/* The sending broke off (deliver_on, sender.rt; WriteHalf::hang_up, socket.rt), under the lane's lock */
 inline cut(s) {
-    line[s] = CUT; down[s] = true; faulted[s] = true
+    line[s] = CUT; faulted[s] = true
 }
 
-/* Sender::hang_up and Connection::hang_up (sender.rt), under the lane's lock */
+/* Sender::hang_up (sender.rt) and WriteHalf::hang_up (socket.rt), under the lane's lock */
 inline hang_up(s) {
 #ifndef M_KEEP_LEFT
     forget(s);
 #endif
     if
-    :: line[s] == FINISHED -> down[s] = true
-    :: line[s] == OPEN || line[s] == CUT -> cut(s)
+    :: line[s] == OPEN -> cut(s)
     :: else
-    fi
+    fi;
+#ifndef M_TIME_OVER_WITHOUT_HANG_UP
+    down[s] = true
+#endif
 }
 
-/* End::update (ending.rt), under the lane's lock. For a peer that reads in time neither time runs out. Each call for
- * another peer's end takes one unit of the time. */
-inline update_end(s) {
+/* Life::look (life.rt), under the lane's lock. A peer that reads takes all in time; each call for another peer's end takes one unit of the
+ * time, and so does each once all was sent. */
+inline look(s) {
     if
-    :: deaf[s] || slow[s] ->
-        if
-        :: has_taken -> end_stalled[s] = 0
-        :: else
-        fi;
-        if
-#ifdef M_NO_MOST_TIME
-        :: false
-#else
-        :: (server_stage >= STOPPED && end_stopped[s] >= ENDING_TIME) || end_begun[s] >= MOST_ENDING_TIME -> end_over[s] = true
-#endif
-        :: else ->
+    :: deaf[s] || slow[s] || line[s] == FINISHED ->
+        until[s] = (until[s] > 0 -> until[s] - 1 : 0);
+        until[s] = (has_taken || until[s] > ENDING_TIME -> ENDING_TIME : until[s]);
 #ifndef M_NO_MOST_TIME
-            end_begun[s]++;
-            if
-            :: server_stage >= STOPPED -> end_stopped[s]++
-            :: else
-            fi;
+        last[s] = (last[s] > 0 -> last[s] - 1 : 0);
+        last[s] = (server_stage >= STOPPED && last[s] > ENDING_TIME -> ENDING_TIME : last[s]);
 #endif
-            if
-            :: end_stalled[s] >= ENDING_TIME -> end_over[s] = true
-            :: else -> end_stalled[s]++
-            fi
-        fi
+        end_over[s] = (until[s] == 0 || last[s] == 0)
     :: else
     fi
 }
@@ -287,7 +264,7 @@ inline write_one(s) {
         :: !down[s] && faults > 0 -> faults--; res = OVER
         fi;
         if
-        :: ENDS(s) -> update_end(s)
+        :: ENDS(s) -> look(s)
         :: else
         fi;
         has_taken = false
@@ -342,7 +319,7 @@ inline drain(s) {
     took = false
 }
 
-/* Sender::let_go (sender.rt) and let_go (lane.rt), under the lane's lock */
+/* Deed::LetGo in Lane::attempt (lane.rt), and Sender::let_go (sender.rt), under the lane's lock */
 inline let_go(s) {
     if
 #ifndef M_OTHER_LETS_GO
@@ -369,76 +346,45 @@ inline let_go(s) {
     fi
 }
 
-/* linger (lane.rt), under the lane's lock. The time is over at the second attempt. */
-inline linger(s) {
-    fin = PENDING;
-#ifndef M_NO_FINISH
-    if
-    :: line[s] == OPEN && !has_left[s] -> line[s] = FINISHED
-    :: else
-    fi;
-#endif
-    if
-    :: line[s] == FINISHED && lingers[s] > 0 ->
-#ifndef M_LINGERS_FOR_EVER
-        hang_up(s); fin = NOTHING
-#endif
-    :: line[s] == FINISHED && lingers[s] == 0 -> lingers[s] = 1
-    :: line[s] == CUT || line[s] == NO_LINE
-    :: line[s] == OPEN
-    fi
-}
-
-#ifdef M_BLOCKED_IS_PATIENT
-#define IS_PATIENT true
-#else
-#define IS_PATIENT (who == WAITS)
-#endif
-
-/* The rest of Lane::send and Lane::attempt (lane.rt), once a delivery ended; under the lane's lock, which is released unless the finisher
- * waits. */
+/* Sender::next (sender.rt) with WriteHalf::next (socket.rt) and Life::next (life.rt), and what Lane::attempt (lane.rt) does then; under the
+ * lane's lock, which is released. Where bytes are left, a finisher that may wait comes again at once, as its write has waited; here each
+ * comes again where that may change something. */
 inline end_delivery(s) {
-#ifdef M_FLAG_AFTER_DELIVERY
-    has_ended = (stage[s] == ENDED); is_ending = IS_ENDING(s);
-#endif
     if
-#ifndef M_NEVER_GIVE_UP
-    :: res == BLOCKED && end_over[s] ->
-        assert(IS_ENDING(s));                      /* an end is asked for, */
-        assert(deaf[s] || slow[s]);                /*   and the peer had its time */
-#ifdef M_TIME_OVER_WITHOUT_HANG_UP
-        forget(s); faulted[s] = true; line[s] = CUT;
-#else
-        hang_up(s);
-#endif
-        res = OVER
-#endif
+    :: line[s] == FINISHED -> look(s)
     :: else
     fi;
-    patient[s] = (res == BLOCKED && IS_PATIENT);
-    assert(patient[s] -> who == WAITS : true);     /* only the finisher waits */
+    assert(line[s] == OPEN && has_left[s] && end_over[s] -> IS_ENDING(s) && (deaf[s] || slow[s]) : true);   /* the peer had its time */
     if
-    :: patient[s]
-    :: !patient[s] ->
-        if
+    :: line[s] == NO_LINE ->
+#ifdef M_LETS_GO_OF_NONE
+        let_go(s)
+#else
+        fin = NOTHING
+#endif
+#ifdef M_NEVER_GIVE_UP
+    :: line[s] == OPEN && has_left[s] -> fin = PENDING
+#else
 #ifdef M_NO_HAND_OVER_WHEN_BLOCKED
-        :: res == BLOCKED -> fin = NOTHING
+    :: line[s] == OPEN && has_left[s] && !end_over[s] -> fin = NOTHING
 #else
-        :: res == BLOCKED -> fin = PENDING
+    :: line[s] == OPEN && has_left[s] && !end_over[s] -> fin = PENDING       /* Deed::Send */
 #endif
-        :: res != BLOCKED && has_ended -> let_go(s)
-#ifdef M_ENDING_IGNORED
-        :: res == DONE && !has_ended -> fin = NOTHING
+#endif
+    :: else ->
+        if
+        :: has_ended -> faulted[s] = (faulted[s] || has_left[s]); let_go(s)       /* Deed::LetGo */
+        :: !has_ended && line[s] == OPEN && !has_left[s] -> fin = NOTHING         /* Deed::Serve */
+#ifdef M_LINGERS_FOR_EVER
+        :: !has_ended && line[s] == FINISHED -> fin = PENDING
 #else
-        :: res == DONE && !has_ended && is_ending -> linger(s)
-        :: res == DONE && !has_ended && !is_ending -> fin = NOTHING
+        :: !has_ended && line[s] == FINISHED && !end_over[s] -> fin = PENDING     /* Deed::Linger */
 #endif
-        :: res == SHUT && !has_ended -> linger(s)
-        :: res == OVER && !has_ended -> fin = NOTHING
-        fi;
-        has_ended = false; is_ending = false;
-        UNLOCK(lock[s])
+        :: else -> hang_up(s); fin = NOTHING
+        fi
     fi;
+    has_ended = false; is_ending = false;
+    UNLOCK(lock[s]);
     res = 0; is_shut = false; had_left = false
 }
 
@@ -453,13 +399,11 @@ inline attempt(s) {
     atomic { has_ended = (stage[s] == ENDED); is_ending = IS_ENDING(s) };
 #endif
     atomic { (lock[s] == 0) -> lock[s] = 1;
-        assert(!patient[s]);                       /* a finisher that waits has the lane */
 #ifndef M_FLAG_BEFORE_LOCK
         has_ended = (stage[s] == ENDED); is_ending = IS_ENDING(s);
 #endif
-starts: if
-        :: line[s] == NO_LINE || line[s] == CUT -> res = OVER; goto ends
-        :: line[s] == FINISHED -> res = SHUT; goto ends
+        if
+        :: line[s] != OPEN -> goto ends
         :: line[s] == OPEN && has_left[s] -> had_left = true; goto sends
         :: line[s] == OPEN && !has_left[s]
         fi;
@@ -486,21 +430,20 @@ sends:  res = SEND;
 #endif
         :: else
         fi;
-sent:   if
-        :: res == DONE && is_shut -> line[s] = FINISHED; res = SHUT
-        :: else
-        fi;
+sent:   skip;
 #ifdef M_FLAG_AFTER_DELIVERY
         skip };
-    atomic { has_taken = false;                    /* others may come between */
+    atomic { has_ended = (stage[s] == ENDED);      /* others may come between */
 #endif
-ends:   end_delivery(s) };
-    if
-    :: patient[s] ->
-end_waits: (MATTERS(s));
-        atomic { goto starts }
-    :: else
-    fi
+        if
+#ifdef M_ENDING_IGNORED
+        :: res == DONE && is_shut -> line[s] = FINISHED
+#else
+        :: res == DONE && (is_shut || (is_ending && !has_ended)) -> line[s] = FINISHED
+#endif
+        :: else
+        fi;
+ends:   end_delivery(s) }
 #ifdef M_ATTEMPT_AFTER_DELIVERY
     ; lw[s] = LANE_BUSY
 #endif
@@ -518,7 +461,7 @@ inline deliver_claimed(s) {
             atomic { assert(lw[s] == LANE_BUSY || lw[s] == LANE_CLAIMED); owners[s]--; lw[s] = LANE_LEFT };
 #ifndef M_NO_WAKE_AT_HAND_OVER
             if
-            :: fin == PENDING && who < HURRIES -> token[s] = true
+            :: fin == PENDING && who < FINISHER -> token[s] = true
             :: else
             fi;
 #endif
@@ -607,7 +550,7 @@ inline take_over(s) {
 inline deliver_as(s, deliverer) {
     atomic { take_over(s); who = deliverer; fin = (has -> NOTHING : PENDING) };
     if
-    :: !has && who < HURRIES -> token[s] = true     /* Leftover::settle */
+    :: !has && who < FINISHER -> token[s] = true     /* Leftover::settle */
     :: else
     fi
 }
@@ -617,12 +560,12 @@ inline deliver_as(s, deliverer) {
 inline deliver_left(s) {
     fin = NOTHING;
     if
-    :: lw[s] == LANE_LEFT -> atomic { take_over(s); who = HURRIES }
+    :: lw[s] == LANE_LEFT -> atomic { take_over(s); who = FINISHER }
     :: else
     fi
 }
 
-/* Lane::end and Stage::rise, up to deliver_claimed: to this stage, unless it has come so far */
+/* Lane::end and Stage::rise, up to deliver_claimed: this is asked, unless it was */
 inline end_lane(s, to) {
     fin = NOTHING;
 #ifdef M_RISE_AFTER_ATTEMPT
@@ -646,9 +589,9 @@ inline open_lane(s) {
 #endif
     atomic { (lock[s] == 0) ->
         assert(line[s] == NO_LINE);
-        line[s] = OPEN; line_gen[s] = gen[s]; lingers[s] = 0;
+        line[s] = OPEN; line_gen[s] = gen[s];
 #ifndef M_KEEP_THE_TIME
-        end_begun[s] = 0; end_stopped[s] = 0; end_stalled[s] = 0; end_over[s] = false;
+        until[s] = ENDING_TIME + 1; last[s] = MOST_ENDING_TIME + 1; end_over[s] = false;
 #endif
         down[s] = false;
         CHOOSE_PEER(s) };

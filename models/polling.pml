@@ -39,7 +39,7 @@
 #define IS_OVER    2
 #define TALK_ENDED 3
 
-/* ReadStage (ending.rt) */
+/* What is asked of a connection (lane.rt) */
 #define SERVING 0
 #define ENDING  1
 #define ENDED   2

@@ -59,7 +59,7 @@ inline book_close(s) {
 }
 
 /* What a process does at a lane: it delivers where it has it; closes the slot once the connection was let go of
- * (ServerState::settle_lane and close, serving.rt); follows the mode of a receipt and touches what it touched (notify,
+ * (ServerState::finish and close, serving.rt); follows the mode of a receipt and touches what it touched (notify,
  * state.rt), where the time is over at will; and ends the connection, once its session is over. */
 inline at_lane() {
     do
@@ -208,7 +208,7 @@ inline run_finisher(s) {
         :: else
         fi;
         cur = s;
-        deliver_as(s, WAITS);
+        deliver_as(s, FINISHER);
         at_lane();
         come_again(s)
     od
@@ -242,7 +242,7 @@ inline run_few() {
             fi;
             cur = own;
             if
-            :: is_called -> deliver_as(own, HURRIES)
+            :: is_called -> deliver_as(own, FINISHER)
             :: else -> deliver_left(own)
             fi
         fi;

@@ -1,6 +1,6 @@
 -- Deliveries, added up.
-use Rattle.std.proofs.Common.{◌≡◌, ◌⊎◌, inl, inr, ℕ, ◌+◌, ◌*◌, ◌-◌, ◌^◌, ◌==◌, ◌<◌, ◌≤◌, max, min, Bool, true, false, List, [], ◌∷◌, ◌++◌, Option, Some, None, Ok, Err, refl, sym, ap, subst, ◌∙◌, arith, append_assoc, eq-eqb, eqb-true, ne_eqb}
-use Rattle.std.specs.Prelude.{MatchBool, if◌then◌else◌}
+use Rattle.std.proofs.Common.{◌≡◌, ◌⊎◌, inl, inr, ℕ, ◌+◌, ◌*◌, ◌==◌, ◌<◌, ◌≤◌, Bool, true, false, List, [], ◌∷◌, ◌++◌, Option, Some, None, Ok, refl, sym, ap, subst, ◌∙◌, arith, append_assoc, eq-eqb, ne_eqb}
+use Rattle.std.specs.Prelude.{if◌then◌else◌}
 use Rattle.std.specs.Option.{option_map}
 use Rattle.std.proofs.lemmas.List.{append-nil}
 use Rattle.gm_notes.specs.Settings.{Settings}
@@ -16,10 +16,11 @@ use Rattle.gm_outbox.specs.Turns.{turn_of, most_openings, BeginsIf}
 use Rattle.gm_outbox.specs.Deliveries.{Takes, Gives, unasked, given, elsewhere, refused, Tells, Delivers}
 use Rattle.gm_delivery.specs.declared.account.Account.{Account}
 use Rattle.gm_delivery.specs.declared.account.Past.{Past}
-use Rattle.gm_delivery.specs.Accounts.{bytes_in, given_at, Turn, given_in, takes_in, AreTurns, IsWritten, IsPrefixWritten, WrittenTo, AreBefore, Rise, closed}
-use Rattle.gm_delivery.specs.declared.sender.LineState.{LineState}
-use Rattle.gm_delivery.specs.declared.sender.LineState.TheVariants.{Open, Finished, Cut}
-use Rattle.gm_delivery.specs.Sendings.{Line, SenderState, state_of, IsNewest, IsOfItsOwn, IsLineSo, IsUnused, IsSender, after_sending, IsFinished, cut_state, cut, state_if}
+use Rattle.gm_delivery.specs.Accounts.{bytes_in, given_at, Turn, takes_in, AreTurns, IsWritten, IsPrefixWritten, WrittenTo, AreBefore, closed}
+use Rattle.gm_delivery.specs.declared.life.LineState.{LineState}
+use Rattle.gm_delivery.specs.declared.life.LineState.TheVariants.{Open, Finished, Cut}
+use Rattle.gm_delivery.specs.Sendings.{Line, SenderState, state_of, IsNewest, IsOfItsOwn, IsLineSo, IsUnused, IsSender, after_sending, cut}
+use Rattle.gm_delivery.specs.Lives.{cut_state, state_if}
 
 -- ---- what a pen was given
 
@@ -128,12 +129,12 @@ before_more a b (p ∷ older) less are = (by are.0, before_more a b older less a
 -- ---- a delivery
 
 module _ (k : Settings) (taped : Bool) (slot opening opening_after takes takes_after : ℕ) (seen after : List Entry) (log more left left_after : List ℕ) (account : Account)
-    (delivery : Delivery) (d : Delivers k taped delivery slot opening opening_after takes takes_after seen after (Some log) (Some more) left left_after) where
+    (ends : Bool) (delivery : Delivery) (d : Delivers k taped delivery slot opening opening_after takes takes_after seen after (Some log) (Some more) left left_after) where
   abbrev old : SenderState
   old = state_of slot opening seen takes left (Some record { opening = opening; state = Open; log = log }) account
 
   abbrev new : SenderState
-  new = state_of slot opening_after after takes_after left_after (Some record { opening = opening; state = after_sending delivery; log = more }) account
+  new = state_of slot opening_after after takes_after left_after (Some record { opening = opening; state = after_sending ends delivery; log = more }) account
 
   delivered : IsWritten opening slot account.since account.takes seen takes log left → opening < most_openings → IsWritten opening slot account.since account.takes after takes_after more d.rest
   delivered s below =
@@ -150,23 +151,26 @@ module _ (k : Settings) (taped : Bool) (slot opening opening_after takes takes_a
     now : IsWritten opening slot account.since account.takes after takes_after more d.rest
     now = delivered s is.below
 
-    its_own : IsOfItsOwn new (record { opening = opening; state = after_sending delivery; log = more })
+    its_own : IsOfItsOwn new (record { opening = opening; state = after_sending ends delivery; log = more })
     its_own = inr (grows, is.later)
 
     goes_on : (delivery ≡ Over → ⊥) → IsNewest new opening
     goes_on there = record { newest = sym (d.here there); below = is.below; later = is.later }
 
-    stands_after : (result : Delivery) → delivery ≡ result → IsLineSo new (record { opening = opening; state = after_sending delivery; log = more }) (after_sending result)
-    stands_after Done same =
-        let tells = subst (λ r. Tells r d.gave_shut d.rest left_after) same d.tells in
-        (subst (λ l. IsWritten opening slot account.since account.takes after takes_after more l) (tells.1 ∙ sym tells.2) now, goes_on (λ over. let bad = sym same ∙ over in absurd cc))
-    stands_after Blocked same =
-        let tells = subst (λ r. Tells r d.gave_shut d.rest left_after) same d.tells in
-        (subst (λ l. IsWritten opening slot account.since account.takes after takes_after more l) (sym tells.0) now, goes_on (λ over. let bad = sym same ∙ over in absurd cc))
-    stands_after Shut same =
+    stands_after : (ending : Bool) (result : Delivery) → delivery ≡ result → IsLineSo new (record { opening = opening; state = after_sending ends delivery; log = more }) (after_sending ending result)
+    stands_after true Done same =
         let tells = subst (λ r. Tells r d.gave_shut d.rest left_after) same d.tells in
         (subst (λ l. IsWritten opening slot account.since account.takes after takes_after more l) tells.1 now, tells.2, its_own)
-    stands_after Over same =
+    stands_after false Done same =
+        let tells = subst (λ r. Tells r d.gave_shut d.rest left_after) same d.tells in
+        (subst (λ l. IsWritten opening slot account.since account.takes after takes_after more l) (tells.1 ∙ sym tells.2) now, goes_on (λ over. let bad = sym same ∙ over in absurd cc))
+    stands_after ending Blocked same =
+        let tells = subst (λ r. Tells r d.gave_shut d.rest left_after) same d.tells in
+        (subst (λ l. IsWritten opening slot account.since account.takes after takes_after more l) (sym tells.0) now, goes_on (λ over. let bad = sym same ∙ over in absurd cc))
+    stands_after ending Shut same =
+        let tells = subst (λ r. Tells r d.gave_shut d.rest left_after) same d.tells in
+        (subst (λ l. IsWritten opening slot account.since account.takes after takes_after more l) tells.1 now, tells.2, its_own)
+    stands_after ending Over same =
         let tells = subst (λ r. Tells r d.gave_shut d.rest left_after) same d.tells in
         ((d.rest, now), tells, its_own)
 
@@ -179,7 +183,7 @@ module _ (k : Settings) (taped : Bool) (slot opening opening_after takes takes_a
         rise = is.rise;
         before = before_more (opening + 1) (opening_after + 1) account.past (omega (arith, grows)) is.before;
         unused = unused_more k taped slot opening opening_after takes takes_after seen after d.gave_shut d.took d.gave is.unused d.gives;
-        line = stands_after is.line.0 is.line.1 grows delivery refl;
+        line = stands_after is.line.0 is.line.1 grows ends delivery refl;
       }
 
 -- ---- what the lock guards
@@ -287,20 +291,6 @@ begin_keeps slot opening newest after takes seen account begins b is = record {
   line = fresh_line slot opening newest after takes seen account begins b is;
 }
 
--- all was sent, and the sending is finished
-pub finish_keeps : (slot newest takes : ℕ) (seen : List Entry) (left : List ℕ) (line : Line) (account : Account) → IsSender (state_of slot newest seen takes left (Some line) account)
-    → line.state ≡ Open → left ≡ [] → IsSender (state_of slot newest seen takes left (Some record { opening = line.opening; state = Finished; log = line.log }) account)
-finish_keeps slot newest takes seen left line account is goes none =
-    let s = state_of slot newest seen takes left (Some line) account in
-    let open_line : IsLineSo s line Open = subst (λ (c : LineState). IsLineSo s line c) goes is.line in
-    record {
-      past = is.past;
-      rise = is.rise;
-      before = is.before;
-      unused = is.unused;
-      line = (subst (λ l. IsWritten line.opening slot account.since account.takes seen takes line.log l) none open_line.0, none, own_of s line Open open_line);
-    }
-
 -- ---- the same, said of what the code has in its hands
 
 pub begin_from : {P : Type 0} (slot takes : P → ℕ) (seen : P → List Entry) (pen now : P) (newest after opening at : ℕ) (left more : List ℕ) (line : Option Line) (account : Account) (written : List ℕ)
@@ -317,14 +307,14 @@ begin_from {P} slot takes seen pen now newest after opening at left more line ac
     (λ i. (sym pens i, sym (lefts ∙ nothing) i, sym openings i, sym states i, sym fresh i))
     (begin_keeps (slot pen) opening newest after (takes pen) (seen pen) account begins b before)
 
-deliver_line : (k : Settings) (taped : Bool) (delivery : Delivery) (slot slot_after newest newest_after takes takes_after : ℕ) (seen after : List Entry) (left left_after : List ℕ) (account : Account)
+deliver_line : (k : Settings) (taped ends : Bool) (delivery : Delivery) (slot slot_after newest newest_after takes takes_after : ℕ) (seen after : List Entry) (left left_after : List ℕ) (account : Account)
     (line now : Line) (state : LineState) → line.state ≡ state → IsSender (state_of slot newest seen takes left (Some line) account)
     → ((line.state ≡ Open → ⊥) → state_of slot_after newest_after after takes_after left_after (Some now) account ≡ state_of slot newest seen takes left (Some line) account)
     → (line.state ≡ Open → Delivers k taped delivery slot newest newest_after takes takes_after seen after (Some line.log) (Some now.log) left left_after)
-    → (line.state ≡ Open → now.state ≡ after_sending delivery)
+    → (line.state ≡ Open → now.state ≡ after_sending ends delivery)
     → slot_after ≡ slot → now.opening ≡ line.opening
     → IsSender (state_of slot_after newest_after after takes_after left_after (Some now) account)
-deliver_line k taped delivery slot slot_after newest newest_after takes takes_after seen after left left_after account line now Open so is same delivers states slots openings =
+deliver_line k taped ends delivery slot slot_after newest newest_after takes takes_after seen after left left_after account line now Open so is same delivers states slots openings =
     let s = state_of slot newest seen takes left (Some line) account in
     let open_line : IsLineSo s line Open = subst (λ (c : LineState). IsLineSo s line c) so is.line in
     let at : line.opening ≡ newest = open_line.1.newest in
@@ -332,45 +322,20 @@ deliver_line k taped delivery slot slot_after newest newest_after takes takes_af
     subst (λ (z : ℕ × LineState). IsSender (state_of slot newest seen takes left (Some record { opening = z.0; state = z.1; log = line.log }) account)) (λ i. (at i, so i)) is in
     subst (λ (z : ℕ × ℕ × LineState). IsSender (state_of z.0 newest_after after takes_after left_after (Some record { opening = z.1; state = z.2; log = now.log }) account))
     (λ i. (sym slots i, sym (openings ∙ at) i, sym (states so) i))
-    (deliver_keeps k taped slot newest newest_after takes takes_after seen after line.log now.log left left_after account delivery (delivers so) before)
-deliver_line k taped delivery slot slot_after newest newest_after takes takes_after seen after left left_after account line now Finished so is same delivers states slots openings =
+    (deliver_keeps k taped slot newest newest_after takes takes_after seen after line.log now.log left left_after account ends delivery (delivers so) before)
+deliver_line k taped ends delivery slot slot_after newest newest_after takes takes_after seen after left left_after account line now Finished so is same delivers states slots openings =
     subst IsSender (sym (same (λ no. let bad = sym so ∙ no in absurd cc))) is
-deliver_line k taped delivery slot slot_after newest newest_after takes takes_after seen after left left_after account line now Cut so is same delivers states slots openings =
+deliver_line k taped ends delivery slot slot_after newest newest_after takes takes_after seen after left left_after account line now Cut so is same delivers states slots openings =
     subst IsSender (sym (same (λ no. let bad = sym so ∙ no in absurd cc))) is
 
-pub deliver_from : {X : Type 0} (f : X → Line) (k : Settings) (taped : Bool) (delivery : Delivery) (slot slot_after newest newest_after takes takes_after : ℕ) (seen after : List Entry)
+pub deliver_from : {X : Type 0} (f : X → Line) (k : Settings) (taped ends : Bool) (delivery : Delivery) (slot slot_after newest newest_after takes takes_after : ℕ) (seen after : List Entry)
     (left left_after : List ℕ) (account : Account) (was : Option X) (x : X) (now : Line)
     → IsSender (state_of slot newest seen takes left (option_map f was) account) → was ≡ Some x
     → (((f x).state ≡ Open → ⊥) → state_of slot_after newest_after after takes_after left_after (Some now) account ≡ state_of slot newest seen takes left (Some (f x)) account)
     → ((f x).state ≡ Open → Delivers k taped delivery slot newest newest_after takes takes_after seen after (Some (f x).log) (Some now.log) left left_after)
-    → ((f x).state ≡ Open → now.state ≡ after_sending delivery)
+    → ((f x).state ≡ Open → now.state ≡ after_sending ends delivery)
     → slot_after ≡ slot → now.opening ≡ (f x).opening
     → IsSender (state_of slot_after newest_after after takes_after left_after (Some now) account)
-deliver_from f k taped delivery slot slot_after newest newest_after takes takes_after seen after left left_after account was x now is there same delivers states slots openings =
-    deliver_line k taped delivery slot slot_after newest newest_after takes takes_after seen after left left_after account (f x) now (f x).state refl
+deliver_from f k taped ends delivery slot slot_after newest newest_after takes takes_after seen after left left_after account was x now is there same delivers states slots openings =
+    deliver_line k taped ends delivery slot slot_after newest newest_after takes takes_after seen after left left_after account (f x) now (f x).state refl
     (subst (λ (o : Option _). IsSender (state_of slot newest seen takes left (option_map f o) account)) there is) same delivers states slots openings
-
--- all was sent and the sending is finished, or nothing changed
-finish_line : (slot newest takes : ℕ) (seen : List Entry) (left : List ℕ) (account : Account) (line now : Line) (result : Bool)
-    → MatchBool result ((line.state ≡ Open) × (left ≡ []) × (now.state ≡ Finished)) (now.state ≡ line.state) → now.opening ≡ line.opening → now.log ≡ line.log
-    → MatchBool result (IsFinished (state_of slot newest seen takes left (Some line) account) (state_of slot newest seen takes left (Some now) account))
-    (state_of slot newest seen takes left (Some now) account ≡ state_of slot newest seen takes left (Some line) account)
-finish_line slot newest takes seen left account line now true finishes openings logs = record {
-  line = line;
-  was = refl;
-  went_on = finishes.0;
-  all = finishes.1;
-  after = λ i. state_of slot newest seen takes (finishes.1 i) (Some record { opening = openings i; state = finishes.2 i; log = logs i }) account;
-}
-finish_line slot newest takes seen left account line now false finishes openings logs =
-    λ i. state_of slot newest seen takes left (Some record { opening = openings i; state = finishes i; log = logs i }) account
-
-pub finish_from : {X : Type 0} (f : X → Line) (slot newest takes : ℕ) (seen : List Entry) (left : List ℕ) (account : Account) (was : Option X) (x : X) (now : Line) (result : Bool)
-    (old new : SenderState)
-    → state_of slot newest seen takes left (option_map f was) account ≡ old → new ≡ state_of slot newest seen takes left (Some now) account → was ≡ Some x
-    → MatchBool result (((f x).state ≡ Open) × (left ≡ []) × (now.state ≡ Finished)) (now.state ≡ (f x).state) → now.opening ≡ (f x).opening → now.log ≡ (f x).log
-    → MatchBool result (IsFinished old new) (new ≡ old)
-finish_from f slot newest takes seen left account was x now result old new view_is new_is there finishes openings logs =
-    let old_is : state_of slot newest seen takes left (Some (f x)) account ≡ old = ap (λ o. state_of slot newest seen takes left (option_map f o) account) (sym there) ∙ view_is in
-    subst (λ (z : SenderState × SenderState). MatchBool result (IsFinished z.0 z.1) (z.1 ≡ z.0)) (λ i. (old_is i, sym new_is i))
-    (finish_line slot newest takes seen left account (f x) now result finishes openings logs)

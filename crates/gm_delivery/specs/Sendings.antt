@@ -1,5 +1,5 @@
 -- What is sent to a slot's connection, and what is known of all that was.
-use Rattle.std.specs.Prelude.{◌≡◌, ◌<◌, ◌≤◌, ◌⊎◌, ◌+◌, ℕ, Bool, true, false, List, [], Option, Some, None, is_some}
+use Rattle.std.specs.Prelude.{◌≡◌, ◌<◌, ◌≤◌, ◌⊎◌, ◌+◌, ℕ, Bool, false, if◌then◌else◌, List, [], Option, Some, None, is_some}
 use Rattle.gm_notes.specs.Settings.{Settings}
 use Rattle.gm_shared.specs.declared.tape.Entry.{Entry}
 use Rattle.gm_outbox.specs.declared.outbox.Delivery.{Delivery}
@@ -7,8 +7,9 @@ use Rattle.gm_outbox.specs.declared.outbox.Delivery.TheVariants.{Done, Blocked, 
 use Rattle.gm_outbox.specs.Turns.{most_openings, BeginsIf}
 use Rattle.gm_outbox.specs.Deliveries.{Delivers}
 use Rattle.gm_delivery.specs.declared.account.Account.{Account}
-use Rattle.gm_delivery.specs.declared.sender.LineState.{LineState}
-use Rattle.gm_delivery.specs.declared.sender.LineState.TheVariants.{Open, Finished, Cut}
+use Rattle.gm_delivery.specs.declared.life.LineState.{LineState}
+use Rattle.gm_delivery.specs.declared.life.LineState.TheVariants.{Open, Finished, Cut}
+use Rattle.gm_delivery.specs.Lives.{state_if, cut_state}
 use Rattle.gm_delivery.specs.Accounts.{given_at, IsWritten, IsPrefixWritten, ArePast, AreBefore, Rise, closed}
 
 -- a connection: how often its slot had been opened with it, how far the sending to it is, and all that was written to it
@@ -66,51 +67,32 @@ pub record IsSender (s : SenderState) : Type 0 where
 
 -- ---- a delivery
 
--- how far the sending is after a delivery
-abbrev pub after_sending : Delivery → LineState
-after_sending Done = Open
-after_sending Blocked = Open
-after_sending Shut = Finished
-after_sending Over = Cut
+-- how far the sending is after a delivery, where the connection is to end or not
+abbrev pub after_sending : Bool → Delivery → LineState
+after_sending ends Done = if ends then Finished else Open
+after_sending ends Blocked = Open
+after_sending ends Shut = Finished
+after_sending ends Over = Cut
 
--- what is answered where no more is to be sent
-abbrev pub idle_in : LineState → Delivery
-idle_in Open = Over
-idle_in Finished = Shut
-idle_in Cut = Over
-
--- What is left, and then what the pen gives, is sent to the connection; where that is over or shut, no more is.
-pub record Goes (k : Settings) (taped : Bool) (delivery : Delivery) (old new : SenderState) (line : Line) : Type 0 where
+-- What is left, and then what the pen gives, is sent to the connection.
+pub record Goes (k : Settings) (taped ends : Bool) (old new : SenderState) (line : Line) : Type 0 where
+  pub delivery : Delivery
   pub log : List ℕ
-  pub line_is : new.line ≡ Some record { opening = line.opening; state = after_sending delivery; log = log }
+  pub line_is : new.line ≡ Some record { opening = line.opening; state = after_sending ends delivery; log = log }
   pub delivers : Delivers k taped delivery old.slot old.newest new.newest old.takes new.takes old.seen new.seen (Some line.log) (Some log) old.left new.left
   pub slot : new.slot ≡ old.slot
   pub account : new.account ≡ old.account
 
-abbrev pub GoesSo : LineState → Settings → Bool → Delivery → SenderState → SenderState → Line → Type 0
-GoesSo Open k taped delivery old new line = Goes k taped delivery old new line
-GoesSo state k taped delivery old new line = (delivery ≡ idle_in state) × (new ≡ old)
+abbrev pub GoesSo : LineState → Settings → Bool → Bool → SenderState → SenderState → Line → Type 0
+GoesSo Open k taped ends old new line = Goes k taped ends old new line
+GoesSo state k taped ends old new line = new ≡ old
 
 -- Nothing is sent where there is no connection, or no more is to be sent to it.
-abbrev pub DeliversTo : Option Line → Settings → Bool → Delivery → SenderState → SenderState → Type 0
-DeliversTo None k taped delivery old new = (delivery ≡ Over) × (new ≡ old)
-DeliversTo (Some line) k taped delivery old new = GoesSo line.state k taped delivery old new line
+abbrev pub DeliversTo : Option Line → Settings → Bool → Bool → SenderState → SenderState → Type 0
+DeliversTo None k taped ends old new = new ≡ old
+DeliversTo (Some line) k taped ends old new = GoesSo line.state k taped ends old new line
 
--- ---- the beginning and the end of a connection
-
--- The sending went on, all was sent, and it is finished.
-pub record IsFinished (old new : SenderState) : Type 0 where
-  pub line : Line
-  pub was : old.line ≡ Some line
-  pub went_on : line.state ≡ Open
-  pub all : old.left ≡ []
-  pub after : new ≡ state_of old.slot old.newest old.seen old.takes [] (Some record { opening = line.opening; state = Finished; log = line.log }) old.account
-
--- what is finished stays so
-abbrev pub cut_state : LineState → LineState
-cut_state Open = Cut
-cut_state Finished = Finished
-cut_state Cut = Cut
+-- ---- the end of a connection, and the beginning
 
 abbrev pub cut : Option Line → Option Line
 cut None = None
@@ -132,10 +114,6 @@ if_whole (Some is_whole) = is_whole
 pub record IsLetGo (result : Option Bool) (old new : SenderState) : Type 0 where
   pub after : new ≡ state_of old.slot old.newest old.seen old.takes [] None (account_without old old.line (if_whole result))
   pub there : is_some result ≡ is_some old.line
-
-abbrev pub state_if : Bool → LineState
-state_if true = Open
-state_if false = Cut
 
 -- The connection of this opening is there: it can be sent to, or, where its opening isn't a later one than those known so far, it is cut.
 pub record IsBegun (begins : Bool) (opening : ℕ) (old new : SenderState) : Type 0 where

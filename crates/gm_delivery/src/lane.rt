@@ -4,14 +4,13 @@ ghost use Rattle.std.specs.Prelude.{◌≡◌, [], IfOk};
 ghost use Rattle.gm_delivery.specs.Accounts.{ArePast, Rise};
 
 use crate::account::Ledger;
-use crate::ending::{is_ending, is_stopping};
 use crate::finish::{Deliverer, Finish, Leftover};
+use crate::life::Deed;
 use crate::sender::Sender;
-use crate::socket::{WriteHalf, Writing};
-use crate::stage::{ReadStage, Stage};
+use crate::socket::WriteHalf;
+use crate::stage::{ServerStage, Stage};
 use gm_feeder::Patience;
 use gm_lane_word::{Attempt, Claim, Due, LaneWord};
-use gm_outbox::Delivery;
 use gm_report::Speaker;
 use gm_shared::{BookName, Pen, Shared};
 use std::alloc::{AllocError, Global};
@@ -20,6 +19,12 @@ use std::time::Clock;
 
 /// How many attempts a thread makes in a row, where the lane is touched again and again.
 const MOST_ATTEMPTS: u32 = 16;
+
+/// What its reader asks of a connection: no more of its requests are taken, what waits is sent, and then no more is.
+const MUST_END: u8 = 1;
+
+/// The same, and it is let go of then, as nothing is read from it any more.
+const INPUT_ENDED: u8 = 2;
 
 /// What is around a delivery: the book in which waits what is to be sent, how far the server is, and whom it tells of peers that vanished.
 #[derive(Clone, Copy)]
@@ -30,6 +35,30 @@ pub struct DeliveryContext<'s, K: BookName, R> {
     pub speaker: &'s Speaker,
 }
 
+impl<'s, K: BookName, R> DeliveryContext<'s, K, R> {
+    /// Whether all connections are to end.
+    pub(crate) fn is_stopping(&self) -> bool {
+        // Modelled in models/shutdown.pml.
+        self.server.has_reached(ServerStage::Stopped as u8)
+    }
+}
+
+/// The thread that writes: it is at a connection of which this is asked, and waits for a slow peer or not.
+#[derive(Drop)]
+pub(crate) struct Writing<'a, K: BookName, R> {
+    pub(crate) context: &'a DeliveryContext<'a, K, R>,
+    asked: &'a Stage,
+    pub(crate) patience: Patience,
+}
+
+impl<'a, K: BookName, R> Writing<'a, K, R> {
+    /// Whether the connection is to end.
+    pub(crate) fn is_ending(&self) -> bool {
+        // Modelled in models/lane.h.
+        self.asked.has_reached(MUST_END) || self.context.is_stopping()
+    }
+}
+
 /// What a slot has for what its connections are sent. What is to be sent is with the thread that has the lane, so its lock is waited
 /// for only where a connection comes.
 #[derive(Drop)]
@@ -37,7 +66,8 @@ pub struct Lane<K: BookName> {
     slot: u32,
     word: LaneWord,
     sender: Mutex<Sender<K>>,
-    stage: Stage,
+    /// What is asked of the connection.
+    asked: Stage,
 }
 
 impl<K: BookName> Lane<K> {
@@ -51,7 +81,7 @@ impl<K: BookName> Lane<K> {
             slot: pen.slot(),
             word: LaneWord::new(alloc)?,
             sender: Mutex::new(Sender::new(alloc, pen)?),
-            stage: Stage::new(),
+            asked: Stage::new(),
         })
     }
 
@@ -83,7 +113,7 @@ impl<K: BookName> Lane<K> {
         ensures { result.slot ≡ self.now.slot }
     {
         // Modelled in models/lane.h.
-        self.stage.restart();
+        self.asked.restart();
         self.sender.lock(context.rt).begin(opening, half);
         match self.word.take_over() {
             Ok(claim) => self.deliver_claimed(context, claim, Deliverer::Other),
@@ -120,17 +150,22 @@ impl<K: BookName> Lane<K> {
         }
     }
 
-    /// Raises the connection's stage, and goes on with its end. The thread that reads from the connection calls it; it has no effect if the
-    /// stage is reached already. What can't be done at once is left to the finisher.
+    /// Asks for the connection's end, as its input ended or not, and goes on with that. The thread that reads from the connection calls it;
+    /// it has no effect if that was asked already. What can't be done at once is left to the finisher.
     pub fn end<R: Wait + Clock>(
         &self,
         context: &DeliveryContext<'_, K, R>,
-        stage: ReadStage,
+        has_input_ended: bool,
     ) -> Leftover
         ensures { result.slot ≡ self.now.slot }
     {
         // Modelled in models/lane.h.
-        if !self.stage.rise(stage as u8) {
+        let asked = if has_input_ended {
+            INPUT_ENDED
+        } else {
+            MUST_END
+        };
+        if !self.asked.rise(asked) {
             return self.left(Finish::Idle, Deliverer::Reader);
         }
         self.deliver(context, Deliverer::Reader)
@@ -200,7 +235,7 @@ impl<K: BookName> Lane<K> {
         self.left(Finish::Again, deliverer)
     }
 
-    /// Sends what there is to send. Where the connection is to end, tells the peer so, and lets go of it once nothing is read any more.
+    /// Sends what there is to send, and does what else is to be done for the connection.
     fn attempt<R: Wait + Clock>(
         &self,
         context: &DeliveryContext<'_, K, R>,
@@ -211,88 +246,35 @@ impl<K: BookName> Lane<K> {
     {
         // Modelled in models/lane.h.
         let mut sender = self.sender.lock(context.rt);
-        // Under the lock, so that it is asked of this connection; and first, so that all is sent that was queued before its end was
-        // asked for.
-        let has_ended = self.stage.has_reached(ReadStage::Ended as u8);
-        let is_ending = is_ending(context.server, &self.stage);
-        match self.send(context, &mut sender, deliverer) {
-            Delivery::Blocked => blocked(&sender),
-            _ if has_ended => let_go(&mut sender, deliverer),
-            Delivery::Done if is_ending => linger(context, &mut sender),
-            Delivery::Shut => linger(context, &mut sender),
-            Delivery::Done | Delivery::Over => Finish::Idle,
-        }
-    }
-
-    /// Sends what there is to send, until the peer takes no more at present, or the connection has had its time; the finisher that may
-    /// wait goes on until all is sent.
-    fn send<R: Wait + Clock>(
-        &self,
-        context: &DeliveryContext<'_, K, R>,
-        sender: &mut Sender<K>,
-        deliverer: Deliverer,
-    ) -> Delivery {
-        // Modelled in models/lane.h.
         let patience = match deliverer {
             Deliverer::Finisher(patience) => patience,
             Deliverer::Reader | Deliverer::Other => Patience::Hurries,
         };
         let by = Writing {
             context,
-            stage: &self.stage,
+            asked: &self.asked,
             patience,
         };
-        for _ in context.rt.forever() {
-            let delivery = sender.deliver(context.rt, context.shared, &by);
-            if delivery != Delivery::Blocked {
-                return delivery;
-            }
-            if sender.has_had_its_time(context.rt, is_stopping(context.server)) {
+        // Under the lock, so that it is asked of this connection; and first, so that all is sent that was queued before its end was
+        // asked for.
+        let has_ended = self.asked.has_reached(INPUT_ENDED);
+        let ends = by.is_ending() && !has_ended;
+        sender.deliver(context.rt, context.shared, &by, ends);
+        match sender.next(&by, has_ended) {
+            Deed::Serve => Finish::Idle,
+            // A write that may wait has waited. The system reports that a socket takes bytes again only after one that it took in part.
+            Deed::Send if patience == Patience::Waits || sender.takes_more() => Finish::Again,
+            Deed::Send | Deed::Linger => Finish::Pending,
+            Deed::HangUp => {
                 sender.hang_up();
-                return Delivery::Over;
+                Finish::Idle
             }
-            if patience == Patience::Hurries {
-                break;
+            // A thread that only queued something leaves that to the finisher.
+            Deed::LetGo if matches!(deliverer, Deliverer::Other) => Finish::Pending,
+            Deed::LetGo => {
+                sender.let_go();
+                Finish::Gone
             }
         }
-        Delivery::Blocked
-    }
-}
-
-/// Leaves the rest to the finisher. The system reports that a socket takes bytes again only after a write that it took in part; after
-/// another the finisher is woken.
-fn blocked<K: BookName>(sender: &Sender<K>) -> Finish {
-    // Modelled in models/lane.h.
-    if sender.takes_more() {
-        Finish::Again
-    } else {
-        Finish::Pending
-    }
-}
-
-/// Tells the peer that no more is sent. What it still sends is read and dropped for a while: closing a socket before that would have the
-/// system forget what the peer hasn't read yet.
-fn linger<K: BookName, R: Clock>(
-    context: &DeliveryContext<'_, K, R>,
-    sender: &mut Sender<K>,
-) -> Finish {
-    // Modelled in models/lane.h.
-    sender.finish();
-    if sender.has_had_its_time(context.rt, is_stopping(context.server)) {
-        sender.hang_up();
-        return Finish::Idle;
-    }
-    Finish::Pending
-}
-
-/// Lets go of the connection, of which nothing is read any more. A thread that only queued something leaves that to the finisher.
-fn let_go<K: BookName>(sender: &mut Sender<K>, deliverer: Deliverer) -> Finish {
-    // Modelled in models/lane.h.
-    if matches!(deliverer, Deliverer::Other) {
-        return Finish::Pending;
-    }
-    match sender.let_go() {
-        Some(_) => Finish::Gone,
-        None => Finish::Idle,
     }
 }

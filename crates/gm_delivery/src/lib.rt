@@ -4,9 +4,9 @@
 #![tactic(auto)]
 
 mod account;
-mod ending;
 mod finish;
 mod lane;
+mod life;
 mod sender;
 mod socket;
 mod stage;
@@ -16,4 +16,4 @@ pub use finish::{Deliverer, Finish, Leftover};
 pub use lane::{DeliveryContext, Lane};
 pub use sender::Sender;
 pub use socket::{ReadHalf, WriteHalf, split};
-pub use stage::{ReadStage, ServerStage, Stage};
+pub use stage::{ServerStage, Stage};

@@ -1,159 +1,53 @@
 //! What is to be sent to a slot's connections, and where.
 
-ghost use Rattle.std.specs.Prelude.{◌≡◌, [], Option, Some, None, Bool, IfOk, MatchBool};
+ghost use Rattle.std.specs.Prelude.{◌≡◌, [], Some, None, IfOk};
 ghost use Rattle.gm_outbox.specs.Deliveries.{left_in, Delivers};
 ghost use Rattle.gm_delivery.specs.Accounts.{blank_account, ArePast, Rise};
-ghost use Rattle.gm_delivery.specs.Sendings.{IsSender, DeliversTo, idle_in, after_sending, IsFinished, IsCutOff, cut_state, IsLetGo, IsBegun, state_if};
+ghost use Rattle.gm_delivery.specs.Sendings.{IsSender, DeliversTo, after_sending, IsCutOff, IsLetGo, IsBegun};
 
 use crate::account::Ledger;
-use crate::ending::ENDING_TIME_MS;
+use crate::lane::Writing;
+use crate::life::{Deed, Life, LineState};
 use crate::socket::WriteHalf;
 use gm_outbox::{Delivery, Outbox, Wire};
-use gm_report::has_passed;
 use gm_shared::{BookName, Pen, Shared};
 use std::alloc::{AllocError, Global};
 use std::marker::Model;
+use std::net::Shutdown;
 use std::sync::Wait;
-use std::time::{Clock, Duration, Instant};
+use std::time::Clock;
 
-/// How far the sending to a connection is.
-#[derive(Clone, Copy, PartialEq, Eq)]
-pub enum LineState {
-    /// It goes on.
-    Open,
-    /// All was sent, and the peer was told that no more is.
-    Finished,
-    /// It broke off: not all was sent, and no more is.
-    Cut,
-}
-
-/// A connection, until it is let go of.
-#[derive(Drop)]
-struct Connection {
-    /// How often its slot had been opened with it.
-    opening: u64,
-    half: WriteHalf,
-    state: LineState,
-    /// When all was sent, once that was looked at.
-    finished: Option<Instant>,
-}
-
-impl Connection {
-    /// The connection of this opening, to which nothing was sent. If it can't be sent to, it is cut.
-    fn new(opening: u64, half: WriteHalf, begins: bool) -> Connection
-        ensures opening { result.opening ≡ opening }
-        ensures half { result.half ≡ half }
-        ensures state { result.state ≡ state_if begins }
-    {
-        // Modelled in models/lane.h.
-        let mut connection = Connection {
-            opening,
-            half,
-            state: LineState::Open,
-            finished: None,
-        };
-        if !begins {
-            connection.go_on(LineState::Cut);
-        }
-        connection
-    }
-
-    /// Goes on to this state, of which the peer is told.
-    fn go_on(&mut self, state: LineState)
-        ensures state { self.new.state ≡ state }
-        ensures half { self.new.half ≡ self.old.half }
-        ensures opening { self.new.opening ≡ self.old.opening }
-    {
-        // Modelled in models/lane.h.
-        match state {
-            LineState::Open => {}
-            LineState::Finished => self.half.finish(),
-            LineState::Cut => self.half.hang_up(),
-        }
-        self.state = state;
-    }
-
-    /// Neither sends nor reads any more.
-    fn hang_up(&mut self)
-        ensures state { self.new.state ≡ cut_state self.old.state }
-        ensures half { self.new.half ≡ self.old.half }
-        ensures opening { self.new.opening ≡ self.old.opening }
-    {
-        // Modelled in models/lane.h.
-        match self.state {
-            LineState::Open | LineState::Cut => self.go_on(LineState::Cut),
-            LineState::Finished => self.half.hang_up(),
-        }
-    }
-
-    /// Whether it is to end, and has had its time. Where the server ends, that is the time of the whole end.
-    fn has_had_its_time(&mut self, rt: &impl Clock, is_stopping: bool) -> bool
-        ensures state { self.new.state ≡ self.old.state }
-        ensures half { self.new.half ≡ self.old.half }
-        ensures opening { self.new.opening ≡ self.old.opening }
-    {
-        // Modelled in models/lane.h.
-        match self.state {
-            LineState::Open => self.half.has_had_its_time(),
-            LineState::Finished => {
-                if is_stopping && self.finished.is_none() {
-                    self.finished = self.half.stopped();
-                }
-                has_passed(
-                    rt,
-                    &mut self.finished,
-                    Duration::from_millis(ENDING_TIME_MS),
-                )
-            }
-            LineState::Cut => false,
-        }
-    }
-}
-
-/// Tells the peer that no more is sent, where all was and it goes on. It says whether that was so.
-fn finish_on<K: BookName>(outbox: &Outbox<K>, connection: &mut Connection) -> bool
-    ensures finishes { MatchBool result
-        ((connection.old.state ≡ LineState.Open) × (left_in outbox.now.left ≡ []) × (connection.new.state ≡ LineState.Finished))
-        (connection.new.state ≡ connection.old.state) }
-    ensures half { connection.new.half ≡ connection.old.half }
-    ensures opening { connection.new.opening ≡ connection.old.opening }
-{
-    // Modelled in models/lane.h.
-    if connection.state != LineState::Open || !outbox.is_empty() {
-        return false;
-    }
-    connection.go_on(LineState::Finished);
-    true
-}
-
-/// Sends what there is to send to a connection; where that is over, or its slot is shut, no more is sent.
+/// Sends what there is to send to a connection; where that is over, its slot is shut, or all was sent and that is to be its end, no more is
+/// sent, of which its peer is told.
 fn deliver_on<E, K: BookName>(
     outbox: &mut Outbox<K>,
-    connection: &mut Connection,
+    half: &mut WriteHalf,
     rt: &impl Wait,
     shared: &Shared<K>,
     by: &E,
+    ends: bool,
 ) -> Delivery
 where
     WriteHalf: Wire<E>,
-    ensures idle { (connection.old.state ≡ LineState.Open → ⊥) → (result ≡ idle_in connection.old.state) × (connection.new ≡ connection.old) × (outbox.new ≡ outbox.old) }
-    ensures delivers { connection.old.state ≡ LineState.Open → Delivers K.settings K.taped result outbox.old.pen.slot outbox.old.opening outbox.new.opening outbox.old.pen.seat.takes outbox.new.pen.seat.takes
-        outbox.old.pen.witness.seen outbox.new.pen.witness.seen (Some connection.old.half.socket.2) (Some connection.new.half.socket.2) (left_in outbox.old.left) (left_in outbox.new.left) }
-    ensures state { connection.old.state ≡ LineState.Open → connection.new.state ≡ after_sending result }
+    ensures idle { (half.old.life.state ≡ LineState.Open → ⊥) → (half.new ≡ half.old) × (outbox.new ≡ outbox.old) }
+    ensures delivers { half.old.life.state ≡ LineState.Open → Delivers K.settings K.taped result outbox.old.pen.slot outbox.old.opening outbox.new.opening outbox.old.pen.seat.takes outbox.new.pen.seat.takes
+        outbox.old.pen.witness.seen outbox.new.pen.witness.seen (Some half.old.socket.2) (Some half.new.socket.2) (left_in outbox.old.left) (left_in outbox.new.left) }
+    ensures state { half.old.life.state ≡ LineState.Open → half.new.life.state ≡ after_sending ends result }
     ensures slot { outbox.new.pen.slot ≡ outbox.old.pen.slot }
-    ensures opening { connection.new.opening ≡ connection.old.opening }
 {
     // Modelled in models/lane.h.
-    match connection.state {
-        LineState::Open => {}
-        LineState::Finished => return Delivery::Shut,
-        LineState::Cut => return Delivery::Over,
+    if half.life.state != LineState::Open {
+        return Delivery::Over;
     }
-    let delivery = outbox.deliver(rt, shared, &mut connection.half, by);
-    match delivery {
-        Delivery::Done | Delivery::Blocked => {}
-        Delivery::Shut => connection.go_on(LineState::Finished),
-        Delivery::Over => connection.go_on(LineState::Cut),
+    let delivery = outbox.deliver(rt, shared, half, by);
+    half.life.state = match delivery {
+        Delivery::Done if ends => LineState::Finished,
+        Delivery::Done | Delivery::Blocked => LineState::Open,
+        Delivery::Shut => LineState::Finished,
+        Delivery::Over => LineState::Cut,
+    };
+    if half.life.state == LineState::Finished {
+        half.shut(Shutdown::Write);
     }
     delivery
 }
@@ -163,7 +57,10 @@ where
 #[derive(Drop)]
 pub struct Sender<K: BookName> {
     outbox: Outbox<K>,
-    connection: Option<Connection>,
+    /// How often the slot had been opened with the connection.
+    opening: u64,
+    /// The connection, until it is let go of.
+    connection: Option<WriteHalf>,
     ledger: Ledger,
 }
 
@@ -175,10 +72,10 @@ impl<K: BookName> Model for Sender<K> {
     ghost Value = { SenderState };
 
     ghost view = { λ s. state_of s.outbox.pen.slot s.outbox.opening s.outbox.pen.witness.seen s.outbox.pen.seat.takes (left_in s.outbox.left)
-        (option_map (λ c. record { opening = c.opening; state = c.state; log = c.half.socket.2 }) s.connection) s.ledger };
+        (option_map (λ c. record { opening = s.opening; state = c.life.state; log = c.socket.2 }) s.connection) s.ledger };
 
     ghost invariant = { λ s. IsSender (state_of s.outbox.pen.slot s.outbox.opening s.outbox.pen.witness.seen s.outbox.pen.seat.takes (left_in s.outbox.left)
-        (option_map (λ c. record { opening = c.opening; state = c.state; log = c.half.socket.2 }) s.connection) s.ledger) };
+        (option_map (λ c. record { opening = s.opening; state = c.life.state; log = c.socket.2 }) s.connection) s.ledger) };
 }
 
 impl<K: BookName> Sender<K> {
@@ -190,6 +87,7 @@ impl<K: BookName> Sender<K> {
         let ledger = Ledger::new(alloc)?;
         Ok(Sender {
             outbox: Outbox::new(pen),
+            opening: 0,
             connection: None,
             ledger,
         })
@@ -204,38 +102,43 @@ impl<K: BookName> Sender<K> {
 
     /// Takes the connection for which the slot was opened this often, and lets go of one that is there. It says whether the connection can be
     /// sent to: where it can't be told from earlier ones, it is cut.
-    pub fn begin(&mut self, opening: u64, half: WriteHalf) -> bool
+    pub fn begin(&mut self, opening: u64, mut half: WriteHalf) -> bool
         requires { half.socket.2 ≡ [] }
         ensures { IsBegun result opening self.old self.new }
     {
         // Modelled in models/lane.h.
         self.let_go();
         let begins = self.outbox.begin(opening);
-        self.connection = Some(Connection::new(opening, half, begins));
+        half.life = Life::new(begins);
+        self.opening = opening;
+        self.connection = Some(half);
         begins
     }
 
-    /// Sends what there is to send to the connection; where that is over, or its slot is shut, no more is sent.
-    pub fn deliver<E>(&mut self, rt: &impl Wait, shared: &Shared<K>, by: &E) -> Delivery
+    /// Sends what there is to send to the connection; where that is over, its slot is shut, or all was sent and that is to be its end, no more
+    /// is sent, of which its peer is told.
+    pub fn deliver<E>(&mut self, rt: &impl Wait, shared: &Shared<K>, by: &E, ends: bool)
     where
         WriteHalf: Wire<E>,
-        ensures { DeliversTo self.old.line K.settings K.taped result self.old self.new }
+        ensures { DeliversTo self.old.line K.settings K.taped ends self.old self.new }
     {
         // Modelled in models/lane.h.
         match &mut self.connection {
-            Some(connection) => deliver_on(&mut self.outbox, connection, rt, shared, by),
-            None => Delivery::Over,
+            Some(half) => {
+                deliver_on(&mut self.outbox, half, rt, shared, by, ends);
+            }
+            None => {}
         }
     }
 
-    /// Tells the peer that no more is sent, where all was and it goes on. It says whether that was so.
-    pub fn finish(&mut self) -> bool
-        ensures { MatchBool result (IsFinished self.old self.new) (self.new ≡ self.old) }
+    /// What is to be done for the connection next, whose input ended or not.
+    pub(crate) fn next<R: Clock>(&mut self, by: &Writing<'_, K, R>, has_ended: bool) -> Deed
+        ensures { self.new ≡ self.old }
     {
         // Modelled in models/lane.h.
         match &mut self.connection {
-            Some(connection) => finish_on(&self.outbox, connection),
-            None => false,
+            Some(half) => half.next(by, !self.outbox.is_empty(), has_ended),
+            None => Deed::Serve,
         }
     }
 
@@ -246,26 +149,15 @@ impl<K: BookName> Sender<K> {
         // Modelled in models/lane.h.
         self.outbox.forget();
         match &mut self.connection {
-            Some(connection) => connection.hang_up(),
+            Some(half) => half.hang_up(),
             None => {}
-        }
-    }
-
-    /// Whether the connection is to end, and has had its time: to take what was left for it, or since all was sent to it.
-    pub(crate) fn has_had_its_time(&mut self, rt: &impl Clock, is_stopping: bool) -> bool
-        ensures { self.new ≡ self.old }
-    {
-        // Modelled in models/lane.h.
-        match &mut self.connection {
-            Some(connection) => connection.has_had_its_time(rt, is_stopping),
-            None => false,
         }
     }
 
     /// Whether the last write took all.
     pub(crate) fn takes_more(&self) -> bool {
         match &self.connection {
-            Some(connection) => connection.half.takes_more(),
+            Some(half) => half.takes_more,
             None => false,
         }
     }
@@ -275,15 +167,16 @@ impl<K: BookName> Sender<K> {
         ensures { IsLetGo result self.old self.new }
     {
         // Modelled in models/lane.h.
-        let Some(connection) = self.connection.take() else {
+        let Some(half) = self.connection.take() else {
             return None;
         };
-        let is_whole = match connection.state {
+        let is_whole = match half.life.state {
             LineState::Open => self.outbox.is_empty(),
             LineState::Finished => true,
             LineState::Cut => false,
         };
-        self.ledger.close(&self.outbox, connection.opening, &connection.half, is_whole);
+        self.ledger
+            .close(&self.outbox, self.opening, &half, is_whole);
         self.outbox.forget();
         Some(is_whole)
     }

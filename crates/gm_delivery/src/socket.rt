@@ -2,12 +2,13 @@
 //! does so by one call of the system.
 
 ghost use Rattle.std.specs.Prelude.{◌≡◌, [], IfOk};
+ghost use Rattle.gm_delivery.specs.Lives.{cut_state};
 
-use crate::ending::{End, is_ending, is_stopping};
-use crate::lane::DeliveryContext;
-use crate::stage::Stage;
+use crate::lane::Writing;
+use crate::life::{Deed, Life, LineState};
 use gm_feeder::{Patience, Source};
 use gm_outbox::{Line, LoggedWriter, Wire};
+use gm_report::now_ms;
 use gm_shared::BookName;
 use libc::net::{MSG_DONTWAIT, MSG_NOSIGNAL, recv, send};
 use std::alloc::{AllocError, Global};
@@ -16,7 +17,7 @@ use std::io::{Error, ErrorKind};
 use std::net::{Shutdown, TcpStream};
 use std::os::fd::{AsRawFd, RawFd};
 use std::sync::{Arc, Wait};
-use std::time::{Clock, Instant};
+use std::time::Clock;
 
 /// What is read from a connection's socket.
 #[derive(Drop)]
@@ -87,49 +88,47 @@ impl Wire<Patience> for Socket {
 #[derive(Drop)]
 pub struct WriteHalf {
     socket: LoggedWriter<Socket>,
-    /// Whether the last write took all.
-    takes_more: bool,
-    /// The time of its end.
-    end: End,
+    /// Whether the last write took all, so that the next one may take some at once.
+    pub(crate) takes_more: bool,
+    pub(crate) life: Life,
 }
 
 impl WriteHalf {
-    /// Sends no more: the peer reads to the end of what was sent.
-    pub(crate) fn finish(&self) {
+    /// What is to be done next, where something is left to be sent or not, and the input ended or not.
+    pub(crate) fn next<K: BookName, R: Clock>(
+        &mut self,
+        by: &Writing<'_, K, R>,
+        has_left: bool,
+        has_ended: bool,
+    ) -> Deed
+        ensures state { self.new.life.state ≡ self.old.life.state }
+        ensures socket { self.new.socket ≡ self.old.socket }
+    {
         // Modelled in models/lane.h.
-        // Where it fails, the peer is gone already.
-        let _ = self.socket.writer().stream.shutdown(Shutdown::Write);
+        if self.life.state == LineState::Finished {
+            self.life
+                .look(now_ms(by.context.rt), by.context.is_stopping(), false);
+        }
+        self.life.next(has_left, has_ended)
     }
 
-    /// Neither sends nor reads any more.
-    pub(crate) fn hang_up(&self) {
+    /// Neither sends nor reads any more. Unless all was sent, the sending broke off.
+    pub(crate) fn hang_up(&mut self)
+        ensures state { self.new.life.state ≡ cut_state self.old.life.state }
+        ensures socket { self.new.socket ≡ self.old.socket }
+    {
         // Modelled in models/lane.h.
+        if self.life.state == LineState::Open {
+            self.life.state = LineState::Cut;
+        }
+        self.shut(Shutdown::Both);
+    }
+
+    /// Shuts a side of its socket, or both. An I/O thread's poll reports each time that this is done.
+    pub(crate) fn shut(&self, how: Shutdown) {
         // Where it fails, the peer is gone already.
-        let _ = self.socket.writer().stream.shutdown(Shutdown::Both);
+        let _ = self.socket.writer().stream.shutdown(how);
     }
-
-    /// Whether the connection is to end, and has had its time.
-    pub(crate) fn has_had_its_time(&self) -> bool {
-        self.end.deadline_passed
-    }
-
-    /// When its end was first looked at while the server ends.
-    pub(crate) fn stopped(&self) -> Option<Instant> {
-        self.end.stopped
-    }
-
-    /// Whether the last write took all, so that the next one may take some at once.
-    pub(crate) fn takes_more(&self) -> bool {
-        self.takes_more
-    }
-}
-
-/// The thread that writes: it is at a connection of this stage, and waits for a slow peer or not.
-#[derive(Drop)]
-pub(crate) struct Writing<'a, K: BookName, R> {
-    pub(crate) context: &'a DeliveryContext<'a, K, R>,
-    pub(crate) stage: &'a Stage,
-    pub(crate) patience: Patience,
 }
 
 impl Line for WriteHalf {
@@ -141,21 +140,19 @@ impl Line for WriteHalf {
 impl<'a, K: BookName, R: Wait + Clock> Wire<Writing<'a, K, R>> for WriteHalf {
     fn write_by(&mut self, by: &Writing<'a, K, R>, bytes: &[u8]) -> io::Result<usize> {
         // Modelled in models/lane.h.
-        // Once the connection is to end and has had its time, it takes no more.
-        if self.end.deadline_passed {
+        if self.life.is_over {
             return Err(Error::from(ErrorKind::TimedOut));
         }
-        let context = by.context;
         let outcome = self.socket.write_by(&by.patience, bytes);
         self.takes_more = matches!(outcome, Ok(count) if count == bytes.len());
         // The system tells it to one call only: to this one or to a read.
         if matches!(&outcome, Err(error) if error.kind() == ErrorKind::TimedOut) {
-            context.speaker.count_timed_out(context.rt);
+            by.context.speaker.count_timed_out(by.context.rt);
         }
-        if is_ending(context.server, by.stage) {
+        if by.is_ending() {
             let has_taken = matches!(outcome, Ok(count) if count > 0);
-            self.end
-                .update(context.rt, is_stopping(context.server), has_taken);
+            let now = now_ms(by.context.rt);
+            self.life.look(now, by.context.is_stopping(), has_taken);
         }
         outcome
     }
@@ -172,7 +169,7 @@ pub fn split(alloc: Global, stream: TcpStream) -> Result<(ReadHalf, WriteHalf), 
         WriteHalf {
             socket: LoggedWriter::new(alloc, Socket { stream: writing })?,
             takes_more: true,
-            end: End::new(),
+            life: Life::new(true),
         },
     ))
 }

@@ -1,17 +1,6 @@
-//! How far the end of a connection or of the server is, as an atomic number that only rises.
+//! How far the server is, or what is asked of a connection, as an atomic number that only rises.
 
 use std::sync::atomic::{AtomicU8, Ordering};
-
-/// The stages of a connection.
-#[derive(Clone, Copy)]
-pub enum ReadStage {
-    /// Its requests are taken.
-    Serving,
-    /// No more of its requests are taken: what waits is sent, and then no more is.
-    Ending,
-    /// Nothing is read from it any more: what waits is sent, and then it is let go of.
-    Ended,
-}
 
 /// The stages of a server.
 #[derive(Clone, Copy)]

@@ -1,6 +1,7 @@
 //! What a thread waits at.
 
 use crate::hub::Hub;
+use gm_report::{AGAIN_MS, WAKING_TIME_MS};
 use mio::event::Event;
 use mio::{Events, Poll};
 use std::alloc::{AllocError, Global};
@@ -12,12 +13,6 @@ pub(crate) const MARKS: usize = 64;
 
 /// How many events it takes at a time.
 const EVENTS: usize = 256;
-
-/// How long it waits at most, as a waking may fail.
-const PAUSE_MS: u64 = 1_000;
-
-/// How often it looks at a slot that is to be looked at again.
-const AGAIN_MS: u64 = 250;
 
 /// A slot to serve.
 #[derive(Clone, Copy)]
@@ -115,7 +110,7 @@ impl Poller {
         } else if !self.again.is_empty() {
             AGAIN_MS
         } else {
-            PAUSE_MS
+            WAKING_TIME_MS
         };
         // Where it fails, there are no events.
         let _ = self

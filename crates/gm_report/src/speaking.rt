@@ -4,7 +4,7 @@
 use crate::error::ServeError;
 use crate::notices::{Counts, Notices, Remark, TROUBLES, Trouble};
 use crate::summary::Summary;
-use crate::timing::has_passed;
+use crate::timing::{PAUSE_MS, SAYING_TIME_MS, has_passed};
 use crossbeam_utils::sync::{Parker, Unparker};
 use std::alloc::{AllocError, Global};
 use std::io::Error;
@@ -14,12 +14,6 @@ use std::sync::{Arc, Mutex, Wait};
 use std::thread;
 use std::thread::Threads;
 use std::time::{Clock, Duration};
-
-/// How long it says nothing after it said something.
-const PAUSE_MS: u64 = 1_000;
-
-/// How long the program's end waits for whoever reads what is said.
-const ENDING_TIME_MS: u64 = 2_000;
 
 /// Where other threads leave what is to be said.
 #[derive(Drop)]
@@ -111,7 +105,7 @@ impl Speaker {
         if self.has_thread.load(Ordering::SeqCst) {
             self.speaking.unpark();
             let waiting = self.waiting.lock(rt);
-            waiting.park_timeout(rt, Duration::from_millis(ENDING_TIME_MS));
+            waiting.park_timeout(rt, Duration::from_millis(SAYING_TIME_MS));
         } else {
             say_end(rt, &outcome, self.counts(rt));
         }

@@ -3,7 +3,7 @@
 ghost use Rattle.std.specs.Prelude.{◌≡◌, ◌+◌, ◌%◌, ◌^◌, ◌<◌, ◌≤◌, true, false, None, IsSome, IsNone};
 
 use crate::host::Host;
-use gm_report::has_passed;
+use gm_report::{TURN_TIME_US, has_passed};
 use gm_shared::BookName;
 use std::sync::{MutexGuard, Wait};
 use std::time::{Clock, Duration, Instant};
@@ -17,9 +17,6 @@ const MOST_UNITS: u32 = 64;
 
 /// After how many units a turn reads the clock. It does so after each text line too, which may be the work of many units.
 const UNITS_PER_CLOCK_READ: u32 = 8;
-
-/// How long a turn may be.
-const TURN_TIME_US: u64 = 250;
 
 /// The units of a turn, after which others are notified of what came of them.
 #[derive(Drop)]

@@ -8,7 +8,7 @@ use crate::keepalive::set_peer_timeout;
 use crate::progress::Progress;
 use crate::state::ServerState;
 use gm_delivery::{ReadHalf, ServerStage, WriteHalf, split};
-use gm_report::{Ready, Report, Trouble};
+use gm_report::{ACCEPT_TIMEOUT_MS, AGAIN_MS, Ready, Report, Trouble};
 use gm_session::{Gate, LoggedSource};
 use gm_shared::BookName;
 use gm_slots::Slot;
@@ -22,17 +22,11 @@ use std::thread::{Scope, Threads};
 use std::time::{Clock, Duration};
 use std::{io, thread};
 
-/// How long the control thread waits for a connection. A tick and the end may be late by this.
-const ACCEPT_TIMEOUT_MS: u64 = 50;
-
 /// The error of a system that is out of file descriptors (errno(3)).
 const ENFILE: i32 = 23;
 
 /// The error of a socket that doesn't listen in this way (accept(2)).
 const EOPNOTSUPP: i32 = 95;
-
-/// How long a write waits that may wait. The thread that writes looks then whether the connection is to end.
-const WRITE_TIMEOUT_MS: u64 = 250;
 
 /// Has `accept` return where no connection comes for a while.
 pub(crate) fn set_accept_timeout(listener: &TcpListener) -> io::Result<()> {
@@ -45,7 +39,7 @@ pub(crate) fn set_accept_timeout(listener: &TcpListener) -> io::Result<()> {
 /// Sets up an accepted socket, which has its listener's timeout at first.
 fn prepare(stream: &TcpStream, peer_timeout: u16) -> io::Result<()> {
     stream.set_read_timeout(None)?;
-    stream.set_write_timeout(Some(Duration::from_millis(WRITE_TIMEOUT_MS)))?;
+    stream.set_write_timeout(Some(Duration::from_millis(AGAIN_MS)))?;
     set_peer_timeout(stream, peer_timeout);
     stream.set_nodelay(true)
 }

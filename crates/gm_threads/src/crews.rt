@@ -3,9 +3,10 @@
 use crate::serving::Then;
 use crate::state::ServerState;
 use crossbeam_utils::sync::{Parker, Unparker};
-use gm_delivery::{Finish, ReadHalf, ServerStage};
+use gm_delivery::{Deliverer, Finish, ReadHalf, ServerStage};
 use gm_feeder::Patience;
 use gm_poll::{Hub, Poller};
+use gm_report::AGAIN_MS;
 use gm_session::{Gate, Talk};
 use gm_shared::BookName;
 use gm_slots::Slot;
@@ -17,9 +18,6 @@ use std::sync::{Condvar, Mutex, Wait};
 use std::thread::{Scope, Threads};
 use std::time::{Clock, Duration};
 use std::{io, mem};
-
-/// After how long a finisher comes again to a connection that isn't done with.
-const AGAIN_MS: u64 = 250;
 
 /// What the two threads of a slot wait at.
 #[derive(Drop)]
@@ -247,7 +245,8 @@ fn run_finisher<K: BookName, R: Wait + Clock>(
         if state.progress.has_ended() {
             break;
         }
-        finish = state.finish(rt, slot, Patience::Waits);
+        let waits = Deliverer::Finisher(Patience::Waits);
+        finish = state.finish(rt, slot, slot.lane.deliver(&state.delivery(rt), waits));
     }
 }
 

@@ -1,7 +1,7 @@
 //! How a connection is served, by whichever threads do: it is read by turns and ended, and what others leave of its lane is done.
 
 use crate::state::ServerState;
-use gm_delivery::{Deliverer, Finish, Leftover, ReadHalf, ReadStage, ServerStage};
+use gm_delivery::{Deliverer, Finish, Leftover, ReadHalf, ServerStage};
 use gm_feeder::Patience;
 use gm_notes::ApplyError;
 use gm_poll::{Call, Next};
@@ -125,7 +125,7 @@ impl<K: BookName> ServerState<K> {
                 if end == SessionEnd::Memory {
                     self.host.speaker.remark(rt, Trouble::Cut, 0);
                 }
-                self.wake_for(slot.lane.end(&self.delivery(rt), ReadStage::Ending));
+                self.wake_for(slot.lane.end(&self.delivery(rt), false));
                 discard(talk, patience)
             }
         }
@@ -140,26 +140,19 @@ impl<K: BookName> ServerState<K> {
     ) {
         // Modelled in models/serving.h.
         talk.stop_reading();
-        let leftover = slot.lane.end(&self.delivery(rt), ReadStage::Ended);
+        let leftover = slot.lane.end(&self.delivery(rt), true);
         if self.wake_for(leftover) == Finish::Gone {
             self.close(rt, talk);
         }
     }
 
-    /// Does what others left of a slot's lane.
+    /// Does what a finisher's delivery left to do, and says what came of it: a slot whose connection was let go of is closed.
     pub(crate) fn finish<R: Wait + Clock>(
         &self,
         rt: &R,
         slot: &Slot<K>,
-        patience: Patience,
+        leftover: Leftover,
     ) -> Finish {
-        // Modelled in models/serving.h.
-        let finisher = Deliverer::Finisher(patience);
-        self.settle_lane(rt, slot, slot.lane.deliver(&self.delivery(rt), finisher))
-    }
-
-    /// Does what a finisher's delivery left to do, and says what came of it: a slot whose connection was let go of is closed.
-    fn settle_lane<R: Wait + Clock>(&self, rt: &R, slot: &Slot<K>, leftover: Leftover) -> Finish {
         // Modelled in models/serving.h.
         let finish = self.wake_for(leftover);
         if finish == Finish::Gone {
@@ -190,11 +183,14 @@ impl<K: BookName> ServerState<K> {
                 is_again: false,
             };
         };
-        let finish = if call.is_woken {
-            self.finish(rt, slot, Patience::Hurries)
+        let context = self.delivery(rt);
+        let leftover = if call.is_woken {
+            slot.lane
+                .deliver(&context, Deliverer::Finisher(Patience::Hurries))
         } else {
-            self.settle_lane(rt, slot, slot.lane.deliver_left(&self.delivery(rt)))
+            slot.lane.deliver_left(&context)
         };
+        let finish = self.finish(rt, slot, leftover);
         let mut talk = slot.talk.lock(rt);
         let is_now = talk.is_reading()
             && match self.turn(rt, gate, slot, &mut talk, Patience::Hurries) {

@@ -12,16 +12,13 @@ use gm_delivery::{DeliveryContext, Finish, Leftover, ServerStage};
 use gm_feeder::Limits;
 use gm_lane_word::Due;
 use gm_notes::{Event, Mode};
-use gm_report::{Speaker, has_passed};
+use gm_report::{DELIVERING_TIME_MS, Speaker, has_passed};
 use gm_session::{Effects, Host, OwnDesk};
 use gm_shared::{Blank, BookName, Shared};
 use gm_slots::{Served, Slot, new_slots, settle_slots};
 use std::alloc::{AllocError, Global};
 use std::sync::{Arc, Wait};
 use std::time::{Clock, Duration};
-
-/// How long a thread goes on writing to others. The slots' finishers do the rest.
-const DELIVERING_TIME_MS: u64 = 10;
 
 /// What all threads of a server share.
 #[derive(Drop)]

@@ -1,0 +1,34 @@
+-- What is to be done for a connection, and until when.
+use Rattle.std.specs.Prelude.{ℕ, ◌+◌, ◌-◌, ◌^◌, min, Bool, true, false}
+use Rattle.gm_delivery.specs.declared.life.LineState.{LineState}
+use Rattle.gm_delivery.specs.declared.life.LineState.TheVariants.{Open, Finished, Cut}
+use Rattle.gm_delivery.specs.declared.life.Deed.{Deed}
+use Rattle.gm_delivery.specs.declared.life.Deed.TheVariants.{Serve, Send, Linger, HangUp, LetGo}
+
+-- this long after a time, in milliseconds of 64 bits
+abbrev pub later : ℕ → ℕ → ℕ
+later now long = min (now + long) (2 ^ 64 - 1)
+
+-- how long an end takes in all, while the server goes on, and from when it stops
+abbrev pub most_time : Bool → ℕ
+most_time false = 30_000
+most_time true = 2_000
+
+-- what is to be done in this state, where the time is over or not, something is left to be sent or not, and the input ended or not
+abbrev pub deed_of : LineState → Bool → Bool → Bool → Deed
+deed_of Open false true ended = Send
+deed_of state over left true = LetGo
+deed_of Open over false false = Serve
+deed_of Finished false left false = Linger
+deed_of state over left false = HangUp
+
+-- where a connection can be sent to, or not
+abbrev pub state_if : Bool → LineState
+state_if true = Open
+state_if false = Cut
+
+-- what is finished stays so
+abbrev pub cut_state : LineState → LineState
+cut_state Open = Cut
+cut_state Finished = Finished
+cut_state Cut = Cut

@@ -1,0 +1,101 @@
+//! How a connection ends: until when it is sent to, and what is to be done for it next.
+
+ghost use Rattle.std.specs.Prelude.{◌≡◌, ◌≤◌, ◌↔◌, min, IsTrue, if◌then◌else◌};
+ghost use Rattle.gm_delivery.specs.Lives.{deed_of, later, most_time, state_if};
+
+use gm_report::{ENDING_TIME_MS, MOST_ENDING_TIME_MS};
+
+/// How far the sending to a connection is.
+#[derive(Clone, Copy, PartialEq, Eq)]
+pub enum LineState {
+    /// It goes on.
+    Open,
+    /// All was sent, and no more is.
+    Finished,
+    /// It broke off: not all was sent, and no more is.
+    Cut,
+}
+
+/// What is to be done for a connection, once what could be sent to it was.
+#[derive(Clone, Copy, PartialEq, Eq)]
+pub enum Deed {
+    /// Nothing, until there is something to send, or it is to end.
+    Serve,
+    /// What is left is sent, once its peer takes more.
+    Send,
+    /// Its peer was told that no more is sent. What it still sends is read and dropped for a while: closing a socket before that would have
+    /// the system forget what the peer hasn't read yet.
+    Linger,
+    /// It is sent nothing more, and its reader is to find its end.
+    HangUp,
+    /// It is let go of, as nothing is read from it any more.
+    LetGo,
+}
+
+/// How far a connection is, and its end. Times are of the clock that never goes back.
+#[derive(Clone, Copy)]
+pub struct Life {
+    pub(crate) state: LineState,
+    /// When its time is over, unless its peer takes some before.
+    until: u64,
+    /// When it is over whatever its peer takes.
+    last: u64,
+    /// Its time is over: it takes no more.
+    pub(crate) is_over: bool,
+}
+
+impl Life {
+    /// A connection that isn't to end. If it can't be sent to, it is cut.
+    pub(crate) fn new(begins: bool) -> Life
+        ensures { result.state ≡ state_if begins }
+    {
+        let state = if begins {
+            LineState::Open
+        } else {
+            LineState::Cut
+        };
+        Life {
+            state,
+            until: u64::MAX,
+            last: u64::MAX,
+            is_over: false,
+        }
+    }
+
+    /// Looks at the time, where it is to end: while its peer takes some it has more, but no more in all, and none where the server stops.
+    pub(crate) fn look(&mut self, now: u64, is_stopping: bool, has_taken: bool)
+        ensures state { self.new.state ≡ self.old.state }
+        ensures until { self.new.until ≡ min (later now 2_000) (if has_taken then later now 2_000 else self.old.until) }
+        ensures last { self.new.last ≡ min (later now (most_time is_stopping)) self.old.last }
+        ensures over { IsTrue self.new.is_over ↔ (min self.new.until self.new.last ≤ now) }
+    {
+        // Modelled in models/lane.h.
+        let most = if is_stopping {
+            ENDING_TIME_MS
+        } else {
+            MOST_ENDING_TIME_MS
+        };
+        let until = now.saturating_add(ENDING_TIME_MS);
+        self.until = if has_taken {
+            until
+        } else {
+            until.min(self.until)
+        };
+        self.last = now.saturating_add(most).min(self.last);
+        self.is_over = self.until.min(self.last) <= now;
+    }
+
+    /// What is to be done next, where something is left to be sent or not, and its input ended or not.
+    pub(crate) fn next(&self, has_left: bool, has_ended: bool) -> Deed
+        ensures { result ≡ deed_of self.now.state self.now.is_over has_left has_ended }
+    {
+        // Modelled in models/lane.h.
+        match self.state {
+            LineState::Open if has_left && !self.is_over => Deed::Send,
+            _ if has_ended => Deed::LetGo,
+            LineState::Open if !has_left => Deed::Serve,
+            LineState::Finished if !self.is_over => Deed::Linger,
+            _ => Deed::HangUp,
+        }
+    }
+}
