@@ -43,7 +43,10 @@ impl Model for Hints {
 fn is_met(jobs: &JobMap, number: u64, query: Query) -> bool
     ensures { result ≡ passes (meets query) (find_job jobs.now.entries number) }
 {
-    jobs.get(number).is_some_and(|job| query.is_met(job))
+    match jobs.get(number) {
+        Some(job) => query.is_met(job),
+        None => false,
+    }
 }
 
 // The number of the job at this position, if that is what is asked for and its number is above `after`.
