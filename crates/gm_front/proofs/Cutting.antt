@@ -14,8 +14,8 @@ use Rattle.gm_notes.specs.Notes.{is_open, is_shut, takes_units}
 use Rattle.gm_notes.specs.Steps.{Step, Packet, Line, Fault, refusal, unless_not_open}
 use Rattle.gm_notes.specs.Steps.{run}
 use Rattle.gm_front.specs.Units.{step_of_unit, Stands, IsFaultAt}
-use Rattle.gm_front.specs.Inputs.{Input, Gives, Reading, with_rest, unless_refused, handed_in, with_units, with_fault, kept_if}
-use Rattle.gm_front.specs.Inputs.{given, GivesPiece, AddsUnless, LeadsTo, Reads}
+use Rattle.gm_front.specs.Inputs.{Input, Gives, Reading, with_rest, unless_refused, handed_in, with_units, faulted, kept_if}
+use Rattle.gm_front.specs.Inputs.{given, GivesPiece, AddsUnless, ReadsOn, Reads}
 use Rattle.gm_front.proofs.OneReading.{one_standing, one_leading, one_reading}
 use Rattle.gm_front.proofs.Feeders.{this_rest}
 use Rattle.gm_front.proofs.Steps.{fault_shuts, units_only_shut}
@@ -30,7 +30,7 @@ units_refused : (k : Settings) (c : ℕ) (items : List Item) (steps : List Step)
 units_refused k c [] steps e = refl
 units_refused k c (item ∷ items) steps e = ap (with_units k c items) (unit_refused k c item steps e) ∙ units_refused k c items steps e
 
-fault_refused : (k : Settings) (c : ℕ) (fault : Option UnitFault) (steps : List Step) → takes_units c (run k steps).notes ≡ false → with_fault k c fault steps ≡ steps
+fault_refused : (k : Settings) (c : ℕ) (fault : Option UnitFault) (steps : List Step) → takes_units c (run k steps).notes ≡ false → faulted k c fault steps ≡ steps
 fault_refused k c None steps e = refl
 fault_refused k c (Some fault) steps e = ap (λ (b : Bool). unless_refused (unless_not_open b) (Fault c fault) steps) e
 
@@ -48,7 +48,7 @@ shut_takes_none true false e = absurd cc
 shut_takes_none false s e = refl
 
 -- after a fault the slot takes no units
-fault_ends : (k : Settings) (c : ℕ) (fault : UnitFault) (steps : List Step) → takes_units c (run k steps).notes ≡ true → takes_units c (run k (with_fault k c (Some fault) steps)).notes ≡ false
+fault_ends : (k : Settings) (c : ℕ) (fault : UnitFault) (steps : List Step) → takes_units c (run k steps).notes ≡ true → takes_units c (run k (faulted k c (Some fault) steps)).notes ≡ false
 fault_ends k c fault steps takes =
     let opened = takes_open (is_open c (run k steps).notes) (is_shut c (run k steps).notes) takes in
     let after = (run k (handed_in k (Fault c fault) steps)).notes in
@@ -105,19 +105,19 @@ reading_of k c steps rest old = record { steps = steps; rests = with_rest c (kep
 record Cut (k : Settings) (limits : Limits) (c : ℕ) (front back : List ℕ) (old whole mid new : Reading) : Type 0 where
   w : GivesPiece k limits c (front ++ back) old whole
   g : GivesPiece k limits c front old mid
-  second : LeadsTo k limits (Gives c back) mid new
+  second : ReadsOn k limits (Gives c back) mid new
   b : Beyond limits g.rest back g.items w.items w.rest
 
 -- a slot that takes no units takes no second part
-none_new : (k : Settings) (limits : Limits) (c : ℕ) (back : List ℕ) (mid new : Reading) → takes_units c (run k mid.steps).notes ≡ false → LeadsTo k limits (Gives c back) mid new → new ≡ mid
+none_new : (k : Settings) (limits : Limits) (c : ℕ) (back : List ℕ) (mid new : Reading) → takes_units c (run k mid.steps).notes ≡ false → ReadsOn k limits (Gives c back) mid new → new ≡ mid
 none_new k limits c back mid new e l = let h : new ≡ mid = subst (λ (t : Bool). AddsUnless (unless_not_open t) k limits (Gives c back) mid new) e l in h
 
-some_new : (k : Settings) (limits : Limits) (c : ℕ) (back : List ℕ) (mid new : Reading) → takes_units c (run k mid.steps).notes ≡ true → LeadsTo k limits (Gives c back) mid new → GivesPiece k limits c back mid new
+some_new : (k : Settings) (limits : Limits) (c : ℕ) (back : List ℕ) (mid new : Reading) → takes_units c (run k mid.steps).notes ≡ true → ReadsOn k limits (Gives c back) mid new → GivesPiece k limits c back mid new
 some_new k limits c back mid new e l = let h : GivesPiece k limits c back mid new = subst (λ (t : Bool). AddsUnless (unless_not_open t) k limits (Gives c back) mid new) e l in h
 
 -- the slot was shut when the first part's steps were taken
 shut_after : (k : Settings) (limits : Limits) (c : ℕ) (back : List ℕ) (steps : List Step) (old whole mid new : Reading) → takes_units c (run k steps).notes ≡ false → whole ≡ ended c steps old → mid ≡ ended c steps old
-    → LeadsTo k limits (Gives c back) mid new → whole ≡ new
+    → ReadsOn k limits (Gives c back) mid new → whole ≡ new
 shut_after k limits c back steps old whole mid new e w m l =
     let none : takes_units c (run k mid.steps).notes ≡ false = ap (λ (r : Reading). takes_units c (run k r.steps).notes) m ∙ e in
     w ∙ (sym m ∙ sym (none_new k limits c back mid new none l))
@@ -133,8 +133,8 @@ cut_shut : (k : Settings) (limits : Limits) (c : ℕ) (front back : List ℕ) (o
     → takes_units c (run k (with_units k c p.g.items old.steps)).notes ≡ false → whole ≡ new
 cut_shut k limits c front back old whole mid new p e =
     let steps : List Step = with_units k c p.g.items old.steps in
-    let all : with_fault k c p.w.fault (with_units k c p.w.items old.steps) ≡ steps =
-    ap (with_fault k c p.w.fault) (all_units k limits c front back old whole mid new p ∙ units_refused k c p.b.more steps e) ∙ fault_refused k c p.w.fault steps e
+    let all : faulted k c p.w.fault (with_units k c p.w.items old.steps) ≡ steps =
+    ap (faulted k c p.w.fault) (all_units k limits c front back old whole mid new p ∙ units_refused k c p.b.more steps e) ∙ fault_refused k c p.w.fault steps e
     in
     shut_after k limits c back steps old whole mid new e
     (p.w.adds ∙ (ap (λ (s : List Step). reading_of k c s p.w.rest old) all ∙ ended_by k c steps p.w.rest old e))
@@ -146,7 +146,7 @@ cut_faulty : (k : Settings) (limits : Limits) (c : ℕ) (front back : List ℕ) 
     → takes_units c (run k (with_units k c p.g.items old.steps)).notes ≡ true → whole ≡ new
 cut_faulty k limits c front back old whole mid new p fault faulty e =
     let units : List Step = with_units k c p.g.items old.steps in
-    let steps : List Step = with_fault k c (Some fault) units in
+    let steps : List Step = faulted k c (Some fault) units in
     let none = fault_ends k c fault units e in
     let stands : IsFaultAt limits p.g.rest fault = subst (λ (f : Option UnitFault). Stands limits p.g.rest f) faulty p.g.standing in
     let beyond = none_beyond limits p.g.rest back fault p.b.more p.w.rest stands p.b.spelled in
@@ -154,13 +154,13 @@ cut_faulty k limits c front back old whole mid new p fault faulty e =
     let same : p.w.fault ≡ Some fault =
     one_standing limits (p.g.rest ++ back) p.w.fault (Some fault) (subst (λ (l : List ℕ). Stands limits l p.w.fault) beyond.1 p.w.standing) still
     in
-    let all : with_fault k c p.w.fault (with_units k c p.w.items old.steps) ≡ steps =
-    ap₂ (λ (f : Option UnitFault) (s : List Step). with_fault k c f s) same
+    let all : faulted k c p.w.fault (with_units k c p.w.items old.steps) ≡ steps =
+    ap₂ (λ (f : Option UnitFault) (s : List Step). faulted k c f s) same
     (all_units k limits c front back old whole mid new p ∙ ap (λ (l : List Item). with_units k c l units) beyond.0)
     in
     shut_after k limits c back steps old whole mid new none
     (p.w.adds ∙ (ap (λ (s : List Step). reading_of k c s p.w.rest old) all ∙ ended_by k c steps p.w.rest old none))
-    (p.g.adds ∙ (ap (λ (f : Option UnitFault). reading_of k c (with_fault k c f units) p.g.rest old) faulty ∙ ended_by k c steps p.g.rest old none))
+    (p.g.adds ∙ (ap (λ (f : Option UnitFault). reading_of k c (faulted k c f units) p.g.rest old) faulty ∙ ended_by k c steps p.g.rest old none))
     p.second
 
 -- the slot goes on
@@ -171,16 +171,16 @@ cut_on k limits c front back old whole mid new p no_fault e =
     let on : Reading = record { steps = units; rests = with_rest c p.g.rest old.rests } in
     let mid_is : mid ≡ on =
     p.g.adds
-    ∙ (ap (λ (f : Option UnitFault). reading_of k c (with_fault k c f units) p.g.rest old) no_fault
+    ∙ (ap (λ (f : Option UnitFault). reading_of k c (faulted k c f units) p.g.rest old) no_fault
     ∙ ap (λ (t : Bool). record { steps = units; rests = with_rest c (kept_if t p.g.rest) old.rests }) e)
     in
-    let h : GivesPiece k limits c back on new = some_new k limits c back on new e (subst (λ (r : Reading). LeadsTo k limits (Gives c back) r new) mid_is p.second) in
+    let h : GivesPiece k limits c back on new = some_new k limits c back on new e (subst (λ (r : Reading). ReadsOn k limits (Gives c back) r new) mid_is p.second) in
     let spelled : Spells limits (p.g.rest ++ back) h.items h.rest = subst (λ (l : List ℕ). Spells limits (l ++ back) h.items h.rest) (this_rest c p.g.rest old.rests) h.spelled in
     let same = one_spelling limits (p.g.rest ++ back) p.b.more h.items p.w.rest h.rest p.b.spelled spelled in
     let fault : p.w.fault ≡ h.fault = one_standing limits h.rest p.w.fault h.fault (subst (λ (l : List ℕ). Stands limits l p.w.fault) same.1 p.w.standing) h.standing in
-    let steps : List Step = with_fault k c h.fault (with_units k c h.items units) in
-    let all : with_fault k c p.w.fault (with_units k c p.w.items old.steps) ≡ steps =
-    ap₂ (λ (f : Option UnitFault) (s : List Step). with_fault k c f s) fault
+    let steps : List Step = faulted k c h.fault (with_units k c h.items units) in
+    let all : faulted k c p.w.fault (with_units k c p.w.items old.steps) ≡ steps =
+    ap₂ (λ (f : Option UnitFault) (s : List Step). faulted k c f s) fault
     (all_units k limits c front back old whole mid new p ∙ ap (λ (l : List Item). with_units k c l units) same.0)
     in
     p.w.adds
@@ -198,8 +198,8 @@ cut_taken : (k : Settings) (limits : Limits) (c : ℕ) (front back : List ℕ) (
 cut_taken k limits c front back old whole mid new p true e = cut_fault k limits c front back old whole mid new p p.g.fault refl e
 cut_taken k limits c front back old whole mid new p false e = cut_shut k limits c front back old whole mid new p e
 
-cut_by : (k : Settings) (limits : Limits) (c : ℕ) (front back : List ℕ) (old whole mid new : Reading) (t : Bool) → takes_units c (run k old.steps).notes ≡ t → LeadsTo k limits (Gives c (front ++ back)) old whole
-    → LeadsTo k limits (Gives c front) old mid → LeadsTo k limits (Gives c back) mid new → whole ≡ new
+cut_by : (k : Settings) (limits : Limits) (c : ℕ) (front back : List ℕ) (old whole mid new : Reading) (t : Bool) → takes_units c (run k old.steps).notes ≡ t → ReadsOn k limits (Gives c (front ++ back)) old whole
+    → ReadsOn k limits (Gives c front) old mid → ReadsOn k limits (Gives c back) mid new → whole ≡ new
 cut_by k limits c front back old whole mid new true e w g l =
     let first = some_new k limits c front old mid e g in
     let all = some_new k limits c (front ++ back) old whole e w in
@@ -222,7 +222,7 @@ pub any_cut : (k : Settings) (limits : Limits) (before after : List Input) (c : 
     → Reads k limits (after ++ Gives c back ∷ Gives c front ∷ before) parts → whole ≡ parts
 any_cut k limits before [] c front back whole parts w p =
     let same = one_reading k limits before w.0 p.1.0 w.1 p.1.1 in
-    cut_by k limits c front back p.1.0 whole p.0 parts (takes_units c (run k p.1.0.steps).notes) refl (subst (λ (r : Reading). LeadsTo k limits (Gives c (front ++ back)) r whole) same w.2) p.1.2 p.2
+    cut_by k limits c front back p.1.0 whole p.0 parts (takes_units c (run k p.1.0.steps).notes) refl (subst (λ (r : Reading). ReadsOn k limits (Gives c (front ++ back)) r whole) same w.2) p.1.2 p.2
 any_cut k limits before (input ∷ after) c front back whole parts w p =
     let same = any_cut k limits before after c front back w.0 p.0 w.1 p.1 in
-    one_leading k limits input p.0 whole parts (subst (λ (r : Reading). LeadsTo k limits input r whole) same w.2) p.2
+    one_leading k limits input p.0 whole parts (subst (λ (r : Reading). ReadsOn k limits input r whole) same w.2) p.2

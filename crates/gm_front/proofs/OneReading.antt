@@ -8,7 +8,7 @@ use Rattle.gm_notes.specs.declared.event.UnitFault.{UnitFault}
 use Rattle.gm_notes.specs.Settings.{Settings}
 use Rattle.gm_front.specs.Units.{unit_fault, Stands, BeginsWith}
 use Rattle.gm_front.specs.Inputs.{Input, Opens, Gives, Cuts, Closes, Ticks, Takes, Withdraws, Drains, Reading, with_units}
-use Rattle.gm_front.specs.Inputs.{given, closed, GivesPiece, CutsPiece, Adds, AddsUnless, refusal_of, LeadsTo, Reads}
+use Rattle.gm_front.specs.Inputs.{given, with_closed, GivesPiece, CutsPiece, Adds, AddsUnless, refusal_of, ReadsOn, Reads}
 
 pub one_standing : (limits : Limits) (rest : List ℕ) (fault other : Option UnitFault) → Stands limits rest fault → Stands limits rest other → fault ≡ other
 one_standing limits rest None None s t = refl
@@ -38,7 +38,7 @@ one_head limits bytes (item ∷ items) (another ∷ others) rest other e b d =
 one_cut : (k : Settings) (limits : Limits) (c : ℕ) (piece : List ℕ) (units : ℕ) (old a b : Reading) → CutsPiece k limits c piece units old a → CutsPiece k limits c piece units old b → a ≡ b
 one_cut k limits c piece units old a b g h =
     let same = one_head limits (old.rests c ++ piece) g.items h.items g.rest h.rest (g.count ∙ sym h.count) g.begins h.begins in
-    g.adds ∙ (ap (λ (items : List Item). closed c (with_units k c items old.steps) old.rests) same ∙ sym h.adds)
+    g.adds ∙ (ap (λ (items : List Item). with_closed c (with_units k c items old.steps) old.rests) same ∙ sym h.adds)
 
 pub one_adding : (k : Settings) (limits : Limits) (input : Input) (old a b : Reading) → Adds k limits input old a → Adds k limits input old b → a ≡ b
 one_adding k limits (Opens addr) old a b g h = g ∙ sym h
@@ -54,15 +54,15 @@ one_unless : (r : Option ApplyError) (k : Settings) (limits : Limits) (input : I
 one_unless None k limits input old a b g h = one_adding k limits input old a b g h
 one_unless (Some refused) k limits input old a b g h = g ∙ sym h
 
-pub one_leading : (k : Settings) (limits : Limits) (input : Input) (old a b : Reading) → LeadsTo k limits input old a → LeadsTo k limits input old b → a ≡ b
+pub one_leading : (k : Settings) (limits : Limits) (input : Input) (old a b : Reading) → ReadsOn k limits input old a → ReadsOn k limits input old b → a ≡ b
 one_leading k limits input old a b g h = one_unless (refusal_of k input old) k limits input old a b g h
 
 pub one_reading : (k : Settings) (limits : Limits) (inputs : List Input) (a b : Reading) → Reads k limits inputs a → Reads k limits inputs b → a ≡ b
 one_reading k limits [] a b g h = g ∙ sym h
 one_reading k limits (input ∷ older) a b g h =
     let same = one_reading k limits older g.0 h.0 g.1 h.1 in
-    one_leading k limits input h.0 a b (subst (λ (r : Reading). LeadsTo k limits input r a) same g.2) h.2
+    one_leading k limits input h.0 a b (subst (λ (r : Reading). ReadsOn k limits input r a) same g.2) h.2
 
 -- a refused input adds nothing
-pub refused_step : (k : Settings) (limits : Limits) (input : Input) (old new : Reading) (refused : ApplyError) → refusal_of k input old ≡ Some refused → LeadsTo k limits input old new → new ≡ old
+pub refused_step : (k : Settings) (limits : Limits) (input : Input) (old new : Reading) (refused : ApplyError) → refusal_of k input old ≡ Some refused → ReadsOn k limits input old new → new ≡ old
 refused_step k limits input old new refused e l = let h : new ≡ old = subst (λ (r : Option ApplyError). AddsUnless r k limits input old new) e l in h

@@ -13,7 +13,7 @@ use Rattle.gm_notes.specs.Steps.{Step, Open, Close, Tick, Took, Withdrew, Drain,
 use Rattle.gm_notes.specs.Steps.{add, run}
 use Rattle.gm_notes.proofs.Slots.{close_keeps}
 use Rattle.gm_front.specs.Inputs.{Input, Opens, Gives, Cuts, Closes, Ticks, Takes, Withdraws, Drains, Reading, with_step}
-use Rattle.gm_front.specs.Inputs.{with_rest, with_units, with_fault, kept_if, closed, Adds, AddsUnless, refusal_of, LeadsTo}
+use Rattle.gm_front.specs.Inputs.{with_rest, with_units, faulted, kept_if, with_closed, Adds, AddsUnless, refusal_of, ReadsOn}
 use Rattle.gm_front.specs.Inputs.{Reads}
 use Rattle.gm_front.proofs.Steps.{OnlyShuts, shuts_then, step_only_shuts, units_only_shut, fault_only_shuts, free_is}
 
@@ -52,7 +52,7 @@ was_taken false e = absurd cc
 abbrev HasNone : Settings → ℕ → Reading → Type 0
 HasNone k c reading = is_open c (run k reading.steps).notes ≡ false → reading.rests c ≡ []
 
-closed_none : (t : Bool) (k : Settings) (d c : ℕ) (steps : List Step) (rests : ℕ → List ℕ) → (c == d) ≡ t → (is_open c (run k steps).notes ≡ false → rests c ≡ []) → HasNone k c (closed d steps rests)
+closed_none : (t : Bool) (k : Settings) (d c : ℕ) (steps : List Step) (rests : ℕ → List ℕ) → (c == d) ≡ t → (is_open c (run k steps).notes ≡ false → rests c ≡ []) → HasNone k c (with_closed d steps rests)
 closed_none true k d c steps rests same h = λ e. rw same refl
 closed_none false k d c steps rests other h = λ e. rw other (h (before_close (refusal k (Close d) (run k steps)) k d c (run k steps) other e))
 
@@ -75,7 +75,7 @@ added_none k limits (Opens addr) c old new r a h =
 added_none k limits (Gives d piece) c old new r g h =
     let opened = takes_open (is_open d (run k old.steps).notes) (is_shut d (run k old.steps).notes) (was_taken (takes_units d (run k old.steps).notes) r) in
     let mid = with_units k d g.items old.steps in
-    let steps = with_fault k d g.fault mid in
+    let steps = faulted k d g.fault mid in
     let only = shuts_then (run k old.steps).notes (run k mid).notes (run k steps).notes (units_only_shut k d g.items old.steps) (fault_only_shuts k d g.fault mid) in
     subst (HasNone k c) (sym g.adds) (given_none (c == d) k d c (kept_if (takes_units d (run k steps).notes) g.rest) steps old refl opened only h)
 added_none k limits (Cuts d piece units) c old new r g h =
@@ -100,7 +100,7 @@ opened_rests : (r : Option ApplyError) (k : Settings) (limits : Limits) (addr : 
 opened_rests None k limits addr c old new a = ap (λ (x : Reading). x.rests c) a
 opened_rests (Some refused) k limits addr c old new a = ap (λ (x : Reading). x.rests c) a
 
-pub begins_anew : (k : Settings) (limits : Limits) (inputs : List Input) (addr : List ℕ) (old new : Reading) (c : ℕ) → Reads k limits inputs old → LeadsTo k limits (Opens addr) old new
+pub begins_anew : (k : Settings) (limits : Limits) (inputs : List Input) (addr : List ℕ) (old new : Reading) (c : ℕ) → Reads k limits inputs old → ReadsOn k limits (Opens addr) old new
     → free_slot k (run k old.steps) ≡ Some c → new.rests c ≡ []
 begins_anew k limits inputs addr old new c r l free =
     opened_rests (refusal_of k (Opens addr) old) k limits addr c old new l

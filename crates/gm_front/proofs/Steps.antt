@@ -22,7 +22,7 @@ use Rattle.gm_history.specs.Causes.{Caused, AllCaused}
 use Rattle.gm_history.proofs.Caused.{caused}
 use Rattle.gm_history.proofs.StepsKeep.{run_history}
 use Rattle.gm_front.specs.Units.{step_of_unit}
-use Rattle.gm_front.specs.Inputs.{unless_refused, handed_in, with_units, with_fault, created_since}
+use Rattle.gm_front.specs.Inputs.{unless_refused, handed_in, with_units, faulted, created_since}
 
 -- ---- what is open and what is shut
 
@@ -89,7 +89,7 @@ units_only_shut k c (item ∷ items) steps =
     shuts_then (run k steps).notes (run k next).notes (run k (with_units k c items next)).notes
     (handed_only_shuts k (step_of_unit c item) steps (unit_inner c item)) (units_only_shut k c items next)
 
-pub fault_only_shuts : (k : Settings) (c : ℕ) (fault : Option UnitFault) (steps : List Step) → OnlyShuts (run k steps).notes (run k (with_fault k c fault steps)).notes
+pub fault_only_shuts : (k : Settings) (c : ℕ) (fault : Option UnitFault) (steps : List Step) → OnlyShuts (run k steps).notes (run k (faulted k c fault steps)).notes
 fault_only_shuts k c None steps = shuts_here (run k steps).notes
 fault_only_shuts k c (Some fault) steps = handed_only_shuts k (Fault c fault) steps refl
 

@@ -29,7 +29,7 @@ use Rattle.gm_front.specs.declared.input.StepError.{StepError}
 use Rattle.gm_front.specs.declared.input.StepError.TheVariants.{Refused, Cut}
 use Rattle.gm_front.specs.Units.{Stands, BeginsWith, ComesNext}
 use Rattle.gm_front.specs.Inputs.{Input, Opens, Gives, Cuts, Closes, Ticks, Takes, Withdraws, Drains, Reading, nothing_read}
-use Rattle.gm_front.specs.Inputs.{with_step, with_rest, with_units, with_fault, kept_if, given, closed, AddsUnless, refusal_of}
+use Rattle.gm_front.specs.Inputs.{with_step, with_rest, with_units, faulted, kept_if, given, with_closed, AddsUnless, refusal_of}
 use Rattle.gm_front.specs.Inputs.{created_since, done_by}
 use Rattle.gm_front.specs.Feeding.{TakesPiece, CutsShort}
 use Rattle.gm_front.specs.Fronts.{Feeds, FeedsIfOpen, Holds, IsHeld, Agrees, IsTaken, IsRefused, IsCutAt, Serves, inputs_after}
@@ -166,7 +166,7 @@ closes {S} agrees k limits reading c answer stepped front front' server h a feed
     let opened = was_open (is_open c l) a.0.0 in
     let lt = feeder_at limits c l (reading.rests c) front.feeders.items (nat_lt c (length front.feeders.items)) refl opened (h.held c) in
     record {
-      new = closed c reading.steps reading.rests;
+      new = with_closed c reading.steps reading.rests;
       stands = a.0.0;
       adds = refl;
       done = says ∙ done_is k (Close c) reading.steps answer a.0.0 a.0.1;
@@ -200,7 +200,7 @@ takes_open false s e = absurd cc
 
 -- once a fault was handed in, the slot is shut
 sound : (k : Settings) (c : ℕ) (fault : Option UnitFault) (steps : List Step) (answered : Option FeedFault) → is_open c (run k steps).notes ≡ true
-    → (fault ≡ None → answered ≡ None) → is_shut c (run k (with_fault k c fault steps)).notes ≡ false → answered ≡ None
+    → (fault ≡ None → answered ≡ None) → is_shut c (run k (faulted k c fault steps)).notes ≡ false → answered ≡ None
 sound k c None steps answered o h shut = h refl
 sound k c (Some fault) steps answered o h shut = absurd (let yes = fault_shuts k c fault steps o in let bad : true ≡ false = sym yes ∙ shut in let no : ⊥ = cc in no)
 
@@ -221,7 +221,7 @@ gives agrees k limits reading c piece created stepped front front' old new h lt 
     let unshut = not_shut (is_open c past.notes) (is_shut c past.notes) feeder.opened closing in
     let fed = feeder.fed unshut in
     let mid : List Step = with_units k c t.items reading.steps in
-    let steps : List Step = with_fault k c t.fault mid in
+    let steps : List Step = faulted k c t.fault mid in
     let units = units_only_shut k c t.items reading.steps in
     let only : OnlyShuts past.notes (run k steps).notes = shuts_then past.notes (run k mid).notes (run k steps).notes units (fault_only_shuts k c t.fault mid) in
     let rest : List ℕ = new.pending in
@@ -299,7 +299,7 @@ cuts {S} agrees k limits reading c piece units r front front' server server' old
     let filled : List (Option Stream) = set front.feeders.items c (Some new) in
     let lt' : c < length filled = omega (arith, lt, length-set front.feeders.items c (Some new)) in
     record {
-      new = closed c steps reading.rests;
+      new = with_closed c steps reading.rests;
       stands = ap unless_not_open stands;
       adds = record {
         items = t.items;

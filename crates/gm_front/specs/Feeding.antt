@@ -8,7 +8,7 @@ use Rattle.gm_notes.specs.Notes.{takes_units}
 use Rattle.gm_notes.specs.Steps.{Step, refusal, run}
 use Rattle.gm_front.specs.declared.feeding.Unloaded.{Unloaded}
 use Rattle.gm_front.specs.Units.{Stands, BeginsWith, ComesNext}
-use Rattle.gm_front.specs.Inputs.{with_units, with_fault, created_since}
+use Rattle.gm_front.specs.Inputs.{with_units, faulted, created_since}
 
 -- whatever steps the server agreed with, it agrees with these afterwards, and this is the newest job that was made
 abbrev pub AgreesAfter : {S : Type 0} → (S → Settings → List Step → Type 0) → (Settings → List Step → List Step) → Option ℕ → S → S → Type 0
@@ -48,4 +48,4 @@ pub record TakesPiece {S : Type 0} (agrees : S → Settings → List Step → Ty
   pub standing : Stands old.limits new.pending fault
   pub limited : new.limits ≡ old.limits
   pub sound : fault ≡ None → new.fault ≡ None
-  pub after : AgreesAfter agrees (λ k steps. with_fault k c fault (with_units k c items steps)) created server server'
+  pub after : AgreesAfter agrees (λ k steps. faulted k c fault (with_units k c items steps)) created server server'

@@ -76,9 +76,9 @@ with_units k c [] steps = steps
 with_units k c (item ∷ items) steps = with_units k c items (handed_in k (step_of_unit c item) steps)
 
 -- a fault of slot c is, where there is one
-abbrev pub with_fault : Settings → ℕ → Option UnitFault → List Step → List Step
-with_fault k c None steps = steps
-with_fault k c (Some fault) steps = handed_in k (Fault c fault) steps
+abbrev pub faulted : Settings → ℕ → Option UnitFault → List Step → List Step
+faulted k c None steps = steps
+faulted k c (Some fault) steps = handed_in k (Fault c fault) steps
 
 -- ---- pieces
 
@@ -90,7 +90,7 @@ kept_if false rest = []
 -- the units of slot c were handed in, and the fault at the rest, if there is one
 abbrev pub given : Settings → ℕ → List Item → List ℕ → Option UnitFault → Reading → Reading
 given k c items rest fault old =
-    let steps = with_fault k c fault (with_units k c items old.steps) in
+    let steps = faulted k c fault (with_units k c items old.steps) in
     record { steps = steps; rests = with_rest c (kept_if (takes_units c (run k steps).notes) rest) old.rests }
 
 -- A piece of slot c: the rest and the piece spell units and a new rest; the units are handed in, and then the fault
@@ -104,8 +104,8 @@ pub record GivesPiece (k : Settings) (limits : Limits) (c : ℕ) (piece : List �
   pub adds : new ≡ given k c items rest fault old
 
 -- slot c is closed; what made no unit goes with it
-abbrev pub closed : ℕ → List Step → (ℕ → List ℕ) → Reading
-closed c steps rests = record { steps = Close c ∷ steps; rests = with_rest c [] rests }
+abbrev pub with_closed : ℕ → List Step → (ℕ → List ℕ) → Reading
+with_closed c steps rests = record { steps = Close c ∷ steps; rests = with_rest c [] rests }
 
 -- A piece of slot c that was cut: a count of units begins the rest and the piece; they were taken, all of
 -- them, and what comes next wasn't, a unit or a fault; or, where there was no memory for the piece, no unit was. Then the slot was closed.
@@ -116,7 +116,7 @@ pub record CutsPiece (k : Settings) (limits : Limits) (c : ℕ) (piece : List �
   pub begins : BeginsWith limits (old.rests c ++ piece) items rest
   pub left : (units ≡ 0) ⊎ ComesNext limits rest
   pub taken : takes_units c (run k (with_units k c items old.steps)).notes ≡ true
-  pub adds : new ≡ closed c (with_units k c items old.steps) old.rests
+  pub adds : new ≡ with_closed c (with_units k c items old.steps) old.rests
 
 -- ---- inputs
 
@@ -136,7 +136,7 @@ abbrev pub Adds : Settings → Limits → Input → Reading → Reading → Type
 Adds k limits (Opens addr) old new = new ≡ with_step (Open addr) old
 Adds k limits (Gives c piece) old new = GivesPiece k limits c piece old new
 Adds k limits (Cuts c piece units) old new = CutsPiece k limits c piece units old new
-Adds k limits (Closes c) old new = new ≡ closed c old.steps old.rests
+Adds k limits (Closes c) old new = new ≡ with_closed c old.steps old.rests
 Adds k limits (Ticks now) old new = new ≡ with_step (Tick now) old
 Adds k limits (Takes c) old new = new ≡ with_step (Took c) old
 Adds k limits (Withdraws c) old new = new ≡ with_step (Withdrew c) old
@@ -148,13 +148,13 @@ AddsUnless None k limits input old new = Adds k limits input old new
 AddsUnless (Some refused) k limits input old new = new ≡ old
 
 -- an input leads from what the inputs before it spell to this
-abbrev pub LeadsTo : Settings → Limits → Input → Reading → Reading → Type 0
-LeadsTo k limits input old new = AddsUnless (refusal_of k input old) k limits input old new
+abbrev pub ReadsOn : Settings → Limits → Input → Reading → Reading → Type 0
+ReadsOn k limits input old new = AddsUnless (refusal_of k input old) k limits input old new
 
 -- these inputs, the newest first, spell this
 abbrev pub Reads : Settings → Limits → List Input → Reading → Type 0
 Reads k limits [] reading = reading ≡ nothing_read
-Reads k limits (input ∷ older) reading = (before : Reading) × Reads k limits older before × LeadsTo k limits input before reading
+Reads k limits (input ∷ older) reading = (before : Reading) × Reads k limits older before × ReadsOn k limits input before reading
 
 -- ---- answers
 

@@ -9,7 +9,7 @@ ghost use Rattle.gm_notes.specs.Notes.{is_open};
 ghost use Rattle.gm_notes.specs.Steps.{free_slot};
 ghost use Rattle.gm_notes.specs.Steps.{run};
 ghost use Rattle.gm_history.specs.Laws.{SentSo};
-ghost use Rattle.gm_front.specs.Inputs.{Input, Opens, Gives, Reading, LeadsTo, Reads, refusal_of};
+ghost use Rattle.gm_front.specs.Inputs.{Input, Opens, Gives, Reading, ReadsOn, Reads, refusal_of};
 
 /// Inputs spell one list of steps, and one rest for each slot.
 pub fn one_reading()
@@ -30,7 +30,7 @@ pub fn closing_forgets()
     ensures forgets { (k : Settings) (limits : Limits) (inputs : List Input) (reading : Reading) (c : ℕ)
         → Reads k limits inputs reading → is_open c (run k reading.steps).notes ≡ false → reading.rests c ≡ [] }
     ensures begins { (k : Settings) (limits : Limits) (inputs : List Input) (addr : List ℕ) (old new : Reading) (c : ℕ)
-        → Reads k limits inputs old → LeadsTo k limits (Opens addr) old new
+        → Reads k limits inputs old → ReadsOn k limits (Opens addr) old new
         → free_slot k (run k old.steps) ≡ Some c → new.rests c ≡ [] }
 {}
 
@@ -44,5 +44,5 @@ pub fn bytes_queued()
 /// An input that is refused adds nothing.
 pub fn refused_step()
     ensures { (k : Settings) (limits : Limits) (input : Input) (old new : Reading) (refused : ApplyError)
-        → refusal_of k input old ≡ Some refused → LeadsTo k limits input old new → new ≡ old }
+        → refusal_of k input old ≡ Some refused → ReadsOn k limits input old new → new ≡ old }
 {}
