@@ -28,19 +28,21 @@ class Server(loopback.Server):
         super().__init__(GMD, *options, under=under, env={**PATH, **(env or {})}, told=told)
 
     def is_idle(self):
-        """It is there, and uses next to no processor time."""
+        """It is there, and uses next to no processor time in one of five seconds. In others the machine may fetch its memory again."""
         def used():
             with open(f"/proc/{self.process.pid}/stat", encoding="ascii") as stat:
                 fields = stat.read().rpartition(")")[2].split()
             return (int(fields[11]) + int(fields[12])) / os.sysconf("SC_CLK_TCK")
 
-        before, begun = used(), time.monotonic()
-        time.sleep(1)
-        part = (used() - before) / (time.monotonic() - begun)
-        if self.process.poll() is not None:
-            raise Wrong(f"it ended with status {self.process.returncode}, and said {self.errors()!r}")
-        if part >= BUSY:
-            raise Wrong(f"{part:.0%} of a processor while nothing happens")
+        parts = []
+        while not parts or parts[-1] >= BUSY:
+            if len(parts) == 5:
+                raise Wrong(f"{min(parts):.0%} of a processor while nothing happens")
+            before, begun = used(), time.monotonic()
+            time.sleep(1)
+            parts.append((used() - before) / (time.monotonic() - begun))
+            if self.process.poll() is not None:
+                raise Wrong(f"it ended with status {self.process.returncode}, and said {self.errors()!r}")
 
     def stops(self, client):
         """A client's shutdown is answered, and it ends well."""
