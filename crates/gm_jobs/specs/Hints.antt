@@ -1,4 +1,4 @@
--- The numbers of jobs that may be of the kind that is asked for.
+-- Hints: for each question about jobs a list of the numbers of all jobs that meet it, and perhaps of others.
 use Rattle.std.specs.Prelude.{◌≡◌, ℕ, Bool, true, false, List, [], Contains, slice_index_or, Option, Some, None, min, if◌then◌else◌}
 use Rattle.std.specs.Map.{keys_of}
 use Rattle.gm_jobs.specs.declared.job.Query.{Query}

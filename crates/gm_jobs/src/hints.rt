@@ -1,4 +1,4 @@
-//! Hints: the numbers of jobs that may be of the kind that is asked for.
+//! Hints: for each question about jobs a list of the numbers of all jobs that meet it, and perhaps of others.
 
 ghost use Rattle.std.specs.Prelude.{◌≡◌, ℕ, ◌<◌, true, Option, Some, None, Contains, slice_get, slice_index_or, [], IfSome, IfNone, IsSome, ◌≤◌, ◌^◌};
 ghost use Rattle.std.specs.List.Sorted.{IsNonDecreasingBy};
@@ -12,10 +12,10 @@ use crate::job::Query;
 use std::alloc::{AllocError, Global};
 use std::marker::Model;
 
-/// The numbers of jobs that may be of the kind that is asked for.
+/// The numbers of all jobs that meet one question, as of those that run at a slot, and perhaps of others.
 ///
-/// Each is compared with its job, so a number whose job isn't of that kind any more does no harm. A number for which
-/// there was no room is missing: from then on all jobs are looked at.
+/// Each number is compared with its job, so the number of a job that no longer meets the question does no harm. If there is no
+/// room for a number, it is missing: from then on all jobs are looked at.
 #[derive(Drop)]
 pub(crate) struct Hints {
     numbers: Vec<u64>,

@@ -6,7 +6,7 @@ use Rattle.gm_notes.specs.declared.note.Note.TheVariants.{Made}
 use Rattle.gm_notes.specs.Jobs.{made}
 use Rattle.gm_plain.proofs.NoteLemmas.{note_next}
 
--- how many of the oldest notes' jobs pass
+-- Of the jobs that the first `i` notes made, this many pass.
 abbrev pub Counted : (ℕ → Bool) → List Note → ℕ → ℕ → Type 0
 Counted P notes i count = (count ≡ length (filter P (made (reverse (take i notes))))) × (count ≤ i)
 

@@ -26,7 +26,7 @@ pub struct SlotFacts<'a> {
     pub phase: Phase,
 }
 
-/// What is seen of a slot that no note mentions.
+/// What is seen of a slot before any note mentions it.
 const UNSEEN: SlotFacts<'static> = SlotFacts {
     is_open: false,
     is_shut: false,

@@ -37,7 +37,7 @@ pub struct JobFacts<'a> {
     pub deadline: Option<u64>,
 }
 
-/// What is known of a job that no note mentions.
+/// What is known of a job before any note mentions it.
 const UNKNOWN: JobFacts<'static> = JobFacts {
     job: None,
     place: Place::Unmade,
