@@ -16,7 +16,7 @@ use Rattle.gm_core.specs.Facts.{ConnFacts}
 use Rattle.gm_core.specs.Holds.{outbox, AllTouched, HoldsConns, NamesFunctions}
 use Rattle.gm_core.proofs.ConnLemmas.{conn_changes, same_here}
 use Rattle.gm_core.specs.Telling.{hears, poured, needed, Roomed}
-use Rattle.gm_core.specs.Writing.{Text, IsFor}
+use Rattle.gm_core.specs.Writing.{Text, CanBePut}
 
 -- from some bytes that wait, telling the slots that are left leads where telling all led from the first
 pub record Pouring (k : Settings) (table : Table) (names : List (List ℕ)) (facts : ConnFacts) (text all left : List ℕ) (bytes : ℕ → List ℕ) : Type 0 where
@@ -191,12 +191,12 @@ unheard_next P slots i lt deaf =
 
 -- ---- the text that is told
 
-module _ (first now new : Text) (was : now ≡ record first { owners = now.owners }) (slots : List ℕ) (i : ℕ) (owned : IsFor (length (drop i slots)) now) (lt : i < length slots) where
+module _ (first now new : Text) (was : now ≡ record first { owners = now.owners }) (slots : List ℕ) (i : ℕ) (owned : CanBePut (length (drop i slots)) now) (lt : i < length slots) where
   -- it was put to a slot
   pub text_put : new ≡ record now { owners = now.owners - 1 } → new ≡ record first { owners = new.owners }
   text_put is = is ∙ (ap (λ (t : Text). record t { owners = now.owners - 1 }) was ∙ ap (λ (n : ℕ). record first { owners = n }) (sym (ap (λ (t : Text). t.owners) is)))
 
-  pub owned_put : new ≡ record now { owners = now.owners - 1 } → IsFor (length (drop (i + 1) slots)) new
+  pub owned_put : new ≡ record now { owners = now.owners - 1 } → CanBePut (length (drop (i + 1) slots)) new
   owned_put is shared =
       let enough = owned (sym (ap (λ (t : Text). t.is_shared) is) ∙ shared) in
       omega (arith, enough, length-drop i slots, length-drop (i + 1) slots, ap (λ (t : Text). t.owners) is, lt)
@@ -205,7 +205,7 @@ module _ (first now new : Text) (was : now ≡ record first { owners = now.owner
   pub text_same : new ≡ now → new ≡ record first { owners = new.owners }
   text_same is = is ∙ (was ∙ ap (λ (n : ℕ). record first { owners = n }) (sym (ap (λ (t : Text). t.owners) is)))
 
-  pub owned_same : new ≡ now → IsFor (length (drop (i + 1) slots)) new
+  pub owned_same : new ≡ now → CanBePut (length (drop (i + 1) slots)) new
   owned_same is shared =
       let enough = owned (sym (ap (λ (t : Text). t.is_shared) is) ∙ shared) in
       omega (arith, enough, length-drop i slots, length-drop (i + 1) slots, ap (λ (t : Text). t.owners) is, lt)

@@ -28,7 +28,7 @@ use Rattle.gm_jobs.specs.Tables as jobs
 use Rattle.gm_core.specs.declared.server.Tables.{Tables}
 use Rattle.gm_actions.specs.Effects.{Changes, Agrees}
 use Rattle.gm_notes.specs.Submissions.{Submission, is_bad_name, keep_or_listen}
-use Rattle.gm_core.specs.Writing.{IsFor}
+use Rattle.gm_core.specs.Writing.{CanBePut}
 use Rattle.gm_core.specs.Facts.{Seen, ConnFacts, FunctionFacts, JobFacts, conn_facts, function_facts, job_facts, queued, running_with}
 
 -- ---- connections
@@ -197,7 +197,7 @@ Goes old new change = Changes config_of Keeps TouchesAll old new change
 pub record CanSend (tables : Tables) (c : ℕ) : Type 0 where
   pub opened : IsOpen tables.conns c
   pub room : tables.text.cost ≤ (conn tables.conns c).room
-  pub owned : IsFor 1 tables.text
+  pub owned : CanBePut 1 tables.text
 
 -- a function of this name can be mentioned, and wasn't yet
 pub record IsNewName (tables : Tables) (name : List ℕ) : Type 0 where

@@ -20,8 +20,8 @@ pub record IsLight (text : Text) : Type 0 where
   pub short : length text.bytes ≤ 65536
 
 -- it can be put to this number of queues
-abbrev pub IsFor : ℕ → Text → Type 0
-IsFor count text = IsTrue text.is_shared → count ≤ text.owners
+abbrev pub CanBePut : ℕ → Text → Type 0
+CanBePut count text = IsTrue text.is_shared → count ≤ text.owners
 
 -- how much of a queue's room the body takes
 abbrev pub shared_room : Option (List ℕ) → ℕ

@@ -8,7 +8,7 @@ ghost use Rattle.gm_conns.specs.ConnTables.{IsOpen, conn};
 ghost use Rattle.gm_core.specs.Facts.{ConnFacts};
 ghost use Rattle.gm_core.specs.Holds.{HoldsConns};
 ghost use Rattle.gm_core.specs.Telling.{hears, poured, needed, Roomed, Poured};
-ghost use Rattle.gm_core.specs.Writing.{IsFor};
+ghost use Rattle.gm_core.specs.Writing.{CanBePut};
 
 use crate::written::Written;
 use gm_actions::WorkPacket;
@@ -70,7 +70,7 @@ pub(crate) fn prepare_each(
     requires fits { WorkFits packet.now }
     ensures roomed { Roomed conns.old conns.new }
     ensures text { OnOk result (text.new.bytes ≡ answer_packet (answer_of packet.now.response)) }
-    ensures owned { OnOk result (IsFor (length slots.now) text.new) }
+    ensures owned { OnOk result (CanBePut (length slots.now) text.new) }
     ensures room { OnOk result ((c : ℕ) → needed text.new.cost c (filter (hears conns.new packet.now.exceptions_only) slots.now) ≤ (conn conns.new c).room) }
 {
     text.write(&packet.response, packet.body.as_ref())?;
@@ -82,7 +82,7 @@ pub(crate) fn prepare_each(
 /// Queues a text to each of these slots that hears, where there is room.
 pub(crate) fn put_each(conns: &mut Conns, slots: &[u32], exceptions_only: bool, text: &mut Written)
     requires room { (c : ℕ) → needed text.old.cost c (filter (hears conns.old exceptions_only) slots.now) ≤ (conn conns.old c).room }
-    requires owned { IsFor (length slots.now) text.old }
+    requires owned { CanBePut (length slots.now) text.old }
     ensures poured { Poured text.old.cost (filter (hears conns.old exceptions_only) slots.now) conns.old conns.new }
     ensures holds { (k : Settings) (names : List (List ℕ)) (facts : ConnFacts) (bytes : ℕ → List ℕ) → HoldsConns k conns.old names facts bytes
         → HoldsConns k conns.new names facts (poured text.old.bytes (filter (hears conns.old exceptions_only) slots.now) bytes) }

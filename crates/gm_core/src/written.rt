@@ -8,7 +8,7 @@ ghost use Rattle.gm_packet.specs.Packets.{Fits};
 ghost use Rattle.gm_conns.specs.Connections.{with_bytes};
 ghost use Rattle.gm_conns.specs.ConnTables.{IsOpen, conn, Changes};
 ghost use Rattle.gm_actions.specs.Bodies.{EndsWith};
-ghost use Rattle.gm_core.specs.Writing.{bare_answer, copied_text, IsFor, IsLight};
+ghost use Rattle.gm_core.specs.Writing.{bare_answer, copied_text, CanBePut, IsLight};
 
 use gm_bytes::{Data, SHARED_ROOM, SharedBytes};
 use gm_conns::Conns;
@@ -169,7 +169,7 @@ impl Written {
 
     /// Makes it ready to be put to this number of queues.
     pub(crate) fn own(&mut self, count: usize) -> Result<(), AllocError>
-        ensures ok { OnOk result (IsFor count self.new) }
+        ensures ok { OnOk result (CanBePut count self.new) }
         ensures bytes { self.new.bytes ≡ self.old.bytes }
         ensures cost { self.new.cost ≡ self.old.cost }
     {
@@ -183,7 +183,7 @@ impl Written {
     pub(crate) fn put(&mut self, conns: &mut Conns, slot: u32)
         requires open { IsOpen conns.old slot }
         requires room { self.old.cost ≤ (conn conns.old slot).room }
-        requires owned { IsFor 1 self.old }
+        requires owned { CanBePut 1 self.old }
         ensures conns { Changes slot (with_bytes self.old.bytes self.old.cost) true conns.old conns.new }
         ensures text { self.new ≡ record self.old { owners = self.old.owners - 1 } }
     {

@@ -22,7 +22,7 @@ use Rattle.std.proofs.lemmas.Slice.Eq.{bytes_eq-Decides}
 use Rattle.gm_jobs.specs.Uniques.{IdTable, LeadsTo, digest_of}
 use Rattle.gm_jobs.proofs.UniqueLemmas.{leads_same}
 use Rattle.gm_jobs.proofs.NumberLemmas.{not_some, number_same}
-use Rattle.gm_jobs.specs.Kept.{Beside, IsKnown, IsReady, IsKept}
+use Rattle.gm_jobs.specs.Kept.{Beside, IsInAllTables, IsReady, IsKept}
 
 -- one job is named as another where their functions and unique ids are the same
 both_parts : (a b : Bool) → (a && b) ≡ true → (a ≡ true) × (b ≡ true)
@@ -191,7 +191,7 @@ module _ (b : Beside) (old : List (ℕ × Live)) where
             let same : made ≡ live = some_same made live (sym made_here ∙ ap (find_job new) (sym is) ∙ e) in
             subst (λ i. IsHinted (hints_of index q) i) (sym is) (first q (ap (meets q) same ∙ met))
 
-        known : (n : ℕ) (live : Live) → find_job new n ≡ Some live → (n ≡ b.next) ⊎ (n ≡ b.next → ⊥) → IsKnown (record b { next = b.next + 1; left = left; uniques = uniques; index = index }) n live
+        known : (n : ℕ) (live : Live) → find_job new n ≡ Some live → (n ≡ b.next) ⊎ (n ≡ b.next → ⊥) → IsInAllTables (record b { next = b.next + 1; left = left; uniques = uniques; index = index }) n live
         known n live e (inr ne) =
             let was = k.known n live (sym (made_other n ne) ∙ e) in
             record {

@@ -18,8 +18,8 @@ pub record Beside : Type 0 where
   pub index : HintTable
   pub deadlines : DeadlineTable
 
--- Each table knows a live job: its number was given out, its unique id leads to it if it names it, and its deadline is listed.
-pub record IsKnown (b : Beside) (n : ℕ) (live : Live) : Type 0 where
+-- Each table has a live job: its number was given out, its unique id leads to it if it names it, and its deadline is listed.
+pub record IsInAllTables (b : Beside) (n : ℕ) (live : Live) : Type 0 where
   pub made : b.first ≤ n
   pub spent : n < b.next
   pub led : joins live.unique ≡ true → LeadsTo b.uniques (digest_of b.seed live.function live.unique) n
@@ -31,10 +31,10 @@ pub record IsReady (b : Beside) (spare : ℕ) : Type 0 where
   pub id : 0 < b.uniques.room
   pub number : b.left ≡ true
 
--- The invariant: the tables know each live job, it is found by each question that it meets, no unique id names two live
+-- The invariant: each live job is in all tables, it is found by each question that it meets, no unique id names two live
 -- jobs of one function, and where room is reserved each table has it.
 pub record IsKept (b : Beside) (room : Option Room) (spare : ℕ) (jobs : List (ℕ × Live)) : Type 0 where
-  pub known : (n : ℕ) (live : Live) → find_job jobs n ≡ Some live → IsKnown b n live
+  pub known : (n : ℕ) (live : Live) → find_job jobs n ≡ Some live → IsInAllTables b n live
   pub found : AllFound jobs b.index
   pub single : (n m : ℕ) (live other : Live) → find_job jobs n ≡ Some live → find_job jobs m ≡ Some other → joins live.unique ≡ true → is_named live.function live.unique other ≡ true → n ≡ m
   pub order : b.first ≤ b.next

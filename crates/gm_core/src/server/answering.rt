@@ -8,7 +8,7 @@ ghost use Rattle.gm_conns.specs.ConnTables.{IsOpen, Changes};
 ghost use Rattle.gm_notes.specs.Past.{with_output, give, refuse};
 ghost use Rattle.gm_actions.specs.Bodies.{EndsWith};
 ghost use Rattle.gm_actions.specs.Refusals.{code_of};
-ghost use Rattle.gm_core.specs.Writing.{IsFor};
+ghost use Rattle.gm_core.specs.Writing.{CanBePut};
 
 use super::Tables;
 use crate::written::Written;
@@ -30,7 +30,7 @@ pub(super) fn prepare(
     requires fits { Fits (answer_of response.now).arguments }
     requires ends { IfSome body (λ body. EndsWith body.now.bytes.now (answer_of response.now)) }
     ensures text { OnOk result (text.new.bytes ≡ answer_packet (answer_of response.now)) }
-    ensures owned { OnOk result (IsFor 1 text.new) }
+    ensures owned { OnOk result (CanBePut 1 text.new) }
     ensures conns { OnOk result (Changes slot (with_room text.new.cost) false conns.old conns.new) }
     ensures err { OnErr result (conns.new ≡ conns.old) }
 {

@@ -4,7 +4,7 @@ use Rattle.gm_conns.specs.ConnTables.{conn}
 use Rattle.gm_core.specs.Facts.{ConnFacts}
 use Rattle.gm_core.specs.Holds.{HoldsConns, AllTouched}
 use Rattle.gm_core.specs.Telling.{hears, needed}
-use Rattle.gm_core.specs.Writing.{IsFor}
+use Rattle.gm_core.specs.Writing.{CanBePut}
 use Rattle.gm_core.proofs.TellLemmas.{Pouring}
 use Rattle.gm_core.proofs.telling.put_each.Given as goal
 
@@ -13,7 +13,7 @@ invariant-loop-slot l = record {
   hear : (e : Bool) (c : ℕ) → hears l.conns e c ≡ hears l.fn.conns e c;
   room : (c : ℕ) → needed l.fn.text.cost c (filter (hears l.fn.conns l.exceptions_only) (drop l.slot-index l.slots)) ≤ (conn l.conns c).room;
   text : l.text ≡ record l.fn.text { owners = l.text.owners };
-  owned : IsFor (length (drop l.slot-index l.slots)) l.text;
+  owned : CanBePut (length (drop l.slot-index l.slots)) l.text;
   touched : AllTouched l.fn.conns l.conns;
   left : (c : ℕ) → (conn l.fn.conns c).room + needed l.fn.text.cost c (filter (hears l.fn.conns l.exceptions_only) (drop l.slot-index l.slots))
       ≤ (conn l.conns c).room + needed l.fn.text.cost c (filter (hears l.fn.conns l.exceptions_only) l.slots);

@@ -2,7 +2,7 @@ use Rattle.std.proofs.Common.{◌≡◌, ◌+◌, ◌-◌, ◌<◌, ◌≤◌, [
 use Rattle.std.specs.Option.{unwrap_or}
 use Rattle.gm_conns.specs.Connections.{with_bytes}
 use Rattle.gm_conns.specs.ConnTables.{Table, Changes}
-use Rattle.gm_core.specs.Writing.{Text, IsFor, shared_room}
+use Rattle.gm_core.specs.Writing.{Text, CanBePut, shared_room}
 use Rattle.gm_core.proofs.written.Written.put.Goals as goal
 use Rattle.gm_core.proofs.written.Written.put.Goals.{in-Some, in-None}
 
@@ -27,7 +27,7 @@ returns-clause-conns c =
           (subst (λ (conns : Table). Changes slot (with_bytes (copied ++ w.in-Some.owner) (length copied + 512)) true old conns) (sym w.conns-is)
           (subst (λ (l : List ℕ). Changes slot (with_bytes (l ++ w.in-Some.owner) (length l + 512)) true old w.put_shared.new.self) w.as_slice.ensures.value w.put_shared.ensures)))
       | in-None w ↦
-          let owned = subst (λ (t : Text). IsFor 1 t) (sym c.self.view_is) c.requires.owned in
+          let owned = subst (λ (t : Text). CanBePut 1 t) (sym c.self.view_is) c.requires.owned in
           let body : c.self.inside.body ≡ None = not_shared c.self.inside.body (length c.self.inside.owners.items) owned (omega (arith, c.self.inside.owners.ok.0, w.in-None.ensures.cases.0)) in
           subst (λ (t : Text). Changes slot (with_bytes t.bytes t.cost) true old c.match-pop.conns) c.self.view_is
           (subst (λ (b : Option (List ℕ)). Changes slot (with_bytes (copied ++ unwrap_or b []) (length copied + shared_room b)) true old c.match-pop.conns) (sym body)
