@@ -24,8 +24,13 @@ use gm_conns::SlotSet;
 use gm_notes::ApplyError;
 use gm_word::{PenSeat, SleepTable};
 use std::alloc::{AllocError, Global};
+use std::hint::spin_loop;
 use std::marker::PhantomData;
-use std::sync::{Mutex, Wait};
+use std::sync::{Mutex, MutexGuard, Wait};
+
+/// How often a thread looks whether the book's lock is free, before it sleeps until it is. With as few as a hundred looks most of those that
+/// sleep find the lock free at once; with as many as 2,000, threads that outnumber the processors wait for each other.
+const MOST_LOOKS: u32 = 300;
 
 /// The book of a job server, which threads share: the sleep words, and the core under its lock.
 #[derive(Drop)]
@@ -99,6 +104,17 @@ impl<K: BookName> Shared<K> {
         };
         Ok((shared, desks, pens, control))
     }
+
+    /// Takes the book's lock. It is held for about a microsecond, so a thread looks for a while whether it is free, before it sleeps.
+    fn lock_book(&self, rt: &impl Wait) -> MutexGuard<'_, Guarded<K>> {
+        for _ in 0..MOST_LOOKS {
+            if let Some(guard) = self.book.try_lock() {
+                return guard;
+            }
+            spin_loop();
+        }
+        self.book.lock(rt)
+    }
 }
 
 impl<K: BookName> Desk<K> {
@@ -145,8 +161,7 @@ impl<K: BookName> Desk<K> {
         // Modelled in models/deliver.pml.
         let mut freed = None;
         let result = shared
-            .book
-            .lock(rt)
+            .lock_book(rt)
             .apply(shared, self, read, touched, &mut freed);
         drop(freed);
         result
@@ -201,7 +216,7 @@ impl<K: BookName> Pen<K> {
         ensures seat { self.new.seat ≡ self.old.seat }
     {
         // Modelled in models/lane.h.
-        shared.book.lock(rt).drain(shared, self)
+        shared.lock_book(rt).drain(shared, self)
     }
 }
 
