@@ -19,9 +19,13 @@ abbrev pub openings : ℕ → List Entry → ℕ
 openings c [] = 0
 openings c (e ∷ older) = opened_by c e.step e.answer (openings c older)
 
+-- the greatest count of openings, at which a counter of 64 bits stays
+abbrev pub most_openings : ℕ
+most_openings = 2 ^ 64 - 1
+
 -- what a counter of 64 bits says
 abbrev pub counted : ℕ → ℕ
-counted n = min n (2 ^ 64 - 1)
+counted n = min n most_openings
 
 -- how often the slot that was opened, if one was, had been opened then
 abbrev pub opening_in : Option ℕ → List Entry → ℕ

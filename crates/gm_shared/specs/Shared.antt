@@ -95,7 +95,7 @@ IsShareOf taped log share = share.1 ≡ share_of taped share.0 log
 
 -- What a book was when it ended: the history that is handed out is legal, the core agrees with its steps, and the tape, if one was kept, is it.
 -- Each entry is of an actor of this book. These are the shares of the desks and pens that were given back, each what the history has of its
--- own, and these their witnesses.
+-- own, and these their witnesses. Its counters say how often slots were opened.
 pub record IsEnded (k : Settings) (taped : Bool) (settled : Settled) (shares : List (Actor × List Told)) (witnesses : List WitnessState) : Type 0 where
   pub log : List Entry
   pub log_is : settled.history.log ≡ log
@@ -106,6 +106,7 @@ pub record IsEnded (k : Settings) (taped : Bool) (settled : Settled) (shares : L
   pub shares_are : map told_by settled.shares.items ≡ shares
   pub exact : All (IsShareOf taped log) shares
   pub seen : All (HasSeenOwn log) witnesses
+  pub counts : Counts k.slots settled.openings log
 
 -- The shares add up, and the pens took what was entered.
 pub record IsSettled (k : Settings) (taped : Bool) (settled : Settled) (shares : List (Actor × List Told)) (witnesses : List WitnessState) (pens : List PenState) : Type 0 where

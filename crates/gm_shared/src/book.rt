@@ -169,13 +169,19 @@ impl Booked {
         })
     }
 
-    /// The core, the seat and the entries of the tape.
-    pub(crate) fn into_parts(self) -> (Core, BookSeat, Vec<Entry>)
+    /// The core, the seat, the entries of the tape, and how often each slot was opened.
+    pub(crate) fn into_parts(self) -> (Core, BookSeat, Vec<Entry>, Openings)
         ensures core { result.0 ≡ self.core }
         ensures seat { result.1 ≡ self.seat }
         ensures entries { result.2.items ≡ self.tape.entries.items }
+        ensures openings { result.3 ≡ self.openings }
     {
-        (self.core, self.seat, self.tape.into_entries())
+        (
+            self.core,
+            self.seat,
+            self.tape.into_entries(),
+            self.openings,
+        )
     }
 
     /// Whether an event withdraws the NOOP that its slot is still owed.

@@ -38,6 +38,7 @@ pub use blank::Blank;
 pub use book::Booked;
 pub use history::Keeper;
 pub use name::BookName;
+pub use openings::Openings;
 pub use receipt::{Drained, Receipt};
 pub use settling::{SettleError, Settled, settle};
 pub use shared::{Desk, Pen, Shared};

@@ -9,7 +9,7 @@ use std::marker::Model;
 
 /// How often each slot of a book was opened. At the greatest `u64` a count stays there. Contracts see the counts.
 #[derive(Drop)]
-pub(crate) struct Openings {
+pub struct Openings {
     counts: Vec<u64>,
 }
 
@@ -32,7 +32,7 @@ impl Openings {
     }
 
     /// How often this slot was opened.
-    pub(crate) fn of(&self, slot: u32) -> u64
+    pub fn of(&self, slot: u32) -> u64
         ensures { result ≡ count_at slot self.now }
     {
         match self.counts.get(slot as usize) {
