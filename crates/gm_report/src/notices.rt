@@ -75,7 +75,7 @@ impl Remark {
     }
 
     /// The trouble is over: where it comes again, it is said again.
-    fn clear(&mut self)
+    pub(crate) fn clear(&mut self)
         ensures { self.new.notice ≡ cleared self.old.notice }
     {
         match self.notice {
@@ -115,59 +115,24 @@ pub struct Counts {
     pub timed_out: u64,
 }
 
-/// The types of packets that came and aren't requests.
-#[derive(Clone, Copy)]
-struct UnknownTypes {
-    /// The first `count` are types that came, each with the peer that sent the first such packet.
-    noted: [(u32, Option<SocketAddr>); MOST_TYPES],
-    count: usize,
-    /// How many of them were said.
-    said: usize,
-}
-
-impl UnknownTypes {
-    fn new() -> UnknownTypes {
-        UnknownTypes {
-            noted: [(0, None); MOST_TYPES],
-            count: 0,
-            said: 0,
-        }
-    }
-
-    /// Whether packets of this type came before.
-    fn is_noted(&self, kind: u32) -> bool
-        ensures { result ≡ list_any (is_of_type kind) (take self.now.count self.now.noted) }
-    {
-        self.noted.iter().take(self.count).any(|one| one.0 == kind)
-    }
-
-    /// Notes that a packet of this type came from this peer. It says whether that is to be said: the first time, while there is
-    /// a place for the type.
-    fn note(&mut self, kind: u32, peer: Option<SocketAddr>) -> bool
-        ensures first { result ≡ (nat_lt self.old.count 64 && not (list_any (is_of_type kind) (take self.old.count self.old.noted))) }
-        ensures noted { result ≡ true → take self.new.count self.new.noted ≡ take self.old.count self.old.noted ++ (kind, peer) ∷ [] }
-        ensures said { self.new.said ≡ self.old.said }
-        ensures none { result ≡ false → self.new ≡ self.old }
-    {
-        if self.count >= MOST_TYPES || self.is_noted(kind) {
-            return false;
-        }
-        self.noted[self.count] = (kind, peer);
-        self.count += 1;
-        true
-    }
-}
-
 /// What is to be said, or was.
 #[derive(Clone, Copy)]
 pub(crate) struct Notices {
     pub(crate) troubles: [Remark; TROUBLES],
     pub(crate) counts: Counts,
-    unknown: UnknownTypes,
+    /// The types of packets that came and aren't requests: the first `type_count` are types that came, each with the peer that sent the
+    /// first such packet.
+    types: [(u32, Option<SocketAddr>); MOST_TYPES],
+    type_count: usize,
+    /// How many of them were said.
+    said_types: usize,
     /// There is something to be said.
     pub(crate) is_due: bool,
-    /// How the server ended.
+    /// How the server ended, and whether that was said.
     pub(crate) outcome: Option<Result<Summary, ServeError>>,
+    pub(crate) is_end_said: bool,
+    /// There is a thread that speaks.
+    pub(crate) has_thread: bool,
 }
 
 impl Notices {
@@ -185,9 +150,13 @@ impl Notices {
                 faulty: 0,
                 timed_out: 0,
             },
-            unknown: UnknownTypes::new(),
+            types: [(0, None); MOST_TYPES],
+            type_count: 0,
+            said_types: 0,
             is_due: false,
             outcome: None,
+            is_end_said: false,
+            has_thread: false,
         }
     }
 
@@ -212,28 +181,44 @@ impl Notices {
         }
     }
 
-    /// Systemd could be told how the server is.
-    pub(crate) fn clear_notify(&mut self) {
-        self.troubles[Trouble::Notify as usize].clear();
+    /// Whether packets of this type came before.
+    fn is_noted(&self, kind: u32) -> bool
+        ensures { result ≡ list_any (is_of_type kind) (take self.now.type_count self.now.types) }
+    {
+        self.types
+            .iter()
+            .take(self.type_count)
+            .any(|one| one.0 == kind)
     }
 
-    /// A packet of this type came from this peer, which isn't a request's. It says whether that is to be said.
-    pub(crate) fn note(&mut self, kind: u32, peer: Option<SocketAddr>) -> bool {
-        let is_due = self.unknown.note(kind, peer);
-        self.is_due = self.is_due || is_due;
-        is_due
+    /// A packet of this type came from this peer, which isn't a request's. It says whether that is to be said: the first time, while there
+    /// is a place for the type.
+    pub(crate) fn note(&mut self, kind: u32, peer: Option<SocketAddr>) -> bool
+        ensures first { result ≡ (nat_lt self.old.type_count 64 && not (list_any (is_of_type kind) (take self.old.type_count self.old.types))) }
+        ensures noted { result ≡ true → take self.new.type_count self.new.types ≡ take self.old.type_count self.old.types ++ (kind, peer) ∷ [] }
+        ensures said { self.new.said_types ≡ self.old.said_types }
+        ensures none { result ≡ false → self.new ≡ self.old }
+    {
+        if self.type_count >= MOST_TYPES || self.is_noted(kind) {
+            return false;
+        }
+        self.types[self.type_count] = (kind, peer);
+        self.type_count += 1;
+        self.is_due = true;
+        true
     }
 
     /// The types that are to be said, each with the peer that sent the first such packet.
-    pub(crate) fn types(&self) -> &[(u32, Option<SocketAddr>)] {
-        let UnknownTypes { noted, count, said } = &self.unknown;
-        noted.get(*said..*count).unwrap_or(&[])
+    pub(crate) fn due_types(&self) -> &[(u32, Option<SocketAddr>)] {
+        self.types
+            .get(self.said_types..self.type_count)
+            .unwrap_or(&[])
     }
 
     /// What was due is said.
     pub(crate) fn take(&mut self) {
         self.is_due = false;
-        self.unknown.said = self.unknown.count;
+        self.said_types = self.type_count;
         for remark in &mut self.troubles {
             remark.say();
         }

@@ -4,13 +4,11 @@
 use crate::error::ServeError;
 use crate::notices::{Counts, Notices, Remark, TROUBLES, Trouble};
 use crate::summary::Summary;
-use crate::timing::{PAUSE_MS, SAYING_TIME_MS, has_passed};
-use crossbeam_utils::sync::{Parker, Unparker};
+use crate::timing::{PAUSE_MS, SAYING_TIME_MS};
 use std::alloc::{AllocError, Global};
 use std::io::Error;
 use std::net::SocketAddr;
-use std::sync::atomic::{AtomicBool, Ordering};
-use std::sync::{Arc, Mutex, Wait};
+use std::sync::{Arc, Condvar, Mutex, Wait};
 use std::thread;
 use std::thread::Threads;
 use std::time::{Clock, Duration};
@@ -19,13 +17,8 @@ use std::time::{Clock, Duration};
 #[derive(Drop)]
 pub struct Speaker {
     remarks: Mutex<Notices>,
-    /// Wakes the thread that speaks.
-    speaking: Unparker,
-    /// Where the program's end waits for it, and what wakes that.
-    waiting: Mutex<Parker>,
-    spoken: Unparker,
-    /// Whether there is such a thread.
-    has_thread: AtomicBool,
+    /// The thread that speaks waits here for what it is to say, and the program's end for that thread.
+    changed: Condvar,
 }
 
 impl Speaker {
@@ -35,29 +28,24 @@ impl Speaker {
         alloc: Global,
         slots: u32,
     ) -> Result<Arc<Speaker, Global>, AllocError> {
-        let parker = Parker::new(alloc)?;
-        let waiting = Parker::new(alloc)?;
         let speaker = Arc::new(
             alloc,
             Speaker {
                 remarks: Mutex::new(Notices::new()),
-                speaking: parker.unparker().clone()?,
-                spoken: waiting.unparker().clone()?,
-                waiting: Mutex::new(waiting),
-                has_thread: AtomicBool::new(false),
+                changed: Condvar::new(),
             },
         )?;
         let same = Arc::try_clone(&speaker)?;
         let own_rt = *rt;
-        let made = thread::spawn(rt, move || same.run(&own_rt, &parker, slots));
-        speaker.has_thread.store(made.is_ok(), Ordering::SeqCst);
+        let made = thread::spawn(rt, move || same.run(&own_rt, slots));
+        speaker.remarks.lock(rt).has_thread = made.is_ok();
         Ok(speaker)
     }
 
     /// There is trouble, for this error of the system's.
     pub fn remark(&self, rt: &impl Wait, trouble: Trouble, error: i32) {
         if self.remarks.lock(rt).meet(trouble, error) {
-            self.speaking.unpark();
+            self.changed.notify_all();
         }
     }
 
@@ -68,13 +56,13 @@ impl Speaker {
 
     /// Systemd could be told how the server is.
     pub fn clear_notify(&self, rt: &impl Wait) {
-        self.remarks.lock(rt).clear_notify();
+        self.remarks.lock(rt).troubles[Trouble::Notify as usize].clear();
     }
 
     /// A packet of this type came from this peer, which isn't a request's.
     pub fn remark_type(&self, rt: &impl Wait, kind: u32, peer: Option<SocketAddr>) {
         if self.remarks.lock(rt).note(kind, peer) {
-            self.speaking.unpark();
+            self.changed.notify_all();
         }
     }
 
@@ -101,63 +89,60 @@ impl Speaker {
         rt: &R,
         outcome: Result<Summary, ServeError>,
     ) {
-        self.remarks.lock(rt).outcome = Some(outcome);
-        if self.has_thread.load(Ordering::SeqCst) {
-            self.speaking.unpark();
-            let waiting = self.waiting.lock(rt);
-            waiting.park_timeout(rt, Duration::from_millis(SAYING_TIME_MS));
+        let mut remarks = self.remarks.lock(rt);
+        remarks.outcome = Some(outcome);
+        if remarks.has_thread {
+            self.changed.notify_all();
+            let time = Duration::from_millis(SAYING_TIME_MS);
+            let _ = self
+                .changed
+                .wait_timeout_while(rt, remarks, time, |remarks| !remarks.is_end_said);
         } else {
-            say_end(rt, &outcome, self.counts(rt));
+            say_end(rt, &outcome, remarks.counts);
         }
     }
 
-    /// Takes what is to be said.
+    /// Waits until there is something to be said, and takes it.
     fn next(&self, rt: &impl Wait) -> Notices {
-        let mut remarks = self.remarks.lock(rt);
+        let mut remarks = self
+            .changed
+            .wait_while(rt, self.remarks.lock(rt), |remarks| {
+                !remarks.is_due && remarks.outcome.is_none()
+            });
         let due = *remarks;
         remarks.take();
         due
     }
 
-    /// Whether the server ended.
-    fn has_ended(&self, rt: &impl Wait) -> bool {
-        self.remarks.lock(rt).outcome.is_some()
-    }
-
     /// Waits for a while, or until the server ends.
-    fn pause(&self, rt: &(impl Wait + Clock), parker: &Parker) {
-        let pause = Duration::from_millis(PAUSE_MS);
-        let mut begun = None;
-        for _ in rt.forever() {
-            if has_passed(rt, &mut begun, pause) || self.has_ended(rt) {
-                break;
-            }
-            parker.park_timeout(rt, pause);
-        }
+    fn pause(&self, rt: &(impl Wait + Clock)) {
+        let time = Duration::from_millis(PAUSE_MS);
+        let _ = self
+            .changed
+            .wait_timeout_while(rt, self.remarks.lock(rt), time, |remarks| {
+                remarks.outcome.is_none()
+            });
     }
 
     /// Says what the others leave here, until the server ends.
-    fn run(&self, rt: &(impl Wait + Clock + Eprint), parker: &Parker, slots: u32) {
+    fn run(&self, rt: &(impl Wait + Clock + Eprint), slots: u32) {
         for _ in rt.forever() {
             let remarks = self.next(rt);
             say_due(rt, &remarks, slots);
             if let Some(outcome) = &remarks.outcome {
                 say_end(rt, outcome, remarks.counts);
-                self.spoken.unpark();
+                self.remarks.lock(rt).is_end_said = true;
+                self.changed.notify_all();
                 break;
             }
-            if remarks.is_due {
-                self.pause(rt, parker);
-            } else {
-                parker.park(rt);
-            }
+            self.pause(rt);
         }
     }
 }
 
 /// Says what is due. Where standard error fails, there is nobody to tell.
 fn say_due(rt: &impl Eprint, remarks: &Notices, slots: u32) {
-    for (kind, peer) in remarks.types() {
+    for (kind, peer) in remarks.due_types() {
         say_type(rt, *kind, peer);
     }
     say_troubles(rt, &remarks.troubles, slots);
