@@ -161,7 +161,9 @@ active proctype Control() {
             fi;
 #endif
             if
-            :: at == 3 -> fails--; LOCK(talk[0]); holds = true; cur = 0;   /* closed without a connection */
+            :: at == 3 -> fails--;
+                atomic { (lock[0] == 0) -> assert(line[0] == NO_LINE) };   /* Lane::refuse (lane.rt): begun, and let go of at once */
+                LOCK(talk[0]); holds = true; cur = 0;   /* closed without being served */
 #ifndef M_UNMADE_STAYS
                 fin = GONE
 #endif

@@ -580,7 +580,8 @@ inline end_lane(s, to) {
 #endif
 }
 
-/* Lane::open, Sender::begin and Outbox::begin, up to deliver_claimed. The model chooses the peer. */
+/* Lane::open, Sender::begin and Outbox::begin, up to deliver_claimed. The connection's opening is the next one, as `drain` asserts, so the line
+ * is open. The model chooses the peer. */
 inline open_lane(s) {
 #ifndef M_RESTART_AFTER_BEGIN
 #ifndef M_KEEP_ENDING

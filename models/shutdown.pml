@@ -161,7 +161,9 @@ active proctype Control() {
             fi;
 #endif
             if
-            :: at == 3 -> fails--; LOCK(talk[own]); holds = true; fin = GONE; cur = own   /* closed without a connection */
+            :: at == 3 -> fails--;
+                atomic { (lock[own] == 0) -> assert(line[own] == NO_LINE) };   /* Lane::refuse (lane.rt): begun, and let go of at once */
+                LOCK(talk[own]); holds = true; fin = GONE; cur = own   /* closed without being served */
             :: else -> cur = own; open_lane(cur); at = 2
             fi
         :: at == 2 ->

@@ -11,11 +11,10 @@ use std::alloc::{AllocError, Global};
 use std::collections::LinkedList;
 use std::marker::{Brand, Model};
 
-/// A connection that is gone: how often its slot had been opened with it, what its slot's pen had seen of the history when it came and when it
-/// went, how many NOOPs the pen had taken then, all that was written to it, and whether that is all that the pen gave. No value is made.
+/// A connection that is gone: what its slot's pen had seen of the history when it came and when it went, how many NOOPs the pen had taken then, all
+/// that was written to it, and whether that is all that the pen gave. No value is made.
 #[derive(Drop)]
 pub struct Past {
-    pub opening: u64,
     pub since: LinkedList<Entry>,
     pub takes: u64,
     pub until: LinkedList<Entry>,
@@ -71,26 +70,24 @@ impl Ledger {
     fn close_as<K: BookName, E: Worth<Account>>(
         &mut self,
         _outbox: &Outbox<K>,
-        _opening: u64,
         _half: &WriteHalf,
         _is_whole: bool,
     )
-        requires { E.worth ≡ closed _outbox.now.pen.witness.seen _outbox.now.pen.seat.takes _opening _half.now.socket.2 _is_whole self.old }
-        ensures { self.new ≡ closed _outbox.now.pen.witness.seen _outbox.now.pen.seat.takes _opening _half.now.socket.2 _is_whole self.old }
+        requires { E.worth ≡ closed _outbox.now.pen.witness.seen _outbox.now.pen.seat.takes _half.now.socket.2 _is_whole self.old }
+        ensures { self.new ≡ closed _outbox.now.pen.witness.seen _outbox.now.pen.seat.takes _half.now.socket.2 _is_whole self.old }
     {
         self.cell.set::<E>();
     }
 
-    /// Enters a connection of this opening that is gone, with what was written to it, and whether that is all.
+    /// Enters a connection that is gone, with what was written to it, and whether that is all.
     pub(crate) fn close<K: BookName>(
         &mut self,
         outbox: &Outbox<K>,
-        opening: u64,
         half: &WriteHalf,
         is_whole: bool,
     )
-        ensures { self.new ≡ closed outbox.now.pen.witness.seen outbox.now.pen.seat.takes opening half.now.socket.2 is_whole self.old }
+        ensures { self.new ≡ closed outbox.now.pen.witness.seen outbox.now.pen.seat.takes half.now.socket.2 is_whole self.old }
     {
-        self.close_as::<K, Brand>(outbox, opening, half, is_whole)
+        self.close_as::<K, Brand>(outbox, half, is_whole)
     }
 }

@@ -1,7 +1,8 @@
 //! The way of a slot's bytes to its connection's socket, which threads share.
 
-ghost use Rattle.std.specs.Prelude.{◌≡◌, [], IfOk};
-ghost use Rattle.gm_delivery.specs.Accounts.{ArePast, Rise};
+ghost use Rattle.std.specs.Prelude.{◌≡◌, ◌<◌, [], length, IfOk};
+ghost use Rattle.gm_shared.specs.Openings.{most_openings};
+ghost use Rattle.gm_delivery.specs.Accounts.{ArePast, AreOver};
 
 use crate::account::Ledger;
 use crate::finish::{Deliverer, Finish, Leftover};
@@ -92,10 +93,10 @@ impl<K: BookName> Lane<K> {
         self.slot
     }
 
-    /// The slot's pen, and the account of all its connections.
-    pub fn into_parts(self) -> (Pen<K>, Ledger)
+    /// The slot's pen, the account of all its connections, and how many they are (`Sender::into_parts`).
+    pub fn into_parts(self) -> (Pen<K>, Ledger, u64)
         ensures past { ArePast result.0.slot result.1.past result.0.witness.seen result.0.seat.takes }
-        ensures rise { Rise result.1.past }
+        ensures counted { result.2 < most_openings → (length result.1.past ≡ result.2) × AreOver result.0.slot result.1.past result.0.witness.seen }
     {
         let Lane { sender, .. } = self;
         sender.into_inner().into_parts()
@@ -119,6 +120,16 @@ impl<K: BookName> Lane<K> {
             Ok(claim) => self.deliver_claimed(context, claim, Deliverer::Other),
             Err(_) => self.left(Finish::Idle, Deliverer::Other),
         }
+    }
+
+    /// Takes the connection for which the slot was opened this often, and lets go of it at once, as nobody serves it.
+    pub fn refuse(&self, rt: &impl Wait, opening: u64, half: WriteHalf)
+        requires { half.socket.2 ≡ [] }
+    {
+        // Modelled in models/endings.pml and shutdown.pml.
+        let mut sender = self.sender.lock(rt);
+        sender.begin(opening, half);
+        sender.let_go();
     }
 
     /// Tells the lane that there may be something to send, and sends it, unless another thread has the lane and so tries after

@@ -1,8 +1,9 @@
 //! What is to be sent to a slot's connections, and where.
 
-ghost use Rattle.std.specs.Prelude.{◌≡◌, [], Some, None, IfOk};
+ghost use Rattle.std.specs.Prelude.{◌≡◌, ◌<◌, [], length, Some, None, IfOk};
 ghost use Rattle.gm_outbox.specs.Deliveries.{left_in, Delivers};
-ghost use Rattle.gm_delivery.specs.Accounts.{blank_account, ArePast, Rise};
+ghost use Rattle.gm_shared.specs.Openings.{most_openings};
+ghost use Rattle.gm_delivery.specs.Accounts.{blank_account, ArePast, AreOver};
 ghost use Rattle.gm_delivery.specs.Sendings.{IsSender, DeliversTo, after_sending, IsCutOff, IsLetGo, IsBegun};
 
 use crate::account::Ledger;
@@ -57,8 +58,6 @@ where
 #[derive(Drop)]
 pub struct Sender<K: BookName> {
     outbox: Outbox<K>,
-    /// How often the slot had been opened with the connection.
-    opening: u64,
     /// The connection, until it is let go of.
     connection: Option<WriteHalf>,
     ledger: Ledger,
@@ -72,10 +71,10 @@ impl<K: BookName> Model for Sender<K> {
     ghost Value = { SenderState };
 
     ghost view = { λ s. state_of s.outbox.pen.slot s.outbox.opening s.outbox.pen.witness.seen s.outbox.pen.seat.takes (left_in s.outbox.left)
-        (option_map (λ c. record { opening = s.opening; state = c.life.state; log = c.socket.2 }) s.connection) s.ledger };
+        (option_map (λ c. record { state = c.life.state; log = c.socket.2 }) s.connection) s.ledger };
 
     ghost invariant = { λ s. IsSender (state_of s.outbox.pen.slot s.outbox.opening s.outbox.pen.witness.seen s.outbox.pen.seat.takes (left_in s.outbox.left)
-        (option_map (λ c. record { opening = s.opening; state = c.life.state; log = c.socket.2 }) s.connection) s.ledger) };
+        (option_map (λ c. record { state = c.life.state; log = c.socket.2 }) s.connection) s.ledger) };
 }
 
 impl<K: BookName> Sender<K> {
@@ -87,7 +86,6 @@ impl<K: BookName> Sender<K> {
         let ledger = Ledger::new(alloc)?;
         Ok(Sender {
             outbox: Outbox::new(pen),
-            opening: 0,
             connection: None,
             ledger,
         })
@@ -101,7 +99,7 @@ impl<K: BookName> Sender<K> {
     }
 
     /// Takes the connection for which the slot was opened this often, and lets go of one that is there. It says whether the connection can be
-    /// sent to: where it can't be told from earlier ones, it is cut.
+    /// sent to: where this isn't the next opening, it is cut.
     pub fn begin(&mut self, opening: u64, mut half: WriteHalf) -> bool
         requires { half.socket.2 ≡ [] }
         ensures { IsBegun result opening self.old self.new }
@@ -110,7 +108,6 @@ impl<K: BookName> Sender<K> {
         self.let_go();
         let begins = self.outbox.begin(opening);
         half.life = Life::new(begins);
-        self.opening = opening;
         self.connection = Some(half);
         begins
     }
@@ -175,21 +172,22 @@ impl<K: BookName> Sender<K> {
             LineState::Finished => true,
             LineState::Cut => false,
         };
-        self.ledger
-            .close(&self.outbox, self.opening, &half, is_whole);
+        self.ledger.close(&self.outbox, &half, is_whole);
         self.outbox.forget();
         Some(is_whole)
     }
 
-    /// The pen, and the account of all connections: to each was written a prefix of what the pen was given at its opening of the slot.
-    pub fn into_parts(self) -> (Pen<K>, Ledger)
+    /// The pen, and the account of all connections: to each was written a prefix of what the pen was given at its opening of the slot. It also says
+    /// how many they are, one for each opening; the greatest `u64` if it can't.
+    pub fn into_parts(self) -> (Pen<K>, Ledger, u64)
         ensures past { ArePast result.0.slot result.1.past result.0.witness.seen result.0.seat.takes }
-        ensures rise { Rise result.1.past }
+        ensures counted { result.2 < most_openings → (length result.1.past ≡ result.2) × AreOver result.0.slot result.1.past result.0.witness.seen }
         ensures slot { result.0.slot ≡ self.slot }
     {
         let mut sender = self;
         sender.let_go();
         let Sender { outbox, ledger, .. } = sender;
-        (outbox.into_pen(), ledger)
+        let openings = outbox.openings();
+        (outbox.into_pen(), ledger, openings)
     }
 }

@@ -1,6 +1,6 @@
 -- A delivery: what was left, and then what the pen gives.
-use Rattle.std.proofs.Common.{◌≡◌, ℕ, ◌+◌, max, Bool, true, false, List, [], ◌++◌, Option, Some, None, Result, Ok, Err, refl, sym, ap, subst, ◌∙◌}
-use Rattle.std.specs.Prelude.{MatchBool}
+use Rattle.std.proofs.Common.{◌≡◌, ℕ, ◌+◌, Bool, true, false, List, [], ◌++◌, Option, Some, None, Result, Ok, Err, refl, sym, ap, subst, ◌∙◌, arith}
+use Rattle.std.specs.Prelude.{MatchBool, if◌then◌else◌}
 use Rattle.std.proofs.lemmas.List.{append-nil, append_assoc}
 use Rattle.std.proofs.KnownBytes.{Appends-trans}
 use Rattle.std.specs.Io.KnownBytes.{Appends}
@@ -8,6 +8,7 @@ use Rattle.gm_notes.specs.Settings.{Settings}
 use Rattle.gm_notes.specs.declared.event.ApplyError.{ApplyError}
 use Rattle.gm_shared.specs.declared.receipt.Drained.{Drained}
 use Rattle.gm_shared.specs.declared.tape.Entry.{Entry}
+use Rattle.gm_shared.specs.Openings.{most_openings}
 use Rattle.gm_shared.specs.Calls.{PenCalled}
 use Rattle.gm_outbox.specs.declared.message.Sent.TheVariants as sent
 use Rattle.gm_outbox.specs.declared.outbox.Delivery.{Delivery}
@@ -32,15 +33,14 @@ module _ (k : Settings) (taped : Bool) (slot opening opening_after takes takes_a
       → Delivers k taped delivery slot opening opening_after takes takes_after seen after old mid left between
   delivers_left delivery o t s part rest written whole tells = record {
     gave_shut = None;
-    took = false;
-    gave = [];
+    turn = None;
     gives = unasked o t s;
     part = part;
     rest = rest;
     written = written;
     whole = append-nil left ∙ whole;
     tells = tells;
-    here = λ _. o;
+    here = λ _. (o, omega (arith, t));
   }
 
   pub delivers_some : opening_after ≡ opening → takes_after ≡ takes → after ≡ seen → Sends sent.Some old mid left between → Delivers k taped Blocked slot opening opening_after takes takes_after seen after old mid left between
@@ -50,20 +50,23 @@ module _ (k : Settings) (taped : Bool) (slot opening opening_after takes takes_a
   delivers_failed o t s sends = delivers_left Over o t s sends.part sends.rest sends.written sends.whole sends.leaves.0
 
   module _ (sends : Sends sent.All old mid left between) (took : Bool) (takes_so : Takes took takes takes_after) where
+    taken : (took : Bool) → Takes took takes takes_after → takes_after ≡ takes + (if took then 1 else 0)
+    taken true so = so
+    taken false so = omega (arith, so)
+
     all_sent : left ≡ sends.part
     all_sent = sends.whole ∙ (ap (λ rest. sends.part ++ rest) sends.leaves.0 ∙ append-nil sends.part)
 
     -- the connection is over: the pen gave nothing to send
-    delivers_nothing : Gives k taped slot opening opening_after takes takes_after seen after None took [] → Delivers k taped Over slot opening opening_after takes takes_after seen after old mid left between
+    delivers_nothing : Gives k taped slot opening opening_after takes takes_after seen after None None → Delivers k taped Over slot opening opening_after takes takes_after seen after old mid left between
     delivers_nothing gives = record {
       gave_shut = None;
-      took = took;
-      gave = [];
+      turn = None;
       gives = gives;
       part = sends.part;
-      rest = turn_of took [];
+      rest = [];
       written = sends.written;
-      whole = ap (λ part. part ++ turn_of took []) all_sent;
+      whole = ap (λ part. part ++ []) all_sent;
       tells = sends.leaves.1;
       here = λ no. absurd (no refl);
     }
@@ -71,7 +74,7 @@ module _ (k : Settings) (taped : Bool) (slot opening opening_after takes takes_a
     pub delivers_none : opening_after ≡ opening → (error : ApplyError) → PenCalled k taped slot slot (Err error) seen after → Delivers k taped Over slot opening opening_after takes takes_after seen after old mid left between
     delivers_none o error called = delivers_nothing (refused took error o takes_so called)
 
-    pub delivers_elsewhere : (drained : Drained) → (drained.opening ≡ opening → ⊥) → opening_after ≡ max opening drained.opening → PenCalled k taped slot slot (Ok drained) seen after
+    pub delivers_elsewhere : (drained : Drained) → (drained.opening ≡ opening → ⊥) → opening_after ≡ most_openings → PenCalled k taped slot slot (Ok drained) seen after
         → Delivers k taped Over slot opening opening_after takes takes_after seen after old mid left between
     delivers_elsewhere drained other o called = delivers_nothing (elsewhere took drained other o takes_so called)
 
@@ -81,15 +84,14 @@ module _ (k : Settings) (taped : Bool) (slot opening opening_after takes takes_a
           → Delivers k taped delivery slot opening opening_after takes takes_after seen after old new left left_after
       delivers_given delivery part rest written whole tells = record {
         gave_shut = Some drained.shut;
-        took = took;
-        gave = drained.bytes.bytes;
+        turn = Some record { took = took; gave = drained.bytes.bytes };
         gives = given took drained same o takes_so called;
         part = sends.part ++ part;
         rest = rest;
         written = Appends-trans old mid new sends.part part sends.written written;
         whole = ap (λ bytes. bytes ++ turn_of took drained.bytes.bytes) all_sent ∙ (ap (λ bytes. sends.part ++ bytes) (sym is_due ∙ whole) ∙ sym (append_assoc sends.part part rest));
         tells = tells;
-        here = λ _. o;
+        here = λ _. (o, taken took takes_so);
       }
 
       pub given_all : drained.shut ≡ false → Sends sent.All mid new due left_after → Delivers k taped Done slot opening opening_after takes takes_after seen after old new left left_after

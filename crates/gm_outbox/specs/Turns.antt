@@ -1,9 +1,10 @@
 -- What is sent to a connection: the bytes that were drained, and then a NOOP where one was taken.
-use Rattle.std.specs.Prelude.{◌≡◌, ◌<◌, ◌≤◌, ◌^◌, ◌-◌, ℕ, List, [], ◌++◌, length, take, Bool, true, false, Option}
+use Rattle.std.specs.Prelude.{◌≡◌, ◌<◌, ◌≤◌, ◌+◌, ℕ, List, [], ◌++◌, length, take, Bool, true, false, if◌then◌else◌, Option, None, Some}
 use Rattle.std.specs.Io.KnownBytes.{Appends}
 use Rattle.std.specs.declared.io.ErrorKind.{ErrorKind}
 use Rattle.std.specs.declared.io.ErrorKind.TheVariants.{WouldBlock, TimedOut, Interrupted}
 use Rattle.gm_packet.specs.Answers.{noop, answer_packet}
+use Rattle.gm_shared.specs.Openings.{most_openings}
 use Rattle.gm_outbox.specs.declared.message.Sent.{Sent}
 use Rattle.gm_outbox.specs.declared.message.Sent.TheVariants as sent
 
@@ -15,6 +16,20 @@ noop_if false = []
 -- what a turn sends: the bytes that were drained, and then a NOOP where one was taken
 abbrev pub turn_of : Bool → List ℕ → List ℕ
 turn_of took drained = drained ++ noop_if took
+
+-- one drain: the bytes that it gave, and whether a NOOP was taken for them
+pub record Turn : Type 0 where
+  pub took : Bool
+  pub gave : List ℕ
+
+-- what is sent of a turn, if there was one, and how many NOOPs are in it
+abbrev pub due : Option Turn → List ℕ
+due None = []
+due (Some turn) = turn_of turn.took turn.gave
+
+abbrev pub noops_in : Option Turn → ℕ
+noops_in None = 0
+noops_in (Some turn) = if turn.took then 1 else 0
 
 -- what comes of a write that failed so: one that only came too early can be tried again
 abbrev pub sent_on : ErrorKind → Sent
@@ -34,17 +49,13 @@ pub record Writes (old new : Option (List ℕ)) (bytes : List ℕ) (count : ℕ)
 
 -- ---- openings
 
--- the greatest count of openings, at which a counter of 64 bits stays
-abbrev pub most_openings : ℕ
-most_openings = 2 ^ 64 - 1
-
--- the connection of this opening of a slot begins, a later one than those known so far
+-- the connection of the next opening of a slot begins, where a count of 64 bits can tell it from the one after it
 pub record Begins (opening old new : ℕ) : Type 0 where
-  pub later : old < opening
+  pub next : opening ≡ old + 1
   pub below : opening < most_openings
   pub known : new ≡ opening
 
--- it does exactly where it may
+-- it does exactly where it may, and once it doesn't none does
 abbrev pub BeginsIf : Bool → ℕ → ℕ → ℕ → Type 0
 BeginsIf true opening old new = Begins opening old new
-BeginsIf false opening old new = (new ≡ old) × (old < opening → opening < most_openings → ⊥)
+BeginsIf false opening old new = (new ≡ most_openings) × (opening ≡ old + 1 → opening < most_openings → ⊥)

@@ -1,6 +1,6 @@
 //! What is to be sent to a connection, and how it is sent.
 
-ghost use Rattle.std.specs.Prelude.{◌≡◌, ◌⊎◌, ◌<◌, ◌≤◌, ◌+◌, ℕ, List, [], ◌++◌, length, max, not, is_some, true};
+ghost use Rattle.std.specs.Prelude.{◌≡◌, ◌⊎◌, ◌<◌, ◌≤◌, ◌+◌, ℕ, List, [], ◌++◌, length, not, is_some, true};
 ghost use Rattle.gm_outbox.specs.Turns.{BeginsIf};
 
 use crate::message::{Sent, noop_if, write_once};
@@ -114,7 +114,7 @@ impl Message {
 pub struct Outbox<K: BookName> {
     pen: Pen<K>,
     left: Option<Message>,
-    // The newest opening of its slot that is known: the present connection's, or the one of the last drain.
+    // How many connections began, each for the next opening of its slot; the greatest `u64` once one didn't, or a drain was of another opening.
     opening: u64,
 }
 
@@ -134,19 +134,24 @@ impl<K: BookName> Outbox<K> {
         }
     }
 
-    /// Begins with the connection for which the slot was opened this often. It says whether that can be sent to: not if this opening is no
-    /// later one than those known so far, or a count of 64 bits can't tell it from the next.
+    /// Begins with the connection for which the slot was opened this often. It says whether that can be sent to: only if this is the next
+    /// opening, and a count of 64 bits can tell it from the one after it. Once it can't, no connection can.
     pub fn begin(&mut self, opening: u64) -> bool
         ensures begins { BeginsIf result opening self.old.opening self.new.opening }
         ensures pen { self.new.pen ≡ self.old.pen }
         ensures left { self.new.left ≡ self.old.left }
     {
         // Modelled in models/lane.h.
-        if opening <= self.opening || opening == u64::MAX {
-            return false;
-        }
-        self.opening = opening;
-        true
+        let begins = self.opening < u64::MAX - 1 && opening == self.opening + 1;
+        self.opening = if begins { opening } else { u64::MAX };
+        begins
+    }
+
+    /// How many connections began, each for the next opening of its slot; the greatest `u64` if that can't be said.
+    pub fn openings(&self) -> u64
+        ensures { result ≡ self.now.opening }
+    {
+        self.opening
     }
 
     /// The number of the pen's slot.
@@ -169,17 +174,6 @@ impl<K: BookName> Outbox<K> {
         ensures empty { result ≡ true → left_in self.now.left ≡ [] }
     {
         self.left.is_none()
-    }
-
-    /// The slot was opened this often, as far as is known.
-    fn raise_opening(&mut self, opening: u64)
-        ensures opening { self.new.opening ≡ max self.old.opening opening }
-        ensures pen { self.new.pen ≡ self.old.pen }
-        ensures left { self.new.left ≡ self.old.left }
-    {
-        if self.opening < opening {
-            self.opening = opening;
-        }
     }
 
     /// Forgets what is left: all of it is sent, or there is no connection to send it to.
@@ -255,7 +249,7 @@ impl<K: BookName> Outbox<K> {
             opening,
         } = drained;
         if opening != self.opening {
-            self.raise_opening(opening);
+            self.opening = u64::MAX;
             return Delivery::Over;
         }
         match self.send_next(Message::new(bytes, took), w, by) {

@@ -1,5 +1,5 @@
 -- The accounts that a server hands out.
-use Rattle.std.proofs.Common.{◌≡◌, ℕ, zero, suc, ◌+◌, ◌*◌, List, [], ◌∷◌, ◌++◌, length, map, All, Some, refl, sym, ap, ap₂, subst, ◌∙◌, arith, length-append}
+use Rattle.std.proofs.Common.{◌≡◌, ℕ, zero, suc, ◌+◌, ◌*◌, ◌<◌, List, [], ◌∷◌, ◌++◌, length, map, All, Some, refl, sym, ap, ap₂, subst, ◌∙◌, arith, length-append}
 use Rattle.std.specs.Prelude.{slice_get}
 use Rattle.std.specs.List.{AllByRecursion as ByRecursion}
 use Rattle.std.proofs.lemmas.List.{append-nil, map-append, length-map}
@@ -16,11 +16,12 @@ use Rattle.gm_shared.specs.Tokens.{WitnessState}
 use Rattle.gm_shared.specs.Shared.{told_by, HasSeenOwn, numbers_below, everybody}
 use Rattle.gm_session.specs.Hearings.{AreHeard}
 use Rattle.gm_session.specs.Talks.{IsTalking}
-use Rattle.gm_delivery.specs.Accounts.{ArePast}
+use Rattle.gm_shared.specs.Openings.{most_openings}
+use Rattle.gm_delivery.specs.Accounts.{ArePast, AreOver}
 use Rattle.gm_promise.specs.Owners.{AreOwn}
 use Rattle.gm_promise.specs.declared.account.Account.{Account}
 use Rattle.gm_promise.specs.Connections.{AreServed}
-use Rattle.gm_promise.specs.Accounts.{IsAccount, AreAccounts, AreAccounted}
+use Rattle.gm_promise.specs.Accounts.{IsAccount, AreAccounts, AreCounted, AreAccounted}
 use Rattle.gm_promise.proofs.Lives.{are_served}
 use Rattle.gm_promise.proofs.Owning.{map_twice, left, right}
 
@@ -33,7 +34,7 @@ PenSeen = ℕ × List Entry × ℕ
 -- ---- as slots are taken apart
 
 pub one_account_more : (desks : List DeskSeen) (pens : List PenSeen) (accounts : List Account) (desk : DeskSeen) (pen : PenSeen) (account : Account)
-    → length desks ≡ length accounts → length pens ≡ length accounts → AreAccounts desks pens accounts → IsAccount desk pen account.limits account.heard account.sent
+    → length desks ≡ length accounts → length pens ≡ length accounts → AreAccounts desks pens accounts → IsAccount desk pen account
     → AreAccounts (desks ++ desk ∷ []) (pens ++ pen ∷ []) (accounts ++ account ∷ [])
 one_account_more [] [] [] desk pen account d p are is = (is, tt)
 one_account_more (x ∷ desks) [] [] desk pen account d p are is = absurd (omega (arith, d))
@@ -52,13 +53,13 @@ one_desk_more (x ∷ desks) (y ∷ pens) (a ∷ accounts) desk are = (are.0, one
 
 pub account_pushed : {A B : Type 0} (f : A → DeskSeen) (h : B → PenSeen) (desks all : List A) (pens all_pens : List B) (accounts all_accounts : List Account) (desk given : A) (pen : B) (account : Account)
     → all ≡ desks ++ desk ∷ [] → all_pens ≡ pens ++ pen ∷ [] → all_accounts ≡ accounts ++ account ∷ [] → length desks ≡ length accounts → length pens ≡ length accounts
-    → AreAccounts (map f desks) (map h pens) accounts → desk ≡ given → IsAccount (f given) (h pen) account.limits account.heard account.sent → AreAccounts (map f all) (map h all_pens) all_accounts
+    → AreAccounts (map f desks) (map h pens) accounts → desk ≡ given → IsAccount (f given) (h pen) account → AreAccounts (map f all) (map h all_pens) all_accounts
 account_pushed f h desks all pens all_pens accounts all_accounts desk given pen account d p a long wide are same is =
     subst (λ l. AreAccounts (map f all) (map h all_pens) l) (sym a)
     (subst (λ l. AreAccounts (map f all) l (accounts ++ account ∷ [])) (sym (ap (map h) p ∙ map-append h pens (pen ∷ [])))
     (subst (λ l. AreAccounts l (map h pens ++ h pen ∷ []) (accounts ++ account ∷ [])) (sym (ap (map f) d ∙ map-append f desks (desk ∷ [])))
     (one_account_more (map f desks) (map h pens) accounts (f desk) (h pen) account (length-map desks f ∙ long) (length-map pens h ∙ wide) are
-    (subst (λ x. IsAccount (f x) (h pen) account.limits account.heard account.sent) (sym same) is))))
+    (subst (λ x. IsAccount (f x) (h pen) account) (sym same) is))))
 
 pub desk_pushed : {A : Type 0} (f : A → DeskSeen) (desks all : List A) (pens : List PenSeen) (accounts : List Account) (desk : A) → all ≡ desks ++ desk ∷ [] → AreAccounts (map f desks) pens accounts → AreAccounts (map f all) pens accounts
 desk_pushed f desks all pens accounts desk d are =
@@ -139,19 +140,26 @@ module _ {A B : Type 0} (number : A → ℕ) (slot : B → ℕ) (slots : ℕ) (d
 -- ---- what they say
 
 module _ (k : Settings) (log : List Entry) (legal : Legal k log) (own : AreOwn log) where
-  served_so : (c : ℕ) (desk : DeskSeen) (pen : PenSeen) (account : Account) → desk.0 ≡ c → pen.0 ≡ c → Knows log (2 * desk.0) desk.1 → Knows log (2 * pen.0 + 1) pen.1
-      → IsAccount desk pen account.limits account.heard account.sent → AreServed k account.limits log c account.heard.past account.sent.past
-  served_so c desk pen account d p seen gave is =
-      are_served k account.limits log legal own c pen.2 account.heard.past account.sent.past account.heard.since desk.1 pen.1 is.talking
-      (subst (λ (n : ℕ). AreHeard n account.limits account.heard.past account.heard.since) d is.are_heard)
-      (subst (λ (n : ℕ). IsTalking n account.limits account.heard.since desk.1 is.talking) d is.talks)
-      (subst (λ (n : ℕ). Knows log (2 * n) desk.1) d seen)
-      (subst (λ (n : ℕ). ArePast n account.sent.past pen.1 pen.2) p is.past) is.rise
-      (subst (λ (n : ℕ). Knows log (2 * n + 1) pen.1) p gave)
+  -- each connection was served, and those that were written to are counted, if they can be
+  abbrev IsSo : ℕ → Account → Type 0
+  IsSo c account = account.openings < most_openings → AreServed k account.limits log c account.heard.past account.sent.past × (length account.sent.past ≡ account.openings)
+
+  served_so : (c : ℕ) (desk : DeskSeen) (pen : PenSeen) (account : Account) → desk.0 ≡ c → pen.0 ≡ c → Knows log (2 * desk.0) desk.1 → Knows log (2 * pen.0 + 1) pen.1 → IsAccount desk pen account → IsSo c account
+  served_so c desk pen account d p seen gave is below =
+      let counted = is.counted below in (
+        are_served k account.limits log legal own c pen.2 account.heard.past account.sent.past account.heard.since desk.1 pen.1 is.talking
+            (subst (λ (n : ℕ). AreHeard n account.limits account.heard.past account.heard.since) d is.are_heard)
+            (subst (λ (n : ℕ). IsTalking n account.limits account.heard.since desk.1 is.talking) d is.talks)
+            (subst (λ (n : ℕ). Knows log (2 * n) desk.1) d seen)
+            (subst (λ (n : ℕ). ArePast n account.sent.past pen.1 pen.2) p is.past)
+            (subst (λ (n : ℕ). AreOver n account.sent.past pen.1) p counted.1)
+            (subst (λ (n : ℕ). Knows log (2 * n + 1) pen.1) p gave),
+        counted.0,
+      )
 
   each_from : (c n : ℕ) (desks : List DeskSeen) (pens : List PenSeen) (accounts : List Account) (rest : List ℕ) → map (λ d. d.0) desks ≡ counting c n ++ rest → map (λ p. p.0) pens ≡ counting c n
       → ByRecursion (λ d. Knows log (2 * d.0) d.1) desks → ByRecursion (λ p. Knows log (2 * p.0 + 1) p.1) pens → AreAccounts desks pens accounts
-      → (i : ℕ) (account : Account) → slice_get accounts i ≡ Some account → AreServed k account.limits log (c + i) account.heard.past account.sent.past
+      → (i : ℕ) (account : Account) → slice_get accounts i ≡ Some account → IsSo (c + i) account
   each_from c n desks pens [] rest d p seen gave are i account is = absurd cc
   each_from c n [] pens (a ∷ accounts) rest d p seen gave are i account is = absurd are
   each_from c n (x ∷ desks) [] (a ∷ accounts) rest d p seen gave are i account is = absurd are
@@ -161,14 +169,12 @@ module _ (k : Settings) (log : List Entry) (legal : Legal k log) (own : AreOwn l
       let number : x.0 ≡ c = cc in
       let slot : y.0 ≡ c = cc in
       let here : c ≡ c + 0 = omega arith in
-      subst (λ (m : ℕ). AreServed k account.limits log m account.heard.past account.sent.past) here
-      (subst (λ (b : Account). AreServed k b.limits log c b.heard.past b.sent.past) same (served_so c x y a number slot seen.0 gave.0 are.0))
+      subst (λ (m : ℕ). IsSo m account) here (subst (IsSo c) same (served_so c x y a number slot seen.0 gave.0 are.0))
   each_from c (suc n) (x ∷ desks) (y ∷ pens) (a ∷ accounts) rest d p seen gave are (suc i) account is =
       let next : suc c + i ≡ c + suc i = omega arith in
       let more : map (λ d. d.0) desks ≡ counting (suc c) n ++ rest = cc in
       let others : map (λ p. p.0) pens ≡ counting (suc c) n = cc in
-      subst (λ (m : ℕ). AreServed k account.limits log m account.heard.past account.sent.past) next
-      (each_from (suc c) n desks pens accounts rest more others seen.1 gave.1 are.1 i account is)
+      subst (λ (m : ℕ). IsSo m account) next (each_from (suc c) n desks pens accounts rest more others seen.1 gave.1 are.1 i account is)
 
 -- What a server hands out, once each share is there.
 pub accounted : {A B : Type 0} (number : A → ℕ) (desk_share : A → List Told) (desk_witness : A → WitnessState) (slot : B → ℕ) (pen_share : B → List Told) (pen_witness : B → WitnessState) (takes : B → ℕ)
@@ -176,24 +182,22 @@ pub accounted : {A B : Type 0} (number : A → ℕ) (desk_share : A → List Tol
     → map told_by shares ≡ map (λ desk. (Desk (number desk), desk_share desk)) desks ++ map (λ pen. (Pen (slot pen), pen_share pen)) pens
     → All (HasSeenOwn log) (map desk_witness desks ++ map pen_witness pens) → All (λ desk. (desk_witness desk).who ≡ 2 * number desk) desks → All (λ pen. (pen_witness pen).who ≡ 2 * slot pen + 1) pens
     → map (λ (share : Share). share.actor) shares ≡ everybody k.slots
-    → AreAccounts (map (λ desk. (number desk, (desk_witness desk).seen)) desks) (map (λ pen. (slot pen, (pen_witness pen).seen, takes pen)) pens) accounts → length accounts ≡ k.slots
+    → AreAccounts (map (λ desk. (number desk, (desk_witness desk).seen)) desks) (map (λ pen. (slot pen, (pen_witness pen).seen, takes pen)) pens) accounts → length accounts ≡ k.slots → AreCounted log accounts
     → AreAccounted k log accounts
-accounted {A} {B} number desk_share desk_witness slot pen_share pen_witness takes k log legal own desks pens shares accounts are seen desk_who pen_who all accounts_are count =
+accounted {A} {B} number desk_share desk_witness slot pen_share pen_witness takes k log legal own desks pens shares accounts are seen desk_who pen_who all accounts_are count told =
     let first : Actor × List Told → Actor = λ pair. pair.0 in
     let names : map (λ desk. Desk (number desk)) desks ++ map (λ pen. Pen (slot pen)) pens ≡ everybody k.slots =
     sym (sym (map_twice told_by first shares) ∙ (ap (map first) are
     ∙ (map-append first (map (λ desk. (Desk (number desk), desk_share desk)) desks) (map (λ pen. (Pen (slot pen), pen_share pen)) pens)
     ∙ ap₂ (λ xs ys. xs ++ ys) (map_twice (λ desk. (Desk (number desk), desk_share desk)) first desks) (map_twice (λ pen. (Pen (slot pen), pen_share pen)) first pens)))) ∙ all in
     let known = recursion_from_All (HasSeenOwn log) (map desk_witness desks ++ map pen_witness pens) seen in
-    record {
-      all = count;
-      each = λ c account is. subst (λ (m : ℕ). AreServed k account.limits log m account.heard.past account.sent.past) (let same : 0 + c ≡ c = omega arith in same)
-          (each_from k log legal own 0 k.slots (map desk_seen desks) (map pen_seen pens) accounts (k.slots ∷ [])
-          (map_twice desk_seen (λ d. d.0) desks ∙ desk_numbers number slot k.slots desks pens names) (map_twice pen_seen (λ p. p.0) pens ∙ pen_numbers number slot k.slots desks pens names)
-          (of_desks desks (left (HasSeenOwn log) (map desk_witness desks) (map pen_witness pens) known) (recursion_from_All (λ desk. (desk_witness desk).who ≡ 2 * number desk) desks desk_who))
-          (of_pens pens (right (HasSeenOwn log) (map desk_witness desks) (map pen_witness pens) known) (recursion_from_All (λ pen. (pen_witness pen).who ≡ 2 * slot pen + 1) pens pen_who))
-          accounts_are c account is);
-    }
+    let each : (c : ℕ) (account : Account) → slice_get accounts c ≡ Some account → IsSo k log legal own c account = λ c account is. subst (λ (m : ℕ). IsSo k log legal own m account) (let same : 0 + c ≡ c = omega arith in same)
+    (each_from k log legal own 0 k.slots (map desk_seen desks) (map pen_seen pens) accounts (k.slots ∷ [])
+    (map_twice desk_seen (λ d. d.0) desks ∙ desk_numbers number slot k.slots desks pens names) (map_twice pen_seen (λ p. p.0) pens ∙ pen_numbers number slot k.slots desks pens names)
+    (of_desks desks (left (HasSeenOwn log) (map desk_witness desks) (map pen_witness pens) known) (recursion_from_All (λ desk. (desk_witness desk).who ≡ 2 * number desk) desks desk_who))
+    (of_pens pens (right (HasSeenOwn log) (map desk_witness desks) (map pen_witness pens) known) (recursion_from_All (λ pen. (pen_witness pen).who ≡ 2 * slot pen + 1) pens pen_who))
+    accounts_are c account is) in
+    record { all = count; written = λ c account is. (each c account is (told c account is).1).1 ∙ (told c account is).0; each = λ c account is. (each c account is (told c account is).1).0 }
   where
     desk_seen : A → DeskSeen
     desk_seen desk = (number desk, (desk_witness desk).seen)

@@ -4,7 +4,7 @@ use Rattle.std.proofs.Common.{Option, Some, None, refl, sym, ap, ap₂, subst, �
 use Rattle.std.specs.Prelude.{◌==◌, ◌&&◌, reverse, map, unwrap_or}
 use Rattle.std.specs.List.{AllByRecursion as ByRecursion}
 use Rattle.std.proofs.lemmas.List.{append-nil, reverse-append}
-use Rattle.std.proofs.lemmas.List.Elements.{All-head, All-tail, All-from_recursion}
+use Rattle.std.proofs.lemmas.List.Elements.{All-head, All-tail}
 use Rattle.std.proofs.lemmas.Bool.{eqb-false}
 use Rattle.gm_feeder.specs.declared.units.Limits.{Limits}
 use Rattle.gm_feeder.specs.Units.{Item, APacket, ALine}
@@ -12,18 +12,19 @@ use Rattle.gm_front.specs.Units.{step_of_unit, fault_steps, steps_of as steps_of
 use Rattle.gm_notes.specs.declared.event.UnitFault.{UnitFault}
 use Rattle.gm_notes.specs.declared.states.Mode.{Mode}
 use Rattle.gm_notes.specs.declared.states.Mode.TheVariants.{Running, Graceful, Stopped}
+use Rattle.gm_notes.specs.declared.note.Note.{Note}
 use Rattle.gm_notes.specs.declared.note.Note.TheVariants as notes
 use Rattle.gm_notes.specs.Settings.{Settings}
-use Rattle.gm_notes.specs.Notes.{is_open, mode}
+use Rattle.gm_notes.specs.Notes.{is_open, is_asleep, mode, phase}
 use Rattle.gm_notes.specs.Flow.{sent, waiting}
-use Rattle.gm_notes.specs.Past.{Past as PastOf}
-use Rattle.gm_notes.specs.Closings.{close}
+use Rattle.gm_notes.specs.Past.{Past as PastOf, with_note}
+use Rattle.gm_notes.specs.Closings.{close, disconnect, discard_each, rising}
 use Rattle.gm_notes.specs.Steps.{Step, Open, Packet, Line, Fault, Close, Tick, Took, Withdrew, Drain, if_accepted, refusal, unless, add, opening, free_slot}
 use Rattle.gm_notes.proofs.FreeSlots.{free_is}
-use Rattle.gm_history.specs.Laws.{IsPrefix}
 use Rattle.gm_history.specs.History.{History}
-use Rattle.gm_history.proofs.Bytes.{inner_open, close_closes}
-use Rattle.gm_history.proofs.StepsKeep.{add_keeps, run_history, takes_open, units_open}
+use Rattle.gm_history.proofs.Bytes.{inner_open, close_closes, same_slot}
+use Rattle.gm_history.proofs.Keeping.{Keeps}
+use Rattle.gm_history.proofs.StepsKeep.{add_keeps, discard_each_keeps, give_back_each_keeps, gone_keeps, run_history, takes_open, units_open}
 use Rattle.gm_shared.specs.declared.tape.Actor.{Actor}
 use Rattle.gm_shared.specs.declared.tape.Actor.TheVariants.{Desk, Pen}
 use Rattle.gm_shared.specs.declared.tape.TapeStep.{TapeStep}
@@ -43,14 +44,30 @@ use Rattle.gm_session.specs.Hearings.{AreHeard}
 use Rattle.gm_session.specs.Sessions.{Adds}
 use Rattle.gm_session.specs.Talks.{TalkingState, IsTalking, IsTalkingBy}
 use Rattle.gm_delivery.specs.declared.account.Past.{Past}
-use Rattle.gm_delivery.specs.Accounts.{bytes_in, given_at, ArePast, Rise}
+use Rattle.gm_delivery.specs.Accounts.{bytes_in, drains_at, drains_in, ArePast, AreOver}
+use Rattle.gm_delivery.proofs.Accounting.{none_drained}
 use Rattle.gm_promise.specs.Owners.{is_own, AreOwn}
 use Rattle.gm_promise.specs.Promise.{says, said_at, if_opened, given_by, given, GivenSo}
-use Rattle.gm_promise.specs.Connections.{sent_at, said_since, AreHandedIn, IsSent, AreServed}
+use Rattle.gm_promise.specs.Connections.{joined, sent_at, left_at, said_since, AreHandedIn, AreSent, AreServed}
 use Rattle.gm_promise.proofs.Owning.{said_own, drain_own}
 use Rattle.gm_promise.proofs.Promised.{all_given}
 
 -- ---- what a pen gave at an opening
+
+-- the bytes that the pen of slot c was given when the slot had been opened n times, in the order in which it was
+abbrev given_at : ℕ → ℕ → List Entry → List ℕ
+given_at n c [] = []
+given_at n c (e ∷ older) = given_at n c older ++ (if 2 * c + 1 == actor_code e.actor then (if openings c older == n then bytes_in e.answer else []) else [])
+
+joined_drains : (n c : ℕ) (log : List Entry) → joined (drains_at n c log) ≡ given_at n c log
+joined_drains n c [] = refl
+joined_drains n c (e ∷ older) = by (2 * c + 1 == actor_code e.actor) (openings c older == n) (joined_drains n c older)
+  where
+    by : (own now : Bool) → joined (drains_at n c older) ≡ given_at n c older
+        → joined (if own && now then bytes_in e.answer ∷ drains_at n c older else drains_at n c older) ≡ given_at n c older ++ (if own then (if now then bytes_in e.answer else []) else [])
+    by true true rest = ap (λ l. l ++ bytes_in e.answer) rest
+    by true false rest = rest ∙ sym (append-nil (given_at n c older))
+    by false now rest = rest ∙ sym (append-nil (given_at n c older))
 
 more_or_same : (c n : ℕ) (o : Option ℕ) → n ≤ if_one_more c o n
 more_or_same c n None = omega arith
@@ -154,68 +171,10 @@ given_last : (c : ℕ) (log : List Entry) → AreOwn log → given c log ≡ giv
 given_last c [] own = refl
 given_last c (e ∷ older) own = given_next c e older (own_first e older own) (given_last c older (own_rest e older own)) e.step refl
 
--- ---- a prefix of what was sent
-
-prefix_of : (t : Bool) (gave : List ℕ) (c : ℕ) (past : PastOf) → GivenSo t gave c past.flow → IsPrefix gave (sent c past.flow)
-prefix_of true gave c past so = (waiting c past.flow, so)
-prefix_of false gave c past so = so.1
-
 -- an entry of a pen opens nothing
 pens_open : (c n : ℕ) (actor : Actor) (step : TapeStep) (a : Answer) → is_own actor step ≡ true → (2 * c + 1 == actor_code actor) ≡ true → opened_by c step a n ≡ n
 pens_open c n actor (tape.Open addr) a own is = let apart = not_pens c actor (tape.Open addr) own (λ d h. absurd cc) in let bad : true ≡ false = sym is ∙ apart in absurd cc
 pens_open c n actor step a own is = refl
-
-prefix_given : (k : Settings) (n c : ℕ) (log : List Entry) → Legal k log → AreOwn log → IsPrefix (given_at n c log) (sent_at k n c log)
-prefix_given k n c [] legal own = ([], refl)
-prefix_given k n c (e ∷ older) legal own = by (openings c (e ∷ older) == n) refl (prefix_given k n c older legal.2 (own_rest e older own))
-  where
-    here : n ≡ openings c (e ∷ older) → given_at n c (e ∷ older) ≡ given c (e ∷ older)
-    here is = ap (λ (m : ℕ). given_at m c (e ∷ older)) is ∙ sym (given_last c (e ∷ older) own)
-
-    -- given at another opening
-    apart : (openings c (e ∷ older) == n) ≡ false → (t : Bool) → (2 * c + 1 == actor_code e.actor) ≡ t → given_at n c (e ∷ older) ≡ given_at n c older
-    apart other true is =
-        at_another n c e older (ap (λ (m : ℕ). m == n) (sym (pens_open c (openings c older) e.actor e.step e.answer (own_first e older own) is)) ∙ other)
-    apart other false is = of_another n c e older is
-
-    by : (t : Bool) → (openings c (e ∷ older) == n) ≡ t → IsPrefix (given_at n c older) (sent_at k n c older)
-        → IsPrefix (given_at n c (e ∷ older)) (if t then sent c (past_of k (e ∷ older)).flow else sent_at k n c older)
-    by true is rest =
-        let same : n ≡ openings c (e ∷ older) = sym (eqb-true (openings c (e ∷ older)) n is) in
-        let so = prefix_of (is_open c (past_of k (e ∷ older)).notes) (given c (e ∷ older)) c (past_of k (e ∷ older)) (all_given k (e ∷ older) legal c) in
-        (so.0, so.1 ∙ ap (λ l. l ++ so.0) (sym (here same)))
-    by false other rest = (rest.0, rest.1 ∙ ap (λ l. l ++ rest.0) (sym (apart other (2 * c + 1 == actor_code e.actor) refl)))
-
--- more of the history gives more
-given_grows : (n c : ℕ) (newer until : List Entry) → IsPrefix (given_at n c until) (given_at n c (newer ++ until))
-given_grows n c [] until = ([], sym (append-nil (given_at n c until)))
-given_grows n c (e ∷ newer) until =
-    let rest = given_grows n c newer until in
-    let more = if 2 * c + 1 == actor_code e.actor then (if openings c (newer ++ until) == n then bytes_in e.answer else []) else [] in
-    (rest.0 ++ more, ap (λ l. l ++ more) rest.1 ∙ append_assoc (given_at n c until) rest.0 more)
-
-prefix_then : (xs ys zs : List ℕ) → IsPrefix xs ys → IsPrefix ys zs → IsPrefix xs zs
-prefix_then xs ys zs f g = (f.0 ++ g.0, g.1 ∙ (ap (λ l. l ++ g.0) f.1 ∙ append_assoc xs f.0 g.0))
-
-are_sent : (k : Settings) (log : List Entry) → Legal k log → AreOwn log → (c : ℕ) (past : List Past) (seen : List Entry) (takes : ℕ) (newer : List Entry) → log ≡ newer ++ seen → ArePast c past seen takes
-    → ByRecursion (IsSent k log c) past
-are_sent k log legal own c [] seen takes newer is are = tt
-are_sent k log legal own c (p ∷ older) seen takes newer is are =
-    let w = are.2.is_written in
-    let until : log ≡ newer ++ p.until = is ∙ ap (λ l. newer ++ l) are.0 in
-    let since : log ≡ (newer ++ w.are.newer) ++ p.since = until ∙ (ap (λ l. newer ++ l) w.are.goes_on ∙ sym (append_assoc newer w.are.newer p.since)) in (
-      record {
-        turns = w.turns;
-        rest = are.2.rest;
-        written = w.whole;
-        whole = are.2.whole;
-        given = subst (λ l. IsPrefix l (sent_at k p.opening c log)) w.are.given
-            (prefix_then (given_at p.opening c p.until) (given_at p.opening c log) (sent_at k p.opening c log)
-            (subst (λ l. IsPrefix (given_at p.opening c p.until) (given_at p.opening c l)) (sym until) (given_grows p.opening c newer p.until))
-            (prefix_given k p.opening c log legal own));
-      },
-      are_sent k log legal own c older p.since p.takes (newer ++ w.are.newer) since are.3,
-    )
 
 -- ---- openings and closings
 
@@ -241,6 +200,43 @@ module _ (k : Settings) (c : ℕ) (past : PastOf) (history : History k past.note
       by : {d : ℕ} (t : Bool) → (c == d) ≡ t → (older : Bool) → older ≡ is_open c past.notes → s ≡ Close d → unwrap_or (if t then Some false else None) older ≡ is_open c past.notes
       by {d} true is older i cause = absurd (closes (cause ∙ ap Close (sym (eqb-true c d is))))
       by false is older i cause = i
+
+-- nothing is sent to a slot that is closed
+module _ (k : Settings) (c : ℕ) (before : List Note) (s : Step) (was : List ℕ) (opens : (addr : List ℕ) → s ≡ Open addr → ⊥) where
+  nothing_sent : Keeps k before s (λ p. (is_open c p.notes ≡ false) × (sent c p.flow ≡ was))
+  nothing_sent = record {
+    by_note = λ note p inner allowed cause h i. (inner_open note p.notes c inner ∙ i.0, i.1);
+    by_opening = λ d addr p allowed cause h i. absurd (opens addr cause);
+    by_closing = λ d p opened cause h i. (closing (c == d) (is_open c p.notes) i.0, i.1);
+    by_saying = λ d bytes p opened may h i. (i.0, saying d bytes p opened i.0 (c == d) refl ∙ i.1);
+  }
+    where
+      closing : (t older : Bool) → older ≡ false → unwrap_or (if t then Some false else None) older ≡ false
+      closing true older i = refl
+      closing false older i = i
+
+      saying : (d : ℕ) (bytes : List ℕ) (p : PastOf) → is_open d p.notes ≡ true → is_open c p.notes ≡ false → (t : Bool) → (c == d) ≡ t
+          → (if t then sent c p.flow ++ bytes else sent c p.flow) ≡ sent c p.flow
+      saying d bytes p opened closed true is = let bad : true ≡ false = sym (same_slot c d p.notes opened is) ∙ closed in absurd cc
+      saying d bytes p opened closed false is = refl
+
+-- nor with its closing
+closing_sends : (k : Settings) (c : ℕ) (past : PastOf) → History k past.notes → is_open c past.notes ≡ true → sent c (close k c past).flow ≡ sent c past.flow
+closing_sends k c past history opened =
+    let anything : Keeps k past.notes (Close c) (λ p. Unit {0}) = record {
+      by_note = λ note p inner allowed cause h i. tt;
+      by_opening = λ d addr p allowed cause h i. tt;
+      by_closing = λ d p opened cause h i. tt;
+      by_saying = λ d bytes p opened may h i. tt;
+    } in
+    let K = nothing_sent k c past.notes (Close c) (sent c past.flow) (λ addr bad. absurd cc) in
+    let gone : is_open c (disconnect c past).notes ≡ false = rw (itself c) refl in
+    (give_back_each_keeps K (rising past) (discard_each (rising past) (disconnect c past))
+    (discard_each_keeps K (rising past) (disconnect c past) ((gone_keeps anything past opened (history, tt)).0, (gone, asleep (is_asleep (phase c past.notes)))))).1.1
+  where
+    asleep : (t : Bool) → sent c (if t then with_note (notes.Stirred c) past else past).flow ≡ sent c past.flow
+    asleep true = refl
+    asleep false = refl
 
 abbrev one_if : Bool → ℕ
 one_if t = if t then 1 else 0
@@ -329,9 +325,129 @@ module _ (k : Settings) (c : ℕ) (e : Entry) (older : List Entry) (legal : Lega
   answered (tape.Withdrew d) is = balanced (Withdrew d) (ap step_in is) (λ addr x. absurd cc) (λ x. absurd cc) (λ steps. refl)
   answered (tape.Drain d) is = balanced (Drain d) (ap step_in is) (λ addr x. absurd cc) (λ x. absurd cc) (λ steps. refl)
 
+  -- where the slot is closed, nothing was sent to it, and it wasn't opened
+  module _ (closed : is_open c after.notes ≡ false) where
+    quiet : (s : Step) → step_in e.step ≡ s → ((addr : List ℕ) → s ≡ Open addr → ⊥) → (s ≡ Close c → ⊥) → (is_open c past.notes ≡ false) × (sent c after.flow ≡ sent c past.flow)
+    quiet s is opens closes =
+        let was : is_open c past.notes ≡ false =
+        sym (ap (λ (p : PastOf). is_open c p.notes) (after_is s is) ∙ still_open k c past (run_history k (steps_of older)) s opens closes (taken_as s is)) ∙ closed in (
+          was,
+          ap (λ (p : PastOf). sent c p.flow) (after_is s is)
+              ∙ (add_keeps {k = k} {I = λ p. (is_open c p.notes ≡ false) × (sent c p.flow ≡ sent c past.flow)} past s (nothing_sent k c past.notes s (sent c past.flow) opens)
+              (λ d same h i. i) (taken_as s is) (run_history k (steps_of older), (was, refl))).1.1,
+        )
+
+    abbrev IsQuiet : ℕ → Type 0
+    IsQuiet n = (n ≡ openings c older) × (sent c after.flow ≡ sent c past.flow)
+
+    quiet_opening : (o : Option ℕ) (addr : List ℕ) → free_slot k past ≡ o → step_in e.step ≡ Open addr → IsQuiet (if_one_more c o (openings c older))
+    quiet_opening None addr free is = absurd (no_slot (mode past.notes) (ap (if_accepted (mode past.notes)) (sym free) ∙ taken_as (Open addr) is))
+    quiet_opening (Some d) addr free is = by (c == d) refl
+      where
+        now : after ≡ opening (Some d) addr past
+        now = after_is (Open addr) is ∙ ap (λ o. opening o addr past) free
+
+        by : (t : Bool) → (c == d) ≡ t → IsQuiet (if t then openings c older + 1 else openings c older)
+        by true same =
+            let opened : is_open c after.notes ≡ true = ap (λ (p : PastOf). is_open c p.notes) now ∙ ap (λ t. unwrap_or (if t then Some true else None) (is_open c past.notes)) same in
+            let bad : true ≡ false = sym opened ∙ closed in
+            absurd cc
+        by false other = (refl, ap (λ (p : PastOf). sent c p.flow) now ∙ ap (λ t. if t then [] else sent c past.flow) other)
+
+    quiet_closing : (d : ℕ) → step_in e.step ≡ Close d → (t : Bool) → (c == d) ≡ t → sent c after.flow ≡ sent c past.flow
+    quiet_closing d is true same =
+        let at : c ≡ d = eqb-true c d same in
+        let was : is_open c past.notes ≡ true = subst (λ (x : ℕ). is_open x past.notes ≡ true) (sym at) (takes_open (is_open d past.notes) (taken_as (Close d) is)) in
+        ap (λ (p : PastOf). sent c p.flow) (after_is (Close d) is ∙ ap (λ (x : ℕ). close k x past) (sym at)) ∙ closing_sends k c past (run_history k (steps_of older)) was
+    quiet_closing d is false other =
+        let apart = eqb-false c d other in
+        (quiet (Close d) is (λ addr same. absurd cc) (λ same. apart (let x : d ≡ c = cc in sym x))).1
+
+    all_quiet : (step : TapeStep) → e.step ≡ step → IsQuiet (opened_by c step e.answer (openings c older))
+    all_quiet (tape.Open addr) is =
+        let answer : e.answer ≡ answer_to k (Open addr) past = legal.1 ∙ ap (λ s. answer_to k (step_in s) past) is in
+        subst (λ a. IsQuiet (opened_by c (tape.Open addr) a (openings c older))) (sym answer) (quiet_opening (free_slot k past) addr refl (ap step_in is))
+    all_quiet (tape.Close d) is = (refl, quiet_closing d (ap step_in is) (c == d) refl)
+    all_quiet (tape.Packet d kind bytes) is = (refl, (quiet (Packet d kind bytes) (ap step_in is) (λ addr x. absurd cc) (λ x. absurd cc)).1)
+    all_quiet (tape.Line d bytes) is = (refl, (quiet (Line d bytes) (ap step_in is) (λ addr x. absurd cc) (λ x. absurd cc)).1)
+    all_quiet (tape.Fault d fault) is = (refl, (quiet (Fault d fault) (ap step_in is) (λ addr x. absurd cc) (λ x. absurd cc)).1)
+    all_quiet (tape.Tick now) is = (refl, (quiet (Tick now) (ap step_in is) (λ addr x. absurd cc) (λ x. absurd cc)).1)
+    all_quiet (tape.Took d) is = (refl, (quiet (Took d) (ap step_in is) (λ addr x. absurd cc) (λ x. absurd cc)).1)
+    all_quiet (tape.Withdrew d) is = (refl, (quiet (Withdrew d) (ap step_in is) (λ addr x. absurd cc) (λ x. absurd cc)).1)
+    all_quiet (tape.Drain d) is = (refl, (quiet (Drain d) (ap step_in is) (λ addr x. absurd cc) (λ x. absurd cc)).1)
+
+    -- what is drained of it is empty
+    module _ (own : is_own e.actor e.step ≡ true) (n : ℕ) where
+      drained_none : (d : ℕ) → e.step ≡ tape.Drain d → e.actor ≡ Pen d → (t : Bool) → (c == d) ≡ t → given_at n c (e ∷ older) ≡ given_at n c older
+      drained_none d is pen true same =
+          let at : c ≡ d = eqb-true c d same in
+          let was = (quiet (Drain d) (ap step_in is) (λ addr x. absurd cc) (λ x. absurd cc)).0 in
+          let none : waiting c past.flow ≡ [] = (subst (λ t. GivenSo t (given c older) c past.flow) was (all_given k older legal.2 c)).0 in
+          let answer : e.answer ≡ answers.Drained [] = legal.1 ∙ (ap (λ s. answer_to k (step_in s) past) is ∙ ap answers.Drained (ap (λ (x : ℕ). waiting x past.flow) (sym at) ∙ none)) in
+          ap (λ a. given_at n c older ++ (if 2 * c + 1 == actor_code e.actor then (if openings c older == n then bytes_in a else []) else [])) answer
+          ∙ (ap (λ l. given_at n c older ++ l) (empty (2 * c + 1 == actor_code e.actor) (openings c older == n)) ∙ append-nil (given_at n c older))
+        where
+          empty : (t u : Bool) → (if t then (if u then bytes_in (answers.Drained []) else []) else []) ≡ []
+          empty true true = refl
+          empty true false = refl
+          empty false u = refl
+      drained_none d is pen false other = of_another n c e older (ap (λ a. 2 * c + 1 == actor_code a) pen ∙ other_code c d other)
+
+      given_none : (step : TapeStep) → e.step ≡ step → given_at n c (e ∷ older) ≡ given_at n c older
+      given_none (tape.Drain d) is = drained_none d is (drain_own d e.actor e.step own is) (c == d) refl
+      given_none step is = of_another n c e older (not_pens c e.actor e.step own (λ d drain. let bad : is_drain_of d step ≡ true = ap (is_drain_of d) (sym is) ∙ drain in absurd cc))
+
 balance : (k : Settings) (c : ℕ) (log : List Entry) → Legal k log → openings c log ≡ closings c (said_at c (steps_of log)) + one_if (is_open c (past_of k log).notes)
 balance k c [] legal = refl
 balance k c (e ∷ older) legal = answered k c e older legal (balance k c older legal.2) e.step refl
+
+-- ---- all that was sent
+
+sent_now : (k : Settings) (c : ℕ) (log : List Entry) → sent_at k (openings c log) c log ≡ sent c (past_of k log).flow
+sent_now k c [] = refl
+sent_now k c (e ∷ older) = ap (λ (t : Bool). if t then sent c (past_of k (e ∷ older)).flow else sent_at k (openings c (e ∷ older)) c older) (itself (openings c (e ∷ older)))
+
+sent_all : (k : Settings) (n c : ℕ) (log : List Entry) → Legal k log → AreOwn log → sent_at k n c log ≡ given_at n c log ++ left_at k n c log
+sent_all k n c [] legal own = refl
+sent_all k n c (e ∷ older) legal own = by (openings c (e ∷ older) == n) refl (is_open c (past_of k (e ∷ older)).notes) refl (sent_all k n c older legal.2 (own_rest e older own))
+  where
+    -- given at another opening
+    apart : (openings c (e ∷ older) == n) ≡ false → (t : Bool) → (2 * c + 1 == actor_code e.actor) ≡ t → given_at n c (e ∷ older) ≡ given_at n c older
+    apart other true is =
+        at_another n c e older (ap (λ (m : ℕ). m == n) (sym (pens_open c (openings c older) e.actor e.step e.answer (own_first e older own) is)) ∙ other)
+    apart other false is = of_another n c e older is
+
+    by : (t : Bool) → (openings c (e ∷ older) == n) ≡ t → (o : Bool) → is_open c (past_of k (e ∷ older)).notes ≡ o → sent_at k n c older ≡ given_at n c older ++ left_at k n c older
+        → (if t then sent c (past_of k (e ∷ older)).flow else sent_at k n c older)
+        ≡ given_at n c (e ∷ older) ++ (if t && o then waiting c (past_of k (e ∷ older)).flow else left_at k n c older)
+    by true is true at rest =
+        let here : given c (e ∷ older) ≡ given_at n c (e ∷ older) = given_last c (e ∷ older) own ∙ ap (λ (m : ℕ). given_at m c (e ∷ older)) (eqb-true (openings c (e ∷ older)) n is) in
+        subst (λ t. GivenSo t (given c (e ∷ older)) c (past_of k (e ∷ older)).flow) at (all_given k (e ∷ older) legal c) ∙ ap (λ l. l ++ waiting c (past_of k (e ∷ older)).flow) here
+    by true is false at rest =
+        let so = balance k c older legal.2 in
+        let quiet = all_quiet k c e older legal so at e.step refl in
+        let same : openings c older ≡ n = sym quiet.0 ∙ eqb-true (openings c (e ∷ older)) n is in
+        quiet.1 ∙ (sym (sent_now k c older) ∙ (ap (λ (m : ℕ). sent_at k m c older) same
+        ∙ (rest ∙ ap (λ l. l ++ left_at k n c older) (sym (given_none k c e older legal so at (own_first e older own) n e.step refl)))))
+    by false other o at rest = rest ∙ ap (λ l. l ++ left_at k n c older) (sym (apart other (2 * c + 1 == actor_code e.actor) refl))
+
+are_sent : (k : Settings) (log : List Entry) → Legal k log → AreOwn log → (c : ℕ) (past : List Past) (seen since : List Entry) (takes : ℕ) → ((n : ℕ) → drains_at n c log ≡ drains_at n c seen)
+    → AreOver c past seen → ArePast c past since takes → AreSent k log c past
+are_sent k log legal own c [] seen since takes same over are = tt
+are_sent k log legal own c (p ∷ older) seen since takes same over are =
+    let n = length older + 1 in
+    let w = are.2.is_written in
+    let drained : drains_at n c log ≡ drains_in w.turns = same n ∙ (over.0 ∙ w.are.drained) in (
+      record {
+        turns = w.turns;
+        rest = are.2.rest;
+        drained = drained;
+        written = w.whole;
+        whole = λ all. (are.2.whole all).0;
+        all = sent_all k n c log legal own ∙ ap (λ l. l ++ left_at k n c log) (sym (joined_drains n c log) ∙ ap joined drained);
+      },
+      are_sent k log legal own c older seen p.since p.takes same over.1 are.3,
+    )
 
 -- ---- what was said since an opening
 
@@ -387,16 +503,16 @@ units_are : (c : ℕ) (items : List Item) → ByRecursion (IsUnit c) (map (step_
 units_are c [] = tt
 units_are c (item ∷ items) = (unit_is c item, units_are c items)
 
-joined : (c : ℕ) (xs ys : List Step) → ByRecursion (IsUnit c) xs → ByRecursion (IsUnit c) ys → ByRecursion (IsUnit c) (xs ++ ys)
-joined c [] ys a b = b
-joined c (x ∷ xs) ys a b = (a.0, joined c xs ys a.1 b)
+both : (c : ℕ) (xs ys : List Step) → ByRecursion (IsUnit c) xs → ByRecursion (IsUnit c) ys → ByRecursion (IsUnit c) (xs ++ ys)
+both c [] ys a b = b
+both c (x ∷ xs) ys a b = (a.0, both c xs ys a.1 b)
 
 turned : (c : ℕ) (xs : List Step) → ByRecursion (IsUnit c) xs → ByRecursion (IsUnit c) (reverse xs)
 turned c [] a = tt
-turned c (x ∷ xs) a = subst (ByRecursion (IsUnit c)) (sym (reverse-append (x ∷ []) xs)) (joined c (reverse xs) (x ∷ []) (turned c xs a.1) (a.0, tt))
+turned c (x ∷ xs) a = subst (ByRecursion (IsUnit c)) (sym (reverse-append (x ∷ []) xs)) (both c (reverse xs) (x ∷ []) (turned c xs a.1) (a.0, tt))
 
 session_units : (c : ℕ) (items : List Item) (fault : Option UnitFault) → ByRecursion (IsUnit c) (reverse (steps_of_units c items fault))
-session_units c items fault = turned c (steps_of_units c items fault) (joined c (map (step_of_unit c) items) (fault_steps c fault) (units_are c items) (by fault))
+session_units c items fault = turned c (steps_of_units c items fault) (both c (map (step_of_unit c) items) (fault_steps c fault) (units_are c items) (by fault))
   where
     by : (fault : Option UnitFault) → ByRecursion (IsUnit c) (fault_steps c fault)
     by None = tt
@@ -543,9 +659,9 @@ lead_of c limits since until (Some t) is = by t.is_over is
 pub are_served : (k : Settings) (limits : Limits) (log : List Entry) → Legal k log → AreOwn log → (c takes : ℕ) (heard : List Heard) (past : List Past)
     (since heard_until given_until : List Entry) (talking : Option TalkingState)
     → AreHeard c limits heard since → IsTalking c limits since heard_until talking → Knows log (2 * c) heard_until
-    → ArePast c past given_until takes → Rise past → Knows log (2 * c + 1) given_until
+    → ArePast c past given_until takes → AreOver c past given_until → Knows log (2 * c + 1) given_until
     → AreServed k limits log c heard past
-are_served k limits log legal own c takes heard past since heard_until given_until talking are talks knows are_past rise gave =
+are_served k limits log legal own c takes heard past since heard_until given_until talking are talks knows are_past over gave =
     let lead = lead_of c limits since heard_until talking talks in
     let units = reverse (steps_of_units c lead.items lead.fault) in
     let events = heard_events c limits heard since are in
@@ -559,6 +675,5 @@ are_served k limits log legal own c takes heard past since heard_until given_unt
     record {
       handed_in = handed_in c k limits log legal heard since are units said;
       all = balance k c log legal ∙ ap (λ (n : ℕ). n + one_if (is_open c (past_of k log).notes)) closed;
-      sent = All-from_recursion (IsSent k log c) past (are_sent k log legal own c past given_until takes gave.newer gave.goes_on are_past);
-      rise = rise;
+      sent = are_sent k log legal own c past given_until given_until takes (λ n. ap (drains_at n c) gave.goes_on ∙ none_drained n c gave.newer given_until gave.others) over are_past;
     }

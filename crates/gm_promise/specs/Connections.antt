@@ -1,15 +1,14 @@
 -- A connection's whole life: what was read from it, and what was written to it, said of the one history of all calls. Its newest entry is the
 -- first. A slot has one connection after another, each from an opening of the slot on.
-use Rattle.std.specs.Prelude.{◌≡◌, ℕ, ◌+◌, ◌*◌, ◌==◌, ◌&&◌, if◌then◌else◌, true, List, [], ◌∷◌, ◌++◌, All, reverse, length, Option, IfSome}
+use Rattle.std.specs.Prelude.{◌≡◌, ℕ, ◌+◌, ◌*◌, ◌==◌, ◌&&◌, if◌then◌else◌, true, List, [], ◌∷◌, ◌++◌, reverse, length, Option, IfSome}
 use Rattle.gm_feeder.specs.declared.units.Limits.{Limits}
 use Rattle.gm_feeder.specs.Units.{Item}
 use Rattle.gm_front.specs.Units.{steps_of as steps_of_units, IsFaultAt, BeginsWith}
 use Rattle.gm_notes.specs.declared.event.UnitFault.{UnitFault}
 use Rattle.gm_notes.specs.Settings.{Settings}
 use Rattle.gm_notes.specs.Notes.{is_open}
-use Rattle.gm_notes.specs.Flow.{sent}
+use Rattle.gm_notes.specs.Flow.{sent, waiting}
 use Rattle.gm_notes.specs.Steps.{Step, Close}
-use Rattle.gm_history.specs.Laws.{IsPrefix}
 use Rattle.gm_shared.specs.declared.tape.Entry.{Entry}
 use Rattle.gm_shared.specs.Events.{slot_of}
 use Rattle.gm_shared.specs.Tapes.{step_in, Legal}
@@ -20,7 +19,7 @@ use Rattle.gm_session.specs.declared.heard.Heard.{Heard}
 use Rattle.gm_session.specs.Hearings.{AreHeard}
 use Rattle.gm_session.specs.Talks.{TalkingState, IsTalking}
 use Rattle.gm_delivery.specs.declared.account.Past.{Past}
-use Rattle.gm_delivery.specs.Accounts.{Turn, sent_by, given_in, ArePast, Rise}
+use Rattle.gm_delivery.specs.Accounts.{Turn, drains_at, sent_by, drains_in, ArePast, AreOver}
 use Rattle.gm_promise.specs.Owners.{AreOwn}
 use Rattle.gm_promise.specs.Promise.{says}
 
@@ -30,6 +29,12 @@ use Rattle.gm_promise.specs.Promise.{says}
 abbrev pub sent_at : Settings → ℕ → ℕ → List Entry → List ℕ
 sent_at k n c [] = []
 sent_at k n c (e ∷ older) = if openings c (e ∷ older) == n then sent c (past_of k (e ∷ older)).flow else sent_at k n c older
+
+-- what waits for slot c at its n-th opening, or did when that was closed
+abbrev pub left_at : Settings → ℕ → ℕ → List Entry → List ℕ
+left_at k n c [] = []
+left_at k n c (e ∷ older) =
+    if (openings c (e ∷ older) == n) && is_open c (past_of k (e ∷ older)).notes then waiting c (past_of k (e ∷ older)).flow else left_at k n c older
 
 -- what slot c said since its n-th opening, up to the next one, and was taken: its units, faults and closing, the newest first
 abbrev pub said_since : ℕ → ℕ → List Entry → List Step
@@ -55,30 +60,41 @@ AreHandedIn limits log c (heard ∷ older) = IsHandedIn limits log c (length old
 
 -- ---- what was written
 
--- To the connection of this opening of slot c a prefix of what turns send was written, all of it where that is said: in each turn the bytes that were
--- drained, and behind them a NOOP where one was taken. The bytes of all turns are a prefix of what the abstract server sent since that opening.
-pub record IsSent (k : Settings) (log : List Entry) (c : ℕ) (p : Past) : Type 0 where
+-- the bytes of drains, of which the newest is the first, in the order in which they were drained
+abbrev pub joined : List (List ℕ) → List ℕ
+joined [] = []
+joined (gave ∷ older) = joined older ++ gave
+
+-- The turns are the drains of slot c at its n-th opening, one for one, each with the NOOP that was taken for it behind its bytes or with none. To the
+-- connection a prefix of what they send was written, all of it where that is said. Their bytes, and then what still waited as the slot was closed, are
+-- all that the abstract server sent since that opening.
+pub record IsSent (k : Settings) (log : List Entry) (c n : ℕ) (p : Past) : Type 0 where
   pub turns : List Turn
   pub rest : List ℕ
+  pub drained : drains_at n c log ≡ drains_in turns
   pub written : sent_by turns ≡ p.log ++ rest
   pub whole : p.is_whole ≡ true → rest ≡ []
-  pub given : IsPrefix (given_in turns) (sent_at k p.opening c log)
+  pub all : sent_at k n c log ≡ joined (drains_in turns) ++ left_at k n c log
+
+-- so it is of each connection that is gone, the newest first; the last of them is of the first opening
+abbrev pub AreSent : Settings → List Entry → ℕ → List Past → Type 0
+AreSent k log c [] = Unit {0}
+AreSent k log c (p ∷ older) = IsSent k log c (length older + 1) p × AreSent k log c older
 
 -- ---- the law
 
 -- What was read from each connection of slot c that is closed is handed in. There is one for each opening of the slot, but for the last one while the
--- slot is open. What was written to each that is gone was sent to it, and no two that were written to are of one opening.
+-- slot is open. What was written to each that is gone was sent to it.
 pub record AreServed (k : Settings) (limits : Limits) (log : List Entry) (c : ℕ) (heard : List Heard) (past : List Past) : Type 0 where
   pub handed_in : AreHandedIn limits log c heard
   pub all : openings c log ≡ length heard + (if is_open c (past_of k log).notes then 1 else 0)
-  pub sent : All (IsSent k log c) past
-  pub rise : Rise past
+  pub sent : AreSent k log c past
 
 -- It is so of any legal history in which each entry is its desk's or pen's own, and of any slot: if `heard` is the account of what the slot's desk handed
--- in, and `past` of what its pen gave, and the history has nothing of that desk and that pen that they haven't seen.
+-- in, and `past` of what its pen gave, each complete, and the history has nothing of that desk and that pen that they haven't seen.
 abbrev pub ConnectionsAreServed : Type 0
 ConnectionsAreServed = (k : Settings) (limits : Limits) (log : List Entry) → Legal k log → AreOwn log → (c takes : ℕ) (heard : List Heard) (past : List Past)
     (since heard_until given_until : List Entry) (talking : Option TalkingState)
     → AreHeard c limits heard since → IsTalking c limits since heard_until talking → Knows log (2 * c) heard_until
-    → ArePast c past given_until takes → Rise past → Knows log (2 * c + 1) given_until
+    → ArePast c past given_until takes → AreOver c past given_until → Knows log (2 * c + 1) given_until
     → AreServed k limits log c heard past

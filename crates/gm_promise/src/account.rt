@@ -10,4 +10,6 @@ pub struct Account {
     pub limits: Limits,
     pub heard: HearingLedger,
     pub sent: Ledger,
+    /// To how many connections that was, one for each opening; the greatest `u64` if that can't be said.
+    pub openings: u64,
 }

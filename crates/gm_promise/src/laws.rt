@@ -39,8 +39,8 @@ pub fn bytes_are_in_the_history()
 {}
 
 /// A connection's whole life: what was handed in of it are the first units of what was read from it, and what was written to it is a prefix of
-/// what the abstract server sent to it, each NOOP behind the bytes that were drained with it. Each opening of a slot but one that is still open
-/// has its own account of what was read.
+/// what was drained for it, each NOOP behind the bytes of its drain. These bytes, and then what still waited as the slot was closed, are all that
+/// the abstract server sent to it. Each opening of a slot but one that is still open has its own account of what was read.
 pub fn connections_are_served()
     ensures { ConnectionsAreServed }
 {}

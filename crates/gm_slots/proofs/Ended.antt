@@ -46,6 +46,6 @@ whole_of k taped history settled accounts log is of legal agrees own tape up eve
 pub not_settled : (k : Settings) (taped : Bool) (history : TableId) (accounts : List Account) (error : SettleError) (shares : List (Actor × List Told)) (witnesses : List WitnessState) → WhySo k taped error shares witnesses
     → SettledSo k taped history (Err error) accounts
 not_settled k taped history accounts Memory shares witnesses why = tt
-not_settled k taped history accounts (Differs settled) shares witnesses why = λ all closed.
+not_settled k taped history accounts (Differs settled) shares witnesses why = λ all closed counted.
     let first : Actor × List Told → Actor = λ share. share.0 in
     why.missing (ap (map first) (sym why.ended.shares_are) ∙ (map_twice told_by first settled.shares.items ∙ all))

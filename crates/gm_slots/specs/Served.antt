@@ -13,7 +13,7 @@ use Rattle.gm_shared.specs.Shared.{told_by, everybody}
 use Rattle.gm_core.specs.Holds.{CoreAgrees}
 use Rattle.gm_promise.specs.Owners.{AreOwn}
 use Rattle.gm_promise.specs.declared.account.Account.{Account}
-use Rattle.gm_promise.specs.Accounts.{AreAccounted}
+use Rattle.gm_promise.specs.Accounts.{AreCounted, AreAccounted}
 use Rattle.gm_report.specs.declared.error.ServeError.{ServeError}
 use Rattle.gm_report.specs.declared.error.ServeError.TheVariants as errors
 use Rattle.gm_report.specs.Statuses.{summary_status}
@@ -42,15 +42,15 @@ pub record IsWhole (k : BookSettings) (taped : Bool) (history : TableId) (settle
   pub closed : AllClosed k (steps_of settled.history.log)
   pub accounted : AreAccounted k settled.history.log accounts
 
--- A share is missing, or a slot is open.
-abbrev pub IsPartial : BookSettings → Settled → Type 0
-IsPartial k settled = HasEverybody k settled → AllClosed k (steps_of settled.history.log) → ⊥
+-- A share is missing, a slot is open, or an account doesn't have all openings of its slot.
+abbrev pub IsPartial : BookSettings → Settled → List Account → Type 0
+IsPartial k settled accounts = HasEverybody k settled → AllClosed k (steps_of settled.history.log) → AreCounted settled.history.log accounts → ⊥
 
 -- how a book with this history was settled, with the accounts of its slots, or that it couldn't be
 abbrev pub SettledSo : BookSettings → Bool → TableId → Result Settled SettleError → List Account → Type 0
 SettledSo k taped history (Ok settled) accounts = IsWhole k taped history settled accounts
 SettledSo k taped history (Err of_book.Memory) accounts = Unit {0}
-SettledSo k taped history (Err (of_book.Differs settled)) accounts = IsPartial k settled
+SettledSo k taped history (Err (of_book.Differs settled)) accounts = IsPartial k settled accounts
 
 -- a server with these settings served, and its book was settled so: the one history is that which is handed out
 abbrev pub EndsSo : BookSettings → Bool → Served → Type 0

@@ -1,16 +1,18 @@
 //! The end of a server: its book is settled, and everybody's share is there.
 
-ghost use Rattle.std.specs.Prelude.{◌≡◌, Bool, List, [], ◌∷◌, IfOk, MatchBool, All, map, length, true};
+ghost use Rattle.std.specs.Prelude.{◌≡◌, ◌<◌, ℕ, Bool, List, [], ◌∷◌, IfOk, MatchBool, All, map, length, true};
 ghost use Rattle.atomic_table.specs.Seated.{TableId};
 ghost use Rattle.gm_notes.specs.Settings.{Settings as BookSettings};
 ghost use Rattle.gm_notes.specs.Steps.{Step};
 ghost use Rattle.gm_core.specs.Holds.{CoreAgrees};
+ghost use Rattle.gm_shared.specs.declared.tape.Entry.{Entry};
+ghost use Rattle.gm_shared.specs.Openings.{Counts};
 ghost use Rattle.gm_shared.specs.Tapes.{steps_of};
 ghost use Rattle.gm_shared.specs.declared.tape.Actor.TheVariants as actors;
 ghost use Rattle.gm_shared.specs.Shared.{everybody, numbers_below};
 ghost use Rattle.gm_session.specs.Owners.{SaysOwn};
 ghost use Rattle.gm_promise.specs.declared.account.Account.{Account};
-ghost use Rattle.gm_promise.specs.Accounts.{AreAccounts};
+ghost use Rattle.gm_promise.specs.Accounts.{AreAccounts, AreCounted};
 ghost use Rattle.gm_slots.specs.Served.{HasEverybody, AllClosed, IsWhole, SettledSo};
 
 use crate::served::Served;
@@ -18,7 +20,9 @@ use crate::slot::{Slot, SlotParts};
 use gm_core::Core;
 use gm_promise::Account;
 use gm_session::OwnDesk;
-use gm_shared::{Actor, BookName, Desk, Pen, SettleError, Settled, Share, Shared, settle};
+use gm_shared::{
+    Actor, BookName, Desk, Openings, Pen, SettleError, Settled, Share, Shared, settle,
+};
 use std::alloc::{AllocError, Global};
 
 /// All that have a share in a book with this number of slots, in order: the desks, the control desk, the pens.
@@ -102,13 +106,39 @@ fn are_closed(core: &Core, slots: u32) -> bool
     true
 }
 
-/// A book that is settled, if everybody's share is there and no slot is open.
-fn with_everybody(settled: Settled, actors: &[Actor], slots: u32) -> Result<Settled, SettleError>
-    ensures { (k : BookSettings) (taped : Bool) (history : TableId) (accounts : List Account) → actors.now ≡ everybody k.slots → k.slots ≡ slots
-        → CoreAgrees settled.core k (steps_of settled.history.log)
-        → (HasEverybody k settled → AllClosed k (steps_of settled.history.log) → IsWhole k taped history settled accounts) → SettledSo k taped history result accounts }
+/// Whether each account says that its slot was opened as often as this, and that can be told.
+fn are_counted(openings: &Openings, accounts: &[Account], slots: u32) -> bool
+    requires { length accounts.now ≡ slots }
+    ensures { (log : List Entry) → Counts slots openings.now log → MatchBool result (AreCounted log accounts.now) (AreCounted log accounts.now → ⊥) }
 {
-    if are_of(settled.shares.as_slice(), actors) && are_closed(&settled.core, slots) {
+    for slot in 0..slots {
+        let Some(account) = accounts.get(slot as usize) else {
+            unreachable!()
+        };
+        if account.openings == u64::MAX || account.openings != openings.of(slot) {
+            return false;
+        }
+    }
+    true
+}
+
+/// A book that is settled, if everybody's share is there, no slot is open, and each account has all openings of its slot.
+fn with_everybody(
+    settled: Settled,
+    actors: &[Actor],
+    slots: u32,
+    accounts: &[Account],
+) -> Result<Settled, SettleError>
+    requires { length accounts.now ≡ slots }
+    ensures { (k : BookSettings) (taped : Bool) (history : TableId) → actors.now ≡ everybody k.slots → k.slots ≡ slots
+        → CoreAgrees settled.core k (steps_of settled.history.log) → Counts k.slots settled.openings settled.history.log
+        → (HasEverybody k settled → AllClosed k (steps_of settled.history.log) → AreCounted settled.history.log accounts.now → IsWhole k taped history settled accounts.now)
+        → SettledSo k taped history result accounts.now }
+{
+    if are_of(settled.shares.as_slice(), actors)
+        && are_closed(&settled.core, slots)
+        && are_counted(&settled.openings, accounts, slots)
+    {
         Ok(settled)
     } else {
         Err(SettleError::Differs(settled))
@@ -136,7 +166,7 @@ pub fn settle_slots<K: BookName>(
         accounts,
     } = all_parts(alloc, slots, control)?;
     let book = match settle(alloc, shared, desks, pens) {
-        Ok(settled) => with_everybody(settled, actors.as_slice(), slot_count),
+        Ok(settled) => with_everybody(settled, actors.as_slice(), slot_count, accounts.as_slice()),
         Err(error) => Err(error),
     };
     Ok(Served {

@@ -32,15 +32,16 @@ impl<K: BookName> Slot<K> {
     /// What was given to the slot, and the account of its connections.
     pub(crate) fn into_parts(self) -> SlotParts<K>
         ensures { IsAccount (result.desk.desk.number, result.desk.desk.witness.seen) (result.pen.slot, result.pen.witness.seen, result.pen.seat.takes)
-            result.account.limits result.account.heard result.account.sent }
+            result.account }
     {
         let Slot { talk, lane } = self;
         let (desk, limits, heard) = talk.into_inner().into_parts();
-        let (pen, sent) = lane.into_parts();
+        let (pen, sent, openings) = lane.into_parts();
         let account = Account {
             limits,
             heard,
             sent,
+            openings,
         };
         SlotParts { desk, pen, account }
     }

@@ -191,6 +191,7 @@ impl<'s, K: BookName + Send + Sync> Control<'s, K> {
         };
         state.progress.begin_connection();
         if !crews::prepare(scope, rt, state, gate, slot) {
+            slot.lane.refuse(rt, opening, halves.writing);
             state.close(rt, &mut slot.talk.lock(rt));
             return Err(Refusal::new(Trouble::Threads));
         }

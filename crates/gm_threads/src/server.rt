@@ -117,8 +117,8 @@ impl Ready for Untold {
 /// it is compared with what each connection's desk and pen were told.
 ///
 /// `Memory` comes if there is no memory for the book or for its end, and with a tape if there is none to enter the end
-/// of a connection, which stops the server; `Differs` where the tape differs from what was told or a slot is still open; `Listen`
-/// where the listener fails. With a tape it answers `Ok` exactly where the two agree.
+/// of a connection, which stops the server; `Differs` where the tape differs from what was told, a slot is still open or an account lacks
+/// an opening; `Listen` where the listener fails. With a tape it answers `Ok` exactly where the two agree.
 pub fn serve<R: Threads + Wait + Clock + Eprint + Copy + Send + Sync + 'static, G: Gate>(
     rt: &R,
     alloc: Global,

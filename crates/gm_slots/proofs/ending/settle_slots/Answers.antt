@@ -1,15 +1,22 @@
-use Rattle.std.proofs.Common.{◌∙◌, ap, sym, subst, get_or}
+use Rattle.std.proofs.Common.{◌∙◌, List, length, ap, sym, subst, get_or}
+use Rattle.gm_shared.specs.Openings.{Counts}
 use Rattle.gm_shared.specs.Tapes.{AddUp, steps_of}
 use Rattle.gm_shared.specs.Shared.{everybody}
 use Rattle.gm_core.specs.Holds.{CoreAgrees}
 use Rattle.gm_promise.specs.Owners.{AreOwn}
-use Rattle.gm_slots.specs.Served.{HasEverybody}
+use Rattle.gm_promise.specs.declared.account.Account.{Account}
+use Rattle.gm_promise.specs.Accounts.{AreCounted}
+use Rattle.gm_slots.specs.Served.{HasEverybody, AllClosed, IsWhole, SettledSo}
 use Rattle.gm_promise.proofs.Owning.{ended_own}
 use Rattle.gm_slots.proofs.Numbering.{as_many}
 use Rattle.gm_promise.proofs.Accounted.{accounted}
 use Rattle.gm_slots.proofs.Ended.{not_settled, whole_of}
 use Rattle.gm_slots.proofs.ending.settle_slots.Goals as goal
 use Rattle.gm_slots.proofs.ending.settle_slots.Goals.{in-Ok, in-Err}
+
+pub with_everybody-book-requires : goal.with_everybody-book-requires
+with_everybody-book-requires g c =
+    ap length c.as_slice-in-Ok.ensures.value ∙ (c.in_ok-desks.ensures.all ∙ as_many (λ slot. slot.lane.slot) c.args.slots.items c.args.slot_count c.requires.numbered)
 
 pub returns : goal.returns
 returns g c = elim c.match-settle.branch [
@@ -24,13 +31,17 @@ returns g c = elim c.match-settle.branch [
       desks pens w.in-Ok.settled.shares.items ended.whose ended.shares_are ended.seen
       (λ i none lt. let desk = get_or desks i none in (desk.witnessed.1, all.own i none lt))
       (λ i none lt. let pen = get_or pens i none in (pen.witnessed.1, pen.own)) same in
-      rw w.book-is (w.with_everybody-book.ensures k g.K.BookName.taped g.K.BookName.history _ (w.as_slice.ensures.value ∙ (c.in_ok-actors.ensures ∙ ap everybody c.requires.sized))
+      let told = subst (λ (l : List Account). (HasEverybody k w.in-Ok.settled → AllClosed k (steps_of w.in-Ok.settled.history.log) → AreCounted w.in-Ok.settled.history.log l
+      → IsWhole k g.K.BookName.taped g.K.BookName.history w.in-Ok.settled l) → SettledSo k g.K.BookName.taped g.K.BookName.history w.with_everybody-book.result l) w.as_slice-in-Ok.ensures.value
+      (w.with_everybody-book.ensures k g.K.BookName.taped g.K.BookName.history (w.as_slice.ensures.value ∙ (c.in_ok-actors.ensures ∙ ap everybody c.requires.sized))
       (sym c.requires.sized) (subst (λ l. CoreAgrees w.in-Ok.settled.core k (steps_of l)) (sym ended.log_is) ended.agrees)
-      (λ same closed. whole_of k g.K.BookName.taped g.K.BookName.history w.in-Ok.settled _ ended.log ended.log_is w.in-Ok.ensures.history ended.legal ended.agrees (own same) ended.tape
+      (subst (λ l. Counts k.slots w.in-Ok.settled.openings l) (sym ended.log_is) ended.counts)) in
+      rw w.book-is (told
+      (λ same closed counted. whole_of k g.K.BookName.taped g.K.BookName.history w.in-Ok.settled _ ended.log ended.log_is w.in-Ok.ensures.history ended.legal ended.agrees (own same) ended.tape
       (subst (AddUp w.in-Ok.settled.tape.items) (sym ended.shares_are) settled.up) same closed
       (accounted (λ desk. desk.number) (λ desk. desk.share.items) (λ desk. desk.witness) (λ pen. pen.slot) (λ pen. pen.share.items) (λ pen. pen.witness) (λ pen. pen.seat.takes) k ended.log ended.legal (own same)
       desks pens w.in-Ok.settled.shares.items c.in_ok-desks.field-0.accounts.items ended.shares_are ended.seen
       (λ i none lt. (get_or desks i none).witnessed.1) (λ i none lt. (get_or pens i none).witnessed.1) same all.accounts
-      (all.all ∙ (as_many (λ slot. slot.lane.slot) c.args.slots.items c.args.slot_count c.requires.numbered ∙ c.requires.sized)))))
+      (all.all ∙ (as_many (λ slot. slot.lane.slot) c.args.slots.items c.args.slot_count c.requires.numbered ∙ c.requires.sized)) (subst (λ l. AreCounted l c.in_ok-desks.field-0.accounts.items) ended.log_is counted))))
   | in-Err w ↦ rw w.book-is (not_settled g.K.BookName.settings g.K.BookName.taped g.K.BookName.history _ w.in-Err.error _ _ w.in-Err.ensures.unsettled)
 ]

@@ -1,4 +1,4 @@
-use Rattle.std.proofs.Common.{max, refl, sym, ap, ◌∙◌}
+use Rattle.std.proofs.Common.{refl, sym, ap, ◌∙◌}
 use Rattle.gm_outbox.proofs.Delivering.{takes_as, called_as, delivers_some, delivers_failed, delivers_none, delivers_elsewhere, given_all, given_last, given_some, given_failed}
 use Rattle.gm_outbox.proofs.outbox.Outbox.deliver.Goals as goal
 
@@ -24,11 +24,10 @@ pub returns-then-opening-self-clause-delivers : goal.returns-then-opening-self-c
 returns-then-opening-self-clause-delivers g c =
     let pen = c.in-All.ensures.pen in
     let asked = c.take-took.ensures in
-    let noted = c.raise_opening.ensures in
-    rw noted.left (delivers_elsewhere _ _ _ _ _ _ _ _ _ _ _ _ _ c.in-All.ensures.sends c.take-took.result
-    (takes_as _ _ _ _ _ (ap (λ p. p.seat.takes) pen) (ap (λ s. s.takes) (sym c.in-Ok.ensures.seat) ∙ ap (λ p. p.seat.takes) (sym noted.pen)) asked.takes)
-    c.in-Ok.drained (λ same. c.if-opening-self.true (same ∙ sym c.in-All.ensures.opening)) (noted.opening ∙ ap (λ o. max o c.in-Ok.drained.opening) c.in-All.ensures.opening)
-    (called_as _ _ _ _ _ _ _ _ _ (asked.slot ∙ ap (λ p. p.slot) pen) (ap (λ f. f.seen) asked.witness ∙ ap (λ p. p.witness.seen) pen) (ap (λ p. p.witness.seen) (sym noted.pen)) c.in-Ok.ensures.called))
+    delivers_elsewhere _ _ _ _ _ _ _ _ _ _ _ _ _ c.in-All.ensures.sends c.take-took.result
+    (takes_as _ _ _ _ _ (ap (λ p. p.seat.takes) pen) (ap (λ s. s.takes) (sym c.in-Ok.ensures.seat)) asked.takes)
+    c.in-Ok.drained (λ same. c.if-opening-self.true (same ∙ sym c.in-All.ensures.opening)) refl
+    (called_as _ _ _ _ _ _ _ _ _ (asked.slot ∙ ap (λ p. p.slot) pen) (ap (λ f. f.seen) asked.witness ∙ ap (λ p. p.witness.seen) pen) refl c.in-Ok.ensures.called)
 
 pub returns-then-shut-clause-delivers : goal.returns-then-shut-clause-delivers
 returns-then-shut-clause-delivers g c =
