@@ -1,5 +1,5 @@
 /* How an I/O thread reads the connections of SLOTS slots (run_few and serve_round, crews.rt; Poller and Hub, gm_poll; ServerState::visit,
- * turn, read and then_of, serving.rt; Session::fill, Applier::step and unload, gm_session): by edges, which the system reports once, marks
+ * turn and read, serving.rt; Talk::take_left, Session::fill, Applier::step and unload, gm_session): by edges, which the system reports once, marks
  * that others make, what it put back, and the endings that it looks at again. Each slot has GENS connections one after another. A
  * connection's peer sends up to SENDS units at any time, and may then send no more or stay; a unit may be a fault, and the end of a
  * connection may have to wait for its peer. WAKES times others wake a slot's finisher.
@@ -44,7 +44,7 @@
 #define ENDING  1
 #define ENDED   2
 
-/* Left (heard.rt), and Then (serving.rt): the same, or ENDS */
+/* Left (heard.rt), or ENDS: nothing is read any more */
 #define NOTHING 0
 #define LITTLE  1
 #define MORE    2
@@ -224,7 +224,7 @@ inline finish(s) {
         fi }
 }
 
-/* ServerState::turn, read and end, discard and then_of (serving.rt), with Talk::step (talk.rt) and Session::fill (session.rt): a read
+/* ServerState::turn, read and end, and discard (serving.rt), with Talk::step and take_left (talk.rt) and Session::fill (session.rt): a read
  * that waits or not; then Applier::unload (applier.rt) */
 inline turn(s, waits) {
     has_read = !has_units[s]; is_cut = false; n = 0;
@@ -232,7 +232,7 @@ inline turn(s, waits) {
     :: talking[s] == IS_OVER ->
         atomic {
             if
-            :: in[s] > 0 -> in[s] = 0; then = MORE
+            :: in[s] > 0 -> in[s] = 0; then = LITTLE
             :: in[s] == 0 && (fin[s] || down[s]) -> then = ENDS
             :: in[s] == 0 && !fin[s] && !down[s] && !waits -> then = NOTHING
             fi }
@@ -393,7 +393,7 @@ proctype Thread() {
     od
 }
 
-/* run_reader and read_on (crews.rt) */
+/* run_reader (crews.rt) */
 proctype Reader() {
     byte n = 0; byte then = 0; byte left = 0;
     bool was_marked = false; bool has_read = false; bool is_cut = false; bool is_gone = false;

@@ -115,7 +115,7 @@ inline at_lane() {
     od;
     if
     :: closing ->
-        atomic { connections--; closing = false; fin = NOTHING };    /* Progress::end_connection */
+        atomic { connections--; closing = false; fin = NOTHING };    /* ServerState::close */
 #ifdef M_COUNT_BEFORE_FAILED
         if
         :: fails_later -> fails_later = false; RISE(FAILED)
@@ -182,7 +182,7 @@ inline turn(s, waits) {
 #define IS_READABLE(s) ((talking[s] == READING && (units[s] > 0 || MAY_FAIL(s) || !stays[s] || down[s])) \
     || (talking[s] == IS_OVER && (down[s] || !stays[s])))
 
-/* run_reader and read_on (crews.rt) */
+/* run_reader (crews.rt) */
 inline run_reader(s) {
     holds = true;
     LOCK(talk[s]);
@@ -192,7 +192,7 @@ inline run_reader(s) {
         if
         :: server_stage == SERVER_ENDED -> break
         :: server_stage != SERVER_ENDED ->
-            atomic { waiting[s] = true; UNLOCK(talk[s]) };     /* Condvar::wait_while */
+            atomic { waiting[s] = true; UNLOCK(talk[s]) };     /* Condvar::wait */
             atomic { (!waiting[s] && talk[s] == 0) -> talk[s] = 1 }
         fi
     od;

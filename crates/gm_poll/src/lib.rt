@@ -6,4 +6,4 @@ mod hub;
 mod poller;
 
 pub use hub::Hub;
-pub use poller::{Call, Next, Poller};
+pub use poller::{Call, Poller};

@@ -14,7 +14,7 @@ pub(crate) const MARKS: usize = 64;
 /// How many events it takes at a time.
 const EVENTS: usize = 256;
 
-/// A slot to serve.
+/// A slot that a thread serves, and why it is to be served.
 #[derive(Clone, Copy)]
 pub struct Call {
     pub slot: u32,
@@ -22,26 +22,9 @@ pub struct Call {
     pub is_woken: bool,
     /// More may be there behind a short read: the peer closed its side, or an urgent byte cut the read short.
     pub is_odd: bool,
-}
-
-/// When a slot is to be served next, but for when it is called.
-#[derive(Clone, Copy)]
-pub struct Next {
-    /// Once the others were called that are to be called now.
-    pub is_now: bool,
-    /// In a while.
-    pub is_again: bool,
-}
-
-/// What a thread keeps of a slot that it serves.
-#[derive(Clone, Copy)]
-struct SlotState {
-    slot: u32,
-    /// Whether it is among those to serve.
+    /// It is among those to serve.
     is_ready: bool,
-    is_woken: bool,
-    is_odd: bool,
-    /// Whether it is among those that are looked at again.
+    /// It is among those that are looked at again.
     is_again: bool,
 }
 
@@ -53,7 +36,7 @@ pub struct Poller {
     /// The thread's number, which is its first slot's, and how many threads there are, so how far its slots are apart.
     thread: u32,
     count: u32,
-    states: Vec<SlotState>,
+    calls: Vec<Call>,
     // The slots to serve that were reported or woken, each once, so that there is room for all.
     ready: VecDeque<usize>,
     // Slots with more to do after their turn: they come behind the others. A slot is in at most one of the two, once.
@@ -74,13 +57,13 @@ impl Poller {
         slots: u32,
     ) -> Result<Poller, AllocError> {
         let count = count.max(1);
-        let mut states = Vec::new(alloc);
+        let mut calls = Vec::new(alloc);
         for slot in (thread..slots).step_by(count as usize) {
-            states.push(SlotState {
+            calls.push(Call {
                 slot,
-                is_ready: false,
                 is_woken: false,
                 is_odd: false,
+                is_ready: false,
                 is_again: false,
             })?;
         }
@@ -89,10 +72,10 @@ impl Poller {
             events: Events::with_capacity(alloc, EVENTS)?,
             thread,
             count,
-            ready: VecDeque::with_capacity(alloc, states.len())?,
-            behind: VecDeque::with_capacity(alloc, states.len())?,
-            again: VecDeque::with_capacity(alloc, states.len())?,
-            states,
+            ready: VecDeque::with_capacity(alloc, calls.len())?,
+            behind: VecDeque::with_capacity(alloc, calls.len())?,
+            again: VecDeque::with_capacity(alloc, calls.len())?,
+            calls,
             looked: None,
         })
     }
@@ -117,7 +100,7 @@ impl Poller {
             .poll
             .poll(&mut self.events, Some(Duration::from_millis(time)));
         for event in &self.events {
-            take_event(&mut self.states, &mut self.ready, self.count, event);
+            take_event(&mut self.calls, &mut self.ready, self.count, event);
         }
         self.take_marks(hub);
         self.look_again(rt);
@@ -126,7 +109,7 @@ impl Poller {
     /// Takes the marks that others made.
     fn take_marks(&mut self, hub: &Hub) {
         // Modelled in models/polling.pml.
-        for at in 0..self.states.len().div_ceil(MARKS) {
+        for at in 0..self.calls.len().div_ceil(MARKS) {
             let marks = hub.take_marks(self.thread, at);
             if marks != 0 {
                 self.call_marked(at * MARKS, marks);
@@ -146,12 +129,12 @@ impl Poller {
     /// A slot is to be served, though its socket wasn't reported.
     fn call(&mut self, at: usize) {
         // Modelled in models/polling.pml.
-        let Some(state) = self.states.get_mut(at) else {
+        let Some(call) = self.calls.get_mut(at) else {
             return;
         };
-        state.is_woken = true;
-        if !state.is_ready {
-            state.is_ready = true;
+        call.is_woken = true;
+        if !call.is_ready {
+            call.is_ready = true;
             let _ = self.ready.push_back(at);
         }
     }
@@ -166,8 +149,8 @@ impl Poller {
             let Some(at) = self.again.pop_front() else {
                 break;
             };
-            if let Some(state) = self.states.get_mut(at) {
-                state.is_again = false;
+            if let Some(call) = self.calls.get_mut(at) {
+                call.is_again = false;
             }
             self.call(at);
         }
@@ -196,48 +179,45 @@ impl Poller {
             Some(at) => at,
             None => self.behind.pop_front()?,
         };
-        let state = self.states.get_mut(at)?;
-        let is_woken = state.is_woken;
-        state.is_ready = false;
-        state.is_woken = false;
-        Some(Call {
-            slot: state.slot,
-            is_woken,
-            is_odd: state.is_odd,
-        })
+        let call = self.calls.get_mut(at)?;
+        let next = *call;
+        call.is_ready = false;
+        call.is_woken = false;
+        Some(next)
     }
 
-    /// A slot was served, and is to be served next then.
-    pub fn put_back(&mut self, slot: u32, next: Next) {
+    /// A slot was served: it is to be served again once the others were that are to be served now, or when it is called; and it is looked
+    /// at again in a while or not.
+    pub fn put_back(&mut self, slot: u32, is_now: bool, is_again: bool) {
         // Modelled in models/polling.pml.
         let at = (slot / self.count.max(1)) as usize;
-        let Some(state) = self.states.get_mut(at) else {
+        let Some(call) = self.calls.get_mut(at) else {
             return;
         };
-        state.is_odd = state.is_odd && next.is_now;
-        if next.is_now && !state.is_ready {
-            state.is_ready = true;
+        call.is_odd = call.is_odd && is_now;
+        if is_now && !call.is_ready {
+            call.is_ready = true;
             let _ = self.behind.push_back(at);
         }
-        if next.is_again && !state.is_again {
-            state.is_again = true;
+        if is_again && !call.is_again {
+            call.is_again = true;
             let _ = self.again.push_back(at);
         }
     }
 }
 
 /// The slot of an event is to be served.
-fn take_event(states: &mut Vec<SlotState>, ready: &mut VecDeque<usize>, count: u32, event: &Event) {
+fn take_event(calls: &mut Vec<Call>, ready: &mut VecDeque<usize>, count: u32, event: &Event) {
     // Modelled in models/polling.pml.
     let at = event.token().0 / count.max(1) as usize;
-    let Some(state) = states.get_mut(at) else {
+    let Some(call) = calls.get_mut(at) else {
         return;
     };
     if event.is_read_closed() || event.is_priority() {
-        state.is_odd = true;
+        call.is_odd = true;
     }
-    if !state.is_ready {
-        state.is_ready = true;
+    if !call.is_ready {
+        call.is_ready = true;
         let _ = ready.push_back(at);
     }
 }

@@ -10,11 +10,11 @@ mod systemd;
 mod timing;
 
 pub use error::ServeError;
-pub use notices::{Counts, Trouble};
-pub use ready::{Ready, Report};
+pub use notices::Trouble;
+pub use ready::Announcer;
 pub use speaking::Speaker;
 pub use summary::Summary;
-pub use systemd::{Systemd, first_socket, handed_sockets};
+pub use systemd::{first_socket, handed_sockets};
 pub use timing::{
     ACCEPT_TIMEOUT_MS, AGAIN_MS, DELIVERING_TIME_MS, ENDING_TIME_MS, MOST_ENDING_TIME_MS,
     TURN_TIME_US, WAKING_TIME_MS, has_passed, now_ms,

@@ -106,20 +106,15 @@ impl Remark {
     }
 }
 
-/// What became of connections, counted from the start.
-#[derive(Clone, Copy, PartialEq, Eq)]
-pub struct Counts {
-    pub refused: u64,
-    pub cut: u64,
-    pub faulty: u64,
-    pub timed_out: u64,
-}
-
 /// What is to be said, or was.
 #[derive(Clone, Copy)]
 pub(crate) struct Notices {
     pub(crate) troubles: [Remark; TROUBLES],
-    pub(crate) counts: Counts,
+    // How many connections were refused since the start, cut, had a faulty stream, and had a peer that vanished.
+    pub(crate) refused: u64,
+    pub(crate) cut: u64,
+    pub(crate) faulty: u64,
+    pub(crate) timed_out: u64,
     /// The types of packets that came and aren't requests: the first `type_count` are types that came, each with the peer that sent the
     /// first such packet.
     types: [(u32, Option<SocketAddr>); MOST_TYPES],
@@ -144,12 +139,10 @@ impl Notices {
         };
         Notices {
             troubles: [well; TROUBLES],
-            counts: Counts {
-                refused: 0,
-                cut: 0,
-                faulty: 0,
-                timed_out: 0,
-            },
+            refused: 0,
+            cut: 0,
+            faulty: 0,
+            timed_out: 0,
             types: [(0, None); MOST_TYPES],
             type_count: 0,
             said_types: 0,
@@ -164,9 +157,9 @@ impl Notices {
     pub(crate) fn meet(&mut self, trouble: Trouble, error: i32) -> bool {
         match trouble {
             Trouble::Slots | Trouble::Memory | Trouble::Threads | Trouble::Events => {
-                self.counts.refused = self.counts.refused.saturating_add(1);
+                self.refused = self.refused.saturating_add(1);
             }
-            Trouble::Cut => self.counts.cut = self.counts.cut.saturating_add(1),
+            Trouble::Cut => self.cut = self.cut.saturating_add(1),
             Trouble::Descriptors | Trouble::Accept | Trouble::Notify => {}
         }
         let is_due = self.troubles[trouble as usize].meet(error);

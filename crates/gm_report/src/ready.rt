@@ -1,24 +1,117 @@
-//! Receivers of a server's status: ready, slots used, connections refused and cut.
+//! How the status of a server is told: that it is ready, how many slots it uses, and how many connections it refused and cut.
+
+use crate::notices::Trouble;
+use crate::speaking::Speaker;
+use crate::systemd::{Address, notify_address, send_message};
+use std::env::Env;
+use std::io;
+use std::io::{Cursor, Write};
+use std::sync::Wait;
+
+/// How long the line is at most that says how the service is.
+const STATUS: usize = 160;
 
 /// How a server is.
 #[derive(Clone, Copy, Debug, PartialEq, Eq)]
-pub struct Report {
+pub(crate) struct Report {
     /// How many connections are open.
-    pub connections: u64,
+    pub(crate) connections: u64,
     /// How many slots there are.
-    pub slots: u32,
+    pub(crate) slots: u32,
     /// How many connections were refused since the start.
-    pub refused: u64,
+    pub(crate) refused: u64,
     /// How many were cut since then as there was no memory.
-    pub cut: u64,
+    pub(crate) cut: u64,
 }
 
-/// Receives a server's status.
-pub trait Ready {
-    /// Announces that its book is open, its threads are there, and it is about to take connections, and says whether it could. Where not,
-    /// the server ends at once.
-    fn announce(&mut self) -> bool;
+/// Tells how a server is: an output that it listens, and systemd that it is ready (sd_notify(3)), and then its status.
+#[derive(Drop)]
+pub struct Announcer<'w, W> {
+    output: &'w mut W,
+    /// The output took what it was told.
+    pub is_well: bool,
+    /// Where systemd listens, if it is told.
+    systemd: io::Result<Option<Address>>,
+    /// It was told that the server is ready.
+    is_ready: bool,
+    /// What it was told last.
+    told: Option<Report>,
+}
 
-    /// Is told about once a second how the server is.
-    fn go_on(&mut self, report: Report);
+impl<'w, W: Write> Announcer<'w, W> {
+    /// Tells only this output.
+    pub fn new(output: &'w mut W) -> Announcer<'w, W> {
+        Announcer {
+            output,
+            is_well: true,
+            systemd: Ok(None),
+            is_ready: false,
+            told: None,
+        }
+    }
+
+    /// Tells systemd too, if the environment asks for that.
+    pub fn with_systemd(self, rt: &impl Env) -> Announcer<'w, W> {
+        let mut announcer = self;
+        announcer.systemd = notify_address(rt);
+        announcer
+    }
+
+    /// Announces that the server's book is open, its threads are there, and it is about to take connections, and says whether the output
+    /// took that. Where not, the server is to end at once.
+    pub fn announce(&mut self, rt: &impl Wait, speaker: &Speaker) -> bool {
+        self.is_well = self.output.write_all(b"gmd: listening\n").is_ok()
+            && self.output.flush().is_ok();
+        if self.is_well {
+            self.tell_ready(rt, speaker);
+        }
+        self.is_well
+    }
+
+    /// Sends systemd a message, if it is told, and says whether that is done. Where it fails, that is said.
+    fn send(&self, rt: &impl Wait, speaker: &Speaker, message: &[u8]) -> bool {
+        let outcome = match &self.systemd {
+            Ok(Some(address)) => send_message(address, message),
+            Ok(None) => return true,
+            Err(error) => Err(io::Error::from_raw_os_error(error.raw_os_error().unwrap_or(0))),
+        };
+        match outcome {
+            Ok(()) => {
+                speaker.clear_notify(rt);
+                true
+            }
+            Err(error) => {
+                speaker.remark(rt, Trouble::Notify, error.raw_os_error().unwrap_or(0));
+                false
+            }
+        }
+    }
+
+    /// Tells systemd that the service is ready. Where that fails it can serve without, and is tried again.
+    fn tell_ready(&mut self, rt: &impl Wait, speaker: &Speaker) {
+        self.is_ready = self.send(rt, speaker, b"READY=1");
+    }
+
+    /// Tells systemd how the service is, unless that is what was told last. It has this many connections open, of this many slots.
+    pub fn tell(&mut self, rt: &impl Wait, speaker: &Speaker, connections: u64, slots: u32) {
+        let report = speaker.report(rt, connections, slots);
+        if !self.is_ready {
+            self.tell_ready(rt, speaker);
+        }
+        if self.told == Some(report) {
+            return;
+        }
+        let Report { refused, cut, .. } = report;
+        let mut text = Cursor::new([0; STATUS]);
+        // It fits.
+        let _ = write!(
+            text,
+            "STATUS=slots used: {connections} of {slots}, connections refused: {refused}, cut: {cut}"
+        );
+        let len = text.position() as usize;
+        let text = text.into_inner();
+        if self.send(rt, speaker, &text[..len.min(STATUS)]) {
+            self.told = Some(report);
+        }
+    }
 }

@@ -2,7 +2,8 @@
 //! that.
 
 use crate::error::ServeError;
-use crate::notices::{Counts, Notices, Remark, TROUBLES, Trouble};
+use crate::notices::{Notices, Remark, TROUBLES, Trouble};
+use crate::ready::Report;
 use crate::summary::Summary;
 use crate::timing::{PAUSE_MS, SAYING_TIME_MS};
 use std::alloc::{AllocError, Global};
@@ -69,18 +70,24 @@ impl Speaker {
     /// A connection had a faulty stream.
     pub fn count_faulty(&self, rt: &impl Wait) {
         let mut remarks = self.remarks.lock(rt);
-        remarks.counts.faulty = remarks.counts.faulty.saturating_add(1);
+        remarks.faulty = remarks.faulty.saturating_add(1);
     }
 
     /// A connection's peer vanished.
     pub fn count_timed_out(&self, rt: &impl Wait) {
         let mut remarks = self.remarks.lock(rt);
-        remarks.counts.timed_out = remarks.counts.timed_out.saturating_add(1);
+        remarks.timed_out = remarks.timed_out.saturating_add(1);
     }
 
-    /// What became of connections so far.
-    pub fn counts(&self, rt: &impl Wait) -> Counts {
-        self.remarks.lock(rt).counts
+    /// How a server is that has this many connections open, of this many slots.
+    pub(crate) fn report(&self, rt: &impl Wait, connections: u64, slots: u32) -> Report {
+        let remarks = self.remarks.lock(rt);
+        Report {
+            connections,
+            slots,
+            refused: remarks.refused,
+            cut: remarks.cut,
+        }
     }
 
     /// The server ended so. It waits until that is said, but not for long.
@@ -98,7 +105,7 @@ impl Speaker {
                 .changed
                 .wait_timeout_while(rt, remarks, time, |remarks| !remarks.is_end_said);
         } else {
-            say_end(rt, &outcome, remarks.counts);
+            say_end(rt, &outcome, &remarks);
         }
     }
 
@@ -130,7 +137,7 @@ impl Speaker {
             let remarks = self.next(rt);
             say_due(rt, &remarks, slots);
             if let Some(outcome) = &remarks.outcome {
-                say_end(rt, outcome, remarks.counts);
+                say_end(rt, outcome, &remarks);
                 self.remarks.lock(rt).is_end_said = true;
                 self.changed.notify_all();
                 break;
@@ -192,13 +199,14 @@ fn say_trouble(rt: &impl Eprint, at: usize, count: u64, error: i32, slots: u32) 
 }
 
 /// Says how the server ended.
-fn say_end(rt: &impl Eprint, outcome: &Result<Summary, ServeError>, counts: Counts) {
-    let Counts {
+fn say_end(rt: &impl Eprint, outcome: &Result<Summary, ServeError>, remarks: &Notices) {
+    let Notices {
         refused,
         cut,
         faulty,
         timed_out,
-    } = counts;
+        ..
+    } = *remarks;
     if refused.max(cut).max(faulty).max(timed_out) > 0 {
         let _ = eprintln!(rt;
             "gmd: connections refused: {refused}, cut: {cut}, with faults: {faulty}, timed out: {timed_out}"

@@ -3,19 +3,14 @@
 
 ghost use Rattle.std.specs.Prelude.{◌≤◌};
 
-use crate::notices::Trouble;
-use crate::ready::Report;
-use crate::speaking::Speaker;
 use libc::getpid;
 use libc::net::{
     _SS_SIZE, AF_UNIX, MSG_DONTWAIT, MSG_NOSIGNAL, SOCK_CLOEXEC, SOCK_DGRAM, listen, sendto, socket,
 };
 use os::FromRawFd;
 use std::env::{Env, FillError};
-use std::io::{Cursor, Write};
 use std::net::TcpListener;
 use std::os::fd::{AsRawFd, OwnedFd, RawFd};
-use std::sync::Wait;
 use std::{io, str};
 
 /// The number of the first socket that is handed over.
@@ -26,9 +21,6 @@ const NAME_AT: usize = 2;
 
 /// Where it ends at the latest.
 const NAME_END: usize = 110;
-
-/// How long the line is at most that says how the service is.
-const STATUS: usize = 160;
 
 /// The number that a variable of the environment says: 0 where it isn't there, and `None` where it says another text.
 fn number_in(rt: &impl Env, name: &str) -> Option<u32> {
@@ -70,10 +62,16 @@ pub fn first_socket() -> io::Result<TcpListener> {
     Ok(listener)
 }
 
-/// Sends a message to the Unix socket whose address is in the first bytes of this array, if it takes that at once.
-fn send_message(address: &[u8; _SS_SIZE], len: u32, message: &[u8]) -> io::Result<()>
-    requires { len ≤ 128 }
-{
+/// Where systemd listens.
+#[derive(Drop)]
+pub(crate) struct Address {
+    bytes: [u8; _SS_SIZE],
+    len: u32,
+    ghost short: { len ≤ 128 },
+}
+
+/// Sends a message to the Unix socket at this address, if it takes that at once.
+pub(crate) fn send_message(address: &Address, message: &[u8]) -> io::Result<()> {
     // Sound, as it is passed no memory.
     let fd = unsafe { socket(AF_UNIX, SOCK_DGRAM | SOCK_CLOEXEC, 0) };
     if fd < 0 {
@@ -83,23 +81,23 @@ fn send_message(address: &[u8; _SS_SIZE], len: u32, message: &[u8]) -> io::Resul
     let socket = unsafe { OwnedFd::from_raw_fd(fd) };
     let flags = MSG_NOSIGNAL | MSG_DONTWAIT;
     // Sound, as the call only reads the message and the address.
-    let sent = unsafe { sendto(socket.as_raw_fd(), message, flags, address, len) };
+    let sent = unsafe {
+        sendto(
+            socket.as_raw_fd(),
+            message,
+            flags,
+            &address.bytes,
+            address.len,
+        )
+    };
     if sent < 0 {
         return Err(last_error());
     }
     Ok(())
 }
 
-/// Where systemd listens.
-#[derive(Drop)]
-struct Address {
-    bytes: [u8; _SS_SIZE],
-    len: u32,
-    ghost short: { len ≤ 128 },
-}
-
 /// Where `NOTIFY_SOCKET` says that systemd listens (sd_notify(3)).
-fn notify_address(rt: &impl Env) -> io::Result<Option<Address>> {
+pub(crate) fn notify_address(rt: &impl Env) -> io::Result<Option<Address>> {
     let mut bytes = [0; _SS_SIZE];
     bytes[..NAME_AT].copy_from_slice(&(AF_UNIX as u16).to_ne_bytes());
     let len = match rt.var("NOTIFY_SOCKET", &mut bytes[NAME_AT..NAME_END]) {
@@ -115,75 +113,4 @@ fn notify_address(rt: &impl Env) -> io::Result<Option<Address>> {
         bytes,
         len: len as u32,
     }))
-}
-
-/// What is told to systemd.
-#[derive(Drop)]
-pub struct Systemd {
-    address: io::Result<Option<Address>>,
-    /// It was told that the server is ready.
-    is_ready: bool,
-    /// What it was told last.
-    told: Option<Report>,
-}
-
-impl Systemd {
-    pub fn new(rt: &impl Env) -> Systemd {
-        Systemd {
-            address: notify_address(rt),
-            is_ready: false,
-            told: None,
-        }
-    }
-
-    /// Sends a message, if there is somebody who is told, and says whether that is done. Where it fails, that is said.
-    fn send(&self, rt: &impl Wait, speaker: &Speaker, message: &[u8]) -> bool {
-        let outcome = match &self.address {
-            Ok(Some(address)) => send_message(&address.bytes, address.len, message),
-            Ok(None) => return true,
-            Err(error) => Err(io::Error::from_raw_os_error(error.raw_os_error().unwrap_or(0))),
-        };
-        match outcome {
-            Ok(()) => {
-                speaker.clear_notify(rt);
-                true
-            }
-            Err(error) => {
-                speaker.remark(rt, Trouble::Notify, error.raw_os_error().unwrap_or(0));
-                false
-            }
-        }
-    }
-
-    /// Tells that the service is ready. Where that fails it can serve without, and is tried again.
-    pub fn tell_ready(&mut self, rt: &impl Wait, speaker: &Speaker) {
-        self.is_ready = self.send(rt, speaker, b"READY=1");
-    }
-
-    /// Tells how the service is, unless that is what was told last.
-    pub fn tell(&mut self, rt: &impl Wait, speaker: &Speaker, report: Report) {
-        if !self.is_ready {
-            self.tell_ready(rt, speaker);
-        }
-        if self.told == Some(report) {
-            return;
-        }
-        let Report {
-            connections,
-            slots,
-            refused,
-            cut,
-        } = report;
-        let mut text = Cursor::new([0; STATUS]);
-        // It fits.
-        let _ = write!(
-            text,
-            "STATUS=slots used: {connections} of {slots}, connections refused: {refused}, cut: {cut}"
-        );
-        let len = text.position() as usize;
-        let text = text.into_inner();
-        if self.send(rt, speaker, &text[..len.min(STATUS)]) {
-            self.told = Some(report);
-        }
-    }
 }

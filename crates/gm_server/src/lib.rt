@@ -10,6 +10,6 @@ pub use gm_outbox::{WriteFault, write_turn};
 pub use gm_promise::laws;
 pub use gm_report::ServeError;
 pub use gm_session::{Gate, OpenGate, SessionEnd, read_session};
-pub use gm_threads::{ControlError, Served, Settings, serve};
+pub use gm_threads::{Served, Settings, serve};
 pub use outcome::{Outcome, RunError, status_of};
 pub use run::run_words;

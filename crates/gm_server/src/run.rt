@@ -12,9 +12,9 @@ use crate::args::{Args, parse_args};
 use crate::outcome::{Outcome, RunError, report, status_of};
 use clap::error::ErrorKind;
 use gm_notes::{Config, MAX_FUNCTIONS};
-use gm_report::{Ready, Report, ServeError, Speaker, Systemd, first_socket, handed_sockets};
+use gm_report::{Announcer, ServeError, Speaker, first_socket, handed_sockets};
 use gm_session::OpenGate;
-use gm_threads::{ControlError, Crews, Served, Service, Settings, serve_with};
+use gm_threads::{Crews, Hub, Poller, Served, Service, Settings, serve_with};
 use std::alloc::{AllocError, Global};
 use std::convert::AsStr;
 use std::env::Env;
@@ -107,36 +107,6 @@ fn print_settings<W: Write>(args: Args<'_>, w: &mut W) -> io::Result<()> {
     w.flush()
 }
 
-/// Says that the port is there.
-fn print_listening<W: Write>(w: &mut W) -> io::Result<()> {
-    w.write_all(b"gmd: listening\n")?;
-    w.flush()
-}
-
-/// Where it is said that the server listens, and whether that could be said.
-#[derive(Drop)]
-struct Listening<'w, R, W> {
-    rt: &'w R,
-    output: &'w mut W,
-    told: io::Result<()>,
-    systemd: Systemd,
-    speaker: Arc<Speaker, Global>,
-}
-
-impl<'w, R: Wait, W: Write> Ready for Listening<'w, R, W> {
-    fn announce(&mut self) -> bool {
-        self.told = print_listening(self.output);
-        if self.told.is_ok() {
-            self.systemd.tell_ready(self.rt, &self.speaker);
-        }
-        self.told.is_ok()
-    }
-
-    fn go_on(&mut self, report: Report) {
-        self.systemd.tell(self.rt, &self.speaker, report);
-    }
-}
-
 /// Whether it takes a socket that is handed over, where this many are. If not, it makes one at its own address.
 fn takes_socket(sockets: Option<u32>, has_address: bool) -> Result<bool, RunError>
     ensures fails { IfErr result (λ error. is_of_words error ≡ false) }
@@ -181,15 +151,15 @@ fn open_listener<R: Net<Listener = TcpListener, Stream = TcpStream> + Env + Allo
 }
 
 /// What the threads wait at that serve connections, as the arguments ask.
-fn crews_of(rt: &impl Net, alloc: Global, args: Args<'_>) -> Result<Crews, RunError>
+fn crews_of(rt: &impl Net, alloc: Global, args: Args<'_>) -> Result<(Crews, Vec<Poller>), RunError>
     ensures { IfErr result (λ error. is_of_words error ≡ false) }
 {
     let slots = args.server.slots;
     if args.io_threads == 0 {
-        return Ok(Crews::pairs(alloc, slots)?);
+        return Ok((Crews::pairs(alloc, slots)?, Vec::new(alloc)));
     }
-    match Crews::few(rt, alloc, u32::from(args.io_threads), slots) {
-        Ok(crews) => Ok(crews),
+    match Hub::new(rt, alloc, u32::from(args.io_threads), slots) {
+        Ok((hub, pollers)) => Ok((Crews::Few(hub), pollers)),
         Err(error) if error.kind() == io::ErrorKind::OutOfMemory => Err(RunError::from(AllocError)),
         Err(error) => Err(RunError::Events(error)),
     }
@@ -199,7 +169,7 @@ fn crews_of(rt: &impl Net, alloc: Global, args: Args<'_>) -> Result<Crews, RunEr
 fn tell_end(
     rt: &(impl Wait + Clock + Eprint),
     speaker: &Speaker,
-    ended: Result<Served, ControlError>,
+    ended: Result<Served, ServeError>,
 ) -> Result<Served, RunError>
     ensures served { IfOk result (λ served. ended ≡ Ok served) }
     ensures fails { IfErr result (λ error. is_of_words error ≡ false) }
@@ -210,7 +180,6 @@ fn tell_end(
             Ok(served)
         }
         Err(error) => {
-            let error = ServeError::from(error);
             speaker.remark_end(rt, Err(error));
             Err(RunError::Ended(error))
         }
@@ -242,23 +211,26 @@ fn serve_on<
     let listener = open_listener(rt, args)?;
     let alloc = rt.alloc();
     let speaker = Speaker::start(rt, alloc, args.server.slots)?;
+    let (crews, pollers) = crews_of(rt, alloc, args)?;
     let service = Service {
         listener,
         limits: settings.limits,
         peer_timeout: args.peer_timeout,
-        crews: crews_of(rt, alloc, args)?,
+        crews,
         speaker: Arc::try_clone(&speaker)?,
         seed,
     };
-    let mut listening = Listening {
+    let mut announcer = Announcer::new(w).with_systemd(rt);
+    let ended = serve_with(
         rt,
-        output: w,
-        told: Ok(()),
-        systemd: Systemd::new(rt),
-        speaker: Arc::try_clone(&speaker)?,
-    };
-    let ended = serve_with(rt, alloc, settings, service, &OpenGate, &mut listening);
-    if listening.told.is_err() {
+        alloc,
+        settings,
+        service,
+        pollers,
+        &OpenGate,
+        &mut announcer,
+    );
+    if !announcer.is_well {
         drop(ended);
         return Err(RunError::Output);
     }

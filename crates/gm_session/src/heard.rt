@@ -8,9 +8,9 @@ use gm_ghost::{Ghost, Log, Logged, Worth};
 use gm_shared::{BookName, Desk, Entry};
 use std::alloc::{AllocError, Global};
 use std::collections::LinkedList;
-use std::io;
 use std::io::ErrorKind;
 use std::marker::{Brand, Model};
+use std::{io, mem};
 
 /// What a read left.
 #[derive(Clone, Copy, Debug, PartialEq, Eq)]
@@ -78,9 +78,12 @@ impl<I: Source<Patience> + Drop> LoggedSource<I> {
         &self.source
     }
 
-    /// What the last read left.
-    pub fn left(&self) -> Left {
-        self.left
+    /// Takes what the last read left. If nothing was read since it was taken, there may be more.
+    pub(crate) fn take_left(&mut self) -> Left
+        ensures { self.new ≡ self.old }
+    {
+        // Modelled in models/polling.pml.
+        mem::replace(&mut self.left, Left::Perhaps)
     }
 
     /// Whether the last read failed, as the system found out that the peer vanished.

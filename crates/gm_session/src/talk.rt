@@ -14,7 +14,7 @@ ghost use Rattle.gm_session.specs.Talks.{IsTalk, begun, StepsOn, Discards, Close
 use crate::applier::{Applier, Around};
 use crate::effects::Effects;
 use crate::gate::Gate;
-use crate::heard::{HearingLedger, LoggedSource};
+use crate::heard::{HearingLedger, Left, LoggedSource};
 use crate::own_desk::OwnDesk;
 use crate::session::{Session, SessionEnd, Turn};
 use gm_feeder::{Limits, Patience, Source};
@@ -188,14 +188,6 @@ impl<K: BookName, I: Source<Patience> + Drop> Talk<K, I> {
         }
     }
 
-    /// Whether whole units may be left, so that the next step reads nothing.
-    pub fn has_units(&self) -> bool {
-        match &self.talking {
-            Some(talking) => talking.session.has_units,
-            None => false,
-        }
-    }
-
     /// Nothing is read from the connection any more.
     pub fn stop_reading(&mut self)
         ensures { self.new ≡ self.old }
@@ -207,11 +199,30 @@ impl<K: BookName, I: Source<Patience> + Drop> Talk<K, I> {
         }
     }
 
-    /// What the connection is read from.
-    pub fn source(&self) -> Option<&LoggedSource<I>> {
+    /// What is left to be read, after a step that didn't wait: also where it didn't read, there may be more, since what came meanwhile isn't
+    /// reported again.
+    pub fn take_left(&mut self) -> Left
+        ensures { self.new ≡ self.old }
+    {
+        // Modelled in models/polling.pml.
+        match &mut self.talking {
+            Some(talking) if !talking.has_ended => {
+                let left = talking.source.take_left();
+                if talking.session.has_units {
+                    Left::Perhaps
+                } else {
+                    left
+                }
+            }
+            _ => Left::Nothing,
+        }
+    }
+
+    /// Whether the last read failed, as the system found out that the peer vanished.
+    pub fn has_timed_out(&self) -> bool {
         match &self.talking {
-            Some(talking) => Some(&talking.source),
-            None => None,
+            Some(talking) => talking.source.has_timed_out(),
+            None => false,
         }
     }
 

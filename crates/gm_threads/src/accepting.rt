@@ -3,21 +3,22 @@
 ghost use Rattle.std.specs.Prelude.{◌≡◌, [], pos};
 
 use crate::crews;
-use crate::error::ControlError;
 use crate::keepalive::set_peer_timeout;
 use crate::progress::Progress;
 use crate::state::ServerState;
 use gm_delivery::{ReadHalf, ServerStage, WriteHalf, split};
-use gm_report::{ACCEPT_TIMEOUT_MS, AGAIN_MS, Ready, Report, Trouble};
+use gm_poll::Poller;
+use gm_report::{ACCEPT_TIMEOUT_MS, AGAIN_MS, Announcer, ServeError, Trouble};
 use gm_session::{Gate, LoggedSource};
 use gm_shared::BookName;
 use gm_slots::Slot;
 use libc::{EBADF, EINVAL, EMFILE, ENOTSOCK};
 use std::alloc::{AllocError, Global};
-use std::io::ErrorKind;
+use std::io::{ErrorKind, Write};
 use std::net::{SocketAddr, TcpListener, TcpStream};
 use std::os::fd::OwnedFd;
 use std::sync::Wait;
+use std::sync::atomic::Ordering;
 use std::thread::{Scope, Threads};
 use std::time::{Clock, Duration};
 use std::{io, thread};
@@ -122,9 +123,7 @@ impl Halves {
 /// What the control thread works with.
 #[derive(Drop)]
 pub(crate) struct Control<'s, K: BookName> {
-    state: &'s ServerState<K>,
-    /// After how many seconds a peer that vanished is found out.
-    peer_timeout: u16,
+    state: &'s ServerState<'s, K>,
     /// How many connections were opened.
     opened: u64,
     /// The second in which it was last told how the server is.
@@ -132,10 +131,9 @@ pub(crate) struct Control<'s, K: BookName> {
 }
 
 impl<'s, K: BookName + Send + Sync> Control<'s, K> {
-    pub(crate) fn new(state: &'s ServerState<K>, peer_timeout: u16) -> Control<'s, K> {
+    pub(crate) fn new(state: &'s ServerState<'s, K>) -> Control<'s, K> {
         Control {
             state,
-            peer_timeout,
             opened: 0,
             told: 0,
         }
@@ -158,7 +156,7 @@ impl<'s, K: BookName + Send + Sync> Control<'s, K> {
         // Under the lock, so that the connection isn't over before its socket is known.
         let mut talk = slot.talk.lock(rt);
         talk.begin(state.alloc, reading, Some(peer));
-        if let Err(error) = state.crews.begin(slot.lane.number(), fd) {
+        if let Err(error) = state.service.crews.begin(slot.lane.number(), fd) {
             state.end(rt, slot, &mut talk);
             return Err(Refusal {
                 trouble: Trouble::Events,
@@ -189,7 +187,7 @@ impl<'s, K: BookName + Send + Sync> Control<'s, K> {
         let Some((slot, opening)) = opened else {
             return Err(Refusal::new(state.progress.want_of_slot(state.slot_count)));
         };
-        state.progress.begin_connection();
+        state.progress.connections.fetch_add(1, Ordering::SeqCst);
         if !crews::prepare(scope, rt, state, gate, slot) {
             slot.lane.refuse(rt, opening, halves.writing);
             state.close(rt, &mut slot.talk.lock(rt));
@@ -210,7 +208,7 @@ impl<'s, K: BookName + Send + Sync> Control<'s, K> {
         peer: SocketAddr,
     ) {
         // Modelled in models/ticks.pml.
-        let Ok(()) = prepare(&stream, self.peer_timeout) else {
+        let Ok(()) = prepare(&stream, self.state.service.peer_timeout) else {
             return;
         };
         let speaker = &self.state.host.speaker;
@@ -237,17 +235,13 @@ impl<'s, K: BookName + Send + Sync> Control<'s, K> {
     }
 
     /// Tells how the server is, once in a second.
-    fn tell(&mut self, rt: &impl Wait, ready: &mut impl Ready) {
+    fn tell(&mut self, rt: &impl Wait, announcer: &mut Announcer<'_, impl Write>) {
         let second = self.state.host.last_second();
         if self.told != second {
             self.told = second;
-            let counts = self.state.host.speaker.counts(rt);
-            ready.go_on(Report {
-                connections: self.state.progress.connections(),
-                slots: self.state.slot_count,
-                refused: counts.refused,
-                cut: counts.cut,
-            });
+            let speaker = &self.state.host.speaker;
+            let connections = self.state.progress.connections();
+            announcer.tell(rt, speaker, connections, self.state.slot_count);
         }
     }
 
@@ -257,17 +251,16 @@ impl<'s, K: BookName + Send + Sync> Control<'s, K> {
         scope: &Scope<'s, E>,
         rt: &'s R,
         gate: &'s G,
-        listener: &TcpListener,
-        ready: &mut impl Ready,
-    ) -> Result<(), ControlError> {
+        announcer: &mut Announcer<'_, impl Write>,
+    ) -> Result<(), ServeError> {
         // Modelled in models/shutdown.pml and ticks.pml.
         for _ in rt.forever() {
             self.state.update_time(rt);
-            self.tell(rt, ready);
-            match listener.accept() {
+            self.tell(rt, announcer);
+            match self.state.service.listener.accept() {
                 Ok((stream, peer)) => self.admit(scope, rt, gate, stream, peer),
                 Err(error) if is_usual(&error) => {}
-                Err(error) if is_fatal(&error) => return Err(ControlError::Listen),
+                Err(error) if is_fatal(&error) => return Err(ServeError::Listen),
                 Err(error) => self.hold_on(rt, &error),
             }
             if self.state.progress.can_end() {
@@ -280,7 +273,7 @@ impl<'s, K: BookName + Send + Sync> Control<'s, K> {
             .stage
             .has_reached(ServerStage::Failed as u8)
         {
-            return Err(ControlError::Memory);
+            return Err(ServeError::Memory);
         }
         Ok(())
     }
@@ -291,16 +284,16 @@ impl<'s, K: BookName + Send + Sync> Control<'s, K> {
         scope: &Scope<'s, E>,
         rt: &'s R,
         gate: &'s G,
-        listener: &TcpListener,
-        ready: &mut impl Ready,
-    ) -> Result<(), ControlError> {
-        if !crews::start(scope, rt, self.state, gate) {
-            return Err(ControlError::Threads);
+        pollers: Vec<Poller>,
+        announcer: &mut Announcer<'_, impl Write>,
+    ) -> Result<(), ServeError> {
+        if !crews::start(scope, rt, self.state, gate, pollers) {
+            return Err(ServeError::Threads);
         }
-        if !ready.announce() {
+        if !announcer.announce(rt, &self.state.host.speaker) {
             return Ok(());
         }
-        self.take_all(scope, rt, gate, listener, ready)
+        self.take_all(scope, rt, gate, announcer)
     }
 
     /// Serves until the server can end, and has each connection end that is left. It answers how many connections were opened.
@@ -309,11 +302,11 @@ impl<'s, K: BookName + Send + Sync> Control<'s, K> {
         scope: &Scope<'s, E>,
         rt: &'s R,
         gate: &'s G,
-        listener: &TcpListener,
-        ready: &mut impl Ready,
-    ) -> Result<u64, ControlError> {
+        pollers: Vec<Poller>,
+        announcer: &mut Announcer<'_, impl Write>,
+    ) -> Result<u64, ServeError> {
         // Modelled in models/shutdown.pml.
-        let outcome = self.serve(scope, rt, gate, listener, ready);
+        let outcome = self.serve(scope, rt, gate, pollers, announcer);
         if outcome.is_err() {
             self.state.stop();
             wait_for_ends(rt, &self.state.progress);

@@ -1,23 +1,21 @@
 //! The threads that serve connections: how they wait, and how they are woken. What they do then is one for both ways (`serving`).
 
-use crate::serving::Then;
 use crate::state::ServerState;
 use crossbeam_utils::sync::{Parker, Unparker};
-use gm_delivery::{Deliverer, Finish, ReadHalf, ServerStage};
+use gm_delivery::{Deliverer, Finish, ServerStage};
 use gm_feeder::Patience;
 use gm_poll::{Hub, Poller};
 use gm_report::AGAIN_MS;
-use gm_session::{Gate, Talk};
+use gm_session::Gate;
 use gm_shared::BookName;
 use gm_slots::Slot;
 use std::alloc::{AllocError, Global};
-use std::net::Net;
+use std::io;
 use std::os::fd::RawFd;
 use std::sync::atomic::{AtomicU8, Ordering};
 use std::sync::{Condvar, Mutex, Wait};
 use std::thread::{Scope, Threads};
 use std::time::{Clock, Duration};
-use std::{io, mem};
 
 /// What the two threads of a slot wait at.
 #[derive(Drop)]
@@ -50,11 +48,7 @@ pub enum Crews {
     /// Two for each slot, made when its first connection comes: its reader, and its finisher.
     Pairs(Vec<Pair>),
     /// A few for all slots, each for its own: they read and finish.
-    Few {
-        hub: Hub,
-        /// Of those that aren't started yet.
-        pollers: Mutex<Vec<Poller>>,
-    },
+    Few(Hub),
 }
 
 impl Crews {
@@ -67,15 +61,6 @@ impl Crews {
         Ok(Crews::Pairs(pairs))
     }
 
-    /// This many threads for all of this many slots. An error says which call of the system's failed, or that there was no memory.
-    pub fn few(rt: &impl Net, alloc: Global, count: u32, slots: u32) -> io::Result<Crews> {
-        let (hub, pollers) = Hub::new(rt, alloc, count, slots)?;
-        Ok(Crews::Few {
-            hub,
-            pollers: Mutex::new(pollers),
-        })
-    }
-
     /// Has the slot's finisher look at its lane.
     pub(crate) fn wake(&self, slot: u32) {
         // Modelled in models/lane.h.
@@ -85,7 +70,7 @@ impl Crews {
                     pair.unparker.unpark();
                 }
             }
-            Crews::Few { hub, .. } => hub.wake(slot),
+            Crews::Few(hub) => hub.wake(slot),
         }
     }
 
@@ -98,7 +83,7 @@ impl Crews {
                     pair.unparker.unpark();
                 }
             }
-            Crews::Few { hub, .. } => hub.wake_all(),
+            Crews::Few(hub) => hub.wake_all(),
         }
     }
 
@@ -112,22 +97,22 @@ impl Crews {
                 }
                 Ok(())
             }
-            Crews::Few { hub, .. } => hub.register(slot, fd),
+            Crews::Few(hub) => hub.register(slot, fd),
         }
     }
 }
 
-/// Starts the threads that are there from the start, and says whether it could.
+/// Starts the threads that are there from the start, one for each poller, and says whether it could.
 pub(crate) fn start<'s, E, K: BookName + Send + Sync, G: Gate, R: Threads + Wait + Clock + Sync>(
     scope: &Scope<'s, E>,
     rt: &'s R,
-    state: &'s ServerState<K>,
+    state: &'s ServerState<'s, K>,
     gate: &'s G,
+    pollers: Vec<Poller>,
 ) -> bool {
-    let Crews::Few { hub, pollers } = &state.crews else {
+    let Crews::Few(hub) = &state.service.crews else {
         return true;
     };
-    let pollers = mem::replace(&mut *pollers.lock(rt), Vec::new(state.alloc));
     for poller in pollers {
         if scope
             .spawn(move || run_few(rt, state, gate, hub, poller))
@@ -143,12 +128,12 @@ pub(crate) fn start<'s, E, K: BookName + Send + Sync, G: Gate, R: Threads + Wait
 pub(crate) fn prepare<'s, E, K: BookName + Send + Sync, G: Gate, R: Threads + Wait + Clock + Sync>(
     scope: &Scope<'s, E>,
     rt: &'s R,
-    state: &'s ServerState<K>,
+    state: &'s ServerState<'s, K>,
     gate: &'s G,
     slot: &'s Slot<K>,
 ) -> bool {
     // Modelled in models/endings.pml and shutdown.pml.
-    let Crews::Pairs(pairs) = &state.crews else {
+    let Crews::Pairs(pairs) = &state.service.crews else {
         return true;
     };
     let Some(pair) = pairs.get(slot.lane.number() as usize) else {
@@ -176,11 +161,11 @@ pub(crate) fn prepare<'s, E, K: BookName + Send + Sync, G: Gate, R: Threads + Wa
 }
 
 /// Has all threads leave, which have no connection any more.
-pub(crate) fn dismiss<K: BookName>(rt: &impl Wait, state: &ServerState<K>) {
+pub(crate) fn dismiss<K: BookName>(rt: &impl Wait, state: &ServerState<'_, K>) {
     // Modelled in models/serving.h.
     state.progress.stage.rise(ServerStage::Ended as u8);
-    state.crews.wake_all();
-    if let Crews::Pairs(pairs) = &state.crews {
+    state.service.crews.wake_all();
+    if let Crews::Pairs(pairs) = &state.service.crews {
         for (slot, pair) in state.slots.iter().zip(pairs.iter()) {
             // Under the lock, so that its reader waits already or sees the stage.
             let talk = slot.talk.lock(rt);
@@ -191,46 +176,30 @@ pub(crate) fn dismiss<K: BookName>(rt: &impl Wait, state: &ServerState<K>) {
 }
 
 /// Reads connection after connection of a slot, until none comes any more.
-fn run_reader<K: BookName, G: Gate, R: Wait + Clock>(
-    rt: &R,
-    state: &ServerState<K>,
+fn run_reader<'s, K: BookName, G: Gate, R: Wait + Clock>(
+    rt: &'s R,
+    state: &'s ServerState<'s, K>,
     gate: &G,
     slot: &Slot<K>,
     pair: &Pair,
 ) {
-    // Modelled in models/serving.h.
-    let progress = &state.progress;
-    for _ in rt.forever() {
-        let mut talk = pair.arrived.wait_while(rt, slot.talk.lock(rt), |talk| {
-            !talk.is_reading() && !progress.has_ended()
-        });
-        if !talk.is_reading() {
-            break;
-        }
-        read_on(rt, state, gate, slot, &mut talk);
-    }
-}
-
-/// Reads a connection to its end.
-fn read_on<K: BookName, G: Gate, R: Wait + Clock>(
-    rt: &R,
-    state: &ServerState<K>,
-    gate: &G,
-    slot: &Slot<K>,
-    talk: &mut Talk<K, ReadHalf>,
-) {
     // Modelled in models/polling.pml and serving.h.
+    let mut talk = slot.talk.lock(rt);
     for _ in rt.forever() {
-        if state.turn(rt, gate, slot, talk, Patience::Waits) == Then::Ends {
+        if talk.is_reading() {
+            state.turn(rt, gate, slot, &mut talk, Patience::Waits);
+        } else if state.progress.has_ended() {
             break;
+        } else {
+            talk = pair.arrived.wait(rt, talk);
         }
     }
 }
 
 /// Does what others leave of a slot's lane, until no connection comes any more.
-fn run_finisher<K: BookName, R: Wait + Clock>(
-    rt: &R,
-    state: &ServerState<K>,
+fn run_finisher<'s, K: BookName, R: Wait + Clock>(
+    rt: &'s R,
+    state: &'s ServerState<'s, K>,
     slot: &Slot<K>,
     pair: &Pair,
 ) {
@@ -251,9 +220,9 @@ fn run_finisher<K: BookName, R: Wait + Clock>(
 }
 
 /// Serves each slot once that is called, up to one whose turn was long.
-fn serve_round<K: BookName, G: Gate, R: Wait + Clock>(
-    rt: &R,
-    state: &ServerState<K>,
+fn serve_round<'s, K: BookName, G: Gate, R: Wait + Clock>(
+    rt: &'s R,
+    state: &'s ServerState<'s, K>,
     gate: &G,
     poller: &mut Poller,
 ) {
@@ -262,9 +231,7 @@ fn serve_round<K: BookName, G: Gate, R: Wait + Clock>(
         let Some(call) = poller.next() else {
             break;
         };
-        let next = state.visit(rt, gate, call);
-        poller.put_back(call.slot, next);
-        if next.is_now {
+        if state.visit(rt, gate, poller, call) {
             // What came during a long turn is heard of before the next, and so waits once for the turns of the others.
             break;
         }
@@ -272,9 +239,9 @@ fn serve_round<K: BookName, G: Gate, R: Wait + Clock>(
 }
 
 /// Serves the slots of a thread that has many, until no connection comes any more.
-fn run_few<K: BookName, G: Gate, R: Wait + Clock>(
-    rt: &R,
-    state: &ServerState<K>,
+fn run_few<'s, K: BookName, G: Gate, R: Wait + Clock>(
+    rt: &'s R,
+    state: &'s ServerState<'s, K>,
     gate: &G,
     hub: &Hub,
     poller: Poller,

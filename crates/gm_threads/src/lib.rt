@@ -8,7 +8,6 @@
 
 mod accepting;
 mod crews;
-mod error;
 mod keepalive;
 mod progress;
 mod server;
@@ -17,7 +16,7 @@ mod settings;
 mod state;
 
 pub use crews::Crews;
-pub use error::ControlError;
+pub use gm_poll::{Hub, Poller};
 pub use gm_slots::Served;
 pub use server::{Service, serve, serve_with};
 pub use settings::Settings;

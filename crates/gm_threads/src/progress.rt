@@ -8,8 +8,8 @@ use std::sync::atomic::{AtomicU64, Ordering};
 #[derive(Drop)]
 pub(crate) struct Progress {
     pub(crate) stage: Stage,
-    // How many connections are open, or about to start.
-    connections: AtomicU64,
+    /// How many connections are open, or about to start.
+    pub(crate) connections: AtomicU64,
 }
 
 impl Progress {
@@ -51,17 +51,5 @@ impl Progress {
     pub(crate) fn connections(&self) -> u64 {
         // Modelled in models/shutdown.pml.
         self.connections.load(Ordering::SeqCst)
-    }
-
-    /// Counts a connection that is about to start.
-    pub(crate) fn begin_connection(&self) {
-        // Modelled in models/shutdown.pml.
-        self.connections.fetch_add(1, Ordering::SeqCst);
-    }
-
-    /// Counts a connection that is gone.
-    pub(crate) fn end_connection(&self) {
-        // Modelled in models/serving.h.
-        self.connections.fetch_sub(1, Ordering::SeqCst);
     }
 }

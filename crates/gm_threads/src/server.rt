@@ -6,37 +6,37 @@ ghost use Rattle.gm_slots.specs.Served.{SettledSo, EndsSo};
 
 use crate::accepting::{Control, set_accept_timeout};
 use crate::crews::Crews;
-use crate::error::ControlError;
 use crate::settings::Settings;
 use crate::state::ServerState;
 use gm_feeder::Limits;
-use gm_report::{Ready, Report, ServeError, Speaker};
+use gm_poll::Poller;
+use gm_report::{Announcer, ServeError, Speaker};
 use gm_session::Gate;
 use gm_shared::{Blank, BookName, TapeMode};
 use gm_slots::Served;
 use std::alloc::Global;
 use std::hash::RandomState;
+use std::io::Write;
 use std::marker::Brand;
 use std::net::TcpListener;
 use std::sync::{Arc, Wait};
-use std::thread;
 use std::thread::Threads;
 use std::time::Clock;
+use std::{io, thread};
 
 /// Runs the control thread, and answers how many connections were opened. All other threads have ended then.
-fn run_control<'x, K: BookName + Send + Sync, R: Threads + Wait + Clock + Sync, G: Gate, T: Ready>(
+fn run_control<'x, K: BookName + Send + Sync, R: Threads + Wait + Clock + Sync, G: Gate, W: Write>(
     rt: &'x R,
-    state: &'x ServerState<K>,
-    listener: &'x TcpListener,
-    peer_timeout: u16,
+    state: &'x ServerState<'x, K>,
+    pollers: Vec<Poller>,
     gate: &'x G,
-    ready: &'x mut T,
-) -> Result<u64, ControlError> {
-    let control = Control::new(state, peer_timeout);
+    announcer: &'x mut Announcer<'_, W>,
+) -> Result<u64, ServeError> {
+    let control = Control::new(state);
     thread::scope(
         thread::scope_env(),
         rt,
-        |scope| control.run(scope, rt, gate, listener, ready),
+        |scope| control.run(scope, rt, gate, pollers, announcer),
     )
 }
 
@@ -71,44 +71,25 @@ pub(crate) fn serve_book<
     K: BookName + Send + Sync,
     R: Threads + Wait + Clock + Sync,
     G: Gate,
-    T: Ready,
+    W: Write,
 >(
     rt: &R,
     alloc: Global,
     blank: Blank,
-    service: Service,
+    service: &Service,
+    pollers: Vec<Poller>,
     gate: &G,
-    ready: &mut T,
-) -> Result<Served, ControlError>
+    announcer: &mut Announcer<'_, W>,
+) -> Result<Served, ServeError>
     requires table { blank.table ≡ K.table }
     requires history { blank.history ≡ K.history }
     requires settings { blank.settings ≡ K.settings }
     requires taped { blank.taped ≡ K.taped }
     ensures { IfOk result (λ served. SettledSo K.settings K.taped K.history served.book served.accounts.items) }
 {
-    let Service {
-        listener,
-        limits,
-        peer_timeout,
-        crews,
-        speaker,
-        ..
-    } = service;
-    let state = ServerState::<K>::new(rt, alloc, blank, limits, crews, speaker)?;
-    let connections = run_control(rt, &state, &listener, peer_timeout, gate, ready)?;
+    let state = ServerState::<K>::new(rt, alloc, blank, service)?;
+    let connections = run_control(rt, &state, pollers, gate, announcer)?;
     Ok(state.settle(connections)?)
-}
-
-/// Nobody is told.
-#[derive(Clone, Copy)]
-struct Untold;
-
-impl Ready for Untold {
-    fn announce(&mut self) -> bool {
-        true
-    }
-
-    fn go_on(&mut self, _report: Report) {}
 }
 
 /// Serves the connections that a listener takes, until one of them asks for a shutdown (the Gearman PROTOCOL document,
@@ -139,7 +120,10 @@ pub fn serve<R: Threads + Wait + Clock + Eprint + Copy + Send + Sync + 'static, 
         speaker: Speaker::start(rt, alloc, slots)?,
         seed,
     };
-    let served = serve_with(rt, alloc, settings, service, gate, &mut Untold)?;
+    let mut nowhere = io::sink();
+    let mut announcer = Announcer::new(&mut nowhere);
+    let pollers = Vec::new(alloc);
+    let served = serve_with(rt, alloc, settings, service, pollers, gate, &mut announcer)?;
     match served.summary() {
         Ok(_) => Ok(served),
         Err(error) => {
@@ -149,21 +133,22 @@ pub fn serve<R: Threads + Wait + Clock + Eprint + Copy + Send + Sync + 'static, 
     }
 }
 
-/// The same (`serve`), with this service, which is told how it is.
-pub fn serve_with<R: Threads + Wait + Clock + Sync, G: Gate, T: Ready>(
+/// The same (`serve`), with this service and the pollers of its threads that are there from the start. The announcer tells how it is.
+pub fn serve_with<R: Threads + Wait + Clock + Sync, G: Gate, W: Write>(
     rt: &R,
     alloc: Global,
     settings: Settings,
     service: Service,
+    pollers: Vec<Poller>,
     gate: &G,
-    ready: &mut T,
-) -> Result<Served, ControlError>
+    announcer: &mut Announcer<'_, W>,
+) -> Result<Served, ServeError>
     ensures { IfOk result (EndsSo settings.config settings.tape) }
 {
     let Settings { config, tape, .. } = settings;
     let Ok(()) = set_accept_timeout(&service.listener) else {
-        return Err(ControlError::Listen);
+        return Err(ServeError::Listen);
     };
     let blank = Blank::new(alloc, service.seed, config, mode(tape))?;
-    serve_book::<Brand, R, G, T>(rt, alloc, blank, service, gate, ready)
+    serve_book::<Brand, R, G, W>(rt, alloc, blank, &service, pollers, gate, announcer)
 }

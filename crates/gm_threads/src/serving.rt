@@ -4,70 +4,31 @@ use crate::state::ServerState;
 use gm_delivery::{Deliverer, Finish, Leftover, ReadHalf, ServerStage};
 use gm_feeder::Patience;
 use gm_notes::ApplyError;
-use gm_poll::{Call, Next};
+use gm_poll::{Call, Poller};
 use gm_report::Trouble;
-use gm_session::{Around, Effects, Gate, Left, SessionEnd, Talk, Turn};
+use gm_session::{Around, Effects, Gate, Left, SessionEnd, Talk};
 use gm_shared::BookName;
 use gm_slots::Slot;
 use std::io::ErrorKind;
 use std::sync::Wait;
+use std::sync::atomic::Ordering;
 use std::time::Clock;
 
 /// How much is dropped at a time of what a connection still sends that is to end.
 const DROPPED: usize = 4_096;
 
-/// What is to come after a turn.
-#[derive(Clone, Copy, PartialEq, Eq)]
-pub(crate) enum Then {
-    /// There is more to do.
-    More,
-    /// There is nothing to read, unless the peer sends no more, or urgent data were between.
-    Little,
-    /// There is nothing to read.
-    Nothing,
-    /// Nothing is read any more.
-    Ends,
-}
-
-/// What is to come after a turn that has taken all units. Where it didn't read, what came meanwhile isn't reported again.
-fn then_of<K: BookName>(talk: &Talk<K, ReadHalf>, has_read: bool) -> Then {
-    // Modelled in models/polling.pml.
-    match talk.source() {
-        Some(_) if !has_read => Then::More,
-        Some(source) => match source.left() {
-            Left::Perhaps => Then::More,
-            Left::Little => Then::Little,
-            Left::Nothing => Then::Nothing,
-        },
-        None => Then::Ends,
-    }
-}
-
 /// Reads what a connection still sends that is to end, and drops it: before its socket is closed, as the system else forgets what the
-/// peer hasn't read yet.
-fn discard<K: BookName>(talk: &mut Talk<K, ReadHalf>, patience: Patience) -> Then {
+/// peer hasn't read yet. It says whether the input has ended.
+fn discard<K: BookName>(talk: &mut Talk<K, ReadHalf>, patience: Patience) -> bool {
     // Modelled in models/polling.pml.
     let mut room = [0; DROPPED];
     match talk.discard(&patience, &mut room) {
-        Ok(0) => Then::Ends,
-        Ok(_) => Then::More,
-        Err(error) => match error.kind() {
-            ErrorKind::WouldBlock => Then::Nothing,
-            ErrorKind::Interrupted => Then::More,
-            _ => Then::Ends,
-        },
+        Ok(count) => count == 0,
+        Err(error) => { !matches!(error.kind(), ErrorKind::WouldBlock | ErrorKind::Interrupted) }
     }
 }
 
-/// Whether a read found out that the connection's peer vanished.
-fn has_timed_out<K: BookName>(talk: &Talk<K, ReadHalf>) -> bool {
-    match talk.source() {
-        Some(source) => source.has_timed_out(),
-        None => false,
-    }
-}
-
-impl<K: BookName> ServerState<K> {
+impl<'s, K: BookName> ServerState<'s, K> {
     /// Goes on with a connection that is to be read: reads a piece, unless units are left, and takes a turn; or ends it.
     pub(crate) fn turn<R: Wait + Clock, G: Gate>(
         &self,
@@ -76,15 +37,14 @@ impl<K: BookName> ServerState<K> {
         slot: &Slot<K>,
         talk: &mut Talk<K, ReadHalf>,
         patience: Patience,
-    ) -> Then {
+    ) {
         // Modelled in models/serving.h.
-        let then = self.read(rt, gate, slot, talk, patience);
-        if then == Then::Ends {
+        if self.read(rt, gate, slot, talk, patience) {
             self.end(rt, slot, talk);
         }
-        then
     }
 
+    /// Reads a piece and takes a turn, or reads what is dropped, and says whether nothing is read from the connection any more.
     fn read<R: Wait + Clock, G: Gate>(
         &self,
         rt: &R,
@@ -92,9 +52,8 @@ impl<K: BookName> ServerState<K> {
         slot: &Slot<K>,
         talk: &mut Talk<K, ReadHalf>,
         patience: Patience,
-    ) -> Then {
+    ) -> bool {
         // Modelled in models/polling.pml and serving.h.
-        let has_read = !talk.has_units();
         let outcome = if self.progress.stage.has_reached(ServerStage::Stopped as u8) {
             Err(SessionEnd::Shut)
         } else {
@@ -112,14 +71,13 @@ impl<K: BookName> ServerState<K> {
             outcome
         };
         match outcome {
-            Ok(Turn::Cut) => Then::More,
-            Ok(Turn::Emptied) => then_of(talk, has_read),
-            Err(SessionEnd::Ended) => Then::Ends,
+            Ok(_) => false,
+            Err(SessionEnd::Ended) => true,
             Err(SessionEnd::ReadFault) => {
-                if has_timed_out(talk) {
+                if talk.has_timed_out() {
                     self.host.speaker.count_timed_out(rt);
                 }
-                Then::Ends
+                true
             }
             Err(end) => {
                 if end == SessionEnd::Memory {
@@ -171,17 +129,20 @@ impl<K: BookName> ServerState<K> {
         }
         self.notify(rt, None, &mut effects);
         effects.discharge();
-        self.progress.end_connection();
+        self.progress.connections.fetch_sub(1, Ordering::SeqCst);
     }
 
-    /// Serves a slot without waiting, as the thread that has many.
-    pub(crate) fn visit<R: Wait + Clock, G: Gate>(&self, rt: &R, gate: &G, call: Call) -> Next {
+    /// Serves a slot without waiting, as the thread that has many, and puts it back. It says whether the slot has more to do now.
+    pub(crate) fn visit<R: Wait + Clock, G: Gate>(
+        &self,
+        rt: &R,
+        gate: &G,
+        poller: &mut Poller,
+        call: Call,
+    ) -> bool {
         // Modelled in models/polling.pml and serving.h.
         let Some(slot) = self.slot(call.slot) else {
-            return Next {
-                is_now: false,
-                is_again: false,
-            };
+            return false;
         };
         let context = self.delivery(rt);
         let leftover = if call.is_woken {
@@ -192,15 +153,15 @@ impl<K: BookName> ServerState<K> {
         };
         let finish = self.finish(rt, slot, leftover);
         let mut talk = slot.talk.lock(rt);
-        let is_now = talk.is_reading()
-            && match self.turn(rt, gate, slot, &mut talk, Patience::Hurries) {
-                Then::More => true,
-                Then::Little => call.is_odd,
-                Then::Nothing | Then::Ends => false,
-            };
-        Next {
-            is_now,
-            is_again: finish == Finish::Pending,
+        if talk.is_reading() {
+            self.turn(rt, gate, slot, &mut talk, Patience::Hurries);
         }
+        let is_now = match talk.take_left() {
+            Left::Perhaps => true,
+            Left::Little => call.is_odd,
+            Left::Nothing => false,
+        };
+        poller.put_back(call.slot, is_now, finish == Finish::Pending);
+        is_now
     }
 }

@@ -6,13 +6,12 @@ ghost use Rattle.gm_session.specs.Effects.{IsNothing};
 ghost use Rattle.gm_session.specs.Owners.{Opens};
 ghost use Rattle.gm_slots.specs.Served.{SettledSo};
 
-use crate::crews::Crews;
 use crate::progress::Progress;
+use crate::server::Service;
 use gm_delivery::{DeliveryContext, Finish, Leftover, ServerStage};
-use gm_feeder::Limits;
 use gm_lane_word::Due;
 use gm_notes::{Event, Mode};
-use gm_report::{DELIVERING_TIME_MS, Speaker, has_passed};
+use gm_report::{DELIVERING_TIME_MS, has_passed};
 use gm_session::{Effects, Host, OwnDesk};
 use gm_shared::{Blank, BookName, Shared};
 use gm_slots::{Served, Slot, new_slots, settle_slots};
@@ -22,11 +21,10 @@ use std::time::{Clock, Duration};
 
 /// What all threads of a server share.
 #[derive(Drop)]
-pub(crate) struct ServerState<K: BookName> {
+pub(crate) struct ServerState<'s, K: BookName> {
     pub(crate) alloc: Global,
+    pub(crate) service: &'s Service,
     pub(crate) shared: Shared<K>,
-    // What the threads wait at that serve connections.
-    pub(crate) crews: Crews,
     pub(crate) slots: Vec<Slot<K>>,
     // How many slots the book has.
     pub(crate) slot_count: u32,
@@ -37,28 +35,27 @@ pub(crate) struct ServerState<K: BookName> {
     ghost numbered: { map (λ slot. slot.lane.slot) slots.items ≡ numbers_below slot_count },
 }
 
-impl<K: BookName> ServerState<K> {
+impl<'s, K: BookName> ServerState<'s, K> {
     /// Opens a book, for the threads of a new server.
     pub(crate) fn new(
         rt: &impl Clock,
         alloc: Global,
         blank: Blank,
-        limits: Limits,
-        crews: Crews,
-        speaker: Arc<Speaker, Global>,
-    ) -> Result<ServerState<K>, AllocError>
+        service: &'s Service,
+    ) -> Result<ServerState<'s, K>, AllocError>
         requires table { blank.table ≡ K.table }
         requires history { blank.history ≡ K.history }
         requires settings { blank.settings ≡ K.settings }
         requires taped { blank.taped ≡ K.taped }
     {
         let slot_count = blank.slots();
+        let speaker = Arc::try_clone(&service.speaker)?;
         let (shared, desks, pens, control) = Shared::<K>::open(alloc, blank)?;
-        let slots = new_slots(alloc, desks, pens, limits)?;
+        let slots = new_slots(alloc, desks, pens, service.limits)?;
         Ok(ServerState {
             alloc,
+            service,
             shared,
-            crews,
             slots,
             slot_count,
             host: Host::new(rt, OwnDesk::new(control), speaker),
@@ -99,7 +96,7 @@ impl<K: BookName> ServerState<K> {
     pub(crate) fn stop(&self) {
         // Modelled in models/shutdown.pml.
         self.progress.stage.rise(ServerStage::Stopped as u8);
-        self.crews.wake_all();
+        self.service.crews.wake_all();
     }
 
     /// Follows the book's mode.
@@ -112,7 +109,7 @@ impl<K: BookName> ServerState<K> {
             }
             Mode::Stopped => {
                 if self.progress.stage.rise(ServerStage::Stopped as u8) {
-                    self.crews.wake_all();
+                    self.service.crews.wake_all();
                 }
             }
         }
@@ -148,7 +145,7 @@ impl<K: BookName> ServerState<K> {
     #[inline(always)]
     pub(crate) fn wake_for(&self, leftover: Leftover) -> Finish {
         // Modelled in models/lane.h.
-        leftover.settle(|slot| self.crews.wake(slot))
+        leftover.settle(|slot| self.service.crews.wake(slot))
     }
 
     /// Notifies others of what came of events, with the book's lock let go: touches the lane of each touched slot, and delivers where
