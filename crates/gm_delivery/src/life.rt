@@ -1,6 +1,6 @@
 //! How a connection ends: until when it is sent to, and what is to be done for it next.
 
-ghost use Rattle.std.specs.Prelude.{◌≡◌, ◌≤◌, ◌↔◌, min, IsTrue, if◌then◌else◌};
+ghost use Rattle.std.specs.Prelude.{◌≡◌, ◌≤◌, ◌↔◌, ◌*◌, ◌-◌, ◌^◌, min, IsTrue, if◌then◌else◌, false};
 ghost use Rattle.gm_delivery.specs.Lives.{deed_of, later, most_time, state_if};
 
 use gm_report::{ENDING_TIME_MS, MOST_ENDING_TIME_MS};
@@ -47,7 +47,8 @@ pub struct Life {
 impl Life {
     /// A connection that isn't to end. If it can't be sent to, it is cut.
     pub(crate) fn new(begins: bool) -> Life
-        ensures { result.state ≡ state_if begins }
+        ensures state { result.state ≡ state_if begins }
+        ensures unlimited { (result.until ≡ 2 ^ 64 - 1) × (result.last ≡ 2 ^ 64 - 1) × (result.is_over ≡ false) }
     {
         let state = if begins {
             LineState::Open
