@@ -1,5 +1,5 @@
-/* What the models share: a slot's lane (lane.rt, sender.rt, socket.rt, life.rt of gm_delivery) over its word (gm_lane_word), its outbox
- * (gm_outbox), its pen (gm_shared, gm_word) and the book. A comment before each inline names the function that it mirrors, and its file.
+/* What the models share: a slot's lane (lane.rt, sender.rt, message.rt, socket.rt, life.rt of gm_delivery) over its word (gm_lane_word), its pen
+ * (gm_shared, gm_word) and the book. A comment before each inline names the function that it mirrors, and its file.
  *
  * Modes. By default a slot's finisher waits in a write (Pairs of crews.rt). With -DFEW it is the I/O thread that also reads, and never
  * waits for a peer (Few, --io-threads).
@@ -43,12 +43,11 @@
 #define UNPARKED(s) skip
 #endif
 
-/* Delivery (outbox.rt), and SEND: the outbox is still to drain */
+/* How far a delivery is: all is sent, some is left, the sending broke off, and it is still to send */
 #define DONE 0
 #define BLOCKED 1
 #define OVER 2
-#define SHUT 3
-#define SEND 4
+#define SEND 3
 
 /* Finish (lane.rt) */
 #define NOTHING 0        /* Finish::Idle */
@@ -117,7 +116,7 @@ byte line_gen[N];        /*   of this opening; */
 byte until[N];           /*   how many calls of its Life's look are left to `until`, */
 byte last[N];            /*   and to `last`; */
 bool end_over[N];        /*   and its is_over */
-bool has_left[N];        /* sender.outbox.left is Some */
+bool has_left[N];        /* sender.left is Some */
 byte l_gen[N];
 byte l_next[N];
 byte l_to[N];
@@ -171,12 +170,12 @@ byte owners[N];          /* how many have the lane */
     byte who = OTHER; byte res = 0; byte fin = 0; byte found = 0; byte attempts = 0; \
     bool had_left = false; bool is_shut = false; bool took = false; bool has_ended = false; bool is_ending = false; bool has = false; bool has_taken = false
 
-/* Outbox::forget (outbox.rt) */
+/* Nothing is left of the present message (WriteHalf::send, socket.rt; Sender::hang_up and let_go, sender.rt) */
 inline forget(s) {
     has_left[s] = false; l_gen[s] = 0; l_next[s] = 0; l_to[s] = 0; l_noop[s] = false
 }
 
-/* The sending broke off (deliver_on, sender.rt; WriteHalf::hang_up, socket.rt), under the lane's lock */
+/* The sending broke off (WriteHalf::send and hang_up, socket.rt; Sender::refill, sender.rt), under the lane's lock */
 inline cut(s) {
     line[s] = CUT; faulted[s] = true
 }
@@ -211,7 +210,7 @@ inline look(s) {
     fi
 }
 
-/* One write of Message::send (outbox.rt), with write_once (message.rt) and WriteHalf::write_by (socket.rt), under the lane's lock.
+/* One write of Message::send (message.rt), with write_once (writing.rt) and WriteHalf::write_by (socket.rt), under the lane's lock.
  * Afterwards res is SEND if more is left to write, DONE, BLOCKED or OVER. */
 inline write_one(s) {
     assert(line[s] == OPEN);
@@ -388,9 +387,9 @@ inline end_delivery(s) {
     res = 0; is_shut = false; had_left = false
 }
 
-/* Claim::attempt (claim.rt) and Lane::attempt (lane.rt), with Sender::deliver, deliver_on (sender.rt) and Outbox::deliver (outbox.rt): what was
- * left, the take, the drain, and one write after another until all is sent, or one is blocked or fails. A jump from one atomic block
- * into another goes on without a step of others. */
+/* Claim::attempt (claim.rt) and Lane::attempt (lane.rt), with Sender::deliver, refill and finish (sender.rt) and WriteHalf::send (socket.rt):
+ * what was left, the take, the drain, and one write after another until all is sent, or one is blocked or fails. A jump from one atomic
+ * block into another goes on without a step of others. */
 inline attempt(s) {
 #ifndef M_ATTEMPT_AFTER_DELIVERY
     atomic { assert(lw[s] == LANE_CLAIMED); lw[s] = LANE_BUSY };   /* swap */
@@ -580,7 +579,7 @@ inline end_lane(s, to) {
 #endif
 }
 
-/* Lane::open, Sender::begin and Outbox::begin, up to deliver_claimed. The connection's opening is the next one, as `drain` asserts, so the line
+/* Lane::open and Sender::begin, up to deliver_claimed. The connection's opening is the next one, as `drain` asserts, so the line
  * is open. The model chooses the peer. */
 inline open_lane(s) {
 #ifndef M_RESTART_AFTER_BEGIN

@@ -1,25 +1,24 @@
 -- Deliveries, added up.
-use Rattle.std.proofs.Common.{◌≡◌, ℕ, ◌+◌, ◌*◌, ◌==◌, ◌<◌, Bool, true, false, List, [], ◌∷◌, ◌++◌, length, Option, Some, None, Ok, refl, sym, ap, ap₂, subst, ◌∙◌, arith, append_assoc, eq-eqb, ne_eqb}
-use Rattle.std.specs.Prelude.{◌&&◌, if◌then◌else◌, map}
+use Rattle.std.proofs.Common.{◌≡◌, ℕ, ◌+◌, ◌*◌, ◌==◌, ◌<◌, Bool, true, false, List, [], ◌∷◌, ◌++◌, length, Option, Some, None, Result, Ok, Err, refl, sym, ap, ap₂, subst, ◌∙◌, arith, append_assoc, eq-eqb, ne_eqb}
+use Rattle.std.proofs.lemmas.Bool.{eqb-true}
+use Rattle.std.specs.Prelude.{◌&&◌, if◌then◌else◌, MatchBool, map}
 use Rattle.std.specs.Option.{option_map}
 use Rattle.std.proofs.lemmas.List.{append-nil}
 use Rattle.gm_notes.specs.Settings.{Settings}
+use Rattle.gm_notes.specs.declared.event.ApplyError.{ApplyError}
 use Rattle.gm_shared.specs.declared.tape.Entry.{Entry}
 use Rattle.gm_shared.specs.declared.receipt.Drained.{Drained}
 use Rattle.gm_shared.specs.Tapes.{actor_code, drain_entry}
 use Rattle.gm_shared.specs.Histories.{calls_by}
 use Rattle.gm_shared.specs.Openings.{openings, most_openings, counted}
 use Rattle.gm_shared.specs.Calls.{PenCalled}
-use Rattle.gm_outbox.specs.declared.outbox.Delivery.{Delivery}
-use Rattle.gm_outbox.specs.declared.outbox.Delivery.TheVariants.{Done, Blocked, Shut, Over}
-use Rattle.gm_outbox.specs.Turns.{Turn, due, noops_in, BeginsIf}
-use Rattle.gm_outbox.specs.Deliveries.{Takes, Gives, unasked, given, elsewhere, refused, Tells, Delivers}
+use Rattle.gm_delivery.specs.Messages.{turn_of}
 use Rattle.gm_delivery.specs.declared.account.Account.{Account}
 use Rattle.gm_delivery.specs.declared.account.Past.{Past}
-use Rattle.gm_delivery.specs.Accounts.{bytes_in, drains_at, sent_by, drains_in, takes_in, AreTurns, IsWritten, IsPrefixWritten, WrittenTo, AreOver, closed}
+use Rattle.gm_delivery.specs.Accounts.{Turn, bytes_in, drains_at, sent_by, drains_in, takes_in, AreTurns, IsWritten, IsPrefixWritten, WrittenTo, ArePast, AreOver, closed}
 use Rattle.gm_delivery.specs.declared.life.LineState.{LineState}
 use Rattle.gm_delivery.specs.declared.life.LineState.TheVariants.{Open, Finished, Cut}
-use Rattle.gm_delivery.specs.Sendings.{Line, SenderState, state_of, present, IsLineSo, IsSender, after_sending, cut}
+use Rattle.gm_delivery.specs.Sendings.{Line, SenderState, present, IsLineSo, IsLine, began, IsSender, cut, can_send, is_open, is_clear, SendsPart, Sends, SendsTo, SendsLeft, BeginsIf}
 use Rattle.gm_delivery.specs.Lives.{cut_state, state_if}
 
 -- ---- what a pen was given
@@ -58,185 +57,309 @@ module _ (k : Settings) (taped : Bool) (slot : ℕ) (drained : Drained) (seen af
   drains_elsewhere : (n : ℕ) → (drained.opening ≡ n → ⊥) → n < most_openings → drains_at n slot after ≡ drains_at n slot seen
   drains_elsewhere n isnt below = of_present n false (ne_eqb (openings slot grown) n (λ now. isnt (told_is ∙ (let t = now in omega arith))))
 
--- ---- turns
+-- whether this was drained at the n-th opening
+abbrev is_at : Result Drained ApplyError → ℕ → Bool
+is_at (Ok drained) n = drained.opening == n
+is_at (Err error) n = false
 
-abbrev with_turn : Option Turn → List Turn → List Turn
-with_turn None turns = turns
-with_turn (Some turn) turns = turn ∷ turns
+-- at another opening the pen was given nothing more
+drains_still : (k : Settings) (taped : Bool) (slot : ℕ) (result : Result Drained ApplyError) (seen after : List Entry) → PenCalled k taped slot slot result seen after
+    → (n : ℕ) → is_at result n ≡ false → n < most_openings → drains_at n slot after ≡ drains_at n slot seen
+drains_still k taped slot (Ok drained) seen after called n other below = drains_elsewhere k taped slot drained seen after called n (λ is. let bad = sym (eq-eqb drained.opening n is) ∙ other in absurd cc) below
+drains_still k taped slot (Err error) seen after called n other below =
+    ap (drains_at n slot) (called.after_is ∙ called.knows.goes_on) ∙ none_drained n slot called.knows.newer seen called.knows.others
 
--- a delivery to the connection of this opening, with NOOPs that are lost where it is over
-record MoreTurns (n slot first : ℕ) (since : List Entry) (takes takes_after : ℕ) (after : List Entry) (turn : Option Turn) (turns : List Turn) : Type 0 where
-  pub lost : ℕ
-  pub are : AreTurns n slot since first after takes_after lost (with_turn turn turns)
-  pub none_lost : takes_after ≡ takes + noops_in turn → lost ≡ 0
-
-module _ (n slot first : ℕ) (since : List Entry) (takes : ℕ) (seen : List Entry) (turns : List Turn) (are : AreTurns n slot since first seen takes 0 turns) where
-  -- nothing more was drained at this opening
-  no_turn : (after more : List Entry) (takes_after lost : ℕ) → after ≡ more ++ seen → drains_at n slot after ≡ drains_at n slot seen → takes_after ≡ takes + lost
-      → MoreTurns n slot first since takes takes_after after None turns
-  no_turn after more takes_after lost is drained taken = record {
-    lost = lost;
-    are = record {
-      newer = more ++ are.newer;
-      goes_on = is ∙ (ap (λ l. more ++ l) are.goes_on ∙ sym (append_assoc more are.newer since));
-      drained = drained ∙ are.drained;
-      taken = (let before = are.taken in omega arith);
-    };
-    none_lost = λ all. (let t = all in omega arith);
-  }
-
-  lost_if : (took : Bool) (takes_after : ℕ) → Takes took takes takes_after → takes_after ≡ takes + (if took then 1 else 0)
-  lost_if true takes_after so = so
-  lost_if false takes_after so = omega (arith, so)
-
-  turns_more : (k : Settings) (taped : Bool) (opening opening_after takes_after : ℕ) (after : List Entry) (shut : Option Bool) (turn : Option Turn) → opening ≡ n → n < most_openings
-      → Gives k taped slot opening opening_after takes takes_after seen after shut turn → MoreTurns n slot first since takes takes_after after turn turns
-  turns_more k taped opening opening_after takes_after after _ _ is below (unasked o t s) = no_turn after [] takes_after 0 s (ap (drains_at n slot) s) (omega (arith, t))
-  turns_more k taped opening opening_after takes_after after _ _ is below (given took drained same o t called) =
-      let asked = lost_if took takes_after t in
-      let before = are.taken in
-      record {
-        lost = 0;
-        are = record {
-          newer = drain_entry slot slot drained.bytes.bytes ∷ called.knows.newer ++ are.newer;
-          goes_on = after_is k taped slot drained seen after called
-              ∙ ap (λ l. drain_entry slot slot drained.bytes.bytes ∷ l) (ap (λ l. called.knows.newer ++ l) are.goes_on ∙ sym (append_assoc called.knows.newer are.newer since));
-          drained = drains_here k taped slot drained seen after called n (same ∙ is) below ∙ ap (λ l. drained.bytes.bytes ∷ l) are.drained;
-          taken = omega arith;
-        };
-        none_lost = λ all. refl;
-      }
-  turns_more k taped opening opening_after takes_after after _ _ is below (elsewhere took drained other o t called) =
-      no_turn after (drain_entry slot slot drained.bytes.bytes ∷ called.knows.newer) takes_after (if took then 1 else 0) (after_is k taped slot drained seen after called)
-      (drains_elsewhere k taped slot drained seen after called n (λ same. other (same ∙ sym is)) below) (lost_if took takes_after t)
-  turns_more k taped opening opening_after takes_after after _ _ is below (refused took error o t called) =
-      let grown = called.after_is ∙ called.knows.goes_on in
-      no_turn after called.knows.newer takes_after (if took then 1 else 0) grown
-      (ap (drains_at n slot) grown ∙ none_drained n slot called.knows.newer seen called.knows.others) (lost_if took takes_after t)
-
--- ---- openings
-
--- at another opening than the count the pen is given nothing, as long as the count tells
-still : (k : Settings) (taped : Bool) (slot opening opening_after takes takes_after : ℕ) (seen after : List Entry) (shut : Option Bool) (turn : Option Turn)
-    → Gives k taped slot opening opening_after takes takes_after seen after shut turn → opening_after < most_openings
-    → (opening_after ≡ opening) × ((n : ℕ) → (n ≡ opening → ⊥) → n < most_openings → drains_at n slot after ≡ drains_at n slot seen)
-still k taped slot opening opening_after takes takes_after seen after _ _ (unasked o t s) below = (o, λ n apart under. ap (drains_at n slot) s)
-still k taped slot opening opening_after takes takes_after seen after _ _ (given took drained same o t called) below =
-    (o, λ n apart under. drains_elsewhere k taped slot drained seen after called n (λ is. apart (sym is ∙ same)) under)
-still k taped slot opening opening_after takes takes_after seen after _ _ (elsewhere took drained other o t called) below = absurd (omega (arith, below, o))
-still k taped slot opening opening_after takes takes_after seen after _ _ (refused took error o t called) below =
-    (o, λ n apart under. ap (drains_at n slot) (called.after_is ∙ called.knows.goes_on) ∙ none_drained n slot called.knows.newer seen called.knows.others)
+goes_on : (k : Settings) (taped : Bool) (slot : ℕ) (result : Result Drained ApplyError) (seen after : List Entry) → PenCalled k taped slot slot result seen after → (newer : List Entry) × (after ≡ newer ++ seen)
+goes_on k taped slot (Ok drained) seen after called = (drain_entry slot slot drained.bytes.bytes ∷ called.knows.newer, after_is k taped slot drained seen after called)
+goes_on k taped slot (Err error) seen after called = (called.knows.newer, called.after_is ∙ called.knows.goes_on)
 
 over_more : (c : ℕ) (past : List Past) (seen after : List Entry) → ((n : ℕ) → n < length past + 1 → drains_at n c after ≡ drains_at n c seen) → AreOver c past seen → AreOver c past after
 over_more c [] seen after same over = tt
 over_more c (p ∷ older) seen after same over = (same (length older + 1) (omega arith) ∙ over.0, over_more c older seen after (λ n less. same n (omega (arith, less))) over.1)
 
--- ---- a delivery
+-- ---- where the connection can be sent to
 
-module _ (k : Settings) (taped : Bool) (slot opened opened_after takes takes_after : ℕ) (seen after : List Entry) (log more left left_after : List ℕ) (account : Account)
-    (ends : Bool) (delivery : Delivery) (d : Delivers k taped delivery slot opened opened_after takes takes_after seen after (Some log) (Some more) left left_after) where
-  abbrev n : ℕ
-  n = length account.past + 1
+record IsSending (s : SenderState) (log : List ℕ) : Type 0 where
+  pub past : ArePast s.slot s.account.past s.account.since s.account.takes
+  pub over : AreOver s.slot s.account.past s.seen
+  pub unused : (n : ℕ) → s.openings < n → n < most_openings → drains_at n s.slot s.seen ≡ []
+  pub written : IsWritten (present s) s.slot s.account.since s.account.takes s.seen s.takes 0 log s.left
+  pub at : s.openings ≡ present s
+  pub below : s.openings < most_openings
 
-  abbrev old : SenderState
-  old = state_of slot opened seen takes left (Some record { state = Open; log = log }) account
+sending : (s : SenderState) (line : Line) → s.line ≡ Some line → line.state ≡ Open → IsSender s → IsSending s line.log
+sending s line there state is =
+    let so = subst (λ (at : LineState). IsLineSo s line.log at) state (subst (λ (o : Option Line). IsLine s o) there is.line) in
+    record { past = is.past; over = (is.counted so.2).1; unused = is.unused; written = so.0; at = so.1; below = so.2 }
 
-  abbrev new : SenderState
-  new = state_of slot opened_after after takes_after left_after (Some record { state = after_sending ends delivery; log = more }) account
+-- what is written, and then what is left, is the same
+moved : (n c : ℕ) (since : List Entry) (takes : ℕ) (until : List Entry) (takes_after lost : ℕ) (log left more rest : List ℕ) → log ++ left ≡ more ++ rest
+    → IsWritten n c since takes until takes_after lost log left → IsWritten n c since takes until takes_after lost more rest
+moved n c since takes until takes_after lost log left more rest same w = record { turns = w.turns; are = w.are; whole = w.whole ∙ same }
 
-  -- and so the sending goes on, is finished or broke off
-  module _ (so : IsLineSo old (record { state = Open; log = log }) Open) where
-    grows : MoreTurns n slot account.takes account.since takes takes_after after d.turn so.0.turns
-    grows = turns_more n slot account.takes account.since takes seen so.0.turns so.0.are k taped opened opened_after takes_after after d.gave_shut d.turn so.1
-        (subst (λ (m : ℕ). m < most_openings) so.1 so.2) d.gives
+module _ (s : SenderState) (log : List ℕ) (is : IsSending s log) where
+  sends_on : (more rest : List ℕ) → log ++ s.left ≡ more ++ rest → IsSender (record s { left = rest; line = Some record { state = Open; log = more } })
+  sends_on more rest same = record {
+    past = is.past;
+    counted = λ below. (is.at, is.over);
+    unused = is.unused;
+    line = (moved (present s) s.slot s.account.since s.account.takes s.seen s.takes 0 log s.left more rest same is.written, is.at, is.below);
+  }
 
-    sends : (turn : Option Turn) (turns : List Turn) → sent_by (with_turn turn turns) ≡ sent_by turns ++ due turn
-    sends None turns = sym (append-nil (sent_by turns))
-    sends (Some turn) turns = refl
+  breaks_off : (more rest : List ℕ) → log ++ s.left ≡ more ++ rest → IsSender (record s { left = []; line = Some record { state = Cut; log = more } })
+  breaks_off more rest same = record {
+    past = is.past;
+    counted = λ below. (is.at, is.over);
+    unused = is.unused;
+    line = ((rest, 0, moved (present s) s.slot s.account.since s.account.takes s.seen s.takes 0 log s.left more rest same is.written), refl);
+  }
 
-    now : IsWritten n slot account.since account.takes after takes_after grows.lost more d.rest
-    now =
-        let s = so.0 in
+  -- ---- what the pen gives
+
+  module _ (none : s.left ≡ []) (k : Settings) (taped took : Bool) (result : Result Drained ApplyError) (seen : List Entry) (takes tries : ℕ)
+      (asked : MatchBool took (takes ≡ s.takes + 1) (takes ≡ s.takes)) (called : PenCalled k taped s.slot s.slot result s.seen seen) where
+    abbrev n : ℕ
+    n = present s
+
+    under : n < most_openings
+    under = subst (λ (m : ℕ). m < most_openings) is.at is.below
+
+    lost : (took : Bool) → MatchBool took (takes ≡ s.takes + 1) (takes ≡ s.takes) → takes ≡ s.takes + (if took then 1 else 0)
+    lost true so = so
+    lost false so = omega (arith, so)
+
+    abbrev asked_of : SenderState
+    asked_of = record s { seen = seen; takes = takes; tries = tries }
+
+    -- at the openings of those that are gone it gave nothing
+    still_over : ((m : ℕ) → m < n → is_at result m ≡ false) → AreOver s.slot s.account.past seen
+    still_over other = over_more s.slot s.account.past s.seen seen (λ m less. drains_still k taped s.slot result s.seen seen called m (other m less) (omega (arith, less, under))) is.over
+
+    still_unused : ((m : ℕ) → s.openings < m → is_at result m ≡ false) → (m : ℕ) → s.openings < m → m < most_openings → drains_at m s.slot seen ≡ []
+    still_unused other m later below = drains_still k taped s.slot result s.seen seen called m (other m later) below ∙ is.unused m later below
+
+    -- nothing for this connection: a NOOP may be lost
+    gives_none : is_at result n ≡ false → IsPrefixWritten n s.slot s.account.since s.account.takes seen takes log
+    gives_none other =
+        let went = goes_on k taped s.slot result s.seen seen called in
+        let w = is.written in
+        let before = w.are.taken in
+        let asks = lost took asked in (
+          [],
+          if took then 1 else 0,
+          record {
+            turns = w.turns;
+            are = record {
+              newer = went.0 ++ w.are.newer;
+              goes_on = went.1 ∙ (ap (λ l. went.0 ++ l) w.are.goes_on ∙ sym (append_assoc went.0 w.are.newer s.account.since));
+              drained = drains_still k taped s.slot result s.seen seen called n other under ∙ w.are.drained;
+              taken = omega arith;
+            };
+            whole = w.whole ∙ ap (λ l. log ++ l) none;
+          },
+        )
+
+  module _ (none : s.left ≡ []) (k : Settings) (taped took : Bool) (drained : Drained) (seen : List Entry) (takes tries : ℕ)
+      (asked : MatchBool took (takes ≡ s.takes + 1) (takes ≡ s.takes)) (called : PenCalled k taped s.slot s.slot (Ok drained) s.seen seen) where
+    abbrev asked_for : SenderState
+    asked_for = asked_of none k taped took (Ok drained) seen takes tries asked called
+
+    -- what it gave for the connection is left
+    gives : drained.opening ≡ s.openings → IsSender (record asked_for { left = turn_of took drained.bytes.bytes; line = Some record { state = Open; log = log } })
+    gives here =
+        let w = is.written in
+        let before = w.are.taken in
+        let at = is.at in
+        let asks = lost none k taped took (Ok drained) seen takes tries asked called took asked in
+        let other : (m : ℕ) → (m ≡ s.openings → ⊥) → (drained.opening == m) ≡ false = λ m apart. ne_eqb drained.opening m (λ now. apart (sym now ∙ here)) in
         record {
-          turns = with_turn d.turn s.turns;
-          are = grows.are;
-          whole = sends d.turn s.turns ∙ (ap (λ l. l ++ due d.turn) s.whole ∙ (append_assoc log left (due d.turn)
-              ∙ (ap (λ l. log ++ l) d.whole ∙ (sym (append_assoc log d.part d.rest) ∙ ap (λ l. l ++ d.rest) (sym d.written)))));
+          past = is.past;
+          counted = λ below. (at, still_over none k taped took (Ok drained) seen takes tries asked called (λ m less. other m (λ now. absurd (omega (arith, now, less, at)))));
+          unused = still_unused none k taped took (Ok drained) seen takes tries asked called (λ m later. other m (λ now. absurd (omega (arith, now, later))));
+          line = (
+            record {
+              turns = record { took = took; gave = drained.bytes.bytes } ∷ w.turns;
+              are = record {
+                newer = drain_entry s.slot s.slot drained.bytes.bytes ∷ called.knows.newer ++ w.are.newer;
+                goes_on = after_is k taped s.slot drained s.seen seen called
+                    ∙ ap (λ l. drain_entry s.slot s.slot drained.bytes.bytes ∷ l) (ap (λ l. called.knows.newer ++ l) w.are.goes_on ∙ sym (append_assoc called.knows.newer w.are.newer s.account.since));
+                drained = drains_here k taped s.slot drained s.seen seen called (present s) (here ∙ at) (under none k taped took (Ok drained) seen takes tries asked called)
+                    ∙ ap (λ l. drained.bytes.bytes ∷ l) w.are.drained;
+                taken = omega arith;
+              };
+              whole = ap (λ l. l ++ turn_of took drained.bytes.bytes) (w.whole ∙ (ap (λ l. log ++ l) none ∙ append-nil log));
+            },
+            at,
+            is.below,
+          );
         }
 
-    -- where it isn't over no NOOP is lost
-    kept : (rest : List ℕ) → rest ≡ d.rest → (delivery ≡ Over → ⊥) → IsWritten n slot account.since account.takes after takes_after 0 more rest
-    kept rest same there =
-        subst (λ (z : ℕ × List ℕ). IsWritten n slot account.since account.takes after takes_after z.0 more z.1) (λ i. (grows.none_lost (d.here there).1 i, sym same i)) now
+    -- what it gave was for another
+    gives_elsewhere : (drained.opening ≡ s.openings → ⊥) → IsSender (record asked_for { openings = most_openings; line = Some record { state = Cut; log = log } })
+    gives_elsewhere other = record {
+      past = is.past;
+      counted = λ below. absurd (omega (arith, below));
+      unused = λ m later below. absurd (omega (arith, later, below));
+      line = (gives_none none k taped took (Ok drained) seen takes tries asked called (ne_eqb drained.opening (present s) (λ now. other (now ∙ sym is.at))), none);
+    }
 
-    stands_after : (ending : Bool) (result : Delivery) → delivery ≡ result → IsLineSo new (record { state = after_sending ends delivery; log = more }) (after_sending ending result)
-    stands_after true Done same =
-        let tells = subst (λ r. Tells r d.gave_shut d.rest left_after) same d.tells in
-        let there : delivery ≡ Over → ⊥ = λ over. let bad = sym same ∙ over in absurd cc in
-        (kept [] (sym tells.1) there, tells.2)
-    stands_after false Done same =
-        let tells = subst (λ r. Tells r d.gave_shut d.rest left_after) same d.tells in
-        let there : delivery ≡ Over → ⊥ = λ over. let bad = sym same ∙ over in absurd cc in
-        let here = (d.here there).0 in
-        (kept left_after (tells.2 ∙ sym tells.1) there, here ∙ so.1, subst (λ (m : ℕ). m < most_openings) (sym here) so.2)
-    stands_after ending Blocked same =
-        let tells = subst (λ r. Tells r d.gave_shut d.rest left_after) same d.tells in
-        let there : delivery ≡ Over → ⊥ = λ over. let bad = sym same ∙ over in absurd cc in
-        let here = (d.here there).0 in
-        (kept left_after tells.0 there, here ∙ so.1, subst (λ (m : ℕ). m < most_openings) (sym here) so.2)
-    stands_after ending Shut same =
-        let tells = subst (λ r. Tells r d.gave_shut d.rest left_after) same d.tells in
-        let there : delivery ≡ Over → ⊥ = λ over. let bad = sym same ∙ over in absurd cc in
-        (kept [] (sym tells.1) there, tells.2)
-    stands_after ending Over same = ((d.rest, grows.lost, now), subst (λ r. Tells r d.gave_shut d.rest left_after) same d.tells)
-
-  -- a delivery to a connection whose sending goes on
-  deliver_keeps : IsSender old → IsSender new
-  deliver_keeps is = record {
+  gives_nothing : s.left ≡ [] → (k : Settings) (taped took : Bool) (error : ApplyError) (seen : List Entry) (takes tries : ℕ) → MatchBool took (takes ≡ s.takes + 1) (takes ≡ s.takes)
+      → PenCalled k taped s.slot s.slot (Err error) s.seen seen → IsSender (record s { seen = seen; takes = takes; tries = tries; line = Some record { state = Cut; log = log } })
+  gives_nothing none k taped took error seen takes tries asked called = record {
     past = is.past;
-    counted = λ below.
-        let s = still k taped slot opened opened_after takes takes_after seen after d.gave_shut d.turn d.gives below in
-        let at = is.line.1 in
-        let under = is.line.2 in
-        (s.0 ∙ at, over_more slot account.past seen after (λ m less. s.1 m (λ same. absurd (omega (arith, same, less, at))) (omega (arith, less, at, under))) (is.counted under).1);
-    unused = λ m later below.
-        let s = still k taped slot opened opened_after takes takes_after seen after d.gave_shut d.turn d.gives (omega (arith, later, below)) in
-        s.1 m (λ same. absurd (omega (arith, same, later, s.0))) below ∙ is.unused m (omega (arith, later, s.0)) below;
-    line = stands_after is.line ends delivery refl;
+    counted = λ below. (is.at, still_over none k taped took (Err error) seen takes tries asked called (λ m less. refl));
+    unused = still_unused none k taped took (Err error) seen takes tries asked called (λ m later. refl);
+    line = (gives_none none k taped took (Err error) seen takes tries asked called refl, none);
   }
+
+-- the connection can be sent to, and nothing is left for it
+clear_open : (s : SenderState) (line : Line) → s.line ≡ Some line → is_clear s ≡ true → line.state ≡ Open
+clear_open s line there clear = by line.state (and_first (can_send line.state) (length s.left == 0) (ap (λ (o : Option Line). is_open o && (length s.left == 0)) (sym there) ∙ clear))
+  where
+    and_first : (a b : Bool) → (a && b) ≡ true → a ≡ true
+    and_first true b is = refl
+    and_first false b is = is
+
+    by : (state : LineState) → can_send state ≡ true → state ≡ Open
+    by Open is = refl
+    by Finished bad = absurd cc
+    by Cut bad = absurd cc
+
+clear_none : (s : SenderState) → is_clear s ≡ true → s.left ≡ []
+clear_none s clear = none s.left (and_second (is_open s.line) (length s.left == 0) clear)
+  where
+    and_second : (a b : Bool) → (a && b) ≡ true → b ≡ true
+    and_second true b is = is
+    and_second false b bad = absurd cc
+
+    none : (l : List ℕ) → (length l == 0) ≡ true → l ≡ []
+    none [] is = refl
+    none (x ∷ l) bad = let same = eqb-true (length (x ∷ l)) 0 bad in absurd cc
+
+-- the same, said of what the code has in its hands: the pen before it was asked, between and after
+module _ {P : Type 0} (slot takes tries : P → ℕ) (seen : P → List Entry) (before asked after : P) (slot_is : slot asked ≡ slot before) (seen_is : seen asked ≡ seen before)
+    (slot_kept : slot after ≡ slot asked) (takes_kept : takes after ≡ takes asked) (took : Bool) (takes_so : MatchBool took (takes asked ≡ takes before + 1) (takes asked ≡ takes before))
+    (openings : ℕ) (left : List ℕ) {X : Type 0} (f : X → Line) (found : Option X) (x : X) (account : Account) (is_there : found ≡ Some x) where
+  abbrev was : SenderState
+  was = record { slot = slot before; openings = openings; seen = seen before; takes = takes before; tries = tries before; left = left; line = option_map f found; account = account }
+
+  abbrev line : Line
+  line = f x
+
+  there : option_map f found ≡ Some line
+  there = ap (option_map f) is_there
+
+  takes_now : MatchBool took (takes after ≡ takes before + 1) (takes after ≡ takes before)
+  takes_now = subst (λ (n : ℕ). MatchBool took (n ≡ takes before + 1) (n ≡ takes before)) (sym takes_kept) takes_so
+
+  module _ (clear : is_clear was ≡ true) (is : IsSender was) (k : Settings) (taped : Bool) where
+    so : IsSending was line.log
+    so = sending was line there (clear_open was line there clear) is
+
+    none_left : left ≡ []
+    none_left = clear_none was clear
+
+    called_so : (result : Result Drained ApplyError) → PenCalled k taped (slot asked) (slot asked) result (seen asked) (seen after) → PenCalled k taped (slot before) (slot before) result (seen before) (seen after)
+    called_so result called = subst (λ (z : ℕ × List Entry). PenCalled k taped z.0 z.0 result z.1 (seen after)) (λ i. (slot_is i, seen_is i)) called
+
+    now_at : (openings : ℕ) (left : List ℕ) (line : Line) → IsSender (record { slot = slot before; openings = openings; seen = seen after; takes = takes after; tries = tries after; left = left; line = Some line; account = account })
+        → IsSender (record { slot = slot after; openings = openings; seen = seen after; takes = takes after; tries = tries after; left = left; line = Some line; account = account })
+    now_at opened l at = subst (λ (c : ℕ). IsSender (record { slot = c; openings = opened; seen = seen after; takes = takes after; tries = tries after; left = l; line = Some at; account = account })) (sym (slot_kept ∙ slot_is))
+
+    pub refill_gives : (drained : Drained) → drained.opening ≡ openings → PenCalled k taped (slot asked) (slot asked) (Ok drained) (seen asked) (seen after) → (due : List ℕ) → due ≡ turn_of took drained.bytes.bytes
+        → IsSender (record { slot = slot after; openings = openings; seen = seen after; takes = takes after; tries = tries after; left = due; line = Some line; account = account })
+    refill_gives drained here called due dues =
+        subst (λ (z : List ℕ × LineState). IsSender (record { slot = slot after; openings = openings; seen = seen after; takes = takes after; tries = tries after; left = z.0; line = Some record { state = z.1; log = line.log }; account = account }))
+        (λ i. (sym dues i, sym (clear_open was line there clear) i))
+        (now_at openings (turn_of took drained.bytes.bytes) (record { state = Open; log = line.log }) (gives was line.log so none_left k taped took drained (seen after) (takes after) (tries after) takes_now (called_so (Ok drained) called) here))
+
+    pub refill_elsewhere : (drained : Drained) → (drained.opening ≡ openings → ⊥) → PenCalled k taped (slot asked) (slot asked) (Ok drained) (seen asked) (seen after)
+        → IsSender (record { slot = slot after; openings = most_openings; seen = seen after; takes = takes after; tries = tries after; left = left; line = Some record { state = Cut; log = line.log }; account = account })
+    refill_elsewhere drained other called = now_at most_openings left (record { state = Cut; log = line.log })
+        (gives_elsewhere was line.log so none_left k taped took drained (seen after) (takes after) (tries after) takes_now (called_so (Ok drained) called) other)
+
+    pub refill_none : (error : ApplyError) → PenCalled k taped (slot asked) (slot asked) (Err error) (seen asked) (seen after)
+        → IsSender (record { slot = slot after; openings = openings; seen = seen after; takes = takes after; tries = tries after; left = left; line = Some record { state = Cut; log = line.log }; account = account })
+    refill_none error called = now_at openings left (record { state = Cut; log = line.log })
+        (gives_nothing was line.log so none_left k taped took error (seen after) (takes after) (tries after) takes_now (called_so (Err error) called))
+
+-- ---- what is sent
+
+pub part_of_none : (log left : List ℕ) (state : LineState) → state ≡ Open → SendsPart log left (record { state = state; log = log }) left
+part_of_none log left state is = record { part = []; rest = left; whole = refl; breaks_off = false; some_left = λ bad. absurd cc; line_is = λ i. record { state = is i; log = sym (append-nil log) i }; left_is = refl }
+
+-- said of the connection's state
+pub sends_from : {X : Type 0} (f : X → Line) (s t : SenderState) (found : Option X) (x now : X) (left_now : List ℕ) (result : Bool) → s ≡ t → s.line ≡ option_map f found → found ≡ Some x
+    → (((f x).state ≡ Open → ⊥) → (now ≡ x) × (left_now ≡ s.left) × (result ≡ false)) → ((f x).state ≡ Open → SendsPart (f x).log s.left (f now) left_now)
+    → SendsLeft t (record s { left = left_now; line = Some (f now) })
+sends_from f s t found x now left_now result same line_is there idle part =
+    subst (λ (old : SenderState). SendsLeft old (record s { left = left_now; line = Some (f now) })) same
+    (subst (λ (o : Option Line). SendsTo o s (record s { left = left_now; line = Some (f now) })) (sym (line_is ∙ ap (option_map f) there)) (f now, by (f x).state refl, refl))
+  where
+    by : (state : LineState) → (f x).state ≡ state → Sends state (f x) s.left (f now) left_now
+    by Open at = part at
+    by Finished at = let same = idle (λ opened. let bad = sym at ∙ opened in absurd cc) in (ap f same.0, same.1)
+    by Cut at = let same = idle (λ opened. let bad = sym at ∙ opened in absurd cc) in (ap f same.0, same.1)
+
+pub send_keeps : (s : SenderState) (line : Line) → s.line ≡ Some line → (now : Line) (left : List ℕ) → Sends line.state line s.left now left → IsSender s → IsSender (record s { left = left; line = Some now })
+send_keeps s line there now left sends is = by line.state refl sends
+  where
+    same : (now ≡ line) × (left ≡ s.left) → IsSender (record s { left = left; line = Some now })
+    same eq = subst (λ (z : Line × List ℕ). IsSender (record s { left = z.1; line = Some z.0 })) (λ i. (sym eq.0 i, sym eq.1 i)) (subst (λ (o : Option Line). IsSender (record s { line = o })) there is)
+
+    part : IsSending s line.log → (p : SendsPart line.log s.left now left) (breaks : Bool) → now ≡ record { state = if breaks then Cut else Open; log = line.log ++ p.part } → left ≡ (if breaks then [] else p.rest)
+        → IsSender (record s { left = left; line = Some now })
+    part so p true lines lefts = subst (λ (z : Line × List ℕ). IsSender (record s { left = z.1; line = Some z.0 })) (λ i. (sym lines i, sym lefts i))
+        (breaks_off s line.log so (line.log ++ p.part) p.rest (ap (λ l. line.log ++ l) p.whole ∙ sym (append_assoc line.log p.part p.rest)))
+    part so p false lines lefts = subst (λ (z : Line × List ℕ). IsSender (record s { left = z.1; line = Some z.0 })) (λ i. (sym lines i, sym lefts i))
+        (sends_on s line.log so (line.log ++ p.part) p.rest (ap (λ l. line.log ++ l) p.whole ∙ sym (append_assoc line.log p.part p.rest)))
+
+    by : (state : LineState) → line.state ≡ state → Sends state line s.left now left → IsSender (record s { left = left; line = Some now })
+    by Open at p = part (sending s line there at is) p p.breaks_off p.line_is p.left_is
+    by Finished at eq = same eq
+    by Cut at eq = same eq
 
 -- ---- what the lock guards
 
 -- a prefix, however far the sending is
-part_of : (s : SenderState) (line : Line) (state : LineState) → IsLineSo s line state → IsPrefixWritten (present s) s.slot s.account.since s.account.takes s.seen s.takes line.log
-part_of s line Open so = (s.left, 0, so.0)
-part_of s line Finished so = ([], 0, so.0)
-part_of s line Cut so = so.0
+part_of : (s : SenderState) (log : List ℕ) (state : LineState) → IsLineSo s log state → IsPrefixWritten (present s) s.slot s.account.since s.account.takes s.seen s.takes log
+part_of s log Open so = (s.left, 0, so.0)
+part_of s log Finished so = ([], 0, so.0)
+part_of s log Cut so = so.0
 
-cut_line : (slot opened takes : ℕ) (seen : List Entry) (left : List ℕ) (line : Line) (account : Account) (state : LineState)
-    → IsLineSo (state_of slot opened seen takes left (Some line) account) line state
-    → IsLineSo (state_of slot opened seen takes [] (Some record { state = cut_state state; log = line.log }) account) (record { state = cut_state state; log = line.log }) (cut_state state)
-cut_line slot opened takes seen left line account Open so = (part_of (state_of slot opened seen takes left (Some line) account) line Open so, refl)
-cut_line slot opened takes seen left line account Finished so = (so.0, refl)
-cut_line slot opened takes seen left line account Cut so = (so.0, refl)
+cut_line : (s : SenderState) (o : Option Line) → IsLine s o → IsLine (record s { left = []; line = cut o }) (cut o)
+cut_line s None so = (so.0, so.1, refl)
+cut_line s (Some line) so = at line.state so
+  where
+    at : (state : LineState) → IsLineSo s line.log state → IsLineSo (record s { left = []; line = cut (Some line) }) line.log (cut_state state)
+    at Open so = (part_of s line.log Open so, refl)
+    at Finished so = (so.0, refl)
+    at Cut so = (so.0, refl)
 
-pub cut_keeps : (slot opened takes : ℕ) (seen : List Entry) (left : List ℕ) (line : Option Line) (account : Account) → IsSender (state_of slot opened seen takes left line account)
-    → IsSender (state_of slot opened seen takes [] (cut line) account)
-cut_keeps slot opened takes seen left None account is = record { past = is.past; counted = is.counted; unused = is.unused; line = (is.line.0, is.line.1, refl) }
-cut_keeps slot opened takes seen left (Some line) account is = record { past = is.past; counted = is.counted; unused = is.unused; line = cut_line slot opened takes seen left line account line.state is.line }
+began_cut : (o : Option Line) (past : List Past) → began o past ≡ began (cut o) past
+began_cut None past = refl
+began_cut (Some line) past = refl
+
+pub cut_keeps : (s : SenderState) → IsSender s → IsSender (record s { left = []; line = cut s.line })
+cut_keeps s is = record {
+  past = is.past;
+  counted = λ below. let so = is.counted below in (so.0 ∙ began_cut s.line s.account.past, so.1);
+  unused = is.unused;
+  line = cut_line s s.line is.line;
+}
 
 -- all was sent, where the sending is finished, or goes on and nothing is left
-gone : (s : SenderState) (line : Line) (state : LineState) (is_whole : Bool) → IsLineSo s line state → (is_whole ≡ true → state ≡ Cut → ⊥) → (is_whole ≡ true → state ≡ Open → s.left ≡ [])
-    → WrittenTo (present s) s.slot (record { since = s.account.since; takes = s.account.takes; until = s.seen; takes_after = s.takes; log = line.log; is_whole = is_whole })
-gone s line Open is_whole so wasnt all = record { rest = s.left; lost = 0; is_written = so.0; whole = λ w. (all w refl, refl) }
-gone s line Finished is_whole so wasnt all = record { rest = []; lost = 0; is_written = so.0; whole = λ w. (refl, refl) }
-gone s line Cut is_whole so wasnt all = record { rest = so.0.0; lost = so.0.1; is_written = so.0.2; whole = λ w. absurd (wasnt w refl) }
+gone : (s : SenderState) (log : List ℕ) (state : LineState) (is_whole : Bool) → IsLineSo s log state → (is_whole ≡ true → state ≡ Cut → ⊥) → (is_whole ≡ true → state ≡ Open → s.left ≡ [])
+    → WrittenTo (present s) s.slot (record { since = s.account.since; takes = s.account.takes; until = s.seen; takes_after = s.takes; log = log; is_whole = is_whole })
+gone s log Open is_whole so wasnt all = record { rest = s.left; lost = 0; is_written = so.0; whole = λ w. (all w refl, refl) }
+gone s log Finished is_whole so wasnt all = record { rest = []; lost = 0; is_written = so.0; whole = λ w. (refl, refl) }
+gone s log Cut is_whole so wasnt all = record { rest = so.0.0; lost = so.0.1; is_written = so.0.2; whole = λ w. absurd (wasnt w refl) }
 
-pub let_go_keeps : (slot opened takes : ℕ) (seen : List Entry) (left : List ℕ) (line : Line) (account : Account) (is_whole : Bool) → IsSender (state_of slot opened seen takes left (Some line) account)
-    → (is_whole ≡ true → line.state ≡ Cut → ⊥) → (is_whole ≡ true → line.state ≡ Open → left ≡ []) → IsSender (state_of slot opened seen takes [] None (closed seen takes line.log is_whole account))
-let_go_keeps slot opened takes seen left line account is_whole is wasnt all = record {
-  past = (refl, refl, gone (state_of slot opened seen takes left (Some line) account) line line.state is_whole is.line wasnt all, is.past);
-  counted = λ below. let so = is.counted below in let count : opened ≡ length account.past + 1 = so.0 in (omega arith, (refl, so.1));
+pub let_go_keeps : (s : SenderState) (line : Line) (is_whole : Bool) → s.line ≡ Some line → IsSender s → (is_whole ≡ true → line.state ≡ Cut → ⊥) → (is_whole ≡ true → line.state ≡ Open → s.left ≡ [])
+    → IsSender (record s { left = []; line = None; account = closed s.seen s.takes line.log is_whole s.account })
+let_go_keeps s line is_whole there is wasnt all = record {
+  past = (refl, refl, gone s line.log line.state is_whole (subst (λ (o : Option Line). IsLine s o) there is.line) wasnt all, is.past);
+  counted = λ below. let so = is.counted below in let count : s.openings ≡ length s.account.past + 1 = so.0 ∙ ap (λ o. began o s.account.past) there in (omega arith, (refl, so.1));
   unused = is.unused;
   line = (refl, refl, refl);
 }
@@ -255,97 +378,58 @@ no_noops : (drains : List (List ℕ)) → takes_in (turns_for drains) ≡ 0
 no_noops [] = refl
 no_noops (gave ∷ drains) = let rest = no_noops drains in omega arith
 
-begin_keeps : (slot opening opened after takes : ℕ) (seen : List Entry) (account : Account) (begins : Bool) → BeginsIf begins opening opened after → IsSender (state_of slot opened seen takes [] None account)
-    → IsSender (state_of slot after seen takes [] (Some record { state = state_if begins; log = [] }) account)
-begin_keeps slot opening opened after takes seen account true b is =
-    let next = b.next in
-    let under = b.below in
-    let known = b.known in
-    let so = is.counted (omega arith) in
-    let count : opened ≡ length account.past = so.0 in
-    let at : opening ≡ length account.past + 1 = omega arith in
-    record {
-      past = is.past;
-      counted = λ below. (known ∙ at, so.1);
-      unused = λ n later below. is.unused n (omega (arith, later)) below;
-      line = (
+pub begin_keeps : (s : SenderState) (opening after : ℕ) (begins : Bool) (state : LineState) (log : List ℕ) → BeginsIf begins opening s.openings after → s.line ≡ None → state ≡ state_if begins → log ≡ []
+    → IsSender s → IsSender (record s { openings = after; line = Some record { state = state; log = log } })
+begin_keeps s opening after begins state log b alone states logs is =
+    subst (λ (z : LineState × List ℕ). IsSender (record s { openings = after; line = Some record { state = z.0; log = z.1 } })) (λ i. (sym states i, sym logs i)) (by begins b)
+  where
+    before : (s.seen ≡ s.account.since) × (s.takes ≡ s.account.takes) × (s.left ≡ [])
+    before = subst (λ (o : Option Line). IsLine s o) alone is.line
+
+    by : (begins : Bool) → BeginsIf begins opening s.openings after → IsSender (record s { openings = after; line = Some record { state = state_if begins; log = [] } })
+    by true b =
+        let next = b.next in
+        let under = b.below in
+        let known = b.known in
+        let so = is.counted (omega arith) in
+        let count : s.openings ≡ length s.account.past = so.0 ∙ ap (λ o. began o s.account.past) alone in
+        let at : opening ≡ length s.account.past + 1 = omega arith in
         record {
-          turns = [];
-          are = record {
-            newer = [];
-            goes_on = is.line.0;
-            drained = subst (λ (n : ℕ). drains_at n slot seen ≡ []) at (is.unused opening (omega arith) under);
-            taken = (let t = is.line.1 in omega arith);
-          };
-          whole = refl;
-        },
-        known ∙ at,
-        subst (λ (n : ℕ). n < most_openings) (sym known) under,
-      );
-    }
-begin_keeps slot opening opened after takes seen account false b is =
-    let n = length account.past + 1 in
-    let turns = turns_for (drains_at n slot seen) in
-    record {
-      past = is.past;
-      counted = λ below. absurd (omega (arith, below, b.0));
-      unused = λ m later below. absurd (omega (arith, later, below, b.0));
-      line = (
-        (
-          sent_by turns,
-          0,
-          record {
-            turns = turns;
-            are = record { newer = []; goes_on = is.line.0; drained = turned (drains_at n slot seen); taken = (let none = no_noops (drains_at n slot seen) in let t = is.line.1 in omega arith) };
-            whole = refl;
-          },
-        ),
-        refl,
-      );
-    }
-
--- ---- the same, said of what the code has in its hands
-
-pub begin_from : {P : Type 0} (slot takes : P → ℕ) (seen : P → List Entry) (pen now : P) (opened after opening : ℕ) (left more : List ℕ) (line : Option Line) (account : Account) (written : List ℕ)
-    (begins : Bool) (state : LineState) (other : SenderState)
-    → IsSender (state_of (slot pen) opened (seen pen) (takes pen) left line account) → state_of (slot pen) opened (seen pen) (takes pen) left line account ≡ other → other.left ≡ [] → other.line ≡ None
-    → BeginsIf begins opening opened after → now ≡ pen → more ≡ left → state ≡ state_if begins → written ≡ []
-    → IsSender (state_of (slot now) after (seen now) (takes now) more (Some record { state = state; log = written }) account)
-begin_from {P} slot takes seen pen now opened after opening left more line account written begins state other is same none gone b pens lefts states fresh =
-    let nothing : left ≡ [] = ap (λ s. s.left) same ∙ none in
-    let alone : line ≡ None = ap (λ s. s.line) same ∙ gone in
-    let before : IsSender (state_of (slot pen) opened (seen pen) (takes pen) [] None account) =
-    subst (λ (z : List ℕ × Option Line). IsSender (state_of (slot pen) opened (seen pen) (takes pen) z.0 z.1 account)) (λ i. (nothing i, alone i)) is in
-    subst (λ (z : P × List ℕ × LineState × List ℕ). IsSender (state_of (slot z.0) after (seen z.0) (takes z.0) z.1 (Some record { state = z.2; log = z.3 }) account))
-    (λ i. (sym pens i, sym (lefts ∙ nothing) i, sym states i, sym fresh i))
-    (begin_keeps (slot pen) opening opened after (takes pen) (seen pen) account begins b before)
-
-deliver_line : (k : Settings) (taped ends : Bool) (delivery : Delivery) (slot slot_after opened opened_after takes takes_after : ℕ) (seen after : List Entry) (left left_after : List ℕ) (account : Account)
-    (line now : Line) (state : LineState) → line.state ≡ state → IsSender (state_of slot opened seen takes left (Some line) account)
-    → ((line.state ≡ Open → ⊥) → state_of slot_after opened_after after takes_after left_after (Some now) account ≡ state_of slot opened seen takes left (Some line) account)
-    → (line.state ≡ Open → Delivers k taped delivery slot opened opened_after takes takes_after seen after (Some line.log) (Some now.log) left left_after)
-    → (line.state ≡ Open → now.state ≡ after_sending ends delivery)
-    → slot_after ≡ slot
-    → IsSender (state_of slot_after opened_after after takes_after left_after (Some now) account)
-deliver_line k taped ends delivery slot slot_after opened opened_after takes takes_after seen after left left_after account line now Open so is same delivers states slots =
-    let before : IsSender (state_of slot opened seen takes left (Some record { state = Open; log = line.log }) account) =
-    subst (λ (c : LineState). IsSender (state_of slot opened seen takes left (Some record { state = c; log = line.log }) account)) so is in
-    subst (λ (z : ℕ × LineState). IsSender (state_of z.0 opened_after after takes_after left_after (Some record { state = z.1; log = now.log }) account))
-    (λ i. (sym slots i, sym (states so) i))
-    (deliver_keeps k taped slot opened opened_after takes takes_after seen after line.log now.log left left_after account ends delivery (delivers so) before)
-deliver_line k taped ends delivery slot slot_after opened opened_after takes takes_after seen after left left_after account line now Finished so is same delivers states slots =
-    subst IsSender (sym (same (λ no. let bad = sym so ∙ no in absurd cc))) is
-deliver_line k taped ends delivery slot slot_after opened opened_after takes takes_after seen after left left_after account line now Cut so is same delivers states slots =
-    subst IsSender (sym (same (λ no. let bad = sym so ∙ no in absurd cc))) is
-
-pub deliver_from : {X : Type 0} (f : X → Line) (k : Settings) (taped ends : Bool) (delivery : Delivery) (slot slot_after opened opened_after takes takes_after : ℕ) (seen after : List Entry)
-    (left left_after : List ℕ) (account : Account) (was : Option X) (x : X) (now : Line)
-    → IsSender (state_of slot opened seen takes left (option_map f was) account) → was ≡ Some x
-    → (((f x).state ≡ Open → ⊥) → state_of slot_after opened_after after takes_after left_after (Some now) account ≡ state_of slot opened seen takes left (Some (f x)) account)
-    → ((f x).state ≡ Open → Delivers k taped delivery slot opened opened_after takes takes_after seen after (Some (f x).log) (Some now.log) left left_after)
-    → ((f x).state ≡ Open → now.state ≡ after_sending ends delivery)
-    → slot_after ≡ slot
-    → IsSender (state_of slot_after opened_after after takes_after left_after (Some now) account)
-deliver_from f k taped ends delivery slot slot_after opened opened_after takes takes_after seen after left left_after account was x now is there same delivers states slots =
-    deliver_line k taped ends delivery slot slot_after opened opened_after takes takes_after seen after left left_after account (f x) now (f x).state refl
-    (subst (λ (o : Option _). IsSender (state_of slot opened seen takes left (option_map f o) account)) there is) same delivers states slots
+          past = is.past;
+          counted = λ below. (known ∙ at, so.1);
+          unused = λ n later below. is.unused n (omega (arith, later)) below;
+          line = (
+            record {
+              turns = [];
+              are = record {
+                newer = [];
+                goes_on = before.0;
+                drained = subst (λ (n : ℕ). drains_at n s.slot s.seen ≡ []) at (is.unused opening (omega arith) under);
+                taken = (let t = before.1 in omega arith);
+              };
+              whole = sym before.2;
+            },
+            known ∙ at,
+            subst (λ (n : ℕ). n < most_openings) (sym known) under,
+          );
+        }
+    by false b =
+        let drains = drains_at (present s) s.slot s.seen in
+        let turns = turns_for drains in
+        record {
+          past = is.past;
+          counted = λ below. absurd (omega (arith, below, b.0));
+          unused = λ m later below. absurd (omega (arith, later, below, b.0));
+          line = (
+            (
+              sent_by turns,
+              0,
+              record {
+                turns = turns;
+                are = record { newer = []; goes_on = before.0; drained = turned drains; taken = (let none = no_noops drains in let t = before.1 in omega arith) };
+                whole = refl;
+              },
+            ),
+            before.2,
+          );
+        }

@@ -5,10 +5,10 @@ use Rattle.gm_packet.specs.Packets.{packet}
 use Rattle.std.proofs.lemmas.List.{append_assoc, take-append-drop, take-append-le}
 use Rattle.std.proofs.KnownBytes.{Appends-nil, Appends-trans}
 use Rattle.std.specs.Io.KnownBytes.{Appends}
-use Rattle.gm_outbox.specs.declared.message.Sent.{Sent}
-use Rattle.gm_outbox.specs.declared.message.Sent.TheVariants as sent
-use Rattle.gm_outbox.specs.Deliveries.{SendsPrefix}
-use Rattle.gm_outbox.specs.Turns.{noop_if, Writes}
+use Rattle.gm_delivery.specs.declared.writing.Sent.{Sent}
+use Rattle.gm_delivery.specs.declared.writing.Sent.TheVariants as sent
+use Rattle.gm_delivery.specs.Messages.{SendsPrefix}
+use Rattle.gm_delivery.specs.Messages.{noop_if, Writes}
 
 -- a prefix of what was due is sent, and this is left
 pub record Sending (old now : Option (List ℕ)) (due left : List ℕ) : Type 0 where

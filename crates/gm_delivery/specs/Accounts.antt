@@ -5,8 +5,7 @@ use Rattle.gm_shared.specs.declared.tape.Answer.TheVariants as answers
 use Rattle.gm_shared.specs.declared.tape.Entry.{Entry}
 use Rattle.gm_shared.specs.Tapes.{actor_code}
 use Rattle.gm_shared.specs.Openings.{openings}
-use Rattle.gm_outbox.specs.Turns.{turn_of}
-pub use Rattle.gm_outbox.specs.Turns.{Turn}
+use Rattle.gm_delivery.specs.Messages.{turn_of}
 use Rattle.gm_delivery.specs.declared.account.Past.{Past}
 use Rattle.gm_delivery.specs.declared.account.Account.{Account}
 
@@ -22,6 +21,11 @@ drains_at n c [] = []
 drains_at n c (e ∷ older) = if (2 * c + 1 == actor_code e.actor) && (openings c older == n) then bytes_in e.answer ∷ drains_at n c older else drains_at n c older
 
 -- ---- turns
+
+-- one drain: the bytes that it gave, and whether a NOOP was taken for them
+pub record Turn : Type 0 where
+  pub took : Bool
+  pub gave : List ℕ
 
 -- what turns send, each NOOP behind the bytes that were drained with it; the newest turn is the first
 abbrev pub sent_by : List Turn → List ℕ

@@ -1,17 +1,17 @@
 -- What is sent to a slot's connection, and what is known of all that was.
-use Rattle.std.specs.Prelude.{◌≡◌, ◌<◌, ◌+◌, ℕ, Bool, false, if◌then◌else◌, List, [], length, Option, Some, None, is_some}
+use Rattle.std.specs.Prelude.{◌≡◌, ◌<◌, ◌+◌, ◌==◌, ◌&&◌, ◌||◌, ℕ, Bool, true, false, if◌then◌else◌, MatchBool, List, [], ◌++◌, length, Option, Some, None, is_some, Result, Ok, Err}
 use Rattle.gm_notes.specs.Settings.{Settings}
+use Rattle.gm_notes.specs.declared.event.ApplyError.{ApplyError}
+use Rattle.gm_shared.specs.declared.receipt.Drained.{Drained}
 use Rattle.gm_shared.specs.declared.tape.Entry.{Entry}
+use Rattle.gm_shared.specs.Calls.{PenCalled}
 use Rattle.gm_shared.specs.Openings.{most_openings}
-use Rattle.gm_outbox.specs.declared.outbox.Delivery.{Delivery}
-use Rattle.gm_outbox.specs.declared.outbox.Delivery.TheVariants.{Done, Blocked, Shut, Over}
-use Rattle.gm_outbox.specs.Turns.{BeginsIf}
-use Rattle.gm_outbox.specs.Deliveries.{Delivers}
 use Rattle.gm_delivery.specs.declared.account.Account.{Account}
 use Rattle.gm_delivery.specs.declared.account.Past.{Past}
 use Rattle.gm_delivery.specs.declared.life.LineState.{LineState}
 use Rattle.gm_delivery.specs.declared.life.LineState.TheVariants.{Open, Finished, Cut}
 use Rattle.gm_delivery.specs.Lives.{state_if, cut_state}
+use Rattle.gm_delivery.specs.Messages.{turn_of}
 use Rattle.gm_delivery.specs.Accounts.{drains_at, IsWritten, IsPrefixWritten, ArePast, AreOver, closed}
 
 -- a connection: how far the sending to it is, and all that was written to it
@@ -19,19 +19,17 @@ pub record Line : Type 0 where
   pub state : LineState
   pub log : List ℕ
 
--- the pen's slot, how many connections began there, what the pen has seen of the history, how many NOOPs it took; what is left to be sent, to which
--- connection, and the account of those that are gone
+-- the pen's slot, how many connections began there, what the pen has seen of the history, how many NOOPs it took and how often it tried; what is left
+-- to be sent, to which connection, and the account of those that are gone
 pub record SenderState : Type 0 where
   pub slot : ℕ
   pub openings : ℕ
   pub seen : List Entry
   pub takes : ℕ
+  pub tries : ℕ
   pub left : List ℕ
   pub line : Option Line
   pub account : Account
-
-abbrev pub state_of : ℕ → ℕ → List Entry → ℕ → List ℕ → Option Line → Account → SenderState
-state_of slot openings seen takes left line account = record { slot = slot; openings = openings; seen = seen; takes = takes; left = left; line = line; account = account }
 
 -- the opening of the connection that is there, or of the next one
 abbrev pub present : SenderState → ℕ
@@ -39,15 +37,15 @@ present s = length s.account.past + 1
 
 -- What was written to the connection, and then what is left, is what the pen is given at its opening, which a count of 64 bits can tell; where the
 -- sending is finished, it is all of that, and where it broke off, a prefix.
-abbrev pub IsLineSo : SenderState → Line → LineState → Type 0
-IsLineSo s line Open = IsWritten (present s) s.slot s.account.since s.account.takes s.seen s.takes 0 line.log s.left × (s.openings ≡ present s) × (s.openings < most_openings)
-IsLineSo s line Finished = IsWritten (present s) s.slot s.account.since s.account.takes s.seen s.takes 0 line.log [] × (s.left ≡ [])
-IsLineSo s line Cut = IsPrefixWritten (present s) s.slot s.account.since s.account.takes s.seen s.takes line.log × (s.left ≡ [])
+abbrev pub IsLineSo : SenderState → List ℕ → LineState → Type 0
+IsLineSo s log Open = IsWritten (present s) s.slot s.account.since s.account.takes s.seen s.takes 0 log s.left × (s.openings ≡ present s) × (s.openings < most_openings)
+IsLineSo s log Finished = IsWritten (present s) s.slot s.account.since s.account.takes s.seen s.takes 0 log [] × (s.left ≡ [])
+IsLineSo s log Cut = IsPrefixWritten (present s) s.slot s.account.since s.account.takes s.seen s.takes log × (s.left ≡ [])
 
 -- With no connection the pen is given nothing.
 abbrev pub IsLine : SenderState → Option Line → Type 0
 IsLine s None = (s.seen ≡ s.account.since) × (s.takes ≡ s.account.takes) × (s.left ≡ [])
-IsLine s (Some line) = IsLineSo s line line.state
+IsLine s (Some line) = IsLineSo s line.log line.state
 
 -- how many connections began, with the one that is there
 abbrev pub began : Option Line → List Past → ℕ
@@ -62,42 +60,102 @@ pub record IsSender (s : SenderState) : Type 0 where
   pub unused : (n : ℕ) → s.openings < n → n < most_openings → drains_at n s.slot s.seen ≡ []
   pub line : IsLine s s.line
 
--- ---- a delivery
+-- ---- a connection
 
--- how far the sending is after a delivery, where the connection is to end or not
-abbrev pub after_sending : Bool → Delivery → LineState
-after_sending ends Done = if ends then Finished else Open
-after_sending ends Blocked = Open
-after_sending ends Shut = Finished
-after_sending ends Over = Cut
-
--- What is left, and then what the pen gives, is sent to the connection.
-pub record Goes (k : Settings) (taped ends : Bool) (old new : SenderState) (line : Line) : Type 0 where
-  pub delivery : Delivery
-  pub log : List ℕ
-  pub line_is : new.line ≡ Some record { state = after_sending ends delivery; log = log }
-  pub delivers : Delivers k taped delivery old.slot old.openings new.openings old.takes new.takes old.seen new.seen (Some line.log) (Some log) old.left new.left
-  pub slot : new.slot ≡ old.slot
-  pub account : new.account ≡ old.account
-
-abbrev pub GoesSo : LineState → Settings → Bool → Bool → SenderState → SenderState → Line → Type 0
-GoesSo Open k taped ends old new line = Goes k taped ends old new line
-GoesSo state k taped ends old new line = new ≡ old
-
--- Nothing is sent where there is no connection, or no more is to be sent to it.
-abbrev pub DeliversTo : Option Line → Settings → Bool → Bool → SenderState → SenderState → Type 0
-DeliversTo None k taped ends old new = new ≡ old
-DeliversTo (Some line) k taped ends old new = GoesSo line.state k taped ends old new line
-
--- ---- the end of a connection, and the beginning
-
+-- it can't be sent to any more
 abbrev pub cut : Option Line → Option Line
 cut None = None
 cut (Some line) = Some record { state = cut_state line.state; log = line.log }
 
+-- whether there is a connection that can be sent to
+abbrev pub can_send : LineState → Bool
+can_send Open = true
+can_send Finished = false
+can_send Cut = false
+
+abbrev pub is_open : Option Line → Bool
+is_open None = false
+is_open (Some line) = can_send line.state
+
+-- whether it can be sent to, and nothing is left for it
+abbrev pub is_clear : SenderState → Bool
+is_clear s = is_open s.line && (length s.left == 0)
+
+-- ---- the present message
+
+-- A part of what was left was written; the rest is left, or the sending broke off, as not all could be written.
+pub record SendsPart (log left : List ℕ) (now : Line) (left_now : List ℕ) : Type 0 where
+  pub part : List ℕ
+  pub rest : List ℕ
+  pub whole : left ≡ part ++ rest
+  pub breaks_off : Bool
+  pub some_left : breaks_off ≡ true → rest ≡ [] → ⊥
+  pub line_is : now ≡ record { state = if breaks_off then Cut else Open; log = log ++ part }
+  pub left_is : left_now ≡ (if breaks_off then [] else rest)
+
+-- What is left for a connection is sent, if it can be sent to.
+abbrev pub Sends : LineState → Line → List ℕ → Line → List ℕ → Type 0
+Sends Open line left now left_now = SendsPart line.log left now left_now
+Sends state line left now left_now = (now ≡ line) × (left_now ≡ left)
+
+abbrev pub SendsTo : Option Line → SenderState → SenderState → Type 0
+SendsTo None old new = new ≡ old
+SendsTo (Some line) old new = (now : Line) × Sends line.state line old.left now new.left × (new ≡ record old { left = new.left; line = Some now })
+
+abbrev pub SendsLeft : SenderState → SenderState → Type 0
+SendsLeft old new = SendsTo old.line old new
+
+-- ---- what the pen gives
+
+-- What it gave for the connection is left to be sent; from where on it gives what waits for another opening, no connection can be told from another.
+abbrev pub refilled : Bool → Result Drained ApplyError → SenderState → SenderState
+refilled took (Ok drained) s = if drained.opening == s.openings then record s { left = turn_of took drained.bytes.bytes } else record s { openings = most_openings; line = cut s.line }
+refilled took (Err error) s = record s { line = cut s.line }
+
+-- whether the slot is shut, if something was given for the connection
+abbrev pub shut_in : Result Drained ApplyError → ℕ → Option Bool
+shut_in (Ok drained) openings = if drained.opening == openings then Some drained.shut else None
+shut_in (Err error) openings = None
+
+-- The pen was asked for a NOOP, and then for what waits for its slot.
+pub record Refills (k : Settings) (taped : Bool) (is_shut : Option Bool) (old new : SenderState) : Type 0 where
+  pub took : Bool
+  pub result : Result Drained ApplyError
+  pub takes : MatchBool took (new.takes ≡ old.takes + 1) (new.takes ≡ old.takes)
+  pub called : PenCalled k taped old.slot old.slot result old.seen new.seen
+  pub after : new ≡ refilled took result (record old { seen = new.seen; takes = new.takes; tries = old.tries + 1 })
+  pub is_shut_is : is_shut ≡ shut_in result old.openings
+
+-- ---- a delivery
+
+abbrev pub finished_line : Option Line → Option Line
+finished_line None = None
+finished_line (Some line) = Some record { state = Finished; log = line.log }
+
+-- no more is sent
+abbrev pub finished : SenderState → SenderState
+finished s = record s { line = finished_line s.line }
+
+-- What was given is sent. If all of it was, and the slot is shut or the connection is to end, no more is.
+abbrev pub SendsGiven : Option Bool → Bool → SenderState → SenderState → Type 0
+SendsGiven None ends given new = new ≡ given
+SendsGiven (Some is_shut) ends given new = (sent : SenderState) × SendsLeft given sent × (new ≡ (if is_clear sent && (is_shut || ends) then finished sent else sent))
+
+abbrev pub GoesOn : Bool → Settings → Bool → Bool → SenderState → SenderState → Type 0
+GoesOn false k taped ends sent new = new ≡ sent
+GoesOn true k taped ends sent new = (is_shut : Option Bool) × (given : SenderState) × Refills k taped is_shut sent given × SendsGiven is_shut ends given new
+
+-- What was left is sent. If all of it was, the pen is asked for more.
+pub record Delivers (k : Settings) (taped ends : Bool) (old new : SenderState) : Type 0 where
+  pub sent : SenderState
+  pub sends : SendsLeft old sent
+  pub goes_on : GoesOn (is_clear sent) k taped ends sent new
+
+-- ---- the end of a connection, and the beginning
+
 -- The connection is sent nothing more, and nothing is left for it.
 abbrev pub IsCutOff : SenderState → SenderState → Type 0
-IsCutOff old new = new ≡ state_of old.slot old.openings old.seen old.takes [] (cut old.line) old.account
+IsCutOff old new = new ≡ record old { left = []; line = cut old.line }
 
 abbrev pub account_without : SenderState → Option Line → Bool → Account
 account_without s None is_whole = s.account
@@ -109,8 +167,19 @@ if_whole (Some is_whole) = is_whole
 
 -- The connection, if there was one, is gone, and entered with all that was written to it, and whether that was all that was due.
 pub record IsLetGo (result : Option Bool) (old new : SenderState) : Type 0 where
-  pub after : new ≡ state_of old.slot old.openings old.seen old.takes [] None (account_without old old.line (if_whole result))
+  pub after : new ≡ record old { left = []; line = None; account = account_without old old.line (if_whole result) }
   pub there : is_some result ≡ is_some old.line
+
+-- the connection of the next opening of a slot begins, where a count of 64 bits can tell it from the one after it
+pub record Begins (opening old new : ℕ) : Type 0 where
+  pub next : opening ≡ old + 1
+  pub below : opening < most_openings
+  pub known : new ≡ opening
+
+-- it does exactly where it may, and once it doesn't none does
+abbrev pub BeginsIf : Bool → ℕ → ℕ → ℕ → Type 0
+BeginsIf true opening old new = Begins opening old new
+BeginsIf false opening old new = (new ≡ most_openings) × (opening ≡ old + 1 → opening < most_openings → ⊥)
 
 -- The connection of this opening is there: it can be sent to, or, where its opening isn't the next one, it is cut.
 pub record IsBegun (begins : Bool) (opening : ℕ) (old new : SenderState) : Type 0 where

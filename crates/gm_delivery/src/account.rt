@@ -5,8 +5,7 @@ ghost use Rattle.gm_delivery.specs.Accounts.{blank_account, closed};
 
 use crate::socket::WriteHalf;
 use gm_ghost::{Ghost, Worth};
-use gm_outbox::Outbox;
-use gm_shared::{BookName, Entry};
+use gm_shared::{BookName, Entry, Pen};
 use std::alloc::{AllocError, Global};
 use std::collections::LinkedList;
 use std::marker::{Brand, Model};
@@ -66,28 +65,11 @@ impl Ledger {
         Ok(Ledger { cell })
     }
 
-    // What is passed is for the proof alone.
-    fn close_as<K: BookName, E: Worth<Account>>(
-        &mut self,
-        _outbox: &Outbox<K>,
-        _half: &WriteHalf,
-        _is_whole: bool,
-    )
-        requires { E.worth ≡ closed _outbox.now.pen.witness.seen _outbox.now.pen.seat.takes _half.now.socket.2 _is_whole self.old }
-        ensures { self.new ≡ closed _outbox.now.pen.witness.seen _outbox.now.pen.seat.takes _half.now.socket.2 _is_whole self.old }
-    {
-        self.cell.set::<E>();
-    }
-
     /// Enters a connection that is gone, with what was written to it, and whether that is all.
-    pub(crate) fn close<K: BookName>(
-        &mut self,
-        outbox: &Outbox<K>,
-        half: &WriteHalf,
-        is_whole: bool,
-    )
-        ensures { self.new ≡ closed outbox.now.pen.witness.seen outbox.now.pen.seat.takes half.now.socket.2 is_whole self.old }
+    pub(crate) fn close<K: BookName>(&mut self, pen: &Pen<K>, half: &WriteHalf, is_whole: bool)
+        ensures { self.new ≡ closed pen.now.witness.seen pen.now.seat.takes half.now.socket.2 is_whole self.old }
     {
-        self.close_as::<K, Brand>(outbox, half, is_whole)
+        self.cell
+            .update::<(&Pen<K>, &WriteHalf, bool), Brand>(&(pen, half, is_whole));
     }
 }

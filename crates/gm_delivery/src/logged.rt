@@ -2,8 +2,8 @@
 
 ghost use Rattle.std.specs.Prelude.{◌≡◌, [], IfOk};
 
-use crate::wire::{Line, Wire};
-use gm_ghost::{Log, Logged, Worth};
+use crate::wire::{KnownWriter, Wire};
+use gm_ghost::Log;
 use std::alloc::{AllocError, Global};
 use std::io;
 use std::marker::{Brand, Model};
@@ -11,12 +11,12 @@ use std::marker::{Brand, Model};
 /// A writer, with a log of all that was written to it since it was taken. The log exists in proofs only. Contracts see the writer, its
 /// contents when it was taken, where they are known, and the log: its contents = the contents then, then the log.
 #[derive(Drop)]
-pub struct LoggedWriter<W: Line> {
+pub struct LoggedWriter<W: KnownWriter> {
     writer: W,
     log: Log,
 }
 
-impl<W: Line> Model for LoggedWriter<W> {
+impl<W: KnownWriter> Model for LoggedWriter<W> {
     ghost use Rattle.std.specs.Prelude.{List, ℕ, Option};
     ghost use Rattle.std.specs.Io.KnownBytes.{Appends};
 
@@ -27,20 +27,12 @@ impl<W: Line> Model for LoggedWriter<W> {
     ghost invariant = { λ r. Appends r.log.before (W.contents r.writer) r.log.bytes };
 }
 
-// The writer is for the proof alone.
-fn log_of<W: Line, E: Worth<Logged>>(alloc: Global, _writer: &W) -> Result<Log, AllocError>
-    requires { E.worth ≡ record { before = W.contents _writer.now; bytes = [] } }
-    ensures { IfOk result (λ log. log ≡ record { before = W.contents _writer.now; bytes = [] }) }
-{
-    Log::new::<E>(alloc)
-}
-
-impl<W: Line + Drop> LoggedWriter<W> {
+impl<W: KnownWriter + Drop> LoggedWriter<W> {
     /// Takes a writer. The log is empty. An error means that there was no memory for it.
     pub fn new(alloc: Global, writer: W) -> Result<LoggedWriter<W>, AllocError>
         ensures { IfOk result (λ logged. logged ≡ (writer, W.contents writer, [])) }
     {
-        let log = log_of::<W, Brand>(alloc, &writer)?;
+        let log = Log::new::<W, Brand>(alloc, &writer)?;
         Ok(LoggedWriter { writer, log })
     }
 
@@ -52,7 +44,7 @@ impl<W: Line + Drop> LoggedWriter<W> {
     }
 }
 
-impl<W: Line> Line for LoggedWriter<W> {
+impl<W: KnownWriter> KnownWriter for LoggedWriter<W> {
     ghost use Rattle.std.specs.Prelude.{Some};
 
     ghost contents = { λ r. Some r.2 };

@@ -1,57 +1,93 @@
-//! What is written to a socket at a time.
+//! A message, which is sent in several writes where its peer is slow.
 
-ghost use Rattle.std.specs.Prelude.{◌≡◌};
-ghost use Rattle.std.specs.IoError.{error_kind};
-ghost use Rattle.gm_outbox.specs.Turns.{noop_if, sent_on, Writes};
+ghost use Rattle.std.specs.Prelude.{◌≡◌, ◌<◌, ◌≤◌, ℕ, List, [], ◌++◌, length};
 
 use crate::wire::Wire;
-use std::io::{Error, ErrorKind};
+use crate::writing::{Sent, noop_if, write_once};
+use gm_bytes::ByteQueue;
 
-/// The packet NOOP (the Gearman PROTOCOL document, "NOOP"): the magic of a response, the type 6, and no data.
-const NOOP: &[u8] = b"\0RES\0\0\0\x06\0\0\0\0";
+/// The most bytes that are handed to the socket in one write: so long a write may wait while its peer reads slowly.
+const MOST_WRITTEN: usize = 262_144;
 
-/// What came of a write, or of those of a message.
-#[derive(Clone, Copy, Debug, PartialEq, Eq)]
-pub enum Sent {
-    /// The peer took all.
-    All,
-    /// It takes no more at present, or was sent as much as it is at a time.
-    Some,
-    /// It can't be sent any more.
-    Failed,
+/// The most writes of a message in a row, so that whoever sends sees in between whether the connection is to end.
+const MOST_WRITES: u32 = 8;
+
+/// What is being sent: drained bytes, and then a NOOP where one was taken.
+#[derive(Drop)]
+pub struct Message {
+    /// The bytes that aren't sent yet.
+    bytes: ByteQueue,
+    /// Whether a NOOP was taken, which is sent behind them.
+    took: bool,
+    /// How many bytes of the NOOP are sent.
+    noop_sent: usize,
+    ghost within: { noop_sent ≤ 12 },
 }
 
-/// What comes of a write that failed: one that only came too early can be tried again.
-fn sent_on(error: &Error) -> Sent
-    ensures { result ≡ sent_on (error_kind error.now) }
-{
-    // Modelled in models/lane.h.
-    match error.kind() {
-        ErrorKind::WouldBlock | ErrorKind::TimedOut | ErrorKind::Interrupted => Sent::Some,
-        _ => Sent::Failed,
+impl Message {
+    ghost use Rattle.gm_delivery.specs.Messages.{turn_of, noop_left, unsent, SendsPrefix};
+
+    /// These bytes, and a NOOP where one was taken.
+    pub fn new(bytes: ByteQueue, took: bool) -> Message
+        ensures { unsent result ≡ turn_of took bytes.bytes }
+    {
+        Message {
+            bytes,
+            took,
+            noop_sent: 0,
+        }
     }
-}
 
-/// A NOOP, where one was taken.
-pub(crate) fn noop_if(took: bool) -> &'static [u8]
-    ensures { result.now ≡ noop_if took }
-{
-    if took { NOOP } else { &[] }
-}
-
-/// Writes the bytes, as many as the writer takes in one write, and says how many these were. Where it takes some and not all,
-/// it takes no more at present.
-pub(crate) fn write_once<E, W: Wire<E>>(bytes: &[u8], w: &mut W, by: &E) -> (usize, Sent)
-    ensures { Writes (W.contents w.old) (W.contents w.new) bytes.now result.0 result.1 }
-{
-    // Modelled in models/lane.h.
-    if bytes.is_empty() {
-        return (0, Sent::All);
+    /// What isn't sent yet of the NOOP.
+    fn noop(&self) -> &[u8]
+        ensures { result.now ≡ noop_left self.now }
+    {
+        let noop = noop_if(self.took);
+        &noop[self.noop_sent.min(noop.len())..]
     }
-    match w.write_by(by, bytes) {
-        Ok(count) if count == bytes.len() => (count, Sent::All),
-        Ok(0) => (0, Sent::Failed),
-        Ok(count) => (count, Sent::Some),
-        Err(error) => (0, sent_on(&error)),
+
+    /// The next bytes to write: those that lie in one place, and no more than one write may take.
+    fn next_chunk(&self) -> &[u8]
+        ensures first { (rest : List ℕ) × (self.now.bytes.bytes ≡ result.now ++ rest) }
+        ensures some { 0 < length self.now.bytes.bytes → 0 < length result.now }
+    {
+        let first = self.bytes.first();
+        &first[..first.len().min(MOST_WRITTEN)]
+    }
+
+    /// Sends what isn't sent yet, the bytes in as many writes as it takes, and then the NOOP. After `MOST_WRITES` the rest waits.
+    pub fn send<E, W: Wire<E>>(&mut self, w: &mut W, by: &E) -> Sent
+        ensures { SendsPrefix result (W.contents w.old) (W.contents w.new) (unsent self.old) (unsent self.new) }
+    {
+        // Modelled in models/lane.h.
+        let mut writes_left = MOST_WRITES;
+        loop {
+            let chunk = self.next_chunk();
+            if chunk.is_empty() {
+                return self.send_noop(w, by);
+            }
+            if writes_left == 0 {
+                return Sent::Some;
+            }
+            writes_left -= 1;
+            let (count, sent) = write_once(chunk, w, by);
+            self.bytes.advance(count);
+            match sent {
+                Sent::All => {}
+                Sent::Some => return Sent::Some,
+                Sent::Failed => return Sent::Failed,
+            }
+        }
+    }
+
+    /// Sends what isn't sent yet of the NOOP, where all of the bytes are.
+    fn send_noop<E, W: Wire<E>>(&mut self, w: &mut W, by: &E) -> Sent
+        requires { self.old.bytes.bytes ≡ [] }
+        ensures { SendsPrefix result (W.contents w.old) (W.contents w.new) (unsent self.old) (unsent self.new) }
+    {
+        // Modelled in models/lane.h.
+        let (count, sent) = write_once(self.noop(), w, by);
+        self.noop_sent += count;
+        sent
     }
 }

@@ -1,16 +1,16 @@
 //! What is to be sent to a slot's connections, and where.
 
-ghost use Rattle.std.specs.Prelude.{◌≡◌, ◌<◌, [], length, Some, None, IfOk};
-ghost use Rattle.gm_outbox.specs.Deliveries.{left_in, Delivers};
+ghost use Rattle.std.specs.Prelude.{◌≡◌, ◌<◌, [], length, None, true, IfOk};
 ghost use Rattle.gm_shared.specs.Openings.{most_openings};
 ghost use Rattle.gm_delivery.specs.Accounts.{blank_account, ArePast, AreOver};
-ghost use Rattle.gm_delivery.specs.Sendings.{IsSender, DeliversTo, after_sending, IsCutOff, IsLetGo, IsBegun};
+ghost use Rattle.gm_delivery.specs.Sendings.{is_clear, SendsLeft, Refills, finished, Delivers, IsCutOff, IsLetGo, IsBegun};
 
 use crate::account::Ledger;
 use crate::lane::Writing;
 use crate::life::{Deed, Life, LineState};
+use crate::message::Message;
 use crate::socket::WriteHalf;
-use gm_outbox::{Delivery, Outbox, Wire};
+use crate::wire::Wire;
 use gm_shared::{BookName, Pen, Shared};
 use std::alloc::{AllocError, Global};
 use std::marker::Model;
@@ -18,46 +18,16 @@ use std::net::Shutdown;
 use std::sync::Wait;
 use std::time::Clock;
 
-/// Sends what there is to send to a connection; where that is over, its slot is shut, or all was sent and that is to be its end, no more is
-/// sent, of which its peer is told.
-fn deliver_on<E, K: BookName>(
-    outbox: &mut Outbox<K>,
-    half: &mut WriteHalf,
-    rt: &impl Wait,
-    shared: &Shared<K>,
-    by: &E,
-    ends: bool,
-) -> Delivery
-where
-    WriteHalf: Wire<E>,
-    ensures idle { (half.old.life.state ≡ LineState.Open → ⊥) → (half.new ≡ half.old) × (outbox.new ≡ outbox.old) }
-    ensures delivers { half.old.life.state ≡ LineState.Open → Delivers K.settings K.taped result outbox.old.pen.slot outbox.old.opening outbox.new.opening outbox.old.pen.seat.takes outbox.new.pen.seat.takes
-        outbox.old.pen.witness.seen outbox.new.pen.witness.seen (Some half.old.socket.2) (Some half.new.socket.2) (left_in outbox.old.left) (left_in outbox.new.left) }
-    ensures state { half.old.life.state ≡ LineState.Open → half.new.life.state ≡ after_sending ends result }
-    ensures slot { outbox.new.pen.slot ≡ outbox.old.pen.slot }
-{
-    // Modelled in models/lane.h.
-    if half.life.state != LineState::Open {
-        return Delivery::Over;
-    }
-    let delivery = outbox.deliver(rt, shared, half, by);
-    half.life.state = match delivery {
-        Delivery::Done if ends => LineState::Finished,
-        Delivery::Done | Delivery::Blocked => LineState::Open,
-        Delivery::Shut => LineState::Finished,
-        Delivery::Over => LineState::Cut,
-    };
-    if half.life.state == LineState::Finished {
-        half.shut(Shutdown::Write);
-    }
-    delivery
-}
-
 /// What is to be sent to a slot's connections, and where. Contracts see what its pen has seen and taken, what is left to be sent, what
 /// was written to the connection, and the account of all connections that are gone.
 #[derive(Drop)]
 pub struct Sender<K: BookName> {
-    outbox: Outbox<K>,
+    pen: Pen<K>,
+    /// How many connections began, each for the next opening of its slot; the greatest `u64` once one didn't, or a drain was of another
+    /// opening.
+    openings: u64,
+    /// What is left of the present message.
+    left: Option<Message>,
     /// The connection, until it is let go of.
     connection: Option<WriteHalf>,
     ledger: Ledger,
@@ -65,16 +35,32 @@ pub struct Sender<K: BookName> {
 
 impl<K: BookName> Model for Sender<K> {
     ghost use Rattle.std.specs.Option.{option_map};
-    ghost use Rattle.gm_outbox.specs.Deliveries.{left_in};
-    ghost use Rattle.gm_delivery.specs.Sendings.{SenderState, state_of, IsSender};
+    ghost use Rattle.gm_delivery.specs.Messages.{left_in};
+    ghost use Rattle.gm_delivery.specs.Sendings.{SenderState, IsSender};
 
     ghost Value = { SenderState };
 
-    ghost view = { λ s. state_of s.outbox.pen.slot s.outbox.opening s.outbox.pen.witness.seen s.outbox.pen.seat.takes (left_in s.outbox.left)
-        (option_map (λ c. record { state = c.life.state; log = c.socket.2 }) s.connection) s.ledger };
+    ghost view = { λ s. record {
+      slot = s.pen.slot;
+      openings = s.openings;
+      seen = s.pen.witness.seen;
+      takes = s.pen.seat.takes;
+      tries = s.pen.seat.tries;
+      left = left_in s.left;
+      line = option_map (λ c. record { state = c.life.state; log = c.socket.2 }) s.connection;
+      account = s.ledger;
+    } };
 
-    ghost invariant = { λ s. IsSender (state_of s.outbox.pen.slot s.outbox.opening s.outbox.pen.witness.seen s.outbox.pen.seat.takes (left_in s.outbox.left)
-        (option_map (λ c. record { state = c.life.state; log = c.socket.2 }) s.connection) s.ledger) };
+    ghost invariant = { λ s. IsSender (record {
+      slot = s.pen.slot;
+      openings = s.openings;
+      seen = s.pen.witness.seen;
+      takes = s.pen.seat.takes;
+      tries = s.pen.seat.tries;
+      left = left_in s.left;
+      line = option_map (λ c. record { state = c.life.state; log = c.socket.2 }) s.connection;
+      account = s.ledger;
+    }) };
 }
 
 impl<K: BookName> Sender<K> {
@@ -83,49 +69,105 @@ impl<K: BookName> Sender<K> {
         requires { (pen.witness.seen ≡ []) × (pen.seat.takes ≡ 0) }
         ensures { IfOk result (λ sender. (sender.slot ≡ pen.slot) × (sender.line ≡ None) × (sender.account ≡ blank_account)) }
     {
-        let ledger = Ledger::new(alloc)?;
         Ok(Sender {
-            outbox: Outbox::new(pen),
+            pen,
+            openings: 0,
+            left: None,
             connection: None,
-            ledger,
+            ledger: Ledger::new(alloc)?,
         })
     }
 
-    /// All that is known of it, at any moment.
-    pub fn stands(&self)
-        ensures { IsSender self.now }
-    {
-        let _ = &self.outbox;
-    }
-
     /// Takes the connection for which the slot was opened this often, and lets go of one that is there. It says whether the connection can be
-    /// sent to: where this isn't the next opening, it is cut.
+    /// sent to: only if this is the next opening, and a count of 64 bits can tell it from the one after it. Else it is cut, and so is each that
+    /// comes after it.
     pub fn begin(&mut self, opening: u64, mut half: WriteHalf) -> bool
         requires { half.socket.2 ≡ [] }
         ensures { IsBegun result opening self.old self.new }
     {
         // Modelled in models/lane.h.
         self.let_go();
-        let begins = self.outbox.begin(opening);
+        let begins = self.openings < u64::MAX - 1 && opening == self.openings + 1;
+        self.openings = if begins { opening } else { u64::MAX };
         half.life = Life::new(begins);
         self.connection = Some(half);
         begins
     }
 
-    /// Sends what there is to send to the connection; where that is over, its slot is shut, or all was sent and that is to be its end, no more
-    /// is sent, of which its peer is told.
+    /// Sends what was left, and then what waits in the book: the bytes, and a NOOP where one is owed. What waits for another opening of the slot
+    /// than the connection's is sent to nobody. Where the book is asked for bytes, it is asked for the NOOP first. Where all was sent, and the slot is
+    /// shut or the connection is to end, no more is sent, of which its peer is told.
     pub fn deliver<E>(&mut self, rt: &impl Wait, shared: &Shared<K>, by: &E, ends: bool)
     where
         WriteHalf: Wire<E>,
-        ensures { DeliversTo self.old.line K.settings K.taped ends self.old self.new }
+        ensures { Delivers K.settings K.taped ends self.old self.new }
+    {
+        // Modelled in models/lane.h.
+        if !self.send_left(by) {
+            return;
+        }
+        let Some(is_shut) = self.refill(rt, shared) else {
+            return;
+        };
+        if self.send_left(by) && (is_shut || ends) {
+            self.finish();
+        }
+    }
+
+    /// Sends what is left of the present message. It says whether the connection can be sent to, and nothing is left.
+    fn send_left<E>(&mut self, by: &E) -> bool
+    where
+        WriteHalf: Wire<E>,
+        ensures sends { SendsLeft self.old self.new }
+        ensures clear { result ≡ is_clear self.new }
     {
         // Modelled in models/lane.h.
         match &mut self.connection {
-            Some(half) => {
-                deliver_on(&mut self.outbox, half, rt, shared, by, ends);
-            }
-            None => {}
+            Some(half) => half.send(&mut self.left, by),
+            None => false,
         }
+    }
+
+    /// Takes what the pen gives to the connection, which is left to be sent then, and says whether the slot is shut. If it gives nothing, or what
+    /// waits for another opening of the slot, the connection is cut, and none is the answer.
+    fn refill(&mut self, rt: &impl Wait, shared: &Shared<K>) -> Option<bool>
+        requires { is_clear self.old ≡ true }
+        ensures { Refills K.settings K.taped result self.old self.new }
+    {
+        // Modelled in models/lane.h.
+        let took = self.pen.take(shared);
+        let drained = self.pen.drain(rt, shared);
+        let Some(half) = &mut self.connection else {
+            return None;
+        };
+        match drained {
+            Ok(drained) if drained.opening == self.openings => {
+                self.left = Some(Message::new(drained.bytes, took));
+                Some(drained.shut)
+            }
+            Ok(_) => {
+                self.openings = u64::MAX;
+                half.life.state = LineState::Cut;
+                None
+            }
+            Err(_) => {
+                half.life.state = LineState::Cut;
+                None
+            }
+        }
+    }
+
+    /// All was sent, and no more is.
+    fn finish(&mut self)
+        requires { is_clear self.old ≡ true }
+        ensures { self.new ≡ finished self.old }
+    {
+        // Modelled in models/lane.h.
+        let Some(half) = &mut self.connection else {
+            return;
+        };
+        half.life.state = LineState::Finished;
+        half.shut(Shutdown::Write);
     }
 
     /// What is to be done for the connection next, whose input ended or not.
@@ -134,20 +176,8 @@ impl<K: BookName> Sender<K> {
     {
         // Modelled in models/lane.h.
         match &mut self.connection {
-            Some(half) => half.next(by, !self.outbox.is_empty(), has_ended),
+            Some(half) => half.next(by, self.left.is_some(), has_ended),
             None => Deed::Serve,
-        }
-    }
-
-    /// Ends the connection: it is sent nothing more, and nothing is read from it.
-    pub fn hang_up(&mut self)
-        ensures { IsCutOff self.old self.new }
-    {
-        // Modelled in models/lane.h.
-        self.outbox.forget();
-        match &mut self.connection {
-            Some(half) => half.hang_up(),
-            None => {}
         }
     }
 
@@ -156,6 +186,18 @@ impl<K: BookName> Sender<K> {
         match &self.connection {
             Some(half) => half.takes_more,
             None => false,
+        }
+    }
+
+    /// Ends the connection: it is sent nothing more, and nothing is read from it.
+    pub fn hang_up(&mut self)
+        ensures { IsCutOff self.old self.new }
+    {
+        // Modelled in models/lane.h.
+        self.left = None;
+        match &mut self.connection {
+            Some(half) => half.hang_up(),
+            None => {}
         }
     }
 
@@ -168,12 +210,12 @@ impl<K: BookName> Sender<K> {
             return None;
         };
         let is_whole = match half.life.state {
-            LineState::Open => self.outbox.is_empty(),
+            LineState::Open => self.left.is_none(),
             LineState::Finished => true,
             LineState::Cut => false,
         };
-        self.ledger.close(&self.outbox, &half, is_whole);
-        self.outbox.forget();
+        self.ledger.close(&self.pen, &half, is_whole);
+        self.left = None;
         Some(is_whole)
     }
 
@@ -186,8 +228,12 @@ impl<K: BookName> Sender<K> {
     {
         let mut sender = self;
         sender.let_go();
-        let Sender { outbox, ledger, .. } = sender;
-        let openings = outbox.openings();
-        (outbox.into_pen(), ledger, openings)
+        let Sender {
+            pen,
+            openings,
+            ledger,
+            ..
+        } = sender;
+        (pen, ledger, openings)
     }
 }

@@ -1,13 +1,18 @@
 //! The two halves of a connection's socket: what only reads, and what only writes. No other code reads from it or writes to it, and each
 //! does so by one call of the system.
 
-ghost use Rattle.std.specs.Prelude.{◌≡◌, [], IfOk};
+ghost use Rattle.std.specs.Prelude.{◌≡◌, ◌&&◌, ◌==◌, [], length, false, IfOk};
 ghost use Rattle.gm_delivery.specs.Lives.{cut_state};
+ghost use Rattle.gm_delivery.specs.Messages.{left_in};
+ghost use Rattle.gm_delivery.specs.Sendings.{SendsPart, can_send};
 
 use crate::lane::Writing;
 use crate::life::{Deed, Life, LineState};
+use crate::logged::LoggedWriter;
+use crate::message::Message;
+use crate::wire::{KnownWriter, Wire};
+use crate::writing::Sent;
 use gm_feeder::{Patience, Source};
-use gm_outbox::{Line, LoggedWriter, Wire};
 use gm_report::now_ms;
 use gm_shared::BookName;
 use libc::net::{MSG_DONTWAIT, MSG_NOSIGNAL, recv, send};
@@ -61,7 +66,7 @@ pub struct Socket {
     stream: Arc<TcpStream, Global>,
 }
 
-impl Line for Socket {
+impl KnownWriter for Socket {
     ghost use Rattle.std.specs.Prelude.{None};
 
     // What a socket has isn't known.
@@ -94,6 +99,41 @@ pub struct WriteHalf {
 }
 
 impl WriteHalf {
+    /// Sends what is left of a message, as much of it as the peer takes. If it can't be sent any more, the connection is cut, and nothing is left. It
+    /// says whether the connection can be sent to, and nothing is left.
+    pub(crate) fn send<E>(&mut self, left: &mut Option<Message>, by: &E) -> bool
+    where
+        WriteHalf: Wire<E>,
+        ensures idle { (self.old.life.state ≡ LineState.Open → ⊥) → (self.new ≡ self.old) × (left.new ≡ left.old) × (result ≡ false) }
+        ensures sends { self.old.life.state ≡ LineState.Open → SendsPart self.old.socket.2 (left_in left.old) (record { state = self.new.life.state; log = self.new.socket.2 }) (left_in left.new) }
+        ensures clear { self.old.life.state ≡ LineState.Open → result ≡ can_send self.new.life.state && (length (left_in left.new) == 0) }
+    {
+        // Modelled in models/lane.h.
+        if self.life.state != LineState::Open {
+            return false;
+        }
+        let Some(message) = left else {
+            return true;
+        };
+        // A write leaves the state as it is, which its contract doesn't say.
+        match message.send(self, by) {
+            Sent::All => {
+                *left = None;
+                self.life.state = LineState::Open;
+                true
+            }
+            Sent::Some => {
+                self.life.state = LineState::Open;
+                false
+            }
+            Sent::Failed => {
+                *left = None;
+                self.life.state = LineState::Cut;
+                false
+            }
+        }
+    }
+
     /// What is to be done next, where something is left to be sent or not, and the input ended or not.
     pub(crate) fn next<K: BookName, R: Clock>(
         &mut self,
@@ -131,7 +171,7 @@ impl WriteHalf {
     }
 }
 
-impl Line for WriteHalf {
+impl KnownWriter for WriteHalf {
     ghost use Rattle.std.specs.Prelude.{Some};
 
     ghost contents = { λ w. Some w.socket.2 };

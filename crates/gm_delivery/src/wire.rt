@@ -3,14 +3,14 @@
 use std::io;
 
 /// What takes bytes, of which contracts may know what it holds.
-pub trait Line {
+pub trait KnownWriter {
     ghost use Rattle.std.specs.Prelude.{List, ℕ, Option};
 
     ghost contents: { Self → Option (List ℕ) };
 }
 
 /// What takes bytes, and is told how it is to write. So what a connection keeps between deliveries needs no reference to whoever delivers.
-pub trait Wire<E>: Line {
+pub trait Wire<E>: KnownWriter {
     ghost use Rattle.std.specs.Io.{WritesAtMost};
     ghost use Rattle.std.specs.Io.KnownBytes.{WriteAppends};
 

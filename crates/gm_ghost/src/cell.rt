@@ -56,8 +56,8 @@ impl<V> Ghost<V> {
         Ok(Ghost { words, seat })
     }
 
-    /// The value becomes what the call picks.
-    pub fn set<E: Worth<V>>(&mut self)
+    /// The value becomes what the call picks, of what it is and of what is passed, which is for the proof alone.
+    pub fn update<X, E: Worth<V>>(&mut self, _by: &X)
         ensures { self.new ≡ E.worth }
     {
         let words = &self.words;

@@ -36,8 +36,8 @@ impl Model for Log {
 }
 
 impl Log {
-    /// A log that begins as the call picks.
-    pub fn new<E: Worth<Logged>>(alloc: Global) -> Result<Log, AllocError>
+    /// A log that begins as the call picks, of what is passed.
+    pub fn new<X, E: Worth<Logged>>(alloc: Global, of: &X) -> Result<Log, AllocError>
         ensures { IfOk result (λ log. log ≡ E.worth) }
     {
         let empty = Logged {
@@ -45,22 +45,14 @@ impl Log {
             bytes: LinkedList::new(alloc),
         };
         let mut cell = Ghost::new(alloc, &empty)?;
-        cell.set::<E>();
+        cell.update::<X, E>(of);
         Ok(Log { cell })
-    }
-
-    // The bytes are for the proof alone.
-    fn add_as<E: Worth<Logged>>(&mut self, _bytes: &[u8])
-        requires { E.worth ≡ with_more _bytes.now self.old }
-        ensures { self.new ≡ with_more _bytes.now self.old }
-    {
-        self.cell.set::<E>();
     }
 
     /// Adds bytes at its end.
     pub fn add(&mut self, bytes: &[u8])
         ensures { self.new ≡ with_more bytes.now self.old }
     {
-        self.add_as::<Brand>(bytes)
+        self.cell.update::<&[u8], Brand>(&bytes);
     }
 }

@@ -4,6 +4,7 @@ use Rattle.std.specs.Prelude.{slice_get}
 use Rattle.std.specs.List.{AllByRecursion as ByRecursion}
 use Rattle.std.proofs.lemmas.List.{append-nil, map-append, length-map}
 use Rattle.std.proofs.lemmas.List.Elements.{recursion_from_All}
+use Rattle.gm_feeder.specs.declared.units.Limits.{Limits}
 use Rattle.gm_notes.specs.Settings.{Settings}
 use Rattle.gm_shared.specs.declared.tape.Actor.{Actor}
 use Rattle.gm_shared.specs.declared.tape.Actor.TheVariants.{Desk, Pen}
@@ -178,13 +179,13 @@ module _ (k : Settings) (log : List Entry) (legal : Legal k log) (own : AreOwn l
 
 -- What a server hands out, once each share is there.
 pub accounted : {A B : Type 0} (number : A → ℕ) (desk_share : A → List Told) (desk_witness : A → WitnessState) (slot : B → ℕ) (pen_share : B → List Told) (pen_witness : B → WitnessState) (takes : B → ℕ)
-    (k : Settings) (log : List Entry) → Legal k log → AreOwn log → (desks : List A) (pens : List B) (shares : List Share) (accounts : List Account)
+    (k : Settings) (limits : Limits) (log : List Entry) → Legal k log → AreOwn log → (desks : List A) (pens : List B) (shares : List Share) (accounts : List Account)
     → map told_by shares ≡ map (λ desk. (Desk (number desk), desk_share desk)) desks ++ map (λ pen. (Pen (slot pen), pen_share pen)) pens
     → All (HasSeenOwn log) (map desk_witness desks ++ map pen_witness pens) → All (λ desk. (desk_witness desk).who ≡ 2 * number desk) desks → All (λ pen. (pen_witness pen).who ≡ 2 * slot pen + 1) pens
     → map (λ (share : Share). share.actor) shares ≡ everybody k.slots
-    → AreAccounts (map (λ desk. (number desk, (desk_witness desk).seen)) desks) (map (λ pen. (slot pen, (pen_witness pen).seen, takes pen)) pens) accounts → length accounts ≡ k.slots → AreCounted log accounts
-    → AreAccounted k log accounts
-accounted {A} {B} number desk_share desk_witness slot pen_share pen_witness takes k log legal own desks pens shares accounts are seen desk_who pen_who all accounts_are count told =
+    → AreAccounts (map (λ desk. (number desk, (desk_witness desk).seen)) desks) (map (λ pen. (slot pen, (pen_witness pen).seen, takes pen)) pens) accounts → length accounts ≡ k.slots → AreCounted limits log accounts
+    → AreAccounted k limits log accounts
+accounted {A} {B} number desk_share desk_witness slot pen_share pen_witness takes k limits log legal own desks pens shares accounts are seen desk_who pen_who all accounts_are count told =
     let first : Actor × List Told → Actor = λ pair. pair.0 in
     let names : map (λ desk. Desk (number desk)) desks ++ map (λ pen. Pen (slot pen)) pens ≡ everybody k.slots =
     sym (sym (map_twice told_by first shares) ∙ (ap (map first) are
@@ -197,7 +198,11 @@ accounted {A} {B} number desk_share desk_witness slot pen_share pen_witness take
     (of_desks desks (left (HasSeenOwn log) (map desk_witness desks) (map pen_witness pens) known) (recursion_from_All (λ desk. (desk_witness desk).who ≡ 2 * number desk) desks desk_who))
     (of_pens pens (right (HasSeenOwn log) (map desk_witness desks) (map pen_witness pens) known) (recursion_from_All (λ pen. (pen_witness pen).who ≡ 2 * slot pen + 1) pens pen_who))
     accounts_are c account is) in
-    record { all = count; written = λ c account is. (each c account is (told c account is).1).1 ∙ (told c account is).0; each = λ c account is. (each c account is (told c account is).1).0 }
+    record {
+      all = count;
+      written = λ c account is. (each c account is (told c account is).2).1 ∙ (told c account is).1;
+      each = λ c account is. subst (λ (l : Limits). AreServed k l log c account.heard.past account.sent.past) (told c account is).0 (each c account is (told c account is).2).0;
+    }
   where
     desk_seen : A → DeskSeen
     desk_seen desk = (number desk, (desk_witness desk).seen)

@@ -1,5 +1,6 @@
 -- The accounts of slots' connections, as a server that ended hands them out.
 use Rattle.std.specs.Prelude.{◌≡◌, ◌<◌, ℕ, List, [], ◌∷◌, Option, Some, length, slice_get}
+use Rattle.gm_feeder.specs.declared.units.Limits.{Limits}
 use Rattle.gm_notes.specs.Settings.{Settings}
 use Rattle.gm_shared.specs.declared.tape.Entry.{Entry}
 use Rattle.gm_shared.specs.Openings.{openings, most_openings}
@@ -25,13 +26,14 @@ AreAccounts desks pens [] = Unit {0}
 AreAccounts (desk ∷ desks) (pen ∷ pens) (account ∷ accounts) = IsAccount desk pen account × AreAccounts desks pens accounts
 AreAccounts desks pens accounts = ⊥
 
--- Each account says how often its slot was opened, and a count of 64 bits tells that.
-abbrev pub AreCounted : List Entry → List Account → Type 0
-AreCounted log accounts = (c : ℕ) (account : Account) → slice_get accounts c ≡ Some account → (account.openings ≡ openings c log) × (account.openings < most_openings)
+-- Each account says how often its slot was opened, and a count of 64 bits tells that. Its units were within these limits.
+abbrev pub AreCounted : Limits → List Entry → List Account → Type 0
+AreCounted limits log accounts = (c : ℕ) (account : Account) → slice_get accounts c ≡ Some account
+    → (account.limits ≡ limits) × (account.openings ≡ openings c log) × (account.openings < most_openings)
 
--- There is an account for each slot, in their order, and each connection in it was served as this history says. Of what was written it has one
--- entry for each opening of the slot.
-pub record AreAccounted (k : Settings) (log : List Entry) (accounts : List Account) : Type 0 where
+-- There is an account for each slot, in their order, and each connection in it was served as this history says, with these limits of a unit. Of what was
+-- written it has one entry for each opening of the slot.
+pub record AreAccounted (k : Settings) (limits : Limits) (log : List Entry) (accounts : List Account) : Type 0 where
   pub all : length accounts ≡ k.slots
   pub written : (c : ℕ) (account : Account) → slice_get accounts c ≡ Some account → length account.sent.past ≡ openings c log
-  pub each : (c : ℕ) (account : Account) → slice_get accounts c ≡ Some account → AreServed k account.limits log c account.heard.past account.sent.past
+  pub each : (c : ℕ) (account : Account) → slice_get accounts c ≡ Some account → AreServed k limits log c account.heard.past account.sent.past

@@ -60,7 +60,7 @@ FailsSo args error = is_of_words error ≡ true → (error ≡ errors.Name) × (
 -- what is done that these arguments ask for
 abbrev pub DoesSo : Args → Result Outcome RunError → Type 0
 DoesSo args (Ok Said) = args.check ≡ true
-DoesSo args (Ok (Served served)) = (args.check ≡ false) × EndsSo (asked_settings args) args.tape served
+DoesSo args (Ok (Served served)) = (args.check ≡ false) × EndsSo (asked_settings args) args.tape args.server.limits served
 DoesSo args (Err error) = FailsSo args error
 
 -- ---- all words
@@ -69,7 +69,7 @@ DoesSo args (Err error) = FailsSo args error
 -- invalid only where they are, and refuses the name only where it can't be part of a handle. Any other error but for memory comes of valid words.
 abbrev pub EndsAs : List Text → Result Outcome RunError → Type 0
 EndsAs words (Ok Said) = AskHelp words ⊎ ((args : Args) × Ask words args × (args.check ≡ true))
-EndsAs words (Ok (Served served)) = (args : Args) × Ask words args × (args.check ≡ false) × EndsSo (asked_settings args) args.tape served
+EndsAs words (Ok (Served served)) = (args : Args) × Ask words args × (args.check ≡ false) × EndsSo (asked_settings args) args.tape args.server.limits served
 EndsAs words (Err errors.Arguments) = AreInvalid words
 EndsAs words (Err errors.Name) = (args : Args) × Ask words args × (config_fault (asked_settings args) ≡ None → ⊥)
 EndsAs words (Err errors.Output) = AskHelp words ⊎ (fault_in words ≡ [])

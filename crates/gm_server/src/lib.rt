@@ -6,7 +6,7 @@ mod args;
 mod outcome;
 mod run;
 
-pub use gm_outbox::{WriteFault, write_turn};
+pub use gm_delivery::{WriteFault, write_turn};
 pub use gm_promise::laws;
 pub use gm_report::ServeError;
 pub use gm_session::{Gate, OpenGate, SessionEnd, read_session};

@@ -202,7 +202,7 @@ fn serve_on<
         + 'static,
     W: Write,
 >(rt: &R, args: Args<'_>, settings: Settings, w: &mut W) -> Result<Served, RunError>
-    ensures ends { IfOk result (EndsSo settings.config settings.tape) }
+    ensures ends { IfOk result (EndsSo settings.config settings.tape settings.limits) }
     ensures fails { IfErr result (λ error. is_of_words error ≡ false) }
 {
     let Ok(seed) = RandomState::new(rt) else {

@@ -2,7 +2,7 @@
 
 use crate::checks::same;
 use gm_bytes::ByteQueue;
-use gm_outbox::{Line, Message, Sent, Wire};
+use gm_delivery::{KnownWriter, Message, Sent, Wire};
 use gm_server::{WriteFault, write_turn};
 use std::alloc::Global;
 use std::io::{Error, ErrorKind, Read, Result, Write};
@@ -56,7 +56,7 @@ impl Write for FailingWriter {
     }
 }
 
-impl Line for FailingWriter {
+impl KnownWriter for FailingWriter {
     ghost use Rattle.std.specs.Prelude.{None};
 
     // What it takes is compared.

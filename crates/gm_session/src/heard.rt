@@ -4,7 +4,7 @@ ghost use Rattle.std.specs.Prelude.{◌≡◌, ◌++◌, [], Some, None, IfOk};
 ghost use Rattle.gm_session.specs.Hearings.{blank, closed};
 
 use gm_feeder::{Patience, Source};
-use gm_ghost::{Ghost, Log, Logged, Worth};
+use gm_ghost::{Ghost, Log, Worth};
 use gm_shared::{BookName, Desk, Entry};
 use std::alloc::{AllocError, Global};
 use std::collections::LinkedList;
@@ -46,23 +46,12 @@ impl<I: Source<Patience>> Model for LoggedSource<I> {
     ghost invariant = { λ r. Consumes r.log.before (I.remaining r.source) r.log.bytes };
 }
 
-// The source is for the proof alone.
-fn log_of<I: Source<Patience>, E: Worth<Logged>>(
-    alloc: Global,
-    _source: &I,
-) -> Result<Log, AllocError>
-    requires { E.worth ≡ record { before = I.remaining _source.now; bytes = [] } }
-    ensures { IfOk result (λ log. log ≡ record { before = I.remaining _source.now; bytes = [] }) }
-{
-    Log::new::<E>(alloc)
-}
-
 impl<I: Source<Patience> + Drop> LoggedSource<I> {
     /// Takes a source. The log is empty.
     pub fn new(alloc: Global, source: I) -> Result<LoggedSource<I>, AllocError>
         ensures { IfOk result (λ logged. logged ≡ (source, I.remaining source, [])) }
     {
-        let log = log_of::<I, Brand>(alloc, &source)?;
+        let log = Log::new::<I, Brand>(alloc, &source)?;
         Ok(LoggedSource {
             source,
             log,
@@ -174,31 +163,11 @@ impl HearingLedger {
         Ok(HearingLedger { cell })
     }
 
-    // The desk is for the proof alone.
-    fn close_unheard_as<K: BookName, E: Worth<Hearings>>(&mut self, _desk: &Desk<K>)
-        requires { E.worth ≡ closed _desk.now.witness.seen [] self.old }
-        ensures { self.new ≡ closed _desk.now.witness.seen [] self.old }
-    {
-        self.cell.set::<E>();
-    }
-
     /// Enters a connection that was closed at this desk before it was read.
     pub(crate) fn close_unheard<K: BookName>(&mut self, desk: &Desk<K>)
         ensures { self.new ≡ closed desk.now.witness.seen [] self.old }
     {
-        self.close_unheard_as::<K, Brand>(desk)
-    }
-
-    // What is passed is for the proof alone.
-    fn close_as<K: BookName, I: Source<Patience>, E: Worth<Hearings>>(
-        &mut self,
-        _desk: &Desk<K>,
-        _source: &LoggedSource<I>,
-    )
-        requires { E.worth ≡ closed _desk.now.witness.seen _source.now.2 self.old }
-        ensures { self.new ≡ closed _desk.now.witness.seen _source.now.2 self.old }
-    {
-        self.cell.set::<E>();
+        self.cell.update::<Desk<K>, Brand>(desk);
     }
 
     /// Enters a connection that was closed at this desk, with all that was read from it.
@@ -209,6 +178,7 @@ impl HearingLedger {
     )
         ensures { self.new ≡ closed desk.now.witness.seen source.now.2 self.old }
     {
-        self.close_as::<K, I, Brand>(desk, source)
+        self.cell
+            .update::<(&Desk<K>, &LoggedSource<I>), Brand>(&(desk, source));
     }
 }

@@ -141,13 +141,6 @@ impl<K: BookName, I: Source<Patience> + Drop> Talk<K, I> {
         })
     }
 
-    /// All that is known of it, at any moment.
-    pub fn stands(&self)
-        ensures { IsTalk self.now }
-    {
-        let _ = &self.desk;
-    }
-
     /// The number of the slot.
     pub fn number(&self) -> u32
         ensures { result ≡ self.now.number }

@@ -1,6 +1,7 @@
 -- How a server ended.
 use Rattle.std.specs.Prelude.{◌≡◌, ℕ, ◌<◌, Bool, false, if◌then◌else◌, List, [], map, reverse, Result, Ok, Err, vec_len}
 use Rattle.atomic_table.specs.Seated.{TableId}
+use Rattle.gm_feeder.specs.declared.units.Limits.{Limits}
 use Rattle.gm_notes.specs.Settings.{Settings as BookSettings}
 use Rattle.gm_notes.specs.Notes.{is_open}
 use Rattle.gm_notes.specs.Steps.{Step, run}
@@ -30,8 +31,8 @@ AllClosed k steps = (c : ℕ) → c < k.slots → is_open c (run k steps).notes 
 
 -- A server ended with the history of this book, which is legal, and in which each entry is its desk's or pen's own. The core is what it leads to,
 -- and the tape, where one was kept, is it. The shares add up with the tape, and none is missing. No slot is open, and each connection was served as it
--- says.
-pub record IsWhole (k : BookSettings) (taped : Bool) (history : TableId) (settled : Settled) (accounts : List Account) : Type 0 where
+-- says, with these limits of a unit.
+pub record IsWhole (k : BookSettings) (taped : Bool) (limits : Limits) (history : TableId) (settled : Settled) (accounts : List Account) : Type 0 where
   pub of : settled.history.table ≡ history
   pub legal : Legal k settled.history.log
   pub agrees : CoreAgrees settled.core k (steps_of settled.history.log)
@@ -40,21 +41,21 @@ pub record IsWhole (k : BookSettings) (taped : Bool) (history : TableId) (settle
   pub up : AddUp settled.tape.items (map told_by settled.shares.items)
   pub everybody : HasEverybody k settled
   pub closed : AllClosed k (steps_of settled.history.log)
-  pub accounted : AreAccounted k settled.history.log accounts
+  pub accounted : AreAccounted k limits settled.history.log accounts
 
--- A share is missing, a slot is open, or an account doesn't have all openings of its slot.
-abbrev pub IsPartial : BookSettings → Settled → List Account → Type 0
-IsPartial k settled accounts = HasEverybody k settled → AllClosed k (steps_of settled.history.log) → AreCounted settled.history.log accounts → ⊥
+-- A share is missing, a slot is open, or an account has other limits or doesn't have all openings of its slot.
+abbrev pub IsPartial : BookSettings → Limits → Settled → List Account → Type 0
+IsPartial k limits settled accounts = HasEverybody k settled → AllClosed k (steps_of settled.history.log) → AreCounted limits settled.history.log accounts → ⊥
 
 -- how a book with this history was settled, with the accounts of its slots, or that it couldn't be
-abbrev pub SettledSo : BookSettings → Bool → TableId → Result Settled SettleError → List Account → Type 0
-SettledSo k taped history (Ok settled) accounts = IsWhole k taped history settled accounts
-SettledSo k taped history (Err of_book.Memory) accounts = Unit {0}
-SettledSo k taped history (Err (of_book.Differs settled)) accounts = IsPartial k settled accounts
+abbrev pub SettledSo : BookSettings → Bool → Limits → TableId → Result Settled SettleError → List Account → Type 0
+SettledSo k taped limits history (Ok settled) accounts = IsWhole k taped limits history settled accounts
+SettledSo k taped limits history (Err of_book.Memory) accounts = Unit {0}
+SettledSo k taped limits history (Err (of_book.Differs settled)) accounts = IsPartial k limits settled accounts
 
 -- a server with these settings served, and its book was settled so: the one history is that which is handed out
-abbrev pub EndsSo : BookSettings → Bool → Served → Type 0
-EndsSo k taped served = (history : TableId) × SettledSo k taped history served.book served.accounts.items
+abbrev pub EndsSo : BookSettings → Bool → Limits → Served → Type 0
+EndsSo k taped limits served = (history : TableId) × SettledSo k taped limits history served.book served.accounts.items
 
 -- what is said of that: how many entries its tape has
 abbrev pub summary_of : ℕ → Result Settled SettleError → Result Summary ServeError

@@ -18,6 +18,7 @@ ghost use Rattle.gm_slots.specs.Served.{HasEverybody, AllClosed, IsWhole, Settle
 use crate::served::Served;
 use crate::slot::{Slot, SlotParts};
 use gm_core::Core;
+use gm_feeder::Limits;
 use gm_promise::Account;
 use gm_session::OwnDesk;
 use gm_shared::{
@@ -106,38 +107,42 @@ fn are_closed(core: &Core, slots: u32) -> bool
     true
 }
 
-/// Whether each account says that its slot was opened as often as this, and that can be told.
-fn are_counted(openings: &Openings, accounts: &[Account], slots: u32) -> bool
+/// Whether each account has these limits, and says that its slot was opened as often as this, and that can be told.
+fn are_counted(openings: &Openings, accounts: &[Account], slots: u32, limits: Limits) -> bool
     requires { length accounts.now ≡ slots }
-    ensures { (log : List Entry) → Counts slots openings.now log → MatchBool result (AreCounted log accounts.now) (AreCounted log accounts.now → ⊥) }
+    ensures { (log : List Entry) → Counts slots openings.now log → MatchBool result (AreCounted limits log accounts.now) (AreCounted limits log accounts.now → ⊥) }
 {
     for slot in 0..slots {
         let Some(account) = accounts.get(slot as usize) else {
             unreachable!()
         };
-        if account.openings == u64::MAX || account.openings != openings.of(slot) {
+        if account.limits != limits
+            || account.openings == u64::MAX
+            || account.openings != openings.of(slot)
+        {
             return false;
         }
     }
     true
 }
 
-/// A book that is settled, if everybody's share is there, no slot is open, and each account has all openings of its slot.
+/// A book that is settled, if everybody's share is there, no slot is open, and each account has these limits and all openings of its slot.
 fn with_everybody(
     settled: Settled,
     actors: &[Actor],
     slots: u32,
+    limits: Limits,
     accounts: &[Account],
 ) -> Result<Settled, SettleError>
     requires { length accounts.now ≡ slots }
     ensures { (k : BookSettings) (taped : Bool) (history : TableId) → actors.now ≡ everybody k.slots → k.slots ≡ slots
         → CoreAgrees settled.core k (steps_of settled.history.log) → Counts k.slots settled.openings settled.history.log
-        → (HasEverybody k settled → AllClosed k (steps_of settled.history.log) → AreCounted settled.history.log accounts.now → IsWhole k taped history settled accounts.now)
-        → SettledSo k taped history result accounts.now }
+        → (HasEverybody k settled → AllClosed k (steps_of settled.history.log) → AreCounted limits settled.history.log accounts.now → IsWhole k taped limits history settled accounts.now)
+        → SettledSo k taped limits history result accounts.now }
 {
     if are_of(settled.shares.as_slice(), actors)
         && are_closed(&settled.core, slots)
-        && are_counted(&settled.openings, accounts, slots)
+        && are_counted(&settled.openings, accounts, slots, limits)
     {
         Ok(settled)
     } else {
@@ -146,18 +151,19 @@ fn with_everybody(
 }
 
 /// Settles the book of a server once no thread has any part of it: what its slots and its control desk were given comes back.
-/// This many connections were opened.
+/// This many connections were opened, and a unit was within these limits.
 pub fn settle_slots<K: BookName>(
     alloc: Global,
     shared: Shared<K>,
     slots: Vec<Slot<K>>,
     slot_count: u32,
     control: OwnDesk<K>,
+    limits: Limits,
     connections: u64,
 ) -> Result<Served, AllocError>
     requires sized { slot_count ≡ K.settings.slots }
     requires numbered { map (λ slot. slot.lane.slot) slots.items ≡ numbers_below slot_count }
-    ensures { IfOk result (λ served. SettledSo K.settings K.taped K.history served.book served.accounts.items) }
+    ensures { IfOk result (λ served. SettledSo K.settings K.taped limits K.history served.book served.accounts.items) }
 {
     let actors = everybody(alloc, slot_count)?;
     let AllParts {
@@ -166,7 +172,13 @@ pub fn settle_slots<K: BookName>(
         accounts,
     } = all_parts(alloc, slots, control)?;
     let book = match settle(alloc, shared, desks, pens) {
-        Ok(settled) => with_everybody(settled, actors.as_slice(), slot_count, accounts.as_slice()),
+        Ok(settled) => with_everybody(
+            settled,
+            actors.as_slice(),
+            slot_count,
+            limits,
+            accounts.as_slice(),
+        ),
         Err(error) => Err(error),
     };
     Ok(Served {

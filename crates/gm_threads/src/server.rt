@@ -85,7 +85,7 @@ pub(crate) fn serve_book<
     requires history { blank.history ≡ K.history }
     requires settings { blank.settings ≡ K.settings }
     requires taped { blank.taped ≡ K.taped }
-    ensures { IfOk result (λ served. SettledSo K.settings K.taped K.history served.book served.accounts.items) }
+    ensures { IfOk result (λ served. SettledSo K.settings K.taped service.now.limits K.history served.book served.accounts.items) }
 {
     let state = ServerState::<K>::new(rt, alloc, blank, service)?;
     let connections = run_control(rt, &state, pollers, gate, announcer)?;
@@ -98,8 +98,8 @@ pub(crate) fn serve_book<
 /// it is compared with what each connection's desk and pen were told.
 ///
 /// `Memory` comes if there is no memory for the book or for its end, and with a tape if there is none to enter the end
-/// of a connection, which stops the server; `Differs` where the tape differs from what was told, a slot is still open or an account lacks
-/// an opening; `Listen` where the listener fails. With a tape it answers `Ok` exactly where the two agree.
+/// of a connection, which stops the server; `Differs` where the tape differs from what was told, a slot is still open, or an account lacks
+/// an opening or has other limits; `Listen` where the listener fails. With a tape it answers `Ok` exactly where the two agree.
 pub fn serve<R: Threads + Wait + Clock + Eprint + Copy + Send + Sync + 'static, G: Gate>(
     rt: &R,
     alloc: Global,
@@ -108,7 +108,7 @@ pub fn serve<R: Threads + Wait + Clock + Eprint + Copy + Send + Sync + 'static, 
     settings: Settings,
     gate: &G,
 ) -> Result<Served, ServeError>
-    ensures ends { IfOk result (EndsSo settings.config settings.tape) }
+    ensures ends { IfOk result (EndsSo settings.config settings.tape settings.limits) }
     ensures settled { IfOk result (λ served. IsOk served.book) }
 {
     let slots = settings.config.slots();
@@ -143,7 +143,7 @@ pub fn serve_with<R: Threads + Wait + Clock + Sync, G: Gate, W: Write>(
     gate: &G,
     announcer: &mut Announcer<'_, W>,
 ) -> Result<Served, ServeError>
-    ensures { IfOk result (EndsSo settings.config settings.tape) }
+    ensures { IfOk result (EndsSo settings.config settings.tape service.limits) }
 {
     let Settings { config, tape, .. } = settings;
     let Ok(()) = set_accept_timeout(&service.listener) else {

@@ -47,6 +47,7 @@ impl<'s, K: BookName> ServerState<'s, K> {
         requires history { blank.history ≡ K.history }
         requires settings { blank.settings ≡ K.settings }
         requires taped { blank.taped ≡ K.taped }
+        ensures { IfOk result (λ state. state.service.now.limits ≡ service.now.limits) }
     {
         let slot_count = blank.slots();
         let speaker = Arc::try_clone(&service.speaker)?;
@@ -65,10 +66,11 @@ impl<'s, K: BookName> ServerState<'s, K> {
 
     /// Settles the book, once no thread has any part of it. This many connections were opened.
     pub(crate) fn settle(self, connections: u64) -> Result<Served, AllocError>
-        ensures { IfOk result (λ served. SettledSo K.settings K.taped K.history served.book served.accounts.items) }
+        ensures { IfOk result (λ served. SettledSo K.settings K.taped self.service.now.limits K.history served.book served.accounts.items) }
     {
         let ServerState {
             alloc,
+            service,
             shared,
             slots,
             slot_count,
@@ -81,6 +83,7 @@ impl<'s, K: BookName> ServerState<'s, K> {
             slots,
             slot_count,
             host.into_desk(),
+            service.limits,
             connections,
         )
     }

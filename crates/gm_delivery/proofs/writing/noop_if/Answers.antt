@@ -1,6 +1,6 @@
 use Rattle.std.proofs.Common.{refl}
 use Rattle.gm_packet.specs.Packets.{packet}
-use Rattle.gm_outbox.proofs.message.noop_if.Goals as goal
+use Rattle.gm_delivery.proofs.writing.noop_if.Goals as goal
 
 pub returns-then-took : goal.returns-then-took
 unfolding packet

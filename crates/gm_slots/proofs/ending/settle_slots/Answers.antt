@@ -31,17 +31,17 @@ returns g c = elim c.match-settle.branch [
       desks pens w.in-Ok.settled.shares.items ended.whose ended.shares_are ended.seen
       (λ i none lt. let desk = get_or desks i none in (desk.witnessed.1, all.own i none lt))
       (λ i none lt. let pen = get_or pens i none in (pen.witnessed.1, pen.own)) same in
-      let told = subst (λ (l : List Account). (HasEverybody k w.in-Ok.settled → AllClosed k (steps_of w.in-Ok.settled.history.log) → AreCounted w.in-Ok.settled.history.log l
-      → IsWhole k g.K.BookName.taped g.K.BookName.history w.in-Ok.settled l) → SettledSo k g.K.BookName.taped g.K.BookName.history w.with_everybody-book.result l) w.as_slice-in-Ok.ensures.value
+      let told = subst (λ (l : List Account). (HasEverybody k w.in-Ok.settled → AllClosed k (steps_of w.in-Ok.settled.history.log) → AreCounted c.args.limits w.in-Ok.settled.history.log l
+      → IsWhole k g.K.BookName.taped c.args.limits g.K.BookName.history w.in-Ok.settled l) → SettledSo k g.K.BookName.taped c.args.limits g.K.BookName.history w.with_everybody-book.result l) w.as_slice-in-Ok.ensures.value
       (w.with_everybody-book.ensures k g.K.BookName.taped g.K.BookName.history (w.as_slice.ensures.value ∙ (c.in_ok-actors.ensures ∙ ap everybody c.requires.sized))
       (sym c.requires.sized) (subst (λ l. CoreAgrees w.in-Ok.settled.core k (steps_of l)) (sym ended.log_is) ended.agrees)
       (subst (λ l. Counts k.slots w.in-Ok.settled.openings l) (sym ended.log_is) ended.counts)) in
       rw w.book-is (told
-      (λ same closed counted. whole_of k g.K.BookName.taped g.K.BookName.history w.in-Ok.settled _ ended.log ended.log_is w.in-Ok.ensures.history ended.legal ended.agrees (own same) ended.tape
+      (λ same closed counted. whole_of k g.K.BookName.taped c.args.limits g.K.BookName.history w.in-Ok.settled _ ended.log ended.log_is w.in-Ok.ensures.history ended.legal ended.agrees (own same) ended.tape
       (subst (AddUp w.in-Ok.settled.tape.items) (sym ended.shares_are) settled.up) same closed
-      (accounted (λ desk. desk.number) (λ desk. desk.share.items) (λ desk. desk.witness) (λ pen. pen.slot) (λ pen. pen.share.items) (λ pen. pen.witness) (λ pen. pen.seat.takes) k ended.log ended.legal (own same)
+      (accounted (λ desk. desk.number) (λ desk. desk.share.items) (λ desk. desk.witness) (λ pen. pen.slot) (λ pen. pen.share.items) (λ pen. pen.witness) (λ pen. pen.seat.takes) k c.args.limits ended.log ended.legal (own same)
       desks pens w.in-Ok.settled.shares.items c.in_ok-desks.field-0.accounts.items ended.shares_are ended.seen
       (λ i none lt. (get_or desks i none).witnessed.1) (λ i none lt. (get_or pens i none).witnessed.1) same all.accounts
-      (all.all ∙ (as_many (λ slot. slot.lane.slot) c.args.slots.items c.args.slot_count c.requires.numbered ∙ c.requires.sized)) (subst (λ l. AreCounted l c.in_ok-desks.field-0.accounts.items) ended.log_is counted))))
-  | in-Err w ↦ rw w.book-is (not_settled g.K.BookName.settings g.K.BookName.taped g.K.BookName.history _ w.in-Err.error _ _ w.in-Err.ensures.unsettled)
+      (all.all ∙ (as_many (λ slot. slot.lane.slot) c.args.slots.items c.args.slot_count c.requires.numbered ∙ c.requires.sized)) (subst (λ l. AreCounted c.args.limits l c.in_ok-desks.field-0.accounts.items) ended.log_is counted))))
+  | in-Err w ↦ rw w.book-is (not_settled g.K.BookName.settings g.K.BookName.taped c.args.limits g.K.BookName.history _ w.in-Err.error _ _ w.in-Err.ensures.unsettled)
 ]

@@ -2,5 +2,5 @@ use Rattle.gm_delivery.specs.Accounts.{closed}
 use Rattle.gm_delivery.proofs.account.Ledger.close.Given as goal
 
 -- what the account becomes
-abbrev pub ghosts-close_as : goal.ghosts-close_as
-ghosts-close_as g a = record { worth = closed a._outbox.now.pen.witness.seen a._outbox.now.pen.seat.takes a._half.now.socket.2 a._is_whole a.self.now }
+abbrev pub ghosts-update : goal.ghosts-update
+ghosts-update g a = record { worth = closed a._by.now.0.now.witness.seen a._by.now.0.now.seat.takes a._by.now.1.now.socket.2 a._by.now.2 a.self.now }

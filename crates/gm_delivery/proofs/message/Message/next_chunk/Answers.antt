@@ -1,6 +1,6 @@
 use Rattle.std.proofs.Common.{◌++◌, ℕ, List, take, drop, sym, ap, ◌∙◌}
 use Rattle.std.proofs.lemmas.List.{append_assoc, take-append-drop}
-use Rattle.gm_outbox.proofs.outbox.Message.next_chunk.Goals as goal
+use Rattle.gm_delivery.proofs.message.Message.next_chunk.Goals as goal
 
 pub returns-clause-first : goal.returns-clause-first
 returns-clause-first c =

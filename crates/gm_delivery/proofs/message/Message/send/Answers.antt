@@ -1,9 +1,9 @@
-use Rattle.gm_outbox.specs.declared.message.Sent.TheVariants as sent
+use Rattle.gm_delivery.specs.declared.writing.Sent.TheVariants as sent
 use Rattle.std.proofs.Common.{◌<◌, length, ap, arith, length-append}
 use Rattle.std.proofs.lemmas.Bool.Decides.{nat_tests}
-use Rattle.gm_outbox.specs.Deliveries.{noop_left}
-use Rattle.gm_outbox.proofs.Sending.{sending_none, sending_last, sending_blocked, chunk_sent, chunk_stops}
-use Rattle.gm_outbox.proofs.outbox.Message.send.Goals as goal
+use Rattle.gm_delivery.specs.Messages.{noop_left}
+use Rattle.gm_delivery.proofs.Sending.{sending_none, sending_last, sending_blocked, chunk_sent, chunk_stops}
+use Rattle.gm_delivery.proofs.message.Message.send.Goals as goal
 
 pub returns-then-is_empty : goal.returns-then-is_empty
 returns-then-is_empty g c = sending_last _ _ _ _ _ _ c.loop-chunk.invariant c.send_noop.result c.send_noop.ensures

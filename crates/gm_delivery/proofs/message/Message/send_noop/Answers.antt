@@ -1,5 +1,5 @@
-use Rattle.gm_outbox.proofs.Sending.{noop_within, noop_sent}
-use Rattle.gm_outbox.proofs.outbox.Message.send_noop.Goals as goal
+use Rattle.gm_delivery.proofs.Sending.{noop_within, noop_sent}
+use Rattle.gm_delivery.proofs.message.Message.send_noop.Goals as goal
 
 pub invariant_of-self : goal.invariant_of-self
 invariant_of-self g c = record { within = noop_within _ _ c.args.self.now.took _ _ c.write_once-count.result.1 c.args.self.now.within _ c.noop.ensures c.write_once-count.ensures }
