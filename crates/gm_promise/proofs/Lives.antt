@@ -638,6 +638,7 @@ module _ (c : ℕ) where
           begins = are.1.begins;
           stands = are.1.stands;
           said = since_is k m c log legal ∙ (ap (block m c) is ∙ (later m newer events (omega (arith, count)) ∙ its_block limits h older since are));
+          whole = are.1.whole;
         },
         handed_in k limits log legal older h.since are.2 (newer ++ Close c ∷ units) (is ∙ sym (append_assoc newer (Close c ∷ units) rest)),
       )
@@ -650,11 +651,11 @@ record Lead (c : ℕ) (since until : List Entry) : Type 0 where
 
 lead_of : (c : ℕ) (limits : Limits) (since until : List Entry) (talking : Option TalkingState) → IsTalking c limits since until talking → Lead c since until
 lead_of c limits since until None is = record { items = []; fault = None; adds = is }
-lead_of c limits since until (Some t) is = by t.is_over is
+lead_of c limits since until (Some t) is = by t.over is
   where
-    by : (b : Bool) → IsTalkingBy b c limits since until t → Lead c since until
-    by false so = record { items = so.hands.items; fault = None; adds = so.hands.adds }
-    by true so = record { items = so.hands.items; fault = so.fault; adds = so.hands.adds }
+    by : (b : Option Bool) → IsTalkingBy b c limits since until t → Lead c since until
+    by None so = record { items = so.hands.items; fault = None; adds = so.hands.adds }
+    by (Some is_whole) so = record { items = so.hands.items; fault = so.fault; adds = so.hands.adds }
 
 pub are_served : (k : Settings) (limits : Limits) (log : List Entry) → Legal k log → AreOwn log → (c takes : ℕ) (heard : List Heard) (past : List Past)
     (since heard_until given_until : List Entry) (talking : Option TalkingState)

@@ -1,8 +1,8 @@
 -- A connection's whole life: what was read from it, and what was written to it, said of the one history of all calls. Its newest entry is the
 -- first. A slot has one connection after another, each from an opening of the slot on.
-use Rattle.std.specs.Prelude.{◌≡◌, ℕ, ◌+◌, ◌*◌, ◌==◌, ◌&&◌, if◌then◌else◌, true, List, [], ◌∷◌, ◌++◌, reverse, length, Option, IfSome}
+use Rattle.std.specs.Prelude.{◌≡◌, ℕ, ◌+◌, ◌*◌, ◌==◌, ◌&&◌, if◌then◌else◌, true, List, [], ◌∷◌, ◌++◌, reverse, length, Option, None, IfSome}
 use Rattle.gm_feeder.specs.declared.units.Limits.{Limits}
-use Rattle.gm_feeder.specs.Units.{Item}
+use Rattle.gm_feeder.specs.Units.{Item, Waits}
 use Rattle.gm_front.specs.Units.{steps_of as steps_of_units, IsFaultAt, BeginsWith}
 use Rattle.gm_notes.specs.declared.event.UnitFault.{UnitFault}
 use Rattle.gm_notes.specs.Settings.{Settings}
@@ -44,19 +44,20 @@ said_since n c (e ∷ older) = if says c (slot_of (step_in e.step)) && (openings
 -- ---- what was read
 
 -- The connection of the n-th opening of slot c is closed, and this was read from it: what the slot said are the first units of that, in order, then the
--- fault behind them or none, and the closing.
-pub record IsHandedIn (limits : Limits) (log : List Entry) (c n : ℕ) (read : List ℕ) : Type 0 where
+-- fault behind them or none, and the closing. If it is said that these are all, no whole unit is left, and there was no fault.
+pub record IsHandedIn (limits : Limits) (log : List Entry) (c n : ℕ) (heard : Heard) : Type 0 where
   pub items : List Item
   pub rest : List ℕ
   pub fault : Option UnitFault
-  pub begins : BeginsWith limits read items rest
+  pub begins : BeginsWith limits heard.read items rest
   pub stands : IfSome fault (λ fault. IsFaultAt limits rest fault)
   pub said : said_since n c log ≡ Close c ∷ reverse (steps_of_units c items fault)
+  pub whole : heard.is_whole ≡ true → (fault ≡ None) × Waits limits rest
 
 -- so it is of each connection that is closed, the newest first; the last of them is of the first opening
 abbrev pub AreHandedIn : Limits → List Entry → ℕ → List Heard → Type 0
 AreHandedIn limits log c [] = Unit {0}
-AreHandedIn limits log c (heard ∷ older) = IsHandedIn limits log c (length older + 1) heard.read × AreHandedIn limits log c older
+AreHandedIn limits log c (heard ∷ older) = IsHandedIn limits log c (length older + 1) heard × AreHandedIn limits log c older
 
 -- ---- what was written
 

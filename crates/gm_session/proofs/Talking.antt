@@ -1,6 +1,6 @@
 -- A session that threads go on with, and the account of a slot's connections.
 use Rattle.std.proofs.Common.{◌≡◌, ℕ, List, [], ◌∷◌, ◌++◌, map, Bool, true, false, Option, Some, None, Result, Ok, Err, refl, sym, ap, subst, ◌∙◌}
-use Rattle.std.specs.Prelude.{IfSome, IfOk, MatchResult, is_some}
+use Rattle.std.specs.Prelude.{IfSome, IfOk, is_some, not}
 use Rattle.std.specs.Option.{option_map}
 use Rattle.std.specs.Result.{is_ok}
 use Rattle.std.proofs.lemmas.List.{append-nil}
@@ -18,10 +18,11 @@ use Rattle.gm_shared.specs.declared.tape.Entry.{Entry}
 use Rattle.gm_shared.specs.Calls.{HandedIn, if_taken}
 use Rattle.gm_session.specs.declared.heard.Hearings.{Hearings}
 use Rattle.gm_session.specs.declared.session.SessionEnd.{SessionEnd}
+use Rattle.gm_session.specs.declared.session.SessionEnd.TheVariants as ends
 use Rattle.gm_session.specs.declared.session.Turn.{Turn}
 use Rattle.gm_session.specs.Hearings.{IsHeard, closed}
-use Rattle.gm_session.specs.Sessions.{Adds, HandsIn, Reads, Steps, Ends, broke, unread as unread_end, may_leave}
-use Rattle.gm_session.specs.Talks.{TalkingState, TalkState, IsTalk, IsTalking, IsTalkingBy, GoesOnSo, IsOverSo, unread, heard_of, Stepped, SteppedUnless, StepsOn}
+use Rattle.gm_session.specs.Sessions.{Adds, HandsIn, IsWhole, Reads, Steps, Ends, broke, unread as unread_end, may_leave}
+use Rattle.gm_session.specs.Talks.{TalkingState, TalkState, IsTalk, IsTalking, IsTalkingBy, GoesOnSo, IsOverSo, unread, ends_whole, over_after, heard_of, whole_by, whole_in, Stepped, SteppedUnless, StepsOn}
 use Rattle.gm_session.proofs.Handing.{Reading, adds_none, adds_then, adds_same, waits_none, reading_more, reading_over}
 
 -- ---- all that was read
@@ -57,19 +58,23 @@ goes_on_unread n limits since seen t is none =
     subst (λ (u : TalkingState). GoesOnSo n limits since seen u) (sym is)
     (record { limited = refl; hands = record { items = []; begins = refl; stands = tt; adds = none }; waits = λ no_unit. waits_none limits })
 
-over_at_rest : (n : ℕ) (limits : Limits) (since seen : List Entry) (t : TalkingState) → GoesOnSo n limits since seen t → IsOverSo n limits since seen t.heard
-over_at_rest n limits since seen t h = record { rest = t.stream.pending; fault = None; hands = h.hands }
+over_at_rest : (n : ℕ) (limits : Limits) (since seen : List Entry) (t : TalkingState) → GoesOnSo n limits since seen t → IsOverSo n limits since seen t.heard (not t.has_units)
+over_at_rest n limits since seen t h = record { rest = t.stream.pending; fault = None; hands = h.hands; whole = λ w. (refl, h.waits (not_so t.has_units w)) }
+  where
+    not_so : (b : Bool) → not b ≡ true → b ≡ false
+    not_so false is = refl
+    not_so true bad = absurd cc
 
 module _ (k : Settings) (taped : Bool) (n : ℕ) (limits : Limits) (since seen : List Entry) (t : TalkingState) (h : GoesOnSo n limits since seen t) where
   -- the session goes on
   pub goes_on_more : (turn : Turn) (next : Stream) (units : Bool) (input left : Option (List ℕ)) (after : List ℕ) (seen_after : List Entry) → units ≡ may_leave turn
       → Steps k taped n n t.stream t.has_units input left (Some t.heard) (Some after) (Ok turn) seen seen_after next
-      → GoesOnSo n limits since seen_after (record { stream = next; has_units = units; is_over = false; heard = after })
+      → GoesOnSo n limits since seen_after (record { stream = next; has_units = units; over = None; heard = after })
   goes_on_more turn next units input left after seen_after is s =
       let r = fed n limits t.heard since seen t.stream t.has_units s.piece (reading_of n limits since seen t h) in
       let alone : Steps k taped n n t.stream t.has_units (Some s.piece) (Some []) (Some t.heard) (Some after) (Ok turn) seen seen_after next =
       record { piece = s.piece; consumes = sym (append-nil s.piece); hears = s.hears; goes_on = s.goes_on } in
-      goes_on_of n limits since seen_after (record { stream = next; has_units = units; is_over = false; heard = after })
+      goes_on_of n limits since seen_after (record { stream = next; has_units = units; over = None; heard = after })
       (subst (λ (l : List ℕ). Reading n n limits (Some l) (Some []) since seen_after next units) (sym s.hears)
       (reading_more k taped n n limits (Some (t.heard ++ s.piece)) (Some s.piece) (Some []) (Some t.heard) (Some after) since seen seen_after t.stream t.has_units r n refl turn next units is alone))
 
@@ -91,13 +96,21 @@ module _ (k : Settings) (taped : Bool) (n : ℕ) (limits : Limits) (since seen :
   heard_more end input left after seen_after (broke piece consumes hears b) = (piece, hears)
   heard_more end input left after seen_after (unread_end none consumes kept unshut same) = ([], kept ∙ sym (append-nil t.heard))
 
+whole_end : (end : SessionEnd) → ends_whole end ≡ true → IsWhole end
+whole_end ends.Ended is = tt
+whole_end ends.ReadFault is = tt
+whole_end ends.Shut bad = absurd cc
+whole_end ends.Memory bad = absurd cc
+whole_end ends.Turns is = tt
+
 -- a session that is over
 pub over_of : (k : Settings) (taped : Bool) (n : ℕ) (limits : Limits) (heard : List ℕ) (end : SessionEnd) (since seen : List Entry) → Reads k taped n n limits (Some heard) (Some []) end since seen
-    → IsOverSo n limits since seen heard
+    → IsOverSo n limits since seen heard (ends_whole end)
 over_of k taped n limits heard end since seen r = record {
   rest = r.rest;
   fault = r.fault;
   hands = subst (λ (l : List ℕ). HandsIn n n limits l r.rest r.fault since seen) (sym (r.consumes ∙ append-nil r.read)) r.hands;
+  whole = λ w. r.whole (whole_end end w);
 }
 
 fault_at_more : (limits : Limits) (rest more : List ℕ) (fault : Option UnitFault) → IfSome fault (λ fault. IsFaultAt limits rest fault) → IfSome fault (λ fault. IsFaultAt limits (rest ++ more) fault)
@@ -105,8 +118,8 @@ fault_at_more limits rest more None h = tt
 fault_at_more limits rest more (Some fault) h = record { fed = h.fed; named = h.named; stands = fault_stays limits rest more h.fed h.stands }
 
 -- what comes after it changes nothing
-pub over_more : (n : ℕ) (limits : Limits) (since seen : List Entry) (heard more : List ℕ) → IsOverSo n limits since seen heard → IsOverSo n limits since seen (heard ++ more)
-over_more n limits since seen heard more o = record {
+pub over_more : (n : ℕ) (limits : Limits) (since seen : List Entry) (heard more : List ℕ) (is_whole : Bool) → IsOverSo n limits since seen heard is_whole → IsOverSo n limits since seen (heard ++ more) false
+over_more n limits since seen heard more is_whole o = record {
   rest = o.rest ++ more;
   fault = o.fault;
   hands = record {
@@ -115,6 +128,7 @@ over_more n limits since seen heard more o = record {
     stands = fault_at_more limits o.rest more o.fault o.hands.stands;
     adds = o.hands.adds;
   };
+  whole = λ bad. absurd cc;
 }
 
 -- nothing was handed in behind it
@@ -129,20 +143,21 @@ hands_none n limits heard rest fault since seen after none h = record {
 
 -- ---- connections that are gone
 
-pub heard_closed : (n : ℕ) (limits : Limits) (since seen after : List Entry) (heard : List ℕ) → IsOverSo n limits since seen heard → Adds n (Close n ∷ []) seen after
-    → IsHeard n limits (record { since = since; until = after; read = heard })
-heard_closed n limits since seen after heard o adds = record {
+pub heard_closed : (n : ℕ) (limits : Limits) (since seen after : List Entry) (heard : List ℕ) (is_whole : Bool) → IsOverSo n limits since seen heard is_whole → Adds n (Close n ∷ []) seen after
+    → IsHeard n limits (record { since = since; until = after; read = heard; is_whole = is_whole })
+heard_closed n limits since seen after heard is_whole o adds = record {
   items = o.hands.items;
   rest = o.rest;
   fault = o.fault;
   begins = o.hands.begins;
   stands = o.hands.stands;
   adds = adds_then n (steps_of n o.hands.items o.fault) (Close n ∷ []) since seen after o.hands.adds adds;
+  whole = o.whole;
 }
 
 -- nothing was read of it
-pub over_unread : (n : ℕ) (limits : Limits) (since seen : List Entry) → Adds n [] since seen → IsOverSo n limits since seen []
-over_unread n limits since seen none = record { rest = []; fault = None; hands = record { items = []; begins = refl; stands = tt; adds = none } }
+pub over_unread : (n : ℕ) (limits : Limits) (since seen : List Entry) → Adds n [] since seen → IsOverSo n limits since seen [] true
+over_unread n limits since seen none = record { rest = []; fault = None; hands = record { items = []; begins = refl; stands = tt; adds = none }; whole = λ w. (refl, waits_none limits) }
 
 -- ---- a talk goes on
 
@@ -158,105 +173,106 @@ module _ (t : TalkState) (is : IsTalk t) where
   unless_talking (Some talking) none now = absurd cc
 
   pub talk_begun : (stream : Stream) (units : Bool) (heard : List ℕ) → is_some t.talking ≡ false → stream ≡ (unread t.limits).stream → units ≡ false → heard ≡ []
-      → IsTalk (record t { talking = Some (record { stream = stream; has_units = units; is_over = false; heard = heard }) })
+      → IsTalk (record t { talking = Some (record { stream = stream; has_units = units; over = None; heard = heard }) })
   talk_begun stream units heard none fresh unit_none unheard =
-      let now : TalkingState = record { stream = stream; has_units = units; is_over = false; heard = heard } in
+      let now : TalkingState = record { stream = stream; has_units = units; over = None; heard = heard } in
       talk_now t.number t.seen (Some now) refl
-      (goes_on_unread t.number t.limits t.hearings.since t.seen now (λ i. record { stream = fresh i; has_units = unit_none i; is_over = false; heard = unheard i }) (unless_talking t.talking none is.now))
+      (goes_on_unread t.number t.limits t.hearings.since t.seen now (λ i. record { stream = fresh i; has_units = unit_none i; over = None; heard = unheard i }) (unless_talking t.talking none is.now))
 
-  over_by : (over : Bool) (u : TalkingState) → IsTalkingBy over t.number t.limits t.hearings.since t.seen u → IsOverSo t.number t.limits t.hearings.since t.seen u.heard
-  over_by false u h = over_at_rest t.number t.limits t.hearings.since t.seen u h
-  over_by true u h = h
+  over_by : (over : Option Bool) (u : TalkingState) → IsTalkingBy over t.number t.limits t.hearings.since t.seen u → IsOverSo t.number t.limits t.hearings.since t.seen u.heard (whole_by over u.has_units)
+  over_by None u h = over_at_rest t.number t.limits t.hearings.since t.seen u h
+  over_by (Some is_whole) u h = h
 
-  over_now : (talking : Option TalkingState) → IsTalking t.number t.limits t.hearings.since t.seen talking → IsOverSo t.number t.limits t.hearings.since t.seen (heard_of talking)
+  over_now : (talking : Option TalkingState) → IsTalking t.number t.limits t.hearings.since t.seen talking → IsOverSo t.number t.limits t.hearings.since t.seen (heard_of talking) (whole_in talking)
   over_now None h = over_unread t.number t.limits t.hearings.since t.seen h
-  over_now (Some u) h = over_by u.is_over u h
+  over_now (Some u) h = over_by u.over u h
 
   -- more was read after the session was over
-  pub talk_discarded : (u : TalkingState) (piece heard : List ℕ) (over : Bool) → t.talking ≡ Some u → over ≡ true → heard ≡ u.heard ++ piece
-      → IsTalk (record t { talking = Some (record u { is_over = over; heard = heard }) })
+  pub talk_discarded : (u : TalkingState) (piece heard : List ℕ) (over : Option Bool) → t.talking ≡ Some u → over ≡ Some false → heard ≡ u.heard ++ piece
+      → IsTalk (record t { talking = Some (record u { over = over; heard = heard }) })
   talk_discarded u piece heard over there is_over more =
       let old = over_now (Some u) (subst (λ (o : Option TalkingState). IsTalking t.number t.limits t.hearings.since t.seen o) there is.now) in
-      talk_now t.number t.seen (Some (record u { is_over = over; heard = heard })) refl
-      (subst (λ (b : Bool). IsTalkingBy b t.number t.limits t.hearings.since t.seen (record u { is_over = b; heard = heard })) (sym is_over)
-      (subst (λ (l : List ℕ). IsOverSo t.number t.limits t.hearings.since t.seen l) (sym more) (over_more t.number t.limits t.hearings.since t.seen u.heard piece old)))
+      talk_now t.number t.seen (Some (record u { over = over; heard = heard })) refl
+      (subst (λ (b : Option Bool). IsTalkingBy b t.number t.limits t.hearings.since t.seen (record u { over = b; heard = heard })) (sym is_over)
+      (subst (λ (l : List ℕ). IsOverSo t.number t.limits t.hearings.since t.seen l false) (sym more) (over_more t.number t.limits t.hearings.since t.seen u.heard piece (whole_in (Some u)) old)))
 
   -- ---- a turn
 
-  pub going : (u : TalkingState) → t.talking ≡ Some u → u.is_over ≡ false → GoesOnSo t.number t.limits t.hearings.since t.seen u
+  pub going : (u : TalkingState) → t.talking ≡ Some u → u.over ≡ None → GoesOnSo t.number t.limits t.hearings.since t.seen u
   going u there on =
-      subst (λ (b : Bool). IsTalkingBy b t.number t.limits t.hearings.since t.seen u) on
+      subst (λ (b : Option Bool). IsTalkingBy b t.number t.limits t.hearings.since t.seen u) on
       (subst (λ (o : Option TalkingState). IsTalking t.number t.limits t.hearings.since t.seen o) there is.now)
 
-  stepped_now : (k : Settings) (taped : Bool) (u : TalkingState) → GoesOnSo t.number t.limits t.hearings.since t.seen u → (result : Result Turn SessionEnd) (next : Stream) (units over : Bool) (input left : Option (List ℕ)) (after : List ℕ) (seen : List Entry)
+  stepped_now : (k : Settings) (taped : Bool) (u : TalkingState) → GoesOnSo t.number t.limits t.hearings.since t.seen u → (result : Result Turn SessionEnd) (next : Stream) (units : Bool) (over : Option Bool) (input left : Option (List ℕ)) (after : List ℕ) (seen : List Entry)
       → Steps k taped t.number t.number u.stream u.has_units input left (Some u.heard) (Some after) result t.seen seen next → IfOk result (λ turn. units ≡ may_leave turn)
-      → MatchResult result (λ _. over ≡ false) (λ _. over ≡ true) → IsTalkingBy over t.number t.limits t.hearings.since seen (record { stream = next; has_units = units; is_over = over; heard = after })
+      → over ≡ over_after result → IsTalkingBy over t.number t.limits t.hearings.since seen (record { stream = next; has_units = units; over = over; heard = after })
   stepped_now k taped u h (Ok turn) next units over input left after seen s is_units is_over =
-      subst (λ (b : Bool). IsTalkingBy b t.number t.limits t.hearings.since seen (record { stream = next; has_units = units; is_over = b; heard = after })) (sym is_over)
+      subst (λ (b : Option Bool). IsTalkingBy b t.number t.limits t.hearings.since seen (record { stream = next; has_units = units; over = b; heard = after })) (sym is_over)
       (goes_on_more k taped t.number t.limits t.hearings.since t.seen u h turn next units input left after seen is_units s)
   stepped_now k taped u h (Err end) next units over input left after seen s is_units is_over =
-      subst (λ (b : Bool). IsTalkingBy b t.number t.limits t.hearings.since seen (record { stream = next; has_units = units; is_over = b; heard = after })) (sym is_over)
+      subst (λ (b : Option Bool). IsTalkingBy b t.number t.limits t.hearings.since seen (record { stream = next; has_units = units; over = b; heard = after })) (sym is_over)
       (over_of k taped t.number t.limits after end t.hearings.since seen (reads_all k taped t.number t.limits t.hearings.since t.seen u h end input left after seen s))
 
-  pub talk_stepped : (k : Settings) (taped : Bool) (m : ℕ) (u : TalkingState) → m ≡ t.number → t.talking ≡ Some u → u.is_over ≡ false → (result : Result Turn SessionEnd) (next : Stream) (units over : Bool)
+  pub talk_stepped : (k : Settings) (taped : Bool) (m : ℕ) (u : TalkingState) → m ≡ t.number → t.talking ≡ Some u → u.over ≡ None → (result : Result Turn SessionEnd) (next : Stream) (units : Bool) (over : Option Bool)
       (input left : Option (List ℕ)) (after : List ℕ) (seen : List Entry)
       → Steps k taped t.number t.number u.stream u.has_units input left (Some u.heard) (Some after) result t.seen seen next → IfOk result (λ turn. units ≡ may_leave turn)
-      → MatchResult result (λ _. over ≡ false) (λ _. over ≡ true)
-      → IsTalk (record { number = m; limits = t.limits; seen = seen; hearings = t.hearings; talking = Some (record { stream = next; has_units = units; is_over = over; heard = after }) })
+      → over ≡ over_after result
+      → IsTalk (record { number = m; limits = t.limits; seen = seen; hearings = t.hearings; talking = Some (record { stream = next; has_units = units; over = over; heard = after }) })
   talk_stepped k taped m u same there on result next units over input left after seen s is_units is_over =
-      talk_now m seen (Some (record { stream = next; has_units = units; is_over = over; heard = after })) same
+      talk_now m seen (Some (record { stream = next; has_units = units; over = over; heard = after })) same
       (stepped_now k taped u (going u there on) result next units over input left after seen s is_units is_over)
 
-  stepped_by : (k : Settings) (taped : Bool) (m : ℕ) (u : TalkingState) → m ≡ t.number → GoesOnSo t.number t.limits t.hearings.since t.seen u → (result : Result Turn SessionEnd) (next : Stream) (units over : Bool)
+  stepped_by : (k : Settings) (taped : Bool) (m : ℕ) (u : TalkingState) → m ≡ t.number → GoesOnSo t.number t.limits t.hearings.since t.seen u → (result : Result Turn SessionEnd) (next : Stream) (units : Bool) (over : Option Bool)
       (input left : Option (List ℕ)) (after : List ℕ) (seen : List Entry)
       → Steps k taped t.number t.number u.stream u.has_units input left (Some u.heard) (Some after) result t.seen seen next → IfOk result (λ turn. units ≡ may_leave turn)
-      → MatchResult result (λ _. over ≡ false) (λ _. over ≡ true)
-      → Stepped k taped result t (record { number = m; limits = t.limits; seen = seen; hearings = t.hearings; talking = Some (record { stream = next; has_units = units; is_over = over; heard = after }) }) u
+      → over ≡ over_after result
+      → Stepped k taped result t (record { number = m; limits = t.limits; seen = seen; hearings = t.hearings; talking = Some (record { stream = next; has_units = units; over = over; heard = after }) }) u
   stepped_by k taped m u same h (Ok turn) next units over input left after seen s is_units is_over = record {
-    now = record { stream = next; has_units = units; is_over = over; heard = after };
+    now = record { stream = next; has_units = units; over = over; heard = after };
     piece = s.piece;
-    new_is = λ i. record { number = same i; limits = t.limits; seen = seen; hearings = t.hearings; talking = Some (record { stream = next; has_units = units; is_over = over; heard = after }) };
+    new_is = λ i. record { number = same i; limits = t.limits; seen = seen; hearings = t.hearings; talking = Some (record { stream = next; has_units = units; over = over; heard = after }) };
     heard = s.hears;
     turns = (is_over, is_units);
   }
   stepped_by k taped m u same h (Err end) next units over input left after seen s is_units is_over =
       let more = heard_more k taped t.number t.limits t.hearings.since t.seen u h end input left after seen s in
       record {
-        now = record { stream = next; has_units = units; is_over = over; heard = after };
+        now = record { stream = next; has_units = units; over = over; heard = after };
         piece = more.0;
-        new_is = λ i. record { number = same i; limits = t.limits; seen = seen; hearings = t.hearings; talking = Some (record { stream = next; has_units = units; is_over = over; heard = after }) };
+        new_is = λ i. record { number = same i; limits = t.limits; seen = seen; hearings = t.hearings; talking = Some (record { stream = next; has_units = units; over = over; heard = after }) };
         heard = more.1;
         turns = (is_over, reads_all k taped t.number t.limits t.hearings.since t.seen u h end input left after seen s);
       }
 
-  pub steps_on : (k : Settings) (taped : Bool) (m : ℕ) (u : TalkingState) → m ≡ t.number → t.talking ≡ Some u → u.is_over ≡ false → (result : Result Turn SessionEnd) (next : Stream) (units over : Bool)
+  pub steps_on : (k : Settings) (taped : Bool) (m : ℕ) (u : TalkingState) → m ≡ t.number → t.talking ≡ Some u → u.over ≡ None → (result : Result Turn SessionEnd) (next : Stream) (units : Bool) (over : Option Bool)
       (input left : Option (List ℕ)) (after : List ℕ) (seen : List Entry)
       → Steps k taped t.number t.number u.stream u.has_units input left (Some u.heard) (Some after) result t.seen seen next → IfOk result (λ turn. units ≡ may_leave turn)
-      → MatchResult result (λ _. over ≡ false) (λ _. over ≡ true)
-      → StepsOn t.talking k taped result t (record { number = m; limits = t.limits; seen = seen; hearings = t.hearings; talking = Some (record { stream = next; has_units = units; is_over = over; heard = after }) })
+      → over ≡ over_after result
+      → StepsOn t.talking k taped result t (record { number = m; limits = t.limits; seen = seen; hearings = t.hearings; talking = Some (record { stream = next; has_units = units; over = over; heard = after }) })
   steps_on k taped m u same there on result next units over input left after seen s is_units is_over =
-      let new : TalkState = record { number = m; limits = t.limits; seen = seen; hearings = t.hearings; talking = Some (record { stream = next; has_units = units; is_over = over; heard = after }) } in
+      let new : TalkState = record { number = m; limits = t.limits; seen = seen; hearings = t.hearings; talking = Some (record { stream = next; has_units = units; over = over; heard = after }) } in
       subst (λ (o : Option TalkingState). StepsOn o k taped result t new) (sym there)
-      (subst (λ (b : Bool). SteppedUnless b k taped result t new u) (sym on)
+      (subst (λ (b : Option Bool). SteppedUnless b k taped result t new u) (sym on)
       (stepped_by k taped m u same (going u there on) result next units over input left after seen s is_units is_over))
 
   -- ---- a closing
 
-  refused_by : (over : Bool) (u : TalkingState) (seen : List Entry) → Adds t.number [] t.seen seen → IsTalkingBy over t.number t.limits t.hearings.since t.seen u → IsTalkingBy over t.number t.limits t.hearings.since seen u
-  refused_by false u seen none h = record { limited = h.limited; hands = hands_none t.number t.limits u.heard u.stream.pending None t.hearings.since t.seen seen none h.hands; waits = h.waits }
-  refused_by true u seen none h = record { rest = h.rest; fault = h.fault; hands = hands_none t.number t.limits u.heard h.rest h.fault t.hearings.since t.seen seen none h.hands }
+  refused_by : (over : Option Bool) (u : TalkingState) (seen : List Entry) → Adds t.number [] t.seen seen → IsTalkingBy over t.number t.limits t.hearings.since t.seen u → IsTalkingBy over t.number t.limits t.hearings.since seen u
+  refused_by None u seen none h = record { limited = h.limited; hands = hands_none t.number t.limits u.heard u.stream.pending None t.hearings.since t.seen seen none h.hands; waits = h.waits }
+  refused_by (Some is_whole) u seen none h = record { rest = h.rest; fault = h.fault; hands = hands_none t.number t.limits u.heard h.rest h.fault t.hearings.since t.seen seen none h.hands; whole = h.whole }
 
   refused_now : (talking : Option TalkingState) (seen : List Entry) → Adds t.number [] t.seen seen → IsTalking t.number t.limits t.hearings.since t.seen talking → IsTalking t.number t.limits t.hearings.since seen talking
   refused_now None seen none h = adds_then t.number [] [] t.hearings.since t.seen seen h none
-  refused_now (Some u) seen none h = refused_by u.is_over u seen none h
+  refused_now (Some u) seen none h = refused_by u.over u seen none h
 
   pub talk_refused : (m : ℕ) (seen : List Entry) → m ≡ t.number → Adds t.number [] t.seen seen → IsTalk (record t { number = m; seen = seen })
   talk_refused m seen same none = talk_now m seen t.talking same (refused_now t.talking seen none is.now)
 
-  pub talk_closed : (m : ℕ) (seen : List Entry) (hearings : Hearings) (heard : List ℕ) → m ≡ t.number → heard_of t.talking ≡ heard → hearings ≡ closed seen heard t.hearings → Adds t.number (Close t.number ∷ []) t.seen seen
+  pub talk_closed : (m : ℕ) (seen : List Entry) (hearings : Hearings) (heard : List ℕ) (is_whole : Bool) → m ≡ t.number → heard_of t.talking ≡ heard → whole_in t.talking ≡ is_whole → hearings ≡ closed seen heard is_whole t.hearings → Adds t.number (Close t.number ∷ []) t.seen seen
       → IsTalk (record { number = m; limits = t.limits; seen = seen; hearings = hearings; talking = None })
-  talk_closed m seen hearings heard same was entered adds =
-      let one = heard_closed t.number t.limits t.hearings.since t.seen seen heard (subst (λ (l : List ℕ). IsOverSo t.number t.limits t.hearings.since t.seen l) was (over_now t.talking is.now)) adds in
+  talk_closed m seen hearings heard is_whole same was whole entered adds =
+      let one = heard_closed t.number t.limits t.hearings.since t.seen seen heard is_whole
+      (subst (λ (z : List ℕ × Bool). IsOverSo t.number t.limits t.hearings.since t.seen z.0 z.1) (λ i. (was i, whole i)) (over_now t.talking is.now)) adds in
       subst (λ (z : ℕ × Hearings). IsTalk (record { number = z.0; limits = t.limits; seen = seen; hearings = z.1; talking = None })) (λ i. (sym same i, sym entered i))
       (record { past = (refl, one, is.past); now = adds_none t.number seen })
 
@@ -272,12 +288,22 @@ refusal_adds n m (Err refused) seen after unless h = h
 pub some_talking : {X : Type 0} (f : X → TalkingState) (o : Option X) (x : X) → o ≡ Some x → option_map f o ≡ Some (f x)
 some_talking f o x is = ap (option_map f) is
 
+pub none_over : (o : Option Bool) → is_some o ≡ false → o ≡ None
+none_over None is = refl
+none_over (Some is_whole) bad = absurd cc
+
 pub none_talking : {X : Type 0} (f : X → TalkingState) (o : Option X) → is_some o ≡ false → is_some (option_map f o) ≡ false
 none_talking f None none = none
 none_talking f (Some x) none = none
 
 pub heard_some : {X : Type 0} (f : X → TalkingState) (o : Option X) (x : X) → o ≡ Some x → heard_of (option_map f o) ≡ (f x).heard
 heard_some f o x is = ap heard_of (some_talking f o x is)
+
+pub whole_some : {X : Type 0} (f : X → TalkingState) (o : Option X) (x : X) (is_whole : Bool) → o ≡ Some x → is_whole ≡ whole_by (f x).over (f x).has_units → whole_in (option_map f o) ≡ is_whole
+whole_some f o x is_whole is so = ap whole_in (some_talking f o x is) ∙ sym so
+
+pub whole_none : {X : Type 0} (f : X → TalkingState) (o : Option X) → o ≡ None → whole_in (option_map f o) ≡ true
+whole_none f o is = ap (λ p. whole_in (option_map f p)) is
 
 pub heard_none : {X : Type 0} (f : X → TalkingState) (o : Option X) → o ≡ None → heard_of (option_map f o) ≡ []
 heard_none f o is = ap (λ p. heard_of (option_map f p)) is

@@ -1,7 +1,7 @@
 -- What was read from a slot's connections, and what was handed in of that.
-use Rattle.std.specs.Prelude.{◌≡◌, ℕ, List, [], ◌∷◌, ◌++◌, Option, IfSome}
+use Rattle.std.specs.Prelude.{◌≡◌, ℕ, Bool, true, List, [], ◌∷◌, ◌++◌, Option, None, IfSome}
 use Rattle.gm_feeder.specs.declared.units.Limits.{Limits}
-use Rattle.gm_feeder.specs.Units.{Item}
+use Rattle.gm_feeder.specs.Units.{Item, Waits}
 use Rattle.gm_notes.specs.declared.event.UnitFault.{UnitFault}
 use Rattle.gm_notes.specs.Steps.{Close}
 use Rattle.gm_front.specs.Units.{steps_of, IsFaultAt, BeginsWith}
@@ -13,12 +13,12 @@ use Rattle.gm_session.specs.Sessions.{Adds}
 abbrev pub blank : Hearings
 blank = record { past = []; since = [] }
 
--- a connection more is gone, from which this was read
-abbrev pub closed : List Entry → List ℕ → Hearings → Hearings
-closed seen read hearings = record { past = record { since = hearings.since; until = seen; read = read } ∷ hearings.past; since = seen }
+-- a connection more is gone, from which this was read, of which all whole units were handed in or not
+abbrev pub closed : List Entry → List ℕ → Bool → Hearings → Hearings
+closed seen read is_whole hearings = record { past = record { since = hearings.since; until = seen; read = read; is_whole = is_whole } ∷ hearings.past; since = seen }
 
 -- What was handed in at the desk of slot n of such a connection: the first units of what was read from it, in order, then the fault behind
--- them or none, and its closing.
+-- them or none, and its closing. If it is said that these are all, no whole unit is left, and there was no fault.
 pub record IsHeard (n : ℕ) (limits : Limits) (heard : Heard) : Type 0 where
   pub items : List Item
   pub rest : List ℕ
@@ -26,6 +26,7 @@ pub record IsHeard (n : ℕ) (limits : Limits) (heard : Heard) : Type 0 where
   pub begins : BeginsWith limits heard.read items rest
   pub stands : IfSome fault (λ fault. IsFaultAt limits rest fault)
   pub adds : Adds n (steps_of n items fault ++ Close n ∷ []) heard.since heard.until
+  pub whole : heard.is_whole ≡ true → (fault ≡ None) × Waits limits rest
 
 -- All that the desk of slot n had handed in when it had seen this: what was handed in of each connection, one after another.
 abbrev pub AreHeard : ℕ → Limits → List Heard → List Entry → Type 0

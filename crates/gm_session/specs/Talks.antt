@@ -1,5 +1,5 @@
 -- A slot's desk, and the session of its connection.
-use Rattle.std.specs.Prelude.{◌≡◌, ℕ, List, [], ◌++◌, Bool, true, false, Option, Some, None, Result, Ok, Err}
+use Rattle.std.specs.Prelude.{◌≡◌, ℕ, List, [], ◌++◌, Bool, true, false, not, Option, Some, None, Result, Ok, Err}
 use Rattle.gm_feeder.specs.declared.units.Limits.{Limits}
 use Rattle.gm_feeder.specs.Units.{Waits}
 use Rattle.gm_feeder.specs.Streams.{Stream}
@@ -10,16 +10,17 @@ use Rattle.gm_shared.specs.declared.receipt.Receipt.{Receipt}
 use Rattle.gm_shared.specs.declared.tape.Entry.{Entry}
 use Rattle.gm_session.specs.declared.heard.Hearings.{Hearings}
 use Rattle.gm_session.specs.declared.session.SessionEnd.{SessionEnd}
+use Rattle.gm_session.specs.declared.session.SessionEnd.TheVariants as ends
 use Rattle.gm_session.specs.declared.session.Turn.{Turn}
 use Rattle.gm_session.specs.Hearings.{closed, AreHeard}
 use Rattle.gm_session.specs.Sessions.{Adds, HandsIn, Reads, may_leave}
 
--- the bytes of the session that make no unit yet, whether whole units may be left before them, whether the session is over, and all that was
--- read from the connection
+-- the bytes of the session that make no unit yet, whether whole units may be left before them; once the session is over, whether all whole units were
+-- handed in; and all that was read from the connection
 pub record TalkingState : Type 0 where
   pub stream : Stream
   pub has_units : Bool
-  pub is_over : Bool
+  pub over : Option Bool
   pub heard : List ℕ
 
 -- the slot's number, the limits of units, what the desk has seen of the history; the connection, if there is one, and the account of those
@@ -38,20 +39,21 @@ pub record GoesOnSo (n : ℕ) (limits : Limits) (since seen : List Entry) (t : T
   pub hands : HandsIn n n limits t.heard t.stream.pending None since seen
   pub waits : t.has_units ≡ false → Waits limits t.stream.pending
 
--- Once the session is over: the first units, in order, and then the fault behind them or none.
-pub record IsOverSo (n : ℕ) (limits : Limits) (since seen : List Entry) (heard : List ℕ) : Type 0 where
+-- Once the session is over: the first units, in order, and then the fault behind them or none. These are all, and there is no fault, if that is said.
+pub record IsOverSo (n : ℕ) (limits : Limits) (since seen : List Entry) (heard : List ℕ) (is_whole : Bool) : Type 0 where
   pub rest : List ℕ
   pub fault : Option UnitFault
   pub hands : HandsIn n n limits heard rest fault since seen
+  pub whole : is_whole ≡ true → (fault ≡ None) × Waits limits rest
 
-abbrev pub IsTalkingBy : Bool → ℕ → Limits → List Entry → List Entry → TalkingState → Type 0
-IsTalkingBy false n limits since seen t = GoesOnSo n limits since seen t
-IsTalkingBy true n limits since seen t = IsOverSo n limits since seen t.heard
+abbrev pub IsTalkingBy : Option Bool → ℕ → Limits → List Entry → List Entry → TalkingState → Type 0
+IsTalkingBy None n limits since seen t = GoesOnSo n limits since seen t
+IsTalkingBy (Some is_whole) n limits since seen t = IsOverSo n limits since seen t.heard is_whole
 
 -- with no connection nothing was handed in
 abbrev pub IsTalking : ℕ → Limits → List Entry → List Entry → Option TalkingState → Type 0
 IsTalking n limits since seen None = Adds n [] since seen
-IsTalking n limits since seen (Some t) = IsTalkingBy t.is_over n limits since seen t
+IsTalking n limits since seen (Some t) = IsTalkingBy t.over n limits since seen t
 
 pub record IsTalk (t : TalkState) : Type 0 where
   pub past : AreHeard t.number t.limits t.hearings.past t.hearings.since
@@ -60,17 +62,30 @@ pub record IsTalk (t : TalkState) : Type 0 where
 -- ---- a connection's way
 
 abbrev pub unread : Limits → TalkingState
-unread limits = record { stream = record { limits = limits; pending = []; fault = None }; has_units = false; is_over = false; heard = [] }
+unread limits = record { stream = record { limits = limits; pending = []; fault = None }; has_units = false; over = None; heard = [] }
 
 -- a connection came, of which nothing was read
 abbrev pub begun : TalkState → TalkState
 begun t = record t { talking = Some (unread t.limits) }
 
+-- whether all whole units were handed in where a session ended so
+abbrev pub ends_whole : SessionEnd → Bool
+ends_whole ends.Ended = true
+ends_whole ends.ReadFault = true
+ends_whole ends.Shut = false
+ends_whole ends.Memory = false
+ends_whole ends.Turns = true
+
+-- whether the session is over after a turn
+abbrev pub over_after : Result Turn SessionEnd → Option Bool
+over_after (Ok turn) = None
+over_after (Err end) = Some (ends_whole end)
+
 -- After a turn the session goes on; or it is over, and what was handed in since the slot was last closed is what was read since, as of a
 -- session that one thread reads to its end.
 abbrev pub Turns : Settings → Bool → Result Turn SessionEnd → TalkState → List Entry → TalkingState → TalkingState → Type 0
-Turns k taped (Ok turn) old seen t now = (now.is_over ≡ false) × (now.has_units ≡ may_leave turn)
-Turns k taped (Err end) old seen t now = (now.is_over ≡ true) × Reads k taped old.number old.number old.limits (Some now.heard) (Some []) end old.hearings.since seen
+Turns k taped (Ok turn) old seen t now = (now.over ≡ None) × (now.has_units ≡ may_leave turn)
+Turns k taped (Err end) old seen t now = (now.over ≡ Some (ends_whole end)) × Reads k taped old.number old.number old.limits (Some now.heard) (Some []) end old.hearings.since seen
 
 -- A piece was read, or none, and what was whole then had its turn.
 pub record Stepped (k : Settings) (taped : Bool) (result : Result Turn SessionEnd) (old new : TalkState) (t : TalkingState) : Type 0 where
@@ -80,19 +95,19 @@ pub record Stepped (k : Settings) (taped : Bool) (result : Result Turn SessionEn
   pub heard : now.heard ≡ t.heard ++ piece
   pub turns : Turns k taped result old new.seen t now
 
-abbrev pub SteppedUnless : Bool → Settings → Bool → Result Turn SessionEnd → TalkState → TalkState → TalkingState → Type 0
-SteppedUnless true k taped result old new t = new ≡ old
-SteppedUnless false k taped result old new t = Stepped k taped result old new t
+abbrev pub SteppedUnless : Option Bool → Settings → Bool → Result Turn SessionEnd → TalkState → TalkState → TalkingState → Type 0
+SteppedUnless (Some is_whole) k taped result old new t = new ≡ old
+SteppedUnless None k taped result old new t = Stepped k taped result old new t
 
 -- nothing is read where there is no session any more
 abbrev pub StepsOn : Option TalkingState → Settings → Bool → Result Turn SessionEnd → TalkState → TalkState → Type 0
 StepsOn None k taped result old new = new ≡ old
-StepsOn (Some t) k taped result old new = SteppedUnless t.is_over k taped result old new t
+StepsOn (Some t) k taped result old new = SteppedUnless t.over k taped result old new t
 
--- The session is over, and some bytes more were read, of which nothing is handed in.
+-- The session is over, and some bytes more were read, of which nothing is handed in, so that whole units may be left.
 pub record Discarded (old new : TalkState) (t : TalkingState) : Type 0 where
   pub piece : List ℕ
-  pub new_is : new ≡ record old { talking = Some record t { is_over = true; heard = t.heard ++ piece } }
+  pub new_is : new ≡ record old { talking = Some record t { over = Some false; heard = t.heard ++ piece } }
 
 abbrev pub Discards : Option TalkingState → TalkState → TalkState → Type 0
 Discards None old new = new ≡ old
@@ -102,7 +117,16 @@ abbrev pub heard_of : Option TalkingState → List ℕ
 heard_of None = []
 heard_of (Some t) = t.heard
 
--- The connection is gone, and entered with all that was read from it; where the closing was refused nothing changed but what the desk has seen.
+abbrev pub whole_by : Option Bool → Bool → Bool
+whole_by None has_units = not has_units
+whole_by (Some is_whole) has_units = is_whole
+
+-- whether all whole units that were read were handed in
+abbrev pub whole_in : Option TalkingState → Bool
+whole_in None = true
+whole_in (Some t) = whole_by t.over t.has_units
+
+-- The connection is gone, and entered with all that was read from it, and whether all whole units of that were handed in; where the closing was refused nothing changed but what the desk has seen.
 abbrev pub Closes : Settings → Bool → Result Receipt ApplyError → TalkState → TalkState → Type 0
-Closes k taped (Ok receipt) old new = new ≡ record old { seen = new.seen; hearings = closed new.seen (heard_of old.talking) old.hearings; talking = None }
+Closes k taped (Ok receipt) old new = new ≡ record old { seen = new.seen; hearings = closed new.seen (heard_of old.talking) (whole_in old.talking) old.hearings; talking = None }
 Closes k taped (Err refused) old new = new ≡ record old { seen = new.seen }

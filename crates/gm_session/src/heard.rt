@@ -1,6 +1,6 @@
 //! What was read from connections, which only proofs know.
 
-ghost use Rattle.std.specs.Prelude.{◌≡◌, ◌++◌, [], Some, None, IfOk};
+ghost use Rattle.std.specs.Prelude.{◌≡◌, ◌++◌, [], Some, None, true, IfOk};
 ghost use Rattle.gm_session.specs.Hearings.{blank, closed};
 
 use gm_feeder::{Patience, Source};
@@ -113,13 +113,14 @@ impl<I: Source<Patience>> Source<Patience> for LoggedSource<I> {
     }
 }
 
-/// A connection that is gone: what its slot's desk had seen of the history when the one before it was closed, and when it was closed, and
-/// all that was read from it. No value is made.
+/// A connection that is gone: what its slot's desk had seen of the history when the one before it was closed, and when it was closed, all
+/// that was read from it, and whether all whole units of that were handed in. No value is made.
 #[derive(Drop)]
 pub struct Heard {
     pub since: LinkedList<Entry>,
     pub until: LinkedList<Entry>,
     pub read: LinkedList<u8>,
+    pub is_whole: bool,
 }
 
 /// A slot's connections that are gone, the newest first, and what its desk had seen when the last was closed. None but a blank one is
@@ -165,20 +166,21 @@ impl HearingLedger {
 
     /// Enters a connection that was closed at this desk before it was read.
     pub(crate) fn close_unheard<K: BookName>(&mut self, desk: &Desk<K>)
-        ensures { self.new ≡ closed desk.now.witness.seen [] self.old }
+        ensures { self.new ≡ closed desk.now.witness.seen [] true self.old }
     {
         self.cell.update::<Desk<K>, Brand>(desk);
     }
 
-    /// Enters a connection that was closed at this desk, with all that was read from it.
+    /// Enters a connection that was closed at this desk, with all that was read from it, and whether all whole units of that were handed in.
     pub(crate) fn close<K: BookName, I: Source<Patience>>(
         &mut self,
         desk: &Desk<K>,
         source: &LoggedSource<I>,
+        is_whole: bool,
     )
-        ensures { self.new ≡ closed desk.now.witness.seen source.now.2 self.old }
+        ensures { self.new ≡ closed desk.now.witness.seen source.now.2 is_whole self.old }
     {
         self.cell
-            .update::<(&Desk<K>, &LoggedSource<I>), Brand>(&(desk, source));
+            .update::<(&Desk<K>, &LoggedSource<I>, bool), Brand>(&(desk, source, is_whole));
     }
 }

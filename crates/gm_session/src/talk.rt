@@ -1,7 +1,7 @@
 //! A desk, with the session of its slot's connection.
 
 ghost use Rattle.std.specs.Prelude.{◌≡◌, ◌++◌, ℕ, List, [], Some, None, true, false, IfOk, IfErr, OnOk, OnErr, MatchBool};
-ghost use Rattle.std.specs.Result.{IsErrOf, MatchResult};
+ghost use Rattle.std.specs.Result.{IsErrOf};
 ghost use Rattle.std.specs.Io.KnownBytes.{IsAtEnd};
 ghost use Rattle.gm_notes.specs.Steps.{Close};
 ghost use Rattle.gm_shared.specs.Books.{NeedsNoMemory};
@@ -9,7 +9,7 @@ ghost use Rattle.gm_shared.specs.Calls.{Called};
 ghost use Rattle.gm_session.specs.Effects.{Keeps, Gathers};
 ghost use Rattle.gm_session.specs.Hearings.{blank};
 ghost use Rattle.gm_session.specs.Sessions.{Steps, may_leave};
-ghost use Rattle.gm_session.specs.Talks.{IsTalk, begun, StepsOn, Discards, Closes};
+ghost use Rattle.gm_session.specs.Talks.{IsTalk, begun, over_after, whole_by, StepsOn, Discards, Closes};
 
 use crate::applier::{Applier, Around};
 use crate::effects::Effects;
@@ -34,10 +34,22 @@ struct Talking<I: Source<Patience>> {
     source: LoggedSource<I>,
     /// The connection's peer, for operators.
     peer: Option<SocketAddr>,
-    /// The session is over: what still comes is dropped.
-    is_over: bool,
+    /// Once the session is over, whether all whole units that were read were handed in. What still comes is dropped then.
+    over: Option<bool>,
     /// Nothing is read any more.
     has_ended: bool,
+}
+
+impl<I: Source<Patience>> Talking<I> {
+    /// Whether all whole units that were read were handed in.
+    fn is_whole(&self) -> bool
+        ensures { result ≡ whole_by self.now.over self.now.session.has_units }
+    {
+        match self.over {
+            Some(is_whole) => is_whole,
+            None => !self.session.has_units,
+        }
+    }
 }
 
 /// A slot's desk, and the session of its connection, if there is one. Whichever threads go on with the session: what was handed in since
@@ -63,7 +75,7 @@ impl<K: BookName, I: Source<Patience>> Model for Talk<K, I> {
       limits = t.limits;
       seen = t.desk.desk.witness.seen;
       hearings = t.ledger;
-      talking = option_map (λ x. record { stream = x.session.feeder; has_units = x.session.has_units; is_over = x.is_over; heard = x.source.2 }) t.talking;
+      talking = option_map (λ x. record { stream = x.session.feeder; has_units = x.session.has_units; over = x.over; heard = x.source.2 }) t.talking;
     } };
 
     ghost invariant = { λ t. IsTalk (record {
@@ -71,8 +83,19 @@ impl<K: BookName, I: Source<Patience>> Model for Talk<K, I> {
       limits = t.limits;
       seen = t.desk.desk.witness.seen;
       hearings = t.ledger;
-      talking = option_map (λ x. record { stream = x.session.feeder; has_units = x.session.has_units; is_over = x.is_over; heard = x.source.2 }) t.talking;
+      talking = option_map (λ x. record { stream = x.session.feeder; has_units = x.session.has_units; over = x.over; heard = x.source.2 }) t.talking;
     }) };
+}
+
+/// Whether a session is over after a turn, and then whether all whole units were handed in.
+fn over_after(outcome: &Result<Turn, SessionEnd>) -> Option<bool>
+    ensures { result ≡ over_after outcome.now }
+{
+    match outcome {
+        Ok(_) => None,
+        Err(SessionEnd::Ended | SessionEnd::ReadFault | SessionEnd::Turns) => Some(true),
+        Err(SessionEnd::Shut | SessionEnd::Memory) => Some(false),
+    }
 }
 
 /// Goes on with a session at its desk.
@@ -87,7 +110,7 @@ fn step_on<K: BookName, R: Wait + Clock, G: Gate, I: Source<Patience>>(
         (I.remaining talking.old.source.0) (I.remaining talking.new.source.0) (Some talking.old.source.2) (Some talking.new.source.2) result
         desk.old.desk.witness.seen desk.new.desk.witness.seen talking.new.session.feeder }
     ensures units { IfOk result (λ turn. talking.new.session.has_units ≡ may_leave turn) }
-    ensures over { MatchResult result (λ _. talking.new.is_over ≡ false) (λ _. talking.new.is_over ≡ true) }
+    ensures over { talking.new.over ≡ over_after result }
     ensures gathers { Gathers K.settings K.taped desk.old.desk.number desk.old.desk.witness.seen effects.old desk.new.desk.witness.seen effects.new }
     ensures number { desk.new.desk.number ≡ desk.old.desk.number }
 {
@@ -103,7 +126,7 @@ fn step_on<K: BookName, R: Wait + Clock, G: Gate, I: Source<Patience>>(
         by,
         effects,
     );
-    talking.is_over = outcome.is_err();
+    talking.over = over_after(&outcome);
     outcome
 }
 
@@ -113,11 +136,11 @@ fn discard_on<I: Source<Patience>>(
     by: &Patience,
     room: &mut [u8],
 ) -> io::Result<usize>
-    ensures over { talking.new.is_over ≡ true }
+    ensures over { talking.new.over ≡ Some false }
     ensures heard { (piece : List ℕ) × (talking.new.source.2 ≡ talking.old.source.2 ++ piece) }
     ensures session { talking.new.session ≡ talking.old.session }
 {
-    talking.is_over = true;
+    talking.over = Some(false);
     match talking.source.read_by(by, room) {
         Ok(count) => Ok(count),
         Err(error) => Err(error),
@@ -166,7 +189,7 @@ impl<K: BookName, I: Source<Patience> + Drop> Talk<K, I> {
             session: Session::new(alloc, self.limits),
             source,
             peer,
-            is_over: false,
+            over: None,
             has_ended: false,
         });
         true
@@ -232,7 +255,7 @@ impl<K: BookName, I: Source<Patience> + Drop> Talk<K, I> {
     {
         // Modelled in models/polling.pml.
         match &mut self.talking {
-            Some(talking) if !talking.is_over => step_on(
+            Some(talking) if talking.over.is_none() => step_on(
                 &mut self.desk,
                 talking,
                 around,
@@ -269,7 +292,11 @@ impl<K: BookName, I: Source<Patience> + Drop> Talk<K, I> {
         let answer = self.desk.apply(rt, shared, Event::Close { slot }, effects);
         if answer.is_ok() {
             match self.talking.take() {
-                Some(talking) => self.ledger.close(&self.desk.desk, &talking.source),
+                Some(talking) => {
+                    let is_whole = talking.is_whole();
+                    self.ledger
+                        .close(&self.desk.desk, &talking.source, is_whole);
+                }
                 None => self.ledger.close_unheard(&self.desk.desk),
             }
         }

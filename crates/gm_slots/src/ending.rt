@@ -107,6 +107,13 @@ fn are_closed(core: &Core, slots: u32) -> bool
     true
 }
 
+/// Whether these are the same limits.
+fn are_same(limits: Limits, others: Limits) -> bool
+    ensures { MatchBool result (limits ≡ others) (limits ≡ others → ⊥) }
+{
+    limits == others
+}
+
 /// Whether each account has these limits, and says that its slot was opened as often as this, and that can be told.
 fn are_counted(openings: &Openings, accounts: &[Account], slots: u32, limits: Limits) -> bool
     requires { length accounts.now ≡ slots }
@@ -116,7 +123,7 @@ fn are_counted(openings: &Openings, accounts: &[Account], slots: u32, limits: Li
         let Some(account) = accounts.get(slot as usize) else {
             unreachable!()
         };
-        if account.limits != limits
+        if !are_same(account.limits, limits)
             || account.openings == u64::MAX
             || account.openings != openings.of(slot)
         {

@@ -66,7 +66,7 @@ impl<'s, K: BookName> ServerState<'s, K> {
 
     /// Settles the book, once no thread has any part of it. This many connections were opened.
     pub(crate) fn settle(self, connections: u64) -> Result<Served, AllocError>
-        ensures { IfOk result (λ served. SettledSo K.settings K.taped self.service.now.limits K.history served.book served.accounts.items) }
+        ensures { IfOk result (λ served. SettledSo K.settings K.taped self.entry.service.now.limits K.history served.book served.accounts.items) }
     {
         let ServerState {
             alloc,
