@@ -23,7 +23,7 @@ use Rattle.gm_core.specs.Holds.{name_at, limit_named, jobs_named, HoldsConns, Ho
 use Rattle.gm_core.proofs.ConnLemmas.{touched_same}
 use Rattle.gm_core.proofs.FunctionLemmas.{number_is, some_same, is_none_of, known, anew}
 use Rattle.gm_core.proofs.MentionLemmas.{number_here}
-use Rattle.gm_core.proofs.CoreLemmas.{OnlyFunctions, goes_functions, goes_as, goes_nothing, goes_mention}
+use Rattle.gm_core.proofs.CoreLemmas.{goes_functions, goes_as, goes_nothing, goes_mention}
 
 -- ---- the mode
 
@@ -128,17 +128,17 @@ jobs_limited {k} {table} {live} {is_open} {facts} limits holds = record {
   room = holds.room;
 }
 
-pub goes_limit : (old new : Tables) (name : List ℕ) (f size : ℕ) → OnlyFunctions old new → number_of name old.functions ≡ Some f → SetsLimit f size old.functions new.functions
-    → Goes old new (with_note (Limit name size))
-goes_limit old new name f size only at changes =
-    goes_functions old new (with_note (Limit name size)) only
+pub goes_limit : (old : Tables) (new : Table) (name : List ℕ) (f size : ℕ) → number_of name old.functions ≡ Some f → SetsLimit f size old.functions new
+    → Goes old (record old { functions = new }) (with_note (Limit name size))
+goes_limit old new name f size at changes =
+    goes_functions old new (with_note (Limit name size))
     (λ p keeps.
-    let same : record old.functions { limits = new.functions.limits } ≡ new.functions =
-    (λ i. record { seed = sym changes.seed i; most = sym changes.most i; names = sym changes.names i; limits = new.functions.limits; queues = sym changes.queues i }) in
+    let same : record old.functions { limits = new.limits } ≡ new =
+    (λ i. record { seed = sym changes.seed i; most = sym changes.most i; names = sym changes.names i; limits = new.limits; queues = sym changes.queues i }) in
     record {
       conns = subst (λ (l : List (List ℕ)). HoldsConns old.config old.conns l (conn_facts p.notes) (λ c. waiting c p.flow)) (sym changes.names) keeps.conns;
-      functions = functions_limited old.functions new.functions name f size at changes old.config p.notes keeps.functions;
-      jobs = subst (λ (t : Table). HoldsJobs old.config t old.jobs (conn_facts p.notes).is_open (job_facts p.notes)) same (jobs_limited new.functions.limits keeps.jobs);
+      functions = functions_limited old.functions new name f size at changes old.config p.notes keeps.functions;
+      jobs = subst (λ (t : Table). HoldsJobs old.config t old.jobs (conn_facts p.notes).is_open (job_facts p.notes)) same (jobs_limited new.limits keeps.jobs);
       moment = keeps.moment;
       mode = keeps.mode;
     })
@@ -148,22 +148,21 @@ goes_limit old new name f size only at changes =
 is_some_of : {A : Type 0} (o : Option A) (x : A) → o ≡ Some x → IsSome o
 is_some_of o x e = ap is_some e
 
-pub goes_mentioned : (old new : Tables) (name : List ℕ) (f : ℕ) → OnlyFunctions old new → number_of name new.functions ≡ Some f
-    → (IsSome (number_of name old.functions) → new.functions ≡ old.functions)
-    → (IsNone (number_of name old.functions) → ChangesNames (old.functions.names ++ name ∷ []) old.functions new.functions)
-    → (IsNone (number_of name old.functions) → IsFree f new.functions)
+pub goes_mentioned : (old : Tables) (new : Table) (name : List ℕ) (f : ℕ) → number_of name new ≡ Some f → (IsSome (number_of name old.functions) → new ≡ old.functions)
+    → (IsNone (number_of name old.functions) → ChangesNames (old.functions.names ++ name ∷ []) old.functions new)
+    → (IsNone (number_of name old.functions) → IsFree f new)
     → (IsNone (number_of name old.functions) → length old.functions.names ≢ old.functions.most)
-    → Goes old new (with_mention name)
-goes_mentioned old new name f only found stays fresh free room = by (number_of name old.functions) refl
+    → Goes old (record old { functions = new }) (with_mention name)
+goes_mentioned old new name f found stays fresh free room = by (number_of name old.functions) refl
   where
-    by : (o : Option ℕ) → number_of name old.functions ≡ o → Goes old new (with_mention name)
+    by : (o : Option ℕ) → number_of name old.functions ≡ o → Goes old (record old { functions = new }) (with_mention name)
     by (Some g) e =
-        goes_as (with_mention name) (goes_nothing only.config only.conns (stays (is_some_of (number_of name old.functions) g e)) only.jobs only.moment only.mode)
+        goes_as (with_mention name) (goes_nothing refl refl (stays (is_some_of (number_of name old.functions) g e)) refl refl refl)
         (λ p keeps. let there = known old.config old.functions p.notes keeps.functions name g e in rw there refl)
     by None e =
         let none = is_none_of (number_of name old.functions) e in
-        let here : f ≡ length old.functions.names = some_same f (length old.functions.names) (sym found ∙ number_here old.functions new.functions name e (fresh none)) in
-        goes_as (with_mention name) (goes_mention old new name only e (fresh none) (subst (λ g. IsFree g new.functions) here (free none)) (room none))
+        let here : f ≡ length old.functions.names = some_same f (length old.functions.names) (sym found ∙ number_here old.functions new name e (fresh none)) in
+        goes_as (with_mention name) (goes_mention old new name e (fresh none) (subst (λ g. IsFree g new) here (free none)) (room none))
         (λ p keeps. let absent = anew old.config old.functions p.notes keeps.functions name e in rw absent refl)
 
 -- ---- connections that are shut, one after another

@@ -30,6 +30,7 @@ use Rattle.gm_queues.specs.FunctionTables as queues
 use Rattle.gm_jobs.specs.Tables as jobs
 use Rattle.gm_notes.specs.declared.states.Mode.{Mode}
 use Rattle.gm_core.specs.declared.server.Tables.{Tables}
+use Rattle.gm_core.specs.Writing.{Text}
 use Rattle.gm_core.specs.Facts.{Seen, seen, conn_facts, function_facts, job_facts}
 use Rattle.gm_core.specs.Holds.{Holds, Keeps, IsKept, NamesFunctions, ability_named, shown, HoldsConns, HoldsFunctions, HoldsJobs}
 use Rattle.gm_core.specs.Holds.{AllTouched, Goes, Does, Makes}
@@ -208,6 +209,13 @@ module _ {old new : Tables} (c : ℕ) (only : OnlyConns old new) where
       goes_conn c (lemmas.with_id id) unpoured (with_note (Named c id)) only changes (touched_apart c (λ x. refl) changes) (λ p keeps. record { opens = λ x. refl; shown = λ x able. refl; waiting = λ x. refl; able = λ x able. able })
       (record { opens = λ p. refl; seen = λ p d. id_seen id (d == c) (seen d p.notes); waiting = λ p d. same_here (d == c) (waiting d p.flow); functions = λ p. refl; jobs = λ p. refl; moment = λ p. refl; mode = λ p. refl })
 
+-- room is made for bytes, and then they are queued
+pub goes_queued : (old : Tables) (ready told : tables.Table) (text : Text) (c n cost : ℕ) (bytes : List ℕ) → Changes c (conns.with_room n) false old.conns ready
+    → Changes c (conns.with_bytes bytes cost) true ready told → Goes old (record old { conns = told; text = text }) (with_output c bytes)
+goes_queued old ready told text c n cost bytes room put =
+    goes_then (goes_room {old = old} {new = record old { conns = ready }} c (record { config = refl; functions = refl; jobs = refl; moment = refl; mode = refl }) n room)
+    (goes_printed {old = record old { conns = ready }} {new = record old { conns = told; text = text }} c (record { config = refl; functions = refl; jobs = refl; moment = refl; mode = refl }) bytes cost put)
+
 pub does_set_id : (old new : Tables) (told : Bool) (c : ℕ) (id : List ℕ) (result : Result (Unit {0}) AllocError) → OnlyConns old new
     → OnOk result (Changes c (conns.with_id id) told old.conns new.conns) → OnErr result (new.conns ≡ old.conns) → Does old result new (with_note (Named c id))
 does_set_id old new told c id (Ok done) only ok err = goes_named c only id ok
@@ -275,48 +283,31 @@ goes_cant_unknown core c name none = record {
 
 -- ---- functions
 
--- only the functions of a core changed
-pub record OnlyFunctions (old new : Tables) : Type 0 where
-  pub config : new.config ≡ old.config
-  pub conns : new.conns ≡ old.conns
-  pub jobs : new.jobs ≡ old.jobs
-  pub moment : new.moment ≡ old.moment
-  pub mode : new.mode ≡ old.mode
+pub goes_functions : (old : Tables) (functions : queues.Table) (step : Past → Past)
+    → ((p : Past) → Keeps old p → Holds old.config old.conns functions old.jobs old.moment old.mode (step p)) → Goes old (record old { functions = functions }) step
+goes_functions old functions step holds = record { config = refl; others = touched_same refl; past = holds }
 
-pub goes_functions : (old new : Tables) (step : Past → Past) → OnlyFunctions old new
-    → ((p : Past) → Keeps old p → Holds old.config old.conns new.functions old.jobs old.moment old.mode (step p)) → Goes old new step
-goes_functions old new step only holds = record {
-  config = only.config;
-  others = touched_same only.conns;
-  past = λ p keeps.
-      subst (λ x. Holds new.config new.conns new.functions new.jobs new.moment x (step p)) (sym only.mode)
-      (subst (λ x. Holds new.config new.conns new.functions new.jobs x old.mode (step p)) (sym only.moment)
-      (subst (λ x. Holds new.config new.conns new.functions x old.moment old.mode (step p)) (sym only.jobs)
-      (subst (λ x. Holds new.config x new.functions old.jobs old.moment old.mode (step p)) (sym only.conns)
-      (subst (λ x. Holds x old.conns new.functions old.jobs old.moment old.mode (step p)) (sym only.config) (holds p keeps)))));
-}
-
-pub goes_mention : (old new : Tables) (name : List ℕ) → OnlyFunctions old new → number_of name old.functions ≡ None
-    → ChangesNames (old.functions.names ++ name ∷ []) old.functions new.functions → IsFree (length old.functions.names) new.functions
-    → length old.functions.names ≢ old.functions.most → Goes old new (with_note (Mention name))
-goes_mention old new name only none changes free room =
-    goes_functions old new (with_note (Mention name)) only
+pub goes_mention : (old : Tables) (new : queues.Table) (name : List ℕ) → number_of name old.functions ≡ None
+    → ChangesNames (old.functions.names ++ name ∷ []) old.functions new → IsFree (length old.functions.names) new
+    → length old.functions.names ≢ old.functions.most → Goes old (record old { functions = new }) (with_note (Mention name))
+goes_mention old new name none changes free room =
+    goes_functions old new (with_note (Mention name))
     (λ p keeps. record {
       conns = subst (λ (l : List (List ℕ)). HoldsConns old.config old.conns l (conn_facts p.notes) (λ c. waiting c p.flow)) (sym changes.names) (conns_mention name keeps.conns);
-      functions = functions_mention old.config old.functions new.functions name none changes free p.notes room keeps.functions;
-      jobs = jobs_mention old.config old.functions new.functions name none changes free old.jobs (conn_facts p.notes).is_open (job_facts p.notes) (function_facts p.notes) keeps.functions keeps.jobs;
+      functions = functions_mention old.config old.functions new name none changes free p.notes room keeps.functions;
+      jobs = jobs_mention old.config old.functions new name none changes free old.jobs (conn_facts p.notes).is_open (job_facts p.notes) (function_facts p.notes) keeps.functions keeps.jobs;
       moment = keeps.moment;
       mode = keeps.mode;
     })
 
 -- a function was mentioned and taken back
-pub goes_back : (old new : Tables) → OnlyFunctions old new → Same old.functions new.functions → Goes old new (λ past. past)
-goes_back old new only same =
-    goes_functions old new (λ past. past) only
+pub goes_back : (old : Tables) (new : queues.Table) → Same old.functions new → Goes old (record old { functions = new }) (λ past. past)
+goes_back old new same =
+    goes_functions old new (λ past. past)
     (λ p keeps. record {
       conns = subst (λ (l : List (List ℕ)). HoldsConns old.config old.conns l (conn_facts p.notes) (λ c. waiting c p.flow)) (sym same.names) keeps.conns;
-      functions = functions_same old.config old.functions new.functions same keeps.functions;
-      jobs = jobs_held_same old.config old.functions new.functions same keeps.jobs;
+      functions = functions_same old.config old.functions new same keeps.functions;
+      jobs = jobs_held_same old.config old.functions new same keeps.jobs;
       moment = keeps.moment;
       mode = keeps.mode;
     })
@@ -338,38 +329,18 @@ beside_none (Some found) c p e = absurd cc
 
 -- ---- jobs
 
--- only the jobs of a core changed
-pub record OnlyJobs (old new : Tables) : Type 0 where
-  pub config : new.config ≡ old.config
-  pub conns : new.conns ≡ old.conns
-  pub functions : new.functions ≡ old.functions
-  pub moment : new.moment ≡ old.moment
-  pub mode : new.mode ≡ old.mode
+pub goes_jobs : (old : Tables) (new : jobs.Table) (step : Past → Past)
+    → ((p : Past) → Keeps old p → Holds old.config old.conns old.functions new old.moment old.mode (step p)) → Goes old (record old { jobs = new }) step
+goes_jobs old new step holds = record { config = refl; others = touched_same refl; past = holds }
 
-pub goes_jobs : (old new : Tables) (step : Past → Past) → OnlyJobs old new
-    → ((p : Past) → Keeps old p → Holds old.config old.conns old.functions new.jobs old.moment old.mode (step p)) → Goes old new step
-goes_jobs old new step only holds = record {
-  config = only.config;
-  others = touched_same only.conns;
-  past = λ p keeps.
-      subst (λ x. Holds new.config new.conns new.functions new.jobs new.moment x (step p)) (sym only.mode)
-      (subst (λ x. Holds new.config new.conns new.functions new.jobs x old.mode (step p)) (sym only.moment)
-      (subst (λ x. Holds new.config new.conns x new.jobs old.moment old.mode (step p)) (sym only.functions)
-      (subst (λ x. Holds new.config x old.functions new.jobs old.moment old.mode (step p)) (sym only.conns)
-      (subst (λ x. Holds x old.conns old.functions new.jobs old.moment old.mode (step p)) (sym only.config) (holds p keeps)))));
-}
-
-pub goes_kept : (old new : Tables) (n : ℕ) → OnlyJobs old new → jobs.Changes n Rattle.gm_jobs.specs.Live.kept old.jobs new.jobs → Goes old new (with_note (Kept n))
-goes_kept old new n only changes =
-    goes_jobs old new (with_note (Kept n)) only
+pub goes_kept : (old : Tables) (new : jobs.Table) (n : ℕ) → jobs.Changes n Rattle.gm_jobs.specs.Live.kept old.jobs new → Goes old (record old { jobs = new }) (with_note (Kept n))
+goes_kept old new n changes =
+    goes_jobs old new (with_note (Kept n))
     (λ p keeps. record { conns = keeps.conns; functions = keeps.functions; jobs = jobs_kept p.notes n changes keeps.jobs; moment = keeps.moment; mode = keeps.mode })
 
-pub goes_listens : (old new : Tables) (n c : ℕ) → OnlyJobs old new → IsOpen old.conns c → jobs.Changes n (Rattle.gm_jobs.specs.Live.with_listener c) old.jobs new.jobs → Goes old new (with_note (Listens n c))
-goes_listens old new n c only opened changes =
-    goes_jobs old new (with_note (Listens n c)) only
-    (λ p keeps. record { conns = keeps.conns; functions = keeps.functions; jobs = jobs_listen p.notes n c changes (open_is keeps c opened) keeps.jobs; moment = keeps.moment; mode = keeps.mode })
-
-pub does_listen : (old new : Tables) (n c : ℕ) (result : Result (Unit {0}) AllocError) → OnlyJobs old new → IsOpen old.conns c
-    → OnOk result (jobs.Changes n (Rattle.gm_jobs.specs.Live.with_listener c) old.jobs new.jobs) → OnErr result (new.jobs ≡ old.jobs) → Does old result new (with_note (Listens n c))
-does_listen old new n c (Ok done) only opened ok err = goes_listens old new n c only opened ok
-does_listen old new n c (Err wanting) only opened ok err = goes_nothing only.config only.conns only.functions err only.moment only.mode
+pub does_listen : (old : Tables) (new : jobs.Table) (n c : ℕ) (result : Result (Unit {0}) AllocError) → IsOpen old.conns c
+    → OnOk result (jobs.Changes n (Rattle.gm_jobs.specs.Live.with_listener c) old.jobs new) → OnErr result (new ≡ old.jobs) → Does old result (record old { jobs = new }) (with_note (Listens n c))
+does_listen old new n c (Ok done) opened ok err =
+    goes_jobs old new (with_note (Listens n c))
+    (λ p keeps. record { conns = keeps.conns; functions = keeps.functions; jobs = jobs_listen p.notes n c ok (open_is keeps c opened) keeps.jobs; moment = keeps.moment; mode = keeps.mode })
+does_listen old new n c (Err wanting) opened ok err = goes_nothing refl refl refl err refl refl

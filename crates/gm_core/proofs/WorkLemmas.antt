@@ -16,7 +16,6 @@ use Rattle.gm_notes.specs.JobStates.{is_running_at}
 use Rattle.gm_notes.specs.Past.{Past, with_note, refuse, tell_all}
 use Rattle.gm_notes.specs.Workers.{Work, hearers, keep_report, end_if, tell_work, work_on}
 use Rattle.gm_queues.specs.FunctionTables as queues
-use Rattle.gm_conns.specs.ConnTables.{conn}
 use Rattle.gm_conns.specs.ConnTables as conns
 use Rattle.gm_jobs.specs.Live.{Live, reported}
 use Rattle.gm_jobs.specs.Tables.{Table, job, listeners_of, Changes}
@@ -29,7 +28,7 @@ use Rattle.gm_core.proofs.TellLemmas.{touched_roomed, holds_roomed, poured_is, t
 use Rattle.gm_core.proofs.JobLemmas.{quietly, turned}
 use Rattle.gm_core.proofs.FunctionLemmas.{some_same}
 use Rattle.gm_core.proofs.OnceLemmas.{filter_alike}
-use Rattle.gm_core.proofs.CoreLemmas.{OnlyConns, goes_then, OnlyJobs, goes_jobs, goes_nothing}
+use Rattle.gm_core.proofs.CoreLemmas.{OnlyConns, goes_then, goes_jobs, goes_nothing}
 use Rattle.gm_core.proofs.Running.{running}
 
 -- ---- reports
@@ -55,12 +54,12 @@ jobs_reported {k} {functions} {old} {new} {is_open} notes n a b changes holds =
     quietly {facts = job_facts notes} {now = job_facts (Report n a b ∷ notes)} n (reported a b) changes (λ l. refl) refl refl refl refl refl
     (λ m l is. reported_each functions.names notes is_open n m a b (n == m) l refl is) holds
 
-pub does_report : (old new : Tables) (n : ℕ) (a b : List ℕ) (result : Result (Unit {0}) AllocError) → OnlyJobs old new
-    → OnOk result (Changes n (reported a b) old.jobs new.jobs) → OnErr result (new.jobs ≡ old.jobs) → Does old result new (with_note (Report n a b))
-does_report old new n a b (Ok done) only ok err =
-    goes_jobs old new (with_note (Report n a b)) only
+pub does_report : (old : Tables) (new : Table) (n : ℕ) (a b : List ℕ) (result : Result (Unit {0}) AllocError) → OnOk result (Changes n (reported a b) old.jobs new)
+    → OnErr result (new ≡ old.jobs) → Does old result (record old { jobs = new }) (with_note (Report n a b))
+does_report old new n a b (Ok done) ok err =
+    goes_jobs old new (with_note (Report n a b))
     (λ p keeps. record { conns = keeps.conns; functions = keeps.functions; jobs = jobs_reported p.notes n a b ok keeps.jobs; moment = keeps.moment; mode = keeps.mode })
-does_report old new n a b (Err wanting) only ok err = goes_nothing only.config only.conns only.functions err only.moment only.mode
+does_report old new n a b (Err wanting) ok err = goes_nothing refl refl refl err refl refl
 
 -- a report changes no listeners
 pub reported_listeners : (old new : Table) (n : ℕ) (a b : List ℕ) (result : Result (Unit {0}) AllocError) → OnOk result (Changes n (reported a b) old new) → OnErr result (new ≡ old)

@@ -16,7 +16,7 @@ use Rattle.gm_notes.specs.Past.{Past, with_note}
 use Rattle.gm_notes.specs.Workers.{wake_if}
 use Rattle.gm_notes.specs.Steps.{Step, made_since}
 use Rattle.gm_conns.specs.Connections.{Connection}
-use Rattle.gm_conns.specs.ConnTables.{conn, is_touched, IsOpen}
+use Rattle.gm_conns.specs.ConnTables.{conn, is_touched}
 use Rattle.gm_conns.specs.ConnTables as conns
 use Rattle.gm_queues.specs.FunctionTables.{number_of, limit, queue}
 use Rattle.gm_queues.specs.FunctionTables as queues
@@ -27,8 +27,7 @@ use Rattle.gm_jobs.specs.Tables.{job, place, is_made}
 use Rattle.gm_jobs.specs.Tables as jobs
 use Rattle.gm_core.specs.declared.server.Tables.{Tables}
 use Rattle.gm_actions.specs.Effects.{Changes, Agrees}
-use Rattle.gm_notes.specs.Submissions.{Submission, is_bad_name, keep_or_listen}
-use Rattle.gm_core.specs.Writing.{CanBePut}
+use Rattle.gm_notes.specs.Submissions.{Submission, keep_or_listen}
 use Rattle.gm_core.specs.Facts.{Seen, ConnFacts, FunctionFacts, JobFacts, conn_facts, function_facts, job_facts, queued, running_with}
 
 -- ---- connections
@@ -172,20 +171,6 @@ pub record AllTouched (old new : conns.Table) : Type 0 where
 abbrev pub TouchesAll : Tables → Tables → Type 0
 TouchesAll old new = AllTouched old.conns new.conns
 
--- the functions, the jobs and the moment stay
-pub record KeepsTables (old new : Tables) : Type 0 where
-  pub functions : new.functions ≡ old.functions
-  pub jobs : new.jobs ≡ old.jobs
-  pub moment : new.moment ≡ old.moment
-
--- all stays but the functions and the jobs
-pub record KeepsRest (old new : Tables) : Type 0 where
-  pub config : new.config ≡ old.config
-  pub conns : new.conns ≡ old.conns
-  pub text : new.text ≡ old.text
-  pub moment : new.moment ≡ old.moment
-  pub mode : new.mode ≡ old.mode
-
 abbrev pub config_of : Tables → Settings
 config_of core = core.config
 
@@ -193,22 +178,10 @@ config_of core = core.config
 abbrev pub Goes : Tables → Tables → (Past → Past) → Type 0
 Goes old new change = Changes config_of Keeps TouchesAll old new change
 
--- what was written can be queued to a slot
-pub record CanSend (tables : Tables) (c : ℕ) : Type 0 where
-  pub opened : IsOpen tables.conns c
-  pub room : tables.text.cost ≤ (conn tables.conns c).room
-  pub owned : CanBePut 1 tables.text
-
--- a function of this name can be mentioned, and wasn't yet
-pub record IsNewName (tables : Tables) (name : List ℕ) : Type 0 where
-  pub named : is_bad_name name ≡ false
-  pub unknown : number_of name tables.functions ≡ None
-  pub room : length tables.functions.names < tables.config.max_functions
-
--- functions and jobs are as before; only the room that is reserved for a job may be another
-pub record AddsNone (old new : Tables) : Type 0 where
+-- no job was made: the functions stay, and with these or any others the past stays
+pub record MakesNone (old new : Tables) : Type 0 where
   pub functions : new.functions ≡ old.functions
-  pub jobs : new.jobs ≡ record old.jobs { room = new.jobs.room }
+  pub goes : (functions : queues.Table) → Goes (record old { functions = functions }) (record new { functions = functions }) (λ past. past)
 
 -- a call that ran out of memory changes nothing
 abbrev pub if_ok : {A E : Type 0} → Result A E → (Past → Past) → Past → Past

@@ -269,10 +269,6 @@ module _ (limit : ℕ) (l : Live) where
       by true = lost_same
       by false = returned_same
 
-  -- where it isn't lost it waits
-  pub given_back_waits : is_last_try limit l ≡ false → waits (given_back limit l).live_place ≡ true
-  given_back_waits e = ap (λ b. waits (if b then lost l else returned limit l).live_place) e
-
   -- it runs nowhere, and the same slots listen
   pub given_back_found : (index : HintTable) (n : ℕ) → (is_orphan (given_back limit l) ≡ true → IsHinted index.orphans n) → (q : Query) → meets q (given_back limit l) ≡ true → (meets q l ≡ true) ⊎ IsHinted (hints_of index q) n
   given_back_found index n orphan Orphan h = inr (orphan h)
@@ -285,21 +281,6 @@ module _ (limit : ℕ) (l : Live) where
   given_back_found index n orphan (Due now) h = inr (λ e. absurd (false≢true e))
   given_back_found index n orphan Started h = inr (λ e. absurd (false≢true e))
   given_back_found index n orphan Lives h = inl refl
-
-  -- a job that is lost doesn't wait
-  pub lost_wanted : is_last_try limit l ≡ true → is_orphan (given_back limit l) ≡ true → ⊥
-  lost_wanted e h = false≢true (ap (λ b. is_orphan (if b then lost l else returned limit l)) (sym e) ∙ h)
-
--- the deadlines of the others are listed, and it has none that counts
-pub listed_given_back : (n limit : ℕ) (old new : List (ℕ × Live)) (deadlines : DeadlineTable) → ChangesJob n (given_back limit) old new → AllListed old deadlines
-    → passes (is_last_try limit) (find_job old n) ≡ false → AllListed new deadlines
-listed_given_back n limit old new deadlines change all more m live found = by (cases_eq m n)
-  where
-    by : (m ≡ n) ⊎ (m ≡ n → ⊥) → IsListed deadlines m live
-    by (inr ne) = listed_others n (given_back limit) old new change deadlines all m live ne found
-    by (inl e) = λ whole d runs until.
-        let was = mapped n (given_back limit) old new change (find_job old n) live (sym (this_job n (given_back limit) old new change) ∙ ap (find_job new) (sym e) ∙ found) in
-        absurd (true≢false (sym (given_back_waits limit was.0 (sym (ap (passes (is_last_try limit)) was.1) ∙ more)) ∙ ap (λ (x : Live). waits x.live_place) was.2 ∙ runs))
 
 -- ---- a slot leaves
 

@@ -7,8 +7,8 @@ use Rattle.std.specs.declared.hash.RandomState.{RandomState}
 use Rattle.gm_notes.specs.declared.states.Place.{Place}
 use Rattle.gm_notes.specs.declared.states.Place.TheVariants.{Unmade, Gone}
 use Rattle.gm_notes.specs.Jobs.{joins}
-use Rattle.gm_jobs.specs.declared.surface.Back.{Back}
-use Rattle.gm_jobs.specs.declared.surface.Back.TheVariants as backs
+use Rattle.gm_jobs.specs.declared.jobs.Back.{Back}
+use Rattle.gm_jobs.specs.declared.jobs.Back.TheVariants as backs
 use Rattle.gm_jobs.specs.declared.uniques.Vacancy.{Vacancy}
 use Rattle.gm_jobs.specs.Live.{Live, place_at, is_named, without_listener}
 use Rattle.gm_jobs.specs.Uniques.{digest_of}

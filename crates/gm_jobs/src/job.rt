@@ -15,7 +15,7 @@ use std::alloc::{AllocError, Global};
 use std::marker::Model;
 
 /// The deadline of a lost job: each tick has reached it.
-pub(crate) const AT_ONCE: u64 = 0;
+const AT_ONCE: u64 = 0;
 
 /// A job to be made: its function by number, and its first listener, if there is one.
 #[derive(Clone, Copy)]
@@ -292,9 +292,9 @@ impl Job {
         }
     }
 
-    /// Whether its worker is the last that it is given to, where a job is given to at most this many workers: it came
-    /// back from all but one of them before. A limit of 0 is none.
-    pub fn is_last_try(&self, limit: u32) -> bool
+    // Whether its worker is the last that it is given to, where a job is given to at most this many workers: it came
+    // back from all but one of them before. A limit of 0 is none.
+    fn is_last_try(&self, limit: u32) -> bool
         ensures { result ≡ is_last_try limit self.now }
     {
         limit != 0 && self.returns >= limit - 1

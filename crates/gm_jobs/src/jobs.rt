@@ -1,9 +1,9 @@
 //! The table of jobs.
 
 ghost use Rattle.std.specs.Prelude.{◌≡◌, ℕ, ◌+◌, ◌<◌, ◌≤◌, ◌^◌, ◌↔◌, Some, None, IsSome, true, false, IfSome, IfNone, IfOk, IfErr, OnOk, OnErr, Err, Contains, length};
-ghost use Rattle.std.specs.Option.{option_copied, unwrap_or};
-ghost use Rattle.gm_jobs.specs.Live.{AreCarried, fresh, assigned, given_back, kept, reported, with_listener, is_run_by, is_orphan, is_due, is_last_try};
-ghost use Rattle.gm_jobs.specs.Tables.{no_jobs, job, find_job, is_made, place, listeners_of, passes, IsNamed, IsVacant, HasRoom, with_room, Makes, Changes, Ends, Leaves, IsNext, IsLast};
+ghost use Rattle.std.specs.Option.{option_and_then, option_copied, unwrap_or};
+ghost use Rattle.gm_jobs.specs.Live.{Live, AreCarried, fresh, assigned, given_back, kept, reported, with_listener, is_run_by, is_orphan, is_due, is_last_try};
+ghost use Rattle.gm_jobs.specs.Tables.{no_jobs, job, find_job, is_made, place, listeners_of, passes, back_of, IsNamed, IsVacant, HasRoom, with_room, Makes, Changes, Ends, Leaves, IsNext, IsLast};
 ghost use Rattle.gm_jobs.specs.Deadlines.{AllListed};
 ghost use Rattle.gm_jobs.specs.Hints.{HintTable, AllFound};
 ghost use Rattle.gm_jobs.specs.Uniques.{LeadsTo};
@@ -11,7 +11,7 @@ ghost use Rattle.gm_jobs.specs.Uniques.{LeadsTo};
 use crate::by_number::JobMap;
 use crate::deadlines::Deadlines;
 use crate::index::Index;
-use crate::job::{AT_ONCE, Change, Job, NewJob, Query, Reservation};
+use crate::job::{Change, Job, NewJob, Query, Reservation};
 use crate::uniques::{Uniques, Vacancy, digest};
 use gm_bytes::SharedBytes;
 use gm_notes::{Place, is_joining};
@@ -36,6 +36,15 @@ impl From<AllocError> for JobError {
     fn from(_e: AllocError) -> JobError {
         JobError::Memory
     }
+}
+
+/// What became of a job that its worker gave back.
+#[derive(Clone, Copy, Debug, PartialEq, Eq)]
+pub enum Back {
+    /// It waits again.
+    Returned,
+    /// That was its last try: it runs at no slot, and the next tick fails it.
+    Lost,
 }
 
 /// The live jobs by their numbers.
@@ -88,6 +97,13 @@ fn make_room(
     uniques.reserve_one()
 }
 
+// Until when a job runs, if it is live and has a deadline.
+fn deadline_of(jobs: &JobMap, n: u64) -> Option<u64>
+    ensures { result ≡ option_and_then (λ (l : Live). l.deadline) (find_job jobs.now.entries n) }
+{
+    jobs.get(n)?.deadline()
+}
+
 impl Jobs {
     /// No jobs. The first to be made gets this number. Unique ids come from strangers, so the tables hash with
     /// this seed.
@@ -107,20 +123,21 @@ impl Jobs {
         })
     }
 
-    /// Makes room for one job more, of this function and with texts of at most these lengths. `NumbersSpent` comes
-    /// where the last number was given out, and otherwise `Memory` if out of memory.
-    pub fn reserve(&mut self, f: u32, unique_len: usize, body_len: usize) -> Result<(), JobError>
+    /// Makes room for one job more, of this function and with texts of at most these lengths, and gives its number.
+    /// `NumbersSpent` comes where the last number was given out, and otherwise `Memory` if out of memory.
+    pub fn reserve(&mut self, f: u32, unique_len: usize, body_len: usize) -> Result<u64, JobError>
         ensures spent { (result ≡ Err JobError.NumbersSpent) ↔ (self.old.next ≡ 2 ^ 64) }
+        ensures number { IfOk result (λ n. n ≡ self.old.next) }
         ensures ok { OnOk result (self.new ≡ with_room f unique_len body_len self.old) }
         ensures err { OnErr result (self.new ≡ self.old) }
     {
-        let Some(_number) = self.next else {
+        let Some(number) = self.next else {
             return Err(JobError::NumbersSpent);
         };
         let reservation = Reservation::new(self.alloc, f, unique_len, body_len)?;
         make_room(&mut self.jobs, &mut self.uniques, &mut self.deadlines)?;
         self.reservation = Some(reservation);
-        Ok(())
+        Ok(number)
     }
 
     /// Makes room for one job more to which a slot listens.
@@ -180,14 +197,6 @@ impl Jobs {
         }
     }
 
-    /// The number that the next job gets; none once the last was given out.
-    pub fn next_number(&self) -> Option<u64>
-        ensures some { IfSome result (λ n. n ≡ self.now.next) }
-        ensures none { IfNone result (self.now.next ≡ 2 ^ 64) }
-    {
-        self.next
-    }
-
     // Whether a job of this number was made.
     fn is_made(&self, n: u64) -> bool
         ensures { result ≡ is_made self.now n }
@@ -223,22 +232,21 @@ impl Jobs {
         self.index.put(Query::RunBy(slot), n);
     }
 
-    /// The job waits again, after a try that wasn't its last. A limit of 0 is none.
-    pub fn wait_again(&mut self, n: u64, limit: u32)
-        requires { passes (is_last_try limit) (job self.old n) ≡ false }
-        ensures { Changes n (given_back limit) self.old self.new }
+    /// The job waits again, or is lost if that was its last try: where a job is given to at most this many workers
+    /// and it came back from all but one of them before. A limit of 0 is none.
+    pub fn give_back(&mut self, n: u64, limit: u32) -> Back
+        ensures back { result ≡ back_of (passes (is_last_try limit) (job self.old n)) }
+        ensures changes { Changes n (given_back limit) self.old self.new }
     {
         let _changed = self.jobs.change(n, Change::GiveBack(limit));
+        let deadline = deadline_of(&self.jobs, n);
+        self.deadlines.enlist(&self.jobs, n, deadline);
         self.index.put_orphan(&self.jobs, n);
-    }
-
-    /// That was the job's last try: it runs at no slot, and the next tick fails it.
-    pub fn lose(&mut self, n: u64, limit: u32)
-        requires { passes (is_last_try limit) (job self.old n) ≡ true }
-        ensures { Changes n (given_back limit) self.old self.new }
-    {
-        let _changed = self.jobs.change(n, Change::GiveBack(limit));
-        self.deadlines.enlist(&self.jobs, n, Some(AT_ONCE));
+        // A job that waits has no deadline.
+        match deadline {
+            Some(_) => Back::Lost,
+            None => Back::Returned,
+        }
     }
 
     /// The job isn't live any more; gives what it was.

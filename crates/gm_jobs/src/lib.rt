@@ -18,6 +18,5 @@ mod surface;
 mod uniques;
 
 pub use job::{Job, NewJob};
-pub use jobs::{JobError, Jobs};
-pub use surface::Back;
+pub use jobs::{Back, JobError, Jobs};
 pub use uniques::Vacancy;

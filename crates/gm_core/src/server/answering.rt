@@ -40,17 +40,7 @@ pub(super) fn prepare(
 }
 
 impl Tables {
-    ghost use Rattle.gm_core.specs.Holds.{CanSend, KeepsTables, Goes, Does};
-
-    /// Queues the packet that was written to a slot, where there is room for it.
-    pub(super) fn send(&mut self, slot: u32)
-        requires { CanSend self.old slot }
-        ensures goes { Goes self.old self.new (with_output slot self.old.text.bytes) }
-        ensures open { IsOpen self.new.conns slot }
-        ensures tables { KeepsTables self.old self.new }
-    {
-        self.text.put(&mut self.conns, slot);
-    }
+    ghost use Rattle.gm_core.specs.Holds.{Does};
 
     /// Queues a packet to a slot; its last argument may be this body.
     pub(super) fn answer(
@@ -66,7 +56,7 @@ impl Tables {
         ensures open { IsOpen self.new.conns slot }
     {
         prepare(&mut self.conns, &mut self.text, slot, response, body)?;
-        self.send(slot);
+        self.text.put(&mut self.conns, slot);
         Ok(())
     }
 

@@ -54,7 +54,7 @@ impl Tables {
         let running = found.place().is_running();
         let response = known_status(text, running, report_of(found));
         prepare(&mut self.conns, &mut self.text, slot, &response, None)?;
-        self.send(slot);
+        self.text.put(&mut self.conns, slot);
         Ok(())
     }
 }

@@ -14,6 +14,7 @@ ghost use Rattle.gm_jobs.specs.Tables.{passes};
 ghost use Rattle.gm_jobs.specs.Tables as jobs;
 
 use super::Tables;
+use gm_jobs::Back;
 use gm_notes::{ApplyError, Done};
 
 impl Tables {
@@ -41,13 +42,15 @@ impl Tables {
         let found = self.jobs.by_number(job).unwrap();
         if !found.is_wanted() {
             let _ended = self.end(job);
-        } else if found.is_last_try(limit) {
-            self.jobs.lose(job, limit);
-        } else {
-            let (f, p) = (found.f(), found.p());
-            self.jobs.wait_again(job, limit);
-            self.functions.push(f, p, job);
-            self.wake(f);
+            return;
+        }
+        let (f, p) = (found.f(), found.p());
+        match self.jobs.give_back(job, limit) {
+            Back::Lost => {}
+            Back::Returned => {
+                self.functions.push(f, p, job);
+                self.wake(f);
+            }
         }
     }
 

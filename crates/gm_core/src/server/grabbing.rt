@@ -1,17 +1,13 @@
 //! Workers that ask for jobs.
 
-ghost use Rattle.std.specs.Prelude.{◌≡◌, ◌<◌, Some, IsSome, IfOk, OnOk, length, slice_get};
+ghost use Rattle.std.specs.Prelude.{◌≡◌, ◌<◌, Some, length, slice_get};
 ghost use Rattle.std.specs.Option.{option_map};
-ghost use Rattle.gm_packet.specs.Answers.{answer_packet};
 ghost use Rattle.gm_conns.specs.ConnTables.{IsOpen};
 ghost use Rattle.gm_queues.specs.FunctionTables.{waiting_for};
-ghost use Rattle.gm_jobs.specs.Live.{Live};
 ghost use Rattle.gm_jobs.specs.Tables as jobs;
-ghost use Rattle.gm_core.specs.Holds.{name_at};
 ghost use Rattle.gm_notes.specs.declared.note.Note.TheVariants.{Assigned};
-ghost use Rattle.gm_notes.specs.Jobs.{handle};
 ghost use Rattle.gm_notes.specs.Past.{with_note};
-ghost use Rattle.gm_notes.specs.Workers.{deadline_after, assignment, give_out, wake_itself, grab};
+ghost use Rattle.gm_notes.specs.Workers.{deadline_after, give_out, wake_itself, grab};
 
 use super::Tables;
 use super::abilities::Choice;
@@ -22,46 +18,7 @@ use gm_packet::Response;
 use std::alloc::AllocError;
 
 impl Tables {
-    ghost use Rattle.gm_core.specs.Holds.{IsKept, CanSend, KeepsTables, Goes, Does};
-
-    /// Writes what a worker gets to know of a job, and makes room for it.
-    fn prepare_assigned(
-        &mut self,
-        slot: u32,
-        found: Choice,
-        with_unique: bool,
-    ) -> Result<Priority, AllocError>
-        requires open { IsOpen self.old.conns slot }
-        requires within { found.function < length self.old.functions.names }
-        requires live { IsSome (jobs.job self.old.jobs found.pick.job) }
-        ensures goes { Goes self.old self.new (λ past. past) }
-        ensures ready { OnOk result (CanSend self.new slot) }
-        ensures priority { IfOk result (λ p. option_map (λ live. live.priority) (jobs.job self.old.jobs found.pick.job) ≡ Some p) }
-        ensures text { OnOk result ((live : Live) → jobs.job self.old.jobs found.pick.job ≡ Some live
-            → self.new.text.bytes ≡ answer_packet (assignment self.old.config with_unique found.pick.job
-            (record { function = name_at self.old.functions.names found.function; priority = live.priority; unique = live.unique; body = live.body }))) }
-        ensures tables { KeepsTables self.old self.new }
-    {
-        self.jobs.reserve_run(slot)?;
-        let handle = handle(self.alloc, &self.config, found.pick.job)?;
-        let job = self.jobs.by_number(found.pick.job).unwrap();
-        let view = JobRef {
-            function: self.functions.name(found.function),
-            priority: job.p(),
-            unique: job.unique(),
-            body: job.body(),
-        };
-        let response = assignment(&handle, &view, with_unique);
-        let body = job.data();
-        prepare(
-            &mut self.conns,
-            &mut self.text,
-            slot,
-            &response,
-            Some(&body),
-        )?;
-        Ok(job.p())
-    }
+    ghost use Rattle.gm_core.specs.Holds.{IsKept, Goes, Does};
 
     /// The job that is given out next for a function runs at a slot now. It needs no memory.
     fn give_out(&mut self, slot: u32, found: Choice, priority: Priority)
@@ -85,8 +42,26 @@ impl Tables {
         requires first { slice_get (waiting_for self.old.functions found.function) 0 ≡ Some found.pick.job }
         ensures { Does self.old result self.new (λ past. give_out self.old.config slot with_unique (Some found.pick) (wake_itself slot past)) }
     {
-        let priority = self.prepare_assigned(slot, found, with_unique)?;
-        self.send(slot);
+        self.jobs.reserve_run(slot)?;
+        let handle = handle(self.alloc, &self.config, found.pick.job)?;
+        let job = self.jobs.by_number(found.pick.job).unwrap();
+        let view = JobRef {
+            function: self.functions.name(found.function),
+            priority: job.p(),
+            unique: job.unique(),
+            body: job.body(),
+        };
+        let response = assignment(&handle, &view, with_unique);
+        let body = job.data();
+        prepare(
+            &mut self.conns,
+            &mut self.text,
+            slot,
+            &response,
+            Some(&body),
+        )?;
+        let priority = job.p();
+        self.text.put(&mut self.conns, slot);
         self.wake_itself(slot);
         self.give_out(slot, found, priority);
         Ok(())

@@ -11,7 +11,7 @@ use super::Tables;
 use gm_notes::{ApplyError, Phase};
 
 impl Tables {
-    ghost use Rattle.gm_core.specs.Holds.{Keeps, KeepsTables, Goes};
+    ghost use Rattle.gm_core.specs.Holds.{Keeps, Goes};
 
     /// Whether a slot takes units.
     pub(super) fn can_take_units(&self, slot: u32) -> bool
@@ -26,7 +26,9 @@ impl Tables {
         requires { IsOpen self.old.conns slot }
         ensures goes { Goes self.old self.new (wake_itself slot) }
         ensures open { IsOpen self.new.conns slot }
-        ensures tables { KeepsTables self.old self.new }
+        ensures functions { self.new.functions ≡ self.old.functions }
+        ensures jobs { self.new.jobs ≡ self.old.jobs }
+        ensures moment { self.new.moment ≡ self.old.moment }
     {
         if self.conns.phase(slot).is_asleep() {
             self.conns.set_phase(slot, Phase::Awake);

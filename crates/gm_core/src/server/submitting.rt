@@ -1,15 +1,12 @@
 //! Submissions.
 
-ghost use Rattle.std.specs.Prelude.{◌≡◌, ◌<◌, ◌≤◌, ◌^◌, false, None, ◌+◌, ◌==◌, ◌&&◌, not, nat_le, ℕ, Some, List};
-ghost use Rattle.std.specs.Prelude.{OnOk, OnErr, IfOk, length};
-ghost use Rattle.gm_packet.specs.Answers.{job_created, answer_packet};
+ghost use Rattle.std.specs.Prelude.{◌≡◌, ◌<◌, ◌^◌, false, None, ◌+◌, ◌==◌, ◌&&◌, not, nat_le, ℕ, Some, Err, List};
+ghost use Rattle.std.specs.Prelude.{OnErr, IfOk, length, codes};
 ghost use Rattle.gm_conns.specs.ConnTables.{IsOpen};
 ghost use Rattle.gm_queues.specs.FunctionTables.{number_of};
 ghost use Rattle.gm_jobs.specs.Tables.{IsVacant};
-ghost use Rattle.gm_core.specs.Holds.{add_job, first_listener};
-ghost use Rattle.gm_notes.specs.Jobs.{handle};
-ghost use Rattle.gm_notes.specs.declared.note.Note.TheVariants.{Mention};
-ghost use Rattle.gm_notes.specs.Past.{Past, with_note};
+ghost use Rattle.gm_core.specs.Holds.{first_listener};
+ghost use Rattle.gm_notes.specs.Past.{Past, refuse};
 ghost use Rattle.gm_actions.specs.Actions.{submission_of};
 ghost use Rattle.gm_actions.specs.Carried.{IsCarried};
 ghost use Rattle.gm_notes.specs.Submissions.{is_bad_name, is_full, keep_or_listen, make, join_or_make, submit};
@@ -38,7 +35,7 @@ fn is_limit_reached(limit: u32, counts: Counts) -> bool
 }
 
 impl Tables {
-    ghost use Rattle.gm_core.specs.Holds.{IsKept, IsNewName, Keeps, KeepsTables, KeepsRest, AddsNone, CanSend, Goes, Does, Makes};
+    ghost use Rattle.gm_core.specs.Holds.{IsKept, Keeps, MakesNone, Goes, Does, Makes};
 
     /// Joins a job, or makes one; gives that which it made.
     pub(super) fn submit(
@@ -103,12 +100,10 @@ impl Tables {
             self.refuse(slot, Refusal::QueueFull)?;
             return Ok(None);
         }
-        let number = self.jobs.next_number();
-        match number {
-            Some(job) => self.make_known(slot, asked, f, vacancy, job)?,
-            None => self.refuse(slot, Refusal::NoNumbers)?,
+        match self.make(slot, asked, f, vacancy) {
+            Ok(job) => Ok(Some(job)),
+            Err(error) => self.refuse_job(slot, error),
         }
-        Ok(number)
     }
 
     /// The first submission to a function: a job is made, unless a limit refuses it.
@@ -121,40 +116,81 @@ impl Tables {
         ensures does { Does self.old result self.new (submit self.old.config slot (submission_of asked.now)) }
         ensures made { Makes self.old result (submit self.old.config slot (submission_of asked.now)) }
     {
-        if self.functions.len() >= self.config.max_functions() {
-            self.refuse(slot, Refusal::TooManyFunctions)?;
-            return Ok(None);
+        let f = match self.functions.mention(asked.function) {
+            Ok(f) => f,
+            Err(MentionError::Memory) => return Err(AllocError),
+            Err(MentionError::TooManyFunctions) => {
+                self.refuse(slot, Refusal::TooManyFunctions)?;
+                return Ok(None);
+            }
+        };
+        // No job is of a function that wasn't known.
+        let vacancy = self.jobs.find(f, asked.unique).unwrap_err();
+        match self.make(slot, asked, f, vacancy) {
+            Ok(job) => Ok(Some(job)),
+            Err(error) => {
+                self.functions.unmention();
+                self.refuse_job(slot, error)
+            }
         }
-        let number = self.jobs.next_number();
-        match number {
-            Some(job) => self.make_with_new_function(slot, asked, job)?,
-            None => self.refuse(slot, Refusal::NoNumbers)?,
-        }
-        Ok(number)
     }
 
-    /// A job is made, of a function that was mentioned.
-    fn make_known(
+    /// A job is made, which comes to wait, if there is a number and memory for it. The vacancy is that of the function and its
+    /// unique id.
+    fn make(
         &mut self,
         slot: u32,
         asked: &Submission<'_>,
         f: u32,
         vacancy: Vacancy,
-        job: u64,
-    ) -> Result<(), AllocError>
+    ) -> Result<u64, JobError>
         requires open { IsOpen self.old.conns slot }
         requires found { number_of asked.now.function.now self.old.functions ≡ Some f }
         requires within { f < length self.old.functions.names }
         requires vacant { IsVacant f asked.now.unique.now self.old.jobs vacancy }
-        requires number { job ≡ self.old.jobs.next }
         requires carried { IsCarried asked.now.function.now asked.now.unique.now asked.now.body.bytes.now }
-        ensures { Does self.old result self.new (make self.old.config slot (submission_of asked.now) (Some job)) }
+        ensures makes { IfOk result (λ job. Goes self.old self.new (make self.old.config slot (submission_of asked.now) (Some job))) }
+        ensures number { IfOk result (λ job. job ≡ self.old.jobs.next) }
+        ensures spent { result ≡ Err JobError.NumbersSpent → self.old.jobs.next ≡ 2 ^ 64 }
+        ensures none { OnErr result (MakesNone self.old self.new) }
+        ensures open { OnErr result (IsOpen self.new.conns slot) }
     {
-        self.prepare_created(slot, job)?;
-        self.add(slot, asked, f, vacancy)?;
-        self.send(slot);
+        let (shared, body) = asked.body.keep();
+        self.jobs.reserve_listener(slot)?;
+        let job = self.jobs.reserve(f, asked.unique.len(), body.len())?;
+        let handle = handle(self.alloc, &self.config, job)?;
+        let response = Response::JobCreated { handle: &handle };
+        prepare(&mut self.conns, &mut self.text, slot, &response, None)?;
+        self.functions.reserve_one(f, asked.priority)?;
+        // What follows needs no memory.
+        let new = NewJob {
+            f,
+            p: asked.priority,
+            unique: asked.unique,
+            body,
+            kept: asked.background,
+            listener: first_listener(asked.background, slot),
+        };
+        let _number = self.jobs.insert(new, shared, vacancy);
+        self.functions.push(f, asked.priority, job);
+        self.text.put(&mut self.conns, slot);
         self.wake(f);
-        Ok(())
+        Ok(job)
+    }
+
+    /// No job was made: the slot is refused where no number was left.
+    fn refuse_job(&mut self, slot: u32, error: JobError) -> Result<Option<u64>, AllocError>
+        requires { IsOpen self.old.conns slot }
+        ensures does { Does self.old result self.new (refuse slot (codes "no_numbers")) }
+        ensures none { IfOk result (λ made. (made ≡ None) × (error ≡ JobError.NumbersSpent)) }
+    {
+        match error {
+            JobError::Memory => Err(AllocError),
+            JobError::NumbersSpent => {
+                self.refuse(slot, Refusal::NoNumbers)?;
+                Ok(None)
+            }
+        }
     }
 
     /// Whether no more jobs of the function may be there.
@@ -175,9 +211,11 @@ impl Tables {
         requires { IsOpen self.old.conns slot }
         ensures { Does self.old result self.new (join_or_make self.old.config slot (submission_of asked.now) (Some job)) }
     {
-        self.prepare_created(slot, job)?;
+        let handle = handle(self.alloc, &self.config, job)?;
+        let response = Response::JobCreated { handle: &handle };
+        prepare(&mut self.conns, &mut self.text, slot, &response, None)?;
         self.keep_or_listen(slot, asked, job)?;
-        self.send(slot);
+        self.text.put(&mut self.conns, slot);
         Ok(())
     }
 
@@ -190,118 +228,13 @@ impl Tables {
     ) -> Result<(), AllocError>
         requires { IsOpen self.old.conns slot }
         ensures does { Does self.old result self.new (keep_or_listen slot (submission_of asked.now) job) }
-        ensures rest { KeepsRest self.old self.new }
+        ensures conns { self.new.conns ≡ self.old.conns }
+        ensures text { self.new.text ≡ self.old.text }
     {
         if asked.background {
             self.jobs.keep(job);
             return Ok(());
         }
         self.jobs.listen(job, slot)
-    }
-
-    /// A job is made, of a function that wasn't mentioned yet.
-    fn make_with_new_function(
-        &mut self,
-        slot: u32,
-        asked: &Submission<'_>,
-        job: u64,
-    ) -> Result<(), AllocError>
-        requires open { IsOpen self.old.conns slot }
-        requires new { IsNewName self.old asked.now.function.now }
-        requires number { job ≡ self.old.jobs.next }
-        requires carried { IsCarried asked.now.function.now asked.now.unique.now asked.now.body.bytes.now }
-        requires kept { IsKept self.old }
-        ensures { Does self.old result self.new (make self.old.config slot (submission_of asked.now) (Some job)) }
-    {
-        self.prepare_created(slot, job)?;
-        let f = self.add_with_new_function(slot, asked)?;
-        self.send(slot);
-        self.wake(f);
-        Ok(())
-    }
-
-    /// A job of a function that wasn't mentioned yet comes to wait.
-    fn add_with_new_function(
-        &mut self,
-        slot: u32,
-        asked: &Submission<'_>,
-    ) -> Result<u32, AllocError>
-        requires open { IsOpen self.old.conns slot }
-        requires new { IsNewName self.old asked.now.function.now }
-        requires left { self.old.jobs.next < 2 ^ 64 }
-        requires carried { IsCarried asked.now.function.now asked.now.unique.now asked.now.body.bytes.now }
-        requires kept { IsKept self.old }
-        ensures does { Does self.old result self.new (λ past. add_job slot (submission_of asked.now) self.old.jobs.next (with_note (Mention asked.now.function.now) past)) }
-        ensures rest { KeepsRest self.old self.new }
-        ensures found { IfOk result (λ f. number_of asked.now.function.now self.new.functions ≡ Some f) }
-        ensures within { IfOk result (λ f. f < length self.new.functions.names) }
-    {
-        let f = match self.functions.mention(asked.function) {
-            Ok(f) => f,
-            Err(MentionError::Memory) => return Err(AllocError),
-            Err(MentionError::TooManyFunctions) => unreachable!(),
-        };
-        // No job is of a function that wasn't known.
-        let vacancy = self.jobs.find(f, asked.unique).unwrap_err();
-        match self.add(slot, asked, f, vacancy) {
-            Ok(()) => Ok(f),
-            Err(wanting) => {
-                self.functions.unmention();
-                Err(wanting)
-            }
-        }
-    }
-
-    /// A job comes to wait. The vacancy is that of the function and its unique id.
-    fn add(
-        &mut self,
-        slot: u32,
-        asked: &Submission<'_>,
-        f: u32,
-        vacancy: Vacancy,
-    ) -> Result<(), AllocError>
-        requires open { IsOpen self.old.conns slot }
-        requires left { self.old.jobs.next < 2 ^ 64 }
-        requires found { number_of asked.now.function.now self.old.functions ≡ Some f }
-        requires vacant { IsVacant f asked.now.unique.now self.old.jobs vacancy }
-        requires carried { IsCarried asked.now.function.now asked.now.unique.now asked.now.body.bytes.now }
-        ensures does { Does self.old result self.new (add_job slot (submission_of asked.now) self.old.jobs.next) }
-        ensures rest { KeepsRest self.old self.new }
-        ensures names { self.new.functions.names ≡ self.old.functions.names }
-        ensures err { OnErr result (AddsNone self.old self.new) }
-    {
-        let (shared, body) = asked.body.keep();
-        self.jobs.reserve_listener(slot)?;
-        match self.jobs.reserve(f, asked.unique.len(), body.len()) {
-            Ok(()) => {}
-            Err(JobError::Memory) => return Err(AllocError),
-            Err(JobError::NumbersSpent) => unreachable!(),
-        }
-        self.functions.reserve_one(f, asked.priority)?;
-        let new = NewJob {
-            f,
-            p: asked.priority,
-            unique: asked.unique,
-            body,
-            kept: asked.background,
-            listener: first_listener(asked.background, slot),
-        };
-        let job = self.jobs.insert(new, shared, vacancy);
-        self.functions.push(f, asked.priority, job);
-        Ok(())
-    }
-
-    /// Writes what is answered to a submission, and makes room for it.
-    fn prepare_created(&mut self, slot: u32, job: u64) -> Result<(), AllocError>
-        requires open { IsOpen self.old.conns slot }
-        ensures goes { Goes self.old self.new (λ past. past) }
-        ensures text { OnOk result (self.new.text.bytes ≡ answer_packet (job_created (handle self.old.config job))) }
-        ensures ready { OnOk result (CanSend self.new slot) }
-        ensures tables { KeepsTables self.old self.new }
-    {
-        let handle = handle(self.alloc, &self.config, job)?;
-        let response = Response::JobCreated { handle: &handle };
-        prepare(&mut self.conns, &mut self.text, slot, &response, None)?;
-        Ok(())
     }
 }

@@ -21,7 +21,7 @@ returns-in-Ok-can_do c =
     let free = subst (λ f. IsFree f c.mention.new.self) here (c.in-Ok.ensures.free none) in
     goes_as (can_do k c.args.slot name c.args.timeout)
     (goes_then
-    (goes_mention c.args.self.now (record c.args.self.now { functions = c.mention.new.self }) name (record { config = refl; conns = refl; jobs = refl; moment = refl; mode = refl }) c.requires.new (c.in-Ok.ensures.fresh none) free room)
+    (goes_mention c.args.self.now c.mention.new.self name c.requires.new (c.in-Ok.ensures.fresh none) free room)
     (goes_can c.args.slot (record { config = refl; functions = refl; jobs = refl; moment = refl; mode = refl }) name c.in-Ok.f c.args.timeout c.in-Ok.ensures.found c.in-Ok-can_do.ensures.ok))
     (λ p keeps.
     let good = c.requires.named in
@@ -32,8 +32,9 @@ returns-in-Ok-can_do c =
 
 pub returns-in-Err : goal.returns-in-Err
 returns-in-Err c =
-    goes_back c.args.self.now _ (record { config = refl; conns = c.in-Err.ensures.err; jobs = refl; moment = refl; mode = refl })
-    (taken_back c.args.self.now.functions c.mention.new.self c.unmention.new.self c.args.function.now (c.in-Ok.ensures.fresh (is_none_of (number_of c.args.function.now c.args.self.now.functions) c.requires.new)) c.unmention.ensures)
+    goes_then
+    (goes_back c.args.self.now c.unmention.new.self (taken_back c.args.self.now.functions c.mention.new.self c.unmention.new.self c.args.function.now (c.in-Ok.ensures.fresh (is_none_of (number_of c.args.function.now c.args.self.now.functions) c.requires.new)) c.unmention.ensures))
+    (goes_nothing refl c.in-Err.ensures.err refl refl refl refl)
 
 pub returns-in-Err-TooManyFunctions : goal.returns-in-Err-TooManyFunctions
 returns-in-Err-TooManyFunctions c =

@@ -9,10 +9,10 @@ use Rattle.gm_core.proofs.server.Tables.keep_or_listen.Goals as goal
 pub returns-then-asked-clause-does : goal.returns-then-asked-clause-does
 returns-then-asked-clause-does c =
     goes_as (keep_or_listen c.args.slot (submission_of c.args.asked.now) c.args.job)
-    (goes_kept c.args.self.now (record c.args.self.now { jobs = c.keep.new.self }) c.args.job (record { config = refl; conns = refl; functions = refl; moment = refl; mode = refl }) c.keep.ensures) (λ p keeps. rw c.if-asked.true refl)
+    (goes_kept c.args.self.now c.keep.new.self c.args.job c.keep.ensures) (λ p keeps. rw c.if-asked.true refl)
 
 pub returns-clause-does : goal.returns-clause-does
 returns-clause-does c =
     does_as {f = with_note (Listens c.args.job c.args.slot)} c.listen.result (keep_or_listen c.args.slot (submission_of c.args.asked.now) c.args.job)
-    (does_listen c.args.self.now (record c.args.self.now { jobs = c.listen.new.self }) c.args.job c.args.slot c.listen.result (record { config = refl; conns = refl; functions = refl; moment = refl; mode = refl }) c.requires c.listen.ensures.ok c.listen.ensures.err)
+    (does_listen c.args.self.now c.listen.new.self c.args.job c.args.slot c.listen.result c.requires c.listen.ensures.ok c.listen.ensures.err)
     (λ p keeps. rw c.if-asked.false refl)

@@ -28,9 +28,9 @@ returns-in-Ok c =
     (goes_then
     (goes_then
     (goes_then ready
-    (goes_mentioned before mentioned name c.in-Ok.f (record { config = refl; conns = refl; jobs = refl; moment = refl; mode = refl }) c.in-Ok.ensures.found
+    (goes_mentioned before c.mention.new.self name c.in-Ok.f c.in-Ok.ensures.found
     (λ some. (c.in-Ok.ensures.known some).1) c.in-Ok.ensures.fresh c.in-Ok.ensures.free room))
-    (goes_limit mentioned _ name c.in-Ok.f c.args.size (record { config = refl; conns = refl; jobs = refl; moment = refl; mode = refl }) c.in-Ok.ensures.found c.set_limit.ensures))
+    (goes_limit mentioned c.set_limit.new.self name c.in-Ok.f c.args.size c.in-Ok.ensures.found c.set_limit.ensures))
     (goes_printed {old = record before { functions = c.set_limit.new.self }} {new = record before { functions = c.set_limit.new.self; conns = c.put_out.new.self }} slot (record { config = refl; functions = refl; jobs = refl; moment = refl; mode = refl }) c.as_slice.result.now (length c.as_slice.result.now) c.put_out.ensures))
     (λ p keeps.
     let good : is_bad_word name ≡ false = c.requires.named in

@@ -1,4 +1,4 @@
-use Rattle.std.proofs.Common.{◌≡◌, ℕ, true, List, refl, sym, ap, ◌∙◌}
+use Rattle.std.proofs.Common.{◌≡◌, ℕ, true, List, sym, ap, ◌∙◌}
 use Rattle.std.specs.Option.{option_copied}
 use Rattle.gm_packet.specs.Answers.{status_res, answer_packet}
 use Rattle.gm_notes.specs.Jobs.{job_state, report, job_of_handle}
@@ -9,7 +9,7 @@ use Rattle.gm_notes.specs.Requests.{tell_status}
 use Rattle.gm_actions.specs.Actions.{report_of}
 use Rattle.gm_core.specs.Facts.{conn_facts}
 use Rattle.gm_core.proofs.HandledLemmas.{runs_same, told_live, told_other}
-use Rattle.gm_core.proofs.CoreLemmas.{goes_as, goes_then, goes_room, does_as}
+use Rattle.gm_core.proofs.CoreLemmas.{goes_as, goes_queued, does_as}
 use Rattle.gm_core.proofs.server.Tables.tell_numbered.Goals as goal
 
 pub returns-in_default : goal.returns-in_default
@@ -25,9 +25,7 @@ returns c =
     let slot = c.args.slot in
     let text = c.args.text.now in
     goes_as (λ past. tell_status core.config slot text (job_of_handle core.config text past.notes) past)
-    (goes_then
-    (goes_room {old = core} {new = record core { conns = c.prepare.new.conns; text = c.prepare.new.text }} slot (record { config = refl; functions = refl; jobs = refl; moment = refl; mode = refl }) c.prepare.new.text.cost c.in_ok-prepare.ensures.conns)
-    c.send.ensures.goes)
+    (goes_queued core c.prepare.new.conns c.put.new.conns c.put.new.self slot c.prepare.new.text.cost c.prepare.new.text.cost c.prepare.new.text.bytes c.in_ok-prepare.ensures.conns c.put.ensures.conns)
     (λ p keeps.
     let at = sym c.in-Some.ensures in
     let is = keeps.jobs.live c.args.job c.in-Some.found.now at in

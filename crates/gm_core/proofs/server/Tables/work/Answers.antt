@@ -61,7 +61,7 @@ numbered c report table slots told text some changes listening touched pours =
     let known = record (ready c) { jobs = table } in
     let runs = reported_runs c.args.self.now.jobs table n a b (Ok tt) changes tt c.in-Some.ensures.runs in
     goes_as (telling c)
-    (goes_then (goes_then (roomed c) (does_report (ready c) known n a b (Ok tt) (record { config = refl; conns = refl; functions = refl; moment = refl; mode = refl }) changes tt))
+    (goes_then (goes_then (roomed c) (does_report (ready c) table n a b (Ok tt) changes tt))
     (told_each known told text n c.args.packet.now.exceptions_only slots runs listening touched pours (answer_of c.args.packet.now.response) c.in_ok-prepare_each.ensures.text))
     (λ p keeps. ap (λ r. let kept = keep_report n (option_report r) p in tell_all (answer_of c.args.packet.now.response) (hearers c.args.packet.now.exceptions_only (listeners n kept.notes) kept.notes) kept) (sym some))
 
