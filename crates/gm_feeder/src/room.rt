@@ -19,6 +19,9 @@ const PIECE: usize = 16_384;
 /// The least room for a packet of which more is announced than came.
 const ANNOUNCED_PIECE: usize = 65_536;
 
+/// The least memory for such a packet. What isn't read into yet isn't touched, and a packet that is no longer isn't moved while it comes.
+const RESERVED_PIECE: usize = 131_072;
+
 /// The most bytes that are cleared at a time: what was cleared last is still near when it is read into.
 const LONG_PIECE: usize = 262_144;
 
@@ -57,7 +60,7 @@ pub(crate) fn make_room(
     let wanted = room_for_read(end, missing, room);
     let mut more = wanted - room;
     if buffer.capacity() - end < wanted {
-        let next = missing.min(end.max(ANNOUNCED_PIECE));
+        let next = missing.min(end.max(RESERVED_PIECE));
         buffer.reserve_exact(next.saturating_sub(room))?;
     }
     if more == 0 && was_filled && buffer.len() < PIECE {
