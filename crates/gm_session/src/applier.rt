@@ -4,7 +4,7 @@ ghost use Rattle.std.specs.Prelude.{◌≡◌, ◌≤◌, [], IfOk, IfErr, lengt
 ghost use Rattle.std.specs.Io.KnownBytes.{IsAtEnd};
 ghost use Rattle.gm_actions.specs.ReadEvents.{ReadsEvent};
 ghost use Rattle.gm_notes.specs.Servers.{step_of, IsSized};
-ghost use Rattle.gm_notes.specs.Steps.{Packet};
+ghost use Rattle.gm_notes.specs.Steps.{Packet, Fault};
 ghost use Rattle.gm_session.specs.Effects.{Gathers, Ticks};
 ghost use Rattle.gm_session.specs.Sessions.{Applies, TakesNext, Unloads, Steps, Reads, may_leave};
 
@@ -17,7 +17,7 @@ use gm_actions::{Action, ReadEvent, Refusal};
 use gm_bytes::{Data, LONG, SharedBytes};
 use gm_feeder::{OwnedPacket, Source};
 use gm_front::{Next, next_event};
-use gm_notes::{ApplyError, Event};
+use gm_notes::{ApplyError, Event, UnitFault};
 use gm_shared::{BookName, Desk, Shared};
 use std::alloc::{AllocError, Global};
 use std::io::Read;
@@ -84,6 +84,7 @@ impl<'s, K: BookName, R: Wait + Clock, G: Gate> Applier<'s, K, R, G> {
     }
 
     /// Applies an event, before a grab with the present second. Where it is refused, the session is over.
+    #[inline(always)]
     #[tactic(auto, using(crate::proofs::Gathering::gathers_ticked))]
     fn apply(
         &self,
@@ -158,18 +159,36 @@ impl<'s, K: BookName, R: Wait + Clock, G: Gate> Applier<'s, K, R, G> {
             }
             Next::Wait => Ok(Taken::Nothing),
             Next::Fault(fault) => {
-                if let Some(host) = around.host {
-                    host.speaker.count_faulty(around.rt);
-                }
-                let event = Event::Fault { slot, fault };
-                let action = Ok(Action::Nothing);
-                self.apply(desk, &ReadEvent { event, action }, effects)?;
+                self.take_fault(desk, fault, effects)?;
                 Err(SessionEnd::Shut)
             }
         }
     }
 
+    /// Applies a fault. It isn't inlined, nor is `take_long`, as each unit would clear their locals.
+    #[inline(never)]
+    fn take_fault(
+        &self,
+        desk: &mut Desk<K>,
+        fault: UnitFault,
+        effects: &mut Effects<K>,
+    ) -> Result<(), SessionEnd>
+        ensures applies { Applies K.settings K.taped desk.old.number (Fault self.now.slot fault) result desk.old.witness.seen desk.new.witness.seen }
+        ensures gathers { Gathers K.settings K.taped desk.old.number desk.old.witness.seen effects.old desk.new.witness.seen effects.new }
+        ensures number { desk.new.number ≡ desk.old.number }
+    {
+        let slot = self.slot;
+        let around = self.around;
+        if let Some(host) = around.host {
+            host.speaker.count_faulty(around.rt);
+        }
+        let event = Event::Fault { slot, fault };
+        let action = Ok(Action::Nothing);
+        self.apply(desk, &ReadEvent { event, action }, effects)
+    }
+
     /// Applies a packet that was taken with its memory.
+    #[inline(never)]
     fn take_long(
         &self,
         desk: &mut Desk<K>,

@@ -102,6 +102,7 @@ impl<K: BookName> Effects<K> {
 }
 
 /// Hands in an event at a desk, and adds what came of it.
+#[inline(always)]
 pub(crate) fn hand_in<K: BookName>(
     rt: &impl Wait,
     shared: &Shared<K>,
