@@ -132,6 +132,7 @@ impl Written {
     }
 
     /// Writes the packet of a response. Its last argument may be this body; one that can be shared isn't copied.
+    #[inline(always)]
     pub(crate) fn write(
         &mut self,
         response: &Response<'_>,
@@ -168,6 +169,7 @@ impl Written {
     }
 
     /// Makes it ready to be put to this number of queues.
+    #[inline(always)]
     pub(crate) fn own(&mut self, count: usize) -> Result<(), AllocError>
         ensures ok { OnOk result (CanBePut count self.new) }
         ensures bytes { self.new.bytes ≡ self.old.bytes }
@@ -180,6 +182,7 @@ impl Written {
     }
 
     /// Queues it to a slot, where there is room.
+    #[inline(always)]
     pub(crate) fn put(&mut self, conns: &mut Conns, slot: u32)
         requires open { IsOpen conns.old slot }
         requires room { self.old.cost ≤ (conn conns.old slot).room }

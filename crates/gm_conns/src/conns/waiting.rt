@@ -10,6 +10,7 @@ use std::alloc::AllocError;
 
 impl Conns {
     /// Makes room for `n` bytes beyond those that wait. Two calls don't add up.
+    #[inline(always)]
     pub fn reserve_out(&mut self, slot: u32, n: usize) -> Result<(), AllocError>
         requires { IsOpen self.old slot }
         ensures ok { OnOk result (Changes slot (with_room n) false self.old self.new) }
@@ -20,6 +21,7 @@ impl Conns {
     }
 
     /// The bytes wait for the connection, behind the others, in reserved room.
+    #[inline(always)]
     pub fn put_out(&mut self, slot: u32, bytes: &[u8])
         requires open { IsOpen self.old slot }
         requires room { length bytes.now ≤ (conn self.old slot).room }
