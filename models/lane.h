@@ -65,7 +65,7 @@
 #define LANE_CLAIMED 2
 #define LANE_LEFT 3
 
-/* sender.connection: none, or its LineState (life.rt) */
+/* sender.connection: none, or its OutboundState (life.rt) */
 #define NO_LINE  0
 #define OPEN     1
 #define FINISHED 2

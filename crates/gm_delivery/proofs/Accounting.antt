@@ -12,13 +12,13 @@ use Rattle.gm_shared.specs.Tapes.{actor_code, drain_entry}
 use Rattle.gm_shared.specs.Histories.{calls_by}
 use Rattle.gm_shared.specs.Openings.{openings, most_openings, counted}
 use Rattle.gm_shared.specs.Calls.{PenCalled}
-use Rattle.gm_delivery.specs.Messages.{turn_of}
-use Rattle.gm_delivery.specs.declared.account.Account.{Account}
+use Rattle.gm_delivery.specs.Messages.{message_of}
+use Rattle.gm_delivery.specs.declared.account.Sendings.{Sendings}
 use Rattle.gm_delivery.specs.declared.account.Past.{Past}
-use Rattle.gm_delivery.specs.Accounts.{Turn, bytes_in, drains_at, sent_by, drains_in, takes_in, AreTurns, IsWritten, IsPrefixWritten, WrittenTo, ArePast, AreOver, closed}
-use Rattle.gm_delivery.specs.declared.life.LineState.{LineState}
-use Rattle.gm_delivery.specs.declared.life.LineState.TheVariants.{Open, Finished, Cut}
-use Rattle.gm_delivery.specs.Sendings.{Line, SenderState, present, IsLineSo, IsLine, began, IsSender, cut, can_send, is_open, is_clear, SendsPart, Sends, SendsTo, SendsLeft, BeginsIf}
+use Rattle.gm_delivery.specs.Accounts.{DrainedMessage, bytes_in, drains_at, sent_by, drains_in, takes_in, AreMessages, IsWritten, IsPrefixWritten, WrittenTo, ArePast, AreOver, closed}
+use Rattle.gm_delivery.specs.declared.life.OutboundState.{OutboundState}
+use Rattle.gm_delivery.specs.declared.life.OutboundState.TheVariants.{Open, Finished, Cut}
+use Rattle.gm_delivery.specs.Sendings.{Outbound, SenderState, present, IsOutboundSo, IsOutbound, began, IsSender, cut, can_send, is_open, is_clear, SendsPart, Sends, SendsTo, SendsLeft, BeginsIf}
 use Rattle.gm_delivery.specs.Lives.{cut_state, state_if}
 
 -- ---- what a pen was given
@@ -80,38 +80,38 @@ over_more c (p ∷ older) seen after same over = (same (length older + 1) (omega
 -- ---- where the connection can be sent to
 
 record IsSending (s : SenderState) (log : List ℕ) : Type 0 where
-  pub past : ArePast s.slot s.account.past s.account.since s.account.takes
-  pub over : AreOver s.slot s.account.past s.seen
+  pub past : ArePast s.slot s.sendings.past s.sendings.since s.sendings.takes
+  pub over : AreOver s.slot s.sendings.past s.seen
   pub unused : (n : ℕ) → s.openings < n → n < most_openings → drains_at n s.slot s.seen ≡ []
-  pub written : IsWritten (present s) s.slot s.account.since s.account.takes s.seen s.takes 0 log s.left
+  pub written : IsWritten (present s) s.slot s.sendings.since s.sendings.takes s.seen s.takes 0 log s.left
   pub at : s.openings ≡ present s
   pub below : s.openings < most_openings
 
-sending : (s : SenderState) (line : Line) → s.line ≡ Some line → line.state ≡ Open → IsSender s → IsSending s line.log
-sending s line there state is =
-    let so = subst (λ (at : LineState). IsLineSo s line.log at) state (subst (λ (o : Option Line). IsLine s o) there is.line) in
+sending : (s : SenderState) (outbound : Outbound) → s.outbound ≡ Some outbound → outbound.state ≡ Open → IsSender s → IsSending s outbound.log
+sending s outbound there state is =
+    let so = subst (λ (at : OutboundState). IsOutboundSo s outbound.log at) state (subst (λ (o : Option Outbound). IsOutbound s o) there is.outbound) in
     record { past = is.past; over = (is.counted so.2).1; unused = is.unused; written = so.0; at = so.1; below = so.2 }
 
 -- what is written, and then what is left, is the same
 moved : (n c : ℕ) (since : List Entry) (takes : ℕ) (until : List Entry) (takes_after lost : ℕ) (log left more rest : List ℕ) → log ++ left ≡ more ++ rest
     → IsWritten n c since takes until takes_after lost log left → IsWritten n c since takes until takes_after lost more rest
-moved n c since takes until takes_after lost log left more rest same w = record { turns = w.turns; are = w.are; whole = w.whole ∙ same }
+moved n c since takes until takes_after lost log left more rest same w = record { messages = w.messages; are = w.are; whole = w.whole ∙ same }
 
 module _ (s : SenderState) (log : List ℕ) (is : IsSending s log) where
-  sends_on : (more rest : List ℕ) → log ++ s.left ≡ more ++ rest → IsSender (record s { left = rest; line = Some record { state = Open; log = more } })
+  sends_on : (more rest : List ℕ) → log ++ s.left ≡ more ++ rest → IsSender (record s { left = rest; outbound = Some record { state = Open; log = more } })
   sends_on more rest same = record {
     past = is.past;
     counted = λ below. (is.at, is.over);
     unused = is.unused;
-    line = (moved (present s) s.slot s.account.since s.account.takes s.seen s.takes 0 log s.left more rest same is.written, is.at, is.below);
+    outbound = (moved (present s) s.slot s.sendings.since s.sendings.takes s.seen s.takes 0 log s.left more rest same is.written, is.at, is.below);
   }
 
-  breaks_off : (more rest : List ℕ) → log ++ s.left ≡ more ++ rest → IsSender (record s { left = []; line = Some record { state = Cut; log = more } })
+  breaks_off : (more rest : List ℕ) → log ++ s.left ≡ more ++ rest → IsSender (record s { left = []; outbound = Some record { state = Cut; log = more } })
   breaks_off more rest same = record {
     past = is.past;
     counted = λ below. (is.at, is.over);
     unused = is.unused;
-    line = ((rest, 0, moved (present s) s.slot s.account.since s.account.takes s.seen s.takes 0 log s.left more rest same is.written), refl);
+    outbound = ((rest, 0, moved (present s) s.slot s.sendings.since s.sendings.takes s.seen s.takes 0 log s.left more rest same is.written), refl);
   }
 
   -- ---- what the pen gives
@@ -132,14 +132,14 @@ module _ (s : SenderState) (log : List ℕ) (is : IsSending s log) where
     asked_of = record s { seen = seen; takes = takes; tries = tries }
 
     -- at the openings of those that are gone it gave nothing
-    still_over : ((m : ℕ) → m < n → is_at result m ≡ false) → AreOver s.slot s.account.past seen
-    still_over other = over_more s.slot s.account.past s.seen seen (λ m less. drains_still k taped s.slot result s.seen seen called m (other m less) (omega (arith, less, under))) is.over
+    still_over : ((m : ℕ) → m < n → is_at result m ≡ false) → AreOver s.slot s.sendings.past seen
+    still_over other = over_more s.slot s.sendings.past s.seen seen (λ m less. drains_still k taped s.slot result s.seen seen called m (other m less) (omega (arith, less, under))) is.over
 
     still_unused : ((m : ℕ) → s.openings < m → is_at result m ≡ false) → (m : ℕ) → s.openings < m → m < most_openings → drains_at m s.slot seen ≡ []
     still_unused other m later below = drains_still k taped s.slot result s.seen seen called m (other m later) below ∙ is.unused m later below
 
     -- nothing for this connection: a NOOP may be lost
-    gives_none : is_at result n ≡ false → IsPrefixWritten n s.slot s.account.since s.account.takes seen takes log
+    gives_none : is_at result n ≡ false → IsPrefixWritten n s.slot s.sendings.since s.sendings.takes seen takes log
     gives_none other =
         let went = goes_on k taped s.slot result s.seen seen called in
         let w = is.written in
@@ -148,10 +148,10 @@ module _ (s : SenderState) (log : List ℕ) (is : IsSending s log) where
           [],
           if took then 1 else 0,
           record {
-            turns = w.turns;
+            messages = w.messages;
             are = record {
               newer = went.0 ++ w.are.newer;
-              goes_on = went.1 ∙ (ap (λ l. went.0 ++ l) w.are.goes_on ∙ sym (append_assoc went.0 w.are.newer s.account.since));
+              goes_on = went.1 ∙ (ap (λ l. went.0 ++ l) w.are.goes_on ∙ sym (append_assoc went.0 w.are.newer s.sendings.since));
               drained = drains_still k taped s.slot result s.seen seen called n other under ∙ w.are.drained;
               taken = omega arith;
             };
@@ -165,7 +165,7 @@ module _ (s : SenderState) (log : List ℕ) (is : IsSending s log) where
     asked_for = asked_of none k taped took (Ok drained) seen takes tries asked called
 
     -- what it gave for the connection is left
-    gives : drained.opening ≡ s.openings → IsSender (record asked_for { left = turn_of took drained.bytes.bytes; line = Some record { state = Open; log = log } })
+    gives : drained.opening ≡ s.openings → IsSender (record asked_for { left = message_of took drained.bytes.bytes; outbound = Some record { state = Open; log = log } })
     gives here =
         let w = is.written in
         let before = w.are.taken in
@@ -176,18 +176,18 @@ module _ (s : SenderState) (log : List ℕ) (is : IsSending s log) where
           past = is.past;
           counted = λ below. (at, still_over none k taped took (Ok drained) seen takes tries asked called (λ m less. other m (λ now. absurd (omega (arith, now, less, at)))));
           unused = still_unused none k taped took (Ok drained) seen takes tries asked called (λ m later. other m (λ now. absurd (omega (arith, now, later))));
-          line = (
+          outbound = (
             record {
-              turns = record { took = took; gave = drained.bytes.bytes } ∷ w.turns;
+              messages = record { took = took; gave = drained.bytes.bytes } ∷ w.messages;
               are = record {
                 newer = drain_entry s.slot s.slot drained.bytes.bytes ∷ called.knows.newer ++ w.are.newer;
                 goes_on = after_is k taped s.slot drained s.seen seen called
-                    ∙ ap (λ l. drain_entry s.slot s.slot drained.bytes.bytes ∷ l) (ap (λ l. called.knows.newer ++ l) w.are.goes_on ∙ sym (append_assoc called.knows.newer w.are.newer s.account.since));
+                    ∙ ap (λ l. drain_entry s.slot s.slot drained.bytes.bytes ∷ l) (ap (λ l. called.knows.newer ++ l) w.are.goes_on ∙ sym (append_assoc called.knows.newer w.are.newer s.sendings.since));
                 drained = drains_here k taped s.slot drained s.seen seen called (present s) (here ∙ at) (under none k taped took (Ok drained) seen takes tries asked called)
                     ∙ ap (λ l. drained.bytes.bytes ∷ l) w.are.drained;
                 taken = omega arith;
               };
-              whole = ap (λ l. l ++ turn_of took drained.bytes.bytes) (w.whole ∙ (ap (λ l. log ++ l) none ∙ append-nil log));
+              whole = ap (λ l. l ++ message_of took drained.bytes.bytes) (w.whole ∙ (ap (λ l. log ++ l) none ∙ append-nil log));
             },
             at,
             is.below,
@@ -195,38 +195,38 @@ module _ (s : SenderState) (log : List ℕ) (is : IsSending s log) where
         }
 
     -- what it gave was for another
-    gives_elsewhere : (drained.opening ≡ s.openings → ⊥) → IsSender (record asked_for { openings = most_openings; line = Some record { state = Cut; log = log } })
+    gives_elsewhere : (drained.opening ≡ s.openings → ⊥) → IsSender (record asked_for { openings = most_openings; outbound = Some record { state = Cut; log = log } })
     gives_elsewhere other = record {
       past = is.past;
       counted = λ below. absurd (omega (arith, below));
       unused = λ m later below. absurd (omega (arith, later, below));
-      line = (gives_none none k taped took (Ok drained) seen takes tries asked called (ne_eqb drained.opening (present s) (λ now. other (now ∙ sym is.at))), none);
+      outbound = (gives_none none k taped took (Ok drained) seen takes tries asked called (ne_eqb drained.opening (present s) (λ now. other (now ∙ sym is.at))), none);
     }
 
   gives_nothing : s.left ≡ [] → (k : Settings) (taped took : Bool) (error : ApplyError) (seen : List Entry) (takes tries : ℕ) → MatchBool took (takes ≡ s.takes + 1) (takes ≡ s.takes)
-      → PenCalled k taped s.slot s.slot (Err error) s.seen seen → IsSender (record s { seen = seen; takes = takes; tries = tries; line = Some record { state = Cut; log = log } })
+      → PenCalled k taped s.slot s.slot (Err error) s.seen seen → IsSender (record s { seen = seen; takes = takes; tries = tries; outbound = Some record { state = Cut; log = log } })
   gives_nothing none k taped took error seen takes tries asked called = record {
     past = is.past;
     counted = λ below. (is.at, still_over none k taped took (Err error) seen takes tries asked called (λ m less. refl));
     unused = still_unused none k taped took (Err error) seen takes tries asked called (λ m later. refl);
-    line = (gives_none none k taped took (Err error) seen takes tries asked called refl, none);
+    outbound = (gives_none none k taped took (Err error) seen takes tries asked called refl, none);
   }
 
 -- the connection can be sent to, and nothing is left for it
-clear_open : (s : SenderState) (line : Line) → s.line ≡ Some line → is_clear s ≡ true → line.state ≡ Open
-clear_open s line there clear = by line.state (and_first (can_send line.state) (length s.left == 0) (ap (λ (o : Option Line). is_open o && (length s.left == 0)) (sym there) ∙ clear))
+clear_open : (s : SenderState) (outbound : Outbound) → s.outbound ≡ Some outbound → is_clear s ≡ true → outbound.state ≡ Open
+clear_open s outbound there clear = by outbound.state (and_first (can_send outbound.state) (length s.left == 0) (ap (λ (o : Option Outbound). is_open o && (length s.left == 0)) (sym there) ∙ clear))
   where
     and_first : (a b : Bool) → (a && b) ≡ true → a ≡ true
     and_first true b is = refl
     and_first false b is = is
 
-    by : (state : LineState) → can_send state ≡ true → state ≡ Open
+    by : (state : OutboundState) → can_send state ≡ true → state ≡ Open
     by Open is = refl
     by Finished bad = absurd cc
     by Cut bad = absurd cc
 
 clear_none : (s : SenderState) → is_clear s ≡ true → s.left ≡ []
-clear_none s clear = none s.left (and_second (is_open s.line) (length s.left == 0) clear)
+clear_none s clear = none s.left (and_second (is_open s.outbound) (length s.left == 0) clear)
   where
     and_second : (a b : Bool) → (a && b) ≡ true → b ≡ true
     and_second true b is = is
@@ -239,22 +239,22 @@ clear_none s clear = none s.left (and_second (is_open s.line) (length s.left == 
 -- the same, said of what the code has in its hands: the pen before it was asked, between and after
 module _ {P : Type 0} (slot takes tries : P → ℕ) (seen : P → List Entry) (before asked after : P) (slot_is : slot asked ≡ slot before) (seen_is : seen asked ≡ seen before)
     (slot_kept : slot after ≡ slot asked) (takes_kept : takes after ≡ takes asked) (took : Bool) (takes_so : MatchBool took (takes asked ≡ takes before + 1) (takes asked ≡ takes before))
-    (openings : ℕ) (left : List ℕ) {X : Type 0} (f : X → Line) (found : Option X) (x : X) (account : Account) (is_there : found ≡ Some x) where
+    (openings : ℕ) (left : List ℕ) {X : Type 0} (f : X → Outbound) (found : Option X) (x : X) (sendings : Sendings) (is_there : found ≡ Some x) where
   abbrev was : SenderState
-  was = record { slot = slot before; openings = openings; seen = seen before; takes = takes before; tries = tries before; left = left; line = option_map f found; account = account }
+  was = record { slot = slot before; openings = openings; seen = seen before; takes = takes before; tries = tries before; left = left; outbound = option_map f found; sendings = sendings }
 
-  abbrev line : Line
-  line = f x
+  abbrev outbound : Outbound
+  outbound = f x
 
-  there : option_map f found ≡ Some line
+  there : option_map f found ≡ Some outbound
   there = ap (option_map f) is_there
 
   takes_now : MatchBool took (takes after ≡ takes before + 1) (takes after ≡ takes before)
   takes_now = subst (λ (n : ℕ). MatchBool took (n ≡ takes before + 1) (n ≡ takes before)) (sym takes_kept) takes_so
 
   module _ (clear : is_clear was ≡ true) (is : IsSender was) (k : Settings) (taped : Bool) where
-    so : IsSending was line.log
-    so = sending was line there (clear_open was line there clear) is
+    so : IsSending was outbound.log
+    so = sending was outbound there (clear_open was outbound there clear) is
 
     none_left : left ≡ []
     none_left = clear_none was clear
@@ -262,145 +262,145 @@ module _ {P : Type 0} (slot takes tries : P → ℕ) (seen : P → List Entry) (
     called_so : (result : Result Drained ApplyError) → PenCalled k taped (slot asked) (slot asked) result (seen asked) (seen after) → PenCalled k taped (slot before) (slot before) result (seen before) (seen after)
     called_so result called = subst (λ (z : ℕ × List Entry). PenCalled k taped z.0 z.0 result z.1 (seen after)) (λ i. (slot_is i, seen_is i)) called
 
-    now_at : (openings : ℕ) (left : List ℕ) (line : Line) → IsSender (record { slot = slot before; openings = openings; seen = seen after; takes = takes after; tries = tries after; left = left; line = Some line; account = account })
-        → IsSender (record { slot = slot after; openings = openings; seen = seen after; takes = takes after; tries = tries after; left = left; line = Some line; account = account })
-    now_at opened l at = subst (λ (c : ℕ). IsSender (record { slot = c; openings = opened; seen = seen after; takes = takes after; tries = tries after; left = l; line = Some at; account = account })) (sym (slot_kept ∙ slot_is))
+    now_at : (openings : ℕ) (left : List ℕ) (outbound : Outbound) → IsSender (record { slot = slot before; openings = openings; seen = seen after; takes = takes after; tries = tries after; left = left; outbound = Some outbound; sendings = sendings })
+        → IsSender (record { slot = slot after; openings = openings; seen = seen after; takes = takes after; tries = tries after; left = left; outbound = Some outbound; sendings = sendings })
+    now_at opened l at = subst (λ (c : ℕ). IsSender (record { slot = c; openings = opened; seen = seen after; takes = takes after; tries = tries after; left = l; outbound = Some at; sendings = sendings })) (sym (slot_kept ∙ slot_is))
 
-    pub refill_gives : (drained : Drained) → drained.opening ≡ openings → PenCalled k taped (slot asked) (slot asked) (Ok drained) (seen asked) (seen after) → (due : List ℕ) → due ≡ turn_of took drained.bytes.bytes
-        → IsSender (record { slot = slot after; openings = openings; seen = seen after; takes = takes after; tries = tries after; left = due; line = Some line; account = account })
+    pub refill_gives : (drained : Drained) → drained.opening ≡ openings → PenCalled k taped (slot asked) (slot asked) (Ok drained) (seen asked) (seen after) → (due : List ℕ) → due ≡ message_of took drained.bytes.bytes
+        → IsSender (record { slot = slot after; openings = openings; seen = seen after; takes = takes after; tries = tries after; left = due; outbound = Some outbound; sendings = sendings })
     refill_gives drained here called due dues =
-        subst (λ (z : List ℕ × LineState). IsSender (record { slot = slot after; openings = openings; seen = seen after; takes = takes after; tries = tries after; left = z.0; line = Some record { state = z.1; log = line.log }; account = account }))
-        (λ i. (sym dues i, sym (clear_open was line there clear) i))
-        (now_at openings (turn_of took drained.bytes.bytes) (record { state = Open; log = line.log }) (gives was line.log so none_left k taped took drained (seen after) (takes after) (tries after) takes_now (called_so (Ok drained) called) here))
+        subst (λ (z : List ℕ × OutboundState). IsSender (record { slot = slot after; openings = openings; seen = seen after; takes = takes after; tries = tries after; left = z.0; outbound = Some record { state = z.1; log = outbound.log }; sendings = sendings }))
+        (λ i. (sym dues i, sym (clear_open was outbound there clear) i))
+        (now_at openings (message_of took drained.bytes.bytes) (record { state = Open; log = outbound.log }) (gives was outbound.log so none_left k taped took drained (seen after) (takes after) (tries after) takes_now (called_so (Ok drained) called) here))
 
     pub refill_elsewhere : (drained : Drained) → (drained.opening ≡ openings → ⊥) → PenCalled k taped (slot asked) (slot asked) (Ok drained) (seen asked) (seen after)
-        → IsSender (record { slot = slot after; openings = most_openings; seen = seen after; takes = takes after; tries = tries after; left = left; line = Some record { state = Cut; log = line.log }; account = account })
-    refill_elsewhere drained other called = now_at most_openings left (record { state = Cut; log = line.log })
-        (gives_elsewhere was line.log so none_left k taped took drained (seen after) (takes after) (tries after) takes_now (called_so (Ok drained) called) other)
+        → IsSender (record { slot = slot after; openings = most_openings; seen = seen after; takes = takes after; tries = tries after; left = left; outbound = Some record { state = Cut; log = outbound.log }; sendings = sendings })
+    refill_elsewhere drained other called = now_at most_openings left (record { state = Cut; log = outbound.log })
+        (gives_elsewhere was outbound.log so none_left k taped took drained (seen after) (takes after) (tries after) takes_now (called_so (Ok drained) called) other)
 
     pub refill_none : (error : ApplyError) → PenCalled k taped (slot asked) (slot asked) (Err error) (seen asked) (seen after)
-        → IsSender (record { slot = slot after; openings = openings; seen = seen after; takes = takes after; tries = tries after; left = left; line = Some record { state = Cut; log = line.log }; account = account })
-    refill_none error called = now_at openings left (record { state = Cut; log = line.log })
-        (gives_nothing was line.log so none_left k taped took error (seen after) (takes after) (tries after) takes_now (called_so (Err error) called))
+        → IsSender (record { slot = slot after; openings = openings; seen = seen after; takes = takes after; tries = tries after; left = left; outbound = Some record { state = Cut; log = outbound.log }; sendings = sendings })
+    refill_none error called = now_at openings left (record { state = Cut; log = outbound.log })
+        (gives_nothing was outbound.log so none_left k taped took error (seen after) (takes after) (tries after) takes_now (called_so (Err error) called))
 
 -- ---- what is sent
 
-pub part_of_none : (log left : List ℕ) (state : LineState) → state ≡ Open → SendsPart log left (record { state = state; log = log }) left
-part_of_none log left state is = record { part = []; rest = left; whole = refl; breaks_off = false; some_left = λ bad. absurd cc; line_is = λ i. record { state = is i; log = sym (append-nil log) i }; left_is = refl }
+pub part_of_none : (log left : List ℕ) (state : OutboundState) → state ≡ Open → SendsPart log left (record { state = state; log = log }) left
+part_of_none log left state is = record { part = []; rest = left; whole = refl; breaks_off = false; some_left = λ bad. absurd cc; outbound_is = λ i. record { state = is i; log = sym (append-nil log) i }; left_is = refl }
 
 -- said of the connection's state
-pub sends_from : {X : Type 0} (f : X → Line) (s t : SenderState) (found : Option X) (x now : X) (left_now : List ℕ) (result : Bool) → s ≡ t → s.line ≡ option_map f found → found ≡ Some x
+pub sends_from : {X : Type 0} (f : X → Outbound) (s t : SenderState) (found : Option X) (x now : X) (left_now : List ℕ) (result : Bool) → s ≡ t → s.outbound ≡ option_map f found → found ≡ Some x
     → (((f x).state ≡ Open → ⊥) → (now ≡ x) × (left_now ≡ s.left) × (result ≡ false)) → ((f x).state ≡ Open → SendsPart (f x).log s.left (f now) left_now)
-    → SendsLeft t (record s { left = left_now; line = Some (f now) })
-sends_from f s t found x now left_now result same line_is there idle part =
-    subst (λ (old : SenderState). SendsLeft old (record s { left = left_now; line = Some (f now) })) same
-    (subst (λ (o : Option Line). SendsTo o s (record s { left = left_now; line = Some (f now) })) (sym (line_is ∙ ap (option_map f) there)) (f now, by (f x).state refl, refl))
+    → SendsLeft t (record s { left = left_now; outbound = Some (f now) })
+sends_from f s t found x now left_now result same outbound_is there idle part =
+    subst (λ (old : SenderState). SendsLeft old (record s { left = left_now; outbound = Some (f now) })) same
+    (subst (λ (o : Option Outbound). SendsTo o s (record s { left = left_now; outbound = Some (f now) })) (sym (outbound_is ∙ ap (option_map f) there)) (f now, by (f x).state refl, refl))
   where
-    by : (state : LineState) → (f x).state ≡ state → Sends state (f x) s.left (f now) left_now
+    by : (state : OutboundState) → (f x).state ≡ state → Sends state (f x) s.left (f now) left_now
     by Open at = part at
     by Finished at = let same = idle (λ opened. let bad = sym at ∙ opened in absurd cc) in (ap f same.0, same.1)
     by Cut at = let same = idle (λ opened. let bad = sym at ∙ opened in absurd cc) in (ap f same.0, same.1)
 
-pub send_keeps : (s : SenderState) (line : Line) → s.line ≡ Some line → (now : Line) (left : List ℕ) → Sends line.state line s.left now left → IsSender s → IsSender (record s { left = left; line = Some now })
-send_keeps s line there now left sends is = by line.state refl sends
+pub send_keeps : (s : SenderState) (outbound : Outbound) → s.outbound ≡ Some outbound → (now : Outbound) (left : List ℕ) → Sends outbound.state outbound s.left now left → IsSender s → IsSender (record s { left = left; outbound = Some now })
+send_keeps s outbound there now left sends is = by outbound.state refl sends
   where
-    same : (now ≡ line) × (left ≡ s.left) → IsSender (record s { left = left; line = Some now })
-    same eq = subst (λ (z : Line × List ℕ). IsSender (record s { left = z.1; line = Some z.0 })) (λ i. (sym eq.0 i, sym eq.1 i)) (subst (λ (o : Option Line). IsSender (record s { line = o })) there is)
+    same : (now ≡ outbound) × (left ≡ s.left) → IsSender (record s { left = left; outbound = Some now })
+    same eq = subst (λ (z : Outbound × List ℕ). IsSender (record s { left = z.1; outbound = Some z.0 })) (λ i. (sym eq.0 i, sym eq.1 i)) (subst (λ (o : Option Outbound). IsSender (record s { outbound = o })) there is)
 
-    part : IsSending s line.log → (p : SendsPart line.log s.left now left) (breaks : Bool) → now ≡ record { state = if breaks then Cut else Open; log = line.log ++ p.part } → left ≡ (if breaks then [] else p.rest)
-        → IsSender (record s { left = left; line = Some now })
-    part so p true lines lefts = subst (λ (z : Line × List ℕ). IsSender (record s { left = z.1; line = Some z.0 })) (λ i. (sym lines i, sym lefts i))
-        (breaks_off s line.log so (line.log ++ p.part) p.rest (ap (λ l. line.log ++ l) p.whole ∙ sym (append_assoc line.log p.part p.rest)))
-    part so p false lines lefts = subst (λ (z : Line × List ℕ). IsSender (record s { left = z.1; line = Some z.0 })) (λ i. (sym lines i, sym lefts i))
-        (sends_on s line.log so (line.log ++ p.part) p.rest (ap (λ l. line.log ++ l) p.whole ∙ sym (append_assoc line.log p.part p.rest)))
+    part : IsSending s outbound.log → (p : SendsPart outbound.log s.left now left) (breaks : Bool) → now ≡ record { state = if breaks then Cut else Open; log = outbound.log ++ p.part } → left ≡ (if breaks then [] else p.rest)
+        → IsSender (record s { left = left; outbound = Some now })
+    part so p true lines lefts = subst (λ (z : Outbound × List ℕ). IsSender (record s { left = z.1; outbound = Some z.0 })) (λ i. (sym lines i, sym lefts i))
+        (breaks_off s outbound.log so (outbound.log ++ p.part) p.rest (ap (λ l. outbound.log ++ l) p.whole ∙ sym (append_assoc outbound.log p.part p.rest)))
+    part so p false lines lefts = subst (λ (z : Outbound × List ℕ). IsSender (record s { left = z.1; outbound = Some z.0 })) (λ i. (sym lines i, sym lefts i))
+        (sends_on s outbound.log so (outbound.log ++ p.part) p.rest (ap (λ l. outbound.log ++ l) p.whole ∙ sym (append_assoc outbound.log p.part p.rest)))
 
-    by : (state : LineState) → line.state ≡ state → Sends state line s.left now left → IsSender (record s { left = left; line = Some now })
-    by Open at p = part (sending s line there at is) p p.breaks_off p.line_is p.left_is
+    by : (state : OutboundState) → outbound.state ≡ state → Sends state outbound s.left now left → IsSender (record s { left = left; outbound = Some now })
+    by Open at p = part (sending s outbound there at is) p p.breaks_off p.outbound_is p.left_is
     by Finished at eq = same eq
     by Cut at eq = same eq
 
 -- ---- what the lock guards
 
 -- a prefix, however far the sending is
-part_of : (s : SenderState) (log : List ℕ) (state : LineState) → IsLineSo s log state → IsPrefixWritten (present s) s.slot s.account.since s.account.takes s.seen s.takes log
+part_of : (s : SenderState) (log : List ℕ) (state : OutboundState) → IsOutboundSo s log state → IsPrefixWritten (present s) s.slot s.sendings.since s.sendings.takes s.seen s.takes log
 part_of s log Open so = (s.left, 0, so.0)
 part_of s log Finished so = ([], 0, so.0)
 part_of s log Cut so = so.0
 
-cut_line : (s : SenderState) (o : Option Line) → IsLine s o → IsLine (record s { left = []; line = cut o }) (cut o)
-cut_line s None so = (so.0, so.1, refl)
-cut_line s (Some line) so = at line.state so
+cut_outbound : (s : SenderState) (o : Option Outbound) → IsOutbound s o → IsOutbound (record s { left = []; outbound = cut o }) (cut o)
+cut_outbound s None so = (so.0, so.1, refl)
+cut_outbound s (Some one) so = at one.state so
   where
-    at : (state : LineState) → IsLineSo s line.log state → IsLineSo (record s { left = []; line = cut (Some line) }) line.log (cut_state state)
-    at Open so = (part_of s line.log Open so, refl)
+    at : (state : OutboundState) → IsOutboundSo s one.log state → IsOutboundSo (record s { left = []; outbound = cut (Some one) }) one.log (cut_state state)
+    at Open so = (part_of s one.log Open so, refl)
     at Finished so = (so.0, refl)
     at Cut so = (so.0, refl)
 
-began_cut : (o : Option Line) (past : List Past) → began o past ≡ began (cut o) past
+began_cut : (o : Option Outbound) (past : List Past) → began o past ≡ began (cut o) past
 began_cut None past = refl
-began_cut (Some line) past = refl
+began_cut (Some one) past = refl
 
-pub cut_keeps : (s : SenderState) → IsSender s → IsSender (record s { left = []; line = cut s.line })
+pub cut_keeps : (s : SenderState) → IsSender s → IsSender (record s { left = []; outbound = cut s.outbound })
 cut_keeps s is = record {
   past = is.past;
-  counted = λ below. let so = is.counted below in (so.0 ∙ began_cut s.line s.account.past, so.1);
+  counted = λ below. let so = is.counted below in (so.0 ∙ began_cut s.outbound s.sendings.past, so.1);
   unused = is.unused;
-  line = cut_line s s.line is.line;
+  outbound = cut_outbound s s.outbound is.outbound;
 }
 
 -- all was sent, where the sending is finished, or goes on and nothing is left
-gone : (s : SenderState) (log : List ℕ) (state : LineState) (is_whole : Bool) → IsLineSo s log state → (is_whole ≡ true → state ≡ Cut → ⊥) → (is_whole ≡ true → state ≡ Open → s.left ≡ [])
-    → WrittenTo (present s) s.slot (record { since = s.account.since; takes = s.account.takes; until = s.seen; takes_after = s.takes; log = log; is_whole = is_whole })
+gone : (s : SenderState) (log : List ℕ) (state : OutboundState) (is_whole : Bool) → IsOutboundSo s log state → (is_whole ≡ true → state ≡ Cut → ⊥) → (is_whole ≡ true → state ≡ Open → s.left ≡ [])
+    → WrittenTo (present s) s.slot (record { since = s.sendings.since; takes = s.sendings.takes; until = s.seen; takes_after = s.takes; log = log; is_whole = is_whole })
 gone s log Open is_whole so wasnt all = record { rest = s.left; lost = 0; is_written = so.0; whole = λ w. (all w refl, refl) }
 gone s log Finished is_whole so wasnt all = record { rest = []; lost = 0; is_written = so.0; whole = λ w. (refl, refl) }
 gone s log Cut is_whole so wasnt all = record { rest = so.0.0; lost = so.0.1; is_written = so.0.2; whole = λ w. absurd (wasnt w refl) }
 
-pub let_go_keeps : (s : SenderState) (line : Line) (is_whole : Bool) → s.line ≡ Some line → IsSender s → (is_whole ≡ true → line.state ≡ Cut → ⊥) → (is_whole ≡ true → line.state ≡ Open → s.left ≡ [])
-    → IsSender (record s { left = []; line = None; account = closed s.seen s.takes line.log is_whole s.account })
-let_go_keeps s line is_whole there is wasnt all = record {
-  past = (refl, refl, gone s line.log line.state is_whole (subst (λ (o : Option Line). IsLine s o) there is.line) wasnt all, is.past);
-  counted = λ below. let so = is.counted below in let count : s.openings ≡ length s.account.past + 1 = so.0 ∙ ap (λ o. began o s.account.past) there in (omega arith, (refl, so.1));
+pub let_go_keeps : (s : SenderState) (outbound : Outbound) (is_whole : Bool) → s.outbound ≡ Some outbound → IsSender s → (is_whole ≡ true → outbound.state ≡ Cut → ⊥) → (is_whole ≡ true → outbound.state ≡ Open → s.left ≡ [])
+    → IsSender (record s { left = []; outbound = None; sendings = closed s.seen s.takes outbound.log is_whole s.sendings })
+let_go_keeps s outbound is_whole there is wasnt all = record {
+  past = (refl, refl, gone s outbound.log outbound.state is_whole (subst (λ (o : Option Outbound). IsOutbound s o) there is.outbound) wasnt all, is.past);
+  counted = λ below. let so = is.counted below in let count : s.openings ≡ length s.sendings.past + 1 = so.0 ∙ ap (λ o. began o s.sendings.past) there in (omega arith, (refl, so.1));
   unused = is.unused;
-  line = (refl, refl, refl);
+  outbound = (refl, refl, refl);
 }
 
 -- ---- a connection is taken
 
 -- drains without NOOPs
-abbrev turns_for : List (List ℕ) → List Turn
-turns_for drains = map (λ gave. record { took = false; gave = gave }) drains
+abbrev without_noops : List (List ℕ) → List DrainedMessage
+without_noops drains = map (λ gave. record { took = false; gave = gave }) drains
 
-turned : (drains : List (List ℕ)) → drains ≡ drains_in (turns_for drains)
+turned : (drains : List (List ℕ)) → drains ≡ drains_in (without_noops drains)
 turned [] = refl
 turned (gave ∷ drains) = ap (λ l. gave ∷ l) (turned drains)
 
-no_noops : (drains : List (List ℕ)) → takes_in (turns_for drains) ≡ 0
+no_noops : (drains : List (List ℕ)) → takes_in (without_noops drains) ≡ 0
 no_noops [] = refl
 no_noops (gave ∷ drains) = let rest = no_noops drains in omega arith
 
-pub begin_keeps : (s : SenderState) (opening after : ℕ) (begins : Bool) (state : LineState) (log : List ℕ) → BeginsIf begins opening s.openings after → s.line ≡ None → state ≡ state_if begins → log ≡ []
-    → IsSender s → IsSender (record s { openings = after; line = Some record { state = state; log = log } })
+pub begin_keeps : (s : SenderState) (opening after : ℕ) (begins : Bool) (state : OutboundState) (log : List ℕ) → BeginsIf begins opening s.openings after → s.outbound ≡ None → state ≡ state_if begins → log ≡ []
+    → IsSender s → IsSender (record s { openings = after; outbound = Some record { state = state; log = log } })
 begin_keeps s opening after begins state log b alone states logs is =
-    subst (λ (z : LineState × List ℕ). IsSender (record s { openings = after; line = Some record { state = z.0; log = z.1 } })) (λ i. (sym states i, sym logs i)) (by begins b)
+    subst (λ (z : OutboundState × List ℕ). IsSender (record s { openings = after; outbound = Some record { state = z.0; log = z.1 } })) (λ i. (sym states i, sym logs i)) (by begins b)
   where
-    before : (s.seen ≡ s.account.since) × (s.takes ≡ s.account.takes) × (s.left ≡ [])
-    before = subst (λ (o : Option Line). IsLine s o) alone is.line
+    before : (s.seen ≡ s.sendings.since) × (s.takes ≡ s.sendings.takes) × (s.left ≡ [])
+    before = subst (λ (o : Option Outbound). IsOutbound s o) alone is.outbound
 
-    by : (begins : Bool) → BeginsIf begins opening s.openings after → IsSender (record s { openings = after; line = Some record { state = state_if begins; log = [] } })
+    by : (begins : Bool) → BeginsIf begins opening s.openings after → IsSender (record s { openings = after; outbound = Some record { state = state_if begins; log = [] } })
     by true b =
         let next = b.next in
         let under = b.below in
         let known = b.known in
         let so = is.counted (omega arith) in
-        let count : s.openings ≡ length s.account.past = so.0 ∙ ap (λ o. began o s.account.past) alone in
-        let at : opening ≡ length s.account.past + 1 = omega arith in
+        let count : s.openings ≡ length s.sendings.past = so.0 ∙ ap (λ o. began o s.sendings.past) alone in
+        let at : opening ≡ length s.sendings.past + 1 = omega arith in
         record {
           past = is.past;
           counted = λ below. (known ∙ at, so.1);
           unused = λ n later below. is.unused n (omega (arith, later)) below;
-          line = (
+          outbound = (
             record {
-              turns = [];
+              messages = [];
               are = record {
                 newer = [];
                 goes_on = before.0;
@@ -415,17 +415,17 @@ begin_keeps s opening after begins state log b alone states logs is =
         }
     by false b =
         let drains = drains_at (present s) s.slot s.seen in
-        let turns = turns_for drains in
+        let messages = without_noops drains in
         record {
           past = is.past;
           counted = λ below. absurd (omega (arith, below, b.0));
           unused = λ m later below. absurd (omega (arith, later, below, b.0));
-          line = (
+          outbound = (
             (
-              sent_by turns,
+              sent_by messages,
               0,
               record {
-                turns = turns;
+                messages = messages;
                 are = record { newer = []; goes_on = before.0; drained = turned drains; taken = (let none = no_noops drains in let t = before.1 in omega arith) };
                 whole = refl;
               },

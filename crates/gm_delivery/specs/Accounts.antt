@@ -5,9 +5,9 @@ use Rattle.gm_shared.specs.declared.tape.Answer.TheVariants as answers
 use Rattle.gm_shared.specs.declared.tape.Entry.{Entry}
 use Rattle.gm_shared.specs.Tapes.{actor_code}
 use Rattle.gm_shared.specs.Openings.{openings}
-use Rattle.gm_delivery.specs.Messages.{turn_of}
+use Rattle.gm_delivery.specs.Messages.{message_of}
 use Rattle.gm_delivery.specs.declared.account.Past.{Past}
-use Rattle.gm_delivery.specs.declared.account.Account.{Account}
+use Rattle.gm_delivery.specs.declared.account.Sendings.{Sendings}
 
 -- ---- what a pen was given
 
@@ -20,46 +20,46 @@ abbrev pub drains_at : ℕ → ℕ → List Entry → List (List ℕ)
 drains_at n c [] = []
 drains_at n c (e ∷ older) = if (2 * c + 1 == actor_code e.actor) && (openings c older == n) then bytes_in e.answer ∷ drains_at n c older else drains_at n c older
 
--- ---- turns
+-- ---- messages
 
 -- one drain: the bytes that it gave, and whether a NOOP was taken for them
-pub record Turn : Type 0 where
+pub record DrainedMessage : Type 0 where
   pub took : Bool
   pub gave : List ℕ
 
--- what turns send, each NOOP behind the bytes that were drained with it; the newest turn is the first
-abbrev pub sent_by : List Turn → List ℕ
+-- what messages send, each NOOP behind the bytes that were drained with it; the newest is the first
+abbrev pub sent_by : List DrainedMessage → List ℕ
 sent_by [] = []
-sent_by (t ∷ older) = sent_by older ++ turn_of t.took t.gave
+sent_by (m ∷ older) = sent_by older ++ message_of m.took m.gave
 
-abbrev pub drains_in : List Turn → List (List ℕ)
-drains_in turns = map (λ (t : Turn). t.gave) turns
+abbrev pub drains_in : List DrainedMessage → List (List ℕ)
+drains_in messages = map (λ (m : DrainedMessage). m.gave) messages
 
-abbrev pub takes_in : List Turn → ℕ
+abbrev pub takes_in : List DrainedMessage → ℕ
 takes_in [] = 0
-takes_in (t ∷ older) = takes_in older + (if t.took then 1 else 0)
+takes_in (m ∷ older) = takes_in older + (if m.took then 1 else 0)
 
--- The history grew from `since` to `until`. The turns are the drains of the pen of slot c at the n-th opening, one for one, and it took their NOOPs
+-- The history grew from `since` to `until`. The messages are the drains of the pen of slot c at the n-th opening, one for one, and it took their NOOPs
 -- meanwhile, and perhaps others, which are lost.
-pub record AreTurns (n c : ℕ) (since : List Entry) (takes : ℕ) (until : List Entry) (takes_after lost : ℕ) (turns : List Turn) : Type 0 where
+pub record AreMessages (n c : ℕ) (since : List Entry) (takes : ℕ) (until : List Entry) (takes_after lost : ℕ) (messages : List DrainedMessage) : Type 0 where
   pub newer : List Entry
   pub goes_on : until ≡ newer ++ since
-  pub drained : drains_at n c until ≡ drains_in turns
-  pub taken : takes_after ≡ takes + takes_in turns + lost
+  pub drained : drains_at n c until ≡ drains_in messages
+  pub taken : takes_after ≡ takes + takes_in messages + lost
 
--- What was written to the connection of the n-th opening, and then the rest, is what the turns send: each byte once, in order.
+-- What was written to the connection of the n-th opening, and then the rest, is what the messages send: each byte once, in order.
 pub record IsWritten (n c : ℕ) (since : List Entry) (takes : ℕ) (until : List Entry) (takes_after lost : ℕ) (written rest : List ℕ) : Type 0 where
-  pub turns : List Turn
-  pub are : AreTurns n c since takes until takes_after lost turns
-  pub whole : sent_by turns ≡ written ++ rest
+  pub messages : List DrainedMessage
+  pub are : AreMessages n c since takes until takes_after lost messages
+  pub whole : sent_by messages ≡ written ++ rest
 
--- A prefix of what the turns send was written.
+-- A prefix of what the messages send was written.
 abbrev pub IsPrefixWritten : ℕ → ℕ → List Entry → ℕ → List Entry → ℕ → List ℕ → Type 0
 IsPrefixWritten n c since takes until takes_after written = (rest : List ℕ) × (lost : ℕ) × IsWritten n c since takes until takes_after lost written rest
 
 -- ---- connections that are gone
 
--- To the connection of the n-th opening a prefix of what the turns send was written; all of it and each NOOP that was taken, where that is said.
+-- To the connection of the n-th opening a prefix of what the messages send was written; all of it and each NOOP that was taken, where that is said.
 pub record WrittenTo (n c : ℕ) (p : Past) : Type 0 where
   pub rest : List ℕ
   pub lost : ℕ
@@ -77,10 +77,10 @@ abbrev pub AreOver : ℕ → List Past → List Entry → Type 0
 AreOver c [] seen = Unit {0}
 AreOver c (p ∷ older) seen = (drains_at (length older + 1) c seen ≡ drains_at (length older + 1) c p.until) × AreOver c older seen
 
-abbrev pub blank_account : Account
-blank_account = record { past = []; since = []; takes = 0 }
+abbrev pub no_sendings : Sendings
+no_sendings = record { past = []; since = []; takes = 0 }
 
 -- a connection more is gone, to which this was written, all of what was due or not
-abbrev pub closed : List Entry → ℕ → List ℕ → Bool → Account → Account
-closed seen takes log is_whole account =
-    record { past = record { since = account.since; takes = account.takes; until = seen; takes_after = takes; log = log; is_whole = is_whole } ∷ account.past; since = seen; takes = takes }
+abbrev pub closed : List Entry → ℕ → List ℕ → Bool → Sendings → Sendings
+closed seen takes log is_whole sendings =
+    record { past = record { since = sendings.since; takes = sendings.takes; until = seen; takes_after = takes; log = log; is_whole = is_whole } ∷ sendings.past; since = seen; takes = takes }

@@ -1,7 +1,7 @@
 -- What is to be done for a connection, and until when.
 use Rattle.std.specs.Prelude.{ℕ, ◌+◌, ◌-◌, ◌^◌, min, Bool, true, false}
-use Rattle.gm_delivery.specs.declared.life.LineState.{LineState}
-use Rattle.gm_delivery.specs.declared.life.LineState.TheVariants.{Open, Finished, Cut}
+use Rattle.gm_delivery.specs.declared.life.OutboundState.{OutboundState}
+use Rattle.gm_delivery.specs.declared.life.OutboundState.TheVariants.{Open, Finished, Cut}
 use Rattle.gm_delivery.specs.declared.life.Deed.{Deed}
 use Rattle.gm_delivery.specs.declared.life.Deed.TheVariants.{Serve, Send, Linger, HangUp, LetGo}
 
@@ -15,7 +15,7 @@ most_time false = 30_000
 most_time true = 2_000
 
 -- what is to be done in this state, where the time is over or not, something is left to be sent or not, and the input ended or not
-abbrev pub deed_of : LineState → Bool → Bool → Bool → Deed
+abbrev pub deed_of : OutboundState → Bool → Bool → Bool → Deed
 deed_of Open false true ended = Send
 deed_of state over left true = LetGo
 deed_of Open over false false = Serve
@@ -23,12 +23,12 @@ deed_of Finished false left false = Linger
 deed_of state over left false = HangUp
 
 -- where a connection can be sent to, or not
-abbrev pub state_if : Bool → LineState
+abbrev pub state_if : Bool → OutboundState
 state_if true = Open
 state_if false = Cut
 
 -- what is finished stays so
-abbrev pub cut_state : LineState → LineState
+abbrev pub cut_state : OutboundState → OutboundState
 cut_state Open = Cut
 cut_state Finished = Finished
 cut_state Cut = Cut

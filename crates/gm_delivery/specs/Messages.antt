@@ -14,8 +14,8 @@ noop_if true = answer_packet noop
 noop_if false = []
 
 -- what a message sends: the bytes that were drained, and then a NOOP where one was taken
-abbrev pub turn_of : Bool → List ℕ → List ℕ
-turn_of took drained = drained ++ noop_if took
+abbrev pub message_of : Bool → List ℕ → List ℕ
+message_of took drained = drained ++ noop_if took
 
 -- what isn't sent yet of a message's NOOP, where one was taken
 abbrev pub noop_left : Message → List ℕ

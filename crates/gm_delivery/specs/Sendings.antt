@@ -6,17 +6,17 @@ use Rattle.gm_shared.specs.declared.receipt.Drained.{Drained}
 use Rattle.gm_shared.specs.declared.tape.Entry.{Entry}
 use Rattle.gm_shared.specs.Calls.{PenCalled}
 use Rattle.gm_shared.specs.Openings.{most_openings}
-use Rattle.gm_delivery.specs.declared.account.Account.{Account}
+use Rattle.gm_delivery.specs.declared.account.Sendings.{Sendings}
 use Rattle.gm_delivery.specs.declared.account.Past.{Past}
-use Rattle.gm_delivery.specs.declared.life.LineState.{LineState}
-use Rattle.gm_delivery.specs.declared.life.LineState.TheVariants.{Open, Finished, Cut}
+use Rattle.gm_delivery.specs.declared.life.OutboundState.{OutboundState}
+use Rattle.gm_delivery.specs.declared.life.OutboundState.TheVariants.{Open, Finished, Cut}
 use Rattle.gm_delivery.specs.Lives.{state_if, cut_state}
-use Rattle.gm_delivery.specs.Messages.{turn_of}
+use Rattle.gm_delivery.specs.Messages.{message_of}
 use Rattle.gm_delivery.specs.Accounts.{drains_at, IsWritten, IsPrefixWritten, ArePast, AreOver, closed}
 
 -- a connection: how far the sending to it is, and all that was written to it
-pub record Line : Type 0 where
-  pub state : LineState
+pub record Outbound : Type 0 where
+  pub state : OutboundState
   pub log : List ℕ
 
 -- the pen's slot, how many connections began there, what the pen has seen of the history, how many NOOPs it took and how often it tried; what is left
@@ -28,89 +28,89 @@ pub record SenderState : Type 0 where
   pub takes : ℕ
   pub tries : ℕ
   pub left : List ℕ
-  pub line : Option Line
-  pub account : Account
+  pub outbound : Option Outbound
+  pub sendings : Sendings
 
 -- the opening of the connection that is there, or of the next one
 abbrev pub present : SenderState → ℕ
-present s = length s.account.past + 1
+present s = length s.sendings.past + 1
 
 -- What was written to the connection, and then what is left, is what the pen is given at its opening, which a count of 64 bits can tell; where the
 -- sending is finished, it is all of that, and where it broke off, a prefix.
-abbrev pub IsLineSo : SenderState → List ℕ → LineState → Type 0
-IsLineSo s log Open = IsWritten (present s) s.slot s.account.since s.account.takes s.seen s.takes 0 log s.left × (s.openings ≡ present s) × (s.openings < most_openings)
-IsLineSo s log Finished = IsWritten (present s) s.slot s.account.since s.account.takes s.seen s.takes 0 log [] × (s.left ≡ [])
-IsLineSo s log Cut = IsPrefixWritten (present s) s.slot s.account.since s.account.takes s.seen s.takes log × (s.left ≡ [])
+abbrev pub IsOutboundSo : SenderState → List ℕ → OutboundState → Type 0
+IsOutboundSo s log Open = IsWritten (present s) s.slot s.sendings.since s.sendings.takes s.seen s.takes 0 log s.left × (s.openings ≡ present s) × (s.openings < most_openings)
+IsOutboundSo s log Finished = IsWritten (present s) s.slot s.sendings.since s.sendings.takes s.seen s.takes 0 log [] × (s.left ≡ [])
+IsOutboundSo s log Cut = IsPrefixWritten (present s) s.slot s.sendings.since s.sendings.takes s.seen s.takes log × (s.left ≡ [])
 
 -- With no connection the pen is given nothing.
-abbrev pub IsLine : SenderState → Option Line → Type 0
-IsLine s None = (s.seen ≡ s.account.since) × (s.takes ≡ s.account.takes) × (s.left ≡ [])
-IsLine s (Some line) = IsLineSo s line.log line.state
+abbrev pub IsOutbound : SenderState → Option Outbound → Type 0
+IsOutbound s None = (s.seen ≡ s.sendings.since) × (s.takes ≡ s.sendings.takes) × (s.left ≡ [])
+IsOutbound s (Some outbound) = IsOutboundSo s outbound.log outbound.state
 
 -- how many connections began, with the one that is there
-abbrev pub began : Option Line → List Past → ℕ
+abbrev pub began : Option Outbound → List Past → ℕ
 began None past = length past
-began (Some line) past = length past + 1
+began (Some outbound) past = length past + 1
 
 -- Each connection that began is counted, and at the openings of those that are gone the pen is given no more, unless the count can't tell. At later
 -- openings it was given nothing yet.
 pub record IsSender (s : SenderState) : Type 0 where
-  pub past : ArePast s.slot s.account.past s.account.since s.account.takes
-  pub counted : s.openings < most_openings → (s.openings ≡ began s.line s.account.past) × AreOver s.slot s.account.past s.seen
+  pub past : ArePast s.slot s.sendings.past s.sendings.since s.sendings.takes
+  pub counted : s.openings < most_openings → (s.openings ≡ began s.outbound s.sendings.past) × AreOver s.slot s.sendings.past s.seen
   pub unused : (n : ℕ) → s.openings < n → n < most_openings → drains_at n s.slot s.seen ≡ []
-  pub line : IsLine s s.line
+  pub outbound : IsOutbound s s.outbound
 
 -- ---- a connection
 
 -- it can't be sent to any more
-abbrev pub cut : Option Line → Option Line
+abbrev pub cut : Option Outbound → Option Outbound
 cut None = None
-cut (Some line) = Some record { state = cut_state line.state; log = line.log }
+cut (Some outbound) = Some record { state = cut_state outbound.state; log = outbound.log }
 
 -- whether there is a connection that can be sent to
-abbrev pub can_send : LineState → Bool
+abbrev pub can_send : OutboundState → Bool
 can_send Open = true
 can_send Finished = false
 can_send Cut = false
 
-abbrev pub is_open : Option Line → Bool
+abbrev pub is_open : Option Outbound → Bool
 is_open None = false
-is_open (Some line) = can_send line.state
+is_open (Some outbound) = can_send outbound.state
 
 -- whether it can be sent to, and nothing is left for it
 abbrev pub is_clear : SenderState → Bool
-is_clear s = is_open s.line && (length s.left == 0)
+is_clear s = is_open s.outbound && (length s.left == 0)
 
 -- ---- the present message
 
 -- A part of what was left was written; the rest is left, or the sending broke off, as not all could be written.
-pub record SendsPart (log left : List ℕ) (now : Line) (left_now : List ℕ) : Type 0 where
+pub record SendsPart (log left : List ℕ) (now : Outbound) (left_now : List ℕ) : Type 0 where
   pub part : List ℕ
   pub rest : List ℕ
   pub whole : left ≡ part ++ rest
   pub breaks_off : Bool
   pub some_left : breaks_off ≡ true → rest ≡ [] → ⊥
-  pub line_is : now ≡ record { state = if breaks_off then Cut else Open; log = log ++ part }
+  pub outbound_is : now ≡ record { state = if breaks_off then Cut else Open; log = log ++ part }
   pub left_is : left_now ≡ (if breaks_off then [] else rest)
 
 -- What is left for a connection is sent, if it can be sent to.
-abbrev pub Sends : LineState → Line → List ℕ → Line → List ℕ → Type 0
-Sends Open line left now left_now = SendsPart line.log left now left_now
-Sends state line left now left_now = (now ≡ line) × (left_now ≡ left)
+abbrev pub Sends : OutboundState → Outbound → List ℕ → Outbound → List ℕ → Type 0
+Sends Open outbound left now left_now = SendsPart outbound.log left now left_now
+Sends state outbound left now left_now = (now ≡ outbound) × (left_now ≡ left)
 
-abbrev pub SendsTo : Option Line → SenderState → SenderState → Type 0
+abbrev pub SendsTo : Option Outbound → SenderState → SenderState → Type 0
 SendsTo None old new = new ≡ old
-SendsTo (Some line) old new = (now : Line) × Sends line.state line old.left now new.left × (new ≡ record old { left = new.left; line = Some now })
+SendsTo (Some outbound) old new = (now : Outbound) × Sends outbound.state outbound old.left now new.left × (new ≡ record old { left = new.left; outbound = Some now })
 
 abbrev pub SendsLeft : SenderState → SenderState → Type 0
-SendsLeft old new = SendsTo old.line old new
+SendsLeft old new = SendsTo old.outbound old new
 
 -- ---- what the pen gives
 
 -- What it gave for the connection is left to be sent; from where on it gives what waits for another opening, no connection can be told from another.
 abbrev pub refilled : Bool → Result Drained ApplyError → SenderState → SenderState
-refilled took (Ok drained) s = if drained.opening == s.openings then record s { left = turn_of took drained.bytes.bytes } else record s { openings = most_openings; line = cut s.line }
-refilled took (Err error) s = record s { line = cut s.line }
+refilled took (Ok drained) s = if drained.opening == s.openings then record s { left = message_of took drained.bytes.bytes } else record s { openings = most_openings; outbound = cut s.outbound }
+refilled took (Err error) s = record s { outbound = cut s.outbound }
 
 -- whether the slot is shut, if something was given for the connection
 abbrev pub shut_in : Result Drained ApplyError → ℕ → Option Bool
@@ -128,13 +128,13 @@ pub record Refills (k : Settings) (taped : Bool) (is_shut : Option Bool) (old ne
 
 -- ---- a delivery
 
-abbrev pub finished_line : Option Line → Option Line
-finished_line None = None
-finished_line (Some line) = Some record { state = Finished; log = line.log }
+abbrev pub finished_outbound : Option Outbound → Option Outbound
+finished_outbound None = None
+finished_outbound (Some outbound) = Some record { state = Finished; log = outbound.log }
 
 -- no more is sent
 abbrev pub finished : SenderState → SenderState
-finished s = record s { line = finished_line s.line }
+finished s = record s { outbound = finished_outbound s.outbound }
 
 -- What was given is sent. If all of it was, and the slot is shut or the connection is to end, no more is.
 abbrev pub SendsGiven : Option Bool → Bool → SenderState → SenderState → Type 0
@@ -155,11 +155,11 @@ pub record Delivers (k : Settings) (taped ends : Bool) (old new : SenderState) :
 
 -- The connection is sent nothing more, and nothing is left for it.
 abbrev pub IsCutOff : SenderState → SenderState → Type 0
-IsCutOff old new = new ≡ record old { left = []; line = cut old.line }
+IsCutOff old new = new ≡ record old { left = []; outbound = cut old.outbound }
 
-abbrev pub account_without : SenderState → Option Line → Bool → Account
-account_without s None is_whole = s.account
-account_without s (Some line) is_whole = closed s.seen s.takes line.log is_whole s.account
+abbrev pub sendings_without : SenderState → Option Outbound → Bool → Sendings
+sendings_without s None is_whole = s.sendings
+sendings_without s (Some outbound) is_whole = closed s.seen s.takes outbound.log is_whole s.sendings
 
 abbrev pub if_whole : Option Bool → Bool
 if_whole None = false
@@ -167,8 +167,8 @@ if_whole (Some is_whole) = is_whole
 
 -- The connection, if there was one, is gone, and entered with all that was written to it, and whether that was all that was due.
 pub record IsLetGo (result : Option Bool) (old new : SenderState) : Type 0 where
-  pub after : new ≡ record old { left = []; line = None; account = account_without old old.line (if_whole result) }
-  pub there : is_some result ≡ is_some old.line
+  pub after : new ≡ record old { left = []; outbound = None; sendings = sendings_without old old.outbound (if_whole result) }
+  pub there : is_some result ≡ is_some old.outbound
 
 -- the connection of the next opening of a slot begins, where a count of 64 bits can tell it from the one after it
 pub record Begins (opening old new : ℕ) : Type 0 where
@@ -184,5 +184,5 @@ BeginsIf false opening old new = (new ≡ most_openings) × (opening ≡ old + 1
 -- The connection of this opening is there: it can be sent to, or, where its opening isn't the next one, it is cut.
 pub record IsBegun (begins : Bool) (opening : ℕ) (old new : SenderState) : Type 0 where
   pub begins_if : BeginsIf begins opening old.openings new.openings
-  pub line : new.line ≡ Some record { state = state_if begins; log = [] }
-  pub lets_go : (whole : Option Bool) × IsLetGo whole old (record new { openings = old.openings; line = None })
+  pub outbound : new.outbound ≡ Some record { state = state_if begins; log = [] }
+  pub lets_go : (whole : Option Bool) × IsLetGo whole old (record new { openings = old.openings; outbound = None })

@@ -1,7 +1,7 @@
 //! What was written to a slot's connections, which only proofs know.
 
 ghost use Rattle.std.specs.Prelude.{◌≡◌, IfOk};
-ghost use Rattle.gm_delivery.specs.Accounts.{blank_account, closed};
+ghost use Rattle.gm_delivery.specs.Accounts.{no_sendings, closed};
 
 use crate::socket::WriteHalf;
 use gm_ghost::{Ghost, Worth};
@@ -25,13 +25,13 @@ pub struct Past {
 /// A slot's connections that are gone, the newest first, and what the pen had seen and taken when the last went or the present one came.
 /// None but a blank one is made.
 #[derive(Drop)]
-pub struct Account {
+pub struct Sendings {
     pub past: LinkedList<Past>,
     pub since: LinkedList<Entry>,
     pub takes: u64,
 }
 
-impl Worth<Account> for Brand {
+impl Worth<Sendings> for Brand {
     ghost use Rattle.std.specs.Prelude.{[]};
 
     ghost worth = { record { past = []; since = []; takes = 0 } };
@@ -40,13 +40,13 @@ impl Worth<Account> for Brand {
 /// A slot's account. Contracts see what it has.
 #[derive(Drop)]
 pub struct Ledger {
-    cell: Ghost<Account>,
+    cell: Ghost<Sendings>,
 }
 
 impl Model for Ledger {
-    ghost use Rattle.gm_delivery.specs.declared.account.Account.{Account};
+    ghost use Rattle.gm_delivery.specs.declared.account.Sendings.{Sendings};
 
-    ghost Value = { Account };
+    ghost Value = { Sendings };
 
     ghost view = { λ l. l.cell };
 }
@@ -54,9 +54,9 @@ impl Model for Ledger {
 impl Ledger {
     /// A blank account.
     pub(crate) fn new(alloc: Global) -> Result<Ledger, AllocError>
-        ensures { IfOk result (λ ledger. ledger ≡ blank_account) }
+        ensures { IfOk result (λ ledger. ledger ≡ no_sendings) }
     {
-        let blank = Account {
+        let blank = Sendings {
             past: LinkedList::new(alloc),
             since: LinkedList::new(alloc),
             takes: 0,

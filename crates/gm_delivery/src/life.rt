@@ -7,7 +7,7 @@ use gm_report::{ENDING_TIME_MS, MOST_ENDING_TIME_MS};
 
 /// How far the sending to a connection is.
 #[derive(Clone, Copy, PartialEq, Eq)]
-pub enum LineState {
+pub enum OutboundState {
     /// It goes on.
     Open,
     /// All was sent, and no more is.
@@ -35,7 +35,7 @@ pub enum Deed {
 /// How far a connection is, and its end. Times are of the clock that never goes back.
 #[derive(Clone, Copy)]
 pub struct Life {
-    pub(crate) state: LineState,
+    pub(crate) state: OutboundState,
     /// When its time is over, unless its peer takes some before.
     until: u64,
     /// When it is over whatever its peer takes.
@@ -51,9 +51,9 @@ impl Life {
         ensures unlimited { (result.until ≡ 2 ^ 64 - 1) × (result.last ≡ 2 ^ 64 - 1) × (result.is_over ≡ false) }
     {
         let state = if begins {
-            LineState::Open
+            OutboundState::Open
         } else {
-            LineState::Cut
+            OutboundState::Cut
         };
         Life {
             state,
@@ -92,10 +92,10 @@ impl Life {
     {
         // Modelled in models/lane.h.
         match self.state {
-            LineState::Open if has_left && !self.is_over => Deed::Send,
+            OutboundState::Open if has_left && !self.is_over => Deed::Send,
             _ if has_ended => Deed::LetGo,
-            LineState::Open if !has_left => Deed::Serve,
-            LineState::Finished if !self.is_over => Deed::Linger,
+            OutboundState::Open if !has_left => Deed::Serve,
+            OutboundState::Finished if !self.is_over => Deed::Linger,
             _ => Deed::HangUp,
         }
     }

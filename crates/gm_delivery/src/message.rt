@@ -25,11 +25,11 @@ pub struct Message {
 }
 
 impl Message {
-    ghost use Rattle.gm_delivery.specs.Messages.{turn_of, noop_left, unsent, SendsPrefix};
+    ghost use Rattle.gm_delivery.specs.Messages.{message_of, noop_left, unsent, SendsPrefix};
 
     /// These bytes, and a NOOP where one was taken.
     pub fn new(bytes: ByteQueue, took: bool) -> Message
-        ensures { unsent result ≡ turn_of took bytes.bytes }
+        ensures { unsent result ≡ message_of took bytes.bytes }
     {
         Message {
             bytes,

@@ -2,12 +2,12 @@
 
 ghost use Rattle.std.specs.Prelude.{◌≡◌, ◌<◌, [], length, None, true, IfOk};
 ghost use Rattle.gm_shared.specs.Openings.{most_openings};
-ghost use Rattle.gm_delivery.specs.Accounts.{blank_account, ArePast, AreOver};
+ghost use Rattle.gm_delivery.specs.Accounts.{no_sendings, ArePast, AreOver};
 ghost use Rattle.gm_delivery.specs.Sendings.{is_clear, SendsLeft, Refills, finished, Delivers, IsCutOff, IsLetGo, IsBegun};
 
 use crate::account::Ledger;
 use crate::lane::Writing;
-use crate::life::{Deed, Life, LineState};
+use crate::life::{Deed, Life, OutboundState};
 use crate::message::Message;
 use crate::socket::WriteHalf;
 use crate::wire::Wire;
@@ -47,8 +47,8 @@ impl<K: BookName> Model for Sender<K> {
       takes = s.pen.seat.takes;
       tries = s.pen.seat.tries;
       left = left_in s.left;
-      line = option_map (λ c. record { state = c.life.state; log = c.socket.2 }) s.connection;
-      account = s.ledger;
+      outbound = option_map (λ c. record { state = c.life.state; log = c.socket.2 }) s.connection;
+      sendings = s.ledger;
     } };
 
     ghost invariant = { λ s. IsSender (record {
@@ -58,8 +58,8 @@ impl<K: BookName> Model for Sender<K> {
       takes = s.pen.seat.takes;
       tries = s.pen.seat.tries;
       left = left_in s.left;
-      line = option_map (λ c. record { state = c.life.state; log = c.socket.2 }) s.connection;
-      account = s.ledger;
+      outbound = option_map (λ c. record { state = c.life.state; log = c.socket.2 }) s.connection;
+      sendings = s.ledger;
     }) };
 }
 
@@ -67,7 +67,7 @@ impl<K: BookName> Sender<K> {
     /// A pen that was given nothing yet, and no connection.
     pub fn new(alloc: Global, pen: Pen<K>) -> Result<Sender<K>, AllocError>
         requires { (pen.witness.seen ≡ []) × (pen.seat.takes ≡ 0) }
-        ensures { IfOk result (λ sender. (sender.slot ≡ pen.slot) × (sender.line ≡ None) × (sender.account ≡ blank_account)) }
+        ensures { IfOk result (λ sender. (sender.slot ≡ pen.slot) × (sender.outbound ≡ None) × (sender.sendings ≡ no_sendings)) }
     {
         Ok(Sender {
             pen,
@@ -147,11 +147,11 @@ impl<K: BookName> Sender<K> {
             }
             Ok(_) => {
                 self.openings = u64::MAX;
-                half.life.state = LineState::Cut;
+                half.life.state = OutboundState::Cut;
                 None
             }
             Err(_) => {
-                half.life.state = LineState::Cut;
+                half.life.state = OutboundState::Cut;
                 None
             }
         }
@@ -166,7 +166,7 @@ impl<K: BookName> Sender<K> {
         let Some(half) = &mut self.connection else {
             return;
         };
-        half.life.state = LineState::Finished;
+        half.life.state = OutboundState::Finished;
         half.shut(Shutdown::Write);
     }
 
@@ -210,9 +210,9 @@ impl<K: BookName> Sender<K> {
             return None;
         };
         let is_whole = match half.life.state {
-            LineState::Open => self.left.is_none(),
-            LineState::Finished => true,
-            LineState::Cut => false,
+            OutboundState::Open => self.left.is_none(),
+            OutboundState::Finished => true,
+            OutboundState::Cut => false,
         };
         self.ledger.close(&self.pen, &half, is_whole);
         self.left = None;

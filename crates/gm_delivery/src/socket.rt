@@ -7,7 +7,7 @@ ghost use Rattle.gm_delivery.specs.Messages.{left_in};
 ghost use Rattle.gm_delivery.specs.Sendings.{SendsPart, can_send};
 
 use crate::lane::Writing;
-use crate::life::{Deed, Life, LineState};
+use crate::life::{Deed, Life, OutboundState};
 use crate::logged::LoggedWriter;
 use crate::message::Message;
 use crate::wire::{KnownWriter, Wire};
@@ -104,12 +104,12 @@ impl WriteHalf {
     pub(crate) fn send<E>(&mut self, left: &mut Option<Message>, by: &E) -> bool
     where
         WriteHalf: Wire<E>,
-        ensures idle { (self.old.life.state ≡ LineState.Open → ⊥) → (self.new ≡ self.old) × (left.new ≡ left.old) × (result ≡ false) }
-        ensures sends { self.old.life.state ≡ LineState.Open → SendsPart self.old.socket.2 (left_in left.old) (record { state = self.new.life.state; log = self.new.socket.2 }) (left_in left.new) }
-        ensures clear { self.old.life.state ≡ LineState.Open → result ≡ can_send self.new.life.state && (length (left_in left.new) == 0) }
+        ensures idle { (self.old.life.state ≡ OutboundState.Open → ⊥) → (self.new ≡ self.old) × (left.new ≡ left.old) × (result ≡ false) }
+        ensures sends { self.old.life.state ≡ OutboundState.Open → SendsPart self.old.socket.2 (left_in left.old) (record { state = self.new.life.state; log = self.new.socket.2 }) (left_in left.new) }
+        ensures clear { self.old.life.state ≡ OutboundState.Open → result ≡ can_send self.new.life.state && (length (left_in left.new) == 0) }
     {
         // Modelled in models/lane.h.
-        if self.life.state != LineState::Open {
+        if self.life.state != OutboundState::Open {
             return false;
         }
         let Some(message) = left else {
@@ -119,16 +119,16 @@ impl WriteHalf {
         match message.send(self, by) {
             Sent::All => {
                 *left = None;
-                self.life.state = LineState::Open;
+                self.life.state = OutboundState::Open;
                 true
             }
             Sent::Some => {
-                self.life.state = LineState::Open;
+                self.life.state = OutboundState::Open;
                 false
             }
             Sent::Failed => {
                 *left = None;
-                self.life.state = LineState::Cut;
+                self.life.state = OutboundState::Cut;
                 false
             }
         }
@@ -145,7 +145,7 @@ impl WriteHalf {
         ensures socket { self.new.socket ≡ self.old.socket }
     {
         // Modelled in models/lane.h.
-        if self.life.state == LineState::Finished {
+        if self.life.state == OutboundState::Finished {
             self.life
                 .look(now_ms(by.context.rt), by.context.is_stopping(), false);
         }
@@ -158,8 +158,8 @@ impl WriteHalf {
         ensures socket { self.new.socket ≡ self.old.socket }
     {
         // Modelled in models/lane.h.
-        if self.life.state == LineState::Open {
-            self.life.state = LineState::Cut;
+        if self.life.state == OutboundState::Open {
+            self.life.state = OutboundState::Cut;
         }
         self.shut(Shutdown::Both);
     }

@@ -3,7 +3,7 @@
 ghost use Rattle.std.specs.Prelude.{◌≡◌, ◌<◌, length, take, OnOk, IfErr};
 ghost use Rattle.std.specs.Io.KnownBytes.{Appends};
 ghost use Rattle.std.specs.IoError.{error_kind};
-ghost use Rattle.gm_delivery.specs.Messages.{turn_of, noop_if, sent_on, Writes};
+ghost use Rattle.gm_delivery.specs.Messages.{message_of, noop_if, sent_on, Writes};
 
 use crate::wire::Wire;
 use std::io::{Error, ErrorKind, Write};
@@ -57,7 +57,7 @@ pub(crate) fn write_once<E, W: Wire<E>>(bytes: &[u8], w: &mut W, by: &E) -> (usi
     }
 }
 
-/// That a turn wasn't written to its end.
+/// That a message wasn't written to its end.
 #[derive(Clone, Copy, Debug, PartialEq, Eq)]
 pub struct WriteFault {
     /// How many of its bytes were.
@@ -81,12 +81,12 @@ fn write_whole<W: Write>(bytes: &[u8], w: &mut W) -> Result<(), usize>
     Ok(())
 }
 
-/// Writes a turn: the drained bytes, and then a NOOP where one was taken. A fault comes where the writer fails or takes
-/// no byte, and says how many bytes of the turn were written.
+/// Writes a message: the drained bytes, and then a NOOP where one was taken. A fault comes where the writer fails or takes
+/// no byte, and says how many bytes of the message were written.
 pub fn write_turn<W: Write>(took: bool, drained: &[u8], w: &mut W) -> Result<(), WriteFault>
-    ensures ok { OnOk result (Appends (W.contents w.old) (W.contents w.new) (turn_of took drained.now)) }
-    ensures short { IfErr result (λ fault. fault.written < length (turn_of took drained.now)) }
-    ensures fault { IfErr result (λ fault. Appends (W.contents w.old) (W.contents w.new) (take fault.written (turn_of took drained.now))) }
+    ensures ok { OnOk result (Appends (W.contents w.old) (W.contents w.new) (message_of took drained.now)) }
+    ensures short { IfErr result (λ fault. fault.written < length (message_of took drained.now)) }
+    ensures fault { IfErr result (λ fault. Appends (W.contents w.old) (W.contents w.new) (take fault.written (message_of took drained.now))) }
 {
     if let Err(written) = write_whole(drained, w) {
         return Err(WriteFault { written });

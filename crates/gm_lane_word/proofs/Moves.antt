@@ -3,23 +3,23 @@ use Rattle.std.proofs.Common.{◌≡◌, ◌≢◌, ℕ, ◌-◌, ◌<◌, max, 
 use Rattle.std.specs.Prelude.{slice_index, slice_set}
 use Rattle.atomic_table.specs.Table.{State, Me, keeps, Allows, Enters, Arrives}
 use Rattle.gm_lane_word.specs.declared.view.Hold.TheVariants.{Free, Claims, Attempts}
-use Rattle.gm_lane_word.specs.declared.view.View.{View}
+use Rattle.gm_lane_word.specs.declared.view.LaneView.{LaneView}
 use Rattle.gm_lane_word.specs.Lane.{entered, touched, taken_over, attempted, finished, after_finish, handed_over, touches_of, answers_of}
 use Rattle.gm_lane_word.specs.Steps.{Step, enters, touches, takes_over, attempts, finishes, hands_over, Reached, steps, IsLane}
 use Rattle.gm_lane_word.proofs.Keeping.{reached_keeps}
 
 abbrev pub Sat : Type 0
-Sat = Me (Unit {0}) View
+Sat = Me (Unit {0}) LaneView
 
-abbrev pub IsReached : State (Unit {0}) View → Type 0
+abbrev pub IsReached : State (Unit {0}) LaneView → Type 0
 IsReached s = IsLane s.words s.views
 
 -- the word that a step finds
-found_is : (words : List ℕ) (views : List View) (lane : IsLane words views) → slice_index words 0 ≡ lane.word
+found_is : (words : List ℕ) (views : List LaneView) (lane : IsLane words views) → slice_index words 0 ≡ lane.word
 found_is words views lane = ap (λ (w : List ℕ). slice_index w 0) lane.one
 
 -- a step of one of the kinds
-moved : (words : List ℕ) (views : List View) (next : ℕ → ℕ) (after : ℕ → List View) → IsLane words views → ((word : ℕ) → Step word views (next word) (after word))
+moved : (words : List ℕ) (views : List LaneView) (next : ℕ → ℕ) (after : ℕ → List LaneView) → IsLane words views → ((word : ℕ) → Step word views (next word) (after word))
     → IsLane (slice_set words 0 (next (slice_index words 0))) (after (slice_index words 0))
 moved words views next after lane step =
     let word : ℕ = slice_index words 0 in

@@ -3,7 +3,7 @@ use Rattle.std.specs.Prelude.{◌≡◌, ℕ, ◌+◌, []}
 use Rattle.atomic_table.specs.Seated.{TableId}
 use Rattle.atomic_table.specs.declared.shared.Seat.{Seat}
 use Rattle.gm_lane_word.specs.declared.view.Hold.{Hold}
-use Rattle.gm_lane_word.specs.declared.view.View.{View}
+use Rattle.gm_lane_word.specs.declared.view.LaneView.{LaneView}
 
 -- what a thread did at a lane: touches, those among them that were take-overs, attempts that were begun, and hand-overs
 pub record Count : Type 0 where
@@ -30,12 +30,12 @@ abbrev pub with_hand_over : Count → Count
 with_hand_over count = record count { hand_overs = count.hand_overs + 1 }
 
 -- what a seat has counted
-abbrev pub count_of : Seat (Unit {0}) View → Count
+abbrev pub count_of : Seat (Unit {0}) LaneView → Count
 count_of seat =
     record { lane = seat.table_id; touches = seat.me.0.touches; take_overs = seat.me.0.take_overs; attempts = seat.me.0.attempts; hand_overs = seat.me.0.hand_overs }
 
 -- the seat is at the lane, and has this of it
-pub record SitsAt (hold : Hold) (lane : TableId) (seat : Seat (Unit {0}) View) : Type 0 where
+pub record SitsAt (hold : Hold) (lane : TableId) (seat : Seat (Unit {0}) LaneView) : Type 0 where
   pub lane_is : seat.table_id ≡ lane
   pub hold_is : seat.me.0.hold ≡ hold
   pub empty : seat.me.1 ≡ []

@@ -5,9 +5,9 @@ ghost use Rattle.std.specs.Result.{MatchResult};
 ghost use Rattle.gm_lane_word.specs.Seats.{with_hand_over};
 
 use crate::claim::Claim;
-use crate::rule::{Finish, HandOver};
+use crate::rule::{FinishAttempt, HandOver};
 use crate::tally::Tally;
-use crate::view::View;
+use crate::view::LaneView;
 use crate::word::{BUSY, IDLE, LEFT, LaneWord};
 use atomic_table::Seat;
 use std::marker::Model;
@@ -17,7 +17,7 @@ use std::marker::Model;
 /// Contracts see which lane, and what was done at it.
 pub struct Attempt<'a> {
     pub(crate) word: &'a LaneWord,
-    pub(crate) seat: Seat<(), View>,
+    pub(crate) seat: Seat<(), LaneView>,
 }
 
 impl<'a> Model for Attempt<'a> {
@@ -42,7 +42,7 @@ impl<'a> Attempt<'a> {
         let found = word
             .table
             .shared
-            .compare_exchange::<Finish>(&mut seat, 0, BUSY, IDLE);
+            .compare_exchange::<FinishAttempt>(&mut seat, 0, BUSY, IDLE);
         if found == BUSY {
             Ok(Tally { seat })
         } else {

@@ -7,7 +7,7 @@ ghost use Rattle.gm_lane_word.specs.Seats.{with_attempt, with_hand_over};
 use crate::attempt::Attempt;
 use crate::rule::{HandOver, StartAttempt};
 use crate::tally::Tally;
-use crate::view::View;
+use crate::view::LaneView;
 use crate::word::{BUSY, LEFT, LaneWord};
 use atomic_table::Seat;
 use std::marker::Model;
@@ -17,7 +17,7 @@ use std::marker::Model;
 /// Contracts see which lane, and what was done at it.
 pub struct Claim<'a> {
     pub(crate) word: &'a LaneWord,
-    pub(crate) seat: Seat<(), View>,
+    pub(crate) seat: Seat<(), LaneView>,
 }
 
 impl<'a> Model for Claim<'a> {

@@ -3,13 +3,13 @@
 ghost use Rattle.gm_lane_word.specs.Steps.{IsLane, TellsEnter, TellsTouch, TellsTakeOver, TellsAttempt, TellsFinish, TellsHandOver};
 ghost use Rattle.gm_lane_word.specs.Lane.{fresh_view};
 
-use crate::view::View;
+use crate::view::LaneView;
 use atomic_table::{Play, TableRule};
 
 /// The word is as steps of the six kinds, and no others, have left it.
 pub(crate) struct LaneRule;
 
-impl TableRule<(), View, ()> for LaneRule {
+impl TableRule<(), LaneView, ()> for LaneRule {
     ghost holds = { λ _ s. IsLane s.words s.views };
 
     ghost first = { λ _. fresh_view };
@@ -18,41 +18,41 @@ impl TableRule<(), View, ()> for LaneRule {
 /// A new seat comes, and has touched the lane where an attempt was owed anyway.
 pub(crate) struct Enter;
 
-impl Play<(), View> for Enter {
+impl Play<(), LaneView> for Enter {
     ghost then = { TellsEnter };
 }
 
 /// A seat touches the lane, and has it where nobody had it.
 pub(crate) struct Touch;
 
-impl Play<(), View> for Touch {
+impl Play<(), LaneView> for Touch {
     ghost then = { TellsTouch };
 }
 
 /// A new seat touches the lane, and has it where nobody had it or it was left.
 pub(crate) struct TakeOver;
 
-impl Play<(), View> for TakeOver {
+impl Play<(), LaneView> for TakeOver {
     ghost then = { TellsTakeOver };
 }
 
 /// The thread that has the lane begins an attempt.
 pub(crate) struct StartAttempt;
 
-impl Play<(), View> for StartAttempt {
+impl Play<(), LaneView> for StartAttempt {
     ghost then = { TellsAttempt };
 }
 
 /// The thread that has the lane gives it up, unless it was touched since the attempt began.
-pub(crate) struct Finish;
+pub(crate) struct FinishAttempt;
 
-impl Play<(), View> for Finish {
+impl Play<(), LaneView> for FinishAttempt {
     ghost then = { TellsFinish };
 }
 
 /// The thread that has the lane leaves it to the finisher.
 pub(crate) struct HandOver;
 
-impl Play<(), View> for HandOver {
+impl Play<(), LaneView> for HandOver {
     ghost then = { TellsHandOver };
 }

@@ -1,6 +1,6 @@
 //! Held by a thread that doesn't have the lane.
 
-use crate::view::View;
+use crate::view::LaneView;
 use atomic_table::Seat;
 use std::marker::Model;
 
@@ -9,7 +9,7 @@ use std::marker::Model;
 /// Contracts see which lane, and what was done at it.
 #[derive(Drop)]
 pub struct Tally {
-    pub(crate) seat: Seat<(), View>,
+    pub(crate) seat: Seat<(), LaneView>,
 }
 
 impl Model for Tally {

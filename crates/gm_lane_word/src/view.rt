@@ -11,7 +11,7 @@ pub enum Hold {
 }
 
 /// What a seat knows: what it has done at the lane so far, and what it has of it.
-pub struct View {
+pub struct LaneView {
     /// How often it touched the lane.
     pub touches: u64,
     /// How many of these were take-overs.

@@ -8,7 +8,7 @@ use crate::claim::Claim;
 use crate::due::Due;
 use crate::rule::{Enter, LaneRule, TakeOver, Touch};
 use crate::tally::Tally;
-use crate::view::View;
+use crate::view::LaneView;
 use atomic_table::Table;
 use std::alloc::{AllocError, Global};
 use std::marker::Model;
@@ -28,7 +28,7 @@ pub(crate) const LEFT: u64 = 3;
 /// The word of one lane, which all threads share. Contracts see which one it is.
 #[derive(Drop)]
 pub struct LaneWord {
-    pub(crate) table: Table<(), View, (), LaneRule, Global>,
+    pub(crate) table: Table<(), LaneView, (), LaneRule, Global>,
 }
 
 impl Model for LaneWord {

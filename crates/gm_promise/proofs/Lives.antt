@@ -437,9 +437,9 @@ are_sent k log legal own c [] seen since takes same over are = tt
 are_sent k log legal own c (p ∷ older) seen since takes same over are =
     let n = length older + 1 in
     let w = are.2.is_written in
-    let drained : drains_at n c log ≡ drains_in w.turns = same n ∙ (over.0 ∙ w.are.drained) in (
+    let drained : drains_at n c log ≡ drains_in w.messages = same n ∙ (over.0 ∙ w.are.drained) in (
       record {
-        turns = w.turns;
+        messages = w.messages;
         rest = are.2.rest;
         drained = drained;
         written = w.whole;

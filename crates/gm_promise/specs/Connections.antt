@@ -19,7 +19,7 @@ use Rattle.gm_session.specs.declared.heard.Heard.{Heard}
 use Rattle.gm_session.specs.Hearings.{AreHeard}
 use Rattle.gm_session.specs.Talks.{TalkingState, IsTalking}
 use Rattle.gm_delivery.specs.declared.account.Past.{Past}
-use Rattle.gm_delivery.specs.Accounts.{Turn, drains_at, sent_by, drains_in, ArePast, AreOver}
+use Rattle.gm_delivery.specs.Accounts.{DrainedMessage, drains_at, sent_by, drains_in, ArePast, AreOver}
 use Rattle.gm_promise.specs.Owners.{AreOwn}
 use Rattle.gm_promise.specs.Promise.{says}
 
@@ -66,16 +66,16 @@ abbrev pub joined : List (List ℕ) → List ℕ
 joined [] = []
 joined (gave ∷ older) = joined older ++ gave
 
--- The turns are the drains of slot c at its n-th opening, one for one, each with the NOOP that was taken for it behind its bytes or with none. To the
+-- The messages are the drains of slot c at its n-th opening, one for one, each with the NOOP that was taken for it behind its bytes or with none. To the
 -- connection a prefix of what they send was written, all of it where that is said. Their bytes, and then what still waited as the slot was closed, are
 -- all that the abstract server sent since that opening.
 pub record IsSent (k : Settings) (log : List Entry) (c n : ℕ) (p : Past) : Type 0 where
-  pub turns : List Turn
+  pub messages : List DrainedMessage
   pub rest : List ℕ
-  pub drained : drains_at n c log ≡ drains_in turns
-  pub written : sent_by turns ≡ p.log ++ rest
+  pub drained : drains_at n c log ≡ drains_in messages
+  pub written : sent_by messages ≡ p.log ++ rest
   pub whole : p.is_whole ≡ true → rest ≡ []
-  pub all : sent_at k n c log ≡ joined (drains_in turns) ++ left_at k n c log
+  pub all : sent_at k n c log ≡ joined (drains_in messages) ++ left_at k n c log
 
 -- so it is of each connection that is gone, the newest first; the last of them is of the first opening
 abbrev pub AreSent : Settings → List Entry → ℕ → List Past → Type 0

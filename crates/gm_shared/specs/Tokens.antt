@@ -9,9 +9,9 @@ use Rattle.gm_shared.specs.declared.tape.Entry.{Entry}
 use Rattle.gm_shared.specs.declared.what.What.{What}
 use Rattle.gm_shared.specs.declared.what.What.TheVariants as whats
 use Rattle.gm_shared.specs.declared.view.Note.{Note}
-use Rattle.gm_shared.specs.declared.view.Page.{Page}
-use Rattle.gm_shared.specs.declared.view.View.{View}
-use Rattle.gm_shared.specs.declared.view.View.TheVariants.{Keeper, Witness, Spent}
+use Rattle.gm_shared.specs.declared.view.KeeperPage.{KeeperPage}
+use Rattle.gm_shared.specs.declared.view.HistoryView.{HistoryView}
+use Rattle.gm_shared.specs.declared.view.HistoryView.TheVariants.{Keeper, Witness, Spent}
 use Rattle.gm_shared.specs.Tapes.{tape_step, noop_entries, event_entry, drain_entry}
 
 -- ---- what is entered
@@ -34,20 +34,20 @@ pub record KeeperState : Type 0 where
   pub log : List Entry
   pub made : ℕ
 
-abbrev pub log_in : View → List Entry
+abbrev pub log_in : HistoryView → List Entry
 log_in (Keeper page) = page.log
 log_in view = []
 
-abbrev pub made_in : View → ℕ
+abbrev pub made_in : HistoryView → ℕ
 made_in (Keeper page) = page.made
 made_in view = 0
 
-abbrev pub keeper_state : TableId → View → KeeperState
+abbrev pub keeper_state : TableId → HistoryView → KeeperState
 keeper_state table view = record { table = table; log = log_in view; made = made_in view }
 
 -- the seat is the first, and holds no actor's note
-pub record SitsAtKeeper (seat : Seat (Unit {0}) View) : Type 0 where
-  pub page : Page
+pub record SitsAtKeeper (seat : Seat (Unit {0}) HistoryView) : Type 0 where
+  pub page : KeeperPage
   pub first : seat.id ≡ 0
   pub knows : seat.me ≡ (Keeper page, [])
   pub free : page.held ≡ None
@@ -68,16 +68,16 @@ pub record WitnessState : Type 0 where
 abbrev pub no_note : Note
 no_note = record { who = 0; seen = [] }
 
-abbrev pub note_in : List View → Note
+abbrev pub note_in : List HistoryView → Note
 note_in [] = no_note
 note_in (Keeper page ∷ views) = no_note
 note_in (Witness note ∷ views) = note
 note_in (Spent ∷ views) = no_note
 
-abbrev pub witness_state : TableId → List View → WitnessState
+abbrev pub witness_state : TableId → List HistoryView → WitnessState
 witness_state table views = record { table = table; who = (note_in views).who; seen = (note_in views).seen }
 
-abbrev pub HasNote : List View → Type 0
+abbrev pub HasNote : List HistoryView → Type 0
 HasNote views = (note : Note) × (views ≡ Witness note ∷ [])
 
 abbrev pub sees : List Entry → WitnessState → WitnessState

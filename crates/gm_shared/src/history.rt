@@ -5,7 +5,7 @@ ghost use Rattle.gm_shared.specs.Histories.{Knows, AreBelow, AreOf};
 ghost use Rattle.gm_shared.specs.Tokens.{entries_of, kept_more, sees, next_witness, one_witness_more};
 
 use crate::rule::{Enter, Entered, Hands, HistoryRule, Makes};
-use crate::view::View;
+use crate::view::HistoryView;
 use crate::what::What;
 use atomic_table::{Badge, Seat, Table};
 use std::alloc::{AllocError, Global};
@@ -15,7 +15,7 @@ use std::mem;
 /// The word at which the steps of the history are made. Nobody writes it. Contracts see which table it is.
 #[derive(Drop)]
 pub struct History {
-    words: Table<(), View, (), HistoryRule, Global>,
+    words: Table<(), HistoryView, (), HistoryRule, Global>,
 }
 
 impl Model for History {
@@ -34,7 +34,7 @@ impl Model for History {
 /// Its owner knows the whole history, and only its owner adds to it. It has no bytes.
 #[derive(Drop)]
 pub struct Keeper {
-    seat: Seat<(), View>,
+    seat: Seat<(), HistoryView>,
 }
 
 impl Model for Keeper {
@@ -50,7 +50,7 @@ impl Model for Keeper {
 /// What one actor, a desk or a pen, has seen of the history. It has no bytes. There is one for each actor.
 #[derive(Drop)]
 pub struct Witness {
-    badge: Badge<View>,
+    badge: Badge<HistoryView>,
 }
 
 impl Model for Witness {

@@ -78,26 +78,26 @@ fn wait_for_ends(rt: &(impl Wait + Clock), progress: &Progress) {
 }
 
 /// Why a connection is refused, with the system's error where there is one.
-struct Refusal {
+struct Rejection {
     trouble: Trouble,
     error: i32,
 }
 
-impl Refusal {
-    fn new(trouble: Trouble) -> Refusal
+impl Rejection {
+    fn new(trouble: Trouble) -> Rejection
         ensures { result ≡ record { trouble = trouble; error = pos 0 } }
     {
-        Refusal { trouble, error: 0 }
+        Rejection { trouble, error: 0 }
     }
 }
 
-impl From<AllocError> for Refusal {
+impl From<AllocError> for Rejection {
     ghost use Rattle.gm_report.specs.declared.notices.Trouble.TheVariants.{Memory};
 
     ghost from_gives = { λ _ e. e ≡ record { trouble = Memory; error = pos 0 } };
 
-    fn from(_e: AllocError) -> Refusal {
-        Refusal::new(Trouble::Memory)
+    fn from(_e: AllocError) -> Rejection {
+        Rejection::new(Trouble::Memory)
     }
 }
 
@@ -147,7 +147,7 @@ impl<'s, K: BookName + Send + Sync> Control<'s, K> {
         opening: u64,
         halves: Halves,
         peer: SocketAddr,
-    ) -> Result<(), Refusal> {
+    ) -> Result<(), Rejection> {
         // Modelled in models/endings.pml, polling.pml and shutdown.pml.
         let state = self.state;
         let Halves { reading, writing } = halves;
@@ -158,7 +158,7 @@ impl<'s, K: BookName + Send + Sync> Control<'s, K> {
         talk.begin(state.alloc, reading, Some(peer));
         if let Err(error) = state.service.crews.begin(slot.lane.number(), fd) {
             state.end(rt, slot, &mut talk);
-            return Err(Refusal {
+            return Err(Rejection {
                 trouble: Trouble::Events,
                 error: error.raw_os_error().unwrap_or(0),
             });
@@ -174,7 +174,7 @@ impl<'s, K: BookName + Send + Sync> Control<'s, K> {
         gate: &'s G,
         stream: TcpStream,
         peer: SocketAddr,
-    ) -> Result<(), Refusal> {
+    ) -> Result<(), Rejection> {
         // Modelled in models/endings.pml and shutdown.pml.
         let state = self.state;
         let ip = peer.ip();
@@ -185,13 +185,13 @@ impl<'s, K: BookName + Send + Sync> Control<'s, K> {
         drop(desk);
         let opened = opened.and_then(|(number, opening)| Some((state.slot(number)?, opening)));
         let Some((slot, opening)) = opened else {
-            return Err(Refusal::new(state.progress.want_of_slot(state.slot_count)));
+            return Err(Rejection::new(state.progress.want_of_slot(state.slot_count)));
         };
         state.progress.connections.fetch_add(1, Ordering::SeqCst);
         if !crews::prepare(scope, rt, state, gate, slot) {
             slot.lane.refuse(rt, opening, halves.writing);
             state.close(rt, &mut slot.talk.lock(rt));
-            return Err(Refusal::new(Trouble::Threads));
+            return Err(Rejection::new(Trouble::Threads));
         }
         self.begin(rt, slot, opening, halves, peer)?;
         self.opened = self.opened.saturating_add(1);
@@ -214,7 +214,7 @@ impl<'s, K: BookName + Send + Sync> Control<'s, K> {
         let speaker = &self.state.host.speaker;
         match self.open(scope, rt, gate, stream, peer) {
             Ok(()) => speaker.clear(rt),
-            Err(Refusal { trouble, error }) => {
+            Err(Rejection { trouble, error }) => {
                 if self.state.progress.is_running() {
                     speaker.remark(rt, trouble, error);
                 }

@@ -10,9 +10,9 @@ use Rattle.atomic_table.proofs.Lists.{set_else}
 use Rattle.gm_word.specs.declared.phase.Phase.{Phase}
 use Rattle.gm_word.specs.declared.phase.Phase.TheVariants.{Awake, Asleep, Owed}
 use Rattle.gm_word.specs.declared.view.Count.{Count}
-use Rattle.gm_word.specs.declared.view.Page.{Page}
-use Rattle.gm_word.specs.declared.view.View.{View}
-use Rattle.gm_word.specs.declared.view.View.TheVariants.{Book, Pen, Spent}
+use Rattle.gm_word.specs.declared.view.BookPage.{BookPage}
+use Rattle.gm_word.specs.declared.view.WordView.{WordView}
+use Rattle.gm_word.specs.declared.view.WordView.TheVariants.{Book, Pen, Spent}
 use Rattle.gm_word.specs.Lines.{number, cleared, Agrees, Kind, phase_for, word_after, kind_to}
 use Rattle.gm_word.specs.Steps.{line_at, book_after, pen_after, with_next_pen, next_pen, with_back, books, takes, splits, joins, Reached}
 use Rattle.gm_word.specs.Steps.{steps, takes_of, pens_among, counts_of, Keeps}
@@ -21,35 +21,35 @@ use Rattle.gm_word.proofs.LineSteps.{finds}
 use Rattle.gm_word.proofs.Keeping.{page_is, reached_keeps}
 
 abbrev pub Sat : Type 0
-Sat = Me (Unit {0}) View
+Sat = Me (Unit {0}) WordView
 
-abbrev pub IsReached : State (Unit {0}) View → Type 0
+abbrev pub IsReached : State (Unit {0}) WordView → Type 0
 IsReached s = Reached s.words s.views
 
 -- the first seat knows the page
-first_knows : (views : List View) (id : ℕ) (me : Sat) (page : Page) → id ≡ 0 → me ≡ (Book page, []) → get_elem? views id ≡ some me.0 → get_elem? views 0 ≡ some (Book page)
+first_knows : (views : List WordView) (id : ℕ) (me : Sat) (page : BookPage) → id ≡ 0 → me ≡ (Book page, []) → get_elem? views id ≡ some me.0 → get_elem? views 0 ≡ some (Book page)
 first_knows views id me page first knows at = subst (λ (i : ℕ). get_elem? views i ≡ some (Book page)) first (at ∙ ap (λ (m : Sat). some m.0) knows)
 
-pub book_moves : (kind : Kind) (slots slot id : ℕ) (page : Page) (me : Sat) → id ≡ 0 → me ≡ (Book page, []) → slot < length page.lines
+pub book_moves : (kind : Kind) (slots slot id : ℕ) (page : BookPage) (me : Sat) → id ≡ 0 → me ≡ (Book page, []) → slot < length page.lines
     → (line_at slot page.lines).phase ≡ phase_for kind
-    → Allows IsReached slots id me slot (word_after kind) (λ found after. (p : Page) → me.0 ≡ Book p → after ≡ (book_after kind slot found p, me.1))
+    → Allows IsReached slots id me slot (word_after kind) (λ found after. (p : BookPage) → me.0 ≡ Book p → after ≡ (book_after kind slot found p, me.1))
 book_moves kind slots slot id page me first knows low phase s reached _ at _ =
     let k : Keeps s.words s.views = reached_keeps s.words s.views reached in
     let book : get_elem? s.views 0 ≡ some (Book page) = first_knows s.views id me page first knows at in
     let is : k.page ≡ page = page_is s.words s.views k page book in
-    let wide : length page.lines ≡ length s.words = ap (λ (p : Page). length p.lines) (sym is) ∙ k.wide in
+    let wide : length page.lines ≡ length s.words = ap (λ (p : BookPage). length p.lines) (sym is) ∙ k.wide in
     let low' : slot < length s.words = omega arith in
     let word : ℕ = slice_index s.words slot in
     let agrees : Agrees word (line_at slot page.lines) (takes_of slot s.views) =
-    subst (λ (p : Page). Agrees word (line_at slot p.lines) (takes_of slot s.views)) is (k.agrees slot low') in
+    subst (λ (p : BookPage). Agrees word (line_at slot p.lines) (takes_of slot s.views)) is (k.agrees slot low') in
     let found = finds kind word (line_at slot page.lines) (takes_of slot s.views) agrees phase in
-    let after : View = book_after kind slot word page in
+    let after : WordView = book_after kind slot word page in
     let one = steps s.words s.views _ _ reached (books kind slot page book low' phase found) in (
       after,
       keeps,
       tt,
       subst (λ (i : ℕ). Reached (set s.words slot (word_after kind word)) (set s.views i after)) (sym first) one,
-      λ p is_p. let same : Book page ≡ Book p = sym (ap (λ (m : Sat). m.0) knows) ∙ is_p in let pages : page ≡ p = cc in ap (λ (q : Page). (book_after kind slot word q, me.1)) pages,
+      λ p is_p. let same : Book page ≡ Book p = sym (ap (λ (m : Sat). m.0) knows) ∙ is_p in let pages : page ≡ p = cc in ap (λ (q : BookPage). (book_after kind slot word q, me.1)) pages,
     )
 
 -- a swap makes the step that writes the word of its phase
@@ -69,10 +69,10 @@ word_to Awake found = refl
 word_to Asleep found = refl
 word_to Owed found = refl
 
-pub swap_moves : (phase : Phase) (word slots slot id : ℕ) (page : Page) (me : Sat) → word ≡ number phase → id ≡ 0 → me ≡ (Book page, [])
+pub swap_moves : (phase : Phase) (word slots slot id : ℕ) (page : BookPage) (me : Sat) → word ≡ number phase → id ≡ 0 → me ≡ (Book page, [])
     → slot < length page.lines → (line_at slot page.lines).phase ≡ phase_for (kind_to phase)
     → Allows IsReached slots id me slot (λ _. word)
-    (λ found after. (other : Phase) → word ≡ number other → (p : Page) → me.0 ≡ Book p → after ≡ (book_after (kind_to other) slot found p, me.1))
+    (λ found after. (other : Phase) → word ≡ number other → (p : BookPage) → me.0 ≡ Book p → after ≡ (book_after (kind_to other) slot found p, me.1))
 swap_moves phase word slots slot id page me word_is first knows low at s reached homes there small =
     let m = book_moves (kind_to phase) slots slot id page me first knows low at s reached homes there small in
     let found : ℕ = slice_index s.words slot in (
@@ -85,7 +85,7 @@ swap_moves phase word slots slot id page me word_is first knows low at s reached
     )
 
 -- the slot of a pen has a word
-pen_low : (words : List ℕ) (views : List View) (k : Keeps words views) (seat : ℕ) (count : Count) → get_elem? views seat ≡ some (Pen count) → count.slot < length words
+pen_low : (words : List ℕ) (views : List WordView) (k : Keeps words views) (seat : ℕ) (count : Count) → get_elem? views seat ≡ some (Pen count) → count.slot < length words
 pen_low words views k seat count at =
     dite (dec_le k.page.made count.slot)
     (λ above.
@@ -101,7 +101,7 @@ pen_moves slots slot id count me knows slot_is s reached _ at _ =
     let k : Keeps s.words s.views = reached_keeps s.words s.views reached in
     let pen : get_elem? s.views id ≡ some (Pen count) = at ∙ ap (λ (m : Sat). some m.0) knows in
     let word : ℕ = slice_index s.words slot in
-    let after : View = pen_after word count in
+    let after : WordView = pen_after word count in
     let one = steps s.words s.views _ _ reached (takes id count pen (pen_low s.words s.views k id count pen)) in (
       after,
       keeps,
@@ -110,21 +110,21 @@ pen_moves slots slot id count me knows slot_is s reached _ at _ =
       λ c is_c. let same : Pen count ≡ Pen c = sym (ap (λ (m : Sat). m.0) knows) ∙ is_c in let counts : count ≡ c = cc in ap (λ (q : Count). (pen_after word q, me.1)) counts,
     )
 
-pub split_moves : (id : ℕ) (page : Page) (me : Sat) → id ≡ 0 → me ≡ (Book page, []) → page.made < length page.lines
+pub split_moves : (id : ℕ) (page : BookPage) (me : Sat) → id ≡ 0 → me ≡ (Book page, []) → page.made < length page.lines
     → Splits IsReached id me.0 (with_next_pen me.0) (next_pen me.0)
 split_moves id page me first knows low s reached at =
     let k : Keeps s.words s.views = reached_keeps s.words s.views reached in
     let book : get_elem? s.views 0 ≡ some (Book page) = first_knows s.views id me page first knows at in
     let is : k.page ≡ page = page_is s.words s.views k page book in
-    let wide : length page.lines ≡ length s.words = ap (λ (p : Page). length p.lines) (sym is) ∙ k.wide in
+    let wide : length page.lines ≡ length s.words = ap (λ (p : BookPage). length p.lines) (sym is) ∙ k.wide in
     let one = steps s.words s.views _ _ reached (splits page book (omega arith)) in
-    subst (λ (z : ℕ × View). Reached s.words (slice_set s.views z.0 (with_next_pen z.1) ++ next_pen z.1 ∷ [])) (λ i. (sym first i, sym (ap (λ (m : Sat). m.0) knows) i)) one
+    subst (λ (z : ℕ × WordView). Reached s.words (slice_set s.views z.0 (with_next_pen z.1) ++ next_pen z.1 ∷ [])) (λ i. (sym first i, sym (ap (λ (m : Sat). m.0) knows) i)) one
 
-pub join_moves : (id other : ℕ) (page : Page) (count : Count) (me you : Sat) → id ≡ 0 → me ≡ (Book page, []) → you ≡ (Pen count, [])
+pub join_moves : (id other : ℕ) (page : BookPage) (count : Count) (me you : Sat) → id ≡ 0 → me ≡ (Book page, []) → you ≡ (Pen count, [])
     → Joins IsReached id me.0 other you.0 (with_back me.0 you.0) Spent
 join_moves id other page count me you first knows known s reached at apart there =
     let book : get_elem? s.views 0 ≡ some (Book page) = first_knows s.views id me page first knows at in
     let pen : get_elem? s.views other ≡ some (Pen count) = sym (set_else s.views id other (with_back me.0 you.0) apart) ∙ there ∙ ap (λ (m : Sat). some m.0) known in
     let one = steps s.words s.views _ _ reached (joins other page count book pen) in
-    subst (λ (z : ℕ × View × View). Reached s.words (slice_set (slice_set s.views z.0 (with_back z.1 z.2)) other Spent))
+    subst (λ (z : ℕ × WordView × WordView). Reached s.words (slice_set (slice_set s.views z.0 (with_back z.1 z.2)) other Spent))
     (λ i. (sym first i, sym (ap (λ (m : Sat). m.0) knows) i, sym (ap (λ (m : Sat). m.0) known) i)) one

@@ -10,9 +10,9 @@ use Rattle.atomic_table.specs.Table.{Me, State, Final, Seen}
 use Rattle.atomic_table.specs.declared.shared.Seat.{Seat}
 use Rattle.gm_word.specs.declared.view.Line.{Line}
 use Rattle.gm_word.specs.declared.view.Count.{Count}
-use Rattle.gm_word.specs.declared.view.Page.{Page}
-use Rattle.gm_word.specs.declared.view.View.{View}
-use Rattle.gm_word.specs.declared.view.View.TheVariants.{Book, Pen}
+use Rattle.gm_word.specs.declared.view.BookPage.{BookPage}
+use Rattle.gm_word.specs.declared.view.WordView.{WordView}
+use Rattle.gm_word.specs.declared.view.WordView.TheVariants.{Book, Pen}
 use Rattle.gm_word.specs.Lines.{number, owing}
 use Rattle.gm_word.specs.Steps.{line_at, with_back, takes_among, pens_among, counts_of, takes_of, Keeps}
 use Rattle.gm_word.specs.Seats.{PenState, takes_in, tries_in, SitsAtPen, count_of, AtBook, Settles}
@@ -21,7 +21,7 @@ use Rattle.gm_word.proofs.Keeping.{page_is, reached_keeps}
 use Rattle.gm_word.proofs.Moves.{IsReached}
 
 abbrev WordSeat : Type 0
-WordSeat = Seat (Unit {0}) View
+WordSeat = Seat (Unit {0}) WordView
 
 -- some of the pens are left, and the others were handed in
 pub record HandedSoFar (seat : WordSeat) (lines : List Line) (left all : List PenState) : Type 0 where
@@ -32,7 +32,7 @@ pub record HandedSoFar (seat : WordSeat) (lines : List Line) (left all : List Pe
 -- what a pen's seat knows is what callers see
 pub pen_knows : (seat : WordSeat) (slot : ℕ) (pen : PenState) → SitsAtPen seat slot → record { table = seat.table_id; slot = slot; takes = takes_in seat.me.0; tries = tries_in seat.me.0 } ≡ pen → seat.me.0 ≡ Pen (count_of pen)
 pen_knows seat slot pen sits is =
-    let at : seat.me.0 ≡ Pen sits.count = ap (λ (m : Me (Unit {0}) View). m.0) sits.knows in
+    let at : seat.me.0 ≡ Pen sits.count = ap (λ (m : Me (Unit {0}) WordView). m.0) sits.knows in
     let slots : sits.count.slot ≡ pen.slot = sits.slot_is ∙ ap (λ (p : PenState). p.slot) is in
     let takes : sits.count.takes ≡ pen.takes = sym (ap takes_in at) ∙ ap (λ (p : PenState). p.takes) is in
     let tries : sits.count.tries ≡ pen.tries = sym (ap tries_in at) ∙ ap (λ (p : PenState). p.tries) is in
@@ -62,7 +62,7 @@ handed_more old new lines left more all pen so_far is id told =
       book = record {
         page = record page { back = count_of pen ∷ page.back };
         first = id ∙ book.first;
-        knows = told ∙ ap (λ (m : Me (Unit {0}) View). (with_back m.0 (Pen (count_of pen)), m.1)) book.knows;
+        knows = told ∙ ap (λ (m : Me (Unit {0}) WordView). (with_back m.0 (Pen (count_of pen)), m.1)) book.knows;
         lines_are = book.lines_are;
         back = back_more so_far.handed pen page.back book.back;
       };
@@ -89,14 +89,14 @@ counted (x ∷ xs) (suc k) count low is one =
     (omega arith, omega arith))
 
 -- the takes of a pen that was handed in are all that its slot has had
-pub all_taken : (words : List ℕ) (views : List View) (page : Page) (count : Count) → Keeps words views → get_elem? views 0 ≡ some (Book page) → Contains page.back count
+pub all_taken : (words : List ℕ) (views : List WordView) (page : BookPage) (count : Count) → Keeps words views → get_elem? views 0 ≡ some (Book page) → Contains page.back count
     → takes_of count.slot views ≡ count.takes
 all_taken words [] page count k at has = absurd (some-ne-none (Book page) (sym at))
 all_taken words (v ∷ vs) page count k at has =
     let is : v ≡ Book page = some-injective v (Book page) at in
     let slot : ℕ = count.slot in
-    let pens : pens_among slot (counts_of v) ≡ pens_among slot page.back = ap (λ (w : View). pens_among slot (counts_of w)) is in
-    let takes : takes_among slot (counts_of v) ≡ takes_among slot page.back = ap (λ (w : View). takes_among slot (counts_of w)) is in
+    let pens : pens_among slot (counts_of v) ≡ pens_among slot page.back = ap (λ (w : WordView). pens_among slot (counts_of w)) is in
+    let takes : takes_among slot (counts_of v) ≡ takes_among slot page.back = ap (λ (w : WordView). takes_among slot (counts_of w)) is in
     let one = k.one_pen slot in
     let here = counted page.back has.0 count has.1 has.2 (omega arith) in
     let first = here.0 in
@@ -105,7 +105,7 @@ all_taken words (v ∷ vs) page count k at has =
     omega arith
 
 -- the slot of a pen that was handed in has a word
-pub slot_inside : (words : List ℕ) (views : List View) (page : Page) (count : Count) → Keeps words views → get_elem? views 0 ≡ some (Book page) → Contains page.back count
+pub slot_inside : (words : List ℕ) (views : List WordView) (page : BookPage) (count : Count) → Keeps words views → get_elem? views 0 ≡ some (Book page) → Contains page.back count
     → count.slot < length words
 slot_inside words views page count k at has =
     let slot : ℕ = count.slot in
@@ -119,13 +119,13 @@ slot_inside words views page count k at has =
 
 pub settles : (seat : WordSeat) (lines : List Line) (pens : List PenState) (words : List ℕ) (slots : List (Unit {0})) → AtBook seat lines pens → Final (Seen IsReached seat.id seat.me.0) words slots → Settles words lines pens
 settles seat lines pens words slots book final =
-    let s : State (Unit {0}) View = final.0 in
+    let s : State (Unit {0}) WordView = final.0 in
     let page = book.page in
     let k : Keeps s.words s.views = reached_keeps s.words s.views final.1.0 in
     let at : get_elem? s.views 0 ≡ some (Book page) =
-    subst (λ (i : ℕ). get_elem? s.views i ≡ some (Book page)) book.first (final.1.1 ∙ ap (λ (m : Me (Unit {0}) View). some m.0) book.knows) in
+    subst (λ (i : ℕ). get_elem? s.views i ≡ some (Book page)) book.first (final.1.1 ∙ ap (λ (m : Me (Unit {0}) WordView). some m.0) book.knows) in
     let is : k.page ≡ page = page_is s.words s.views k page at in
-    let lines_is : k.page.lines ≡ lines = ap (λ (p : Page). p.lines) is ∙ book.lines_are in
+    let lines_is : k.page.lines ≡ lines = ap (λ (p : BookPage). p.lines) is ∙ book.lines_are in
     subst (λ (w : List ℕ). Settles w lines pens) final.2
     (subst (λ (l : List Line). Settles s.words l pens) lines_is
     record {

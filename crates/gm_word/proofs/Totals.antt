@@ -8,7 +8,7 @@ use mathlib.Core.Logic.{dite}
 use native.Mathlib.Decide.{ℕ_discrete}
 use lib.ListN.{get_elem?}
 use Rattle.gm_word.specs.declared.view.Count.{Count}
-use Rattle.gm_word.specs.declared.view.View.{View}
+use Rattle.gm_word.specs.declared.view.WordView.{WordView}
 use Rattle.gm_word.specs.Steps.{takes_among, pens_among, counts_of, total, takes_of, pens_of}
 
 -- there is a view at a seat, so the seat is below their number
@@ -27,18 +27,18 @@ pub take_next : {A : Type 0} (xs : List A) (i : ℕ) (a : A) → get_elem? xs i 
 take_next xs i a at = take_more xs i a (inside xs i a at) ∙ ap (λ x. take i xs ++ x ∷ []) (at_is xs i a a at)
 
 -- the total after a change of one view
-pub total-set : (f : View → ℕ) (views : List View) (seat : ℕ) (v w : View) → get_elem? views seat ≡ some v → total f (set views seat w) + f v ≡ total f views + f w
+pub total-set : (f : WordView → ℕ) (views : List WordView) (seat : ℕ) (v w : WordView) → get_elem? views seat ≡ some v → total f (set views seat w) + f v ≡ total f views + f w
 total-set f [] seat v w at = absurd (some-ne-none v (sym at))
 total-set f (x ∷ xs) zero v w at = let is : f x ≡ f v = ap f (some-injective x v at) in omega arith
 total-set f (x ∷ xs) (suc i) v w at = let r = total-set f xs i v w at in omega arith
 
 -- the total with one view more
-pub total-push : (f : View → ℕ) (views : List View) (v : View) → total f (views ++ v ∷ []) ≡ total f views + f v
+pub total-push : (f : WordView → ℕ) (views : List WordView) (v : WordView) → total f (views ++ v ∷ []) ≡ total f views + f v
 total-push f [] v = omega arith
 total-push f (x ∷ xs) v = let r = total-push f xs v in omega arith
 
 -- no view has more than the total
-pub total-has : (f : View → ℕ) (views : List View) (seat : ℕ) (v : View) → get_elem? views seat ≡ some v → f v ≤ total f views
+pub total-has : (f : WordView → ℕ) (views : List WordView) (seat : ℕ) (v : WordView) → get_elem? views seat ≡ some v → f v ≤ total f views
 total-has f [] seat v at = absurd (some-ne-none v (sym at))
 total-has f (x ∷ xs) zero v at = let is : f x ≡ f v = ap f (some-injective x v at) in omega arith
 total-has f (x ∷ xs) (suc i) v at = let r = total-has f xs i v at in omega arith
@@ -62,7 +62,7 @@ none_taken slot (count ∷ counts) none =
     let rest = none_taken slot counts (omega arith) in
     omega arith)
 
-pub none_taken_of : (slot : ℕ) (views : List View) → pens_of slot views ≡ 0 → takes_of slot views ≡ 0
+pub none_taken_of : (slot : ℕ) (views : List WordView) → pens_of slot views ≡ 0 → takes_of slot views ≡ 0
 none_taken_of slot [] none = refl
 none_taken_of slot (view ∷ views) none =
     let first = none_taken slot (counts_of view) (omega arith) in

@@ -6,9 +6,9 @@ use Rattle.gm_word.specs.declared.phase.Phase.{Phase}
 use Rattle.gm_word.specs.declared.phase.Phase.TheVariants.{Owed}
 use Rattle.gm_word.specs.declared.view.Line.{Line}
 use Rattle.gm_word.specs.declared.view.Count.{Count}
-use Rattle.gm_word.specs.declared.view.Page.{Page}
-use Rattle.gm_word.specs.declared.view.View.{View}
-use Rattle.gm_word.specs.declared.view.View.TheVariants.{Book, Pen}
+use Rattle.gm_word.specs.declared.view.BookPage.{BookPage}
+use Rattle.gm_word.specs.declared.view.WordView.{WordView}
+use Rattle.gm_word.specs.declared.view.WordView.TheVariants.{Book, Pen}
 use Rattle.gm_word.specs.Lines.{Agrees, with_look}
 use Rattle.gm_word.specs.Steps.{line_at, at_slot, Reached, takes_of}
 
@@ -48,7 +48,7 @@ looked slot book = looked_at (line_at slot book.lines).phase slot book
 -- How a table ends: steps of the eight kinds alone have led to its last words; these, the book's lines and the takes of each slot
 -- agree; and the takes are what the pens that were given back have counted.
 pub record Settles (words : List ℕ) (lines : List Line) (pens : List PenState) : Type 0 where
-  pub views : List View
+  pub views : List WordView
   pub reached : Reached words views
   pub wide : length words ≡ length lines
   pub agrees : (slot : ℕ) → slot < length words → Agrees (slice_index words slot) (line_at slot lines) (takes_of slot views)
@@ -56,28 +56,28 @@ pub record Settles (words : List ℕ) (lines : List Line) (pens : List PenState)
   pub counted : All (λ (pen : PenState). takes_of pen.slot views ≡ pen.takes) pens
 
 -- the lines of a book's view, and the takes and tries of a pen's
-abbrev pub lines_of : View → List Line
+abbrev pub lines_of : WordView → List Line
 lines_of (Book page) = page.lines
 lines_of view = []
 
-abbrev pub takes_in : View → ℕ
+abbrev pub takes_in : WordView → ℕ
 takes_in (Pen count) = count.takes
 takes_in view = 0
 
-abbrev pub tries_in : View → ℕ
+abbrev pub tries_in : WordView → ℕ
 tries_in (Pen count) = count.tries
 tries_in view = 0
 
 -- the seat is the first, which is the book's, and these are its phases
-pub record SitsAtBook (seat : Seat (Unit {0}) View) (phases : List Phase) : Type 0 where
-  pub page : Page
+pub record SitsAtBook (seat : Seat (Unit {0}) WordView) (phases : List Phase) : Type 0 where
+  pub page : BookPage
   pub first : seat.id ≡ 0
   pub knows : seat.me ≡ (Book page, [])
   pub wide : length page.lines ≡ seat.table_id.words
   pub phases_are : phases ≡ map (λ (line : Line). line.phase) page.lines
 
 -- the seat is a pen's, of this slot
-pub record SitsAtPen (seat : Seat (Unit {0}) View) (slot : ℕ) : Type 0 where
+pub record SitsAtPen (seat : Seat (Unit {0}) WordView) (slot : ℕ) : Type 0 where
   pub count : Count
   pub knows : seat.me ≡ (Pen count, [])
   pub slot_is : count.slot ≡ slot
@@ -88,8 +88,8 @@ abbrev pub count_of : PenState → Count
 count_of pen = record { slot = pen.slot; takes = pen.takes; tries = pen.tries }
 
 -- the seat is the book's, with these lines, and these pens are among those that were handed in
-pub record AtBook (seat : Seat (Unit {0}) View) (lines : List Line) (pens : List PenState) : Type 0 where
-  pub page : Page
+pub record AtBook (seat : Seat (Unit {0}) WordView) (lines : List Line) (pens : List PenState) : Type 0 where
+  pub page : BookPage
   pub first : seat.id ≡ 0
   pub knows : seat.me ≡ (Book page, [])
   pub lines_are : page.lines ≡ lines

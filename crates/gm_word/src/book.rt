@@ -10,7 +10,7 @@ ghost use Rattle.gm_word.specs.Seats.{with_line, looked};
 use crate::phase::Phase;
 use crate::rule::{Look, Swap, Withdraw};
 use crate::table::SleepTable;
-use crate::view::View;
+use crate::view::WordView;
 use atomic_table::Seat;
 use std::marker::Model;
 
@@ -35,7 +35,7 @@ fn word_of(phase: Phase) -> u64
 /// the book has found taken (`entered`), how many it has withdrawn, and how often it has asked the word (`looks`).
 #[derive(Drop)]
 pub struct BookSeat {
-    pub(crate) seat: Seat<(), View>,
+    pub(crate) seat: Seat<(), WordView>,
     // The phases of the lines, since a seat has no bytes.
     pub(crate) phases: Vec<Phase>,
 }

@@ -8,12 +8,12 @@ use crate::book::BookSeat;
 use crate::pen::PenSeat;
 use crate::rule::Pens;
 use crate::table::SleepTable;
-use crate::view::View;
+use crate::view::WordView;
 use atomic_table::{Closed, Seat};
 use std::alloc::{AllocError, Global};
 
 // Hands the pens in to the book's seat.
-fn hand_in(table: &SleepTable, seat: &mut Seat<(), View>, mut pens: Vec<PenSeat>)
+fn hand_in(table: &SleepTable, seat: &mut Seat<(), WordView>, mut pens: Vec<PenSeat>)
     requires table { seat.old.table_id ≡ table.now }
     requires book { AtBook seat.old (lines_of seat.old.me.0) [] }
     requires pens { All (λ pen. pen.table ≡ table.now) pens.items }

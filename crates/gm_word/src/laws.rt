@@ -3,7 +3,7 @@
 
 ghost use Rattle.std.specs.Prelude.{◌≡◌, ℕ, ◌+◌, List, All, slice_index};
 ghost use Rattle.gm_word.specs.declared.view.Line.{Line};
-ghost use Rattle.gm_word.specs.declared.view.View.{View};
+ghost use Rattle.gm_word.specs.declared.view.WordView.{WordView};
 ghost use Rattle.gm_word.specs.Lines.{number, owing};
 ghost use Rattle.gm_word.specs.Steps.{Keeps, Reached, Step, line_at};
 ghost use Rattle.gm_word.specs.Seats.{PenState, Settles};
@@ -12,9 +12,9 @@ ghost use Rattle.gm_word.specs.Seats.{PenState, Settles};
 /// kinds have left it (that is the rule under which `SleepTable` is made, so no call can make another step),
 /// and wherever such steps lead, the words and the counts agree.
 pub fn word_rule()
-    ensures step { (words next : List ℕ) (views after : List View)
+    ensures step { (words next : List ℕ) (views after : List WordView)
         → Keeps words views → Step words views next after → Keeps next after }
-    ensures reached { (words : List ℕ) (views : List View) → Reached words views → Keeps words views }
+    ensures reached { (words : List ℕ) (views : List WordView) → Reached words views → Keeps words views }
 {}
 
 /// How a table ends, for each pen that was handed in: each NOOP that its slot was owed was taken once, or was

@@ -5,7 +5,7 @@ ghost use Rattle.std.specs.Prelude.{◌≡◌, ◌+◌, MatchBool};
 use crate::book::{AWAKE, OWED};
 use crate::rule::Take;
 use crate::table::SleepTable;
-use crate::view::View;
+use crate::view::WordView;
 use atomic_table::Seat;
 use std::marker::Model;
 
@@ -14,7 +14,7 @@ use std::marker::Model;
 /// Contracts see its slot, how many NOOPs it has taken, and how often it has asked the word for one (`tries`).
 #[derive(Drop)]
 pub struct PenSeat {
-    pub(crate) seat: Seat<(), View>,
+    pub(crate) seat: Seat<(), WordView>,
     pub(crate) slot: u32,
 }
 

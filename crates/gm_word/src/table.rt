@@ -8,7 +8,7 @@ use crate::book::{AWAKE, BookSeat};
 use crate::pen::PenSeat;
 use crate::phase::Phase;
 use crate::rule::{Pens, WordRule};
-use crate::view::View;
+use crate::view::WordView;
 use atomic_table::Table;
 use std::alloc::{AllocError, Global};
 use std::marker::Model;
@@ -16,7 +16,7 @@ use std::marker::Model;
 /// The sleep words, one for each slot, which all threads share. Contracts see which table it is.
 #[derive(Drop)]
 pub struct SleepTable {
-    pub(crate) words: Table<(), View, u32, WordRule, Global>,
+    pub(crate) words: Table<(), WordView, u32, WordRule, Global>,
 }
 
 impl Model for SleepTable {

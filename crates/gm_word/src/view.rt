@@ -25,7 +25,7 @@ pub struct Count {
 }
 
 /// What the book knows.
-pub struct Page {
+pub struct BookPage {
     /// A line for each slot.
     pub lines: LinkedList<Line>,
     /// The slots below it have been given a pen.
@@ -35,8 +35,8 @@ pub struct Page {
 }
 
 /// What a seat knows.
-pub enum View {
-    Book(Page),
+pub enum WordView {
+    Book(BookPage),
     Pen(Count),
     /// The pen was given back.
     Spent,

@@ -1,6 +1,6 @@
 use Rattle.std.proofs.Common.{rules, ◌≡◌, ◌++◌, ◌∷◌, [], sym, ap, ◌∙◌, subst, append_assoc, arith}
 use Rattle.std.specs.Prelude.{All}
-use Rattle.gm_word.specs.declared.view.View.{View}
+use Rattle.gm_word.specs.declared.view.WordView.{WordView}
 use Rattle.gm_word.specs.Steps.{with_back}
 use Rattle.gm_word.specs.Seats.{PenState}
 use Rattle.gm_word.proofs.Moves.{join_moves}
@@ -27,5 +27,5 @@ loop-pen-preserved c =
     let i = c.loop-pen.invariant in
     let j = c.join_seat.ensures in
     let pen = pen_knows _ _ _ c.pen.invariant c.pen.view_is in
-    let told = j.2 ∙ ap (λ (v : View). (with_back c.loop-pen.seat.me.0 v, c.loop-pen.seat.me.1)) pen in
+    let told = j.2 ∙ ap (λ (v : WordView). (with_back c.loop-pen.seat.me.0 v, c.loop-pen.seat.me.1)) pen in
     (j.0 ∙ i.0, handed_more _ _ _ _ _ _ _ i.1 c.in-Some.ensures.items j.1 told)

@@ -2,7 +2,7 @@ use Rattle.std.proofs.Common.{rules, ◌++◌, ℕ, suc, List, [], ◌∷◌, re
 use Rattle.std.proofs.lemmas.List.{length-replicate}
 use Rattle.gm_word.proofs.Sitting.{map-replicate}
 use Rattle.atomic_table.specs.Table.{Me}
-use Rattle.gm_word.specs.declared.view.View.{View}
+use Rattle.gm_word.specs.declared.view.WordView.{WordView}
 use Rattle.gm_word.specs.declared.view.Line.{Line}
 use Rattle.gm_word.specs.Lines.{fresh_line}
 use Rattle.gm_word.specs.Steps.{Reached, opens, opening_view, with_next_pen, next_pen}
@@ -26,7 +26,7 @@ invariant_of-push_reserved c =
     let s = c.split_seat-pen.ensures in
     record {
       count = record { slot = c.loop-slot.slot; takes = 0; tries = 0 };
-      knows = s.4 ∙ ap (λ (m : Me (Unit {0}) View). (next_pen m.0, [])) i.knows;
+      knows = s.4 ∙ ap (λ (m : Me (Unit {0}) WordView). (next_pen m.0, [])) i.knows;
       slot_is = refl;
       inside = search rules;
     }
@@ -37,11 +37,11 @@ loop-slot-preserved c =
     let s = c.split_seat-pen.ensures in
     let p = c.push_reserved.ensures in
     let k = c.loop-slot.slot in
-    let pen = s.4 ∙ ap (λ (m : Me (Unit {0}) View). (next_pen m.0, [])) i.knows in
+    let pen = s.4 ∙ ap (λ (m : Me (Unit {0}) WordView). (next_pen m.0, [])) i.knows in
     record {
       same_table = s.0 ∙ i.same_table;
       first = s.1 ∙ i.first;
-      knows = s.2 ∙ ap (λ (m : Me (Unit {0}) View). (with_next_pen m.0, m.1)) i.knows;
+      knows = s.2 ∙ ap (λ (m : Me (Unit {0}) WordView). (with_next_pen m.0, m.1)) i.knows;
       pens_are =
           p.items
           ∙ (λ j. i.pens_are j ++ record { table = s.3 j; slot = k; takes = takes_in (pen j).0; tries = tries_in (pen j).0 } ∷ [])

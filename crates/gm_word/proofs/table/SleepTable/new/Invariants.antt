@@ -1,6 +1,6 @@
 use Rattle.std.proofs.Common.{◌≡◌, ◌≤◌, [], replicate, vec_len}
 use Rattle.std.specs.Prelude.{vec_capacity}
-use Rattle.gm_word.specs.declared.view.View.TheVariants.{Book}
+use Rattle.gm_word.specs.declared.view.WordView.TheVariants.{Book}
 use Rattle.gm_word.specs.Lines.{fresh_line}
 use Rattle.gm_word.specs.Seats.{fresh_pens}
 use Rattle.gm_word.proofs.table.SleepTable.new.Given as goal
