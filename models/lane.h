@@ -170,17 +170,17 @@ byte owners[N];          /* how many have the lane */
     byte who = OTHER; byte res = 0; byte fin = 0; byte found = 0; byte attempts = 0; \
     bool had_left = false; bool is_shut = false; bool took = false; bool has_ended = false; bool is_ending = false; bool has = false; bool has_taken = false
 
-/* Nothing is left of the present message (WriteHalf::send, socket.rt; Sender::hang_up and let_go, sender.rt) */
+/* Nothing is left of the present message (WriteHalf::send, socket.rt; Sender::next and let_go, sender.rt) */
 inline forget(s) {
     has_left[s] = false; l_gen[s] = 0; l_next[s] = 0; l_to[s] = 0; l_noop[s] = false
 }
 
-/* The sending broke off (WriteHalf::send and hang_up, socket.rt; Sender::refill, sender.rt), under the lane's lock */
+/* The sending broke off (WriteHalf::send and next, socket.rt; Sender::refill, sender.rt), under the lane's lock */
 inline cut(s) {
     line[s] = CUT; faulted[s] = true
 }
 
-/* Sender::hang_up (sender.rt) and WriteHalf::hang_up (socket.rt), under the lane's lock */
+/* What Sender::next (sender.rt) and WriteHalf::next (socket.rt) do to hang up, under the lane's lock */
 inline hang_up(s) {
 #ifndef M_KEEP_LEFT
     forget(s);

@@ -32,3 +32,8 @@ abbrev pub cut_state : OutboundState → OutboundState
 cut_state Open = Cut
 cut_state Finished = Finished
 cut_state Cut = Cut
+
+-- the state after what was to be done: only hanging up changes it
+abbrev pub state_by : Deed → OutboundState → OutboundState
+state_by HangUp state = cut_state state
+state_by deed state = state

@@ -8,6 +8,8 @@ use Rattle.gm_shared.specs.Calls.{PenCalled}
 use Rattle.gm_shared.specs.Openings.{most_openings}
 use Rattle.gm_delivery.specs.declared.account.Sendings.{Sendings}
 use Rattle.gm_delivery.specs.declared.account.Past.{Past}
+use Rattle.gm_delivery.specs.declared.life.Deed.{Deed}
+use Rattle.gm_delivery.specs.declared.life.Deed.TheVariants.{HangUp}
 use Rattle.gm_delivery.specs.declared.life.OutboundState.{OutboundState}
 use Rattle.gm_delivery.specs.declared.life.OutboundState.TheVariants.{Open, Finished, Cut}
 use Rattle.gm_delivery.specs.Lives.{state_if, cut_state}
@@ -154,8 +156,13 @@ pub record Delivers (k : Settings) (taped ends : Bool) (old new : SenderState) :
 -- ---- the end of a connection, and the beginning
 
 -- The connection is sent nothing more, and nothing is left for it.
-abbrev pub IsCutOff : SenderState → SenderState → Type 0
-IsCutOff old new = new ≡ record old { left = []; outbound = cut old.outbound }
+abbrev pub cut_off : SenderState → SenderState
+cut_off s = record s { left = []; outbound = cut s.outbound }
+
+-- what is to be done next is left to others, but for hanging up
+abbrev pub next_by : Deed → SenderState → SenderState
+next_by HangUp s = cut_off s
+next_by deed s = s
 
 abbrev pub sendings_without : SenderState → Option Outbound → Bool → Sendings
 sendings_without s None is_whole = s.sendings

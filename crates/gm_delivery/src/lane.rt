@@ -7,7 +7,7 @@ ghost use Rattle.gm_delivery.specs.Accounts.{ArePast, AreOver};
 use crate::account::Ledger;
 use crate::finish::{Deliverer, Finish, Leftover};
 use crate::life::Deed;
-use crate::sender::Sender;
+use crate::sender::{Delivered, Sender};
 use crate::socket::WriteHalf;
 use crate::stage::{ServerStage, Stage};
 use gm_feeder::Patience;
@@ -230,10 +230,10 @@ impl<K: BookName> Lane<K> {
         // Modelled in models/lane.h.
         let mut claim = claim;
         for _ in 0..MOST_ATTEMPTS {
-            let (attempt, finish) = claim.attempt(|attempt| self.attempt(
+            let (attempt, outcome) = claim.attempt(|attempt| self.attempt(
                 context, attempt, deliverer,
             ));
-            if finish != Finish::Idle {
+            if let Err(finish) = outcome {
                 let _tally = attempt.hand_over();
                 return self.left(finish, deliverer);
             }
@@ -246,13 +246,14 @@ impl<K: BookName> Lane<K> {
         self.left(Finish::Again, deliverer)
     }
 
-    /// Sends what there is to send, and does what else is to be done for the connection.
+    /// Sends what there is to send, and does what else is to be done for the connection. An error means that the lane can't be given up, and says
+    /// what is left to do.
     fn attempt<R: Wait + Clock>(
         &self,
         context: &DeliveryContext<'_, K, R>,
         _attempt: &Attempt<'_>,
         deliverer: Deliverer,
-    ) -> Finish
+    ) -> Result<Delivered, Finish>
         requires { _attempt.now.lane ≡ self.now.word }
     {
         // Modelled in models/lane.h.
@@ -270,21 +271,17 @@ impl<K: BookName> Lane<K> {
         // asked for.
         let has_ended = self.asked.has_reached(INPUT_ENDED);
         let ends = by.is_ending() && !has_ended;
-        sender.deliver(context.rt, context.shared, &by, ends);
+        let delivered = sender.deliver(context.rt, context.shared, &by, ends);
         match sender.next(&by, has_ended) {
-            Deed::Serve => Finish::Idle,
+            Deed::Serve | Deed::HangUp => Ok(delivered),
             // A write that may wait has waited. The system reports that a socket takes bytes again only after one that it took in part.
-            Deed::Send if patience == Patience::Waits || sender.takes_more() => Finish::Again,
-            Deed::Send | Deed::Linger => Finish::Pending,
-            Deed::HangUp => {
-                sender.hang_up();
-                Finish::Idle
-            }
+            Deed::Send if patience == Patience::Waits || sender.takes_more() => Err(Finish::Again),
+            Deed::Send | Deed::Linger => Err(Finish::Pending),
             // A thread that only queued something leaves that to the finisher.
-            Deed::LetGo if matches!(deliverer, Deliverer::Other) => Finish::Pending,
+            Deed::LetGo if matches!(deliverer, Deliverer::Other) => Err(Finish::Pending),
             Deed::LetGo => {
                 sender.let_go();
-                Finish::Gone
+                Err(Finish::Gone)
             }
         }
     }

@@ -3,7 +3,7 @@
 ghost use Rattle.std.specs.Prelude.{◌≡◌, ◌<◌, [], length, None, true, IfOk};
 ghost use Rattle.gm_shared.specs.Openings.{most_openings};
 ghost use Rattle.gm_delivery.specs.Accounts.{no_sendings, ArePast, AreOver};
-ghost use Rattle.gm_delivery.specs.Sendings.{is_clear, SendsLeft, Refills, finished, Delivers, IsCutOff, IsLetGo, IsBegun};
+ghost use Rattle.gm_delivery.specs.Sendings.{is_clear, SendsLeft, Refills, finished, Delivers, next_by, IsLetGo, IsBegun};
 
 use crate::account::Ledger;
 use crate::lane::Writing;
@@ -17,6 +17,12 @@ use std::marker::Model;
 use std::net::Shutdown;
 use std::sync::Wait;
 use std::time::Clock;
+
+/// That a delivery was made. Only `Sender::deliver` makes it, and a lane is given up only for it.
+#[derive(Drop)]
+pub struct Delivered {
+    _made: (),
+}
 
 /// What is to be sent to a slot's connections, and where. Contracts see what its pen has seen and taken, what is left to be sent, what
 /// was written to the connection, and the account of all connections that are gone.
@@ -97,21 +103,26 @@ impl<K: BookName> Sender<K> {
     /// Sends what was left, and then what waits in the book: the bytes, and a NOOP where one is owed. What waits for another opening of the slot
     /// than the connection's is sent to nobody. Where the book is asked for bytes, it is asked for the NOOP first. Where all was sent, and the slot is
     /// shut or the connection is to end, no more is sent, of which its peer is told.
-    pub fn deliver<E>(&mut self, rt: &impl Wait, shared: &Shared<K>, by: &E, ends: bool)
+    pub fn deliver<E>(
+        &mut self,
+        rt: &impl Wait,
+        shared: &Shared<K>,
+        by: &E,
+        ends: bool,
+    ) -> Delivered
     where
         WriteHalf: Wire<E>,
         ensures { Delivers K.settings K.taped ends self.old self.new }
     {
         // Modelled in models/lane.h.
-        if !self.send_left(by) {
-            return;
-        }
-        let Some(is_shut) = self.refill(rt, shared) else {
-            return;
-        };
-        if self.send_left(by) && (is_shut || ends) {
+        if self.send_left(by)
+            && let Some(is_shut) = self.refill(rt, shared)
+            && self.send_left(by)
+            && (is_shut || ends)
+        {
             self.finish();
         }
+        Delivered { _made: () }
     }
 
     /// Sends what is left of the present message. It says whether the connection can be sent to, and nothing is left.
@@ -170,13 +181,20 @@ impl<K: BookName> Sender<K> {
         half.shut(Shutdown::Write);
     }
 
-    /// What is to be done for the connection next, whose input ended or not.
+    /// What is to be done for the connection next, whose input ended or not. Hanging up is done here: then it is sent nothing more, and nothing is
+    /// read from it.
     pub(crate) fn next<R: Clock>(&mut self, by: &Writing<'_, K, R>, has_ended: bool) -> Deed
-        ensures { self.new ≡ self.old }
+        ensures { self.new ≡ next_by result self.old }
     {
         // Modelled in models/lane.h.
         match &mut self.connection {
-            Some(half) => half.next(by, self.left.is_some(), has_ended),
+            Some(half) => {
+                let deed = half.next(by, self.left.is_some(), has_ended);
+                if deed == Deed::HangUp {
+                    self.left = None;
+                }
+                deed
+            }
             None => Deed::Serve,
         }
     }
@@ -186,18 +204,6 @@ impl<K: BookName> Sender<K> {
         match &self.connection {
             Some(half) => half.takes_more,
             None => false,
-        }
-    }
-
-    /// Ends the connection: it is sent nothing more, and nothing is read from it.
-    pub fn hang_up(&mut self)
-        ensures { IsCutOff self.old self.new }
-    {
-        // Modelled in models/lane.h.
-        self.left = None;
-        match &mut self.connection {
-            Some(half) => half.hang_up(),
-            None => {}
         }
     }
 

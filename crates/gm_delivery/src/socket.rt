@@ -2,7 +2,7 @@
 //! does so by one call of the system.
 
 ghost use Rattle.std.specs.Prelude.{◌≡◌, ◌&&◌, ◌==◌, [], length, false, IfOk};
-ghost use Rattle.gm_delivery.specs.Lives.{cut_state};
+ghost use Rattle.gm_delivery.specs.Lives.{deed_of, state_by};
 ghost use Rattle.gm_delivery.specs.Messages.{left_in};
 ghost use Rattle.gm_delivery.specs.Sendings.{SendsPart, can_send};
 
@@ -134,14 +134,16 @@ impl WriteHalf {
         }
     }
 
-    /// What is to be done next, where something is left to be sent or not, and the input ended or not.
+    /// What is to be done next, where something is left to be sent or not, and the input ended or not. Hanging up is done here: then it neither
+    /// sends nor reads any more, and unless all was sent, the sending broke off.
     pub(crate) fn next<K: BookName, R: Clock>(
         &mut self,
         by: &Writing<'_, K, R>,
         has_left: bool,
         has_ended: bool,
     ) -> Deed
-        ensures state { self.new.life.state ≡ self.old.life.state }
+        ensures deed { result ≡ deed_of self.old.life.state self.new.life.is_over has_left has_ended }
+        ensures state { self.new.life.state ≡ state_by result self.old.life.state }
         ensures socket { self.new.socket ≡ self.old.socket }
     {
         // Modelled in models/lane.h.
@@ -149,19 +151,14 @@ impl WriteHalf {
             self.life
                 .look(now_ms(by.context.rt), by.context.is_stopping(), false);
         }
-        self.life.next(has_left, has_ended)
-    }
-
-    /// Neither sends nor reads any more. Unless all was sent, the sending broke off.
-    pub(crate) fn hang_up(&mut self)
-        ensures state { self.new.life.state ≡ cut_state self.old.life.state }
-        ensures socket { self.new.socket ≡ self.old.socket }
-    {
-        // Modelled in models/lane.h.
-        if self.life.state == OutboundState::Open {
-            self.life.state = OutboundState::Cut;
+        let deed = self.life.next(has_left, has_ended);
+        if deed == Deed::HangUp {
+            if self.life.state == OutboundState::Open {
+                self.life.state = OutboundState::Cut;
+            }
+            self.shut(Shutdown::Both);
         }
-        self.shut(Shutdown::Both);
+        deed
     }
 
     /// Shuts a side of its socket, or both. An I/O thread's poll reports each time that this is done.
@@ -200,7 +197,9 @@ impl<'a, K: BookName, R: Wait + Clock> Wire<Writing<'a, K, R>> for WriteHalf {
 
 /// The halves of a connection's socket, to which nothing was written yet. An error means that there was no memory for them.
 pub fn split(alloc: Global, stream: TcpStream) -> Result<(ReadHalf, WriteHalf), AllocError>
-    ensures { IfOk result (λ halves. halves.1.socket.2 ≡ []) }
+    ensures unwritten { IfOk result (λ halves. halves.1.socket.2 ≡ []) }
+    ensures reads { IfOk result (λ halves. halves.0.stream.value ≡ stream) }
+    ensures writes { IfOk result (λ halves. halves.1.socket.0.stream.value ≡ stream) }
 {
     let reading = Arc::new(alloc, stream)?;
     let writing = Arc::try_clone(&reading)?;

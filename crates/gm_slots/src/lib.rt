@@ -8,4 +8,4 @@ mod slot;
 
 pub use ending::settle_slots;
 pub use served::Served;
-pub use slot::{Slot, new_slots};
+pub use slot::{Slot, open_slots};

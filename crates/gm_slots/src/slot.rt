@@ -1,13 +1,14 @@
 //! One slot: its reading side and its lane.
 
 ghost use Rattle.std.specs.Prelude.{◌≡◌, [], All, IfOk, length, map};
+ghost use Rattle.gm_shared.specs.Shared.{numbers_below};
 ghost use Rattle.gm_promise.specs.Accounts.{IsAccount};
 
 use gm_delivery::{Lane, ReadHalf};
 use gm_feeder::Limits;
 use gm_promise::Account;
 use gm_session::{OwnDesk, Talk};
-use gm_shared::{BookName, Desk, Pen};
+use gm_shared::{Blank, BookName, Desk, Pen, Shared};
 use std::alloc::{AllocError, Global};
 use std::sync::Mutex;
 
@@ -48,7 +49,7 @@ impl<K: BookName> Slot<K> {
 }
 
 /// What each slot has of its own, in their order.
-pub fn new_slots<K: BookName>(
+fn new_slots<K: BookName>(
     alloc: Global,
     desks: Vec<Desk<K>>,
     pens: Vec<Pen<K>>,
@@ -71,4 +72,21 @@ pub fn new_slots<K: BookName>(
         })?;
     }
     Ok(slots)
+}
+
+/// Opens a book, and makes what each of its slots has of its own, in their order. The desk is for what isn't of one slot.
+pub fn open_slots<K: BookName>(
+    alloc: Global,
+    blank: Blank,
+    limits: Limits,
+) -> Result<(Shared<K>, Vec<Slot<K>>, OwnDesk<K>), AllocError>
+    requires table { blank.table ≡ K.table }
+    requires history { blank.history ≡ K.history }
+    requires settings { blank.settings ≡ K.settings }
+    requires taped { blank.taped ≡ K.taped }
+    ensures { IfOk result (λ opened. map (λ slot. slot.lane.slot) opened.1.items ≡ numbers_below K.settings.slots) }
+{
+    let (shared, desks, pens, control) = Shared::<K>::open(alloc, blank)?;
+    let slots = new_slots(alloc, desks, pens, limits)?;
+    Ok((shared, slots, OwnDesk::new(control)))
 }

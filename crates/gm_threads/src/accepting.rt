@@ -101,11 +101,12 @@ impl From<AllocError> for Rejection {
     }
 }
 
-/// The halves of a connection's socket, of which nothing was read or written yet.
+/// The two halves of one connection's socket, of which nothing was read or written yet.
 #[derive(Drop)]
 struct Halves {
     reading: LoggedSource<ReadHalf>,
     writing: WriteHalf,
+    ghost paired: { reading.0.stream.value ≡ writing.socket.0.stream.value },
     ghost unread: { reading.2 ≡ [] },
     ghost unwritten: { writing.socket.2 ≡ [] },
 }

@@ -14,7 +14,7 @@ use gm_notes::{Event, Mode};
 use gm_report::{DELIVERING_TIME_MS, has_passed};
 use gm_session::{Effects, Host, OwnDesk};
 use gm_shared::{Blank, BookName, Shared};
-use gm_slots::{Served, Slot, new_slots, settle_slots};
+use gm_slots::{Served, Slot, open_slots, settle_slots};
 use std::alloc::{AllocError, Global};
 use std::sync::{Arc, Wait};
 use std::time::{Clock, Duration};
@@ -51,15 +51,14 @@ impl<'s, K: BookName> ServerState<'s, K> {
     {
         let slot_count = blank.slots();
         let speaker = Arc::try_clone(&service.speaker)?;
-        let (shared, desks, pens, control) = Shared::<K>::open(alloc, blank)?;
-        let slots = new_slots(alloc, desks, pens, service.limits)?;
+        let (shared, slots, control) = open_slots(alloc, blank, service.limits)?;
         Ok(ServerState {
             alloc,
             service,
             shared,
             slots,
             slot_count,
-            host: Host::new(rt, OwnDesk::new(control), speaker),
+            host: Host::new(rt, control, speaker),
             progress: Progress::new(),
         })
     }
