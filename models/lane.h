@@ -49,7 +49,7 @@
 #define OVER 2
 #define SEND 3
 
-/* Finish (lane.rt) */
+/* Finish (finish.rt) */
 #define NOTHING 0        /* Finish::Idle */
 #define PENDING 1
 #define GONE    2
