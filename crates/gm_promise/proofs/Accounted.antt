@@ -1,22 +1,27 @@
 -- The accounts that a server hands out.
-use Rattle.std.proofs.Common.{◌≡◌, ℕ, zero, suc, ◌+◌, ◌*◌, ◌<◌, List, [], ◌∷◌, ◌++◌, length, map, All, Some, refl, sym, ap, ap₂, subst, ◌∙◌, arith, length-append}
+use Rattle.std.proofs.Common.{◌≡◌, ◌⊎◌, inl, inr, ℕ, zero, suc, ◌+◌, ◌*◌, ◌<◌, ◌≤◌, true, false, List, [], ◌∷◌, ◌++◌, length, map, All, Some, refl, sym, ap, ap₂, subst, ◌∙◌, arith, length-append}
 use Rattle.std.specs.Prelude.{slice_get}
 use Rattle.std.specs.List.{AllByRecursion as ByRecursion}
 use Rattle.std.proofs.lemmas.List.{append-nil, map-append, length-map}
 use Rattle.std.proofs.lemmas.List.Elements.{recursion_from_All}
 use Rattle.gm_feeder.specs.declared.units.Limits.{Limits}
 use Rattle.gm_notes.specs.Settings.{Settings}
+use Rattle.gm_notes.specs.Notes.{is_open, phase, is_owed}
+use Rattle.gm_notes.specs.Servers.{owes}
 use Rattle.gm_shared.specs.declared.tape.Actor.{Actor}
 use Rattle.gm_shared.specs.declared.tape.Actor.TheVariants.{Desk, Pen}
 use Rattle.gm_shared.specs.declared.tape.Entry.{Entry}
 use Rattle.gm_shared.specs.declared.tape.Share.{Share}
 use Rattle.gm_shared.specs.declared.tape.Told.{Told}
-use Rattle.gm_shared.specs.Tapes.{Legal}
+use Rattle.gm_shared.specs.Tapes.{steps_of, Legal}
+use Rattle.gm_shared.specs.Books.{takings}
 use Rattle.gm_shared.specs.Histories.{Knows}
+use Rattle.gm_shared.specs.Calls.{past_of}
 use Rattle.gm_shared.specs.Tokens.{WitnessState}
 use Rattle.gm_shared.specs.Shared.{told_by, HasSeenOwn, numbers_below, everybody}
 use Rattle.gm_session.specs.Hearings.{AreHeard}
 use Rattle.gm_session.specs.Talks.{IsTalking}
+use Rattle.gm_session.proofs.Owning.{and_first}
 use Rattle.gm_shared.specs.Openings.{most_openings}
 use Rattle.gm_delivery.specs.Accounts.{ArePast, AreOver}
 use Rattle.gm_promise.specs.Owners.{AreOwn}
@@ -138,54 +143,71 @@ module _ {A B : Type 0} (number : A → ℕ) (slot : B → ℕ) (slots : ℕ) (d
       ∙ (ap pens_in all ∙ (pens_behind (λ n. n) (numbers_below slots) (Desk slots ∷ map Pen (numbers_below slots))
       ∙ (all_pens (λ n. n) (numbers_below slots) ∙ (map_id (numbers_below slots) ∙ below_is slots))))
 
+-- ---- the NOOPs that were taken
+
+-- A slot that isn't open is owed no NOOP, so its pen took those that are entered as taken, and no more.
+pub took_entered : (k : Settings) (log : List Entry) (c d takes : ℕ) → d ≡ c → is_open c (past_of k log).notes ≡ false
+    → (takes ≡ takings d (steps_of log)) ⊎ ((takes ≡ takings d (steps_of log) + 1) × (owes d (past_of k log) ≡ true)) → takes ≡ takings c (steps_of log)
+took_entered k log c d takes same closed (inl those) = those ∙ ap (λ (n : ℕ). takings n (steps_of log)) same
+took_entered k log c d takes same closed (inr more) =
+    let opened : is_open d (past_of k log).notes ≡ true = and_first (is_open d (past_of k log).notes) (is_owed (phase d (past_of k log).notes)) more.1 in
+    let bad : true ≡ false = sym opened ∙ (ap (λ (n : ℕ). is_open n (past_of k log).notes) same ∙ closed) in
+    absurd cc
+
 -- ---- what they say
 
 module _ (k : Settings) (log : List Entry) (legal : Legal k log) (own : AreOwn log) where
   -- each connection was served, and those that were written to are counted, if they can be
   abbrev IsSo : ℕ → Account → Type 0
-  IsSo c account = account.openings < most_openings → AreServed k account.limits log c account.heard.past account.sent.past × (length account.sent.past ≡ account.openings)
+  IsSo c account =
+      account.openings < most_openings → AreServed k account.limits log c (takings c (steps_of log)) account.heard.past account.sent.past × (length account.sent.past ≡ account.openings)
 
-  served_so : (c : ℕ) (desk : DeskSeen) (pen : PenSeen) (account : Account) → desk.0 ≡ c → pen.0 ≡ c → Knows log (2 * desk.0) desk.1 → Knows log (2 * pen.0 + 1) pen.1 → IsAccount desk pen account → IsSo c account
-  served_so c desk pen account d p seen gave is below =
+  -- the history has nothing of a pen that it hasn't seen, and enters as taken what the pen of a slot took
+  abbrev IsPensOwn : PenSeen → Type 0
+  IsPensOwn pen = Knows log (2 * pen.0 + 1) pen.1 × (pen.0 < k.slots → pen.2 ≡ takings pen.0 (steps_of log))
+
+  served_so : (c : ℕ) (desk : DeskSeen) (pen : PenSeen) (account : Account) → c < k.slots → desk.0 ≡ c → pen.0 ≡ c → Knows log (2 * desk.0) desk.1 → IsPensOwn pen → IsAccount desk pen account
+      → IsSo c account
+  served_so c desk pen account less d p seen gave is below =
       let counted = is.counted below in (
-        are_served k account.limits log legal own c pen.2 account.heard.past account.sent.past account.heard.since desk.1 pen.1 is.talking
+        are_served k account.limits log legal own c (takings c (steps_of log)) account.heard.past account.sent.past account.heard.since desk.1 pen.1 is.talking
             (subst (λ (n : ℕ). AreHeard n account.limits account.heard.past account.heard.since) d is.are_heard)
             (subst (λ (n : ℕ). IsTalking n account.limits account.heard.since desk.1 is.talking) d is.talks)
             (subst (λ (n : ℕ). Knows log (2 * n) desk.1) d seen)
-            (subst (λ (n : ℕ). ArePast n account.sent.past pen.1 pen.2) p is.past)
+            (subst (λ (n : ℕ). ArePast n account.sent.past pen.1 (takings n (steps_of log))) p (subst (ArePast pen.0 account.sent.past pen.1) (gave.1 (subst (λ (n : ℕ). n < k.slots) (sym p) less)) is.past))
             (subst (λ (n : ℕ). AreOver n account.sent.past pen.1) p counted.1)
-            (subst (λ (n : ℕ). Knows log (2 * n + 1) pen.1) p gave),
+            (subst (λ (n : ℕ). Knows log (2 * n + 1) pen.1) p gave.0),
         counted.0,
       )
 
-  each_from : (c n : ℕ) (desks : List DeskSeen) (pens : List PenSeen) (accounts : List Account) (rest : List ℕ) → map (λ d. d.0) desks ≡ counting c n ++ rest → map (λ p. p.0) pens ≡ counting c n
-      → ByRecursion (λ d. Knows log (2 * d.0) d.1) desks → ByRecursion (λ p. Knows log (2 * p.0 + 1) p.1) pens → AreAccounts desks pens accounts
+  each_from : (c n : ℕ) (desks : List DeskSeen) (pens : List PenSeen) (accounts : List Account) (rest : List ℕ) → c + n ≤ k.slots → map (λ d. d.0) desks ≡ counting c n ++ rest → map (λ p. p.0) pens ≡ counting c n
+      → ByRecursion (λ d. Knows log (2 * d.0) d.1) desks → ByRecursion IsPensOwn pens → AreAccounts desks pens accounts
       → (i : ℕ) (account : Account) → slice_get accounts i ≡ Some account → IsSo (c + i) account
-  each_from c n desks pens [] rest d p seen gave are i account is = absurd cc
-  each_from c n [] pens (a ∷ accounts) rest d p seen gave are i account is = absurd are
-  each_from c n (x ∷ desks) [] (a ∷ accounts) rest d p seen gave are i account is = absurd are
-  each_from c zero (x ∷ desks) (y ∷ pens) (a ∷ accounts) rest d p seen gave are i account is = absurd cc
-  each_from c (suc n) (x ∷ desks) (y ∷ pens) (a ∷ accounts) rest d p seen gave are zero account is =
+  each_from c n desks pens [] rest most d p seen gave are i account is = absurd cc
+  each_from c n [] pens (a ∷ accounts) rest most d p seen gave are i account is = absurd are
+  each_from c n (x ∷ desks) [] (a ∷ accounts) rest most d p seen gave are i account is = absurd are
+  each_from c zero (x ∷ desks) (y ∷ pens) (a ∷ accounts) rest most d p seen gave are i account is = absurd cc
+  each_from c (suc n) (x ∷ desks) (y ∷ pens) (a ∷ accounts) rest most d p seen gave are zero account is =
       let same : a ≡ account = cc in
       let number : x.0 ≡ c = cc in
       let slot : y.0 ≡ c = cc in
       let here : c ≡ c + 0 = omega arith in
-      subst (λ (m : ℕ). IsSo m account) here (subst (IsSo c) same (served_so c x y a number slot seen.0 gave.0 are.0))
-  each_from c (suc n) (x ∷ desks) (y ∷ pens) (a ∷ accounts) rest d p seen gave are (suc i) account is =
+      subst (λ (m : ℕ). IsSo m account) here (subst (IsSo c) same (served_so c x y a (omega (arith, most)) number slot seen.0 gave.0 are.0))
+  each_from c (suc n) (x ∷ desks) (y ∷ pens) (a ∷ accounts) rest most d p seen gave are (suc i) account is =
       let next : suc c + i ≡ c + suc i = omega arith in
       let more : map (λ d. d.0) desks ≡ counting (suc c) n ++ rest = cc in
       let others : map (λ p. p.0) pens ≡ counting (suc c) n = cc in
-      subst (λ (m : ℕ). IsSo m account) next (each_from (suc c) n desks pens accounts rest more others seen.1 gave.1 are.1 i account is)
+      subst (λ (m : ℕ). IsSo m account) next (each_from (suc c) n desks pens accounts rest (omega (arith, most)) more others seen.1 gave.1 are.1 i account is)
 
 -- What a server hands out, once each share is there.
 pub accounted : {A B : Type 0} (number : A → ℕ) (desk_share : A → List Told) (desk_witness : A → WitnessState) (slot : B → ℕ) (pen_share : B → List Told) (pen_witness : B → WitnessState) (takes : B → ℕ)
     (k : Settings) (limits : Limits) (log : List Entry) → Legal k log → AreOwn log → (desks : List A) (pens : List B) (shares : List Share) (accounts : List Account)
     → map told_by shares ≡ map (λ desk. (Desk (number desk), desk_share desk)) desks ++ map (λ pen. (Pen (slot pen), pen_share pen)) pens
     → All (HasSeenOwn log) (map desk_witness desks ++ map pen_witness pens) → All (λ desk. (desk_witness desk).who ≡ 2 * number desk) desks → All (λ pen. (pen_witness pen).who ≡ 2 * slot pen + 1) pens
-    → map (λ (share : Share). share.actor) shares ≡ everybody k.slots
+    → All (λ pen. slot pen < k.slots → takes pen ≡ takings (slot pen) (steps_of log)) pens → map (λ (share : Share). share.actor) shares ≡ everybody k.slots
     → AreAccounts (map (λ desk. (number desk, (desk_witness desk).seen)) desks) (map (λ pen. (slot pen, (pen_witness pen).seen, takes pen)) pens) accounts → length accounts ≡ k.slots → AreCounted limits log accounts
     → AreAccounted k limits log accounts
-accounted {A} {B} number desk_share desk_witness slot pen_share pen_witness takes k limits log legal own desks pens shares accounts are seen desk_who pen_who all accounts_are count told =
+accounted {A} {B} number desk_share desk_witness slot pen_share pen_witness takes k limits log legal own desks pens shares accounts are seen desk_who pen_who took all accounts_are count told =
     let first : Actor × List Told → Actor = λ pair. pair.0 in
     let names : map (λ desk. Desk (number desk)) desks ++ map (λ pen. Pen (slot pen)) pens ≡ everybody k.slots =
     sym (sym (map_twice told_by first shares) ∙ (ap (map first) are
@@ -193,15 +215,16 @@ accounted {A} {B} number desk_share desk_witness slot pen_share pen_witness take
     ∙ ap₂ (λ xs ys. xs ++ ys) (map_twice (λ desk. (Desk (number desk), desk_share desk)) first desks) (map_twice (λ pen. (Pen (slot pen), pen_share pen)) first pens)))) ∙ all in
     let known = recursion_from_All (HasSeenOwn log) (map desk_witness desks ++ map pen_witness pens) seen in
     let each : (c : ℕ) (account : Account) → slice_get accounts c ≡ Some account → IsSo k log legal own c account = λ c account is. subst (λ (m : ℕ). IsSo k log legal own m account) (let same : 0 + c ≡ c = omega arith in same)
-    (each_from k log legal own 0 k.slots (map desk_seen desks) (map pen_seen pens) accounts (k.slots ∷ [])
+    (each_from k log legal own 0 k.slots (map desk_seen desks) (map pen_seen pens) accounts (k.slots ∷ []) (omega arith)
     (map_twice desk_seen (λ d. d.0) desks ∙ desk_numbers number slot k.slots desks pens names) (map_twice pen_seen (λ p. p.0) pens ∙ pen_numbers number slot k.slots desks pens names)
     (of_desks desks (left (HasSeenOwn log) (map desk_witness desks) (map pen_witness pens) known) (recursion_from_All (λ desk. (desk_witness desk).who ≡ 2 * number desk) desks desk_who))
-    (of_pens pens (right (HasSeenOwn log) (map desk_witness desks) (map pen_witness pens) known) (recursion_from_All (λ pen. (pen_witness pen).who ≡ 2 * slot pen + 1) pens pen_who))
+    (of_pens pens (right (HasSeenOwn log) (map desk_witness desks) (map pen_witness pens) known) (recursion_from_All (λ pen. (pen_witness pen).who ≡ 2 * slot pen + 1) pens pen_who)
+    (recursion_from_All (λ pen. slot pen < k.slots → takes pen ≡ takings (slot pen) (steps_of log)) pens took))
     accounts_are c account is) in
     record {
       all = count;
       written = λ c account is. (each c account is (told c account is).2).1 ∙ (told c account is).1;
-      each = λ c account is. subst (λ (l : Limits). AreServed k l log c account.heard.past account.sent.past) (told c account is).0 (each c account is (told c account is).2).0;
+      each = λ c account is. subst (λ (l : Limits). AreServed k l log c (takings c (steps_of log)) account.heard.past account.sent.past) (told c account is).0 (each c account is (told c account is).2).0;
     }
   where
     desk_seen : A → DeskSeen
@@ -216,6 +239,6 @@ accounted {A} {B} number desk_share desk_witness slot pen_share pen_witness take
     of_desks (desk ∷ desks) seen who = (subst (λ (n : ℕ). Knows log n (desk_witness desk).seen) who.0 seen.0, of_desks desks seen.1 who.1)
 
     of_pens : (pens : List B) → ByRecursion (HasSeenOwn log) (map pen_witness pens) → ByRecursion (λ pen. (pen_witness pen).who ≡ 2 * slot pen + 1) pens
-        → ByRecursion (λ (p : PenSeen). Knows log (2 * p.0 + 1) p.1) (map pen_seen pens)
-    of_pens [] seen who = tt
-    of_pens (pen ∷ pens) seen who = (subst (λ (n : ℕ). Knows log n (pen_witness pen).seen) who.0 seen.0, of_pens pens seen.1 who.1)
+        → ByRecursion (λ pen. slot pen < k.slots → takes pen ≡ takings (slot pen) (steps_of log)) pens → ByRecursion (IsPensOwn k log legal own) (map pen_seen pens)
+    of_pens [] seen who took = tt
+    of_pens (pen ∷ pens) seen who took = ((subst (λ (n : ℕ). Knows log n (pen_witness pen).seen) who.0 seen.0, took.0), of_pens pens seen.1 who.1 took.1)

@@ -432,18 +432,21 @@ sent_all k n c (e ∷ older) legal own = by (openings c (e ∷ older) == n) refl
     by false other o at rest = rest ∙ ap (λ l. l ++ left_at k n c older) (sym (apart other (2 * c + 1 == actor_code e.actor) refl))
 
 are_sent : (k : Settings) (log : List Entry) → Legal k log → AreOwn log → (c : ℕ) (past : List Past) (seen since : List Entry) (takes : ℕ) → ((n : ℕ) → drains_at n c log ≡ drains_at n c seen)
-    → AreOver c past seen → ArePast c past since takes → AreSent k log c past
-are_sent k log legal own c [] seen since takes same over are = tt
+    → AreOver c past seen → ArePast c past since takes → AreSent k log c takes past
+are_sent k log legal own c [] seen since takes same over are = are.1
 are_sent k log legal own c (p ∷ older) seen since takes same over are =
     let n = length older + 1 in
     let w = are.2.is_written in
     let drained : drains_at n c log ≡ drains_in w.messages = same n ∙ (over.0 ∙ w.are.drained) in (
+      are.1,
       record {
         messages = w.messages;
         rest = are.2.rest;
+        lost = are.2.lost;
         drained = drained;
         written = w.whole;
-        whole = λ all. (are.2.whole all).0;
+        taken = w.are.taken;
+        whole = are.2.whole;
         all = sent_all k n c log legal own ∙ ap (λ l. l ++ left_at k n c log) (sym (joined_drains n c log) ∙ ap joined drained);
       },
       are_sent k log legal own c older seen p.since p.takes same over.1 are.3,
@@ -661,7 +664,7 @@ pub are_served : (k : Settings) (limits : Limits) (log : List Entry) → Legal k
     (since heard_until given_until : List Entry) (talking : Option TalkingState)
     → AreHeard c limits heard since → IsTalking c limits since heard_until talking → Knows log (2 * c) heard_until
     → ArePast c past given_until takes → AreOver c past given_until → Knows log (2 * c + 1) given_until
-    → AreServed k limits log c heard past
+    → AreServed k limits log c takes heard past
 are_served k limits log legal own c takes heard past since heard_until given_until talking are talks knows are_past over gave =
     let lead = lead_of c limits since heard_until talking talks in
     let units = reverse (steps_of_units c lead.items lead.fault) in

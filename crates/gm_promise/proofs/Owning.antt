@@ -102,6 +102,9 @@ unmapped : {A B : Type 0} (P : B → Type 0) (f : A → B) (xs : List A) → ByR
 unmapped P f [] h = tt
 unmapped P f (x ∷ xs) h = (h.0, unmapped P f xs h.1)
 
+pub each_mapped : {A B : Type 0} (P : B → Type 0) (f : A → B) (xs : List A) → All P (map f xs) → All (λ x. P (f x)) xs
+each_mapped P f xs each = All-from_recursion (λ x. P (f x)) xs (unmapped P f xs (recursion_from_All P (map f xs) each))
+
 numbered : (P : ℕ → Type 0) (slots : ℕ) → ByRecursion P (numbers_below slots) → (n : ℕ) → n < slots → P n
 numbered P zero h n less = absurd (omega (arith, less))
 numbered P (suc slots) h n less = by (n == slots) refl (λ lower. numbered P slots (left P (numbers_below slots) (slots ∷ []) h) n lower)

@@ -3,6 +3,8 @@ use Rattle.std.specs.Prelude.{◌≡◌, ◌<◌, ℕ, List, [], ◌∷◌, Opti
 use Rattle.gm_feeder.specs.declared.units.Limits.{Limits}
 use Rattle.gm_notes.specs.Settings.{Settings}
 use Rattle.gm_shared.specs.declared.tape.Entry.{Entry}
+use Rattle.gm_shared.specs.Tapes.{steps_of}
+use Rattle.gm_shared.specs.Books.{takings}
 use Rattle.gm_shared.specs.Openings.{openings, most_openings}
 use Rattle.gm_session.specs.Hearings.{AreHeard}
 use Rattle.gm_session.specs.Talks.{TalkingState, IsTalking}
@@ -32,8 +34,8 @@ AreCounted limits log accounts = (c : ℕ) (account : Account) → slice_get acc
     → (account.limits ≡ limits) × (account.openings ≡ openings c log) × (account.openings < most_openings)
 
 -- There is an account for each slot, in their order, and each connection in it was served as this history says, with these limits of a unit. Of what was
--- written it has one entry for each opening of the slot.
+-- written it has one entry for each opening of the slot. The NOOPs that were taken for the slot's connections are as many as this history enters as taken.
 pub record AreAccounted (k : Settings) (limits : Limits) (log : List Entry) (accounts : List Account) : Type 0 where
   pub all : length accounts ≡ k.slots
   pub written : (c : ℕ) (account : Account) → slice_get accounts c ≡ Some account → length account.sent.past ≡ openings c log
-  pub each : (c : ℕ) (account : Account) → slice_get accounts c ≡ Some account → AreServed k limits log c account.heard.past account.sent.past
+  pub each : (c : ℕ) (account : Account) → slice_get accounts c ≡ Some account → AreServed k limits log c (takings c (steps_of log)) account.heard.past account.sent.past

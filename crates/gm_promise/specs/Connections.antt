@@ -19,7 +19,7 @@ use Rattle.gm_session.specs.declared.heard.Heard.{Heard}
 use Rattle.gm_session.specs.Hearings.{AreHeard}
 use Rattle.gm_session.specs.Talks.{TalkingState, IsTalking}
 use Rattle.gm_delivery.specs.declared.account.Past.{Past}
-use Rattle.gm_delivery.specs.Accounts.{DrainedMessage, drains_at, sent_by, drains_in, ArePast, AreOver}
+use Rattle.gm_delivery.specs.Accounts.{DrainedMessage, drains_at, sent_by, drains_in, takes_in, ArePast, AreOver}
 use Rattle.gm_promise.specs.Owners.{AreOwn}
 use Rattle.gm_promise.specs.Promise.{says}
 
@@ -67,35 +67,40 @@ joined [] = []
 joined (gave ∷ older) = joined older ++ gave
 
 -- The messages are the drains of slot c at its n-th opening, one for one, each with the NOOP that was taken for it behind its bytes or with none. To the
--- connection a prefix of what they send was written, all of it where that is said. Their bytes, and then what still waited as the slot was closed, are
--- all that the abstract server sent since that opening.
+-- connection a prefix of what they send was written. Meanwhile the pen took their NOOPs, and perhaps others, which are lost. Where it is said that all was
+-- written, nothing of the messages is missing and no NOOP is lost. The drained bytes, and then what still waited as the slot was closed, are all that the
+-- abstract server sent since that opening.
 pub record IsSent (k : Settings) (log : List Entry) (c n : ℕ) (p : Past) : Type 0 where
   pub messages : List DrainedMessage
   pub rest : List ℕ
+  pub lost : ℕ
   pub drained : drains_at n c log ≡ drains_in messages
   pub written : sent_by messages ≡ p.log ++ rest
-  pub whole : p.is_whole ≡ true → rest ≡ []
+  pub taken : p.takes_after ≡ p.takes + takes_in messages + lost
+  pub whole : p.is_whole ≡ true → (rest ≡ []) × (lost ≡ 0)
   pub all : sent_at k n c log ≡ joined (drains_in messages) ++ left_at k n c log
 
--- so it is of each connection that is gone, the newest first; the last of them is of the first opening
-abbrev pub AreSent : Settings → List Entry → ℕ → List Past → Type 0
-AreSent k log c [] = Unit {0}
-AreSent k log c (p ∷ older) = IsSent k log c (length older + 1) p × AreSent k log c older
+-- So it is of each connection that is gone, the newest first; the last of them is of the first opening. The NOOPs that the pen took for them add up to this
+-- count: none was taken before the first connection, and none between one connection and the next.
+abbrev pub AreSent : Settings → List Entry → ℕ → ℕ → List Past → Type 0
+AreSent k log c takes [] = takes ≡ 0
+AreSent k log c takes (p ∷ older) = (takes ≡ p.takes_after) × IsSent k log c (length older + 1) p × AreSent k log c p.takes older
 
 -- ---- the law
 
 -- What was read from each connection of slot c that is closed is handed in. There is one for each opening of the slot, but for the last one while the
--- slot is open. What was written to each that is gone was sent to it.
-pub record AreServed (k : Settings) (limits : Limits) (log : List Entry) (c : ℕ) (heard : List Heard) (past : List Past) : Type 0 where
+-- slot is open. What was written to each that is gone was sent to it, and for all of these together this number of NOOPs was taken.
+pub record AreServed (k : Settings) (limits : Limits) (log : List Entry) (c takes : ℕ) (heard : List Heard) (past : List Past) : Type 0 where
   pub handed_in : AreHandedIn limits log c heard
   pub all : openings c log ≡ length heard + (if is_open c (past_of k log).notes then 1 else 0)
-  pub sent : AreSent k log c past
+  pub sent : AreSent k log c takes past
 
 -- It is so of any legal history in which each entry is its desk's or pen's own, and of any slot: if `heard` is the account of what the slot's desk handed
--- in, and `past` of what its pen gave, each complete, and the history has nothing of that desk and that pen that they haven't seen.
+-- in, and `past` of what its pen gave and of the NOOPs that it took, `takes` of them, each complete, and the history has nothing of that desk and that pen
+-- that they haven't seen.
 abbrev pub ConnectionsAreServed : Type 0
 ConnectionsAreServed = (k : Settings) (limits : Limits) (log : List Entry) → Legal k log → AreOwn log → (c takes : ℕ) (heard : List Heard) (past : List Past)
     (since heard_until given_until : List Entry) (talking : Option TalkingState)
     → AreHeard c limits heard since → IsTalking c limits since heard_until talking → Knows log (2 * c) heard_until
     → ArePast c past given_until takes → AreOver c past given_until → Knows log (2 * c + 1) given_until
-    → AreServed k limits log c heard past
+    → AreServed k limits log c takes heard past

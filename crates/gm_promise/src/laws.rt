@@ -40,7 +40,8 @@ pub fn bytes_are_in_the_history()
 
 /// A connection's whole life: what was handed in of it are the first units of what was read from it, and what was written to it is a prefix of
 /// what was drained for it, each NOOP behind the bytes of its drain. These bytes, and then what still waited as the slot was closed, are all that
-/// the abstract server sent to it. Each opening of a slot but one that is still open has its own account of what was read.
+/// the abstract server sent to it. Each opening of a slot but one that is still open has its own account of what was read. Each
+/// NOOP that the slot's pen took is behind the bytes of one of these drains, or lost with a connection to which not all was written.
 pub fn connections_are_served()
     ensures { ConnectionsAreServed }
 {}
