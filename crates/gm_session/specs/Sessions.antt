@@ -1,6 +1,8 @@
 -- What a session reads, and what it hands in of that.
 use Rattle.std.specs.Prelude.{◌≡◌, ℕ, Bool, true, false, List, [], ◌∷◌, ◌++◌, reverse, Option, Some, None, IfSome, Result, Ok, Err}
 use Rattle.std.specs.Io.KnownBytes.{Consumes, Appends, Keeps}
+use Rattle.std.specs.declared.io.ErrorKind.{ErrorKind}
+use Rattle.std.specs.declared.io.ErrorKind.TheVariants.{WouldBlock, Interrupted}
 use Rattle.gm_feeder.specs.declared.units.Limits.{Limits}
 use Rattle.gm_feeder.specs.Units.{Item, IsUnitThen, Waits}
 use Rattle.gm_feeder.specs.Streams.{Stream, TakesIn, GivesUnit, GivesNone, with_bytes}
@@ -18,6 +20,12 @@ use Rattle.gm_session.specs.declared.session.Turn.{Turn}
 use Rattle.gm_session.specs.declared.session.Turn.TheVariants as turns
 use Rattle.gm_session.specs.declared.applier.Taken.{Taken}
 use Rattle.gm_session.specs.declared.applier.Taken.TheVariants.{Unit as AUnit, Nothing}
+
+-- what comes of a read that failed so: it gave nothing if it was broken off or would have waited; otherwise the session is over
+abbrev pub failed_read : ErrorKind → Result ℕ SessionEnd
+failed_read Interrupted = Ok 0
+failed_read WouldBlock = Ok 0
+failed_read kind = Err ends.ReadFault
 
 -- a read took this count of bytes of the input into the feeder, and they were heard; or none
 abbrev pub IsPiece : Option (List ℕ) → Option (List ℕ) → Option (List ℕ) → Option (List ℕ) → Stream → Stream → Result ℕ SessionEnd → Type 0

@@ -2,11 +2,12 @@
 
 ghost use Rattle.std.specs.Prelude.{◌≡◌, ◌^◌, ◌-◌, ◌<◌, ◌≤◌, true, false, [], None, IfErr};
 ghost use Rattle.std.specs.Io.KnownBytes.{IsAtEnd};
-ghost use Rattle.gm_session.specs.Sessions.{IsPiece, Fills};
+ghost use Rattle.std.specs.IoError.{error_kind};
+ghost use Rattle.gm_session.specs.Sessions.{failed_read, IsPiece, Fills};
 
 use gm_feeder::{Feeder, Limits, ReadError, Source};
 use std::alloc::Global;
-use std::io::ErrorKind;
+use std::io::{Error, ErrorKind};
 
 /// The most bytes of a turn that doesn't wait for others: a few requests without data.
 const SHORT_PIECE: usize = 256;
@@ -97,6 +98,17 @@ impl Session {
     }
 }
 
+/// What comes of a read that failed: it gave nothing if it was broken off or would have waited; otherwise the session is over.
+fn failed_read(error: &Error) -> Result<usize, SessionEnd>
+    ensures { result ≡ failed_read (error_kind error.now) }
+{
+    // Modelled in models/polling.pml.
+    match error.kind() {
+        ErrorKind::Interrupted | ErrorKind::WouldBlock => Ok(0),
+        _ => Err(SessionEnd::ReadFault),
+    }
+}
+
 /// Reads the next piece into the feeder, and answers how many bytes it has; or it says why the session is over.
 fn read_piece<E, S: Source<E>>(
     feeder: &mut Feeder,
@@ -111,10 +123,6 @@ fn read_piece<E, S: Source<E>>(
         Ok(0) => Err(SessionEnd::Ended),
         Ok(len) => Ok(len),
         Err(ReadError::Feed(_)) => Err(SessionEnd::Memory),
-        Err(ReadError::Read(error)) => match error.kind() {
-            // The read was broken off, or would have waited, and gave nothing.
-            ErrorKind::Interrupted | ErrorKind::WouldBlock => Ok(0),
-            _ => Err(SessionEnd::ReadFault),
-        },
+        Err(ReadError::Read(error)) => failed_read(&error),
     }
 }
