@@ -1,6 +1,6 @@
 -- A session that threads go on with, and the account of a slot's connections.
 use Rattle.std.proofs.Common.{◌≡◌, ℕ, List, [], ◌∷◌, ◌++◌, map, Bool, true, false, Option, Some, None, Result, Ok, Err, refl, sym, ap, subst, ◌∙◌}
-use Rattle.std.specs.Prelude.{IfSome, IfOk, is_some, not}
+use Rattle.std.specs.Prelude.{IfSome, IfOk, OnErr, is_some, not}
 use Rattle.std.specs.Option.{option_map}
 use Rattle.std.specs.Result.{is_ok}
 use Rattle.std.proofs.lemmas.List.{append-nil}
@@ -67,16 +67,15 @@ over_at_rest n limits since seen t h = record { rest = t.stream.pending; fault =
 
 module _ (k : Settings) (taped : Bool) (n : ℕ) (limits : Limits) (since seen : List Entry) (t : TalkingState) (h : GoesOnSo n limits since seen t) where
   -- the session goes on
-  pub goes_on_more : (turn : Turn) (next : Stream) (units : Bool) (input left : Option (List ℕ)) (after : List ℕ) (seen_after : List Entry) → units ≡ may_leave turn
-      → Steps k taped n n t.stream t.has_units input left (Some t.heard) (Some after) (Ok turn) seen seen_after next
-      → GoesOnSo n limits since seen_after (record { stream = next; has_units = units; over = None; heard = after })
-  goes_on_more turn next units input left after seen_after is s =
+  pub goes_on_more : (turn : Turn) (now : TalkingState) (input left : Option (List ℕ)) (seen_after : List Entry) → now.has_units ≡ may_leave turn
+      → Steps k taped n n t.stream t.has_units input left (Some t.heard) (Some now.heard) (Ok turn) seen seen_after now.stream → GoesOnSo n limits since seen_after now
+  goes_on_more turn now input left seen_after is s =
       let r = fed n limits t.heard since seen t.stream t.has_units s.piece (reading_of n limits since seen t h) in
-      let alone : Steps k taped n n t.stream t.has_units (Some s.piece) (Some []) (Some t.heard) (Some after) (Ok turn) seen seen_after next =
+      let alone : Steps k taped n n t.stream t.has_units (Some s.piece) (Some []) (Some t.heard) (Some now.heard) (Ok turn) seen seen_after now.stream =
       record { piece = s.piece; consumes = sym (append-nil s.piece); hears = s.hears; goes_on = s.goes_on } in
-      goes_on_of n limits since seen_after (record { stream = next; has_units = units; over = None; heard = after })
-      (subst (λ (l : List ℕ). Reading n n limits (Some l) (Some []) since seen_after next units) (sym s.hears)
-      (reading_more k taped n n limits (Some (t.heard ++ s.piece)) (Some s.piece) (Some []) (Some t.heard) (Some after) since seen seen_after t.stream t.has_units r n refl turn next units is alone))
+      goes_on_of n limits since seen_after now
+      (subst (λ (l : List ℕ). Reading n n limits (Some l) (Some []) since seen_after now.stream now.has_units) (sym s.hears)
+      (reading_more k taped n n limits (Some (t.heard ++ s.piece)) (Some s.piece) (Some []) (Some t.heard) (Some now.heard) since seen seen_after t.stream t.has_units r n refl turn now.stream now.has_units is alone))
 
   -- it is over
   pub reads_all : (end : SessionEnd) (input left : Option (List ℕ)) (after : List ℕ) (seen_after : List Entry)
@@ -173,11 +172,11 @@ module _ (t : TalkState) (is : IsTalk t) where
   unless_talking (Some talking) none now = absurd cc
 
   pub talk_begun : (stream : Stream) (units : Bool) (heard : List ℕ) → is_some t.talking ≡ false → stream ≡ (unread t.limits).stream → units ≡ false → heard ≡ []
-      → IsTalk (record t { talking = Some (record { stream = stream; has_units = units; over = None; heard = heard }) })
+      → IsTalk (record t { talking = Some (record { stream = stream; has_units = units; over = None; heard = heard; has_ended = false }) })
   talk_begun stream units heard none fresh unit_none unheard =
-      let now : TalkingState = record { stream = stream; has_units = units; over = None; heard = heard } in
+      let now : TalkingState = record { stream = stream; has_units = units; over = None; heard = heard; has_ended = false } in
       talk_now t.number t.seen (Some now) refl
-      (goes_on_unread t.number t.limits t.hearings.since t.seen now (λ i. record { stream = fresh i; has_units = unit_none i; over = None; heard = unheard i }) (unless_talking t.talking none is.now))
+      (goes_on_unread t.number t.limits t.hearings.since t.seen now (λ i. record { stream = fresh i; has_units = unit_none i; over = None; heard = unheard i; has_ended = false }) (unless_talking t.talking none is.now))
 
   over_by : (over : Option Bool) (u : TalkingState) → IsTalkingBy over t.number t.limits t.hearings.since t.seen u → IsOverSo t.number t.limits t.hearings.since t.seen u.heard (whole_by over u.has_units)
   over_by None u h = over_at_rest t.number t.limits t.hearings.since t.seen u h
@@ -188,13 +187,22 @@ module _ (t : TalkState) (is : IsTalk t) where
   over_now (Some u) h = over_by u.over u h
 
   -- more was read after the session was over
-  pub talk_discarded : (u : TalkingState) (piece heard : List ℕ) (over : Option Bool) → t.talking ≡ Some u → over ≡ Some false → heard ≡ u.heard ++ piece
-      → IsTalk (record t { talking = Some (record u { over = over; heard = heard }) })
-  talk_discarded u piece heard over there is_over more =
+  pub talk_discarded : (u now : TalkingState) (piece : List ℕ) → t.talking ≡ Some u → now.over ≡ Some false → now.heard ≡ u.heard ++ piece → IsTalk (record t { talking = Some now })
+  talk_discarded u now piece there is_over more =
       let old = over_now (Some u) (subst (λ (o : Option TalkingState). IsTalking t.number t.limits t.hearings.since t.seen o) there is.now) in
-      talk_now t.number t.seen (Some (record u { over = over; heard = heard })) refl
-      (subst (λ (b : Option Bool). IsTalkingBy b t.number t.limits t.hearings.since t.seen (record u { over = b; heard = heard })) (sym is_over)
+      talk_now t.number t.seen (Some now) refl
+      (subst (λ (b : Option Bool). IsTalkingBy b t.number t.limits t.hearings.since t.seen now) (sym is_over)
       (subst (λ (l : List ℕ). IsOverSo t.number t.limits t.hearings.since t.seen l false) (sym more) (over_more t.number t.limits t.hearings.since t.seen u.heard piece (whole_in (Some u)) old)))
+
+  ended_by : (over : Option Bool) (u : TalkingState) → IsTalkingBy over t.number t.limits t.hearings.since t.seen u → IsTalkingBy over t.number t.limits t.hearings.since t.seen (record u { has_ended = true })
+  ended_by None u h = record { limited = h.limited; hands = h.hands; waits = h.waits }
+  ended_by (Some is_whole) u h = h
+
+  -- nothing is read any more
+  pub talk_ended : (u : TalkingState) → t.talking ≡ Some u → IsTalk (record t { talking = Some (record u { has_ended = true }) })
+  talk_ended u there =
+      talk_now t.number t.seen (Some (record u { has_ended = true })) refl
+      (ended_by u.over u (subst (λ (o : Option TalkingState). IsTalking t.number t.limits t.hearings.since t.seen o) there is.now))
 
   -- ---- a turn
 
@@ -203,57 +211,54 @@ module _ (t : TalkState) (is : IsTalk t) where
       subst (λ (b : Option Bool). IsTalkingBy b t.number t.limits t.hearings.since t.seen u) on
       (subst (λ (o : Option TalkingState). IsTalking t.number t.limits t.hearings.since t.seen o) there is.now)
 
-  stepped_now : (k : Settings) (taped : Bool) (u : TalkingState) → GoesOnSo t.number t.limits t.hearings.since t.seen u → (result : Result Turn SessionEnd) (next : Stream) (units : Bool) (over : Option Bool) (input left : Option (List ℕ)) (after : List ℕ) (seen : List Entry)
-      → Steps k taped t.number t.number u.stream u.has_units input left (Some u.heard) (Some after) result t.seen seen next → IfOk result (λ turn. units ≡ may_leave turn)
-      → over ≡ over_after result → IsTalkingBy over t.number t.limits t.hearings.since seen (record { stream = next; has_units = units; over = over; heard = after })
-  stepped_now k taped u h (Ok turn) next units over input left after seen s is_units is_over =
-      subst (λ (b : Option Bool). IsTalkingBy b t.number t.limits t.hearings.since seen (record { stream = next; has_units = units; over = b; heard = after })) (sym is_over)
-      (goes_on_more k taped t.number t.limits t.hearings.since t.seen u h turn next units input left after seen is_units s)
-  stepped_now k taped u h (Err end) next units over input left after seen s is_units is_over =
-      subst (λ (b : Option Bool). IsTalkingBy b t.number t.limits t.hearings.since seen (record { stream = next; has_units = units; over = b; heard = after })) (sym is_over)
-      (over_of k taped t.number t.limits after end t.hearings.since seen (reads_all k taped t.number t.limits t.hearings.since t.seen u h end input left after seen s))
+  stepped_now : (k : Settings) (taped : Bool) (u now : TalkingState) → GoesOnSo t.number t.limits t.hearings.since t.seen u → (result : Result Turn SessionEnd) (input left : Option (List ℕ)) (seen : List Entry)
+      → Steps k taped t.number t.number u.stream u.has_units input left (Some u.heard) (Some now.heard) result t.seen seen now.stream → IfOk result (λ turn. now.has_units ≡ may_leave turn)
+      → now.over ≡ over_after result → IsTalkingBy now.over t.number t.limits t.hearings.since seen now
+  stepped_now k taped u now h (Ok turn) input left seen s is_units is_over =
+      subst (λ (b : Option Bool). IsTalkingBy b t.number t.limits t.hearings.since seen now) (sym is_over)
+      (goes_on_more k taped t.number t.limits t.hearings.since t.seen u h turn now input left seen is_units s)
+  stepped_now k taped u now h (Err end) input left seen s is_units is_over =
+      subst (λ (b : Option Bool). IsTalkingBy b t.number t.limits t.hearings.since seen now) (sym is_over)
+      (over_of k taped t.number t.limits now.heard end t.hearings.since seen (reads_all k taped t.number t.limits t.hearings.since t.seen u h end input left now.heard seen s))
 
-  pub talk_stepped : (k : Settings) (taped : Bool) (m : ℕ) (u : TalkingState) → m ≡ t.number → t.talking ≡ Some u → u.over ≡ None → (result : Result Turn SessionEnd) (next : Stream) (units : Bool) (over : Option Bool)
-      (input left : Option (List ℕ)) (after : List ℕ) (seen : List Entry)
-      → Steps k taped t.number t.number u.stream u.has_units input left (Some u.heard) (Some after) result t.seen seen next → IfOk result (λ turn. units ≡ may_leave turn)
-      → over ≡ over_after result
-      → IsTalk (record { number = m; limits = t.limits; seen = seen; hearings = t.hearings; talking = Some (record { stream = next; has_units = units; over = over; heard = after }) })
-  talk_stepped k taped m u same there on result next units over input left after seen s is_units is_over =
-      talk_now m seen (Some (record { stream = next; has_units = units; over = over; heard = after })) same
-      (stepped_now k taped u (going u there on) result next units over input left after seen s is_units is_over)
+  pub talk_stepped : (k : Settings) (taped : Bool) (m : ℕ) (u now : TalkingState) → m ≡ t.number → t.talking ≡ Some u → u.over ≡ None → (result : Result Turn SessionEnd) (input left : Option (List ℕ)) (seen : List Entry)
+      → Steps k taped t.number t.number u.stream u.has_units input left (Some u.heard) (Some now.heard) result t.seen seen now.stream → IfOk result (λ turn. now.has_units ≡ may_leave turn)
+      → now.over ≡ over_after result → IsTalk (record { number = m; limits = t.limits; seen = seen; hearings = t.hearings; talking = Some now })
+  talk_stepped k taped m u now same there on result input left seen s is_units is_over =
+      talk_now m seen (Some now) same (stepped_now k taped u now (going u there on) result input left seen s is_units is_over)
 
-  stepped_by : (k : Settings) (taped : Bool) (m : ℕ) (u : TalkingState) → m ≡ t.number → GoesOnSo t.number t.limits t.hearings.since t.seen u → (result : Result Turn SessionEnd) (next : Stream) (units : Bool) (over : Option Bool)
-      (input left : Option (List ℕ)) (after : List ℕ) (seen : List Entry)
-      → Steps k taped t.number t.number u.stream u.has_units input left (Some u.heard) (Some after) result t.seen seen next → IfOk result (λ turn. units ≡ may_leave turn)
-      → over ≡ over_after result
-      → Stepped k taped result t (record { number = m; limits = t.limits; seen = seen; hearings = t.hearings; talking = Some (record { stream = next; has_units = units; over = over; heard = after }) }) u
-  stepped_by k taped m u same h (Ok turn) next units over input left after seen s is_units is_over = record {
-    now = record { stream = next; has_units = units; over = over; heard = after };
+  stepped_by : (k : Settings) (taped : Bool) (m : ℕ) (u now : TalkingState) → m ≡ t.number → GoesOnSo t.number t.limits t.hearings.since t.seen u → (result : Result Turn SessionEnd) (input left : Option (List ℕ)) (seen : List Entry)
+      → Steps k taped t.number t.number u.stream u.has_units input left (Some u.heard) (Some now.heard) result t.seen seen now.stream → IfOk result (λ turn. now.has_units ≡ may_leave turn)
+      → now.over ≡ over_after result → now.has_ended ≡ u.has_ended
+      → Stepped k taped result t (record { number = m; limits = t.limits; seen = seen; hearings = t.hearings; talking = Some now }) u
+  stepped_by k taped m u now same h (Ok turn) input left seen s is_units is_over ended = record {
+    now = now;
     piece = s.piece;
-    new_is = λ i. record { number = same i; limits = t.limits; seen = seen; hearings = t.hearings; talking = Some (record { stream = next; has_units = units; over = over; heard = after }) };
+    new_is = λ i. record { number = same i; limits = t.limits; seen = seen; hearings = t.hearings; talking = Some now };
     heard = s.hears;
+    has_ended = ended;
     turns = (is_over, is_units);
   }
-  stepped_by k taped m u same h (Err end) next units over input left after seen s is_units is_over =
-      let more = heard_more k taped t.number t.limits t.hearings.since t.seen u h end input left after seen s in
+  stepped_by k taped m u now same h (Err end) input left seen s is_units is_over ended =
+      let more = heard_more k taped t.number t.limits t.hearings.since t.seen u h end input left now.heard seen s in
       record {
-        now = record { stream = next; has_units = units; over = over; heard = after };
+        now = now;
         piece = more.0;
-        new_is = λ i. record { number = same i; limits = t.limits; seen = seen; hearings = t.hearings; talking = Some (record { stream = next; has_units = units; over = over; heard = after }) };
+        new_is = λ i. record { number = same i; limits = t.limits; seen = seen; hearings = t.hearings; talking = Some now };
         heard = more.1;
-        turns = (is_over, reads_all k taped t.number t.limits t.hearings.since t.seen u h end input left after seen s);
+        has_ended = ended;
+        turns = (is_over, reads_all k taped t.number t.limits t.hearings.since t.seen u h end input left now.heard seen s);
       }
 
-  pub steps_on : (k : Settings) (taped : Bool) (m : ℕ) (u : TalkingState) → m ≡ t.number → t.talking ≡ Some u → u.over ≡ None → (result : Result Turn SessionEnd) (next : Stream) (units : Bool) (over : Option Bool)
-      (input left : Option (List ℕ)) (after : List ℕ) (seen : List Entry)
-      → Steps k taped t.number t.number u.stream u.has_units input left (Some u.heard) (Some after) result t.seen seen next → IfOk result (λ turn. units ≡ may_leave turn)
-      → over ≡ over_after result
-      → StepsOn t.talking k taped result t (record { number = m; limits = t.limits; seen = seen; hearings = t.hearings; talking = Some (record { stream = next; has_units = units; over = over; heard = after }) })
-  steps_on k taped m u same there on result next units over input left after seen s is_units is_over =
-      let new : TalkState = record { number = m; limits = t.limits; seen = seen; hearings = t.hearings; talking = Some (record { stream = next; has_units = units; over = over; heard = after }) } in
+  pub steps_on : (k : Settings) (taped : Bool) (m : ℕ) (u now : TalkingState) → m ≡ t.number → t.talking ≡ Some u → u.over ≡ None → (result : Result Turn SessionEnd) (input left : Option (List ℕ)) (seen : List Entry)
+      → Steps k taped t.number t.number u.stream u.has_units input left (Some u.heard) (Some now.heard) result t.seen seen now.stream → IfOk result (λ turn. now.has_units ≡ may_leave turn)
+      → now.over ≡ over_after result → now.has_ended ≡ u.has_ended
+      → StepsOn t.talking k taped result t (record { number = m; limits = t.limits; seen = seen; hearings = t.hearings; talking = Some now })
+  steps_on k taped m u now same there on result input left seen s is_units is_over ended =
+      let new : TalkState = record { number = m; limits = t.limits; seen = seen; hearings = t.hearings; talking = Some now } in
       subst (λ (o : Option TalkingState). StepsOn o k taped result t new) (sym there)
       (subst (λ (b : Option Bool). SteppedUnless b k taped result t new u) (sym on)
-      (stepped_by k taped m u same (going u there on) result next units over input left after seen s is_units is_over))
+      (stepped_by k taped m u now same (going u there on) result input left seen s is_units is_over ended))
 
   -- ---- a closing
 
@@ -287,6 +292,11 @@ refusal_adds n m (Err refused) seen after unless h = h
 
 pub some_talking : {X : Type 0} (f : X → TalkingState) (o : Option X) (x : X) → o ≡ Some x → option_map f o ≡ Some (f x)
 some_talking f o x is = ap (option_map f) is
+
+-- where a turn has an error, the session is over
+pub over_where_err : (result : Result Turn SessionEnd) (over : Option Bool) → over ≡ over_after result → OnErr result (is_some over ≡ true)
+over_where_err (Ok turn) over is = tt
+over_where_err (Err end) over is = ap is_some is
 
 pub none_over : (o : Option Bool) → is_some o ≡ false → o ≡ None
 none_over None is = refl

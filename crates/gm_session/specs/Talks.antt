@@ -1,5 +1,6 @@
 -- A slot's desk, and the session of its connection.
-use Rattle.std.specs.Prelude.{◌≡◌, ℕ, List, [], ◌++◌, Bool, true, false, not, Option, Some, None, Result, Ok, Err}
+use Rattle.std.specs.Prelude.{◌≡◌, ℕ, List, [], ◌++◌, Bool, true, false, not, Option, Some, None, is_some, Result, Ok, Err}
+use Rattle.std.specs.Option.{option_map}
 use Rattle.gm_feeder.specs.declared.units.Limits.{Limits}
 use Rattle.gm_feeder.specs.Units.{Waits}
 use Rattle.gm_feeder.specs.Streams.{Stream}
@@ -9,6 +10,8 @@ use Rattle.gm_notes.specs.Settings.{Settings}
 use Rattle.gm_shared.specs.declared.receipt.Receipt.{Receipt}
 use Rattle.gm_shared.specs.declared.tape.Entry.{Entry}
 use Rattle.gm_session.specs.declared.heard.Hearings.{Hearings}
+use Rattle.gm_session.specs.declared.heard.Left.{Left}
+use Rattle.gm_session.specs.declared.heard.Left.TheVariants as lefts
 use Rattle.gm_session.specs.declared.session.SessionEnd.{SessionEnd}
 use Rattle.gm_session.specs.declared.session.SessionEnd.TheVariants as ends
 use Rattle.gm_session.specs.declared.session.Turn.{Turn}
@@ -16,12 +19,13 @@ use Rattle.gm_session.specs.Hearings.{closed, AreHeard}
 use Rattle.gm_session.specs.Sessions.{Adds, HandsIn, Reads, may_leave}
 
 -- the bytes of the session that make no unit yet, whether whole units may be left before them; once the session is over, whether all whole units were
--- handed in; and all that was read from the connection
+-- handed in; all that was read from the connection, and whether nothing is read from it any more
 pub record TalkingState : Type 0 where
   pub stream : Stream
   pub has_units : Bool
   pub over : Option Bool
   pub heard : List ℕ
+  pub has_ended : Bool
 
 -- the slot's number, the limits of units, what the desk has seen of the history; the connection, if there is one, and the account of those
 -- that are gone
@@ -62,11 +66,30 @@ pub record IsTalk (t : TalkState) : Type 0 where
 -- ---- a connection's way
 
 abbrev pub unread : Limits → TalkingState
-unread limits = record { stream = record { limits = limits; pending = []; fault = None }; has_units = false; over = None; heard = [] }
+unread limits = record { stream = record { limits = limits; pending = []; fault = None }; has_units = false; over = None; heard = []; has_ended = false }
 
 -- a connection came, of which nothing was read
 abbrev pub begun : TalkState → TalkState
 begun t = record t { talking = Some (unread t.limits) }
+
+-- nothing is read from the connection any more, if there is one
+abbrev pub without_reading : TalkState → TalkState
+without_reading t = record t { talking = option_map (λ (u : TalkingState). record u { has_ended = true }) t.talking }
+
+-- whether there is a connection from which more may be read
+abbrev pub is_reading : Option TalkingState → Bool
+is_reading None = false
+is_reading (Some t) = not t.has_ended
+
+-- whether no session goes on: there is no connection, or its session is over
+abbrev pub is_over : Option TalkingState → Bool
+is_over None = true
+is_over (Some t) = is_some t.over
+
+-- What is left to be read: nothing where nothing is read any more; otherwise perhaps something, where whole units may be left.
+abbrev pub IsLeft : Option TalkingState → Left → Type 0
+IsLeft None left = left ≡ lefts.Nothing
+IsLeft (Some t) left = (t.has_ended ≡ true → left ≡ lefts.Nothing) × (t.has_ended ≡ false → t.has_units ≡ true → left ≡ lefts.Perhaps)
 
 -- whether all whole units were handed in where a session ended so
 abbrev pub ends_whole : SessionEnd → Bool
@@ -93,6 +116,7 @@ pub record Stepped (k : Settings) (taped : Bool) (result : Result Turn SessionEn
   pub piece : List ℕ
   pub new_is : new ≡ record old { seen = new.seen; talking = Some now }
   pub heard : now.heard ≡ t.heard ++ piece
+  pub has_ended : now.has_ended ≡ t.has_ended
   pub turns : Turns k taped result old new.seen t now
 
 abbrev pub SteppedUnless : Option Bool → Settings → Bool → Result Turn SessionEnd → TalkState → TalkState → TalkingState → Type 0

@@ -9,7 +9,7 @@ ghost use Rattle.gm_shared.specs.Calls.{Called};
 ghost use Rattle.gm_session.specs.Effects.{Keeps, Gathers};
 ghost use Rattle.gm_session.specs.Hearings.{blank};
 ghost use Rattle.gm_session.specs.Sessions.{Steps, may_leave};
-ghost use Rattle.gm_session.specs.Talks.{IsTalk, begun, over_after, whole_by, StepsOn, Discards, Closes};
+ghost use Rattle.gm_session.specs.Talks.{IsTalk, begun, without_reading, is_over, is_reading, over_after, whole_by, IsLeft, StepsOn, Discards, Closes};
 
 use crate::applier::{Applier, Around};
 use crate::effects::Effects;
@@ -75,7 +75,7 @@ impl<K: BookName, I: Source<Patience>> Model for Talk<K, I> {
       limits = t.limits;
       seen = t.desk.desk.witness.seen;
       hearings = t.ledger;
-      talking = option_map (λ x. record { stream = x.session.feeder; has_units = x.session.has_units; over = x.over; heard = x.source.2 }) t.talking;
+      talking = option_map (λ x. record { stream = x.session.feeder; has_units = x.session.has_units; over = x.over; heard = x.source.2; has_ended = x.has_ended }) t.talking;
     } };
 
     ghost invariant = { λ t. IsTalk (record {
@@ -83,7 +83,7 @@ impl<K: BookName, I: Source<Patience>> Model for Talk<K, I> {
       limits = t.limits;
       seen = t.desk.desk.witness.seen;
       hearings = t.ledger;
-      talking = option_map (λ x. record { stream = x.session.feeder; has_units = x.session.has_units; over = x.over; heard = x.source.2 }) t.talking;
+      talking = option_map (λ x. record { stream = x.session.feeder; has_units = x.session.has_units; over = x.over; heard = x.source.2; has_ended = x.has_ended }) t.talking;
     }) };
 }
 
@@ -111,6 +111,7 @@ fn step_on<K: BookName, R: Wait + Clock, G: Gate, I: Source<Patience>>(
         desk.old.desk.witness.seen desk.new.desk.witness.seen talking.new.session.feeder }
     ensures units { IfOk result (λ turn. talking.new.session.has_units ≡ may_leave turn) }
     ensures over { talking.new.over ≡ over_after result }
+    ensures ended { talking.new.has_ended ≡ talking.old.has_ended }
     ensures gathers { Gathers K.settings K.taped desk.old.desk.number desk.old.desk.witness.seen effects.old desk.new.desk.witness.seen effects.new }
     ensures number { desk.new.desk.number ≡ desk.old.desk.number }
 {
@@ -139,6 +140,7 @@ fn discard_on<I: Source<Patience>>(
     ensures over { talking.new.over ≡ Some false }
     ensures heard { (piece : List ℕ) × (talking.new.source.2 ≡ talking.old.source.2 ++ piece) }
     ensures session { talking.new.session ≡ talking.old.session }
+    ensures ended { talking.new.has_ended ≡ talking.old.has_ended }
 {
     talking.over = Some(false);
     match talking.source.read_by(by, room) {
@@ -196,7 +198,9 @@ impl<K: BookName, I: Source<Patience> + Drop> Talk<K, I> {
     }
 
     /// Whether there is a connection from which more may be read.
-    pub fn is_reading(&self) -> bool {
+    pub fn is_reading(&self) -> bool
+        ensures { result ≡ is_reading self.now.talking }
+    {
         // Modelled in models/serving.h.
         match &self.talking {
             Some(talking) => !talking.has_ended,
@@ -206,7 +210,7 @@ impl<K: BookName, I: Source<Patience> + Drop> Talk<K, I> {
 
     /// Nothing is read from the connection any more.
     pub fn stop_reading(&mut self)
-        ensures { self.new ≡ self.old }
+        ensures { self.new ≡ without_reading self.old }
     {
         // Modelled in models/serving.h.
         match &mut self.talking {
@@ -218,7 +222,8 @@ impl<K: BookName, I: Source<Patience> + Drop> Talk<K, I> {
     /// What is left to be read, after a step that didn't wait: also where it didn't read, there may be more, since what came meanwhile isn't
     /// reported again.
     pub fn take_left(&mut self) -> Left
-        ensures { self.new ≡ self.old }
+        ensures left { IsLeft self.old.talking result }
+        ensures same { self.new ≡ self.old }
     {
         // Modelled in models/polling.pml.
         match &mut self.talking {
@@ -251,6 +256,7 @@ impl<K: BookName, I: Source<Patience> + Drop> Talk<K, I> {
         effects: &mut Effects<K>,
     ) -> Result<Turn, SessionEnd>
         ensures steps { StepsOn self.old.talking K.settings K.taped result self.old self.new }
+        ensures over { OnErr result (is_over self.new.talking ≡ true) }
         ensures gathers { Gathers K.settings K.taped self.old.number self.old.seen effects.old self.new.seen effects.new }
     {
         // Modelled in models/polling.pml.
@@ -268,7 +274,8 @@ impl<K: BookName, I: Source<Patience> + Drop> Talk<K, I> {
 
     /// Reads what comes after the session is over, and drops it: into this room, by one call, and says how many bytes these were.
     pub fn discard(&mut self, by: &Patience, room: &mut [u8]) -> io::Result<usize>
-        ensures { Discards self.old.talking self.old self.new }
+        ensures discards { Discards self.old.talking self.old self.new }
+        ensures over { is_over self.new.talking ≡ true }
     {
         match &mut self.talking {
             Some(talking) => discard_on(talking, by, room),
