@@ -1,5 +1,8 @@
 //! How a connection is served, by whichever threads do: it is read by turns and ended, and what others leave of its lane is done.
 
+ghost use Rattle.std.specs.Prelude.{◌≡◌, true};
+ghost use Rattle.gm_session.specs.Talks.{is_over};
+
 use crate::state::ServerState;
 use gm_delivery::{Deliverer, Finish, Leftover, ReadHalf, ServerStage};
 use gm_feeder::Patience;
@@ -19,7 +22,9 @@ const DROPPED: usize = 4_096;
 
 /// Reads what a connection still sends that is to end, and drops it: before its socket is closed, as the system else forgets what the
 /// peer hasn't read yet. It says whether the input has ended.
-fn discard<K: BookName>(talk: &mut Talk<K, ReadHalf>, patience: Patience) -> bool {
+fn discard<K: BookName>(talk: &mut Talk<K, ReadHalf>, patience: Patience) -> bool
+    ensures { is_over talk.new.talking ≡ true }
+{
     // Modelled in models/polling.pml.
     let mut room = [0; DROPPED];
     match talk.discard(&patience, &mut room) {
@@ -52,7 +57,9 @@ impl<'s, K: BookName> ServerState<'s, K> {
         slot: &Slot<K>,
         talk: &mut Talk<K, ReadHalf>,
         patience: Patience,
-    ) -> bool {
+    ) -> bool
+        ensures { result ≡ true → is_over talk.new.talking ≡ true }
+    {
         // Modelled in models/polling.pml and serving.h.
         let outcome = if self.progress.stage.has_reached(ServerStage::Stopped as u8) {
             Err(SessionEnd::Shut)
