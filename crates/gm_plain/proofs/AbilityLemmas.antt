@@ -13,7 +13,7 @@ use Rattle.gm_notes.specs.declared.note.Note.{Note}
 use Rattle.gm_notes.specs.Notes.{last_said}
 use Rattle.gm_notes.specs.declared.note.Note.TheVariants.{Opened, Closed, Can, Cant, Reset, Made, Returned}
 use Rattle.gm_notes.specs.declared.states.Priority.TheVariants.{High, Normal, Low}
-use Rattle.gm_notes.specs.Jobs.{Ability, put, is_of, abilities, is_able, as_they_came, is_queued, queue, waiting_for, is_empty, pick_from}
+use Rattle.gm_notes.specs.Jobs.{Ability, put, is_of, abilities, is_able, as_they_came, is_queued, queue, waiting_for, pick_from}
 use Rattle.gm_notes.specs.Jobs.{first_of}
 use Rattle.gm_plain.specs.Searches.{says_able, abilities_after, order_after, head}
 
@@ -166,14 +166,6 @@ pub first_is_low : (f : List ℕ) (notes : List Note) (jobs : List ℕ) → jobs
 first_is_low f notes jobs is high normal =
     sym (first_waiting f notes jobs is ∙ ap₂ (λ o p. or_head (or_head o p) (find (is_queued f Low notes) jobs)) (sym high) (sym normal))
 
-pub head_none : (ns : List ℕ) → head ns ≡ None → is_empty ns ≡ true
-head_none [] e = refl
-head_none (n ∷ ns) e = absurd cc
-
-pub head_some : (ns : List ℕ) (n : ℕ) → head ns ≡ Some n → is_empty ns ≡ false
-head_some [] n e = absurd cc
-head_some (m ∷ ns) n e = refl
-
 -- ---- picks
 
 pub pick_here : (ability : Ability) (abilities : List Ability) (notes : List Note) (n : ℕ) → head (waiting_for ability.function notes) ≡ Some n
@@ -183,14 +175,6 @@ pick_here ability abilities notes n e = go (waiting_for ability.function notes) 
     go : (ns : List ℕ) → head ns ≡ Some n → first_of ns ability.timeout (pick_from abilities notes) ≡ Some (record { job = n; timeout = ability.timeout })
     go [] h = absurd cc
     go (m ∷ ns) h = ap (λ (o : Option ℕ). option_map (λ (j : ℕ). record { job = j; timeout = ability.timeout }) o) h
-
-pub pick_later : (ability : Ability) (abilities : List Ability) (notes : List Note) → head (waiting_for ability.function notes) ≡ None
-    → pick_from (ability ∷ abilities) notes ≡ pick_from abilities notes
-pick_later ability abilities notes e = go (waiting_for ability.function notes) e
-  where
-    go : (ns : List ℕ) → head ns ≡ None → first_of ns ability.timeout (pick_from abilities notes) ≡ pick_from abilities notes
-    go [] h = refl
-    go (m ∷ ns) h = absurd cc
 
 -- ---- an ability in its place
 

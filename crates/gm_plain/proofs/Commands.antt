@@ -3,14 +3,11 @@ use Rattle.std.proofs.Common.{◌≡◌, ℕ, Bool, true, false, List, refl}
 use Rattle.std.specs.Prelude.{if◌then◌else◌}
 use Rattle.gm_notes.specs.declared.note.Note.TheVariants.{Limit, Went, Mention}
 use Rattle.gm_notes.specs.declared.states.Mode.{Mode}
-use Rattle.gm_notes.specs.declared.states.Mode.TheVariants.{Running, Graceful, Stopped}
-use Rattle.gm_notes.specs.Settings.{Settings}
-use Rattle.gm_notes.specs.Notes.{slots_from, accepts_connections}
+use Rattle.gm_notes.specs.declared.states.Mode.TheVariants.{Running, Graceful}
+use Rattle.gm_notes.specs.Notes.{accepts_connections}
 use Rattle.gm_notes.specs.Jobs.{is_mentioned}
 use Rattle.gm_notes.specs.Past.{Past, with_note, with_output, with_mention}
-use Rattle.gm_notes.specs.Lines.{shut_each, go_graceful}
-use Rattle.gm_plain.specs.declared.server.PlainServer.{PlainServer}
-use Rattle.gm_plain.specs.Holds.{Keeps}
+use Rattle.gm_notes.specs.Lines.{go_graceful}
 
 -- it doesn't matter that the answer is queued first
 pub limit_told : (c : ℕ) (text f : List ℕ) (size : ℕ) (past : Past) → with_note (Limit f size) (with_mention f (with_output c text past)) ≡ with_output c text (with_note (Limit f size) (with_mention f past))
@@ -22,18 +19,8 @@ limit_told c text f size past = go (is_mentioned f past.notes)
 
 pub graceful_told : (c : ℕ) (text : List ℕ) (m : Mode) (past : Past) → accepts_connections m ≡ true → with_note (Went Graceful) (with_output c text past) ≡ with_output c text (go_graceful m past)
 graceful_told c text Running past e = refl
-graceful_told c text Graceful past e = absurd cc
-graceful_told c text Stopped past e = absurd cc
+graceful_told c text m past e = absurd cc
 
 pub graceful_kept : (c : ℕ) (text : List ℕ) (m : Mode) (past : Past) → accepts_connections m ≡ false → with_output c text past ≡ with_output c text (go_graceful m past)
 graceful_kept c text Running past e = absurd cc
-graceful_kept c text Graceful past e = refl
-graceful_kept c text Stopped past e = refl
-
--- ---- connections that are shut, one after another
-
--- the server keeps a past from which shutting these slots leads where shutting all led from the first
-pub record Shutting (server : PlainServer) (slot left : ℕ) (k : Settings) (past : Past) : Type 0 where
-  pub now : Past
-  pub keeps : Keeps server now
-  pub leads : shut_each (slots_from 0 k.slots) past ≡ shut_each (slots_from slot left) now
+graceful_kept c text m past e = refl

@@ -16,9 +16,6 @@ pub counted_not : (P : ℕ → Bool) (slot count rest found : ℕ) → count ≡
     → found + length (filter P (slots_from (slot + 1) rest)) ≡ found + length (filter P (slots_from slot count))
 counted_not P slot count rest found e holds = rw (e, holds, add-one slot) refl
 
-pub counted_end : (P : ℕ → Bool) (slot count found : ℕ) → count ≡ 0 → found + length (filter P (slots_from slot count)) ≡ found
-counted_end P slot count found e = rw e (let same : found + 0 ≡ found = omega arith in same)
-
 module _ {A : Type 0} (row_of : A → WorkerLine) (rows : List A) (notes : List Note) (slot count : ℕ) where
   pub row_here : (rest : ℕ) (row : A) → count ≡ suc rest → is_open slot notes ≡ true → row_of row ≡ worker_line_of notes slot
       → map row_of (rows ++ row ∷ []) ++ map (worker_line_of notes) (filter (λ c. is_open c notes) (slots_from (slot + 1) rest))

@@ -4,7 +4,7 @@ use Rattle.std.proofs.Common.{subst, arith}
 use Rattle.std.specs.Prelude.{◌==◌, if◌then◌else◌, unwrap_or}
 use Rattle.std.proofs.lemmas.Bool.Decides.{nat_tests}
 use Rattle.gm_notes.specs.declared.states.Phase.{Phase}
-use Rattle.gm_notes.specs.declared.states.Phase.TheVariants.{Awake, Asleep, Owed}
+use Rattle.gm_notes.specs.declared.states.Phase.TheVariants.{Asleep, Owed}
 use Rattle.gm_notes.specs.declared.note.Note.{Note}
 use Rattle.gm_notes.specs.declared.note.Note.TheVariants.{Opened, Closed, Slept, Woken, Stirred, Took, Withdrew, Made, Assigned, Returned, Lost}
 use Rattle.gm_notes.specs.declared.note.Note.TheVariants.{Ended, Discarded}
@@ -68,91 +68,62 @@ module _ (f g : ℕ → ℕ) (d : ℕ) (same : (c : ℕ) → (c == d) ≡ false 
 
 asleep_due : (p : Phase) → is_asleep p ≡ true → due_of_phase p ≡ 2
 asleep_due Asleep e = refl
-asleep_due Awake e = absurd cc
-asleep_due Owed e = absurd cc
+asleep_due p e = absurd cc
 
 owed_due : (p : Phase) → is_owed p ≡ true → due_of_phase p ≡ 1
 owed_due Owed e = refl
-owed_due Awake e = absurd cc
-owed_due Asleep e = absurd cc
-
-open_due : (t : Bool) → due_of_open t ≤ 1
-open_due true = omega arith
-open_due false = omega arith
+owed_due p e = absurd cc
 
 waits_due : (p : JobState) → is_waiting p ≡ true → due_of_job_state p ≡ 1
 waits_due states.Waiting e = refl
-waits_due states.Unmade e = absurd cc
-waits_due (states.Running c) e = absurd cc
-waits_due states.Lost e = absurd cc
-waits_due states.Ended e = absurd cc
-waits_due states.Discarded e = absurd cc
+waits_due p e = absurd cc
 
 runs_at_due : (p : JobState) (c : ℕ) → is_running_at c p ≡ true → due_of_job_state p ≡ 2
 runs_at_due (states.Running d) c e = refl
-runs_at_due states.Lost c e = absurd cc
-runs_at_due states.Waiting c e = absurd cc
-runs_at_due states.Unmade c e = absurd cc
-runs_at_due states.Ended c e = absurd cc
-runs_at_due states.Discarded c e = absurd cc
+runs_at_due p c e = absurd cc
 
 runs_due : (p : JobState) → is_running p ≡ true → 1 ≤ due_of_job_state p
 runs_due (states.Running c) e = omega arith
 runs_due states.Lost e = omega arith
-runs_due states.Waiting e = absurd cc
-runs_due states.Unmade e = absurd cc
-runs_due states.Ended e = absurd cc
-runs_due states.Discarded e = absurd cc
+runs_due p e = absurd cc
 
 live_due : (p : JobState) → is_live p ≡ true → 1 ≤ due_of_job_state p
 live_due states.Waiting e = omega arith
 live_due (states.Running c) e = omega arith
 live_due states.Lost e = omega arith
-live_due states.Unmade e = absurd cc
-live_due states.Ended e = absurd cc
-live_due states.Discarded e = absurd cc
+live_due p e = absurd cc
 
 running_lives : (p : JobState) → is_running p ≡ true → is_live p ≡ true
 running_lives (states.Running c) e = refl
 running_lives states.Lost e = refl
-running_lives states.Waiting e = refl
-running_lives states.Unmade e = absurd cc
-running_lives states.Ended e = absurd cc
-running_lives states.Discarded e = absurd cc
+running_lives p e = absurd cc
 
 waiting_lives : (p : JobState) → is_waiting p ≡ true → is_live p ≡ true
 waiting_lives states.Waiting e = refl
-waiting_lives (states.Running c) e = refl
-waiting_lives states.Lost e = refl
-waiting_lives states.Unmade e = absurd cc
-waiting_lives states.Ended e = absurd cc
-waiting_lives states.Discarded e = absurd cc
+waiting_lives p e = absurd cc
 
 running_there_lives : (p : JobState) (c : ℕ) → is_running_at c p ≡ true → is_live p ≡ true
 running_there_lives (states.Running d) c e = refl
-running_there_lives states.Lost c e = refl
-running_there_lives states.Waiting c e = refl
-running_there_lives states.Unmade c e = absurd cc
-running_there_lives states.Ended c e = absurd cc
-running_there_lives states.Discarded c e = absurd cc
+running_there_lives p c e = absurd cc
 
 -- ---- what is due after a note
 
--- what the note takes off at its slot
-slot_less : (note : Note) (d slots : ℕ) (notes : List Note) → ((c : ℕ) → (c == d) ≡ false → slot_due c (note ∷ notes) ≡ slot_due c notes) → d < slots
-    → slot_due d (note ∷ notes) < slot_due d notes → slots_due slots (note ∷ notes) < slots_due slots notes
-slot_less note d slots notes same lt less =
+-- the note takes something off at its slot, and nothing of jobs
+slot_less : (note : Note) (d slots first : ℕ) (notes : List Note) → ((c : ℕ) → (c == d) ≡ false → slot_due c (note ∷ notes) ≡ slot_due c notes) → d < slots
+    → slot_due d (note ∷ notes) < slot_due d notes → jobs_due first (note ∷ notes) ≡ jobs_due first notes → due slots first (note ∷ notes) < due slots first notes
+slot_less note d slots first notes same lt less jobs =
     let at = total_at (λ c. slot_due c (note ∷ notes)) (λ c. slot_due c notes) d same 0 slots (omega arith) (omega arith) in
-    omega (arith, at)
+    omega (arith, at, jobs)
 
-job_less : (note : Note) (m first : ℕ) (notes : List Note) → ((n : ℕ) → (n == m) ≡ false → due_of_job_state (job_state n (note ∷ notes)) ≡ due_of_job_state (job_state n notes))
+-- the note takes something off of its job, and nothing at slots
+job_less : (note : Note) (m slots first : ℕ) (notes : List Note) → ((n : ℕ) → (n == m) ≡ false → due_of_job_state (job_state n (note ∷ notes)) ≡ due_of_job_state (job_state n notes))
     → (first ≤ m) × (m < first + length (made notes)) → due_of_job_state (job_state m (note ∷ notes)) < due_of_job_state (job_state m notes) → made (note ∷ notes) ≡ made notes
-    → jobs_due first (note ∷ notes) < jobs_due first notes
-job_less note m first notes same within less kept =
+    → slots_due slots (note ∷ notes) ≡ slots_due slots notes → due slots first (note ∷ notes) < due slots first notes
+job_less note m slots first notes same within less kept slot =
     let at = total_at (λ n. due_of_job_state (job_state n (note ∷ notes))) (λ n. due_of_job_state (job_state n notes)) m same first (length (made notes)) within.0 within.1 in
     let e : jobs_due first (note ∷ notes) ≡ total_of (λ n. due_of_job_state (job_state n (note ∷ notes))) first (length (made notes)) =
     ap (λ l. total_of (λ n. due_of_job_state (job_state n (note ∷ notes))) first (length l)) kept in
-    omega (arith, at, e)
+    omega (arith, at, e, slot)
 
 pub due_next : (slots first : ℕ) (note : Note) (notes : List Note) → MayCome slots first note notes → AllFit slots notes → AreNumbered first notes
     → suc (due slots first (note ∷ notes)) ≤ due slots first notes + weight note
@@ -162,33 +133,23 @@ due_next slots first (Opened d addr) notes stands fit numbered =
     omega (arith, at, jobs)
 due_next slots first (Closed d) notes stands fit numbered =
     let opened : due_of_open (is_open d notes) ≡ 1 = ap due_of_open stands in
-    let less = slot_less (Closed d) d slots notes (λ c h. rw h refl) (open_below slots d notes fit stands) (rw (self d) (omega (arith, opened))) in
-    let jobs : jobs_due first (Closed d ∷ notes) ≡ jobs_due first notes = refl in
-    omega (arith, less, jobs)
+    let less = slot_less (Closed d) d slots first notes (λ c h. rw h refl) (open_below slots d notes fit stands) (rw (self d) (omega (arith, opened))) refl in omega (arith, less)
 due_next slots first (Slept d) notes stands fit numbered =
     let at = total_most (λ c. slot_due c (Slept d ∷ notes)) (λ c. slot_due c notes) d (λ c h. rw h refl) 2 0 slots (rw (self d) (omega arith)) in
     let jobs : jobs_due first (Slept d ∷ notes) ≡ jobs_due first notes = refl in
     omega (arith, at, jobs)
 due_next slots first (Woken d) notes stands fit numbered =
     let asleep = asleep_due (phase d notes) stands.1 in
-    let less = slot_less (Woken d) d slots notes (λ c h. rw h refl) stands.0 (rw (self d) (omega (arith, asleep))) in
-    let jobs : jobs_due first (Woken d ∷ notes) ≡ jobs_due first notes = refl in
-    omega (arith, less, jobs)
+    let less = slot_less (Woken d) d slots first notes (λ c h. rw h refl) stands.0 (rw (self d) (omega (arith, asleep))) refl in omega (arith, less)
 due_next slots first (Stirred d) notes stands fit numbered =
     let asleep = asleep_due (phase d notes) stands.1 in
-    let less = slot_less (Stirred d) d slots notes (λ c h. rw h refl) stands.0 (rw (self d) (omega (arith, asleep))) in
-    let jobs : jobs_due first (Stirred d ∷ notes) ≡ jobs_due first notes = refl in
-    omega (arith, less, jobs)
+    let less = slot_less (Stirred d) d slots first notes (λ c h. rw h refl) stands.0 (rw (self d) (omega (arith, asleep))) refl in omega (arith, less)
 due_next slots first (Took d) notes stands fit numbered =
     let owed = owed_due (phase d notes) stands.1 in
-    let less = slot_less (Took d) d slots notes (λ c h. rw h refl) stands.0 (rw (self d) (omega (arith, owed))) in
-    let jobs : jobs_due first (Took d ∷ notes) ≡ jobs_due first notes = refl in
-    omega (arith, less, jobs)
+    let less = slot_less (Took d) d slots first notes (λ c h. rw h refl) stands.0 (rw (self d) (omega (arith, owed))) refl in omega (arith, less)
 due_next slots first (Withdrew d) notes stands fit numbered =
     let owed = owed_due (phase d notes) stands.1 in
-    let less = slot_less (Withdrew d) d slots notes (λ c h. rw h refl) stands.0 (rw (self d) (omega (arith, owed))) in
-    let jobs : jobs_due first (Withdrew d ∷ notes) ≡ jobs_due first notes = refl in
-    omega (arith, less, jobs)
+    let less = slot_less (Withdrew d) d slots first notes (λ c h. rw h refl) stands.0 (rw (self d) (omega (arith, owed))) refl in omega (arith, less)
 due_next slots first (Made m f p u body) notes stands fit numbered =
     let slot : slots_due slots (Made m f p u body ∷ notes) ≡ slots_due slots notes = refl in
     let past = total_outside (λ n. due_of_job_state (job_state n (Made m f p u body ∷ notes))) (λ n. due_of_job_state (job_state n notes)) m (λ n h. rw h refl) first (length (made notes)) (omega (arith, stands)) in
@@ -200,25 +161,17 @@ due_next slots first (Assigned m c deadline) notes stands fit numbered =
     let at = total_most (λ n. due_of_job_state (job_state n (Assigned m c deadline ∷ notes))) (λ n. due_of_job_state (job_state n notes)) m (λ n h. rw h refl) 1 first (length (made notes)) (rw (self m) (omega (arith, waits))) in
     omega (arith, slot, at)
 due_next slots first (Returned m) notes stands fit numbered =
-    let slot : slots_due slots (Returned m ∷ notes) ≡ slots_due slots notes = refl in
     let runs = runs_at_due (job_state m notes) stands.0 stands.1 in
-    let less = job_less (Returned m) m first notes (λ n h. rw h refl) (numbered m (running_there_lives (job_state m notes) stands.0 stands.1)) (rw (self m) (omega (arith, runs))) refl in
-    omega (arith, slot, less)
+    let less = job_less (Returned m) m slots first notes (λ n h. rw h refl) (numbered m (running_there_lives (job_state m notes) stands.0 stands.1)) (rw (self m) (omega (arith, runs))) refl refl in omega (arith, less)
 due_next slots first (Lost m) notes stands fit numbered =
-    let slot : slots_due slots (Lost m ∷ notes) ≡ slots_due slots notes = refl in
     let runs = runs_at_due (job_state m notes) stands.0 stands.1 in
-    let less = job_less (Lost m) m first notes (λ n h. rw h refl) (numbered m (running_there_lives (job_state m notes) stands.0 stands.1)) (rw (self m) (omega (arith, runs))) refl in
-    omega (arith, slot, less)
+    let less = job_less (Lost m) m slots first notes (λ n h. rw h refl) (numbered m (running_there_lives (job_state m notes) stands.0 stands.1)) (rw (self m) (omega (arith, runs))) refl refl in omega (arith, less)
 due_next slots first (Ended m) notes stands fit numbered =
-    let slot : slots_due slots (Ended m ∷ notes) ≡ slots_due slots notes = refl in
     let runs = runs_due (job_state m notes) stands in
-    let less = job_less (Ended m) m first notes (λ n h. rw h refl) (numbered m (running_lives (job_state m notes) stands)) (rw (self m) (omega (arith, runs))) refl in
-    omega (arith, slot, less)
+    let less = job_less (Ended m) m slots first notes (λ n h. rw h refl) (numbered m (running_lives (job_state m notes) stands)) (rw (self m) (omega (arith, runs))) refl refl in omega (arith, less)
 due_next slots first (Discarded m) notes stands fit numbered =
-    let slot : slots_due slots (Discarded m ∷ notes) ≡ slots_due slots notes = refl in
     let lives = live_due (job_state m notes) stands in
-    let less = job_less (Discarded m) m first notes (λ n h. rw h refl) (numbered m stands) (rw (self m) (omega (arith, lives))) refl in
-    omega (arith, slot, less)
+    let less = job_less (Discarded m) m slots first notes (λ n h. rw h refl) (numbered m stands) (rw (self m) (omega (arith, lives))) refl refl in omega (arith, less)
 due_next slots first note notes stands fit numbered = omega arith
 
 -- ---- the jobs made

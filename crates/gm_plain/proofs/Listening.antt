@@ -3,6 +3,7 @@ use Rattle.std.proofs.Common.{◌≡◌, ℕ, suc, ◌<◌, Bool, true, false, L
 use Rattle.std.specs.Prelude.{not, ◌&&◌, ◌||◌, ◌==◌, if◌then◌else◌, filter, unwrap_or}
 use Rattle.std.specs.List.{All, list_any}
 use Rattle.std.proofs.lemmas.Bool.Decides.{nat_tests}
+use Rattle.std.proofs.lemmas.List.Folds.{list_any-append}
 use Rattle.gm_notes.specs.declared.note.Note.{Note}
 use Rattle.gm_notes.specs.declared.note.Note.TheVariants.{Made, Listens, Closed}
 use Rattle.gm_notes.specs.Jobs.{listeners}
@@ -11,11 +12,11 @@ use Rattle.gm_plain.specs.Searches.{is_listening}
 abbrev stands_in : ℕ → List ℕ → Bool
 stands_in c slots = list_any (λ d. d == c) slots
 
-or_false : (a : Bool) → (a || false) ≡ a
+pub or_false : (a : Bool) → (a || false) ≡ a
 or_false true = refl
 or_false false = refl
 
-or_true : (a : Bool) → (a || true) ≡ true
+pub or_true : (a : Bool) → (a || true) ≡ true
 or_true true = refl
 or_true false = refl
 
@@ -26,13 +27,8 @@ same_either_way c d = by (c == d) refl
     by true e = let o : (d == c) ≡ true = grind (arith, nat_tests) in sym o
     by false e = let o : (d == c) ≡ false = grind (arith, nat_tests) in sym o
 
-or_assoc : (a b c : Bool) → ((a || b) || c) ≡ (a || (b || c))
-or_assoc true b c = refl
-or_assoc false b c = refl
-
 at_end : (c d : ℕ) (slots : List ℕ) → stands_in c (slots ++ d ∷ []) ≡ (stands_in c slots || (d == c))
-at_end c d [] = or_false (d == c)
-at_end c d (x ∷ slots) = ap (λ t. (x == c) || t) (at_end c d slots) ∙ sym (or_assoc (x == c) (stands_in c slots) (d == c))
+at_end c d slots = list_any-append (λ x. x == c) slots (d ∷ []) ∙ ap (λ t. stands_in c slots || t) (or_false (d == c))
 
 -- without slot d, where that is c and where it isn't
 left_out : (c d : ℕ) (slots : List ℕ) → (c == d) ≡ true → stands_in c (filter (λ x. not (x == d)) slots) ≡ false

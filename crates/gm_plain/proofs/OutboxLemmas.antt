@@ -1,7 +1,6 @@
 -- The bytes that wait, slot by slot.
-use Rattle.std.proofs.Common.{◌≡◌, ℕ, ◌+◌, ◌<◌, List, [], ◌∷◌, ◌++◌, length, map, get_or, set, replicate, sym, ap, ◌∙◌, arith, Vec, Global}
-use Rattle.std.proofs.lemmas.List.{map-set, get_or-map, length-map, length-set, map-append}
-use Rattle.std.proofs.lemmas.List.{replicate-append-replicate}
+use Rattle.std.proofs.Common.{◌≡◌, ℕ, ◌+◌, ◌<◌, List, [], ◌++◌, length, map, get_or, set, sym, ap, ◌∙◌, arith, Vec, Global}
+use Rattle.std.proofs.lemmas.List.{map-set, get_or-map, length-map, length-set}
 use Rattle.std.proofs.Math.Seq.{map-set_same}
 
 -- the bytes of one of them
@@ -11,10 +10,6 @@ items_of outbox = outbox.items
 -- a place among what is seen is one among what is kept
 pub within : {V : Type 0} (f : V → List ℕ) (xs : List V) (ys : List (List ℕ)) (i : ℕ) → map f xs ≡ ys → i < length ys → i < length xs
 within f xs ys i view lt = omega (arith, ap length view, length-map xs f)
-
--- one more at the end
-pub outboxes_more : {V : Type 0} (f : V → List ℕ) (xs ys : List V) (n : ℕ) (v : V) → map f xs ≡ replicate n [] → ys ≡ xs ++ v ∷ [] → f v ≡ [] → map f ys ≡ replicate (n + 1) []
-outboxes_more f xs ys n v view more empty = rw (more, map-append f xs (v ∷ []), view, empty) (replicate-append-replicate n 1 [])
 
 -- what stands at a place, seen by f
 pub seen_at : {V : Type 0} (f : V → List ℕ) (xs : List V) (ys : List (List ℕ)) (i : ℕ) (old : V) → map f xs ≡ ys → i < length xs → old ≡ get_or xs i old → f old ≡ get_or ys i []

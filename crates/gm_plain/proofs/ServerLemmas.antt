@@ -18,9 +18,9 @@ use Rattle.gm_notes.specs.Settings.{Settings}
 use Rattle.gm_notes.specs.Notes.{is_open, phase, is_asleep, slots_from, takes_units, moment, accepts_connections}
 use Rattle.gm_notes.specs.Jobs.{Job, job, is_able, is_mentioned, handle}
 use Rattle.gm_notes.specs.declared.states.Pick.{Pick}
-use Rattle.gm_notes.specs.Flow.{Flow, Began, Drained, Emptied, waiting}
+use Rattle.gm_notes.specs.Flow.{Flow, waiting}
 use Rattle.gm_plain.specs.Outboxes.{with_bytes, with_bytes_each}
-use Rattle.gm_notes.specs.Past.{Past, with_note, with_flow, with_output, give, tell_all, with_mention, wake_each, wake}
+use Rattle.gm_notes.specs.Past.{Past, with_note, with_output, give, tell_all, with_mention, wake_each, wake}
 use Rattle.gm_notes.specs.Workers.{sleep_beside, wake_itself, deadline_after, tell_assigned, give_out, keep_report}
 use Rattle.gm_notes.specs.Submissions.{Submission, keep_or_listen, make}
 use Rattle.gm_notes.specs.Closings.{wake_for}
@@ -33,13 +33,6 @@ use Rattle.gm_actions.proofs.Changing.{changes_then, changes_as, done_as, done_n
 -- ---- one change after another
 
 module _ {a b : Contents} where
-  pub goes_nothing : b.config ≡ a.config → b.notes ≡ a.notes → b.outboxes ≡ a.outboxes → Becomes a b (λ past. past)
-  goes_nothing config notes outboxes = record {
-    config = config;
-    past = λ p holds. record { notes_are = notes ∙ holds.notes_are; waiting_are = λ c. ap (λ l. get_or l c []) outboxes ∙ holds.waiting_are c };
-    others = tt;
-  }
-
   pub goes_then : {c : Contents} {f g : Past → Past} → Becomes a b f → Becomes b c g → Becomes a c (λ past. g (f past))
   goes_then {c} {f} {g} first second = changes_then {f = f} {g = g} (λ x y. tt) first second
 
@@ -83,37 +76,12 @@ holds_given_all notes outboxes past (slot ∷ slots) answer holds below =
     holds_given_all notes (with_bytes slot text outboxes) (with_output slot text past) slots answer (holds_given notes outboxes past slot text holds lt)
     (λ k d h. subst (λ n. get_or slots k d < n) (sym long) (below (suc k) d (omega (arith, h))))
 
-began_at : (t : Bool) (outboxes : List (List ℕ)) (slot : ℕ) (flow : List Flow) (c : ℕ) → (c == slot) ≡ t → slot < length outboxes
-    → ((d : ℕ) → get_or outboxes d [] ≡ waiting d flow) → get_or (set outboxes slot []) c [] ≡ cond t [] (waiting c flow)
-began_at true outboxes slot flow c is lt each =
-    let same : slot ≡ c = grind (arith, nat_tests) in
-    subst (λ x. get_or (set outboxes slot []) x [] ≡ []) same (get_or-set_same outboxes slot [] [] lt)
-began_at false outboxes slot flow c is lt each =
-    let other : c ≢ slot = grind (arith, nat_tests) in
-    rw get_or-set_other (each c)
-
-pub holds_began : (notes : List Note) (outboxes : List (List ℕ)) (past : Past) (slot : ℕ) → Holds notes outboxes past → slot < length outboxes
-    → Holds notes (set outboxes slot []) (with_flow (Began slot) past)
-holds_began notes outboxes past slot holds lt =
-    record { notes_are = holds.notes_are; waiting_are = λ c. began_at (c == slot) outboxes slot past.flow c refl lt holds.waiting_are }
-
-pub holds_emptied : (notes : List Note) (outboxes : List (List ℕ)) (past : Past) (slot : ℕ) → Holds notes outboxes past → slot < length outboxes
-    → Holds notes (set outboxes slot []) (with_flow (Emptied slot) past)
-holds_emptied notes outboxes past slot holds lt =
-    record { notes_are = holds.notes_are; waiting_are = λ c. began_at (c == slot) outboxes slot past.flow c refl lt holds.waiting_are }
-
-pub holds_drained : (notes : List Note) (outboxes : List (List ℕ)) (past : Past) (slot : ℕ) → Holds notes outboxes past → slot < length outboxes
-    → Holds notes (set outboxes slot []) (with_flow (Drained slot) past)
-holds_drained notes outboxes past slot holds lt =
-    record { notes_are = holds.notes_are; waiting_are = λ c. began_at (c == slot) outboxes slot past.flow c refl lt holds.waiting_are }
-
 -- ---- steps
 
 -- who takes new connections and has a free slot
 pub accepted : (m : Mode) (o : Option ℕ) (slot : ℕ) → accepts_connections m ≡ true → o ≡ Some slot → if_accepted m o ≡ None
 accepted modes.Running o slot goes free = ap if_free free
-accepted modes.Graceful o slot goes free = absurd cc
-accepted modes.Stopped o slot goes free = absurd cc
+accepted m o slot goes free = absurd cc
 
 -- ---- requests
 
@@ -182,11 +150,11 @@ wake_job (Some j) n c past = woken_job (is_open c past.notes && is_asleep (phase
 
 -- ---- workers
 
-pub holds_all : {n : List Note} {l l' : List (List ℕ)} (result : Result (Unit {0}) AllocError) (answer : Answer) (slots : List ℕ)
-    → All (λ c. c < length l) slots → OnOk result (l' ≡ with_bytes_each (answer_packet answer) slots l) → OnErr result (l' ≡ l)
-    → (p : Past) → Holds n l p → Holds n l' (if_done result (tell_all answer slots) p)
-holds_all {n} {l} {l'} (Ok done) answer slots below ok err p holds = subst (λ a. Holds n a (tell_all answer slots p)) (sym ok) (holds_given_all n l p slots answer holds below)
-holds_all {n} {l} {l'} (Err failed) answer slots below ok err p holds = subst (λ a. Holds n a p) (sym err) holds
+pub holds_all : {n : List Note} {l l' : List (List ℕ)} (result : Result (Unit {0}) AllocError) (answer : Answer) (slots text : List ℕ) → text ≡ answer_packet answer
+    → All (λ c. c < length l) slots → OnOk result (l' ≡ with_bytes_each text slots l) → OnErr result (l' ≡ l) → (p : Past) → Holds n l p → Holds n l' (if_done result (tell_all answer slots) p)
+holds_all {n} {l} {l'} (Ok done) answer slots text is below ok err p holds =
+    subst (λ a. Holds n a (tell_all answer slots p)) (sym (ok ∙ ap (λ t. with_bytes_each t slots l) is)) (holds_given_all n l p slots answer holds below)
+holds_all {n} {l} {l'} (Err failed) answer slots text is below ok err p holds = subst (λ a. Holds n a p) (sym err) holds
 
 pub woken_given : (c : ℕ) (answer : Answer) (past : Past) → wake_itself c (give c answer past) ≡ give c answer (wake_itself c past)
 woken_given c answer past = go (is_asleep (phase c past.notes))

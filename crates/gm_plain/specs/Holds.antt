@@ -3,7 +3,6 @@ use Rattle.std.specs.Prelude.{◌≡◌, ℕ, List, [], ◌++◌, Option, Some, 
 use Rattle.std.specs.List.{slice_index_or}
 use Rattle.gm_notes.specs.declared.note.Note.{Note}
 use Rattle.gm_plain.specs.declared.server.PlainServer.{PlainServer}
-use Rattle.gm_plain.specs.Outboxes.{AllGrew}
 use Rattle.gm_notes.specs.Settings.{Settings}
 use Rattle.gm_notes.specs.Flow.{waiting}
 use Rattle.gm_notes.specs.Jobs.{Job}
@@ -52,11 +51,10 @@ Goes old new change = Becomes (contents_of old) (contents_of new) change
 abbrev pub Does : {E : Type 0} → PlainServer → Result (Unit {0}) E → PlainServer → (Past → Past) → Type 0
 Does old result new change = Goes old new (if_done result change)
 
--- nothing was taken back: notes came, and bytes for slots
+-- no note was taken back
 pub record Grows (old new : Contents) : Type 0 where
   pub config : new.config ≡ old.config
   pub notes : (newer : List Note) × (new.notes ≡ newer ++ old.notes)
-  pub outboxes : AllGrew old.outboxes new.outboxes
 
 abbrev pub Grew : PlainServer → PlainServer → Type 0
 Grew old new = Grows (contents_of old) (contents_of new)

@@ -8,7 +8,7 @@ use Rattle.gm_plain.specs.declared.abilities.Ability.{Ability as FoundAbility}
 use Rattle.gm_plain.specs.declared.connections.SlotFacts.{SlotFacts}
 use Rattle.gm_plain.specs.declared.jobs.JobFacts.{JobFacts}
 use Rattle.gm_notes.specs.Notes.{last_said, said_of, is_open, is_shut, addr, id, has_option, phase, is_asleep}
-use Rattle.gm_notes.specs.Jobs.{Job, Ability, put, is_of, is_able, is_job_of, job_state, job, is_kept, report, returns, deadline}
+use Rattle.gm_notes.specs.Jobs.{Job, Ability, put, is_of, is_able, is_job_of, is_live_of, job_state, job, is_kept, report, returns, deadline}
 use Rattle.gm_notes.specs.JobStates.{is_running, place_of}
 use Rattle.gm_actions.specs.Actions.{job_of, report_of}
 
@@ -34,11 +34,6 @@ pub record Knows (n : ℕ) (notes : List Note) (facts : JobFacts) : Type 0 where
 abbrev pub says_mentioned : List ℕ → Note → Option Bool
 says_mentioned f (Mention g) = if bytes_eq g f then Some true else None
 says_mentioned f note = None
-
--- the job has this number, if there is one
-abbrev pub is_number : Option ℕ → ℕ → Bool
-is_number None m = false
-is_number (Some n) m = m == n
 
 -- whether slot c can do the function, where the note says so
 abbrev pub says_able : ℕ → List ℕ → Note → Option Bool
@@ -90,9 +85,10 @@ order_after (Made n f p u body) jobs = jobs ++ n ∷ []
 order_after (Returned n) jobs = filter (λ m. not (m == n)) jobs ++ n ∷ []
 order_after note jobs = jobs
 
--- the job runs, and is of the function
-abbrev pub is_running_of : List ℕ → List Note → ℕ → Bool
-is_running_of f notes n = is_running (job_state n notes) && is_job_of f (job n notes)
+-- the job is of the function and waits or runs, or runs if only those count
+abbrev pub is_counted : Bool → List ℕ → List Note → ℕ → Bool
+is_counted true f notes = λ n. is_running (job_state n notes) && is_job_of f (job n notes)
+is_counted false f notes = is_live_of f notes
 
 -- the first of a list
 abbrev pub head : List ℕ → Option ℕ

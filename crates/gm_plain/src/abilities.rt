@@ -8,7 +8,7 @@ ghost use Rattle.gm_notes.specs.JobStates.{is_waiting};
 ghost use Rattle.gm_notes.specs.Notes.{is_open, phase, is_asleep};
 ghost use Rattle.gm_plain.specs.Searches.{ability_of, abilities_after, order_after, head, wakes_for};
 
-use crate::connections::{is_open, phase, seen};
+use crate::connections::{is_open, seen};
 use crate::jobs::{job, known, known_in};
 use crate::log::Log;
 use gm_notes::{Config, Note, Pick, Priority};
@@ -210,14 +210,6 @@ fn first_for(log: &Log, jobs: &[u64], function: &[u8]) -> Option<u64>
     first_in(log, jobs, function, Priority::Low)
 }
 
-/// Whether a job waits for a function.
-fn anything_waits(alloc: Global, log: &Log, function: &[u8]) -> Result<bool, AllocError>
-    ensures { IfOk result (λ waits. waits ≡ not (is_empty (waiting_for function.now log.now.notes))) }
-{
-    let jobs = as_they_came(alloc, log)?;
-    Ok(first_for(log, &jobs, function).is_some())
-}
-
 /// Whether a worker that comes to be able to do a function is woken at once: it sleeps, and a job waits.
 pub fn wakes_at_once(
     alloc: Global,
@@ -227,8 +219,9 @@ pub fn wakes_at_once(
 ) -> Result<bool, AllocError>
     ensures { IfOk result (λ wakes. wakes ≡ (is_asleep (phase slot log.now.notes) && not (is_empty (waiting_for function.now log.now.notes)))) }
 {
-    let waits = anything_waits(alloc, log, function)?;
-    Ok(phase(log, slot).is_asleep() && waits)
+    let jobs = as_they_came(alloc, log)?;
+    let waits = first_for(log, &jobs, function).is_some();
+    Ok(seen(log, slot).phase.is_asleep() && waits)
 }
 
 /// The first of these jobs, in the order in which they came to wait, that one of the abilities is for.

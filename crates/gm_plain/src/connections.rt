@@ -2,7 +2,7 @@
 
 ghost use Rattle.std.specs.Prelude.{◌≡◌, ◌<◌, ◌∷◌, List, true};
 ghost use Rattle.gm_notes.specs.declared.note.Note.{Note};
-ghost use Rattle.gm_notes.specs.Notes.{is_open, takes_units, phase, moment, mode, accepts_connections};
+ghost use Rattle.gm_notes.specs.Notes.{is_open, takes_units, moment, mode};
 ghost use Rattle.gm_notes.specs.Steps.{free_from};
 ghost use Rattle.gm_plain.specs.Searches.{Sees};
 
@@ -92,13 +92,6 @@ pub fn can_take_units(log: &Log, slot: u32) -> bool
     seen.is_open && !seen.is_shut
 }
 
-/// Whether the worker in a slot sleeps, or is owed a NOOP.
-pub fn phase(log: &Log, slot: u32) -> Phase
-    ensures { result ≡ phase slot log.now.notes }
-{
-    seen(log, slot).phase
-}
-
 /// The moment, in seconds.
 pub fn moment(log: &Log) -> u64
     ensures { result ≡ moment log.now.notes }
@@ -125,13 +118,6 @@ pub fn mode(log: &Log) -> Mode
         }
     }
     last
-}
-
-/// Whether the server takes new connections.
-pub fn accepts_connections(log: &Log) -> bool
-    ensures { result ≡ accepts_connections (mode log.now.notes) }
-{
-    mode(log).accepts_connections()
 }
 
 /// The least slot that isn't open.

@@ -1,54 +1,36 @@
 //! What the log says of functions.
 
-ghost use Rattle.std.specs.Prelude.{◌≡◌, length, map, IfOk};
-ghost use Rattle.gm_notes.specs.Jobs.{functions, is_mentioned, limit, is_live_of, total, running};
+ghost use Rattle.std.specs.Prelude.{◌≡◌, filter, length, map, IfOk};
+ghost use Rattle.gm_notes.specs.Jobs.{functions, is_mentioned, limit, made};
 ghost use Rattle.gm_notes.specs.Submissions.{is_one_too_many, is_full};
-ghost use Rattle.gm_plain.specs.Searches.{is_running_of};
+ghost use Rattle.gm_plain.specs.Searches.{is_counted};
 
-use crate::jobs::{is_job_of, is_live, is_running};
+use crate::jobs::known;
 use crate::log::Log;
 use gm_notes::{Config, Note};
 use std::alloc::{AllocError, Global};
 
-/// Whether a job waits or runs, and is of this function.
-fn is_live_of(log: &Log, number: u64, function: &[u8]) -> bool
-    ensures { result ≡ is_live_of function.now log.now.notes number }
+/// Whether a job is of this function, and waits or runs; of the running ones only, where these are counted.
+fn is_counted(log: &Log, number: u64, function: &[u8], only_running: bool) -> bool
+    ensures { result ≡ is_counted only_running function.now log.now.notes number }
 {
-    is_live(log, number) && is_job_of(log, number, function)
-}
-
-/// How many jobs of a function wait or run.
-pub fn total(log: &Log, function: &[u8]) -> usize
-    ensures { result ≡ total function.now log.now.notes }
-{
-    let notes = log.notes();
-    let mut count = 0;
-    for note in notes {
-        if let Note::Made { job, .. } = note {
-            if is_live_of(log, *job, function) {
-                count += 1;
-            }
-        }
+    let known = known(log, number);
+    match known.job {
+        Some(found) if only_running => known.place.is_running() && found.function == function,
+        Some(found) => known.place.is_live() && found.function == function,
+        None => false,
     }
-    count
 }
 
-/// Whether a job runs, and is of this function.
-fn is_running_of(log: &Log, number: u64, function: &[u8]) -> bool
-    ensures { result ≡ is_running_of function.now log.now.notes number }
-{
-    is_running(log, number) && is_job_of(log, number, function)
-}
-
-/// How many jobs of a function run.
-pub fn running(log: &Log, function: &[u8]) -> usize
-    ensures { result ≡ running function.now log.now.notes }
+/// How many jobs of a function wait or run, or only how many run.
+pub fn count_jobs(log: &Log, function: &[u8], only_running: bool) -> usize
+    ensures { result ≡ length (filter (is_counted only_running function.now log.now.notes) (made log.now.notes)) }
 {
     let notes = log.notes();
     let mut count = 0;
     for note in notes {
         if let Note::Made { job, .. } = note {
-            if is_running_of(log, *job, function) {
+            if is_counted(log, *job, function, only_running) {
                 count += 1;
             }
         }
@@ -76,7 +58,7 @@ pub fn is_full(log: &Log, function: &[u8]) -> bool
     ensures { result ≡ is_full function.now log.now.notes }
 {
     let limit = limit(log, function);
-    limit != 0 && limit as usize <= total(log, function)
+    limit != 0 && limit as usize <= count_jobs(log, function, false)
 }
 
 /// Whether a function was mentioned.

@@ -1,12 +1,12 @@
 //! What notes say of jobs, found by searching them.
 
-ghost use Rattle.std.specs.Prelude.{◌≡◌, ◌<◌, ◌≤◌, ◌+◌, ◌^◌, ◌==◌, ◌∷◌, List, length, not, reverse, slice_get, map, Some, IfSome, IfOk, OnOk};
+ghost use Rattle.std.specs.Prelude.{◌≡◌, ◌<◌, ◌≤◌, ◌+◌, ◌^◌, ◌∷◌, List, length, reverse, slice_get, Some, IfSome, IfOk, OnOk};
 ghost use Rattle.std.specs.Option.{option_map};
 ghost use Rattle.std.specs.List.{All};
 ghost use Rattle.gm_notes.specs.declared.note.Note.{Note};
-ghost use Rattle.gm_notes.specs.Jobs.{job_state, job, listeners, is_wanted, is_job_of, made};
-ghost use Rattle.gm_notes.specs.Jobs.{is_live_named, joined, next_number, deadline, is_last_try};
-ghost use Rattle.gm_notes.specs.JobStates.{is_live, is_waiting, is_running, is_running_at, place_of};
+ghost use Rattle.gm_notes.specs.Jobs.{job_state, job, listeners, is_wanted, made};
+ghost use Rattle.gm_notes.specs.Jobs.{is_live_named, joined, next_number, deadline, is_last_try, job_of_handle};
+ghost use Rattle.gm_notes.specs.JobStates.{place_of};
 ghost use Rattle.gm_notes.specs.Closings.{is_reached};
 ghost use Rattle.gm_notes.specs.Notes.{moment};
 ghost use Rattle.gm_actions.specs.Actions.{job_of};
@@ -16,8 +16,8 @@ ghost use Rattle.gm_plain.specs.Searches.{Knows, listeners_after, is_listening};
 
 use crate::connections::moment;
 use crate::log::Log;
-use gm_actions::{JobRef, Report};
-use gm_notes::{Config, Note, Place, Priority, is_joining};
+use gm_actions::{JobRef, Report, number_in};
+use gm_notes::{Config, Note, Place, is_joining};
 use std::alloc::{AllocError, Global};
 
 /// What notes say of a job.
@@ -134,34 +134,6 @@ pub fn place(log: &Log, job: u64) -> Place
     known(log, job).place
 }
 
-/// Whether a job waits or runs.
-pub fn is_live(log: &Log, job: u64) -> bool
-    ensures { result ≡ is_live (job_state job log.now.notes) }
-{
-    place(log, job).is_live()
-}
-
-/// Whether a job waits.
-pub fn is_waiting(log: &Log, job: u64) -> bool
-    ensures { result ≡ is_waiting (job_state job log.now.notes) }
-{
-    place(log, job).is_waiting()
-}
-
-/// Whether a job runs at a slot.
-pub fn is_running_at(log: &Log, job: u64, slot: u32) -> bool
-    ensures { result ≡ is_running_at slot (job_state job log.now.notes) }
-{
-    place(log, job).is_running_at(slot)
-}
-
-/// Whether a job runs.
-pub fn is_running(log: &Log, job: u64) -> bool
-    ensures { result ≡ is_running (job_state job log.now.notes) }
-{
-    place(log, job).is_running()
-}
-
 /// What the job is.
 pub fn job(log: &Log, number: u64) -> Option<JobRef<'_>>
     ensures value { option_map job_of result ≡ job number log.now.notes }
@@ -213,23 +185,16 @@ fn is_listening(log: &Log, job: u64, slot: u32) -> bool
     is_listening
 }
 
-/// Whether a job has a listener.
-fn is_heard(log: &Log, job: u64) -> bool
-    ensures { result ≡ not (length (listeners job log.now.notes) == 0) }
+/// Whether a job is wanted: a connection listens to it, or a background submission keeps it.
+pub fn is_wanted(log: &Log, job: u64) -> bool
+    ensures { result ≡ is_wanted job log.now.notes }
 {
     for slot in 0..log.slots() {
         if is_listening(log, job, slot) {
             return true;
         }
     }
-    false
-}
-
-/// Whether a job is wanted.
-pub fn is_wanted(log: &Log, job: u64) -> bool
-    ensures { result ≡ is_wanted job log.now.notes }
-{
-    known(log, job).is_kept || is_heard(log, job)
+    known(log, job).is_kept
 }
 
 /// Whether the worker of a job is the last that it is given to, where there is a limit.
@@ -245,16 +210,6 @@ pub fn is_late(log: &Log, job: u64) -> bool
 {
     match known(log, job).deadline {
         Some(late) => late <= moment(log),
-        None => false,
-    }
-}
-
-/// Whether a job is of this function.
-pub fn is_job_of(log: &Log, number: u64, function: &[u8]) -> bool
-    ensures { result ≡ is_job_of function.now (job number log.now.notes) }
-{
-    match job(log, number) {
-        Some(found) => found.function == function,
         None => false,
     }
 }
@@ -332,4 +287,23 @@ pub fn next_number(log: &Log, config: &Config) -> Option<u64>
     ensures { result ≡ next_number config.now log.now.notes }
 {
     config.first_job().checked_add(count_made(log) as u64)
+}
+
+/// The job that a handle names: exactly what was printed for it. It needs no memory.
+pub fn job_of_handle(log: &Log, config: &Config, text: &[u8]) -> Option<u64>
+    ensures { result ≡ job_of_handle config.now text.now log.now.notes }
+{
+    let notes = log.notes();
+    let Some(number) = number_in(config, text) else {
+        return None;
+    };
+    let mut found = None;
+    for note in notes {
+        if let Note::Made { job, .. } = note {
+            if *job == number {
+                found = Some(*job);
+            }
+        }
+    }
+    found
 }

@@ -4,7 +4,6 @@
 mod abilities;
 mod connections;
 mod function_facts;
-mod handles;
 mod jobs;
 mod lists;
 mod log;

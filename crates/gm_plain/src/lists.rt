@@ -9,7 +9,7 @@ ghost use Rattle.gm_plain.specs.Listings.{status_line_of, worker_line_of};
 
 use crate::abilities::{Ability, abilities, able};
 use crate::connections::{is_open, seen};
-use crate::function_facts::{functions, running, total};
+use crate::function_facts::{count_jobs, functions};
 use crate::log::Log;
 use gm_admin::{StatusRow, WorkerRow, write_status, write_workers};
 use gm_notes::Config;
@@ -21,8 +21,8 @@ fn status_of<'a>(log: &Log, config: &Config, function: &'a [u8]) -> StatusRow<'a
 {
     StatusRow {
         name: function,
-        total: total(log, function) as u64,
-        running: running(log, function) as u64,
+        total: count_jobs(log, function, false) as u64,
+        running: count_jobs(log, function, true) as u64,
         workers: able(log, config, function),
     }
 }

@@ -1,6 +1,6 @@
 //! The notes, and the room for more.
 
-ghost use Rattle.std.specs.Prelude.{◌≡◌, ◌+◌, ◌^◌, ◌<◌, ◌≤◌, [], ◌∷◌, reverse, length, OnOk, Some, None};
+ghost use Rattle.std.specs.Prelude.{◌≡◌, ◌+◌, ◌^◌, ◌<◌, ◌≤◌, [], ◌∷◌, reverse, length, OnOk};
 ghost use Rattle.gm_plain.specs.Logs.{NoteFits, AllFit, MayCome, AreInOrder, IsPaid, weight, paid, oldest, Spends};
 
 use gm_notes::Note;

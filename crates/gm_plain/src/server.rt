@@ -1,7 +1,7 @@
 //! A server that means what the definitions say, and little else.
 
 ghost use Rattle.std.specs.Prelude.{◌≡◌, ◌<◌, ◌≤◌, ◌∷◌, [], IfOk, OnOk, length};
-ghost use Rattle.gm_packet.specs.Answers.{answer_of};
+ghost use Rattle.gm_packet.specs.Answers.{answer_of, answer_packet};
 ghost use Rattle.gm_packet.specs.Packets.{Fits};
 ghost use Rattle.gm_plain.specs.Logs.{Spends, NoteFits, MayCome, weight};
 ghost use Rattle.gm_notes.specs.Past.{with_note, with_flow, with_output, give, refuse, tell_all};
@@ -16,7 +16,6 @@ mod closing;
 mod commanding;
 mod connecting;
 mod grabbing;
-mod naming;
 mod serving;
 mod submitting;
 mod ticking;
@@ -26,11 +25,21 @@ use crate::connections::{mode, seen};
 use crate::jobs::place;
 use crate::log::Log;
 use crate::outboxes::Outboxes;
-use gm_actions::Refusal;
+use gm_actions::{Refusal, append_fault};
 use gm_bytes::ByteQueue;
 use gm_notes::{ApplyError, Config, Done, Event, JobServer, Mode, Note, Place, UnitFault};
-use gm_packet::Response;
+use gm_packet::{Response, write_response};
 use std::alloc::{AllocError, Global};
+
+/// The packet of a response.
+fn response_packet(alloc: Global, response: &Response<'_>) -> Result<Vec<u8>, AllocError>
+    requires { Fits (answer_of response.now).arguments }
+    ensures { IfOk result (λ packet. packet.items ≡ answer_packet (answer_of response.now)) }
+{
+    let mut packet = Vec::new(alloc);
+    write_response(response, &mut packet)?;
+    Ok(packet)
+}
 
 /// The plain server: it keeps the list of all that has happened, and answers by searching it. It is for
 /// tests, and for readers who want to see the definitions run.
@@ -46,7 +55,7 @@ pub struct PlainServer {
 }
 
 impl PlainServer {
-    ghost use Rattle.gm_plain.specs.Holds.{Goes, Does, Grew, PlainAgrees};
+    ghost use Rattle.gm_plain.specs.Holds.{Goes, Does, PlainAgrees};
 
     /// A server to which nothing has happened. It needs memory for each slot.
     pub fn new(alloc: Global, config: Config) -> Result<PlainServer, AllocError>
@@ -92,7 +101,8 @@ impl PlainServer {
         ensures does { Does self.old result self.new (give slot (answer_of response.now)) }
         ensures log { self.new.log ≡ self.old.log }
     {
-        self.outboxes.give(slot, response)
+        let packet = response_packet(self.alloc, response)?;
+        self.say(slot, &packet)
     }
 
     /// Queues an answer to each of these slots, as often as it is listed.
@@ -102,9 +112,9 @@ impl PlainServer {
         requires fits { Fits (answer_of response.now).arguments }
         ensures does { Does self.old result self.new (tell_all (answer_of response.now) slots.now) }
         ensures log { self.new.log ≡ self.old.log }
-        ensures grew { Grew self.old self.new }
     {
-        self.outboxes.give_all(self.alloc, slots, response)
+        let packet = response_packet(self.alloc, response)?;
+        self.outboxes.give_all(self.alloc, slots, &packet)
     }
 
     /// Queues what a fault prints to a slot. Out of memory, it changes nothing.
@@ -113,7 +123,9 @@ impl PlainServer {
         ensures does { Does self.old result self.new (with_output slot (fault_text fault)) }
         ensures log { self.new.log ≡ self.old.log }
     {
-        self.outboxes.give_fault(slot, fault)
+        let mut text = Vec::new(self.alloc);
+        append_fault(fault, &mut text)?;
+        self.say(slot, &text)
     }
 
     /// Queues a text to a slot. Out of memory, it changes nothing.
@@ -122,22 +134,14 @@ impl PlainServer {
         ensures does { Does self.old result self.new (with_output slot text.now) }
         ensures log { self.new.log ≡ self.old.log }
     {
-        self.outboxes.give_text(slot, text)
+        self.outboxes.give(slot, text)
     }
 
-    /// Lets go of what waited for the slot's connection before.
-    fn begin(&mut self, slot: u32)
-        requires { slot < self.old.config.slots }
-        ensures goes { Goes self.old self.new (with_flow (Began slot)) }
-        ensures log { self.new.log ≡ self.old.log }
-    {
-        drop(self.outboxes.take(slot));
-    }
-
-    /// Lets go of what waited for the slot's connection, with the connection.
+    /// Lets go of what waited for a slot, whose connection begins or ends.
     fn empty(&mut self, slot: u32)
         requires { slot < self.old.config.slots }
-        ensures goes { Goes self.old self.new (with_flow (Emptied slot)) }
+        ensures began { Goes self.old self.new (with_flow (Began slot)) }
+        ensures emptied { Goes self.old self.new (with_flow (Emptied slot)) }
         ensures log { self.new.log ≡ self.old.log }
     {
         drop(self.outboxes.take(slot));

@@ -9,7 +9,7 @@ ghost use Rattle.gm_notes.specs.declared.note.Note.TheVariants.{Reset};
 
 use super::PlainServer;
 use crate::abilities::{pick, wakes_at_once};
-use crate::connections::phase;
+use crate::connections::seen;
 use crate::function_facts::is_one_too_many;
 use gm_actions::Refusal;
 use gm_notes::{Note, Text};
@@ -79,7 +79,7 @@ impl PlainServer {
         requires { slot < self.old.config.slots }
         ensures { Does self.old result self.new (pre_sleep self.old.config slot) }
     {
-        if !phase(&self.log, slot).is_awake() {
+        if !seen(&self.log, slot).phase.is_awake() {
             return Ok(());
         }
         let beside = pick(self.alloc, &self.log, &self.config, slot)?.is_some();

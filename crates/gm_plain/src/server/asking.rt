@@ -7,9 +7,8 @@ ghost use Rattle.gm_plain.specs.Holds.{Does};
 ghost use Rattle.gm_actions.specs.Effects.{known_told, unknown_told};
 ghost use Rattle.gm_notes.specs.Requests.{tell_status};
 
-use super::PlainServer;
-use crate::handles::job_of_handle;
-use crate::jobs::{is_live, known};
+use super::{PlainServer, response_packet};
+use crate::jobs::{job_of_handle, known, place};
 use gm_actions::{known_status, unknown_status};
 use std::alloc::AllocError;
 
@@ -24,7 +23,7 @@ impl PlainServer {
         let Some(job) = job_of_handle(&self.log, &self.config, handle) else {
             return self.tell_unknown(slot, handle);
         };
-        if !is_live(&self.log, job) {
+        if !place(&self.log, job).is_live() {
             return self.tell_unknown(slot, handle);
         }
         self.tell_known(slot, handle, job)
@@ -47,7 +46,8 @@ impl PlainServer {
     {
         let known = known(&self.log, job);
         let running = known.place.is_running();
-        self.outboxes
-            .give(slot, &known_status(handle, running, known.report))
+        let status = known_status(handle, running, known.report);
+        let packet = response_packet(self.alloc, &status)?;
+        self.outboxes.give(slot, &packet)
     }
 }

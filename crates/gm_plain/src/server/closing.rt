@@ -2,10 +2,9 @@
 
 ghost use Rattle.std.specs.Prelude.{◌≡◌, ◌<◌, List, true, IsErrOf};
 ghost use Rattle.gm_notes.specs.Settings.{Settings};
-ghost use Rattle.gm_notes.specs.Notes.{is_open};
 ghost use Rattle.gm_notes.specs.Jobs.{job, job_state, made};
 ghost use Rattle.gm_notes.specs.JobStates.{is_running_at};
-ghost use Rattle.gm_notes.specs.Closings.{discard_one, discard_each, give_back_one, give_back_each, return_or_lose, wake_for, disconnect, rising};
+ghost use Rattle.gm_notes.specs.Closings.{discard_one, discard_each, give_back_one, give_back_each, return_or_lose, wake_for, rising};
 ghost use Rattle.gm_notes.specs.Steps.{Step, Close};
 ghost use Rattle.gm_notes.specs.Servers.{Answers, steps_after};
 ghost use Rattle.gm_plain.specs.Holds.{Goes, PlainAgrees, wake_one_for};
@@ -14,7 +13,7 @@ ghost use Rattle.gm_notes.specs.declared.event.ApplyError.TheVariants.{Memory};
 use super::PlainServer;
 use crate::abilities::is_to_wake;
 use crate::connections::is_open;
-use crate::jobs::{count_made, is_last_try, is_running_at, is_waiting, is_wanted, job_at};
+use crate::jobs::{count_made, is_last_try, is_wanted, job_at, place};
 use gm_notes::{ApplyError, Done, Note};
 
 impl PlainServer {
@@ -28,21 +27,12 @@ impl PlainServer {
         if !is_open(&self.log, slot) {
             return Err(ApplyError::NotOpen);
         }
-        self.leave(slot);
-        self.discard_each();
-        self.give_back_each(slot);
-        Ok(Done::NONE)
-    }
-
-    /// The connection in a slot closes, and what waited for it is dropped.
-    fn leave(&mut self, slot: u32)
-        requires slot { slot < self.old.config.slots }
-        requires open { is_open slot self.old.log.notes ≡ true }
-        ensures { Goes self.old self.new (disconnect slot) }
-    {
         self.wake_itself(slot);
         self.note(Note::Closed { slot });
         self.empty(slot);
+        self.discard_each();
+        self.give_back_each(slot);
+        Ok(Done::NONE)
     }
 
     /// A waiting job that nobody wants is discarded.
@@ -50,7 +40,7 @@ impl PlainServer {
         ensures goes { Goes self.old self.new (discard_one job) }
         ensures made { made self.new.log.notes ≡ made self.old.log.notes }
     {
-        if is_waiting(&self.log, job) && !is_wanted(&self.log, job) {
+        if place(&self.log, job).is_waiting() && !is_wanted(&self.log, job) {
             self.note(Note::Discarded { job });
         }
     }
@@ -105,7 +95,7 @@ impl PlainServer {
         ensures goes { Goes self.old self.new (give_back_one self.old.config slot job) }
         ensures made { made self.new.log.notes ≡ made self.old.log.notes }
     {
-        if !is_running_at(&self.log, job, slot) {
+        if !place(&self.log, job).is_running_at(slot) {
             return;
         }
         if is_wanted(&self.log, job) {

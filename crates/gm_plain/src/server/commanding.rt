@@ -6,18 +6,17 @@ ghost use Rattle.gm_admin.specs.Commands.{command_of};
 ghost use Rattle.gm_admin.specs.Views.{commanded_of};
 ghost use Rattle.gm_notes.specs.Settings.{Settings};
 ghost use Rattle.gm_notes.specs.Notes.{slots_from};
-ghost use Rattle.gm_notes.specs.Past.{with_output, with_note, with_mention};
+ghost use Rattle.gm_notes.specs.Past.{with_output};
 ghost use Rattle.gm_notes.specs.Lines.{refuse_line, status_rows, worker_rows, is_bad_word, maxqueue, shut_one, shut_each, shutdown};
 ghost use Rattle.gm_notes.specs.Lines.{command};
 ghost use Rattle.gm_notes.specs.Steps.{Step, Line};
 ghost use Rattle.gm_notes.specs.Servers.{Answers, steps_after};
-ghost use Rattle.gm_notes.specs.declared.note.Note.TheVariants.{Limit};
 ghost use Rattle.gm_plain.specs.Holds.{Goes, Does, PlainAgrees};
 ghost use Rattle.gm_plain.specs.Logs.{Spends};
 ghost use Rattle.gm_actions.specs.Lines.{NamesFunction};
 
 use super::PlainServer;
-use crate::connections::{accepts_connections, can_take_units};
+use crate::connections::{can_take_units, mode};
 use crate::function_facts::is_one_too_many;
 use crate::lists::{status_text, workers_text};
 use gm_actions::read_line;
@@ -119,13 +118,6 @@ impl PlainServer {
         if is_one_too_many(&self.log, &self.config, name) {
             return self.refuse_line(slot, AdminError::TooManyFunctions);
         }
-        self.set_limit(slot, name, size)
-    }
-
-    fn set_limit(&mut self, slot: u32, name: &[u8], size: u32) -> Result<(), AllocError>
-        requires { slot < self.old.config.slots }
-        ensures { Does self.old result self.new (λ past. with_output slot ok_text (with_note (Limit name.now size) (with_mention name.now past))) }
-    {
         let mention = Text::copy_of(self.alloc, name)?;
         let function = Text::copy_of(self.alloc, name)?;
         self.make_room(2)?;
@@ -142,7 +134,7 @@ impl PlainServer {
     {
         self.make_room(1)?;
         self.say_ok(slot)?;
-        if accepts_connections(&self.log) {
+        if mode(&self.log).accepts_connections() {
             self.note(Note::Went {
                 mode: Mode::Graceful,
             });

@@ -8,7 +8,7 @@ ghost use Rattle.gm_notes.specs.Servers.{Answers, steps_after};
 ghost use Rattle.gm_plain.specs.Holds.{PlainAgrees};
 
 use super::PlainServer;
-use crate::connections::{accepts_connections, can_take_units, free_slot, seen};
+use crate::connections::{can_take_units, free_slot, mode, seen};
 use crate::jobs::{count_made, newest};
 use gm_notes::{ApplyError, Done, Note, Text, UnitFault};
 
@@ -18,7 +18,7 @@ impl PlainServer {
         ensures { (k : Settings) (steps : List Step) → PlainAgrees self.old k steps
             → Answers k steps (Open addr.now) result × PlainAgrees self.new k (steps_after result (Open addr.now) steps) }
     {
-        if !accepts_connections(&self.log) {
+        if !mode(&self.log).accepts_connections() {
             return Err(ApplyError::Refusing);
         }
         let Some(slot) = free_slot(&self.log) else {
@@ -27,7 +27,7 @@ impl PlainServer {
         let addr = Text::copy_of(self.alloc, addr)?;
         self.make_room(2)?;
         self.note(Note::Opened { slot, addr });
-        self.begin(slot);
+        self.empty(slot);
         Ok(Done {
             opened: Some(slot),
             ..Done::NONE

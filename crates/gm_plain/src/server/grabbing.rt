@@ -8,9 +8,9 @@ ghost use Rattle.gm_plain.specs.Logs.{Spends};
 ghost use Rattle.gm_plain.specs.Holds.{Goes, Does};
 ghost use Rattle.gm_notes.specs.Workers.{wake_itself, tell_assigned, grab, give_out};
 
-use super::PlainServer;
+use super::{PlainServer, response_packet};
 use crate::abilities::pick;
-use crate::connections::{moment, phase};
+use crate::connections::{moment, seen};
 use crate::jobs::job;
 use gm_actions::{assignment, deadline_after, handle};
 use gm_notes::{Note, Pick};
@@ -60,8 +60,8 @@ impl PlainServer {
         let Some(job) = job(&self.log, number) else {
             return Ok(());
         };
-        self.outboxes
-            .give(slot, &assignment(&handle, &job, with_unique))
+        let packet = response_packet(self.alloc, &assignment(&handle, &job, with_unique))?;
+        self.outboxes.give(slot, &packet)
     }
 
     /// A sleeping worker awakes by itself. It needs no memory.
@@ -72,7 +72,7 @@ impl PlainServer {
         ensures open { is_open slot self.new.log.notes ≡ is_open slot self.old.log.notes }
         ensures states { (n : ℕ) → job_state n self.new.log.notes ≡ job_state n self.old.log.notes }
     {
-        if phase(&self.log, slot).is_asleep() {
+        if seen(&self.log, slot).phase.is_asleep() {
             self.note(Note::Stirred { slot });
         }
     }

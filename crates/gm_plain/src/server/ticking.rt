@@ -10,7 +10,7 @@ ghost use Rattle.gm_plain.specs.Holds.{Goes, Does, Grew, PlainAgrees};
 
 use super::PlainServer;
 use crate::connections::moment;
-use crate::jobs::{count_made, is_late, is_running, job_at, listeners};
+use crate::jobs::{count_made, is_late, job_at, listeners, place};
 use gm_actions::handle;
 use gm_notes::{ApplyError, Done, Note};
 use gm_packet::Response;
@@ -24,7 +24,7 @@ impl PlainServer {
             → Answers k steps (Tick now) result × PlainAgrees self.new k (steps_after result (Tick now) steps) }
     {
         let notes = self.log.len();
-        let counts = self.outboxes.counts(self.alloc)?;
+        let outboxes = self.outboxes.copy(self.alloc)?;
         self.make_room(1)?;
         let moment = now.max(moment(&self.log));
         self.note(Note::Now { moment });
@@ -32,7 +32,7 @@ impl PlainServer {
             Ok(()) => Ok(Done::NONE),
             Err(_) => {
                 self.log.truncate(notes);
-                self.outboxes.truncate(&counts);
+                self.outboxes = outboxes;
                 Err(ApplyError::Memory)
             }
         }
@@ -44,7 +44,7 @@ impl PlainServer {
         ensures made { made self.new.log.notes ≡ made self.old.log.notes }
         ensures grew { Grew self.old self.new }
     {
-        if !is_running(&self.log, job) || !is_late(&self.log, job) {
+        if !place(&self.log, job).is_running() || !is_late(&self.log, job) {
             return Ok(());
         }
         let slots = listeners(self.alloc, &self.log, job)?;

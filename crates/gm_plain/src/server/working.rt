@@ -1,6 +1,6 @@
 //! What workers say of their jobs.
 
-ghost use Rattle.std.specs.Prelude.{◌≡◌, ◌<◌, ◌≤◌, ◌&&◌, filter, true, IfOk};
+ghost use Rattle.std.specs.Prelude.{◌≡◌, ◌<◌, ◌≤◌, ◌&&◌, true, IfOk};
 ghost use Rattle.gm_notes.specs.Notes.{is_open, has_option};
 ghost use Rattle.std.specs.List.{All};
 ghost use Rattle.gm_notes.specs.Jobs.{job_state, listeners};
@@ -11,8 +11,7 @@ ghost use Rattle.gm_notes.specs.Workers.{hearers, keep_report, end_if, work, tel
 
 use super::PlainServer;
 use crate::connections::seen;
-use crate::handles::job_of_handle;
-use crate::jobs::{is_running_at, listeners};
+use crate::jobs::{job_of_handle, listeners, place};
 use crate::log::Log;
 use gm_actions::{Refusal, Report, WorkPacket};
 use gm_notes::{Note, Text};
@@ -41,17 +40,6 @@ fn wants_exceptions(log: &Log, slot: u32) -> bool
     seen.is_open && seen.has_option
 }
 
-/// Those of the slots whose connections want exceptions.
-fn who_want_exceptions(alloc: Global, log: &Log, slots: &[u32]) -> Result<Vec<u32>, AllocError>
-    ensures { IfOk result (λ found. found.items ≡ filter (λ c. is_open c log.now.notes && has_option c log.now.notes) slots.now) }
-{
-    slots
-        .iter()
-        .copied()
-        .filter(|slot| wants_exceptions(log, *slot))
-        .collect(alloc)
-}
-
 /// Which slots get a worker's report on a job.
 fn hearers(
     alloc: Global,
@@ -62,12 +50,12 @@ fn hearers(
     ensures value { IfOk result (λ slots. slots.items ≡ hearers exceptions_only (listeners job log.now.notes) log.now.notes) }
     ensures below { IfOk result (λ slots. All (λ c. c < log.now.slots) slots.items) }
 {
-    let slots = listeners(alloc, log, job)?;
-    if exceptions_only {
-        who_want_exceptions(alloc, log, &slots)
-    } else {
-        Ok(slots)
+    let mut slots = listeners(alloc, log, job)?;
+    if !exceptions_only {
+        return Ok(slots);
     }
+    slots.retain(|slot| wants_exceptions(log, *slot));
+    Ok(slots)
 }
 
 impl PlainServer {
@@ -80,7 +68,7 @@ impl PlainServer {
         let Some(job) = job_of_handle(&self.log, &self.config, packet.handle) else {
             return self.refuse(slot, Refusal::JobNotFound);
         };
-        if !is_running_at(&self.log, job, slot) {
+        if !place(&self.log, job).is_running_at(slot) {
             return self.refuse(slot, Refusal::JobNotFound);
         }
         self.tell_work(job, packet)

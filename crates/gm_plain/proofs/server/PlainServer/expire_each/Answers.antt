@@ -1,45 +1,25 @@
-use Rattle.std.proofs.Common.{◌≡◌, ℕ, List, length, reverse, refl, sym, ap, subst, ◌∙◌, arith}
-use Rattle.std.specs.Prelude.{slice_get}
-use Rattle.std.proofs.lemmas.List.{length-reverse}
-use Rattle.gm_notes.specs.declared.note.Note.{Note}
-use Rattle.gm_notes.specs.Settings.{Settings}
-use Rattle.gm_notes.specs.Jobs.{made}
-use Rattle.gm_notes.specs.Past.{Past}
-use Rattle.gm_notes.specs.Closings.{expire_each, expire_one, rising}
-use Rattle.gm_plain.specs.Holds.{Keeps}
-use Rattle.gm_plain.proofs.ServerLoops.{next_job, folded}
+use Rattle.std.proofs.Common.{length, refl, ap, arith}
+use Rattle.gm_notes.specs.Closings.{expire_each, expire_one}
+use Rattle.gm_plain.proofs.ServerLoops.{next_job, all_jobs}
 use Rattle.gm_plain.proofs.TakingBack.{grows_then}
 use Rattle.gm_plain.proofs.server.PlainServer.expire_each.Goals as goal
 
 pub job_at-job-requires : goal.job_at-job-requires
 job_at-job-requires c =
-    let same = ap length c.loop-index.invariant.jobs in
+    let same = ap length c.loop-index.invariant.over.jobs in
     omega (arith, same, c.loop-index-test.true, c.count_made-index-end.ensures)
 
 pub loop-index-preserved : goal.loop-index-preserved
-loop-index-preserved c =
-    let all = reverse (made c.args.self.now.log.notes) in
-    let here = ap (λ (l : List ℕ). slice_get (reverse l) c.loop-index.index) (sym c.loop-index.invariant.jobs) ∙ c.job_at-job.ensures in
-    record {
-      config = c.in_ok-expire_one.ensures.does.config ∙ c.loop-index.invariant.config;
-      jobs = c.expire_one.ensures.made ∙ c.loop-index.invariant.jobs;
-      grew = grows_then c.loop-index.invariant.grew c.in_ok-expire_one.ensures.grew;
-      past = λ past keeps.
-          next_job (expire_each c.args.self.now.config) (expire_one c.args.self.now.config) (λ n jobs p. refl) c.loop-index.self c.expire_one.new.self all c.loop-index.index c.job_at-job.result past here
-          (λ (p : Past) keeps. subst (λ (k : Settings). Keeps c.expire_one.new.self (expire_one k c.job_at-job.result p)) c.loop-index.invariant.config (c.in_ok-expire_one.ensures.does.past p keeps)) (c.loop-index.invariant.past past keeps);
-    }
+loop-index-preserved c = record {
+  over = next_job expire_each expire_one (λ k n jobs p. refl) (λ k p. refl) c.args.self.now c.loop-index.self c.expire_one.new.self c.loop-index.index c.job_at-job.result c.job_at-job.ensures
+      c.in_ok-expire_one.ensures.does c.expire_one.ensures.made c.loop-index.invariant.over;
+  grew = grows_then c.loop-index.invariant.grew c.in_ok-expire_one.ensures.grew;
+}
 
 pub returns-clause-goes : goal.returns-clause-goes
-returns-clause-goes c = record {
-  others = tt;
-  config = c.loop-index.invariant.config;
-  past = λ past keeps.
-      let jobs : reverse (made c.args.self.now.log.notes) ≡ rising past = ap (λ (l : List Note). reverse (made l)) keeps.notes_are in
-      let long = length-reverse (made c.args.self.now.log.notes) in
-      subst (λ (l : List ℕ). Keeps c.loop-index.self ((expire_each c.args.self.now.config) l past)) jobs
-      (folded (expire_each c.args.self.now.config) (expire_one c.args.self.now.config) (λ n left p. refl) c.loop-index.self (reverse (made c.args.self.now.log.notes)) c.loop-index.index past (λ p. refl)
-      (omega (arith, long, c.loop-index-test.false, c.count_made-index-end.ensures)) (c.loop-index.invariant.past past keeps));
-}
+returns-clause-goes c =
+    all_jobs expire_each expire_one (λ k n jobs p. refl) (λ k p. refl) c.args.self.now c.loop-index.self c.loop-index.index
+    (omega (arith, c.loop-index-test.false, c.count_made-index-end.ensures)) c.loop-index.invariant.over
 
 pub returns-in_err-expire_one-clause-grew : goal.returns-in_err-expire_one-clause-grew
 returns-in_err-expire_one-clause-grew c = grows_then c.loop-index.invariant.grew c.in_err-expire_one.ensures.grew

@@ -1,13 +1,6 @@
-use Rattle.std.proofs.Common.{◌≡◌, ℕ, List, length, reverse, refl, sym, ap, subst, ◌∙◌, arith}
-use Rattle.std.specs.Prelude.{slice_get}
-use Rattle.std.proofs.lemmas.List.{length-reverse}
-use Rattle.gm_notes.specs.declared.note.Note.{Note}
-use Rattle.gm_notes.specs.Settings.{Settings}
-use Rattle.gm_notes.specs.Jobs.{made}
-use Rattle.gm_notes.specs.Past.{Past}
-use Rattle.gm_notes.specs.Closings.{give_back_each, give_back_one, rising}
-use Rattle.gm_plain.specs.Holds.{Keeps}
-use Rattle.gm_plain.proofs.ServerLoops.{next_job, folded}
+use Rattle.std.proofs.Common.{length, refl, ap, arith}
+use Rattle.gm_notes.specs.Closings.{give_back_each, give_back_one}
+use Rattle.gm_plain.proofs.ServerLoops.{next_job, all_jobs}
 use Rattle.gm_plain.proofs.server.PlainServer.give_back_each.Goals as goal
 
 pub job_at-job-requires : goal.job_at-job-requires
@@ -17,24 +10,10 @@ job_at-job-requires c =
 
 pub loop-index-preserved : goal.loop-index-preserved
 loop-index-preserved c =
-    let all = reverse (made c.args.self.now.log.notes) in
-    let here = ap (λ (l : List ℕ). slice_get (reverse l) c.loop-index.index) (sym c.loop-index.invariant.jobs) ∙ c.job_at-job.ensures in
-    record {
-      config = c.give_back_one.ensures.goes.config ∙ c.loop-index.invariant.config;
-      jobs = c.give_back_one.ensures.made ∙ c.loop-index.invariant.jobs;
-      past = λ past keeps.
-          next_job (give_back_each c.args.self.now.config c.args.slot) (give_back_one c.args.self.now.config c.args.slot) (λ n jobs p. refl) c.loop-index.self c.give_back_one.new.self all c.loop-index.index c.job_at-job.result past here
-          (λ (p : Past) keeps. subst (λ (k : Settings). Keeps c.give_back_one.new.self (give_back_one k c.args.slot c.job_at-job.result p)) c.loop-index.invariant.config (c.give_back_one.ensures.goes.past p keeps)) (c.loop-index.invariant.past past keeps);
-    }
+    next_job (λ k. give_back_each k c.args.slot) (λ k. give_back_one k c.args.slot) (λ k n jobs p. refl) (λ k p. refl) c.args.self.now c.loop-index.self c.give_back_one.new.self c.loop-index.index c.job_at-job.result c.job_at-job.ensures
+    c.give_back_one.ensures.goes c.give_back_one.ensures.made c.loop-index.invariant
 
 pub returns : goal.returns
-returns c = record {
-  others = tt;
-  config = c.loop-index.invariant.config;
-  past = λ past keeps.
-      let jobs : reverse (made c.args.self.now.log.notes) ≡ rising past = ap (λ (l : List Note). reverse (made l)) keeps.notes_are in
-      let long = length-reverse (made c.args.self.now.log.notes) in
-      subst (λ (l : List ℕ). Keeps c.loop-index.self ((give_back_each c.args.self.now.config c.args.slot) l past)) jobs
-      (folded (give_back_each c.args.self.now.config c.args.slot) (give_back_one c.args.self.now.config c.args.slot) (λ n left p. refl) c.loop-index.self (reverse (made c.args.self.now.log.notes)) c.loop-index.index past (λ p. refl)
-      (omega (arith, long, c.loop-index-test.false, c.count_made-index-end.ensures)) (c.loop-index.invariant.past past keeps));
-}
+returns c =
+    all_jobs (λ k. give_back_each k c.args.slot) (λ k. give_back_one k c.args.slot) (λ k n jobs p. refl) (λ k p. refl) c.args.self.now c.loop-index.self c.loop-index.index
+    (omega (arith, c.loop-index-test.false, c.count_made-index-end.ensures)) c.loop-index.invariant

@@ -22,11 +22,11 @@ returns-then-accepts_connections c =
     goes_as (shutdown c.args.self.now.config c.args.slot true) (goes_then (goes_then c.make_room.ensures.goes c.in_ok-say_ok.ensures.does) c.note.ensures.goes)
     (λ p keeps.
     let same = ap (λ (l : Logged). l.notes) c.in_ok-say_ok.ensures.log ∙ (c.make_room.ensures.notes ∙ keeps.notes_are) in
-    graceful_told c.args.slot ok_text (mode p.notes) p (ap (λ (l : List Note). accepts_connections (mode l)) (sym same) ∙ (sym c.accepts_connections.ensures ∙ c.if-accepts_connections.true)))
+    graceful_told c.args.slot ok_text (mode p.notes) p (ap (λ (l : List Note). accepts_connections (mode l)) (sym same) ∙ (ap accepts_connections (sym c.mode.ensures) ∙ (sym c.accepts_connections.ensures ∙ c.if-accepts_connections.true))))
 
 pub returns-else-accepts_connections : goal.returns-else-accepts_connections
 returns-else-accepts_connections c =
     goes_as (shutdown c.args.self.now.config c.args.slot true) (goes_then c.make_room.ensures.goes c.in_ok-say_ok.ensures.does)
     (λ p keeps.
     let same = ap (λ (l : Logged). l.notes) c.in_ok-say_ok.ensures.log ∙ (c.make_room.ensures.notes ∙ keeps.notes_are) in
-    graceful_kept c.args.slot ok_text (mode p.notes) p (ap (λ (l : List Note). accepts_connections (mode l)) (sym same) ∙ (sym c.accepts_connections.ensures ∙ c.if-accepts_connections.false)))
+    graceful_kept c.args.slot ok_text (mode p.notes) p (ap (λ (l : List Note). accepts_connections (mode l)) (sym same) ∙ (ap accepts_connections (sym c.mode.ensures) ∙ (sym c.accepts_connections.ensures ∙ c.if-accepts_connections.false))))

@@ -4,7 +4,6 @@ use Rattle.gm_notes.specs.Submissions.{make, is_one_too_many, is_full, join_or_m
 use Rattle.gm_actions.specs.Actions.{submission_of}
 use Rattle.gm_plain.proofs.ServerLemmas.{does_as}
 use Rattle.gm_plain.proofs.server.PlainServer.make_new.Goals as goal
-use Rattle.gm_plain.proofs.server.PlainServer.make_new.Goals.{Else-is_full}
 
 pub returns-then-is_one_too_many : goal.returns-then-is_one_too_many
 returns-then-is_one_too_many c =

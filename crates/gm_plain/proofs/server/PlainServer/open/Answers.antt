@@ -23,16 +23,16 @@ pub note-requires-clause-fits : goal.note-requires-clause-fits
 note-requires-clause-fits c =
     subst (λ (k : Settings). c.in-Some.slot < k.slots) (sym c.make_room.ensures.goes.config) (below (goal.at-note-requires-clause-fits c).In-Some)
 
-pub begin-requires : goal.begin-requires
-begin-requires c =
-    subst (λ (k : Settings). c.in-Some.slot < k.slots) (sym (c.note.ensures.goes.config ∙ c.make_room.ensures.goes.config)) (below (goal.at-begin-requires c).In-Some)
+pub empty-requires : goal.empty-requires
+empty-requires c =
+    subst (λ (k : Settings). c.in-Some.slot < k.slots) (sym (c.note.ensures.goes.config ∙ c.make_room.ensures.goes.config)) (below (goal.at-empty-requires c).In-Some)
 
 free : (c : In-Some) (k : Settings) (past : Past) → c.args.self.now.config ≡ k → c.args.self.now.log.notes ≡ past.notes → free_slot k past ≡ Some c.in-Some.slot
 free c k past settings notes =
     ap (free_from 0 k.slots) (sym notes) ∙ (ap (λ n. free_from 0 n c.args.self.now.log.notes) (ap (λ (x : Settings). x.slots) (sym settings) ∙ sym c.args.self.now.slots) ∙ sym c.in-Some.ensures)
 
 goes : (c : In-Some) (past : Past) → c.args.self.now.log.notes ≡ past.notes → accepts_connections (mode past.notes) ≡ true
-goes c past notes = ap (λ l. accepts_connections (mode l)) (sym notes) ∙ (sym c.accepts_connections.ensures ∙ c.if-not-accepts_connections.false)
+goes c past notes = ap (λ l. accepts_connections (mode l)) (sym notes) ∙ (ap accepts_connections (sym c.mode.ensures) ∙ (sym c.accepts_connections.ensures ∙ c.if-not-accepts_connections.false))
 
 pub returns-in_err-make_room : goal.returns-in_err-make_room
 returns-in_err-make_room c k steps agrees =
@@ -52,6 +52,6 @@ returns c k steps agrees =
     let none : made_since (made past.notes) (made (opening (free_slot k past) c.args.addr.now past).notes) ≡ None =
     ap (λ f. made_since (made past.notes) (made (opening f c.args.addr.now past).notes)) found ∙ none_made (made past.notes) in (
       (taken, ap (λ (f : Option ℕ). record { opened = f; created = None }) (sym found) ∙ ap (λ (n : Option ℕ). record { opened = free_slot k past; created = n }) (sym none)),
-      agrees_next k steps (Open c.args.addr.now) _ agrees (goes_then (goes_then c.make_room.ensures.goes c.note.ensures.goes) c.begin.ensures.goes) taken
+      agrees_next k steps (Open c.args.addr.now) _ agrees (goes_then (goes_then c.make_room.ensures.goes c.note.ensures.goes) c.empty.ensures.began) taken
           (ap (λ (a : List ℕ). with_flow (Began c.in-Some.slot) (with_note (Opened c.in-Some.slot a) past)) c.in_ok-addr.ensures ∙ ap (λ f. opening f c.args.addr.now past) (sym found)),
     )

@@ -18,7 +18,7 @@ returns-then-beside c =
     goes_as (pre_sleep c.args.self.now.config c.args.slot) (goes_then (goes_then c.make_room.ensures.goes c.note.ensures.goes) c.note-then-beside.ensures.goes)
     (λ p keeps.
     let awake : is_awake (phase c.args.slot p.notes) ≡ true =
-    ap (λ (l : List Note). is_awake (phase c.args.slot l)) (sym keeps.notes_are) ∙ (ap is_awake (sym c.phase.ensures) ∙ (sym c.is_awake.ensures ∙ c.if-not-is_awake.false)) in
+    ap (λ (l : List Note). is_awake (phase c.args.slot l)) (sym keeps.notes_are) ∙ (ap is_awake (sym c.seen.ensures.value.phase) ∙ (sym c.is_awake.ensures ∙ c.if-not-is_awake.false)) in
     let found : is_some (pick c.args.self.now.config c.args.slot p.notes) ≡ true =
     ap is_some (ap (pick c.args.self.now.config c.args.slot) (sym keeps.notes_are) ∙ sym c.in_ok-pick.ensures.value) ∙ sym c.if-beside.ensures in
     rw awake (beside_some c.args.slot (pick c.args.self.now.config c.args.slot p.notes) (with_note (Slept c.args.slot) p) found))
@@ -28,7 +28,7 @@ returns-else-beside c =
     goes_as (pre_sleep c.args.self.now.config c.args.slot) (goes_then c.make_room.ensures.goes c.note.ensures.goes)
     (λ p keeps.
     let awake : is_awake (phase c.args.slot p.notes) ≡ true =
-    ap (λ (l : List Note). is_awake (phase c.args.slot l)) (sym keeps.notes_are) ∙ (ap is_awake (sym c.phase.ensures) ∙ (sym c.is_awake.ensures ∙ c.if-not-is_awake.false)) in
+    ap (λ (l : List Note). is_awake (phase c.args.slot l)) (sym keeps.notes_are) ∙ (ap is_awake (sym c.seen.ensures.value.phase) ∙ (sym c.is_awake.ensures ∙ c.if-not-is_awake.false)) in
     let found : is_some (pick c.args.self.now.config c.args.slot p.notes) ≡ false =
     ap is_some (ap (pick c.args.self.now.config c.args.slot) (sym keeps.notes_are) ∙ sym c.in_ok-pick.ensures.value) ∙ sym c.if-beside.ensures in
     rw awake (beside_none c.args.slot (pick c.args.self.now.config c.args.slot p.notes) (with_note (Slept c.args.slot) p) found))

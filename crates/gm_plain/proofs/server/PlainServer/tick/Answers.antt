@@ -32,16 +32,16 @@ returns-in-Ok c k steps agrees =
           (c.max-moment.ensures ∙ ap (max c.args.now) (c.moment.ensures ∙ ap moment (c.make_room.ensures.notes ∙ agrees.past.notes_are)))),
     )
 
-pub returns : goal.returns
-returns c k steps agrees =
+pub returns-in-Err : goal.returns-in-Err
+returns-in-Err c k steps agrees =
     let before = c.args.self.now in
-    let more = grows_then (grows_by (Now c.max-moment.result) c.note.ensures.goes.config c.note.ensures.notes c.note.ensures.outboxes) c.in-Err.ensures.grew in
-    let all : Grew before c.expire_each.new.self = grows_then (grows_same c.make_room.ensures.goes.config c.make_room.ensures.notes c.make_room.ensures.outboxes) more in
-    let notes = c.truncate.ensures.notes ∙ (ap₂ oldest c.len-notes.ensures.value all.notes.1 ∙ oldest_are all.notes.0 before.log.notes) in
-    let outboxes = c.truncate-in-Err.ensures.back before.outboxes (c.deref.ensures.value ∙ c.in_ok-counts.ensures) all.outboxes in (
+    let roomy : Grew before c.make_room.new.self = grows_same c.make_room.ensures.goes.config c.make_room.ensures.notes in
+    let noted : Grew c.make_room.new.self c.note.new.self = grows_by (Now c.max-moment.result) c.note.ensures.goes.config c.note.ensures.notes in
+    let all : Grew before c.expire_each.new.self = grows_then roomy (grows_then noted c.in-Err.ensures.grew) in
+    let notes = c.truncate.ensures.notes ∙ (ap₂ oldest c.len-notes.ensures.value all.notes.1 ∙ oldest_are all.notes.0 before.log.notes) in (
       refl,
       record {
         settings = all.config ∙ agrees.settings;
-        past = record { notes_are = notes ∙ agrees.past.notes_are; waiting_are = λ d. ap (λ (l : List (List ℕ)). get_or l d []) outboxes ∙ agrees.past.waiting_are d };
+        past = record { notes_are = notes ∙ agrees.past.notes_are; waiting_are = λ d. ap (λ (l : List (List ℕ)). get_or l d []) c.in_ok-outboxes.ensures ∙ agrees.past.waiting_are d };
       },
     )

@@ -9,5 +9,5 @@ returns-then-is_asleep-clause-goes c =
     goes_as (wake_itself c.args.slot) c.note.ensures.goes
     (λ p keeps.
     let sleeps : is_asleep (phase c.args.slot p.notes) ≡ true =
-    ap (λ l. is_asleep (phase c.args.slot l)) (sym keeps.notes_are) ∙ (ap is_asleep (sym c.phase.ensures) ∙ (sym c.is_asleep.ensures ∙ c.if-is_asleep.true)) in
+    ap (λ l. is_asleep (phase c.args.slot l)) (sym keeps.notes_are) ∙ (ap is_asleep (sym c.seen.ensures.value.phase) ∙ (sym c.is_asleep.ensures ∙ c.if-is_asleep.true)) in
     rw sleeps refl)
