@@ -37,8 +37,8 @@ module _ {a b : Contents} where
   goes_then {c} {f} {g} first second = changes_then {f = f} {g = g} (λ x y. tt) first second
 
   -- a change that is the same at what is kept
-  pub goes_as : {f : Past → Past} (g : Past → Past) → Becomes a b f → ((past : Past) → HeldIn a past → f past ≡ g past) → Becomes a b g
-  goes_as {f} g goes same = changes_as {f = f} g goes same
+  pub goes_as : {f g : Past → Past} → Becomes a b f → ((past : Past) → HeldIn a past → f past ≡ g past) → Becomes a b g
+  goes_as {f} {g} goes same = changes_as {f = f} g goes same
 
   pub does_as : {E : Type 0} {f : Past → Past} (result : Result (Unit {0}) E) (g : Past → Past) → Becomes a b (if_done result f)
       → ((past : Past) → HeldIn a past → f past ≡ g past) → Becomes a b (if_done result g)

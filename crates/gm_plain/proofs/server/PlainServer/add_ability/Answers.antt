@@ -7,17 +7,16 @@ use Rattle.gm_notes.specs.Settings.{Settings}
 use Rattle.gm_notes.specs.Notes.{phase, is_asleep}
 use Rattle.gm_notes.specs.Jobs.{waiting_for, is_empty}
 use Rattle.gm_notes.specs.Past.{with_note, with_mention}
-use Rattle.gm_notes.specs.Workers.{wake_if, add_ability}
+use Rattle.gm_notes.specs.Workers.{wake_if}
 use Rattle.gm_plain.proofs.ServerLemmas.{does_not, goes_then, goes_as}
 use Rattle.gm_plain.proofs.server.PlainServer.add_ability.Goals as goal
 
 pub returns-in_err-make_room : goal.returns-in_err-make_room
-returns-in_err-make_room c =
-    does_not c.from_residual-in_err-make_room.result (add_ability c.args.slot c.args.function.now c.args.timeout) c.from_residual-in_err-make_room.ensures c.make_room.ensures.goes
+returns-in_err-make_room c = does_not _ _ c.from_residual-in_err-make_room.ensures c.make_room.ensures.goes
 
 pub returns-then-wakes : goal.returns-then-wakes
 returns-then-wakes c =
-    goes_as (add_ability c.args.slot c.args.function.now c.args.timeout) (goes_then (goes_then (goes_then c.make_room.ensures.goes c.mention-2.ensures.goes) c.note.ensures.goes) c.note-then-wakes.ensures.goes)
+    goes_as (goes_then (goes_then (goes_then c.make_room.ensures.goes c.mention-2.ensures.goes) c.note.ensures.goes) c.note-then-wakes.ensures.goes)
     (λ p keeps.
     let wakes : (is_asleep (phase c.args.slot p.notes) && not (is_empty (waiting_for c.args.function.now p.notes))) ≡ true =
     ap (λ (l : List Note). is_asleep (phase c.args.slot l) && not (is_empty (waiting_for c.args.function.now l))) (sym keeps.notes_are) ∙ (sym c.in_ok-wakes.ensures ∙ c.if-wakes.true) in
@@ -26,7 +25,7 @@ returns-then-wakes c =
 
 pub returns-else-wakes : goal.returns-else-wakes
 returns-else-wakes c =
-    goes_as (add_ability c.args.slot c.args.function.now c.args.timeout) (goes_then (goes_then c.make_room.ensures.goes c.mention-2.ensures.goes) c.note.ensures.goes)
+    goes_as (goes_then (goes_then c.make_room.ensures.goes c.mention-2.ensures.goes) c.note.ensures.goes)
     (λ p keeps.
     let wakes : (is_asleep (phase c.args.slot p.notes) && not (is_empty (waiting_for c.args.function.now p.notes))) ≡ false =
     ap (λ (l : List Note). is_asleep (phase c.args.slot l) && not (is_empty (waiting_for c.args.function.now l))) (sym keeps.notes_are) ∙ (sym c.in_ok-wakes.ensures ∙ c.if-wakes.false) in

@@ -1,4 +1,4 @@
-use Rattle.std.proofs.Common.{◌≡◌, Option, Some, ℕ, ap, ap₂, ◌∙◌}
+use Rattle.std.proofs.Common.{◌≡◌, Option, ℕ, ap, ap₂, ◌∙◌}
 use Rattle.gm_notes.specs.declared.note.Note.TheVariants.{Assigned}
 use Rattle.gm_notes.specs.Settings.{Settings}
 use Rattle.gm_notes.specs.Notes.{moment}
@@ -6,22 +6,19 @@ use Rattle.gm_notes.specs.Jobs.{job, job_state}
 use Rattle.gm_notes.specs.JobStates.{is_waiting}
 use Rattle.gm_plain.specs.Logs.{Logged}
 use Rattle.gm_notes.specs.Past.{with_note}
-use Rattle.gm_notes.specs.Workers.{wake_itself, deadline_after, tell_assigned, give_out}
+use Rattle.gm_notes.specs.Workers.{wake_itself, deadline_after, tell_assigned}
 use Rattle.gm_plain.proofs.ServerLemmas.{does_not, goes_then, goes_as, assign_is}
 use Rattle.gm_plain.proofs.server.PlainServer.assign.Goals as goal
 
 pub returns-in_err-make_room : goal.returns-in_err-make_room
-returns-in_err-make_room c =
-    does_not c.from_residual.result (λ past. give_out c.args.self.now.config c.args.slot c.args.with_unique (Some c.args.found) (wake_itself c.args.slot past)) c.from_residual.ensures c.make_room.ensures.goes
+returns-in_err-make_room c = does_not _ _ c.from_residual.ensures c.make_room.ensures.goes
 
 pub returns-in_err-tell_assigned : goal.returns-in_err-tell_assigned
-returns-in_err-tell_assigned c =
-    does_not c.from_residual-in_err-tell_assigned.result (λ past. give_out c.args.self.now.config c.args.slot c.args.with_unique (Some c.args.found) (wake_itself c.args.slot past)) c.from_residual-in_err-tell_assigned.ensures
-    (goes_then c.make_room.ensures.goes c.in_err-tell_assigned.ensures.does)
+returns-in_err-tell_assigned c = does_not _ _ c.from_residual-in_err-tell_assigned.ensures (goes_then c.make_room.ensures.goes c.in_err-tell_assigned.ensures.does)
 
 pub returns : goal.returns
 returns c =
-    goes_as (λ past. give_out c.args.self.now.config c.args.slot c.args.with_unique (Some c.args.found) (wake_itself c.args.slot past)) (goes_then (goes_then (goes_then c.make_room.ensures.goes c.in_ok-tell_assigned.ensures.does) c.wake_itself.ensures.goes) c.note.ensures.goes)
+    goes_as (goes_then (goes_then (goes_then c.make_room.ensures.goes c.in_ok-tell_assigned.ensures.does) c.wake_itself.ensures.goes) c.note.ensures.goes)
     (λ p keeps.
     let late : c.deadline_after-deadline.result ≡ deadline_after (moment p.notes) c.args.found.timeout =
     c.deadline_after-deadline.ensures ∙ ap (λ m. deadline_after m c.args.found.timeout) (c.moment.ensures ∙ ap moment keeps.notes_are) in

@@ -7,7 +7,7 @@ use Rattle.gm_notes.specs.Jobs.{job_state, deadline, listeners}
 use Rattle.gm_notes.specs.JobStates.{is_running}
 use Rattle.gm_notes.specs.Places as at
 use Rattle.gm_notes.specs.Past.{with_note, tell_all}
-use Rattle.gm_notes.specs.Closings.{is_reached, expire_one}
+use Rattle.gm_notes.specs.Closings.{is_reached}
 use Rattle.gm_plain.specs.Logs.{Logged}
 use Rattle.gm_plain.proofs.ServerLemmas.{goes_then, goes_as}
 use Rattle.gm_plain.proofs.TakingBack.{grows_by}
@@ -15,7 +15,7 @@ use Rattle.gm_plain.proofs.server.PlainServer.expire_one.Goals as goal
 
 pub returns-clause-does : goal.returns-clause-does
 returns-clause-does c =
-    goes_as (expire_one c.args.self.now.config c.args.job) (goes_then c.in_ok-give_all.ensures.does c.note.ensures.goes)
+    goes_as (goes_then c.in_ok-give_all.ensures.does c.note.ensures.goes)
     (λ p keeps.
     let runs : is_running (job_state c.args.job p.notes) ≡ true =
     ap (λ (l : List Note). is_running (job_state c.args.job l)) (sym keeps.notes_are) ∙ (ap at.is_running (sym c.place.ensures) ∙ (sym c.is_running.ensures ∙ c.if-not-is_running.false)) in

@@ -8,7 +8,7 @@ use Rattle.gm_plain.proofs.server.PlainServer.grab.Goals as goal
 
 pub returns-in_err-give-in-None : goal.returns-in_err-give-in-None
 returns-in_err-give-in-None c =
-    does_not c.from_residual-in_err-give-in-None.result (grab c.args.self.now.config c.args.slot c.args.with_unique) c.from_residual-in_err-give-in-None.ensures
+    does_not _ _ c.from_residual-in_err-give-in-None.ensures
     c.in_err-give-in-None.ensures.does
 
 pub returns-in-Some : goal.returns-in-Some
@@ -21,7 +21,7 @@ returns-in-Some c =
 
 pub returns-in_ok-give-in-None : goal.returns-in_ok-give-in-None
 returns-in_ok-give-in-None c =
-    goes_as (grab c.args.self.now.config c.args.slot c.args.with_unique) (goes_then c.in_ok-give-in-None.ensures.does c.wake_itself.ensures.goes)
+    goes_as (goes_then c.in_ok-give-in-None.ensures.does c.wake_itself.ensures.goes)
     (λ p keeps.
     let found : (let o : Option Pick = None in o) ≡ pick c.args.self.now.config c.args.slot p.notes =
     sym c.in-None.is ∙ (c.in_ok-found.ensures.value ∙ ap (pick c.args.self.now.config c.args.slot) keeps.notes_are) in

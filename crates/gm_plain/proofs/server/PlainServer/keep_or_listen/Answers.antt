@@ -1,13 +1,11 @@
 use Rattle.std.proofs.Common.{refl}
-use Rattle.gm_notes.specs.Submissions.{keep_or_listen}
-use Rattle.gm_actions.specs.Actions.{submission_of}
 use Rattle.gm_plain.proofs.ServerLemmas.{goes_as}
 use Rattle.gm_plain.proofs.server.PlainServer.keep_or_listen.Goals as goal
 
 pub returns-then-asked : goal.returns-then-asked
 returns-then-asked c =
-    goes_as (keep_or_listen c.args.slot (submission_of c.args.asked.now) c.args.job) c.note.ensures.goes (λ p keeps. rw c.if-asked.true refl)
+    goes_as c.note.ensures.goes (λ p keeps. rw c.if-asked.true refl)
 
 pub returns-else-asked : goal.returns-else-asked
 returns-else-asked c =
-    goes_as (keep_or_listen c.args.slot (submission_of c.args.asked.now) c.args.job) c.note-else-asked.ensures.goes (λ p keeps. rw c.if-asked.false refl)
+    goes_as c.note-else-asked.ensures.goes (λ p keeps. rw c.if-asked.false refl)

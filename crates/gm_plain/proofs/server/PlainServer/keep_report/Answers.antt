@@ -5,4 +5,4 @@ use Rattle.gm_plain.proofs.server.PlainServer.keep_report.Goals as goal
 
 pub returns-in-Some-clause-goes : goal.returns-in-Some-clause-goes
 returns-in-Some-clause-goes c =
-    goes_as (keep_report c.args.job c.args.report) c.note.ensures.goes (λ p keeps. sym (ap (λ r. keep_report c.args.job r p) c.in-Some.is))
+    goes_as c.note.ensures.goes (λ p keeps. sym (ap (λ r. keep_report c.args.job r p) c.in-Some.is))

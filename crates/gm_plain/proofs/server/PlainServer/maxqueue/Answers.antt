@@ -18,17 +18,14 @@ returns-then-is_one_too_many c =
     rw (good, many) refl)
 
 pub returns-in_err-make_room : goal.returns-in_err-make_room
-returns-in_err-make_room c =
-    does_not c.from_residual-in_err-make_room.result (maxqueue c.args.self.now.config c.args.slot c.args.name.now c.args.size) c.from_residual-in_err-make_room.ensures c.make_room.ensures.goes
+returns-in_err-make_room c = does_not _ _ c.from_residual-in_err-make_room.ensures c.make_room.ensures.goes
 
 pub returns-in_err-say_ok : goal.returns-in_err-say_ok
-returns-in_err-say_ok c =
-    does_not c.from_residual-in_err-say_ok.result (maxqueue c.args.self.now.config c.args.slot c.args.name.now c.args.size) c.from_residual-in_err-say_ok.ensures
-    (goes_then c.make_room.ensures.goes c.in_err-say_ok.ensures.does)
+returns-in_err-say_ok c = does_not _ _ c.from_residual-in_err-say_ok.ensures (goes_then c.make_room.ensures.goes c.in_err-say_ok.ensures.does)
 
 pub returns : goal.returns
 returns c =
-    goes_as (maxqueue c.args.self.now.config c.args.slot c.args.name.now c.args.size) (goes_then (goes_then (goes_then c.make_room.ensures.goes c.in_ok-say_ok.ensures.does) c.mention-2.ensures.goes) c.note.ensures.goes)
+    goes_as (goes_then (goes_then (goes_then c.make_room.ensures.goes c.in_ok-say_ok.ensures.does) c.mention-2.ensures.goes) c.note.ensures.goes)
     (λ p keeps.
     let good : is_bad_word c.args.name.now ≡ false = c.requires.named in
     let few : is_one_too_many c.args.self.now.config c.args.name.now p.notes ≡ false =

@@ -1,11 +1,8 @@
-use Rattle.gm_notes.specs.declared.note.Note.TheVariants.{Reset}
-use Rattle.gm_notes.specs.Past.{with_note}
 use Rattle.gm_plain.proofs.ServerLemmas.{does_not, goes_then}
 use Rattle.gm_plain.proofs.server.PlainServer.reset.Goals as goal
 
 pub returns-in_err-make_room : goal.returns-in_err-make_room
-returns-in_err-make_room c =
-    does_not c.from_residual.result (with_note (Reset c.args.slot)) c.from_residual.ensures c.make_room.ensures.goes
+returns-in_err-make_room c = does_not _ _ c.from_residual.ensures c.make_room.ensures.goes
 
 pub returns : goal.returns
 returns c = goes_then c.make_room.ensures.goes c.note.ensures.goes

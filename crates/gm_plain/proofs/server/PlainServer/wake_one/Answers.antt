@@ -2,7 +2,6 @@ use Rattle.std.proofs.Common.{List, sym, ap, ◌∙◌}
 use Rattle.gm_notes.specs.declared.note.Note.{Note}
 use Rattle.gm_notes.specs.Jobs.{job}
 use Rattle.gm_plain.specs.Searches.{wakes_for}
-use Rattle.gm_plain.specs.Holds.{wake_one_for}
 use Rattle.gm_plain.proofs.ServerLemmas.{goes_as}
 use Rattle.gm_plain.proofs.Wakings.{woken_sleeps, woken_is}
 use Rattle.gm_plain.proofs.server.PlainServer.wake_one.Goals as goal
@@ -13,7 +12,7 @@ note-requires-clause-may_come c =
 
 pub returns-then-is_to_wake-clause-goes : goal.returns-then-is_to_wake-clause-goes
 returns-then-is_to_wake-clause-goes c =
-    goes_as (λ past. wake_one_for (job c.args.number past.notes) c.args.slot past) c.note.ensures.goes
+    goes_as c.note.ensures.goes
     (λ p keeps.
     woken_is c.args.slot (job c.args.number p.notes) p
     (ap (λ (l : List Note). wakes_for c.args.slot (job c.args.number l) l) (sym keeps.notes_are) ∙ (sym c.is_to_wake.ensures ∙ c.if-is_to_wake.true)))
