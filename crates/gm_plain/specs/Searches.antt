@@ -85,7 +85,7 @@ order_after (Made n f p u body) jobs = jobs ++ n ∷ []
 order_after (Returned n) jobs = filter (λ m. not (m == n)) jobs ++ n ∷ []
 order_after note jobs = jobs
 
--- the job is of the function and waits or runs, or runs if only those count
+-- a job of the function counts: it waits or runs, or has to run if only running jobs count
 abbrev pub is_counted : Bool → List ℕ → List Note → ℕ → Bool
 is_counted true f notes = λ n. is_running (job_state n notes) && is_job_of f (job n notes)
 is_counted false f notes = is_live_of f notes

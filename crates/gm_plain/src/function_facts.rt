@@ -10,7 +10,7 @@ use crate::log::Log;
 use gm_notes::{Config, Note};
 use std::alloc::{AllocError, Global};
 
-/// Whether a job is of this function, and waits or runs; of the running ones only, where these are counted.
+/// Whether a job of this function counts: it waits or runs, or has to run if only running jobs count.
 fn is_counted(log: &Log, number: u64, function: &[u8], only_running: bool) -> bool
     ensures { result ≡ is_counted only_running function.now log.now.notes number }
 {
@@ -22,7 +22,7 @@ fn is_counted(log: &Log, number: u64, function: &[u8], only_running: bool) -> bo
     }
 }
 
-/// How many jobs of a function wait or run, or only how many run.
+/// How many jobs of a function wait or run, or how many run if only running jobs count.
 pub fn count_jobs(log: &Log, function: &[u8], only_running: bool) -> usize
     ensures { result ≡ length (filter (is_counted only_running function.now log.now.notes) (made log.now.notes)) }
 {

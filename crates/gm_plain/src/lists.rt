@@ -15,18 +15,6 @@ use gm_admin::{StatusRow, WorkerRow, write_status, write_workers};
 use gm_notes::Config;
 use std::alloc::{AllocError, Global};
 
-/// What the list of functions says of one.
-fn status_of<'a>(log: &Log, config: &Config, function: &'a [u8]) -> StatusRow<'a>
-    ensures { status_of result ≡ status_line_of config.now log.now.notes function.now }
-{
-    StatusRow {
-        name: function,
-        total: count_jobs(log, function, false) as u64,
-        running: count_jobs(log, function, true) as u64,
-        workers: able(log, config, function),
-    }
-}
-
 /// A row for each of these functions.
 fn status_rows<'a>(
     alloc: Global,
@@ -38,7 +26,12 @@ fn status_rows<'a>(
 {
     let mut rows = Vec::new(alloc);
     for function in functions {
-        rows.push(status_of(log, config, function))?;
+        rows.push(StatusRow {
+            name: *function,
+            total: count_jobs(log, function, false) as u64,
+            running: count_jobs(log, function, true) as u64,
+            workers: able(log, config, function),
+        })?;
     }
     Ok(rows)
 }

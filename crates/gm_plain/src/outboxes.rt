@@ -1,20 +1,12 @@
 //! The bytes that wait for each slot.
 
-ghost use Rattle.std.specs.Prelude.{◌≡◌, ◌<◌, ◌++◌, [], length, replicate, slice_set, IfOk, OnOk, OnErr};
+ghost use Rattle.std.specs.Prelude.{◌≡◌, ◌<◌, [], length, replicate, slice_set, IfOk, OnOk, OnErr};
 ghost use Rattle.std.specs.List.{All, slice_index_or};
 ghost use Rattle.gm_plain.specs.Outboxes.{bytes_of, with_bytes, with_bytes_each};
 
 use std::alloc::{AllocError, Global};
 use std::marker::Model;
 use std::mem;
-
-/// Appends a text. Out of memory, the bytes stay as they were.
-fn append(text: &[u8], out: &mut Vec<u8>) -> Result<(), AllocError>
-    ensures ok { OnOk result (out.new.items ≡ out.old.items ++ text.now) }
-    ensures err { OnErr result (out.new.items ≡ out.old.items) }
-{
-    out.extend_from_slice(text)
-}
 
 /// A copy of each outbox.
 fn copy_each(alloc: Global, outboxes: &[Vec<u8>]) -> Result<Vec<Vec<u8>>, AllocError>
@@ -69,7 +61,7 @@ impl Outboxes {
         ensures len { length self.new ≡ length self.old }
     {
         let outbox = &mut self.outboxes[slot as usize];
-        append(text, outbox)
+        outbox.extend_from_slice(text)
     }
 
     /// Queues a text to each of these slots, as often as it is listed. Out of memory, it changes nothing.

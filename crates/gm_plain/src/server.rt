@@ -6,7 +6,6 @@ ghost use Rattle.gm_packet.specs.Packets.{Fits};
 ghost use Rattle.gm_plain.specs.Logs.{Spends, NoteFits, MayCome, weight};
 ghost use Rattle.gm_notes.specs.Past.{with_note, with_flow, with_output, give, refuse, tell_all};
 ghost use Rattle.gm_notes.specs.Flow.{Began, Emptied};
-ghost use Rattle.gm_notes.specs.Texts.{fault_text};
 ghost use Rattle.std.specs.List.{All};
 ghost use Rattle.gm_actions.specs.Refusals.{code_of};
 
@@ -25,9 +24,9 @@ use crate::connections::{mode, seen};
 use crate::jobs::place;
 use crate::log::Log;
 use crate::outboxes::Outboxes;
-use gm_actions::{Refusal, append_fault};
+use gm_actions::Refusal;
 use gm_bytes::ByteQueue;
-use gm_notes::{ApplyError, Config, Done, Event, JobServer, Mode, Note, Place, UnitFault};
+use gm_notes::{ApplyError, Config, Done, Event, JobServer, Mode, Note, Place};
 use gm_packet::{Response, write_response};
 use std::alloc::{AllocError, Global};
 
@@ -115,17 +114,6 @@ impl PlainServer {
     {
         let packet = response_packet(self.alloc, response)?;
         self.outboxes.give_all(self.alloc, slots, &packet)
-    }
-
-    /// Queues what a fault prints to a slot. Out of memory, it changes nothing.
-    fn give_fault(&mut self, slot: u32, fault: UnitFault) -> Result<(), AllocError>
-        requires { slot < self.old.config.slots }
-        ensures does { Does self.old result self.new (with_output slot (fault_text fault)) }
-        ensures log { self.new.log ≡ self.old.log }
-    {
-        let mut text = Vec::new(self.alloc);
-        append_fault(fault, &mut text)?;
-        self.say(slot, &text)
     }
 
     /// Queues a text to a slot. Out of memory, it changes nothing.

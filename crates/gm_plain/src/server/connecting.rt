@@ -10,6 +10,7 @@ ghost use Rattle.gm_plain.specs.Holds.{PlainAgrees};
 use super::PlainServer;
 use crate::connections::{can_take_units, free_slot, mode, seen};
 use crate::jobs::{count_made, newest};
+use gm_actions::append_fault;
 use gm_notes::{ApplyError, Done, Note, Text, UnitFault};
 
 impl PlainServer {
@@ -62,8 +63,10 @@ impl PlainServer {
         if !can_take_units(&self.log, slot) {
             return Err(ApplyError::NotOpen);
         }
+        let mut text = Vec::new(self.alloc);
+        append_fault(fault, &mut text)?;
         self.make_room(1)?;
-        self.give_fault(slot, fault)?;
+        self.say(slot, &text)?;
         self.note(Note::Shut { slot });
         Ok(Done::NONE)
     }

@@ -1,4 +1,4 @@
-use Rattle.std.proofs.Common.{true, List, ap, sym, ◌∙◌}
+use Rattle.std.proofs.Common.{List, ap, sym, ◌∙◌}
 use Rattle.gm_admin.specs.Answers.{ok_text}
 use Rattle.gm_notes.specs.Notes.{mode, accepts_connections}
 use Rattle.gm_notes.specs.declared.note.Note.{Note}
