@@ -208,8 +208,9 @@ impl<K: BookName, I: Source<Patience> + Drop> Talk<K, I> {
         }
     }
 
-    /// Nothing is read from the connection any more.
+    /// Nothing is read any more from the connection, whose session is over.
     pub fn stop_reading(&mut self)
+        requires { is_over self.old.talking ≡ true }
         ensures { self.new ≡ without_reading self.old }
     {
         // Modelled in models/serving.h.

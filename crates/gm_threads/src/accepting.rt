@@ -5,8 +5,10 @@ ghost use Rattle.std.specs.Prelude.{◌≡◌, [], pos};
 use crate::crews;
 use crate::keepalive::set_peer_timeout;
 use crate::progress::Progress;
+use crate::serving::discard;
 use crate::state::ServerState;
 use gm_delivery::{ReadHalf, ServerStage, WriteHalf, split};
+use gm_feeder::Patience;
 use gm_poll::Poller;
 use gm_report::{ACCEPT_TIMEOUT_MS, AGAIN_MS, Announcer, ServeError, Trouble};
 use gm_session::{Gate, LoggedSource};
@@ -158,6 +160,7 @@ impl<'s, K: BookName + Send + Sync> Control<'s, K> {
         let mut talk = slot.talk.lock(rt);
         talk.begin(state.alloc, reading, Some(peer));
         if let Err(error) = state.service.crews.begin(slot.lane.number(), fd) {
+            discard(&mut talk, Patience::Hurries);
             state.end(rt, slot, &mut talk);
             return Err(Rejection {
                 trouble: Trouble::Events,

@@ -22,7 +22,7 @@ const DROPPED: usize = 4_096;
 
 /// Reads what a connection still sends that is to end, and drops it: before its socket is closed, as the system else forgets what the
 /// peer hasn't read yet. It says whether the input has ended.
-fn discard<K: BookName>(talk: &mut Talk<K, ReadHalf>, patience: Patience) -> bool
+pub(crate) fn discard<K: BookName>(talk: &mut Talk<K, ReadHalf>, patience: Patience) -> bool
     ensures { is_over talk.new.talking ≡ true }
 {
     // Modelled in models/polling.pml.
@@ -96,13 +96,10 @@ impl<'s, K: BookName> ServerState<'s, K> {
         }
     }
 
-    /// Ends a connection from which nothing is read any more.
-    pub(crate) fn end<R: Wait + Clock>(
-        &self,
-        rt: &R,
-        slot: &Slot<K>,
-        talk: &mut Talk<K, ReadHalf>,
-    ) {
+    /// Ends a connection whose session is over, and from which nothing is read any more.
+    pub(crate) fn end<R: Wait + Clock>(&self, rt: &R, slot: &Slot<K>, talk: &mut Talk<K, ReadHalf>)
+        requires { is_over talk.old.talking ≡ true }
+    {
         // Modelled in models/serving.h.
         talk.stop_reading();
         let leftover = slot.lane.end(&self.delivery(rt), true);
