@@ -82,9 +82,9 @@ is_reading None = false
 is_reading (Some t) = not t.has_ended
 
 -- whether no session goes on: there is no connection, or its session is over
-abbrev pub is_over : Option TalkingState → Bool
-is_over None = true
-is_over (Some t) = is_some t.over
+abbrev pub session_ended : Option TalkingState → Bool
+session_ended None = true
+session_ended (Some t) = is_some t.over
 
 -- What is left to be read: nothing where nothing is read any more; otherwise perhaps something, where whole units may be left.
 abbrev pub IsLeft : Option TalkingState → Left → Type 0

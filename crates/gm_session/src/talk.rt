@@ -9,7 +9,7 @@ ghost use Rattle.gm_shared.specs.Calls.{Called};
 ghost use Rattle.gm_session.specs.Effects.{Keeps, Gathers};
 ghost use Rattle.gm_session.specs.Hearings.{blank};
 ghost use Rattle.gm_session.specs.Sessions.{Steps, may_leave};
-ghost use Rattle.gm_session.specs.Talks.{IsTalk, begun, without_reading, is_over, is_reading, over_after, whole_by, IsLeft, StepsOn, Discards, Closes};
+ghost use Rattle.gm_session.specs.Talks.{IsTalk, begun, without_reading, session_ended, is_reading, over_after, whole_by, IsLeft, StepsOn, Discards, Closes};
 
 use crate::applier::{Applier, Around};
 use crate::effects::Effects;
@@ -210,7 +210,7 @@ impl<K: BookName, I: Source<Patience> + Drop> Talk<K, I> {
 
     /// Nothing is read any more from the connection, whose session is over.
     pub fn stop_reading(&mut self)
-        requires { is_over self.old.talking ≡ true }
+        requires { session_ended self.old.talking ≡ true }
         ensures { self.new ≡ without_reading self.old }
     {
         // Modelled in models/serving.h.
@@ -257,7 +257,7 @@ impl<K: BookName, I: Source<Patience> + Drop> Talk<K, I> {
         effects: &mut Effects<K>,
     ) -> Result<Turn, SessionEnd>
         ensures steps { StepsOn self.old.talking K.settings K.taped result self.old self.new }
-        ensures over { OnErr result (is_over self.new.talking ≡ true) }
+        ensures over { OnErr result (session_ended self.new.talking ≡ true) }
         ensures gathers { Gathers K.settings K.taped self.old.number self.old.seen effects.old self.new.seen effects.new }
     {
         // Modelled in models/polling.pml.
@@ -276,7 +276,7 @@ impl<K: BookName, I: Source<Patience> + Drop> Talk<K, I> {
     /// Reads what comes after the session is over, and drops it: into this room, by one call, and says how many bytes these were.
     pub fn discard(&mut self, by: &Patience, room: &mut [u8]) -> io::Result<usize>
         ensures discards { Discards self.old.talking self.old self.new }
-        ensures over { is_over self.new.talking ≡ true }
+        ensures over { session_ended self.new.talking ≡ true }
     {
         match &mut self.talking {
             Some(talking) => discard_on(talking, by, room),

@@ -1,7 +1,7 @@
 //! How a connection is served, by whichever threads do: it is read by turns and ended, and what others leave of its lane is done.
 
 ghost use Rattle.std.specs.Prelude.{◌≡◌, true};
-ghost use Rattle.gm_session.specs.Talks.{is_over};
+ghost use Rattle.gm_session.specs.Talks.{session_ended};
 
 use crate::state::ServerState;
 use gm_delivery::{Deliverer, Finish, Leftover, ReadHalf, ServerStage};
@@ -23,7 +23,7 @@ const DROPPED: usize = 4_096;
 /// Reads what a connection still sends that is to end, and drops it: before its socket is closed, as the system else forgets what the
 /// peer hasn't read yet. It says whether the input has ended.
 pub(crate) fn discard<K: BookName>(talk: &mut Talk<K, ReadHalf>, patience: Patience) -> bool
-    ensures { is_over talk.new.talking ≡ true }
+    ensures { session_ended talk.new.talking ≡ true }
 {
     // Modelled in models/polling.pml.
     let mut room = [0; DROPPED];
@@ -58,7 +58,7 @@ impl<'s, K: BookName> ServerState<'s, K> {
         talk: &mut Talk<K, ReadHalf>,
         patience: Patience,
     ) -> bool
-        ensures { result ≡ true → is_over talk.new.talking ≡ true }
+        ensures { result ≡ true → session_ended talk.new.talking ≡ true }
     {
         // Modelled in models/polling.pml and serving.h.
         let outcome = if self.progress.stage.has_reached(ServerStage::Stopped as u8) {
@@ -98,7 +98,7 @@ impl<'s, K: BookName> ServerState<'s, K> {
 
     /// Ends a connection whose session is over, and from which nothing is read any more.
     pub(crate) fn end<R: Wait + Clock>(&self, rt: &R, slot: &Slot<K>, talk: &mut Talk<K, ReadHalf>)
-        requires { is_over talk.old.talking ≡ true }
+        requires { session_ended talk.old.talking ≡ true }
     {
         // Modelled in models/serving.h.
         talk.stop_reading();
