@@ -104,7 +104,7 @@ MUTANTS = [
     ("delivery", DELIVER, "M_BEGIN_WITHOUT_ATTEMPT", "Lane::open", "match self.word.take_over()", "left out"),
     ("delivery", DELIVER, "M_TOUCH_FIRST", "ServerState::notify", "self.touch(&context, due, is_late)", "before the event"),
     ("delivery", DELIVER, "M_ATTEMPT_AFTER_DELIVERY", "Claim::attempt", "swap::<StartAttempt>(&mut seat, 0, BUSY)", "after `take`"),
-    ("delivery", DELIVER, "M_LEFT_ENDS_DELIVERY", "Sender::deliver", "if self.send_left(by)", "only where nothing was left before"),
+    ("delivery", DELIVER, "M_LEFT_ENDS_DELIVERY", "Sender::deliver", "if !self.send_left(by)", "only where nothing was left before"),
     ("delivery", DELIVER, "M_PARK_LOSES_TOKEN", "run_finisher", "parker.park(rt)", "the token is cleared once it has tried"),
     ("forever", FOREVER, "M_NO_WAKE_AT_HAND_OVER", "Leftover::new", "(Finish::Pending, Deliverer::Reader | Deliverer::Other) => Finish::Again", "left out: the finisher isn't woken"),
     ("forever", FOREVER, "M_GIVES_UP", "Lane::deliver_claimed", "claim.hand_over()", "the lane is idle after MOST_ATTEMPTS"),

@@ -1,7 +1,7 @@
 -- Deliveries, added up.
 use Rattle.std.proofs.Common.{◌≡◌, ℕ, ◌+◌, ◌*◌, ◌==◌, ◌<◌, Bool, true, false, List, [], ◌∷◌, ◌++◌, length, Option, Some, None, Result, Ok, Err, refl, sym, ap, ap₂, subst, ◌∙◌, arith, append_assoc, eq-eqb, ne_eqb}
 use Rattle.std.proofs.lemmas.Bool.{eqb-true}
-use Rattle.std.specs.Prelude.{◌&&◌, if◌then◌else◌, MatchBool, map}
+use Rattle.std.specs.Prelude.{◌&&◌, if◌then◌else◌, is_some, MatchBool, map}
 use Rattle.std.specs.Option.{option_map}
 use Rattle.std.proofs.lemmas.List.{append-nil}
 use Rattle.gm_notes.specs.Settings.{Settings}
@@ -75,13 +75,14 @@ goes_on k taped slot (Err error) seen after called = (called.knows.newer, called
 
 over_more : (c : ℕ) (past : List Past) (seen after : List Entry) → ((n : ℕ) → n < length past + 1 → drains_at n c after ≡ drains_at n c seen) → AreOver c past seen → AreOver c past after
 over_more c [] seen after same over = tt
-over_more c (p ∷ older) seen after same over = (same (length older + 1) (omega arith) ∙ over.0, over_more c older seen after (λ n less. same n (omega (arith, less))) over.1)
+over_more c (p ∷ older) seen after same over = (same (length older + 1) (omega arith) ∙ over.0, over.1, over_more c older seen after (λ n less. same n (omega (arith, less))) over.2)
 
 -- ---- where the connection can be sent to
 
 record IsSending (s : SenderState) (log : List ℕ) : Type 0 where
   pub past : ArePast s.slot s.sendings.past s.sendings.since s.sendings.takes
   pub over : AreOver s.slot s.sendings.past s.seen
+  pub own : s.of ≡ Some (s.slot, s.openings)
   pub unused : (n : ℕ) → s.openings < n → n < most_openings → drains_at n s.slot s.seen ≡ []
   pub written : IsWritten (present s) s.slot s.sendings.since s.sendings.takes s.seen s.takes 0 log s.left
   pub at : s.openings ≡ present s
@@ -90,7 +91,7 @@ record IsSending (s : SenderState) (log : List ℕ) : Type 0 where
 sending : (s : SenderState) (outbound : Outbound) → s.outbound ≡ Some outbound → outbound.state ≡ Open → IsSender s → IsSending s outbound.log
 sending s outbound there state is =
     let so = subst (λ (at : OutboundState). IsOutboundSo s outbound.log at) state (subst (λ (o : Option Outbound). IsOutbound s o) there is.outbound) in
-    record { past = is.past; over = (is.counted so.2).1; unused = is.unused; written = so.0; at = so.1; below = so.2 }
+    record { past = is.past; over = (is.counted so.2).1; own = is.own so.2 (ap is_some there); unused = is.unused; written = so.0; at = so.1; below = so.2 }
 
 -- what is written, and then what is left, is the same
 moved : (n c : ℕ) (since : List Entry) (takes : ℕ) (until : List Entry) (takes_after lost : ℕ) (log left more rest : List ℕ) → log ++ left ≡ more ++ rest
@@ -102,6 +103,7 @@ module _ (s : SenderState) (log : List ℕ) (is : IsSending s log) where
   sends_on more rest same = record {
     past = is.past;
     counted = λ below. (is.at, is.over);
+    own = λ below there. is.own;
     unused = is.unused;
     outbound = (moved (present s) s.slot s.sendings.since s.sendings.takes s.seen s.takes 0 log s.left more rest same is.written, is.at, is.below);
   }
@@ -110,6 +112,7 @@ module _ (s : SenderState) (log : List ℕ) (is : IsSending s log) where
   breaks_off more rest same = record {
     past = is.past;
     counted = λ below. (is.at, is.over);
+    own = λ below there. is.own;
     unused = is.unused;
     outbound = ((rest, 0, moved (present s) s.slot s.sendings.since s.sendings.takes s.seen s.takes 0 log s.left more rest same is.written), refl);
   }
@@ -175,6 +178,7 @@ module _ (s : SenderState) (log : List ℕ) (is : IsSending s log) where
         record {
           past = is.past;
           counted = λ below. (at, still_over none k taped took (Ok drained) seen takes tries asked called (λ m less. other m (λ now. absurd (omega (arith, now, less, at)))));
+          own = λ below there. is.own;
           unused = still_unused none k taped took (Ok drained) seen takes tries asked called (λ m later. other m (λ now. absurd (omega (arith, now, later))));
           outbound = (
             record {
@@ -199,6 +203,7 @@ module _ (s : SenderState) (log : List ℕ) (is : IsSending s log) where
     gives_elsewhere other = record {
       past = is.past;
       counted = λ below. absurd (omega (arith, below));
+      own = λ below there. absurd (omega (arith, below));
       unused = λ m later below. absurd (omega (arith, later, below));
       outbound = (gives_none none k taped took (Ok drained) seen takes tries asked called (ne_eqb drained.opening (present s) (λ now. other (now ∙ sym is.at))), none);
     }
@@ -208,6 +213,7 @@ module _ (s : SenderState) (log : List ℕ) (is : IsSending s log) where
   gives_nothing none k taped took error seen takes tries asked called = record {
     past = is.past;
     counted = λ below. (is.at, still_over none k taped took (Err error) seen takes tries asked called (λ m less. refl));
+    own = λ below there. is.own;
     unused = still_unused none k taped took (Err error) seen takes tries asked called (λ m later. refl);
     outbound = (gives_none none k taped took (Err error) seen takes tries asked called refl, none);
   }
@@ -239,9 +245,9 @@ clear_none s clear = none s.left (and_second (is_open s.outbound) (length s.left
 -- the same, said of what the code has in its hands: the pen before it was asked, between and after
 module _ {P : Type 0} (slot takes tries : P → ℕ) (seen : P → List Entry) (before asked after : P) (slot_is : slot asked ≡ slot before) (seen_is : seen asked ≡ seen before)
     (slot_kept : slot after ≡ slot asked) (takes_kept : takes after ≡ takes asked) (took : Bool) (takes_so : MatchBool took (takes asked ≡ takes before + 1) (takes asked ≡ takes before))
-    (openings : ℕ) (left : List ℕ) {X : Type 0} (f : X → Outbound) (found : Option X) (x : X) (sendings : Sendings) (is_there : found ≡ Some x) where
+    (openings : ℕ) (of : Option (ℕ × ℕ)) (left : List ℕ) {X : Type 0} (f : X → Outbound) (found : Option X) (x : X) (sendings : Sendings) (is_there : found ≡ Some x) where
   abbrev was : SenderState
-  was = record { slot = slot before; openings = openings; seen = seen before; takes = takes before; tries = tries before; left = left; outbound = option_map f found; sendings = sendings }
+  was = record { slot = slot before; openings = openings; of = of; seen = seen before; takes = takes before; tries = tries before; left = left; outbound = option_map f found; sendings = sendings }
 
   abbrev outbound : Outbound
   outbound = f x
@@ -262,24 +268,24 @@ module _ {P : Type 0} (slot takes tries : P → ℕ) (seen : P → List Entry) (
     called_so : (result : Result Drained ApplyError) → PenCalled k taped (slot asked) (slot asked) result (seen asked) (seen after) → PenCalled k taped (slot before) (slot before) result (seen before) (seen after)
     called_so result called = subst (λ (z : ℕ × List Entry). PenCalled k taped z.0 z.0 result z.1 (seen after)) (λ i. (slot_is i, seen_is i)) called
 
-    now_at : (openings : ℕ) (left : List ℕ) (outbound : Outbound) → IsSender (record { slot = slot before; openings = openings; seen = seen after; takes = takes after; tries = tries after; left = left; outbound = Some outbound; sendings = sendings })
-        → IsSender (record { slot = slot after; openings = openings; seen = seen after; takes = takes after; tries = tries after; left = left; outbound = Some outbound; sendings = sendings })
-    now_at opened l at = subst (λ (c : ℕ). IsSender (record { slot = c; openings = opened; seen = seen after; takes = takes after; tries = tries after; left = l; outbound = Some at; sendings = sendings })) (sym (slot_kept ∙ slot_is))
+    now_at : (openings : ℕ) (left : List ℕ) (outbound : Outbound) → IsSender (record { slot = slot before; openings = openings; of = of; seen = seen after; takes = takes after; tries = tries after; left = left; outbound = Some outbound; sendings = sendings })
+        → IsSender (record { slot = slot after; openings = openings; of = of; seen = seen after; takes = takes after; tries = tries after; left = left; outbound = Some outbound; sendings = sendings })
+    now_at opened l at = subst (λ (c : ℕ). IsSender (record { slot = c; openings = opened; of = of; seen = seen after; takes = takes after; tries = tries after; left = l; outbound = Some at; sendings = sendings })) (sym (slot_kept ∙ slot_is))
 
     pub refill_gives : (drained : Drained) → drained.opening ≡ openings → PenCalled k taped (slot asked) (slot asked) (Ok drained) (seen asked) (seen after) → (due : List ℕ) → due ≡ message_of took drained.bytes.bytes
-        → IsSender (record { slot = slot after; openings = openings; seen = seen after; takes = takes after; tries = tries after; left = due; outbound = Some outbound; sendings = sendings })
+        → IsSender (record { slot = slot after; openings = openings; of = of; seen = seen after; takes = takes after; tries = tries after; left = due; outbound = Some outbound; sendings = sendings })
     refill_gives drained here called due dues =
-        subst (λ (z : List ℕ × OutboundState). IsSender (record { slot = slot after; openings = openings; seen = seen after; takes = takes after; tries = tries after; left = z.0; outbound = Some record { state = z.1; log = outbound.log }; sendings = sendings }))
+        subst (λ (z : List ℕ × OutboundState). IsSender (record { slot = slot after; openings = openings; of = of; seen = seen after; takes = takes after; tries = tries after; left = z.0; outbound = Some record { state = z.1; log = outbound.log }; sendings = sendings }))
         (λ i. (sym dues i, sym (clear_open was outbound there clear) i))
         (now_at openings (message_of took drained.bytes.bytes) (record { state = Open; log = outbound.log }) (gives was outbound.log so none_left k taped took drained (seen after) (takes after) (tries after) takes_now (called_so (Ok drained) called) here))
 
     pub refill_elsewhere : (drained : Drained) → (drained.opening ≡ openings → ⊥) → PenCalled k taped (slot asked) (slot asked) (Ok drained) (seen asked) (seen after)
-        → IsSender (record { slot = slot after; openings = most_openings; seen = seen after; takes = takes after; tries = tries after; left = left; outbound = Some record { state = Cut; log = outbound.log }; sendings = sendings })
+        → IsSender (record { slot = slot after; openings = most_openings; of = of; seen = seen after; takes = takes after; tries = tries after; left = left; outbound = Some record { state = Cut; log = outbound.log }; sendings = sendings })
     refill_elsewhere drained other called = now_at most_openings left (record { state = Cut; log = outbound.log })
         (gives_elsewhere was outbound.log so none_left k taped took drained (seen after) (takes after) (tries after) takes_now (called_so (Ok drained) called) other)
 
     pub refill_none : (error : ApplyError) → PenCalled k taped (slot asked) (slot asked) (Err error) (seen asked) (seen after)
-        → IsSender (record { slot = slot after; openings = openings; seen = seen after; takes = takes after; tries = tries after; left = left; outbound = Some record { state = Cut; log = outbound.log }; sendings = sendings })
+        → IsSender (record { slot = slot after; openings = openings; of = of; seen = seen after; takes = takes after; tries = tries after; left = left; outbound = Some record { state = Cut; log = outbound.log }; sendings = sendings })
     refill_none error called = now_at openings left (record { state = Cut; log = outbound.log })
         (gives_nothing was outbound.log so none_left k taped took error (seen after) (takes after) (tries after) takes_now (called_so (Err error) called))
 
@@ -336,6 +342,10 @@ cut_outbound s (Some one) so = at one.state so
     at Finished so = (so.0, refl)
     at Cut so = (so.0, refl)
 
+some_cut : (o : Option Outbound) → is_some (cut o) ≡ is_some o
+some_cut None = refl
+some_cut (Some one) = refl
+
 began_cut : (o : Option Outbound) (past : List Past) → began o past ≡ began (cut o) past
 began_cut None past = refl
 began_cut (Some one) past = refl
@@ -344,22 +354,24 @@ pub cut_keeps : (s : SenderState) → IsSender s → IsSender (record s { left =
 cut_keeps s is = record {
   past = is.past;
   counted = λ below. let so = is.counted below in (so.0 ∙ began_cut s.outbound s.sendings.past, so.1);
+  own = λ below there. is.own below (sym (some_cut s.outbound) ∙ there);
   unused = is.unused;
   outbound = cut_outbound s s.outbound is.outbound;
 }
 
 -- all was sent, where the sending is finished, or goes on and nothing is left
 gone : (s : SenderState) (log : List ℕ) (state : OutboundState) (is_whole : Bool) → IsOutboundSo s log state → (is_whole ≡ true → state ≡ Cut → ⊥) → (is_whole ≡ true → state ≡ Open → s.left ≡ [])
-    → WrittenTo (present s) s.slot (record { since = s.sendings.since; takes = s.sendings.takes; until = s.seen; takes_after = s.takes; log = log; is_whole = is_whole })
+    → WrittenTo (present s) s.slot (record { since = s.sendings.since; takes = s.sendings.takes; until = s.seen; takes_after = s.takes; of = s.of; log = log; is_whole = is_whole })
 gone s log Open is_whole so wasnt all = record { rest = s.left; lost = 0; is_written = so.0; whole = λ w. (all w refl, refl) }
 gone s log Finished is_whole so wasnt all = record { rest = []; lost = 0; is_written = so.0; whole = λ w. (refl, refl) }
 gone s log Cut is_whole so wasnt all = record { rest = so.0.0; lost = so.0.1; is_written = so.0.2; whole = λ w. absurd (wasnt w refl) }
 
 pub let_go_keeps : (s : SenderState) (outbound : Outbound) (is_whole : Bool) → s.outbound ≡ Some outbound → IsSender s → (is_whole ≡ true → outbound.state ≡ Cut → ⊥) → (is_whole ≡ true → outbound.state ≡ Open → s.left ≡ [])
-    → IsSender (record s { left = []; outbound = None; sendings = closed s.seen s.takes outbound.log is_whole s.sendings })
+    → IsSender (record s { left = []; outbound = None; sendings = closed s.seen s.takes s.of outbound.log is_whole s.sendings })
 let_go_keeps s outbound is_whole there is wasnt all = record {
   past = (refl, refl, gone s outbound.log outbound.state is_whole (subst (λ (o : Option Outbound). IsOutbound s o) there is.outbound) wasnt all, is.past);
-  counted = λ below. let so = is.counted below in let count : s.openings ≡ length s.sendings.past + 1 = so.0 ∙ ap (λ o. began o s.sendings.past) there in (omega arith, (refl, so.1));
+  counted = λ below. let so = is.counted below in let count : s.openings ≡ length s.sendings.past + 1 = so.0 ∙ ap (λ o. began o s.sendings.past) there in (omega arith, (refl, is.own below (ap is_some there) ∙ ap (λ (n : ℕ). Some (s.slot, n)) count, so.1));
+  own = λ below there. absurd cc;
   unused = is.unused;
   outbound = (refl, refl, refl);
 }
@@ -378,25 +390,25 @@ no_noops : (drains : List (List ℕ)) → takes_in (without_noops drains) ≡ 0
 no_noops [] = refl
 no_noops (gave ∷ drains) = let rest = no_noops drains in omega arith
 
-pub begin_keeps : (s : SenderState) (opening after : ℕ) (begins : Bool) (state : OutboundState) (log : List ℕ) → BeginsIf begins opening s.openings after → s.outbound ≡ None → state ≡ state_if begins → log ≡ []
-    → IsSender s → IsSender (record s { openings = after; outbound = Some record { state = state; log = log } })
-begin_keeps s opening after begins state log b alone states logs is =
-    subst (λ (z : OutboundState × List ℕ). IsSender (record s { openings = after; outbound = Some record { state = z.0; log = z.1 } })) (λ i. (sym states i, sym logs i)) (by begins b)
+pub begin_keeps : (s : SenderState) (of : Option (ℕ × ℕ)) (after : ℕ) (begins : Bool) (state : OutboundState) (log : List ℕ) → BeginsIf begins of s.slot s.openings after → s.outbound ≡ None → state ≡ state_if begins → log ≡ []
+    → IsSender s → IsSender (record s { openings = after; of = of; outbound = Some record { state = state; log = log } })
+begin_keeps s of after begins state log b alone states logs is =
+    subst (λ (z : OutboundState × List ℕ). IsSender (record s { openings = after; of = of; outbound = Some record { state = z.0; log = z.1 } })) (λ i. (sym states i, sym logs i)) (by begins b)
   where
     before : (s.seen ≡ s.sendings.since) × (s.takes ≡ s.sendings.takes) × (s.left ≡ [])
     before = subst (λ (o : Option Outbound). IsOutbound s o) alone is.outbound
 
-    by : (begins : Bool) → BeginsIf begins opening s.openings after → IsSender (record s { openings = after; outbound = Some record { state = state_if begins; log = [] } })
+    by : (begins : Bool) → BeginsIf begins of s.slot s.openings after → IsSender (record s { openings = after; of = of; outbound = Some record { state = state_if begins; log = [] } })
     by true b =
-        let next = b.next in
-        let under = b.below in
-        let known = b.known in
-        let so = is.counted (omega arith) in
+        let under = b.0.1 in
+        let known = b.1 in
+        let so = is.counted (omega (arith, under)) in
         let count : s.openings ≡ length s.sendings.past = so.0 ∙ ap (λ o. began o s.sendings.past) alone in
-        let at : opening ≡ length s.sendings.past + 1 = omega arith in
+        let at : s.openings + 1 ≡ length s.sendings.past + 1 = omega (arith, count) in
         record {
           past = is.past;
           counted = λ below. (known ∙ at, so.1);
+          own = λ below there. b.0.0 ∙ ap (λ (n : ℕ). Some (s.slot, n)) (sym known);
           unused = λ n later below. is.unused n (omega (arith, later)) below;
           outbound = (
             record {
@@ -404,7 +416,7 @@ begin_keeps s opening after begins state log b alone states logs is =
               are = record {
                 newer = [];
                 goes_on = before.0;
-                drained = subst (λ (n : ℕ). drains_at n s.slot s.seen ≡ []) at (is.unused opening (omega arith) under);
+                drained = subst (λ (n : ℕ). drains_at n s.slot s.seen ≡ []) at (is.unused (s.openings + 1) (omega arith) under);
                 taken = (let t = before.1 in omega arith);
               };
               whole = sym before.2;
@@ -418,8 +430,9 @@ begin_keeps s opening after begins state log b alone states logs is =
         let messages = without_noops drains in
         record {
           past = is.past;
-          counted = λ below. absurd (omega (arith, below, b.0));
-          unused = λ m later below. absurd (omega (arith, later, below, b.0));
+          counted = λ below. absurd (omega (arith, below, b.1));
+          own = λ below there. absurd (omega (arith, below, b.1));
+          unused = λ m later below. absurd (omega (arith, later, below, b.1));
           outbound = (
             (
               sent_by messages,

@@ -1,5 +1,5 @@
 -- What a slot's connections were sent: what its pen was given, and what was written.
-use Rattle.std.specs.Prelude.{◌≡◌, ℕ, ◌+◌, ◌*◌, ◌==◌, ◌&&◌, Bool, true, if◌then◌else◌, List, [], ◌∷◌, ◌++◌, length, map}
+use Rattle.std.specs.Prelude.{◌≡◌, ℕ, ◌+◌, ◌*◌, ◌==◌, ◌&&◌, Bool, true, if◌then◌else◌, List, [], ◌∷◌, ◌++◌, length, map, Option, Some}
 use Rattle.gm_shared.specs.declared.tape.Answer.{Answer}
 use Rattle.gm_shared.specs.declared.tape.Answer.TheVariants as answers
 use Rattle.gm_shared.specs.declared.tape.Entry.{Entry}
@@ -72,15 +72,15 @@ abbrev pub ArePast : ℕ → List Past → List Entry → ℕ → Type 0
 ArePast c [] seen takes = (seen ≡ []) × (takes ≡ 0)
 ArePast c (p ∷ older) seen takes = (seen ≡ p.until) × (takes ≡ p.takes_after) × WrittenTo (length older + 1) c p × ArePast c older p.since p.takes
 
--- Since each of them went, the pen was given nothing more at its opening.
+-- Since each of them went, the pen was given nothing more at its opening, to which its half of a socket was assigned.
 abbrev pub AreOver : ℕ → List Past → List Entry → Type 0
 AreOver c [] seen = Unit {0}
-AreOver c (p ∷ older) seen = (drains_at (length older + 1) c seen ≡ drains_at (length older + 1) c p.until) × AreOver c older seen
+AreOver c (p ∷ older) seen = (drains_at (length older + 1) c seen ≡ drains_at (length older + 1) c p.until) × (p.of ≡ Some (c, length older + 1)) × AreOver c older seen
 
 abbrev pub no_sendings : Sendings
 no_sendings = record { past = []; since = []; takes = 0 }
 
--- a connection more is gone, to which this was written, all of what was due or not
-abbrev pub closed : List Entry → ℕ → List ℕ → Bool → Sendings → Sendings
-closed seen takes log is_whole sendings =
-    record { past = record { since = sendings.since; takes = sendings.takes; until = seen; takes_after = takes; log = log; is_whole = is_whole } ∷ sendings.past; since = seen; takes = takes }
+-- a connection more is gone, whose half was assigned so, to which this was written, all of what was due or not
+abbrev pub closed : List Entry → ℕ → Option (ℕ × ℕ) → List ℕ → Bool → Sendings → Sendings
+closed seen takes of log is_whole sendings =
+    record { past = record { since = sendings.since; takes = sendings.takes; until = seen; takes_after = takes; of = of; log = log; is_whole = is_whole } ∷ sendings.past; since = seen; takes = takes }

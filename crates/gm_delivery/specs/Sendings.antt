@@ -1,5 +1,5 @@
 -- What is sent to a slot's connection, and what is known of all that was.
-use Rattle.std.specs.Prelude.{◌≡◌, ◌<◌, ◌+◌, ◌==◌, ◌&&◌, ◌||◌, ℕ, Bool, true, false, if◌then◌else◌, MatchBool, List, [], ◌++◌, length, Option, Some, None, is_some, Result, Ok, Err}
+use Rattle.std.specs.Prelude.{◌≡◌, ◌<◌, ◌+◌, ◌==◌, ◌&&◌, ◌||◌, ℕ, Bool, true, false, if◌then◌else◌, not, MatchBool, List, [], ◌++◌, length, Option, Some, None, is_some, Result, Ok, Err}
 use Rattle.gm_notes.specs.Settings.{Settings}
 use Rattle.gm_notes.specs.declared.event.ApplyError.{ApplyError}
 use Rattle.gm_shared.specs.declared.receipt.Drained.{Drained}
@@ -9,10 +9,10 @@ use Rattle.gm_shared.specs.Openings.{most_openings}
 use Rattle.gm_delivery.specs.declared.account.Sendings.{Sendings}
 use Rattle.gm_delivery.specs.declared.account.Past.{Past}
 use Rattle.gm_delivery.specs.declared.life.Deed.{Deed}
-use Rattle.gm_delivery.specs.declared.life.Deed.TheVariants.{HangUp}
+use Rattle.gm_delivery.specs.declared.life.Deed.TheVariants.{Serve, HangUp}
 use Rattle.gm_delivery.specs.declared.life.OutboundState.{OutboundState}
 use Rattle.gm_delivery.specs.declared.life.OutboundState.TheVariants.{Open, Finished, Cut}
-use Rattle.gm_delivery.specs.Lives.{state_if, cut_state}
+use Rattle.gm_delivery.specs.Lives.{deed_of, state_if, cut_state}
 use Rattle.gm_delivery.specs.Messages.{message_of}
 use Rattle.gm_delivery.specs.Accounts.{drains_at, IsWritten, IsPrefixWritten, ArePast, AreOver, closed}
 
@@ -21,11 +21,12 @@ pub record Outbound : Type 0 where
   pub state : OutboundState
   pub log : List ℕ
 
--- the pen's slot, how many connections began there, what the pen has seen of the history, how many NOOPs it took and how often it tried; what is left
--- to be sent, to which connection, and the account of those that are gone
+-- the pen's slot, how many connections began there, the slot and opening to which the last one's half of a socket was assigned, what the pen has seen of
+-- the history, how many NOOPs it took and how often it tried; what is left to be sent, to which connection, and the account of those that are gone
 pub record SenderState : Type 0 where
   pub slot : ℕ
   pub openings : ℕ
+  pub of : Option (ℕ × ℕ)
   pub seen : List Entry
   pub takes : ℕ
   pub tries : ℕ
@@ -54,11 +55,12 @@ abbrev pub began : Option Outbound → List Past → ℕ
 began None past = length past
 began (Some outbound) past = length past + 1
 
--- Each connection that began is counted, and at the openings of those that are gone the pen is given no more, unless the count can't tell. At later
+-- Each connection that began is counted, the one that is there is of the last opening, and at the openings of those that are gone the pen is given no more, unless the count can't tell. At later
 -- openings it was given nothing yet.
 pub record IsSender (s : SenderState) : Type 0 where
   pub past : ArePast s.slot s.sendings.past s.sendings.since s.sendings.takes
   pub counted : s.openings < most_openings → (s.openings ≡ began s.outbound s.sendings.past) × AreOver s.slot s.sendings.past s.seen
+  pub own : s.openings < most_openings → is_some s.outbound ≡ true → s.of ≡ Some (s.slot, s.openings)
   pub unused : (n : ℕ) → s.openings < n → n < most_openings → drains_at n s.slot s.seen ≡ []
   pub outbound : IsOutbound s s.outbound
 
@@ -159,6 +161,14 @@ pub record Delivers (k : Settings) (taped ends : Bool) (old new : SenderState) :
 abbrev pub cut_off : SenderState → SenderState
 cut_off s = record s { left = []; outbound = cut s.outbound }
 
+-- what is to be done next, where its time is over or not, and its input ended or not; nothing where there is no connection
+abbrev pub deed_for : Option Outbound → Bool → Bool → Bool → Deed
+deed_for None clear over ended = Serve
+deed_for (Some outbound) clear over ended = deed_of outbound.state over (not clear) ended
+
+abbrev pub deed_after : SenderState → Bool → Bool → Deed
+deed_after s over ended = deed_for s.outbound (is_clear s) over ended
+
 -- what is to be done next is left to others, but for hanging up
 abbrev pub next_by : Deed → SenderState → SenderState
 next_by HangUp s = cut_off s
@@ -166,7 +176,7 @@ next_by deed s = s
 
 abbrev pub sendings_without : SenderState → Option Outbound → Bool → Sendings
 sendings_without s None is_whole = s.sendings
-sendings_without s (Some outbound) is_whole = closed s.seen s.takes outbound.log is_whole s.sendings
+sendings_without s (Some outbound) is_whole = closed s.seen s.takes s.of outbound.log is_whole s.sendings
 
 abbrev pub if_whole : Option Bool → Bool
 if_whole None = false
@@ -177,19 +187,18 @@ pub record IsLetGo (result : Option Bool) (old new : SenderState) : Type 0 where
   pub after : new ≡ record old { left = []; outbound = None; sendings = sendings_without old old.outbound (if_whole result) }
   pub there : is_some result ≡ is_some old.outbound
 
--- the connection of the next opening of a slot begins, where a count of 64 bits can tell it from the one after it
-pub record Begins (opening old new : ℕ) : Type 0 where
-  pub next : opening ≡ old + 1
-  pub below : opening < most_openings
-  pub known : new ≡ opening
+-- A half was assigned to the opening of this slot that comes after this many, where a count of 64 bits can tell it from the one after it.
+abbrev pub IsNext : Option (ℕ × ℕ) → ℕ → ℕ → Type 0
+IsNext of slot openings = (of ≡ Some (slot, openings + 1)) × (openings + 1 < most_openings)
 
--- it does exactly where it may, and once it doesn't none does
-abbrev pub BeginsIf : Bool → ℕ → ℕ → ℕ → Type 0
-BeginsIf true opening old new = Begins opening old new
-BeginsIf false opening old new = (new ≡ most_openings) × (opening ≡ old + 1 → opening < most_openings → ⊥)
+-- its connection begins exactly then, and once one doesn't none does
+abbrev pub BeginsIf : Bool → Option (ℕ × ℕ) → ℕ → ℕ → ℕ → Type 0
+BeginsIf true of slot old new = IsNext of slot old × (new ≡ old + 1)
+BeginsIf false of slot old new = (IsNext of slot old → ⊥) × (new ≡ most_openings)
 
--- The connection of this opening is there: it can be sent to, or, where its opening isn't the next one, it is cut.
-pub record IsBegun (begins : Bool) (opening : ℕ) (old new : SenderState) : Type 0 where
-  pub begins_if : BeginsIf begins opening old.openings new.openings
+-- The connection is there whose half was assigned so: it can be sent to, or, where that isn't the next opening, it is cut.
+pub record IsBegun (begins : Bool) (of : Option (ℕ × ℕ)) (old new : SenderState) : Type 0 where
+  pub begins_if : BeginsIf begins of old.slot old.openings new.openings
+  pub of_is : new.of ≡ of
   pub outbound : new.outbound ≡ Some record { state = state_if begins; log = [] }
-  pub lets_go : (whole : Option Bool) × IsLetGo whole old (record new { openings = old.openings; outbound = None })
+  pub lets_go : (whole : Option Bool) × IsLetGo whole old (record new { openings = old.openings; of = old.of; outbound = None })

@@ -10,14 +10,15 @@ use std::alloc::{AllocError, Global};
 use std::collections::LinkedList;
 use std::marker::{Brand, Model};
 
-/// A connection that is gone: what its slot's pen had seen of the history when it came and when it went, how many NOOPs the pen had taken then, all
-/// that was written to it, and whether that is all that the pen gave. No value is made.
+/// A connection that is gone: what its slot's pen had seen of the history when it came and when it went, how many NOOPs the pen had taken then, the
+/// slot and opening to which its half of a socket was assigned, all that was written to it, and whether that is all that the pen gave. No value is made.
 #[derive(Drop)]
 pub struct Past {
     pub since: LinkedList<Entry>,
     pub takes: u64,
     pub until: LinkedList<Entry>,
     pub takes_after: u64,
+    pub of: Option<(u32, u64)>,
     pub log: LinkedList<u8>,
     pub is_whole: bool,
 }
@@ -65,11 +66,19 @@ impl Ledger {
         Ok(Ledger { cell })
     }
 
-    /// Enters a connection that is gone, with what was written to it, and whether that is all.
-    pub(crate) fn close<K: BookName>(&mut self, pen: &Pen<K>, half: &WriteHalf, is_whole: bool)
-        ensures { self.new ≡ closed pen.now.witness.seen pen.now.seat.takes half.now.socket.2 is_whole self.old }
+    /// Enters a connection that is gone, whose half was assigned to this slot and opening, with what was written to it, and whether that is all.
+    pub(crate) fn close<K: BookName>(
+        &mut self,
+        pen: &Pen<K>,
+        of: Option<(u32, u64)>,
+        half: &WriteHalf,
+        is_whole: bool,
+    )
+        ensures { self.new ≡ closed pen.now.witness.seen pen.now.seat.takes of half.now.socket.2 is_whole self.old }
     {
         self.cell
-            .update::<(&Pen<K>, &WriteHalf, bool), Brand>(&(pen, half, is_whole));
+            .update::<(&Pen<K>, Option<(u32, u64)>, &WriteHalf, bool), Brand>(&(
+                pen, of, half, is_whole,
+            ));
     }
 }

@@ -65,7 +65,8 @@ impl<'a, K: BookName, R> Writing<'a, K, R> {
 #[derive(Drop)]
 pub struct Lane<K: BookName> {
     slot: u32,
-    word: LaneWord,
+    // It is given up only for a delivery.
+    word: LaneWord<Delivered>,
     sender: Mutex<Sender<K>>,
     /// What is asked of the connection.
     asked: Stage,
@@ -102,12 +103,11 @@ impl<K: BookName> Lane<K> {
         sender.into_inner().into_parts()
     }
 
-    /// Takes the connection for which the slot was opened this often. The last one left the lane to its finisher, so a thread has to try before touches
+    /// Takes a connection, which is cut unless its half was assigned to the slot's next opening. The last one left the lane to its finisher, so a thread has to try before touches
     /// count.
     pub fn open<R: Wait + Clock>(
         &self,
         context: &DeliveryContext<'_, K, R>,
-        opening: u64,
         half: WriteHalf,
     ) -> Leftover
         requires { half.socket.2 ≡ [] }
@@ -115,20 +115,20 @@ impl<K: BookName> Lane<K> {
     {
         // Modelled in models/lane.h.
         self.asked.restart();
-        self.sender.lock(context.rt).begin(opening, half);
+        self.sender.lock(context.rt).begin(half);
         match self.word.take_over() {
             Ok(claim) => self.deliver_claimed(context, claim, Deliverer::Other),
             Err(_) => self.left(Finish::Idle, Deliverer::Other),
         }
     }
 
-    /// Takes the connection for which the slot was opened this often, and lets go of it at once, as nobody serves it.
-    pub fn refuse(&self, rt: &impl Wait, opening: u64, half: WriteHalf)
+    /// Takes a connection, and lets go of it at once, as nobody serves it.
+    pub fn refuse(&self, rt: &impl Wait, half: WriteHalf)
         requires { half.socket.2 ≡ [] }
     {
         // Modelled in models/endings.pml and shutdown.pml.
         let mut sender = self.sender.lock(rt);
-        sender.begin(opening, half);
+        sender.begin(half);
         sender.let_go();
     }
 
@@ -221,7 +221,7 @@ impl<K: BookName> Lane<K> {
     fn deliver_claimed<'a, R: Wait + Clock>(
         &'a self,
         context: &DeliveryContext<'_, K, R>,
-        claim: Claim<'a>,
+        claim: Claim<'a, Delivered>,
         deliverer: Deliverer,
     ) -> Leftover
         requires { claim.lane ≡ self.now.word }
@@ -233,13 +233,15 @@ impl<K: BookName> Lane<K> {
             let (attempt, outcome) = claim.attempt(|attempt| self.attempt(
                 context, attempt, deliverer,
             ));
-            if let Err(finish) = outcome {
-                let _tally = attempt.hand_over();
-                return self.left(finish, deliverer);
-            }
-            match attempt.finish() {
-                Ok(_) => return self.left(Finish::Idle, deliverer),
-                Err(again) => claim = again,
+            match outcome {
+                Ok(delivered) => match attempt.finish(delivered) {
+                    Ok(_) => return self.left(Finish::Idle, deliverer),
+                    Err(again) => claim = again,
+                },
+                Err(finish) => {
+                    let _tally = attempt.hand_over();
+                    return self.left(finish, deliverer);
+                }
             }
         }
         let _tally = claim.hand_over();
@@ -251,7 +253,7 @@ impl<K: BookName> Lane<K> {
     fn attempt<R: Wait + Clock>(
         &self,
         context: &DeliveryContext<'_, K, R>,
-        _attempt: &Attempt<'_>,
+        _attempt: &Attempt<'_, Delivered>,
         deliverer: Deliverer,
     ) -> Result<Delivered, Finish>
         requires { _attempt.now.lane ≡ self.now.word }
@@ -272,7 +274,7 @@ impl<K: BookName> Lane<K> {
         let has_ended = self.asked.has_reached(INPUT_ENDED);
         let ends = by.is_ending() && !has_ended;
         let delivered = sender.deliver(context.rt, context.shared, &by, ends);
-        match sender.next(&by, has_ended) {
+        match sender.next(&by, &delivered, has_ended) {
             Deed::Serve | Deed::HangUp => Ok(delivered),
             // A write that may wait has waited. The system reports that a socket takes bytes again only after one that it took in part.
             Deed::Send if patience == Patience::Waits || sender.takes_more() => Err(Finish::Again),

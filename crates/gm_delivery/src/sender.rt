@@ -1,9 +1,9 @@
 //! What is to be sent to a slot's connections, and where.
 
-ghost use Rattle.std.specs.Prelude.{◌≡◌, ◌<◌, [], length, None, true, IfOk};
+ghost use Rattle.std.specs.Prelude.{◌≡◌, ◌<◌, [], length, Bool, None, true, IfOk, MatchBool};
 ghost use Rattle.gm_shared.specs.Openings.{most_openings};
 ghost use Rattle.gm_delivery.specs.Accounts.{no_sendings, ArePast, AreOver};
-ghost use Rattle.gm_delivery.specs.Sendings.{is_clear, SendsLeft, Refills, finished, Delivers, next_by, IsLetGo, IsBegun};
+ghost use Rattle.gm_delivery.specs.Sendings.{is_clear, SendsLeft, Refills, finished, Delivers, deed_after, next_by, IsLetGo, IsNext, IsBegun};
 
 use crate::account::Ledger;
 use crate::lane::Writing;
@@ -18,10 +18,11 @@ use std::net::Shutdown;
 use std::sync::Wait;
 use std::time::Clock;
 
-/// That a delivery was made. Only `Sender::deliver` makes it, and a lane is given up only for it.
+/// That a delivery was made. Only `Sender::deliver` makes it, and a lane's word is given up only for it.
 #[derive(Drop)]
 pub struct Delivered {
-    _made: (),
+    // Whether the connection can be sent to, and nothing is left for it.
+    is_clear: bool,
 }
 
 /// What is to be sent to a slot's connections, and where. Contracts see what its pen has seen and taken, what is left to be sent, what
@@ -32,6 +33,8 @@ pub struct Sender<K: BookName> {
     /// How many connections began, each for the next opening of its slot; the greatest `u64` once one didn't, or a drain was of another
     /// opening.
     openings: u64,
+    /// The slot and opening to which the last connection's half was assigned.
+    of: Option<(u32, u64)>,
     /// What is left of the present message.
     left: Option<Message>,
     /// The connection, until it is let go of.
@@ -49,6 +52,7 @@ impl<K: BookName> Model for Sender<K> {
     ghost view = { λ s. record {
       slot = s.pen.slot;
       openings = s.openings;
+      of = s.of;
       seen = s.pen.witness.seen;
       takes = s.pen.seat.takes;
       tries = s.pen.seat.tries;
@@ -60,6 +64,7 @@ impl<K: BookName> Model for Sender<K> {
     ghost invariant = { λ s. IsSender (record {
       slot = s.pen.slot;
       openings = s.openings;
+      of = s.of;
       seen = s.pen.witness.seen;
       takes = s.pen.seat.takes;
       tries = s.pen.seat.tries;
@@ -67,6 +72,18 @@ impl<K: BookName> Model for Sender<K> {
       outbound = option_map (λ c. record { state = c.life.state; log = c.socket.2 }) s.connection;
       sendings = s.ledger;
     }) };
+}
+
+/// Whether a half was assigned to the opening of this slot that comes after this many, which a count of 64 bits can tell from the one after it.
+fn is_next(of: Option<(u32, u64)>, slot: u32, openings: u64) -> bool
+    ensures { MatchBool result (IsNext of slot openings) (IsNext of slot openings → ⊥) }
+{
+    match of {
+        Some((own, opening)) => {
+            own == slot && openings < u64::MAX - 1 && opening == openings + 1
+        }
+        None => false,
+    }
 }
 
 impl<K: BookName> Sender<K> {
@@ -78,23 +95,24 @@ impl<K: BookName> Sender<K> {
         Ok(Sender {
             pen,
             openings: 0,
+            of: None,
             left: None,
             connection: None,
             ledger: Ledger::new(alloc)?,
         })
     }
 
-    /// Takes the connection for which the slot was opened this often, and lets go of one that is there. It says whether the connection can be
-    /// sent to: only if this is the next opening, and a count of 64 bits can tell it from the one after it. Else it is cut, and so is each that
-    /// comes after it.
-    pub fn begin(&mut self, opening: u64, mut half: WriteHalf) -> bool
+    /// Takes a connection, and lets go of one that is there. It says whether the connection can be sent to: only if its half was assigned to the
+    /// slot's next opening, and a count of 64 bits can tell that from the one after it. Else it is cut, and so is each that comes after it.
+    pub fn begin(&mut self, mut half: WriteHalf) -> bool
         requires { half.socket.2 ≡ [] }
-        ensures { IsBegun result opening self.old self.new }
+        ensures { IsBegun result half.of self.old self.new }
     {
         // Modelled in models/lane.h.
         self.let_go();
-        let begins = self.openings < u64::MAX - 1 && opening == self.openings + 1;
-        self.openings = if begins { opening } else { u64::MAX };
+        let begins = is_next(half.of, self.pen.slot(), self.openings);
+        self.openings = if begins { self.openings + 1 } else { u64::MAX };
+        self.of = half.of;
         half.life = Life::new(begins);
         self.connection = Some(half);
         begins
@@ -112,17 +130,22 @@ impl<K: BookName> Sender<K> {
     ) -> Delivered
     where
         WriteHalf: Wire<E>,
-        ensures { Delivers K.settings K.taped ends self.old self.new }
+        ensures delivers { Delivers K.settings K.taped ends self.old self.new }
+        ensures clear { result.is_clear ≡ is_clear self.new }
     {
         // Modelled in models/lane.h.
-        if self.send_left(by)
-            && let Some(is_shut) = self.refill(rt, shared)
-            && self.send_left(by)
-            && (is_shut || ends)
-        {
-            self.finish();
+        if !self.send_left(by) {
+            return Delivered { is_clear: false };
         }
-        Delivered { _made: () }
+        let Some(is_shut) = self.refill(rt, shared) else {
+            return Delivered { is_clear: false };
+        };
+        let is_clear = self.send_left(by);
+        if is_clear && (is_shut || ends) {
+            self.finish();
+            return Delivered { is_clear: false };
+        }
+        Delivered { is_clear }
     }
 
     /// Sends what is left of the present message. It says whether the connection can be sent to, and nothing is left.
@@ -181,15 +204,22 @@ impl<K: BookName> Sender<K> {
         half.shut(Shutdown::Write);
     }
 
-    /// What is to be done for the connection next, whose input ended or not. Hanging up is done here: then it is sent nothing more, and nothing is
-    /// read from it.
-    pub(crate) fn next<R: Clock>(&mut self, by: &Writing<'_, K, R>, has_ended: bool) -> Deed
-        ensures { self.new ≡ next_by result self.old }
+    /// What is to be done for the connection after a delivery, whose input ended or not. Hanging up is done here: then it is sent nothing more,
+    /// and nothing is read from it.
+    pub(crate) fn next<R: Clock>(
+        &mut self,
+        by: &Writing<'_, K, R>,
+        delivered: &Delivered,
+        has_ended: bool,
+    ) -> Deed
+        requires { delivered.now.is_clear ≡ is_clear self.old }
+        ensures deed { (over : Bool) × (result ≡ deed_after self.old over has_ended) }
+        ensures done { self.new ≡ next_by result self.old }
     {
         // Modelled in models/lane.h.
         match &mut self.connection {
             Some(half) => {
-                let deed = half.next(by, self.left.is_some(), has_ended);
+                let deed = half.next(by, !delivered.is_clear, has_ended);
                 if deed == Deed::HangUp {
                     self.left = None;
                 }
@@ -220,7 +250,7 @@ impl<K: BookName> Sender<K> {
             OutboundState::Finished => true,
             OutboundState::Cut => false,
         };
-        self.ledger.close(&self.pen, &half, is_whole);
+        self.ledger.close(&self.pen, self.of, &half, is_whole);
         self.left = None;
         Some(is_whole)
     }

@@ -1,7 +1,7 @@
 //! The two halves of a connection's socket: what only reads, and what only writes. No other code reads from it or writes to it, and each
 //! does so by one call of the system.
 
-ghost use Rattle.std.specs.Prelude.{◌≡◌, ◌&&◌, ◌==◌, [], length, false, IfOk};
+ghost use Rattle.std.specs.Prelude.{◌≡◌, ◌&&◌, ◌==◌, [], length, false, Some, None, IfOk};
 ghost use Rattle.gm_delivery.specs.Lives.{deed_of, state_by};
 ghost use Rattle.gm_delivery.specs.Messages.{left_in};
 ghost use Rattle.gm_delivery.specs.Sendings.{SendsPart, can_send};
@@ -96,9 +96,19 @@ pub struct WriteHalf {
     /// Whether the last write took all, so that the next one may take some at once.
     pub(crate) takes_more: bool,
     pub(crate) life: Life,
+    /// The slot, and which of its openings, that it is assigned to.
+    pub(crate) of: Option<(u32, u64)>,
 }
 
 impl WriteHalf {
+    /// Assigns it to an opening of a slot, once.
+    pub fn assign_to(&mut self, slot: u32, opening: u64)
+        requires { self.old.of ≡ None }
+        ensures { self.new ≡ record self.old { of = Some (slot, opening) } }
+    {
+        self.of = Some((slot, opening));
+    }
+
     /// Sends what is left of a message, as much of it as the peer takes. If it can't be sent any more, the connection is cut, and nothing is left. It
     /// says whether the connection can be sent to, and nothing is left.
     pub(crate) fn send<E>(&mut self, left: &mut Option<Message>, by: &E) -> bool
@@ -195,9 +205,10 @@ impl<'a, K: BookName, R: Wait + Clock> Wire<Writing<'a, K, R>> for WriteHalf {
     }
 }
 
-/// The halves of a connection's socket, to which nothing was written yet. An error means that there was no memory for them.
+/// The halves of a connection's socket, to which nothing was written yet, and which are assigned to no opening. An error means that there was no memory for them.
 pub fn split(alloc: Global, stream: TcpStream) -> Result<(ReadHalf, WriteHalf), AllocError>
     ensures unwritten { IfOk result (λ halves. halves.1.socket.2 ≡ []) }
+    ensures unassigned { IfOk result (λ halves. halves.1.of ≡ None) }
     ensures reads { IfOk result (λ halves. halves.0.stream.value ≡ stream) }
     ensures writes { IfOk result (λ halves. halves.1.socket.0.stream.value ≡ stream) }
 {
@@ -209,6 +220,7 @@ pub fn split(alloc: Global, stream: TcpStream) -> Result<(ReadHalf, WriteHalf), 
             socket: LoggedWriter::new(alloc, Socket { stream: writing })?,
             takes_more: true,
             life: Life::new(true),
+            of: None,
         },
     ))
 }

@@ -15,12 +15,12 @@ use std::marker::Model;
 /// Has the lane, and has begun an attempt. It can't be dropped: it ends the attempt, or hands the lane over.
 ///
 /// Contracts see which lane, and what was done at it.
-pub struct Attempt<'a> {
-    pub(crate) word: &'a LaneWord,
+pub struct Attempt<'a, T> {
+    pub(crate) word: &'a LaneWord<T>,
     pub(crate) seat: Seat<(), LaneView>,
 }
 
-impl<'a> Model for Attempt<'a> {
+impl<'a, T> Model for Attempt<'a, T> {
     ghost use Rattle.gm_lane_word.specs.declared.view.Hold.TheVariants.{Attempts};
     ghost use Rattle.gm_lane_word.specs.Seats.{Count, count_of, SitsAt};
 
@@ -31,10 +31,10 @@ impl<'a> Model for Attempt<'a> {
     ghost invariant = { λ l. SitsAt Attempts l.word.now l.seat };
 }
 
-impl<'a> Attempt<'a> {
-    /// Ends the attempt, and gives the lane up. An error means that the lane was touched since the attempt began: the caller
-    /// still has it, and owes another attempt.
-    pub fn finish(self) -> Result<Tally, Claim<'a>>
+impl<'a, T: Drop> Attempt<'a, T> {
+    /// Ends the attempt, which took what was queued, and gives the lane up. An error means that the lane was touched since the attempt began:
+    /// the caller still has it, and owes another attempt.
+    pub fn finish(self, _taken: T) -> Result<Tally, Claim<'a, T>>
         ensures { MatchResult result (λ tally. tally ≡ self.entry) (λ claim. claim ≡ self.entry) }
     {
         // Modelled in models/lane.h.

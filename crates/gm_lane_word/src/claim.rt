@@ -15,12 +15,12 @@ use std::marker::Model;
 /// Has the lane, and owes it an attempt. It can't be dropped: it begins an attempt, or hands the lane over.
 ///
 /// Contracts see which lane, and what was done at it.
-pub struct Claim<'a> {
-    pub(crate) word: &'a LaneWord,
+pub struct Claim<'a, T> {
+    pub(crate) word: &'a LaneWord<T>,
     pub(crate) seat: Seat<(), LaneView>,
 }
 
-impl<'a> Model for Claim<'a> {
+impl<'a, T> Model for Claim<'a, T> {
     ghost use Rattle.gm_lane_word.specs.declared.view.Hold.TheVariants.{Claims};
     ghost use Rattle.gm_lane_word.specs.Seats.{Count, count_of, SitsAt};
 
@@ -31,10 +31,10 @@ impl<'a> Model for Claim<'a> {
     ghost invariant = { λ o. SitsAt Claims o.word.now o.seat };
 }
 
-impl<'a> Claim<'a> {
+impl<'a, T> Claim<'a, T> {
     /// Begins an attempt, which follows all touches so far, and then runs `take` once, which takes what is queued. `take` is
     /// lent the `Attempt`, which there can't be before the attempt began, and the lane can't be given up before `take` returns.
-    pub fn attempt<T, F: FnOnce(&Attempt<'a>) -> T>(self, take: F) -> (Attempt<'a>, T)
+    pub fn attempt<X, F: FnOnce(&Attempt<'a, T>) -> X>(self, take: F) -> (Attempt<'a, T>, X)
         requires { FnOnceTakesAt F.FnOnce take (with_attempt self) }
         ensures begun { result.0 ≡ with_attempt self.entry }
         ensures taken { FnOnceReturnsAt F.FnOnce take (with_attempt self.entry) result.1 }

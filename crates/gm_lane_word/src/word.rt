@@ -11,7 +11,7 @@ use crate::tally::Tally;
 use crate::view::LaneView;
 use atomic_table::Table;
 use std::alloc::{AllocError, Global};
-use std::marker::Model;
+use std::marker::{Model, PhantomData};
 
 // Nobody has the lane, and no touch is without an attempt.
 pub(crate) const IDLE: u64 = 0;
@@ -25,13 +25,15 @@ pub(crate) const CLAIMED: u64 = 2;
 // The slot's finisher is to take the lane over.
 pub(crate) const LEFT: u64 = 3;
 
-/// The word of one lane, which all threads share. Contracts see which one it is.
+/// The word of one lane, which all threads share. Contracts see which one it is. An attempt at it ends with a `T`, which says that what was queued was
+/// taken.
 #[derive(Drop)]
-pub struct LaneWord {
+pub struct LaneWord<T> {
     pub(crate) table: Table<(), LaneView, (), LaneRule, Global>,
+    of: PhantomData<T>,
 }
 
-impl Model for LaneWord {
+impl<T> Model for LaneWord<T> {
     ghost use Rattle.std.specs.Prelude.{◌≡◌};
     ghost use Rattle.atomic_table.specs.Seated.{TableId, table_id_coded};
 
@@ -44,17 +46,20 @@ impl Model for LaneWord {
     ghost invariant = { λ w. (w.table.shared.table_id.words ≡ 1) × (w.table.shared.table_id.slots ≡ 0) };
 }
 
-impl LaneWord {
+impl<T> LaneWord<T> {
     /// The word of an idle lane. An error means that there was no memory for it.
-    pub fn new(alloc: Global) -> Result<LaneWord, AllocError> {
+    pub fn new(alloc: Global) -> Result<LaneWord<T>, AllocError> {
         // Modelled in models/lane.h.
         let (table, _seat) = Table::of_words(alloc, &[IDLE], &())?;
-        Ok(LaneWord { table })
+        Ok(LaneWord {
+            table,
+            of: PhantomData,
+        })
     }
 
     /// Touches the lane, after something was queued for its connection. Where no thread had the lane, the caller has it now,
     /// and owes it an attempt. An error means that another thread tries, after this touch.
-    pub fn touch<'a>(&'a self, due: Due) -> Result<Claim<'a>, Tally>
+    pub fn touch<'a>(&'a self, due: Due) -> Result<Claim<'a, T>, Tally>
         ensures { MatchResult result (λ claim. claim ≡ one_touch self.now) (λ tally. tally ≡ one_touch self.now) }
     {
         // Modelled in models/lane.h.
@@ -74,7 +79,7 @@ impl LaneWord {
     /// Touches the lane as the slot's finisher, which has it now where no thread had it or it was left: when it
     /// starts, since the last connection may have left the lane to its finisher, and whenever it is woken. An error means that
     /// another thread tries, after this touch.
-    pub fn take_over<'a>(&'a self) -> Result<Claim<'a>, Tally>
+    pub fn take_over<'a>(&'a self) -> Result<Claim<'a, T>, Tally>
         ensures { MatchResult result (λ claim. claim ≡ one_take_over self.now) (λ tally. tally ≡ one_take_over self.now) }
     {
         // Modelled in models/lane.h.
@@ -87,7 +92,7 @@ impl LaneWord {
     }
 
     /// The same, where the lane was left to it. An error means that it wasn't, or that another thread has taken it over since.
-    pub fn take_over_left<'a>(&'a self) -> Result<Claim<'a>, Tally>
+    pub fn take_over_left<'a>(&'a self) -> Result<Claim<'a, T>, Tally>
         ensures { MatchResult result (λ claim. claim ≡ one_take_over self.now) (λ tally. tally.lane ≡ self.now) }
     {
         // Modelled in models/lane.h.

@@ -440,6 +440,7 @@ are_sent k log legal own c (p ∷ older) seen since takes same over are =
     let drained : drains_at n c log ≡ drains_in w.messages = same n ∙ (over.0 ∙ w.are.drained) in (
       are.1,
       record {
+        own = over.1;
         messages = w.messages;
         rest = are.2.rest;
         lost = are.2.lost;
@@ -449,7 +450,7 @@ are_sent k log legal own c (p ∷ older) seen since takes same over are =
         whole = are.2.whole;
         all = sent_all k n c log legal own ∙ ap (λ l. l ++ left_at k n c log) (sym (joined_drains n c log) ∙ ap joined drained);
       },
-      are_sent k log legal own c older seen p.since p.takes same over.1 are.3,
+      are_sent k log legal own c older seen p.since p.takes same over.2 are.3,
     )
 
 -- ---- what was said since an opening
@@ -635,6 +636,7 @@ module _ (c : ℕ) where
       let rest = heard_events limits older h.since are.2 in
       let count = closings_heard limits (h ∷ older) since are in (
         record {
+          own = are.1.own;
           items = are.1.items;
           rest = are.1.rest;
           fault = are.1.fault;

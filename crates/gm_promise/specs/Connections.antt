@@ -1,6 +1,6 @@
 -- A connection's whole life: what was read from it, and what was written to it, said of the one history of all calls. Its newest entry is the
 -- first. A slot has one connection after another, each from an opening of the slot on.
-use Rattle.std.specs.Prelude.{◌≡◌, ℕ, ◌+◌, ◌*◌, ◌==◌, ◌&&◌, if◌then◌else◌, true, List, [], ◌∷◌, ◌++◌, reverse, length, Option, None, IfSome}
+use Rattle.std.specs.Prelude.{◌≡◌, ℕ, ◌+◌, ◌*◌, ◌==◌, ◌&&◌, if◌then◌else◌, true, List, [], ◌∷◌, ◌++◌, reverse, length, Option, Some, None, IfSome}
 use Rattle.gm_feeder.specs.declared.units.Limits.{Limits}
 use Rattle.gm_feeder.specs.Units.{Item, Waits}
 use Rattle.gm_front.specs.Units.{steps_of as steps_of_units, IsFaultAt, BeginsWith}
@@ -16,7 +16,7 @@ use Rattle.gm_shared.specs.Histories.{Knows}
 use Rattle.gm_shared.specs.Calls.{past_of}
 use Rattle.gm_shared.specs.Openings.{openings}
 use Rattle.gm_session.specs.declared.heard.Heard.{Heard}
-use Rattle.gm_session.specs.Hearings.{AreHeard}
+use Rattle.gm_session.specs.Hearings.{IsReadOf, AreHeard}
 use Rattle.gm_session.specs.Talks.{TalkingState, IsTalking}
 use Rattle.gm_delivery.specs.declared.account.Past.{Past}
 use Rattle.gm_delivery.specs.Accounts.{DrainedMessage, drains_at, sent_by, drains_in, takes_in, ArePast, AreOver}
@@ -43,9 +43,10 @@ said_since n c (e ∷ older) = if says c (slot_of (step_in e.step)) && (openings
 
 -- ---- what was read
 
--- The connection of the n-th opening of slot c is closed, and this was read from it: what the slot said are the first units of that, in order, then the
+-- The connection of the n-th opening of slot c is closed, and this was read from it, by the half of a socket that was assigned to this opening: what the slot said are the first units of that, in order, then the
 -- fault behind them or none, and the closing. If it is said that these are all, no whole unit is left, and there was no fault.
 pub record IsHandedIn (limits : Limits) (log : List Entry) (c n : ℕ) (heard : Heard) : Type 0 where
+  pub own : IsReadOf c n heard.of heard.read
   pub items : List Item
   pub rest : List ℕ
   pub fault : Option UnitFault
@@ -66,11 +67,12 @@ abbrev pub joined : List (List ℕ) → List ℕ
 joined [] = []
 joined (gave ∷ older) = joined older ++ gave
 
--- The messages are the drains of slot c at its n-th opening, one for one, each with the NOOP that was taken for it behind its bytes or with none. To the
--- connection a prefix of what they send was written. Meanwhile the pen took their NOOPs, and perhaps others, which are lost. Where it is said that all was
+-- The messages are the drains of slot c at its n-th opening, one for one, each with the NOOP that was taken for it behind its bytes or with none. A prefix
+-- of what they send was written to the connection, by the half of a socket that was assigned to this opening. Meanwhile the pen took their NOOPs, and perhaps others, which are lost. Where it is said that all was
 -- written, nothing of the messages is missing and no NOOP is lost. The drained bytes, and then what still waited as the slot was closed, are all that the
 -- abstract server sent since that opening.
 pub record IsSent (k : Settings) (log : List Entry) (c n : ℕ) (p : Past) : Type 0 where
+  pub own : p.of ≡ Some (c, n)
   pub messages : List DrainedMessage
   pub rest : List ℕ
   pub lost : ℕ

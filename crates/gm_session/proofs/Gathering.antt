@@ -23,12 +23,16 @@ pub gathers_then : (k : Settings) (taped : Bool) (desk n : ℕ) (seen mid after 
 gathers_then k taped desk n seen mid after old between new same g h =
     gathers_on k taped desk seen mid old between g after new (subst (λ (i : ℕ). Gathers k taped i mid between after new) same h)
 
+pub gathers_one : (k : Settings) (taped : Bool) (desk : ℕ) (s : Step) (result : Result Receipt ApplyError) (seen after : List Entry) (old new : EffectsState) → Keeps k taped s desk result seen after old new
+    → HandedIn desk (if_taken s result) seen after → Gathers k taped desk seen old after new
+gathers_one k taped desk s (Ok receipt) seen after old new keeps hands = event s receipt seen after old new nothing keeps
+gathers_one k taped desk s (Err refused) seen after old new keeps hands = subst (λ (e : EffectsState). Gathers k taped desk seen old after e) (sym keeps.kept) (refusal seen after old nothing hands)
+
 -- an event that was handed in after ticks
 pub gathers_ticked : (k : Settings) (taped : Bool) (desk : ℕ) (s : Step) (result : Result Receipt ApplyError) (seen after : List Entry) (old between new : EffectsState) → Ticks old between
     → Keeps k taped s desk result seen after between new → HandedIn desk (if_taken s result) seen after → Gathers k taped desk seen old after new
-gathers_ticked k taped desk s (Ok receipt) seen after old between new ticks keeps hands = event s receipt seen after between new (tick seen old between nothing ticks) keeps
-gathers_ticked k taped desk s (Err refused) seen after old between new ticks keeps hands =
-    subst (λ (e : EffectsState). Gathers k taped desk seen old after e) (sym keeps.kept) (refusal seen after between (tick seen old between nothing ticks) hands)
+gathers_ticked k taped desk s result seen after old between new ticks keeps hands =
+    gathers_on k taped desk seen seen old between (tick seen old between nothing ticks) after new (gathers_one k taped desk s result seen after between new keeps hands)
 
 -- the same of a talk that is seen so
 pub gathers_from : (k : Settings) (taped : Bool) (t u : TalkState) (after : List Entry) (old new : EffectsState) → u ≡ t → Gathers k taped u.number u.seen old after new → Gathers k taped t.number t.seen old after new

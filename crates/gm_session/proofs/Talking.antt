@@ -1,5 +1,5 @@
 -- A session that threads go on with, and the account of a slot's connections.
-use Rattle.std.proofs.Common.{◌≡◌, ℕ, List, [], ◌∷◌, ◌++◌, map, Bool, true, false, Option, Some, None, Result, Ok, Err, refl, sym, ap, subst, ◌∙◌}
+use Rattle.std.proofs.Common.{◌≡◌, ℕ, ◌+◌, ◌<◌, List, [], ◌∷◌, ◌++◌, map, length, Bool, true, false, Option, Some, None, Result, Ok, Err, refl, sym, ap, subst, ◌∙◌, arith}
 use Rattle.std.specs.Prelude.{IfSome, IfOk, OnErr, is_some, not}
 use Rattle.std.specs.Option.{option_map}
 use Rattle.std.specs.Result.{is_ok}
@@ -16,13 +16,14 @@ use Rattle.gm_notes.specs.declared.event.ApplyError.{ApplyError}
 use Rattle.gm_shared.specs.declared.receipt.Receipt.{Receipt}
 use Rattle.gm_shared.specs.declared.tape.Entry.{Entry}
 use Rattle.gm_shared.specs.Calls.{HandedIn, if_taken}
+use Rattle.gm_shared.specs.Openings.{most_openings, counted}
 use Rattle.gm_session.specs.declared.heard.Hearings.{Hearings}
 use Rattle.gm_session.specs.declared.session.SessionEnd.{SessionEnd}
 use Rattle.gm_session.specs.declared.session.SessionEnd.TheVariants as ends
 use Rattle.gm_session.specs.declared.session.Turn.{Turn}
-use Rattle.gm_session.specs.Hearings.{IsHeard, closed}
+use Rattle.gm_session.specs.Hearings.{IsReadOf, IsHeard, closed}
 use Rattle.gm_session.specs.Sessions.{Adds, HandsIn, IsWhole, Reads, Steps, Ends, broke, unread as unread_end, may_leave}
-use Rattle.gm_session.specs.Talks.{TalkingState, TalkState, IsTalk, IsTalking, IsTalkingBy, GoesOnSo, IsOverSo, unread, ends_whole, over_after, heard_of, whole_by, whole_in, Stepped, SteppedUnless, StepsOn}
+use Rattle.gm_session.specs.Talks.{TalkingState, TalkState, IsTalk, IsTalking, IsTalkingBy, GoesOnSo, IsOverSo, unread, next_of, IsNext, ends_whole, over_after, of_in, heard_of, whole_by, whole_in, Stepped, SteppedUnless, StepsOn}
 use Rattle.gm_session.proofs.Handing.{Reading, adds_none, adds_then, adds_same, waits_none, reading_more, reading_over}
 
 -- ---- all that was read
@@ -53,7 +54,7 @@ fed : (n : ℕ) (limits : Limits) (read : List ℕ) (since seen : List Entry) (s
 fed n limits read since seen stream units piece r =
     record { read = r.read; consumes = ap (λ l. l ++ piece) (r.consumes ∙ append-nil r.read); limited = r.limited; handed = r.handed; waits = r.waits }
 
-pub goes_on_unread : (n : ℕ) (limits : Limits) (since seen : List Entry) (t : TalkingState) → t ≡ unread limits → Adds n [] since seen → GoesOnSo n limits since seen t
+pub goes_on_unread : (n : ℕ) (limits : Limits) (since seen : List Entry) (t : TalkingState) → t ≡ unread t.of limits → Adds n [] since seen → GoesOnSo n limits since seen t
 goes_on_unread n limits since seen t is none =
     subst (λ (u : TalkingState). GoesOnSo n limits since seen u) (sym is)
     (record { limited = refl; hands = record { items = []; begins = refl; stands = tt; adds = none }; waits = λ no_unit. waits_none limits })
@@ -142,9 +143,10 @@ hands_none n limits heard rest fault since seen after none h = record {
 
 -- ---- connections that are gone
 
-pub heard_closed : (n : ℕ) (limits : Limits) (since seen after : List Entry) (heard : List ℕ) (is_whole : Bool) → IsOverSo n limits since seen heard is_whole → Adds n (Close n ∷ []) seen after
-    → IsHeard n limits (record { since = since; until = after; read = heard; is_whole = is_whole })
-heard_closed n limits since seen after heard is_whole o adds = record {
+pub heard_closed : (n opening : ℕ) (limits : Limits) (since seen after : List Entry) (of : Option (ℕ × ℕ)) (heard : List ℕ) (is_whole : Bool) → IsReadOf n opening of heard → IsOverSo n limits since seen heard is_whole
+    → Adds n (Close n ∷ []) seen after → IsHeard n opening limits (record { since = since; until = after; of = of; read = heard; is_whole = is_whole })
+heard_closed n opening limits since seen after of heard is_whole own o adds = record {
+  own = own;
   items = o.hands.items;
   rest = o.rest;
   fault = o.fault;
@@ -161,22 +163,31 @@ over_unread n limits since seen none = record { rest = []; fault = None; hands =
 -- ---- a talk goes on
 
 module _ (t : TalkState) (is : IsTalk t) where
+  -- the connection is of the opening after those of the connections that are gone
+  abbrev IsOwn : Option TalkingState → Type 0
+  IsOwn talking = IfSome talking (λ u. u.of ≡ (t.number, length t.hearings.past + 1))
+
+  own_of : (u now : TalkingState) → t.talking ≡ Some u → now.of ≡ u.of → IsOwn (Some now)
+  own_of u now there same = same ∙ subst IsOwn there is.own
+
   -- the account of the connections that are gone stays
-  talk_now : (m : ℕ) (seen : List Entry) (talking : Option TalkingState) → m ≡ t.number → IsTalking t.number t.limits t.hearings.since seen talking
-      → IsTalk (record { number = m; limits = t.limits; seen = seen; hearings = t.hearings; talking = talking })
-  talk_now m seen talking same now =
-      subst (λ (i : ℕ). IsTalk (record { number = i; limits = t.limits; seen = seen; hearings = t.hearings; talking = talking })) (sym same) (record { past = is.past; now = now })
+  talk_now : (m : ℕ) (seen : List Entry) (talking : Option TalkingState) → m ≡ t.number → IsTalking t.number t.limits t.hearings.since seen talking → IsOwn talking
+      → IsTalk (record t { number = m; seen = seen; talking = talking })
+  talk_now m seen talking same now own =
+      subst (λ (i : ℕ). IsTalk (record t { number = i; seen = seen; talking = talking })) (sym same) (record { count = is.count; own = own; past = is.past; now = now })
 
   unless_talking : (talking : Option TalkingState) → is_some talking ≡ false → IsTalking t.number t.limits t.hearings.since t.seen talking → Adds t.number [] t.hearings.since t.seen
   unless_talking None none now = now
   unless_talking (Some talking) none now = absurd cc
 
-  pub talk_begun : (stream : Stream) (units : Bool) (heard : List ℕ) → is_some t.talking ≡ false → stream ≡ (unread t.limits).stream → units ≡ false → heard ≡ []
-      → IsTalk (record t { talking = Some (record { stream = stream; has_units = units; over = None; heard = heard; has_ended = false }) })
-  talk_begun stream units heard none fresh unit_none unheard =
-      let now : TalkingState = record { stream = stream; has_units = units; over = None; heard = heard; has_ended = false } in
+  pub talk_begun : (of : ℕ × ℕ) (stream : Stream) (units : Bool) (heard : List ℕ) (assigned : Option (ℕ × ℕ)) → IsNext t assigned → of ≡ next_of t → stream ≡ (unread of t.limits).stream → units ≡ false → heard ≡ []
+      → IsTalk (record t { talking = Some (record { of = of; stream = stream; has_units = units; over = None; heard = heard; has_ended = false }) })
+  talk_begun of stream units heard assigned next of_is fresh unit_none unheard =
+      let now : TalkingState = record { of = of; stream = stream; has_units = units; over = None; heard = heard; has_ended = false } in
       talk_now t.number t.seen (Some now) refl
-      (goes_on_unread t.number t.limits t.hearings.since t.seen now (λ i. record { stream = fresh i; has_units = unit_none i; over = None; heard = unheard i; has_ended = false }) (unless_talking t.talking none is.now))
+      (goes_on_unread t.number t.limits t.hearings.since t.seen now (λ i. record { of = of; stream = fresh i; has_units = unit_none i; over = None; heard = unheard i; has_ended = false })
+      (unless_talking t.talking next.0 is.now))
+      (of_is ∙ ap (λ (n : ℕ). (t.number, n + 1)) (is.count next.1))
 
   over_by : (over : Option Bool) (u : TalkingState) → IsTalkingBy over t.number t.limits t.hearings.since t.seen u → IsOverSo t.number t.limits t.hearings.since t.seen u.heard (whole_by over u.has_units)
   over_by None u h = over_at_rest t.number t.limits t.hearings.since t.seen u h
@@ -187,12 +198,13 @@ module _ (t : TalkState) (is : IsTalk t) where
   over_now (Some u) h = over_by u.over u h
 
   -- more was read after the session was over
-  pub talk_discarded : (u now : TalkingState) (piece : List ℕ) → t.talking ≡ Some u → now.over ≡ Some false → now.heard ≡ u.heard ++ piece → IsTalk (record t { talking = Some now })
-  talk_discarded u now piece there is_over more =
+  pub talk_discarded : (u now : TalkingState) (piece : List ℕ) → t.talking ≡ Some u → now.over ≡ Some false → now.heard ≡ u.heard ++ piece → now.of ≡ u.of → IsTalk (record t { talking = Some now })
+  talk_discarded u now piece there is_over more of =
       let old = over_now (Some u) (subst (λ (o : Option TalkingState). IsTalking t.number t.limits t.hearings.since t.seen o) there is.now) in
       talk_now t.number t.seen (Some now) refl
       (subst (λ (b : Option Bool). IsTalkingBy b t.number t.limits t.hearings.since t.seen now) (sym is_over)
       (subst (λ (l : List ℕ). IsOverSo t.number t.limits t.hearings.since t.seen l false) (sym more) (over_more t.number t.limits t.hearings.since t.seen u.heard piece (whole_in (Some u)) old)))
+      (own_of u now there of)
 
   ended_by : (over : Option Bool) (u : TalkingState) → IsTalkingBy over t.number t.limits t.hearings.since t.seen u → IsTalkingBy over t.number t.limits t.hearings.since t.seen (record u { has_ended = true })
   ended_by None u h = record { limited = h.limited; hands = h.hands; waits = h.waits }
@@ -203,6 +215,7 @@ module _ (t : TalkState) (is : IsTalk t) where
   talk_ended u there =
       talk_now t.number t.seen (Some (record u { has_ended = true })) refl
       (ended_by u.over u (subst (λ (o : Option TalkingState). IsTalking t.number t.limits t.hearings.since t.seen o) there is.now))
+      (own_of u (record u { has_ended = true }) there refl)
 
   -- ---- a turn
 
@@ -223,42 +236,44 @@ module _ (t : TalkState) (is : IsTalk t) where
 
   pub talk_stepped : (k : Settings) (taped : Bool) (m : ℕ) (u now : TalkingState) → m ≡ t.number → t.talking ≡ Some u → u.over ≡ None → (result : Result Turn SessionEnd) (input left : Option (List ℕ)) (seen : List Entry)
       → Steps k taped t.number t.number u.stream u.has_units input left (Some u.heard) (Some now.heard) result t.seen seen now.stream → IfOk result (λ turn. now.has_units ≡ may_leave turn)
-      → now.over ≡ over_after result → IsTalk (record { number = m; limits = t.limits; seen = seen; hearings = t.hearings; talking = Some now })
-  talk_stepped k taped m u now same there on result input left seen s is_units is_over =
-      talk_now m seen (Some now) same (stepped_now k taped u now (going u there on) result input left seen s is_units is_over)
+      → now.over ≡ over_after result → now.of ≡ u.of → IsTalk (record t { number = m; seen = seen; talking = Some now })
+  talk_stepped k taped m u now same there on result input left seen s is_units is_over of =
+      talk_now m seen (Some now) same (stepped_now k taped u now (going u there on) result input left seen s is_units is_over) (own_of u now there of)
 
   stepped_by : (k : Settings) (taped : Bool) (m : ℕ) (u now : TalkingState) → m ≡ t.number → GoesOnSo t.number t.limits t.hearings.since t.seen u → (result : Result Turn SessionEnd) (input left : Option (List ℕ)) (seen : List Entry)
       → Steps k taped t.number t.number u.stream u.has_units input left (Some u.heard) (Some now.heard) result t.seen seen now.stream → IfOk result (λ turn. now.has_units ≡ may_leave turn)
-      → now.over ≡ over_after result → now.has_ended ≡ u.has_ended
-      → Stepped k taped result t (record { number = m; limits = t.limits; seen = seen; hearings = t.hearings; talking = Some now }) u
-  stepped_by k taped m u now same h (Ok turn) input left seen s is_units is_over ended = record {
+      → now.over ≡ over_after result → now.has_ended ≡ u.has_ended → now.of ≡ u.of
+      → Stepped k taped result t (record t { number = m; seen = seen; talking = Some now }) u
+  stepped_by k taped m u now same h (Ok turn) input left seen s is_units is_over ended of = record {
     now = now;
     piece = s.piece;
-    new_is = λ i. record { number = same i; limits = t.limits; seen = seen; hearings = t.hearings; talking = Some now };
+    new_is = λ i. record t { number = same i; seen = seen; talking = Some now };
     heard = s.hears;
+    of = of;
     has_ended = ended;
     turns = (is_over, is_units);
   }
-  stepped_by k taped m u now same h (Err end) input left seen s is_units is_over ended =
+  stepped_by k taped m u now same h (Err end) input left seen s is_units is_over ended of =
       let more = heard_more k taped t.number t.limits t.hearings.since t.seen u h end input left now.heard seen s in
       record {
         now = now;
         piece = more.0;
-        new_is = λ i. record { number = same i; limits = t.limits; seen = seen; hearings = t.hearings; talking = Some now };
+        new_is = λ i. record t { number = same i; seen = seen; talking = Some now };
         heard = more.1;
+        of = of;
         has_ended = ended;
         turns = (is_over, reads_all k taped t.number t.limits t.hearings.since t.seen u h end input left now.heard seen s);
       }
 
   pub steps_on : (k : Settings) (taped : Bool) (m : ℕ) (u now : TalkingState) → m ≡ t.number → t.talking ≡ Some u → u.over ≡ None → (result : Result Turn SessionEnd) (input left : Option (List ℕ)) (seen : List Entry)
       → Steps k taped t.number t.number u.stream u.has_units input left (Some u.heard) (Some now.heard) result t.seen seen now.stream → IfOk result (λ turn. now.has_units ≡ may_leave turn)
-      → now.over ≡ over_after result → now.has_ended ≡ u.has_ended
-      → StepsOn t.talking k taped result t (record { number = m; limits = t.limits; seen = seen; hearings = t.hearings; talking = Some now })
-  steps_on k taped m u now same there on result input left seen s is_units is_over ended =
-      let new : TalkState = record { number = m; limits = t.limits; seen = seen; hearings = t.hearings; talking = Some now } in
+      → now.over ≡ over_after result → now.has_ended ≡ u.has_ended → now.of ≡ u.of
+      → StepsOn t.talking k taped result t (record t { number = m; seen = seen; talking = Some now })
+  steps_on k taped m u now same there on result input left seen s is_units is_over ended of =
+      let new : TalkState = record t { number = m; seen = seen; talking = Some now } in
       subst (λ (o : Option TalkingState). StepsOn o k taped result t new) (sym there)
       (subst (λ (b : Option Bool). SteppedUnless b k taped result t new u) (sym on)
-      (stepped_by k taped m u now same (going u there on) result input left seen s is_units is_over ended))
+      (stepped_by k taped m u now same (going u there on) result input left seen s is_units is_over ended of))
 
   -- ---- a closing
 
@@ -271,15 +286,25 @@ module _ (t : TalkState) (is : IsTalk t) where
   refused_now (Some u) seen none h = refused_by u.over u seen none h
 
   pub talk_refused : (m : ℕ) (seen : List Entry) → m ≡ t.number → Adds t.number [] t.seen seen → IsTalk (record t { number = m; seen = seen })
-  talk_refused m seen same none = talk_now m seen t.talking same (refused_now t.talking seen none is.now)
+  talk_refused m seen same none = talk_now m seen t.talking same (refused_now t.talking seen none is.now) is.own
 
-  pub talk_closed : (m : ℕ) (seen : List Entry) (hearings : Hearings) (heard : List ℕ) (is_whole : Bool) → m ≡ t.number → heard_of t.talking ≡ heard → whole_in t.talking ≡ is_whole → hearings ≡ closed seen heard is_whole t.hearings → Adds t.number (Close t.number ∷ []) t.seen seen
-      → IsTalk (record { number = m; limits = t.limits; seen = seen; hearings = hearings; talking = None })
-  talk_closed m seen hearings heard is_whole same was whole entered adds =
-      let one = heard_closed t.number t.limits t.hearings.since t.seen seen heard is_whole
+  -- what was read is of the half that was assigned to its opening
+  read_of : (talking : Option TalkingState) → IsOwn talking → IsReadOf t.number (length t.hearings.past + 1) (of_in talking) (heard_of talking)
+  read_of None own = refl
+  read_of (Some u) own = own
+
+  count_more : (closings : ℕ) → closings ≡ counted (t.closings + 1) → closings < most_openings → closings ≡ length t.hearings.past + 1
+  count_more closings one_more below = let same = is.count (omega (arith, one_more, below)) in omega (arith, one_more, below, same)
+
+  pub talk_closed : (m closings : ℕ) (seen : List Entry) (hearings : Hearings) (of : Option (ℕ × ℕ)) (heard : List ℕ) (is_whole : Bool) → m ≡ t.number → closings ≡ counted (t.closings + 1) → of_in t.talking ≡ of
+      → heard_of t.talking ≡ heard → whole_in t.talking ≡ is_whole → hearings ≡ closed seen of heard is_whole t.hearings → Adds t.number (Close t.number ∷ []) t.seen seen
+      → IsTalk (record { number = m; limits = t.limits; closings = closings; seen = seen; hearings = hearings; talking = None })
+  talk_closed m closings seen hearings of heard is_whole same one_more assigned was whole entered adds =
+      let one = heard_closed t.number (length t.hearings.past + 1) t.limits t.hearings.since t.seen seen of heard is_whole
+      (subst (λ (z : Option (ℕ × ℕ) × List ℕ). IsReadOf t.number (length t.hearings.past + 1) z.0 z.1) (λ i. (assigned i, was i)) (read_of t.talking is.own))
       (subst (λ (z : List ℕ × Bool). IsOverSo t.number t.limits t.hearings.since t.seen z.0 z.1) (λ i. (was i, whole i)) (over_now t.talking is.now)) adds in
-      subst (λ (z : ℕ × Hearings). IsTalk (record { number = z.0; limits = t.limits; seen = seen; hearings = z.1; talking = None })) (λ i. (sym same i, sym entered i))
-      (record { past = (refl, one, is.past); now = adds_none t.number seen })
+      subst (λ (z : ℕ × Hearings). IsTalk (record { number = z.0; limits = t.limits; closings = closings; seen = seen; hearings = z.1; talking = None })) (λ i. (sym same i, sym entered i))
+      (record { count = λ below. let more = count_more closings one_more below in omega (arith, more); own = tt; past = (refl, one, is.past); now = adds_none t.number seen })
 
 -- what a closing handed in
 pub closing_adds : (n m : ℕ) (result : Result Receipt ApplyError) (seen after : List Entry) → m ≡ n → is_ok result ≡ true → HandedIn n (if_taken (Close m) result) seen after → Adds n (Close n ∷ []) seen after
@@ -302,9 +327,11 @@ pub none_over : (o : Option Bool) → is_some o ≡ false → o ≡ None
 none_over None is = refl
 none_over (Some is_whole) bad = absurd cc
 
-pub none_talking : {X : Type 0} (f : X → TalkingState) (o : Option X) → is_some o ≡ false → is_some (option_map f o) ≡ false
-none_talking f None none = none
-none_talking f (Some x) none = none
+pub of_some : {X : Type 0} (f : X → TalkingState) (o : Option X) (x : X) → o ≡ Some x → of_in (option_map f o) ≡ Some (f x).of
+of_some f o x is = ap of_in (some_talking f o x is)
+
+pub of_none : {X : Type 0} (f : X → TalkingState) (o : Option X) → o ≡ None → of_in (option_map f o) ≡ None
+of_none f o is = ap (λ p. of_in (option_map f p)) is
 
 pub heard_some : {X : Type 0} (f : X → TalkingState) (o : Option X) (x : X) → o ≡ Some x → heard_of (option_map f o) ≡ (f x).heard
 heard_some f o x is = ap heard_of (some_talking f o x is)

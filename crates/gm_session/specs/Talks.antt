@@ -1,5 +1,5 @@
 -- A slot's desk, and the session of its connection.
-use Rattle.std.specs.Prelude.{◌≡◌, ℕ, List, [], ◌++◌, Bool, true, false, not, Option, Some, None, is_some, Result, Ok, Err}
+use Rattle.std.specs.Prelude.{◌≡◌, ℕ, ◌+◌, ◌<◌, List, [], ◌++◌, Bool, true, false, not, Option, Some, None, is_some, IfSome, length, Result, Ok, Err}
 use Rattle.std.specs.Option.{option_map}
 use Rattle.gm_feeder.specs.declared.units.Limits.{Limits}
 use Rattle.gm_feeder.specs.Units.{Waits}
@@ -9,6 +9,7 @@ use Rattle.gm_notes.specs.declared.event.UnitFault.{UnitFault}
 use Rattle.gm_notes.specs.Settings.{Settings}
 use Rattle.gm_shared.specs.declared.receipt.Receipt.{Receipt}
 use Rattle.gm_shared.specs.declared.tape.Entry.{Entry}
+use Rattle.gm_shared.specs.Openings.{most_openings, counted}
 use Rattle.gm_session.specs.declared.heard.Hearings.{Hearings}
 use Rattle.gm_session.specs.declared.heard.Left.{Left}
 use Rattle.gm_session.specs.declared.heard.Left.TheVariants as lefts
@@ -18,20 +19,23 @@ use Rattle.gm_session.specs.declared.session.Turn.{Turn}
 use Rattle.gm_session.specs.Hearings.{closed, AreHeard}
 use Rattle.gm_session.specs.Sessions.{Adds, HandsIn, Reads, may_leave}
 
--- the bytes of the session that make no unit yet, whether whole units may be left before them; once the session is over, whether all whole units were
--- handed in; all that was read from the connection, and whether nothing is read from it any more
+-- the slot and opening to which the connection's half of a socket was assigned; the bytes of the session that make no unit yet, whether whole units may be
+-- left before them; once the session is over, whether all whole units were handed in; all that was read from the connection, and whether nothing is read
+-- from it any more
 pub record TalkingState : Type 0 where
+  pub of : ℕ × ℕ
   pub stream : Stream
   pub has_units : Bool
   pub over : Option Bool
   pub heard : List ℕ
   pub has_ended : Bool
 
--- the slot's number, the limits of units, what the desk has seen of the history; the connection, if there is one, and the account of those
--- that are gone
+-- the slot's number, the limits of units, how often the slot was closed, what the desk has seen of the history; the connection, if there is one, and the
+-- account of those that are gone
 pub record TalkState : Type 0 where
   pub number : ℕ
   pub limits : Limits
+  pub closings : ℕ
   pub seen : List Entry
   pub hearings : Hearings
   pub talking : Option TalkingState
@@ -59,18 +63,29 @@ abbrev pub IsTalking : ℕ → Limits → List Entry → List Entry → Option T
 IsTalking n limits since seen None = Adds n [] since seen
 IsTalking n limits since seen (Some t) = IsTalkingBy t.over n limits since seen t
 
+-- Each connection that is gone is counted, unless the count can't tell. The one that is there is of the opening after theirs.
 pub record IsTalk (t : TalkState) : Type 0 where
+  pub count : t.closings < most_openings → t.closings ≡ length t.hearings.past
+  pub own : IfSome t.talking (λ u. u.of ≡ (t.number, length t.hearings.past + 1))
   pub past : AreHeard t.number t.limits t.hearings.past t.hearings.since
   pub now : IsTalking t.number t.limits t.hearings.since t.seen t.talking
 
 -- ---- a connection's way
 
-abbrev pub unread : Limits → TalkingState
-unread limits = record { stream = record { limits = limits; pending = []; fault = None }; has_units = false; over = None; heard = []; has_ended = false }
+abbrev pub unread : ℕ × ℕ → Limits → TalkingState
+unread of limits = record { of = of; stream = record { limits = limits; pending = []; fault = None }; has_units = false; over = None; heard = []; has_ended = false }
 
--- a connection came, of which nothing was read
+-- the slot's next opening
+abbrev pub next_of : TalkState → ℕ × ℕ
+next_of t = (t.number, t.closings + 1)
+
+-- a connection may come that was assigned so: there is none, and it is of the next opening, which a count of 64 bits can tell
+abbrev pub IsNext : TalkState → Option (ℕ × ℕ) → Type 0
+IsNext t of = (is_some t.talking ≡ false) × (t.closings < most_openings) × (of ≡ Some (next_of t))
+
+-- it came, and nothing was read of it
 abbrev pub begun : TalkState → TalkState
-begun t = record t { talking = Some (unread t.limits) }
+begun t = record t { talking = Some (unread (next_of t) t.limits) }
 
 -- nothing is read from the connection any more, if there is one
 abbrev pub without_reading : TalkState → TalkState
@@ -116,6 +131,7 @@ pub record Stepped (k : Settings) (taped : Bool) (result : Result Turn SessionEn
   pub piece : List ℕ
   pub new_is : new ≡ record old { seen = new.seen; talking = Some now }
   pub heard : now.heard ≡ t.heard ++ piece
+  pub of : now.of ≡ t.of
   pub has_ended : now.has_ended ≡ t.has_ended
   pub turns : Turns k taped result old new.seen t now
 
@@ -137,6 +153,10 @@ abbrev pub Discards : Option TalkingState → TalkState → TalkState → Type 0
 Discards None old new = new ≡ old
 Discards (Some t) old new = Discarded old new t
 
+abbrev pub of_in : Option TalkingState → Option (ℕ × ℕ)
+of_in None = None
+of_in (Some t) = Some t.of
+
 abbrev pub heard_of : Option TalkingState → List ℕ
 heard_of None = []
 heard_of (Some t) = t.heard
@@ -152,5 +172,6 @@ whole_in (Some t) = whole_by t.over t.has_units
 
 -- The connection is gone, and entered with all that was read from it, and whether all whole units of that were handed in; where the closing was refused nothing changed but what the desk has seen.
 abbrev pub Closes : Settings → Bool → Result Receipt ApplyError → TalkState → TalkState → Type 0
-Closes k taped (Ok receipt) old new = new ≡ record old { seen = new.seen; hearings = closed new.seen (heard_of old.talking) (whole_in old.talking) old.hearings; talking = None }
+Closes k taped (Ok receipt) old new =
+    new ≡ record old { closings = counted (old.closings + 1); seen = new.seen; hearings = closed new.seen (of_in old.talking) (heard_of old.talking) (whole_in old.talking) old.hearings; talking = None }
 Closes k taped (Err refused) old new = new ≡ record old { seen = new.seen }

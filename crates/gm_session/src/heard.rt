@@ -3,6 +3,7 @@
 ghost use Rattle.std.specs.Prelude.{◌≡◌, ◌++◌, [], Some, None, true, IfOk};
 ghost use Rattle.gm_session.specs.Hearings.{blank, closed};
 
+use crate::own_desk::Opened;
 use gm_feeder::{Patience, Source};
 use gm_ghost::{Ghost, Log, Worth};
 use gm_shared::{BookName, Desk, Entry};
@@ -24,7 +25,8 @@ pub enum Left {
 }
 
 /// A source, and a log of all that it gave since it was taken. The log exists in proofs only. Contracts see the source, the bytes that were
-/// to come when it was taken, where they are known, and the log: the bytes to come then = the log, then the bytes still to come.
+/// to come when it was taken, where they are known, the log, and the slot and opening that the source was assigned to, once it was: the bytes
+/// to come then = the log, then the bytes still to come.
 #[derive(Drop)]
 pub struct LoggedSource<I: Source<Patience>> {
     source: I,
@@ -33,23 +35,25 @@ pub struct LoggedSource<I: Source<Patience>> {
     left: Left,
     /// Whether the last read failed, as the system found out that the peer vanished.
     has_timed_out: bool,
+    /// The slot, and which of its openings.
+    of: Option<(u32, u64)>,
 }
 
 impl<I: Source<Patience>> Model for LoggedSource<I> {
     ghost use Rattle.std.specs.Prelude.{List, ℕ, Option};
     ghost use Rattle.std.specs.Io.KnownBytes.{Consumes};
 
-    ghost Value = { I × Option (List ℕ) × List ℕ };
+    ghost Value = { I × Option (List ℕ) × List ℕ × Option (ℕ × ℕ) };
 
-    ghost view = { λ r. (r.source, r.log.before, r.log.bytes) };
+    ghost view = { λ r. (r.source, r.log.before, r.log.bytes, r.of) };
 
     ghost invariant = { λ r. Consumes r.log.before (I.remaining r.source) r.log.bytes };
 }
 
 impl<I: Source<Patience> + Drop> LoggedSource<I> {
-    /// Takes a source. The log is empty.
+    /// Takes a source. The log is empty, and it is assigned to no opening.
     pub fn new(alloc: Global, source: I) -> Result<LoggedSource<I>, AllocError>
-        ensures { IfOk result (λ logged. logged ≡ (source, I.remaining source, [])) }
+        ensures { IfOk result (λ logged. logged ≡ (source, I.remaining source, [], None)) }
     {
         let log = Log::new::<I, Brand>(alloc, &source)?;
         Ok(LoggedSource {
@@ -57,7 +61,23 @@ impl<I: Source<Patience> + Drop> LoggedSource<I> {
             log,
             left: Left::Perhaps,
             has_timed_out: false,
+            of: None,
         })
+    }
+
+    /// Assigns it to an opening, once.
+    pub fn assign_to(&mut self, opened: &Opened)
+        requires { self.old.3 ≡ None }
+        ensures { self.new ≡ (self.old.0, self.old.1, self.old.2, Some (opened.now.slot, opened.now.opening)) }
+    {
+        self.of = Some((opened.slot, opened.opening));
+    }
+
+    /// The slot and opening that it was assigned to.
+    pub(crate) fn of(&self) -> Option<(u32, u64)>
+        ensures { result ≡ self.now.3 }
+    {
+        self.of
     }
 
     /// The source.
@@ -113,12 +133,13 @@ impl<I: Source<Patience>> Source<Patience> for LoggedSource<I> {
     }
 }
 
-/// A connection that is gone: what its slot's desk had seen of the history when the one before it was closed, and when it was closed, all
-/// that was read from it, and whether all whole units of that were handed in. No value is made.
+/// A connection that is gone: what its slot's desk had seen of the history when the one before it was closed, and when it was closed, the slot
+/// and opening to which its half of a socket was assigned, if it was read, all that was read from it, and whether all whole units of that were handed in. No value is made.
 #[derive(Drop)]
 pub struct Heard {
     pub since: LinkedList<Entry>,
     pub until: LinkedList<Entry>,
+    pub of: Option<(u32, u64)>,
     pub read: LinkedList<u8>,
     pub is_whole: bool,
 }
@@ -166,21 +187,25 @@ impl HearingLedger {
 
     /// Enters a connection that was closed at this desk before it was read.
     pub(crate) fn close_unheard<K: BookName>(&mut self, desk: &Desk<K>)
-        ensures { self.new ≡ closed desk.now.witness.seen [] true self.old }
+        ensures { self.new ≡ closed desk.now.witness.seen None [] true self.old }
     {
         self.cell.update::<Desk<K>, Brand>(desk);
     }
 
-    /// Enters a connection that was closed at this desk, with all that was read from it, and whether all whole units of that were handed in.
+    /// Enters a connection that was closed at this desk, which was assigned to this slot and opening, with all that was read from it, and whether all
+    /// whole units of that were handed in.
     pub(crate) fn close<K: BookName, I: Source<Patience>>(
         &mut self,
         desk: &Desk<K>,
+        of: (u32, u64),
         source: &LoggedSource<I>,
         is_whole: bool,
     )
-        ensures { self.new ≡ closed desk.now.witness.seen source.now.2 is_whole self.old }
+        ensures { self.new ≡ closed desk.now.witness.seen (Some of) source.now.2 is_whole self.old }
     {
         self.cell
-            .update::<(&Desk<K>, &LoggedSource<I>, bool), Brand>(&(desk, source, is_whole));
+            .update::<(&Desk<K>, (u32, u64), &LoggedSource<I>, bool), Brand>(&(
+                desk, of, source, is_whole,
+            ));
     }
 }

@@ -20,6 +20,6 @@ pub use effects::Effects;
 pub use gate::{Gate, OpenGate};
 pub use heard::{HearingLedger, Left, LoggedSource};
 pub use host::Host;
-pub use own_desk::OwnDesk;
+pub use own_desk::{Opened, OwnDesk};
 pub use session::{Session, SessionEnd, Turn};
 pub use talk::Talk;

@@ -5,14 +5,38 @@ ghost use Rattle.std.specs.Result.{IsErrOf};
 ghost use Rattle.gm_notes.specs.Servers.{step_of, IsSized};
 ghost use Rattle.gm_shared.specs.Books.{NeedsNoMemory};
 ghost use Rattle.gm_shared.specs.Calls.{HandedIn, if_taken};
-ghost use Rattle.gm_session.specs.Effects.{Keeps};
-ghost use Rattle.gm_session.specs.Owners.{is_said_by, SaysOwn};
+ghost use Rattle.gm_session.specs.Effects.{Keeps, Gathers};
+ghost use Rattle.gm_session.specs.Owners.{is_said_by, SaysOwn, Opens};
 
 use crate::effects::{Effects, hand_in};
 use gm_actions::ReadEvent;
 use gm_notes::{ApplyError, Event};
 use gm_shared::{BookName, Desk, Receipt, Shared};
 use std::sync::Wait;
+
+/// That a slot was opened. `OwnDesk::open` makes one for each opening, and nothing else does. The halves of one socket are assigned to it, which
+/// uses it up.
+#[derive(Drop)]
+pub struct Opened {
+    pub(crate) slot: u32,
+    pub(crate) opening: u64,
+}
+
+impl Opened {
+    /// The slot.
+    pub fn slot(&self) -> u32
+        ensures { result ≡ self.now.slot }
+    {
+        self.slot
+    }
+
+    /// How often the slot was opened, with this.
+    pub fn opening(&self) -> u64
+        ensures { result ≡ self.now.opening }
+    {
+        self.opening
+    }
+}
 
 /// A desk. What its own slot's connection says is handed in there, and what no slot says: openings and ticks.
 #[derive(Drop)]
@@ -56,6 +80,32 @@ impl<K: BookName> OwnDesk<K> {
     {
         // Modelled in models/serving.h and ticks.pml.
         hand_in(rt, shared, &mut self.desk, &ReadEvent::new(event), effects)
+    }
+
+    /// Opens a slot for a connection from this address; none where that is refused. What came of it is added to the effects.
+    pub fn open(
+        &mut self,
+        rt: &impl Wait,
+        shared: &Shared<K>,
+        addr: &[u8],
+        effects: &mut Effects<K>,
+    ) -> Option<Opened>
+        ensures opens { Opens K.settings K.taped self.old.desk.number addr.now result self.old.desk.witness.seen self.new.desk.witness.seen }
+        ensures gathers { Gathers K.settings K.taped self.old.desk.number self.old.desk.witness.seen effects.old self.new.desk.witness.seen effects.new }
+        ensures number { self.new.desk.number ≡ self.old.desk.number }
+    {
+        // Modelled in models/shutdown.pml and ticks.pml.
+        let receipt = match self.apply(rt, shared, Event::Open { addr }, effects) {
+            Ok(receipt) => receipt,
+            Err(_) => return None,
+        };
+        match receipt.done.opened {
+            Some(slot) => Some(Opened {
+                slot,
+                opening: receipt.opening,
+            }),
+            None => None,
+        }
     }
 
     /// The number of the desk, which is its slot's; the control desk has the number after the last slot's.

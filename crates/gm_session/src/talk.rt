@@ -9,7 +9,7 @@ ghost use Rattle.gm_shared.specs.Calls.{Called};
 ghost use Rattle.gm_session.specs.Effects.{Keeps, Gathers};
 ghost use Rattle.gm_session.specs.Hearings.{blank};
 ghost use Rattle.gm_session.specs.Sessions.{Steps, may_leave};
-ghost use Rattle.gm_session.specs.Talks.{IsTalk, begun, without_reading, session_ended, is_reading, over_after, whole_by, IsLeft, StepsOn, Discards, Closes};
+ghost use Rattle.gm_session.specs.Talks.{IsTalk, IsNext, begun, without_reading, session_ended, is_reading, over_after, whole_by, IsLeft, StepsOn, Discards, Closes};
 
 use crate::applier::{Applier, Around};
 use crate::effects::Effects;
@@ -32,6 +32,8 @@ use std::time::Clock;
 struct Talking<I: Source<Patience>> {
     session: Session,
     source: LoggedSource<I>,
+    /// The slot and opening that its socket was assigned to.
+    of: (u32, u64),
     /// The connection's peer, for operators.
     peer: Option<SocketAddr>,
     /// Once the session is over, whether all whole units that were read were handed in. What still comes is dropped then.
@@ -53,14 +55,16 @@ impl<I: Source<Patience>> Talking<I> {
 }
 
 /// A slot's desk, and the session of its connection, if there is one. Whichever threads go on with the session: what was handed in since
-/// the slot was last closed are the first units of what was read since, and so it was with each connection before. Contracts see what
-/// the desk has seen of the history, what is left of the session's bytes, all that was read from the connection, and the account of those
+/// the slot was last closed are the first units of what was read since, and so it was with each connection before. Contracts see how often
+/// the slot was closed, what the desk has seen of the history, what is left of the session's bytes, all that was read from the connection, and the account of those
 /// that are gone.
 #[derive(Drop)]
 pub struct Talk<K: BookName, I: Source<Patience>> {
     desk: OwnDesk<K>,
     limits: Limits,
     talking: Option<Talking<I>>,
+    /// How often the slot was closed; at the greatest `u64` it stays there.
+    closings: u64,
     ledger: HearingLedger,
 }
 
@@ -73,17 +77,19 @@ impl<K: BookName, I: Source<Patience>> Model for Talk<K, I> {
     ghost view = { λ t. record {
       number = t.desk.desk.number;
       limits = t.limits;
+      closings = t.closings;
       seen = t.desk.desk.witness.seen;
       hearings = t.ledger;
-      talking = option_map (λ x. record { stream = x.session.feeder; has_units = x.session.has_units; over = x.over; heard = x.source.2; has_ended = x.has_ended }) t.talking;
+      talking = option_map (λ x. record { of = x.of; stream = x.session.feeder; has_units = x.session.has_units; over = x.over; heard = x.source.2; has_ended = x.has_ended }) t.talking;
     } };
 
     ghost invariant = { λ t. IsTalk (record {
       number = t.desk.desk.number;
       limits = t.limits;
+      closings = t.closings;
       seen = t.desk.desk.witness.seen;
       hearings = t.ledger;
-      talking = option_map (λ x. record { stream = x.session.feeder; has_units = x.session.has_units; over = x.over; heard = x.source.2; has_ended = x.has_ended }) t.talking;
+      talking = option_map (λ x. record { of = x.of; stream = x.session.feeder; has_units = x.session.has_units; over = x.over; heard = x.source.2; has_ended = x.has_ended }) t.talking;
     }) };
 }
 
@@ -112,6 +118,7 @@ fn step_on<K: BookName, R: Wait + Clock, G: Gate, I: Source<Patience>>(
     ensures units { IfOk result (λ turn. talking.new.session.has_units ≡ may_leave turn) }
     ensures over { talking.new.over ≡ over_after result }
     ensures ended { talking.new.has_ended ≡ talking.old.has_ended }
+    ensures of { talking.new.of ≡ talking.old.of }
     ensures gathers { Gathers K.settings K.taped desk.old.desk.number desk.old.desk.witness.seen effects.old desk.new.desk.witness.seen effects.new }
     ensures number { desk.new.desk.number ≡ desk.old.desk.number }
 {
@@ -141,6 +148,7 @@ fn discard_on<I: Source<Patience>>(
     ensures heard { (piece : List ℕ) × (talking.new.source.2 ≡ talking.old.source.2 ++ piece) }
     ensures session { talking.new.session ≡ talking.old.session }
     ensures ended { talking.new.has_ended ≡ talking.old.has_ended }
+    ensures of { talking.new.of ≡ talking.old.of }
 {
     talking.over = Some(false);
     match talking.source.read_by(by, room) {
@@ -154,7 +162,7 @@ impl<K: BookName, I: Source<Patience> + Drop> Talk<K, I> {
     pub fn new(alloc: Global, desk: Desk<K>, limits: Limits) -> Result<Talk<K, I>, AllocError>
         requires { desk.witness.seen ≡ [] }
         ensures number { IfOk result (λ talk. talk.number ≡ desk.number) }
-        ensures blank { IfOk result (λ talk. (talk.seen ≡ []) × (talk.talking ≡ None) × (talk.hearings ≡ blank)) }
+        ensures blank { IfOk result (λ talk. (talk.closings ≡ 0) × (talk.seen ≡ []) × (talk.talking ≡ None) × (talk.hearings ≡ blank)) }
         ensures limits { IfOk result (λ talk. talk.limits ≡ limits) }
     {
         let ledger = HearingLedger::new(alloc)?;
@@ -162,6 +170,7 @@ impl<K: BookName, I: Source<Patience> + Drop> Talk<K, I> {
             desk: OwnDesk::new(desk),
             limits,
             talking: None,
+            closings: 0,
             ledger,
         })
     }
@@ -173,7 +182,8 @@ impl<K: BookName, I: Source<Patience> + Drop> Talk<K, I> {
         self.desk.number()
     }
 
-    /// Takes a connection, of which nothing was read yet. It says whether it could: not before the slot was closed after the last one.
+    /// Takes a connection, of which nothing was read yet. It says whether it could: not before the slot was closed after the last one, and only if the
+    /// connection was assigned to the slot's next opening, which a count of 64 bits can tell.
     pub fn begin(
         &mut self,
         alloc: Global,
@@ -181,20 +191,34 @@ impl<K: BookName, I: Source<Patience> + Drop> Talk<K, I> {
         peer: Option<SocketAddr>,
     ) -> bool
         requires { source.2 ≡ [] }
-        ensures { MatchBool result (self.new ≡ begun self.old) (self.new ≡ self.old) }
+        ensures { MatchBool result (IsNext self.old source.3 × (self.new ≡ begun self.old)) ((IsNext self.old source.3 → ⊥) × (self.new ≡ self.old)) }
     {
         // Modelled in models/serving.h.
-        if self.talking.is_some() {
+        if !self.is_next(source.of()) {
             return false;
         }
         self.talking = Some(Talking {
             session: Session::new(alloc, self.limits),
             source,
+            of: (self.number(), self.closings + 1),
             peer,
             over: None,
             has_ended: false,
         });
         true
+    }
+
+    /// Whether a connection may come that was assigned to this slot and opening.
+    fn is_next(&self, of: Option<(u32, u64)>) -> bool
+        ensures { MatchBool result (IsNext self.now of) (IsNext self.now of → ⊥) }
+    {
+        if self.talking.is_some() || self.closings == u64::MAX {
+            return false;
+        }
+        match of {
+            Some((slot, opening)) => slot == self.number() && opening == self.closings + 1,
+            None => false,
+        }
     }
 
     /// Whether there is a connection from which more may be read.
@@ -299,11 +323,12 @@ impl<K: BookName, I: Source<Patience> + Drop> Talk<K, I> {
         let slot = self.desk.number();
         let answer = self.desk.apply(rt, shared, Event::Close { slot }, effects);
         if answer.is_ok() {
+            self.closings = self.closings.saturating_add(1);
             match self.talking.take() {
                 Some(talking) => {
                     let is_whole = talking.is_whole();
                     self.ledger
-                        .close(&self.desk.desk, &talking.source, is_whole);
+                        .close(&self.desk.desk, talking.of, &talking.source, is_whole);
                 }
                 None => self.ledger.close_unheard(&self.desk.desk),
             }

@@ -1,6 +1,6 @@
 //! The control thread: it takes connections, and hands in ticks.
 
-ghost use Rattle.std.specs.Prelude.{◌≡◌, [], pos};
+ghost use Rattle.std.specs.Prelude.{◌≡◌, [], Some, None, IfOk, pos};
 
 use crate::crews;
 use crate::keepalive::set_peer_timeout;
@@ -11,7 +11,7 @@ use gm_delivery::{ReadHalf, ServerStage, WriteHalf, split};
 use gm_feeder::Patience;
 use gm_poll::Poller;
 use gm_report::{ACCEPT_TIMEOUT_MS, AGAIN_MS, Announcer, ServeError, Trouble};
-use gm_session::{Gate, LoggedSource};
+use gm_session::{Gate, LoggedSource, Opened};
 use gm_shared::BookName;
 use gm_slots::Slot;
 use libc::{EBADF, EINVAL, EMFILE, ENOTSOCK};
@@ -103,23 +103,41 @@ impl From<AllocError> for Rejection {
     }
 }
 
-/// The two halves of one connection's socket, of which nothing was read or written yet.
+/// The two halves of one connection's socket, of which nothing was read or written yet. Both are assigned to one opening of a slot, or none is yet.
 #[derive(Drop)]
 struct Halves {
     reading: LoggedSource<ReadHalf>,
     writing: WriteHalf,
     ghost paired: { reading.0.stream.value ≡ writing.socket.0.stream.value },
+    ghost of_one_opening: { reading.3 ≡ writing.of },
     ghost unread: { reading.2 ≡ [] },
     ghost unwritten: { writing.socket.2 ≡ [] },
 }
 
 impl Halves {
-    fn new(alloc: Global, stream: TcpStream) -> Result<Halves, AllocError> {
+    /// The halves of this socket, which are assigned to no opening yet.
+    fn new(alloc: Global, stream: TcpStream) -> Result<Halves, AllocError>
+        ensures { IfOk result (λ halves. halves.writing.of ≡ None) }
+    {
         let (reading, writing) = split(alloc, stream)?;
         Ok(Halves {
             reading: LoggedSource::new(alloc, reading)?,
             writing,
         })
+    }
+
+    /// Assigns them to an opening, which is used up.
+    fn of_opening(self, opened: Opened) -> Halves
+        requires { self.writing.of ≡ None }
+        ensures { result.writing.of ≡ Some (opened.slot, opened.opening) }
+    {
+        let Halves {
+            mut reading,
+            mut writing,
+        } = self;
+        reading.assign_to(&opened);
+        writing.assign_to(opened.slot(), opened.opening());
+        Halves { reading, writing }
     }
 }
 
@@ -147,7 +165,6 @@ impl<'s, K: BookName + Send + Sync> Control<'s, K> {
         &self,
         rt: &R,
         slot: &Slot<K>,
-        opening: u64,
         halves: Halves,
         peer: SocketAddr,
     ) -> Result<(), Rejection> {
@@ -155,7 +172,7 @@ impl<'s, K: BookName + Send + Sync> Control<'s, K> {
         let state = self.state;
         let Halves { reading, writing } = halves;
         let fd = reading.source().descriptor();
-        state.wake_for(slot.lane.open(&state.delivery(rt), opening, writing));
+        state.wake_for(slot.lane.open(&state.delivery(rt), writing));
         // Under the lock, so that the connection isn't over before its socket is known.
         let mut talk = slot.talk.lock(rt);
         talk.begin(state.alloc, reading, Some(peer));
@@ -187,17 +204,18 @@ impl<'s, K: BookName + Send + Sync> Control<'s, K> {
         let mut desk = state.host.desk().lock(rt);
         let opened = state.open(rt, &mut desk, addr.as_bytes());
         drop(desk);
-        let opened = opened.and_then(|(number, opening)| Some((state.slot(number)?, opening)));
-        let Some((slot, opening)) = opened else {
+        let opened = opened.and_then(|opened| Some((state.slot(opened.slot())?, opened)));
+        let Some((slot, opened)) = opened else {
             return Err(Rejection::new(state.progress.want_of_slot(state.slot_count)));
         };
+        let halves = halves.of_opening(opened);
         state.progress.connections.fetch_add(1, Ordering::SeqCst);
         if !crews::prepare(scope, rt, state, gate, slot) {
-            slot.lane.refuse(rt, opening, halves.writing);
+            slot.lane.refuse(rt, halves.writing);
             state.close(rt, &mut slot.talk.lock(rt));
             return Err(Rejection::new(Trouble::Threads));
         }
-        self.begin(rt, slot, opening, halves, peer)?;
+        self.begin(rt, slot, halves, peer)?;
         self.opened = self.opened.saturating_add(1);
         Ok(())
     }

@@ -10,9 +10,9 @@ use crate::progress::Progress;
 use crate::server::Service;
 use gm_delivery::{DeliveryContext, Finish, Leftover, ServerStage};
 use gm_lane_word::Due;
-use gm_notes::{Event, Mode};
+use gm_notes::Mode;
 use gm_report::{DELIVERING_TIME_MS, has_passed};
-use gm_session::{Effects, Host, OwnDesk};
+use gm_session::{Effects, Host, Opened, OwnDesk};
 use gm_shared::{Blank, BookName, Shared};
 use gm_slots::{Served, Slot, open_slots, settle_slots};
 use std::alloc::{AllocError, Global};
@@ -175,23 +175,22 @@ impl<'s, K: BookName> ServerState<'s, K> {
         }
     }
 
-    /// Opens a connection from this address, and answers its slot, and how often that was opened with it; none where it is refused.
+    /// Opens a slot for a connection from this address; none where that is refused.
     pub(crate) fn open<R: Wait + Clock>(
         &self,
         rt: &R,
         desk: &mut OwnDesk<K>,
         addr: &[u8],
-    ) -> Option<(u32, u64)>
+    ) -> Option<Opened>
         ensures opens { Opens K.settings K.taped desk.old.desk.number addr.now result desk.old.desk.witness.seen desk.new.desk.witness.seen }
         ensures number { desk.new.desk.number ≡ desk.old.desk.number }
     {
         // Modelled in models/shutdown.pml and ticks.pml.
         let mut effects = Effects::new();
-        let answer = desk.apply(rt, &self.shared, Event::Open { addr }, &mut effects);
+        let opened = desk.open(rt, &self.shared, addr, &mut effects);
         self.notify(rt, None, &mut effects);
         effects.discharge();
-        let receipt = answer.ok()?;
-        Some((receipt.done.opened?, receipt.opening))
+        opened
     }
 
     /// Hands in the present second, if it is later than the last that was, and notifies others of what came of it.

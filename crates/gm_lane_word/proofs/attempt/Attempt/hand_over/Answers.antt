@@ -3,4 +3,4 @@ use Rattle.gm_lane_word.proofs.Moves.{hand_over_moves}
 use Rattle.gm_lane_word.proofs.attempt.Attempt.hand_over.Goals as goal
 
 pub swap-requires : goal.swap-requires
-swap-requires c = (search rules, search rules, hand_over_moves _ _ _ (λ free. let not = sym c.self.invariant.hold_is ∙ free in cc))
+swap-requires g c = (search rules, search rules, hand_over_moves _ _ _ (λ free. let not = sym c.self.invariant.hold_is ∙ free in cc))

@@ -3,7 +3,7 @@ use Rattle.gm_lane_word.proofs.Moves.{enter_moves, touch_moves}
 use Rattle.gm_lane_word.proofs.word.LaneWord.touch.Goals as goal
 
 pub load_new_seat-found-requires : goal.load_new_seat-found-requires
-load_new_seat-found-requires c = (search rules, enter_moves _)
+load_new_seat-found-requires g c = (search rules, enter_moves _)
 
 pub fetch_max-found-requires : goal.fetch_max-found-requires
-fetch_max-found-requires c = (search rules, search rules, touch_moves _ _ _)
+fetch_max-found-requires g c = (search rules, search rules, touch_moves _ _ _)
