@@ -1,26 +1,7 @@
-//! What tests ask of values. A call of one of these costs a proof little; an assertion in its place would be spelled out
-//! each time.
+//! What tests ask of values. A call of this costs a proof little; an assertion in its place would be spelled out each time.
 
-ghost use Rattle.std.specs.Prelude.{IsTrue};
-
-use gm_bytes::ByteQueue;
 use std::fmt::Debug;
 use std::process::Abort;
-
-/// The test fails where this doesn't hold.
-pub fn must(rt: &impl Abort, holds: bool)
-    ensures { IsTrue holds }
-{
-    assert!(rt; holds);
-}
-
-/// All these bytes lie in one place, so that the first of them are all.
-pub fn assert_one_place(rt: &impl Abort, bytes: ByteQueue) {
-    let mut rest = bytes;
-    let count = rest.first().len();
-    rest.advance(count);
-    must(rt, rest.is_empty());
-}
 
 /// The test fails where these aren't the same, and says at what.
 pub fn same<A: Debug + Copy, T: PartialEq + Debug>(rt: &impl Abort, at: A, got: &T, wanted: &T) {

@@ -1,4 +1,4 @@
-//! Packets, taken apart by hand.
+//! Answers of a server, taken apart by hand.
 
 use std::alloc::{AllocError, Global};
 

@@ -1,4 +1,4 @@
-use Rattle.gm_server_tests.proofs.crowds.crowd_anew.Given as goal
+use Rattle.gm_tests.proofs.crowds.crowd_anew.Given as goal
 
 -- the table of the book that was just made, and whether it keeps a tape
 abbrev pub ghosts-crowd : goal.ghosts-crowd

@@ -1,4 +1,4 @@
-use Rattle.gm_server_tests.proofs.room.play_to_the_end.Given as goal
+use Rattle.gm_tests.proofs.room.play_to_the_end.Given as goal
 
 -- the table of the book that was just made, and whether it keeps a tape
 abbrev pub ghosts-play_at : goal.ghosts-play_at

@@ -2,8 +2,8 @@
 
 ghost use Rattle.std.specs.Prelude.{◌≡◌};
 
+use crate::answers::{assigned, cut, handle};
 use crate::checks::{assert_one_place, must, same};
-use crate::packets::{assigned, cut, handle};
 use crate::room::{Room, apply, blank};
 use gm_bytes::Data;
 use gm_notes::{ApplyError, Event};

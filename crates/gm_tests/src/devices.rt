@@ -2,8 +2,7 @@
 
 use crate::checks::same;
 use gm_bytes::ByteQueue;
-use gm_delivery::{KnownWriter, Message, Sent, Wire};
-use gm_server::{WriteFault, write_turn};
+use gm_delivery::{KnownWriter, Message, Sent, Wire, WriteFault, write_turn};
 use std::alloc::Global;
 use std::io::{Error, ErrorKind, Read, Result, Write};
 use std::process::Abort;

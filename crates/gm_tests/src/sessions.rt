@@ -5,7 +5,7 @@ use crate::devices::FailingReader;
 use crate::room::{Room, Scene, play_settled};
 use gm_feeder::Limits;
 use gm_notes::Event;
-use gm_server::{OpenGate, SessionEnd, read_session};
+use gm_session::{OpenGate, SessionEnd, read_session};
 use gm_shared::{BookName, TapeMode};
 use std::alloc::Global;
 use std::process::Abort;
