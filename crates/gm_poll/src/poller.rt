@@ -1,11 +1,17 @@
 //! What a thread waits at.
 
+ghost use Rattle.std.specs.Prelude.{◌≡◌, ◌+◌, ◌/◌, ◌^◌, ◌<◌, ◌&&◌, ◌||◌, ◌⊎◌, ℕ, not, true, IsTrue, IfOk, IsBitSet, max, nat_lt, [], length, slice_set};
+ghost use Rattle.std.specs.VecDeque.{deque_len, deque_capacity};
+ghost use Rattle.mio.specs.Event.{event_token, is_read_closed, is_priority};
+ghost use Rattle.gm_poll.specs.Pollers.{IsNew, Heeds, IsCalled, TakesTurn, call_at, queued, reported, called, served};
+
 use crate::hub::Hub;
 use gm_report::{AGAIN_MS, WAKING_TIME_MS};
 use mio::event::Event;
 use mio::{Events, Poll};
 use std::alloc::{AllocError, Global};
 use std::collections::VecDeque;
+use std::marker::Model;
 use std::time::{Clock, Duration, Instant};
 
 /// How many slots are marked in a word.
@@ -28,7 +34,8 @@ pub struct Call {
     is_again: bool,
 }
 
-/// What a thread waits at, for the slots that it serves. It finds all its memory when it is made.
+/// What a thread waits at, for the slots that it serves. It finds all its memory when it is made. Contracts see which of its slots are to be
+/// served and in which order, and why, but nothing of the system's.
 #[derive(Drop)]
 pub struct Poller {
     poll: Poll,
@@ -47,6 +54,21 @@ pub struct Poller {
     looked: Option<Instant>,
 }
 
+impl Model for Poller {
+    ghost use Rattle.std.specs.Prelude.{◌≤◌, vec_len};
+    ghost use Rattle.std.specs.VecDeque.{deque_capacity};
+    ghost use Rattle.gm_poll.specs.Pollers.{PollerState, IsOrderly};
+
+    ghost Value = { PollerState };
+
+    ghost view = { λ p. record { thread = p.thread; count = p.count; calls = p.calls.items; ready = p.ready.items; behind = p.behind.items; again = p.again.items } };
+
+    ghost invariant = { λ p. IsOrderly (record { thread = p.thread; count = p.count; calls = p.calls.items; ready = p.ready.items; behind = p.behind.items; again = p.again.items })
+        × (vec_len p.calls ≤ deque_capacity p.ready)
+        × (vec_len p.calls ≤ deque_capacity p.behind)
+        × (vec_len p.calls ≤ deque_capacity p.again) };
+}
+
 impl Poller {
     /// For the thread with this number, of `count`, of a server with this many slots.
     pub(crate) fn new(
@@ -55,17 +77,22 @@ impl Poller {
         thread: u32,
         count: u32,
         slots: u32,
-    ) -> Result<Poller, AllocError> {
+    ) -> Result<Poller, AllocError>
+        ensures { IfOk result (IsNew thread (max count 1) slots) }
+    {
         let count = count.max(1);
         let mut calls = Vec::new(alloc);
-        for slot in (thread..slots).step_by(count as usize) {
+        // The number behind the last slot's may be past a u32.
+        let mut slot = u64::from(thread);
+        while slot < u64::from(slots) {
             calls.push(Call {
-                slot,
+                slot: slot as u32,
                 is_woken: false,
                 is_odd: false,
                 is_ready: false,
                 is_again: false,
             })?;
+            slot += u64::from(count);
         }
         Ok(Poller {
             poll,
@@ -81,12 +108,17 @@ impl Poller {
     }
 
     /// How many slots are to be served now.
-    pub fn ready(&self) -> usize {
+    pub fn ready(&self) -> usize
+        ensures { result ≡ length self.now.ready + length self.now.behind }
+    {
         self.ready.len().saturating_add(self.behind.len())
     }
 
     /// Waits until there are slots to serve, or for a second.
-    pub fn wait(&mut self, rt: &impl Clock, hub: &Hub) {
+    pub fn wait(&mut self, rt: &impl Clock, hub: &Hub)
+        ensures heeds { Heeds self.old self.new }
+        ensures again { (self.new.again ≡ self.old.again) ⊎ (self.new.again ≡ []) }
+    {
         // Modelled in models/polling.pml.
         let time = if self.ready() > 0 {
             0
@@ -107,7 +139,10 @@ impl Poller {
     }
 
     /// Takes the marks that others made.
-    fn take_marks(&mut self, hub: &Hub) {
+    fn take_marks(&mut self, hub: &Hub)
+        ensures heeds { Heeds self.old self.new }
+        ensures again { self.new.again ≡ self.old.again }
+    {
         // Modelled in models/polling.pml.
         for at in 0..self.calls.len().div_ceil(MARKS) {
             let marks = hub.take_marks(self.thread, at);
@@ -118,7 +153,11 @@ impl Poller {
     }
 
     /// The marked ones of these, from the first on, are to be served.
-    fn call_marked(&mut self, first: usize, marks: u64) {
+    fn call_marked(&mut self, first: usize, marks: u64)
+        ensures heeds { Heeds self.old self.new }
+        ensures again { self.new.again ≡ self.old.again }
+        ensures marked { (bit : ℕ) → bit < 64 → IsBitSet marks bit → first + bit < 2 ^ 64 → first + bit < length self.old.calls → IsCalled self.new (first + bit) }
+    {
         for bit in 0..MARKS {
             if marks & 1 << bit != 0 {
                 self.call(first.saturating_add(bit));
@@ -127,20 +166,22 @@ impl Poller {
     }
 
     /// A slot is to be served, though its socket wasn't reported.
-    fn call(&mut self, at: usize) {
+    fn call(&mut self, at: usize)
+        ensures { self.new ≡ called at self.old }
+    {
         // Modelled in models/polling.pml.
         let Some(call) = self.calls.get_mut(at) else {
             return;
         };
         call.is_woken = true;
-        if !call.is_ready {
-            call.is_ready = true;
-            let _ = self.ready.push_back(at);
-        }
+        queue_up(&mut self.ready, &mut call.is_ready, at, true);
     }
 
     /// Looks again at those that are to be, where it is time.
-    fn look_again(&mut self, rt: &impl Clock) {
+    fn look_again(&mut self, rt: &impl Clock)
+        ensures heeds { Heeds self.old self.new }
+        ensures again { (self.new.again ≡ self.old.again) ⊎ (self.new.again ≡ []) }
+    {
         // Modelled in models/polling.pml.
         if self.again.is_empty() || !self.is_time(rt) {
             return;
@@ -157,7 +198,9 @@ impl Poller {
     }
 
     /// Whether it is a while since they were looked at. It is where the clock can't be read.
-    fn is_time(&mut self, rt: &impl Clock) -> bool {
+    fn is_time(&mut self, rt: &impl Clock) -> bool
+        ensures { self.new ≡ self.old }
+    {
         // Modelled in models/polling.pml.
         let now = Instant::now(rt).ok();
         let is_time = match (&self.looked, &now) {
@@ -173,7 +216,9 @@ impl Poller {
     }
 
     /// The next slot to serve, if there is one.
-    pub fn next(&mut self) -> Option<Call> {
+    pub fn next(&mut self) -> Option<Call>
+        ensures { TakesTurn result self.old self.new }
+    {
         // Modelled in models/polling.pml.
         let at = match self.ready.pop_front() {
             Some(at) => at,
@@ -188,26 +233,44 @@ impl Poller {
 
     /// A slot was served: it is to be served again once the others were that are to be served now, or when it is called; and it is looked
     /// at again in a while or not.
-    pub fn put_back(&mut self, slot: u32, is_now: bool, is_again: bool) {
+    pub fn put_back(&mut self, slot: u32, is_now: bool, is_again: bool)
+        ensures { self.new ≡ served (slot / self.old.count) is_now is_again self.old }
+    {
         // Modelled in models/polling.pml.
         let at = (slot / self.count.max(1)) as usize;
         let Some(call) = self.calls.get_mut(at) else {
             return;
         };
         call.is_odd = call.is_odd && is_now;
-        if is_now && !call.is_ready {
-            call.is_ready = true;
-            let _ = self.behind.push_back(at);
-        }
-        if is_again && !call.is_again {
-            call.is_again = true;
-            let _ = self.again.push_back(at);
-        }
+        queue_up(&mut self.behind, &mut call.is_ready, at, is_now);
+        queue_up(&mut self.again, &mut call.is_again, at, is_again);
+    }
+}
+
+/// Puts a place at the queue's end if it comes there and isn't there yet, as its flag says.
+fn queue_up(queue: &mut VecDeque<usize>, is_there: &mut bool, at: usize, comes: bool)
+    requires { not is_there.old && comes ≡ true → deque_len queue.old < deque_capacity queue.old }
+    ensures places { queue.new.items ≡ queued (not is_there.old && comes) at queue.old.items }
+    ensures there { is_there.new ≡ (is_there.old || comes) }
+    ensures room { deque_capacity queue.new ≡ deque_capacity queue.old }
+{
+    // Modelled in models/polling.pml.
+    if comes && !*is_there {
+        *is_there = true;
+        let _ = queue.push_back(at);
     }
 }
 
 /// The slot of an event is to be served.
-fn take_event(calls: &mut Vec<Call>, ready: &mut VecDeque<usize>, count: u32, event: &Event) {
+fn take_event(calls: &mut Vec<Call>, ready: &mut VecDeque<usize>, count: u32, event: &Event)
+    requires count { 0 < count }
+    requires room { IsTrue (not (call_at calls.old.items ((event_token event.now).0 / count)).is_ready) → (event_token event.now).0 / count < length calls.old.items → deque_len ready.old < deque_capacity ready.old }
+    ensures calls { let at = (event_token event.now).0 / count in
+        calls.new.items ≡ slice_set calls.old.items at (reported (is_read_closed event.now || is_priority event.now) (call_at calls.old.items at)) }
+    ensures places { let at = (event_token event.now).0 / count in
+        ready.new.items ≡ queued (not (call_at calls.old.items at).is_ready && nat_lt at (length calls.old.items)) at ready.old.items }
+    ensures capacity { deque_capacity ready.new ≡ deque_capacity ready.old }
+{
     // Modelled in models/polling.pml.
     let at = event.token().0 / count.max(1) as usize;
     let Some(call) = calls.get_mut(at) else {
@@ -216,8 +279,5 @@ fn take_event(calls: &mut Vec<Call>, ready: &mut VecDeque<usize>, count: u32, ev
     if event.is_read_closed() || event.is_priority() {
         call.is_odd = true;
     }
-    if !call.is_ready {
-        call.is_ready = true;
-        let _ = ready.push_back(at);
-    }
+    queue_up(ready, &mut call.is_ready, at, true);
 }
