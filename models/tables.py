@@ -144,7 +144,7 @@ MUTANTS = [
     ("reading", POLLING, "M_CUT_IS_FORGOTTEN", "Talk::take_left", "if talking.session.has_units", "then Left::Nothing: what is left in the feeder is forgotten"),
     ("reading", POLLING, "M_UNITS_FORGOTTEN", "Applier::step", "session.has_units = turn == Turn::Cut", "left out: what is left in the feeder is forgotten"),
     ("reading", ("polling", "quiet", "-DPAIRS -DFAULTS=0 -DWAKES=0"), "M_UNITS_FORGOTTEN", "Applier::step", "session.has_units = turn == Turn::Cut", "left out: what is left in the feeder waits for more"),
-    ("reading", ("polling", "ltl", "-DSLOTS=2 -DGENS=1 -DSENDS=1 -DFLOOD -DFAULTS=0 -DWAKES=0"), "M_IN_FRONT", "Poller::put_back", "let _ = self.behind.push_back(at)", "in front of the others"),
+    ("reading", ("polling", "ltl", "-DSLOTS=2 -DGENS=1 -DSENDS=1 -DFLOOD -DFAULTS=0 -DWAKES=0"), "M_IN_FRONT", "Poller::put_back", "queue_up(&mut self.behind, &mut call.is_ready, at, is_now)", "in front of the others"),
     ("ends", ENDINGS, "M_KEEP_ENDING", "Lane::open", "self.asked.restart()", "left out"),
     ("ends", ENDINGS, "M_RESTART_AFTER_BEGIN", "Lane::open", "self.asked.restart()", "after begin"),
     ("ends", ENDINGS, "M_FLAG_BEFORE_LOCK", "Lane::attempt", "let has_ended = self.asked.has_reached(INPUT_ENDED)", "before the lock"),
