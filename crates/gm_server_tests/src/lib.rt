@@ -1,5 +1,5 @@
-//! Tests of the server: what it answers to its arguments, and connections of which one is held at a unit. It holds nothing
-//! else. What can be seen from outside is tested at the program, by tests/serve.
+//! Tests of a server with a gate: its connections, of which one is held at a unit. It holds nothing else. What can be seen from outside is
+//! tested at the program, by the scripts of tests/.
 #![tactic(auto)]
 
 #[cfg(test)]
@@ -8,5 +8,3 @@ mod checks;
 mod client;
 #[cfg(test)]
 mod held;
-#[cfg(test)]
-mod words;
