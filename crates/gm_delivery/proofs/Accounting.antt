@@ -15,7 +15,7 @@ use Rattle.gm_shared.specs.Calls.{PenCalled}
 use Rattle.gm_delivery.specs.Messages.{message_of}
 use Rattle.gm_delivery.specs.declared.account.Sendings.{Sendings}
 use Rattle.gm_delivery.specs.declared.account.Past.{Past}
-use Rattle.gm_delivery.specs.Accounts.{DrainedMessage, bytes_in, drains_at, sent_by, drains_in, takes_in, AreMessages, IsWritten, IsPrefixWritten, WrittenTo, ArePast, AreOver, closed}
+use Rattle.gm_delivery.specs.Accounts.{DrainedMessage, bytes_in, drains_at, sent_by, drains_in, takes_in, IsWritten, IsPrefixWritten, WrittenTo, ArePast, AreOver, closed}
 use Rattle.gm_delivery.specs.declared.life.OutboundState.{OutboundState}
 use Rattle.gm_delivery.specs.declared.life.OutboundState.TheVariants.{Open, Finished, Cut}
 use Rattle.gm_delivery.specs.Sendings.{Outbound, SenderState, present, IsOutboundSo, IsOutbound, began, IsSender, cut, can_send, is_open, is_clear, SendsPart, Sends, SendsTo, SendsLeft, BeginsIf}

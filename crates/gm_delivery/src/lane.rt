@@ -127,9 +127,7 @@ impl<K: BookName> Lane<K> {
         requires { half.socket.2 ≡ [] }
     {
         // Modelled in models/endings.pml and shutdown.pml.
-        let mut sender = self.sender.lock(rt);
-        sender.begin(half);
-        sender.let_go();
+        self.sender.lock(rt).refuse(half);
     }
 
     /// Tells the lane that there may be something to send, and sends it, unless another thread has the lane and so tries after
@@ -282,7 +280,7 @@ impl<K: BookName> Lane<K> {
             // A thread that only queued something leaves that to the finisher.
             Deed::LetGo if matches!(deliverer, Deliverer::Other) => Err(Finish::Pending),
             Deed::LetGo => {
-                sender.let_go();
+                sender.let_go(delivered);
                 Err(Finish::Gone)
             }
         }

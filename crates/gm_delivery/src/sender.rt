@@ -1,9 +1,9 @@
 //! What is to be sent to a slot's connections, and where.
 
-ghost use Rattle.std.specs.Prelude.{◌≡◌, ◌<◌, [], length, Bool, None, true, IfOk, MatchBool};
+ghost use Rattle.std.specs.Prelude.{◌≡◌, ◌<◌, [], length, Bool, Option, None, true, IfOk, MatchBool};
 ghost use Rattle.gm_shared.specs.Openings.{most_openings};
 ghost use Rattle.gm_delivery.specs.Accounts.{no_sendings, ArePast, AreOver};
-ghost use Rattle.gm_delivery.specs.Sendings.{is_clear, SendsLeft, Refills, finished, Delivers, deed_after, next_by, IsLetGo, IsNext, IsBegun};
+ghost use Rattle.gm_delivery.specs.Sendings.{SenderState, is_clear, SendsLeft, Refills, finished, Delivers, deed_after, next_by, IsLetGo, IsNext, IsBegun};
 
 use crate::account::Ledger;
 use crate::lane::Writing;
@@ -18,7 +18,7 @@ use std::net::Shutdown;
 use std::sync::Wait;
 use std::time::Clock;
 
-/// That a delivery was made. Only `Sender::deliver` makes it, and a lane's word is given up only for it.
+/// That a delivery was made. Only `Sender::deliver` makes it. For it alone a lane's word is given up, or a connection is let go of that was served.
 #[derive(Drop)]
 pub struct Delivered {
     // Whether the connection can be sent to, and nothing is left for it.
@@ -109,7 +109,7 @@ impl<K: BookName> Sender<K> {
         ensures { IsBegun result half.of self.old self.new }
     {
         // Modelled in models/lane.h.
-        self.let_go();
+        self.release();
         let begins = is_next(half.of, self.pen.slot(), self.openings);
         self.openings = if begins { self.openings + 1 } else { u64::MAX };
         self.of = half.of;
@@ -237,8 +237,26 @@ impl<K: BookName> Sender<K> {
         }
     }
 
-    /// Ends the connection, and lets go of it. It says whether all that was due was written to it; none means that there was no connection.
-    pub fn let_go(&mut self) -> Option<bool>
+    /// Takes a connection that nobody serves, and lets go of it at once.
+    pub(crate) fn refuse(&mut self, half: WriteHalf)
+        requires { half.socket.2 ≡ [] }
+        ensures { (begins : Bool) × (begun : SenderState) × (whole : Option Bool) × IsBegun begins half.of self.old begun × IsLetGo whole begun self.new }
+    {
+        // Modelled in models/endings.pml and shutdown.pml.
+        self.begin(half);
+        self.release();
+    }
+
+    /// Ends the connection after a delivery, and lets go of it. It says whether all that was due was written to it; none means that there was
+    /// no connection.
+    pub fn let_go(&mut self, _delivered: Delivered) -> Option<bool>
+        ensures { IsLetGo result self.old self.new }
+    {
+        self.release()
+    }
+
+    /// Ends the connection, and lets go of it.
+    fn release(&mut self) -> Option<bool>
         ensures { IsLetGo result self.old self.new }
     {
         // Modelled in models/lane.h.
@@ -263,7 +281,7 @@ impl<K: BookName> Sender<K> {
         ensures slot { result.0.slot ≡ self.slot }
     {
         let mut sender = self;
-        sender.let_go();
+        sender.release();
         let Sender {
             pen,
             openings,
