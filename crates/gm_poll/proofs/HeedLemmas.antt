@@ -1,4 +1,4 @@
--- How a poller comes to have more places to serve, and loses none.
+-- How a poller comes to have more positions to serve, and loses none.
 use Rattle.std.proofs.Common.{◌≡◌, ℕ, ◌*◌, ◌%◌, ◌^◌, ◌<◌, eqb, nat_lt, Bool, true, false, not, ◌&&◌, ◌||◌, inl, inr, List, [], ◌++◌, length, get_or, set}
 use Rattle.std.proofs.Common.{refl, ap, sym, subst, ◌∙◌, arith, append_assoc, length-set, get_or-set_same, get_or-set_other, eqb-true, ltb-true, ltb-false}
 use Rattle.std.proofs.lemmas.Bool.{eqb-false}
@@ -19,7 +19,7 @@ keeps_both a b c x y = record {
   again = λ h. elim (x.again h) [ inl still ↦ y.again still | inr looked ↦ inr (y.ready looked.0, y.woken looked.1) ];
 }
 
--- a call that is put in place of one, where there is a place
+-- a call that is put in position of one, where there is a position
 keeps_set : (calls : List Call) (at : ℕ) (call : Call) → KeepsCall (call_at calls at) call → (q : ℕ) → KeepsCall (call_at calls q) (call_at (set calls at call) q)
 keeps_set calls at call keeps q = by (eqb q at) (nat_lt at (length calls)) refl refl
   where
@@ -42,9 +42,9 @@ heeds_both p q r x y = record {
   calls = λ at. keeps_both (call_at p.calls at) (call_at q.calls at) (call_at r.calls at) (x.calls at) (y.calls at);
 }
 
-queued_more : (comes : Bool) (at : ℕ) (places : List ℕ) → queued comes at places ≡ places ++ queued comes at []
-queued_more true at places = refl
-queued_more false at places = sym (append-nil places)
+queued_more : (comes : Bool) (at : ℕ) (positions : List ℕ) → queued comes at positions ≡ positions ++ queued comes at []
+queued_more true at positions = refl
+queued_more false at positions = sym (append-nil positions)
 
 heeds_set : (p : PollerState) (at : ℕ) (call : Call) (comes : Bool) (again : List ℕ) → KeepsCall (call_at p.calls at) call
     → Heeds p (record p { calls = set p.calls at call; ready = queued comes at p.ready; again = again })

@@ -1,3 +1,3 @@
-mod PlaceLemmas
+mod PositionLemmas
 mod PollerLemmas
 mod HeedLemmas

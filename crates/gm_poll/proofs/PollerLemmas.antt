@@ -1,10 +1,10 @@
--- How a poller stays orderly where the call at a place changes, and its queues with it.
+-- How a poller stays orderly where the call at a position changes, and its queues with it.
 use Rattle.std.proofs.Common.{◌≡◌, ℕ, ◌<◌, Bool, true, false, nat_lt, not, ◌&&◌, ◌||◌, IsTrue, Option, None, IsSome, List, [], ◌∷◌, ◌++◌, length, get_or, set}
 use Rattle.std.proofs.Common.{refl, ap, sym, subst, arith, ltb-true, ltb-false}
 use Rattle.std.proofs.lemmas.List.{length-append, get_or_default, set_past}
 use Rattle.gm_poll.specs.declared.poller.Call.{Call}
 use Rattle.gm_poll.specs.Pollers.{PollerState, nobody, call_at, queued, reported, rest_of, AreThose, IsOrderly}
-use Rattle.gm_poll.proofs.PlaceLemmas.{Adds, adds_first, adds_between, adds_last, within, stays, leaves, room, queues, slots_kept}
+use Rattle.gm_poll.proofs.PositionLemmas.{Adds, adds_first, adds_between, adds_last, within, stays, leaves, room, queues, slots_kept}
 
 is_away : (is_there comes : Bool) → (not is_there && comes) ≡ true → is_there ≡ false
 is_away true comes h = absurd (cc)

@@ -3,8 +3,8 @@ use Rattle.std.specs.Prelude.{◌≡◌, ℕ, ◌+◌, ◌*◌, ◌<◌, nat_lt,
 use Rattle.std.specs.Prelude.{List, [], ◌∷◌, ◌++◌, length, drop, count_by, slice_get, slice_index_or, slice_set, Option, Some, None, MatchOption, ◌⊎◌}
 use Rattle.gm_poll.specs.declared.poller.Call.{Call}
 
--- A thread's number, and how many threads there are. Each of its slots has a call, whose index is the slot's place. The other three have
--- places in the order of their turns: those that were reported or woken, those with more to do, and those to look at again.
+-- A thread's number, and how many threads there are. Each of its slots has a call, whose index is the slot's position. The other three have
+-- positions in the order of their turns: those that were reported or woken, those with more to do, and those to look at again.
 pub record PollerState : Type 0 where
   pub thread : ℕ
   pub count : ℕ
@@ -13,30 +13,30 @@ pub record PollerState : Type 0 where
   pub behind : List ℕ
   pub again : List ℕ
 
--- the call at a place, or nobody's past the last one
+-- the call at a position, or nobody's past the last one
 abbrev pub nobody : Call
 nobody = record { slot = 0; is_woken = false; is_odd = false; is_ready = false; is_again = false }
 
 abbrev pub call_at : List Call → ℕ → Call
 call_at calls at = slice_index_or calls at nobody
 
--- how often a place is among these
+-- how often a position is among these
 abbrev pub times : ℕ → List ℕ → ℕ
-times at places = count_by (λ place. at == place) places
+times at positions = count_by (λ position. at == position) positions
 
--- These are the places whose calls have the flag, each once.
-pub record AreThose (flag : Call → Bool) (calls : List Call) (places : List ℕ) : Type 0 where
-  pub told : (at : ℕ) → times at places ≡ (if flag (call_at calls at) then 1 else 0)
+-- These are the positions whose calls have the flag, each once.
+pub record AreThose (flag : Call → Bool) (calls : List Call) (positions : List ℕ) : Type 0 where
+  pub told : (at : ℕ) → times at positions ≡ (if flag (call_at calls at) then 1 else 0)
 
--- A place is in one of the two queues to serve exactly if its call says so, and only once in both; likewise in the one to look at again.
--- Each call has the slot of its place.
+-- A position is in one of the two queues to serve exactly if its call says so, and only once in both; likewise in the one to look at again.
+-- Each call has the slot of its position.
 pub record IsOrderly (p : PollerState) : Type 0 where
   pub ready : AreThose (λ call. call.is_ready) p.calls (p.ready ++ p.behind)
   pub again : AreThose (λ call. call.is_again) p.calls p.again
   pub slots : (at : ℕ) → at < length p.calls → (call_at p.calls at).slot ≡ p.thread + at * p.count
   pub apart : 0 < p.count
 
--- The poller has a place for the first slot and for each that lies so far behind the one before, below this number of slots. None of them
+-- The poller has a position for the first slot and for each that lies so far behind the one before, below this number of slots. None of them
 -- is to be served yet.
 pub record IsNew (first apart slots : ℕ) (p : PollerState) : Type 0 where
   pub thread : p.thread ≡ first
@@ -47,41 +47,41 @@ pub record IsNew (first apart slots : ℕ) (p : PollerState) : Type 0 where
   pub behind : p.behind ≡ []
   pub again : p.again ≡ []
 
--- the queue with the place at its end, if it comes there
+-- the queue with the position at its end, if it comes there
 abbrev pub queued : Bool → ℕ → List ℕ → List ℕ
-queued comes at places = if comes then places ++ at ∷ [] else places
+queued comes at positions = if comes then positions ++ at ∷ [] else positions
 
--- the call of a place that was reported, oddly or not
+-- the call of a position that was reported, oddly or not
 abbrev pub reported : Bool → Call → Call
 reported is_odd call = record call { is_odd = call.is_odd || is_odd; is_ready = true }
 
--- the poller once a place was woken, if a slot has it
+-- the poller once a position was woken, if a slot has it
 abbrev pub called : ℕ → PollerState → PollerState
 called at p =
     let call = call_at p.calls at in
     record p { calls = slice_set p.calls at (record call { is_woken = true; is_ready = true }); ready = queued (not call.is_ready && nat_lt at (length p.calls)) at p.ready }
 
--- the place whose turn is next
-abbrev pub next_place : PollerState → Option ℕ
-next_place p = slice_get (p.ready ++ p.behind) 0
+-- the position whose turn is next
+abbrev pub next_position : PollerState → Option ℕ
+next_position p = slice_get (p.ready ++ p.behind) 0
 
 -- the queues without it: one with more to do has its turn only where no other waits
 abbrev pub rest_of : List ℕ → List ℕ → List ℕ × List ℕ
 rest_of [] behind = ([], drop 1 behind)
 rest_of (_ ∷ ready) behind = (ready, behind)
 
--- the poller once that place has its turn
+-- the poller once that position has its turn
 abbrev pub without_first : ℕ → PollerState → PollerState
 without_first at p =
     let rest = rest_of p.ready p.behind in
     record p { calls = slice_set p.calls at (record (call_at p.calls at) { is_woken = false; is_ready = false }); ready = rest.0; behind = rest.1 }
 
--- The place whose turn is next has it, and its call is the answer, with the place's slot. Where none is to be served, nothing changes.
+-- The position whose turn is next has it, and its call is the answer, with the position's slot. Where none is to be served, nothing changes.
 abbrev pub TakesTurn : Option Call → PollerState → PollerState → Type 0
-TakesTurn result old new = MatchOption (next_place old) ((result ≡ None) × (new ≡ old))
+TakesTurn result old new = MatchOption (next_position old) ((result ≡ None) × (new ≡ old))
     (λ at. (result ≡ Some (call_at old.calls at)) × ((call_at old.calls at).slot ≡ old.thread + at * old.count) × (new ≡ without_first at old))
 
--- the poller once a place was served, which perhaps has more to do now, and perhaps is to be looked at again
+-- the poller once a position was served, which perhaps has more to do now, and perhaps is to be looked at again
 abbrev pub served : ℕ → Bool → Bool → PollerState → PollerState
 served at is_now is_again p =
     let call = call_at p.calls at in
@@ -100,7 +100,7 @@ pub record KeepsCall (old new : Call) : Type 0 where
   pub ready : IsTrue old.is_ready → IsTrue new.is_ready
   pub again : IsTrue old.is_again → IsTrue new.is_again ⊎ (IsTrue new.is_ready × IsTrue new.is_woken)
 
--- No place that is to be served leaves or moves. More may be ready, behind those that are.
+-- No position that is to be served leaves or moves. More may be ready, behind those that are.
 pub record Heeds (old new : PollerState) : Type 0 where
   pub thread : new.thread ≡ old.thread
   pub count : new.count ≡ old.count
@@ -110,6 +110,6 @@ pub record Heeds (old new : PollerState) : Type 0 where
   pub behind : new.behind ≡ old.behind
   pub calls : (at : ℕ) → KeepsCall (call_at old.calls at) (call_at new.calls at)
 
--- The place is to be served, as woken.
+-- The position is to be served, as woken.
 abbrev pub IsCalled : PollerState → ℕ → Type 0
 IsCalled p at = IsTrue (call_at p.calls at).is_ready × IsTrue (call_at p.calls at).is_woken

@@ -247,10 +247,10 @@ impl Poller {
     }
 }
 
-/// Puts a place at the queue's end if it comes there and isn't there yet, as its flag says.
+/// Puts a position at the queue's end if it comes there and isn't there yet, as its flag says.
 fn queue_up(queue: &mut VecDeque<usize>, is_there: &mut bool, at: usize, comes: bool)
     requires { not is_there.old && comes ≡ true → deque_len queue.old < deque_capacity queue.old }
-    ensures places { queue.new.items ≡ queued (not is_there.old && comes) at queue.old.items }
+    ensures positions { queue.new.items ≡ queued (not is_there.old && comes) at queue.old.items }
     ensures there { is_there.new ≡ (is_there.old || comes) }
     ensures room { deque_capacity queue.new ≡ deque_capacity queue.old }
 {
@@ -267,7 +267,7 @@ fn take_event(calls: &mut Vec<Call>, ready: &mut VecDeque<usize>, count: u32, ev
     requires room { IsTrue (not (call_at calls.old.items ((event_token event.now).0 / count)).is_ready) → (event_token event.now).0 / count < length calls.old.items → deque_len ready.old < deque_capacity ready.old }
     ensures calls { let at = (event_token event.now).0 / count in
         calls.new.items ≡ slice_set calls.old.items at (reported (is_read_closed event.now || is_priority event.now) (call_at calls.old.items at)) }
-    ensures places { let at = (event_token event.now).0 / count in
+    ensures positions { let at = (event_token event.now).0 / count in
         ready.new.items ≡ queued (not (call_at calls.old.items at).is_ready && nat_lt at (length calls.old.items)) at ready.old.items }
     ensures capacity { deque_capacity ready.new ≡ deque_capacity ready.old }
 {

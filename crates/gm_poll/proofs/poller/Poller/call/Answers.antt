@@ -15,7 +15,7 @@ invariant_of-self-2 c =
     let p = c.self.inside in
     let lt = subst (λ n. c.args.at < n) p.calls.ok.0 (c.in-Some.ensures.variant.0 refl) in
     let cap = c.queue_up.ensures.room in (
-      rw c.queue_up.ensures.places (queued_ready (the_view p) c.self.invariant.0 c.args.at c.in-Some.call.now (record c.in-Some.call.now { is_woken = true; is_ready = c.queue_up.new.is_there }) lt c.in-Some.ensures.value refl
+      rw c.queue_up.ensures.positions (queued_ready (the_view p) c.self.invariant.0 c.args.at c.in-Some.call.now (record c.in-Some.call.now { is_woken = true; is_ready = c.queue_up.new.is_there }) lt c.in-Some.ensures.value refl
           true c.queue_up.ensures.there refl),
       omega arith,
       omega arith,

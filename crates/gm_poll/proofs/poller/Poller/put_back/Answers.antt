@@ -26,7 +26,7 @@ invariant_of-self-2 c =
     let lt = subst (λ n. at < n) p.calls.ok.0 (c.in-Some.ensures.variant.0 refl) in
     let cap = c.queue_up.ensures.room in
     let cap' = c.queue_up-2.ensures.room in (
-      rw (c.queue_up.ensures.places, c.queue_up-2.ensures.places) (queued_behind (the_view p) c.self.invariant.0 at c.in-Some.call.now
+      rw (c.queue_up.ensures.positions, c.queue_up-2.ensures.positions) (queued_behind (the_view p) c.self.invariant.0 at c.in-Some.call.now
           (record c.in-Some.call.now { is_odd = c.if-call.call; is_ready = c.queue_up.new.is_there; is_again = c.queue_up-2.new.is_there }) lt c.in-Some.ensures.value refl
           c.args.is_now c.args.is_again c.queue_up.ensures.there c.queue_up-2.ensures.there),
       omega arith,

@@ -45,9 +45,9 @@ loop-event-preserved g c =
     record {
       next = tt;
       finite = tt;
-      orderly = rw (next.calls, next.places) (event_orderly p i.orderly at odd);
+      orderly = rw (next.calls, next.positions) (event_orderly p i.orderly at odd);
       room = omega (arith, i.room, c.loop-event.self-inside.1.1.1.1.1.0.ok.0, c.take_event.new.calls.ok.0, next.capacity);
-      heeds = rw (next.calls, next.places) (heeds_both c.args.self.now p _ i.heeds (heeds_event at odd p));
+      heeds = rw (next.calls, next.positions) (heeds_both c.args.self.now p _ i.heeds (heeds_event at odd p));
     }
 
 pub returns-clause-heeds : goal.returns-clause-heeds

@@ -1,4 +1,4 @@
--- How often places are in a queue, where one comes or leaves and its call's flag changes.
+-- How often positions are in a queue, where one comes or leaves and its call's flag changes.
 use Rattle.std.proofs.Common.{◌≡◌, ℕ, ◌+◌, ◌*◌, ◌<◌, ◌≤◌, eqb, Bool, true, false, cond, not, ◌&&◌, ◌||◌, List, [], ◌∷◌, ◌++◌, length, get_or, set}
 use Rattle.std.proofs.Common.{refl, ap, sym, subst, ◌∙◌, arith, length-set, get_or-set_other, eqb-true, eq-eqb, zero-add}
 use Rattle.std.specs.List.{IsDistinct, AllByRecursion, list_any}
@@ -12,7 +12,7 @@ use Rattle.gm_poll.specs.Pollers.{nobody, call_at, times, queued, AreThose}
 
 -- ---- counting
 
--- The second queue has the place once more than the first, and each other place as often.
+-- The second queue has the position once more than the first, and each other position as often.
 pub record Adds (at : ℕ) (xs ys : List ℕ) : Type 0 where
   pub more : (q : ℕ) → times q ys ≡ times q xs + cond (eqb q at) 1 0
 
@@ -65,17 +65,17 @@ there q (x ∷ xs) h = let e = times-cons q x xs in let here = by (eqb q x) (tim
 by_contradiction : (q k n : ℕ) → (n ≤ q → k ≡ 0) → 0 < k → q < n
 by_contradiction q k n past some = grind arith
 
--- places below a number, each once, are no more than it
+-- positions below a number, each once, are no more than it
 fits : (xs : List ℕ) (n : ℕ) → ((q : ℕ) → times q xs ≤ 1) → ((q : ℕ) → n ≤ q → times q xs ≡ 0) → length xs ≤ n
 fits xs n single past = length-le_from_distinct_below xs n (distinct xs single) (λ q h. by_contradiction q (times q xs) n (past q) (there q xs h))
 
--- ---- where the call at a place changes, by a flag
+-- ---- where the call at a position changes, by a flag
 
 module _ (flag : Call → Bool) (none : flag nobody ≡ false) (calls : List Call) where
   none_past : (xs : List ℕ) (q : ℕ) → AreThose flag calls xs → length calls ≤ q → times q xs ≡ 0
   none_past xs q those past = those.told q ∙ ap (λ c. cond (flag c) 1 0) (get_or_past calls q nobody past) ∙ ap (λ b. cond b 1 0) none
 
-  -- a place that is in the queue is a slot's
+  -- a position that is in the queue is a slot's
   pub within : (at : ℕ) (xs ys : List ℕ) → AreThose flag calls ys → Adds at xs ys → at < length calls
   within at xs ys those adds = by_contradiction at (times at ys) (length calls) (none_past ys at those) (omega (arith, adds.more at, once at))
 
@@ -111,7 +111,7 @@ module _ (flag : Call → Bool) (none : flag nobody ≡ false) (calls : List Cal
         by q true same more = let told = here ys those q same in let one = small (flag was) in rw after (omega arith)
         by q false other more = omega arith
 
-    -- a place that comes to the end of a queue, which is by itself, before another or behind one
+    -- a position that comes to the end of a queue, which is by itself, before another or behind one
     module _ (into : List ℕ → List ℕ) (long : (xs : List ℕ) → length xs ≤ length (into xs)) (adds : (xs : List ℕ) → Adds at (into xs) (into (xs ++ at ∷ []))) (xs : List ℕ) (those : AreThose flag calls (into xs)) where
       pub room : flag was ≡ false → length xs < length calls
       room before = omega (arith, fits (into (xs ++ at ∷ [])) (length calls) single past, long (xs ++ at ∷ []), length-append xs (at ∷ []))
