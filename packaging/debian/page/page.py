@@ -377,7 +377,7 @@ def functions_section(scene, query):
                  f'<tbody>{"".join(function_line(line, columns, scene.now) for line in chosen)}</tbody></table>')
     choice = ""
     if are_several:
-        word = "for each server" if query.is_summed else "summed up over servers"
+        word = "show each server" if query.is_summed else "sum up over servers"
         choice = f' <a class="option" href="{link_of(query, is_summed=not query.is_summed)}">{word}</a>'
     trouble = ' class="trouble"' if lines and lines[0].state != FINE else ""
     notes = functions_notes(lines, chosen, idle, query, scene.watches)
