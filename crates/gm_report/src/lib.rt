@@ -17,5 +17,5 @@ pub use summary::Summary;
 pub use systemd::{first_socket, handed_sockets};
 pub use timing::{
     ACCEPT_TIMEOUT_MS, AGAIN_MS, DELIVERING_TIME_MS, ENDING_TIME_MS, MOST_ENDING_TIME_MS,
-    TURN_TIME_US, WAKING_TIME_MS, has_passed, now_ms,
+    TURN_TIME_US, VISITING_TIME_MS, WAKING_TIME_MS, has_passed, now_ms,
 };
