@@ -11,6 +11,8 @@ use Rattle.std.proofs.lemmas.Bool.{cases_lt, cases_eq}
 use Rattle.std.proofs.lemmas.Bool.Decides.{nat_tests}
 use lib.Bits.{and_lt}
 use Rattle.gm_conns.specs.Slots.{has}
+use Rattle.std.proofs.lemmas.Bool.{and_right}
+use Rattle.std.proofs.lemmas.Bool.{and_left}
 
 yes_in : (x i slot : ℕ) (b : Bool) → x ≡ 1 → i ≡ slot → (x == 1) ≡ ((i == slot) || b)
 yes_in x i slot b e same = grind (arith, nat_tests)
@@ -78,20 +80,14 @@ module _ (used : ℕ) (words : List ℕ) (k word : ℕ) (long : length words ≡
 pub has-zero : (words : List ℕ) (i : ℕ) → get_or words (i / 64) 0 ≡ 0 → has words i ≡ false
 has-zero words i is_zero = ap (λ w. bit_at w (i % 64) == 1) is_zero ∙ ap (λ b. b == 1) (bit_at-zero (i % 64))
 
-false_and : (a b : Bool) → a ≡ false → (a && b) ≡ false
-false_and a b h = grind (arith)
-
-and_false : (a b : Bool) → b ≡ false → (a && b) ≡ false
-and_false a b h = grind (arith)
-
 -- where no word is marked in both sets, none of its slots is in both
 module _ (used : ℕ) (words : List ℕ) (are : AreUsed used words) (used_other : ℕ) (other : List ℕ) (are_other : AreUsed used_other other) where
   has_unused : (i : ℕ) → bit_at (bit_and used used_other) (i / 64) ≡ 0 → (has words i && has other i) ≡ false
   has_unused i none =
       let both = sym (bit_at_and used used_other (i / 64)) ∙ none in
       elim (cases_eq (bit_at used (i / 64)) 0) [
-        | inl unset ↦ false_and (has words i) (has other i) (has-zero words i (are (i / 64) unset))
-        | inr some ↦ and_false (has words i) (has other i) (has-zero other i (are_other (i / 64) (omega (arith, both, some))))
+        | inl unset ↦ and_left (has words i) (has other i) (has-zero words i (are (i / 64) unset))
+        | inr some ↦ and_right (has words i) (has other i) (has-zero other i (are_other (i / 64) (omega (arith, both, some))))
       ]
 
   pub has_between : (low high : ℕ) → ((at : ℕ) → low ≤ at → at < high → bit_at (bit_and used used_other) at ≡ 0)
@@ -185,4 +181,4 @@ has_past words i long past =
 
 -- nor is it in two
 pub past_both : (words other : List ℕ) (i : ℕ) → length words ≡ 16 → 1024 ≤ i → (has words i && has other i) ≡ false
-past_both words other i long past = false_and (has words i) (has other i) (has_past words i long past)
+past_both words other i long past = and_left (has words i) (has other i) (has_past words i long past)

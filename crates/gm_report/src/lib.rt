@@ -2,6 +2,7 @@
 #![tactic(auto)]
 
 mod error;
+mod levels;
 mod notices;
 mod ready;
 mod speaking;
@@ -10,6 +11,7 @@ mod systemd;
 mod timing;
 
 pub use error::ServeError;
+pub use levels::Levels;
 pub use notices::Trouble;
 pub use ready::Announcer;
 pub use speaking::Speaker;
