@@ -261,7 +261,8 @@ def counts_of(watch):
     values, found = watch.values, []
     why = "" if watch.target.unit else "Only systemd knows this. Name the service: HOST:PORT=UNIT"
     why = html.escape(watch.unit_failure or why)
-    for name, key in (("Refused", "gearman_connections_refused_total"), ("Cut", "gearman_connections_cut_total")):
+    for name, key in (("Refused", "gearman_connections_refused_total"), ("Cut", "gearman_connections_cut_total"),
+                      ("Packets not served", "gearman_packets_not_served_total")):
         found.append(pair(name, number(values.get(key)), why))
     if "gearman_memory_bytes" in values:
         found.append(pair("Memory", f"{values['gearman_memory_bytes'] / (1 << 20):,.0f} <small>MiB</small>"))
@@ -455,7 +456,8 @@ def numbers_of(watch, limits, now):
     if answer is None or answer.failure:
         return {**found, "failure": answer and answer.failure, "functions": []}
     named = {"version": "gearman_info", "connections": "gearman_connections", "slots": "gearman_slots", "memory": "gearman_memory_bytes",
-             "refused": "gearman_connections_refused_total", "cut": "gearman_connections_cut_total"}
+             "refused": "gearman_connections_refused_total", "cut": "gearman_connections_cut_total",
+             "not_served": "gearman_packets_not_served_total"}
     found |= {name: values.get(key) for name, key in named.items()}
     ended = watch.ended_of(watch.total, NONE, now)
     found |= {"ended_in_minute": ended.count, "ended_is_exact": ended.is_exact, "polled_seconds_ago": round(now - watch.polled_at, 1)}
