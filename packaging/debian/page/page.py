@@ -17,8 +17,8 @@ from watch import NONE, PAUSE, STEP, STEPS, Ended
 
 # The functions and the lines of connections that the page shows at most, and the functions in such a line.
 MAX_SHOWN, MAX_LISTED = 200, 12
-# The pages with different filters and orders that are cached for a second at most.
-MAX_CACHED = 16
+# The pages with different filters and orders that are kept, for a second or so many times as long as it took to sort all functions.
+MAX_CACHED, KEPT_BY_COST = 64, 4
 # With more functions than this, those that are idle are hidden until they are asked for.
 MAX_UNFOLDED = 20
 # The age of a queue is shown from this many seconds on.
@@ -217,12 +217,10 @@ def chart_of(values, name, what):
 def series_of(parts, now, value):
     """A value for each step of fifteen minutes, added up over servers, or None where none of them answered."""
     step = int(now // STEP)
-    found = []
-    for index in range(step - STEPS + 1, step + 1):
-        # It may not have been asked yet in the step that has just begun.
-        known = [value(history, min(index, history.step)) if history else 0 for watch, history, _ in parts
-                 if watch.has_answered(index) or index == step and watch.has_answered(step - 1)]
-        found.append(sum(known) if known else None)
+    found = [None] * STEPS
+    for watch, history, _ in parts:
+        for place, index in watch.steps_with_answers(step):
+            found[place] = (found[place] or 0) + (value(history, min(index, history.step)) if history else 0)
     return found
 
 
@@ -481,19 +479,19 @@ class Page:
                          .decode() for tag in ("style", "script"))
         self.policy = (f"default-src 'none'; style-src 'sha256-{style}'; script-src 'sha256-{script}'; connect-src 'self'; img-src data:; "
                        "form-action 'self'; base-uri 'none'; frame-ancestors 'none'")
-        self.lock, self.cached, self.scene, self.cached_second = threading.Lock(), {}, None, 0
+        self.lock, self.cached, self.scene, self.kept_until = threading.Lock(), {}, None, 0
 
     def body(self, path, query):
         """The body at this path, or None. Each is made once a second at most, and one at a time, however many clients there are."""
         make = {"/": self.html, "/metrics": self.metrics, "/json": self.json}.get(path)
         key = (path, query_of(query) if path == "/" else None)
         with self.lock:
-            second = int(time.monotonic())
-            if second != self.cached_second:
-                self.cached, self.scene, self.cached_second = {}, None, second
-            if len(self.cached) >= MAX_CACHED:
-                self.cached = {}
+            now = time.monotonic()
+            if now >= self.kept_until:
+                self.cached, self.scene, self.kept_until = {}, None, now + 1
             if make and key not in self.cached:
+                if len(self.cached) >= MAX_CACHED:
+                    del self.cached[next(iter(self.cached))]
                 self.cached[key] = make(key[1]).encode(errors="backslashreplace")
             return self.cached.get(key)
 
@@ -510,8 +508,16 @@ class Page:
         now = time.monotonic()
         return json.dumps({"servers": [numbers_of(watch, self.limits, now) for watch in self.watches]}) + "\n"
 
+    def present_scene(self):
+        """All functions as they are now, or were a moment ago."""
+        if not self.scene:
+            self.scene = Scene(self.watches, self.limits)
+            made = time.monotonic()
+            self.kept_until = made + max(1, KEPT_BY_COST * (made - self.scene.now))
+        return self.scene
+
     def html(self, query):
-        scene = self.scene = self.scene or Scene(self.watches, self.limits)
+        scene = self.present_scene()
         kept = {name: value for name, value in parameters_of(query).items() if name != "filter"}
         fields = {
             "TITLE": " · ".join([*(text for text, _ in scene.problems), "Gearman"]), "FILTER": html.escape(query.text),

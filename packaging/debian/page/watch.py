@@ -108,6 +108,7 @@ class Watch:
         self.limits = {}
         # The last step with an answer, for each index modulo STEPS.
         self.answered_steps = array.array("Q", bytes(8 * STEPS))
+        self.known_state, self.known_steps = None, []
         self.unit_step, self.unit_values, self.unit_failure = 0, {}, None
 
     def begin(self):
@@ -218,7 +219,18 @@ class Watch:
         return Ended(count, False, "")
 
     def has_answered(self, step):
+        """Whether an answer came in this step."""
         return self.answered_steps[step % STEPS] == step
+
+    def steps_with_answers(self, step):
+        """The steps of fifteen minutes up to this one in which answers came, each behind its place. Each chart of a page asks for them."""
+        state = (step, self.polled_at)
+        if state != self.known_state:
+            # It may not have been asked yet in the step that has just begun.
+            self.known_steps = [(place, index) for place, index in enumerate(range(step - STEPS + 1, step + 1))
+                                if self.has_answered(index) or index == step and self.has_answered(step - 1)]
+            self.known_state = state
+        return self.known_steps
 
 
 def jobs_of(function):
