@@ -25,8 +25,8 @@ MAX_UNFOLDED = 20
 SHOWN_AGE = 60
 NO_WORKERS, TAKE_NONE, MORE_RUN, ONLY_GROWN, FULL, FINE = range(6)
 STATES = {NO_WORKERS: ("bad", "no workers", "Jobs wait, and no worker can do them."),
-          TAKE_NONE: ("bad", "workers take none", "Jobs wait, and in half a minute none was seen to run or to end. Workers of PHP and C need "
-                      "GEARMAN_WORKER_GRAB_UNIQ; the journal of gmd says which packets it doesn't serve."),
+          TAKE_NONE: ("bad", "workers take none", "Jobs wait, and in half a minute none was seen to run or to end. Workers of PHP and C "
+                      "need GEARMAN_WORKER_GRAB_UNIQ; the journal of gmd says which packets it doesn't serve."),
           MORE_RUN: ("warn", "more run than workers", "A worker has several jobs, or one that it has left without an end."),
           ONLY_GROWN: ("note", "only grown", "The queue has grown and not fallen in the last five minutes, or since it was first seen."),
           FULL: ("note", "at its limit", "New jobs are refused with queue_full."),
@@ -56,7 +56,8 @@ def query_of(text):
 def parameters_of(query):
     """The address's parameters that ask for this."""
     order = f"{'-' * query.is_reversed}{query.order}"
-    given = (("filter", query.text), ("sort", order), ("server", query.server), ("sum", "1" * query.is_summed), ("idle", "1" * query.shows_idle))
+    given = (("filter", query.text), ("sort", order), ("server", query.server), ("sum", "1" * query.is_summed),
+             ("idle", "1" * query.shows_idle))
     return {name: value for name, value in given if value}
 
 
@@ -173,7 +174,8 @@ class Scene:
         """The lines, each with what a filter compares."""
         if is_summed not in self.sorted:
             lines = all_lines(self.watches, self.limits, self.now)
-            self.sorted[is_summed] = [(line.function.casefold(), line) for line in sorted(added_up(lines) if is_summed else lines, key=importance)]
+            lines = sorted(added_up(lines) if is_summed else lines, key=importance)
+            self.sorted[is_summed] = [(line.function.casefold(), line) for line in lines]
         return self.sorted[is_summed]
 
     def found(self, query):
@@ -277,7 +279,8 @@ def since_of(watch, now):
     at = time.strftime("%Y-%m-%d %H:%M:%S", time.localtime(since))
     how = "since" if is_known else "since this page began, or longer:"
     age = now - watch.polled_at
-    return (f'for {"" if is_known else "at least "}<time title="{how} {at}. Polled {duration(age)} ago">{duration(time.time() - since)}</time>'
+    title = f"{how} {at}. Polled {duration(age)} ago"
+    return (f'for {"" if is_known else "at least "}<time title="{title}">{duration(time.time() - since)}</time>'
             + (f", polled {duration(age)} ago" if age > 3 * PAUSE else ""))
 
 
@@ -367,8 +370,8 @@ def functions_section(scene, query):
     lines, idle = scene.found(query)
     chosen = chosen_lines(lines, query, scene.now)
     are_several = len(scene.watches) > 1
-    columns = [column for column in COLUMNS
-               if (column != "server" or are_several) and (column != "limit" or scene.limits or any(watch.limits for watch in scene.watches))]
+    has_limits = scene.limits or any(watch.limits for watch in scene.watches)
+    columns = [column for column in COLUMNS if (column != "server" or are_several) and (column != "limit" or has_limits)]
     table = ""
     if lines:
         heads = "".join(column_head(column, COLUMNS[column], query) for column in columns)
@@ -450,7 +453,8 @@ def numbers_of(watch, limits, now):
     """What is known of a server, for programs."""
     answer, values = watch.answer, watch.values
     since, is_known = watch.up_since()
-    found = {"server": label_of(watch.target), "up": None if answer is None else not answer.failure, "since": since, "since_is_known": is_known}
+    found = {"server": label_of(watch.target), "up": None if answer is None else not answer.failure, "since": since,
+             "since_is_known": is_known}
     if answer is None or answer.failure:
         return {**found, "failure": answer and answer.failure, "functions": []}
     named = {"version": "gearman_info", "connections": "gearman_connections", "slots": "gearman_slots", "memory": "gearman_memory_bytes",
@@ -462,8 +466,8 @@ def numbers_of(watch, limits, now):
     functions = []
     for line in sorted(all_lines([watch], limits, now), key=importance):
         ended = ended_of(line, now)
-        functions.append({"function": line.function, "state": STATES[line.state][1] or "fine", "waiting": line.waiting, "running": line.running,
-                          "workers": line.workers, "limit": line.limit, "ended_in_minute": ended.count, "ended_is_exact": ended.is_exact})
+        functions.append({"function": line.function, "state": STATES[line.state][1] or "fine", "waiting": line.waiting,
+                          "running": line.running, "workers": line.workers, "limit": line.limit, "ended_in_minute": ended.count, "ended_is_exact": ended.is_exact})
     return {**found, "functions": functions}
 
 

@@ -211,11 +211,11 @@ class Watch:
             if history is self.total or missing <= 0 or not (count or function.workers or function.running):
                 return Ended(count, True, "")
             if count < missing:
-                return Ended(None, False, f"{count:,} were seen to end in the last minute. {missing:,} more jobs of this server came and ended "
-                             "between two polls, and of which functions isn't known.")
+                return Ended(None, False, f"{count:,} were seen to end in the last minute. {missing:,} more jobs of this server came and "
+                             "ended between two polls, and of which functions isn't known.")
         elif history and count < bin(history.running_steps).count("1"):
-            return Ended(None, False, f"{count:,} were seen to end in the last minute, but jobs ran in most of it: they run longer, or come and "
-                         "end between two polls.")
+            return Ended(None, False, f"{count:,} were seen to end in the last minute, but jobs ran in most of it: they run longer, or come "
+                         "and end between two polls.")
         return Ended(count, False, "")
 
     def has_answered(self, step):
