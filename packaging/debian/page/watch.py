@@ -40,7 +40,7 @@ class History:
     def __init__(self, now, empty_at=None):
         self.step = self.busy_step = int(now // STEP)
         self.begin(now, empty_at)
-        # A bit for each of the last minute's steps in which jobs were seen to run, the present one lowest.
+        # A bit for each step in which jobs were seen to run, the present one lowest, and those of the minute before it.
         self.running_steps = 0
         self.waiting, self.ended = array.array("I", bytes(4 * STEPS)), array.array("I", bytes(4 * STEPS))
 
@@ -61,7 +61,7 @@ class History:
             self.untaken_since = now
         for passed in range(max(self.step, step - STEPS) + 1, step + 1):
             self.waiting[passed % STEPS] = self.ended[passed % STEPS] = 0
-        self.running_steps = (self.running_steps << min(step - self.step, MINUTE) | bool(function.running)) & (1 << MINUTE) - 1
+        self.running_steps = (self.running_steps << min(step - self.step, MINUTE + 1) | bool(function.running)) & (2 << MINUTE) - 1
         if waiting or ended:
             self.busy_step = step
         self.step = step
@@ -202,10 +202,10 @@ class Watch:
         self.ended += exact
 
     def ended_of(self, history, function, now):
-        """How many jobs of a function, or of the whole server, ended in the last minute, as far as polls tell."""
-        step = int(now // STEP)
+        """How many jobs of a function, or of the whole server, ended in the minute of the last whole steps, as far as polls tell."""
+        step = int(now // STEP) - 1
         count = history.ended_in_minute(step) if history else 0
-        is_counted = self.options.counts_jobs and step - self.uncounted_step > MINUTE
+        is_counted = self.options.counts_jobs and step - self.uncounted_step >= MINUTE
         if is_counted:
             missing = self.total.ended_in_minute(step) - self.fallen.ended_in_minute(step)
             if history is self.total or missing <= 0 or not (count or function.workers or function.running):
@@ -213,7 +213,7 @@ class Watch:
             if count < missing:
                 return Ended(None, False, f"{count:,} were seen to end in the last minute. {missing:,} more jobs of this server came and "
                              "ended between two polls, and of which functions isn't known.")
-        elif history and count < bin(history.running_steps).count("1"):
+        elif history and count < bin(history.running_steps >> 1).count("1"):
             return Ended(None, False, f"{count:,} were seen to end in the last minute, but jobs ran in most of it: they run longer, or come "
                          "and end between two polls.")
         return Ended(count, False, "")
