@@ -35,13 +35,13 @@ MADE = "gearman_jobs_created_total"
 
 class History:
     """Fifteen minutes of a function: the jobs that waited at the end of each step, and the jobs that ended in it, as far as was seen."""
-    __slots__ = ("step", "busy_step", "rises_since", "untaken_since", "empty_at", "saw_empty", "running_steps", "waiting", "ended")
+    __slots__ = ("step", "busy_step", "rises_since", "untaken_since", "empty_at", "saw_empty", "passing_steps", "waiting", "ended")
 
     def __init__(self, now, empty_at=None):
         self.step = self.busy_step = int(now // STEP)
         self.begin(now, empty_at)
-        # A bit for each step in which jobs were seen to run, the present one lowest, and those of the minute before it.
-        self.running_steps = 0
+        # A bit for each step in which jobs ran or ended beside an empty queue, the present one lowest, and those of the minute before it.
+        self.passing_steps = 0
         self.waiting, self.ended = array.array("I", bytes(4 * STEPS)), array.array("I", bytes(4 * STEPS))
 
     def begin(self, now, empty_at=None):
@@ -61,7 +61,8 @@ class History:
             self.untaken_since = now
         for passed in range(max(self.step, step - STEPS) + 1, step + 1):
             self.waiting[passed % STEPS] = self.ended[passed % STEPS] = 0
-        self.running_steps = (self.running_steps << min(step - self.step, MINUTE + 1) | bool(function.running)) & (2 << MINUTE) - 1
+        is_passing = not waiting and bool(function.running or ended)
+        self.passing_steps = (self.passing_steps << min(step - self.step, MINUTE + 1) | is_passing) & (2 << MINUTE) - 1
         if waiting or ended:
             self.busy_step = step
         self.step = step
@@ -213,9 +214,10 @@ class Watch:
             if count < missing:
                 return Ended(None, False, f"{count:,} were seen to end in the last minute. {missing:,} more jobs of this server came and "
                              "ended between two polls, and of which functions isn't known.")
-        elif history and count < bin(history.running_steps >> 1).count("1"):
-            return Ended(None, False, f"{count:,} were seen to end in the last minute, but jobs ran in most of it: they run longer, or come "
-                         "and end between two polls.")
+        elif history and history.passing_steps >> 1:
+            # Where the queue is never empty, a new job waits behind others.
+            return Ended(None, False, f"{count:,} were seen to end in the last minute. The queue was empty meanwhile, so that more may have "
+                         "come and ended between two polls.")
         return Ended(count, False, "")
 
     def has_answered(self, step):
