@@ -70,6 +70,9 @@ class PostgreSQL:
     def start(self):
         self.call("pg_ctl", "-D", "data", "-w", "-l", "log", "start")
 
+    def stop(self):
+        self.call("pg_ctl", "-D", "data", "-w", "-m", "fast", "stop")
+
     def restart(self, mode):
         self.call("pg_ctl", "-D", "data", "-w", "-m", mode, "-l", "log", "restart")
 

@@ -304,7 +304,7 @@ class Carrier:
         while self.keeper.claimed:
             row = self.keeper.claimed.popleft()
             links = [link for link in self.links[self.turn :] + self.links[: self.turn] if link.is_up]
-            if row.size > self.options.max_data or row.data is None:
+            if row.data is None:
                 self.end(failed(row, f"its data have over {self.options.max_data} bytes", self.options.delays, is_final=True))
             elif not row.function or b"\0" in row.function + row.unique:
                 self.end(failed(row, "no job has such a function or unique id", self.options.delays, is_final=True))
