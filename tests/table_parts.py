@@ -215,8 +215,8 @@ class Gmd:
 class Table:
     """A gmd-table that runs."""
 
-    def __init__(self, database, ports, *options, under=(), env=None):
-        self.arguments = [*under, PROGRAM, "run", *options, database.address, *(f"127.0.0.1:{port}" for port in ports)]
+    def __init__(self, database, ports, *options, address=None, env=None):
+        self.arguments = [PROGRAM, "run", *options, address or database.address, *(f"127.0.0.1:{port}" for port in ports)]
         self.env = env
         self.error = tempfile.TemporaryFile(dir=ROOM_PATH)
         self.begin()

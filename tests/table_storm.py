@@ -76,7 +76,8 @@ class Storm:
     def strike(self, servers, tables, crew):
         """One event. Rows on the way may be done twice after most of them."""
         if not self.deck:
-            self.deck = ["server", "table", "table", "worker", "worker"] + (["restart", "crash"] if self.database.kind == "postgresql" else [])
+            of_database = ["restart", "crash"] if self.database.kind == "postgresql" else []
+            self.deck = ["server", "table", "table", "worker", "worker", *of_database]
             self.dice.shuffle(self.deck)
         kind = self.deck.pop()
         self.events[kind] += 1
