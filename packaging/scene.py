@@ -9,7 +9,7 @@ import threading
 import time
 
 import servers
-from servers import (CAN_DO, GRAB_JOB, JOB_ASSIGN, JOB_CREATED, PATIENCE, ROOM_PATH, SUBMIT_JOB_BG, WORK_COMPLETE, Client, Wrong, within)
+from servers import (CAN_DO, GRAB_JOB, GRAB_JOB_ALL, JOB_ASSIGN, JOB_CREATED, PATIENCE, ROOM_PATH, SUBMIT_JOB_BG, WORK_COMPLETE, Client, Wrong, within)
 
 SET_CLIENT_ID, CANT_DO = 22, 2
 
@@ -116,6 +116,13 @@ class Worker(Client):
         within("a job", self.take)
         self.send(CANT_DO, function)
         self.line(b"version")
+
+    def grab_in_vain(self, until):
+        """Grabs as libgearman's workers do without an option, which gmd refuses."""
+        with contextlib.suppress(OSError, EOFError):
+            while not until.is_set():
+                self.answer(GRAB_JOB_ALL)
+                until.wait(0.3)
 
     def work(self, seconds, until):
         """Does jobs that take so long."""

@@ -54,6 +54,11 @@ def within(what, call, seconds=PATIENCE):
         time.sleep(0.02)
 
 
+def most_memory(process):
+    """How many kB of memory a process had at most."""
+    return int(re.search(r"VmHWM:\s+(\d+) kB", pathlib.Path(f"/proc/{process.pid}/status").read_text())[1])
+
+
 @contextlib.contextmanager
 def own_port():
     """A port for servers, which nobody else gets meanwhile: a socket that doesn't listen has it too. The system lets both have it, as

@@ -2,9 +2,10 @@
  *
  * The variable FAIL is KIND:N, or KIND:N.. for the Nth and all that follow. KIND is growth (malloc, calloc and realloc), late
  * (growths behind the first of 16 MiB), read (read and recv), write (write and writev), send (send and sendmsg), or setting
- * (setsockopt). Where a call failed, a byte is written to the descriptor of the variable FAIL_TOLD. Where KIND is accept, each
+ * (setsockopt), or seed (getentropy). Where a call failed, a byte is written to the descriptor of the variable FAIL_TOLD. Where KIND is accept, each
  * accept after the Nth connection fails with the error of the variable FAIL_ERROR, a number. Where FAIL is options, no call fails:
- * before each send that descriptor gets six numbers, to which the socket's options are set (OPTION_NAMES).
+ * before each send that descriptor gets six numbers, to which the socket's options are set (OPTION_NAMES). Where it is steady, no call
+ * fails, and each seed is the same.
  *
  * A test asks for it itself: a growth to 2^47 + N bytes, which succeeds nowhere else, has the Nth growth after it refused, and
  * one to 2^47 bytes ends that, and succeeds where one was refused. */
@@ -18,9 +19,9 @@ extern long syscall(long, ...);
 extern char *getenv(const char *);
 extern int *__errno_location(void);
 
-enum { NONE, GROWTH, LATE, READ, WRITE, SEND, SETTING, ACCEPT, OPTIONS };
+enum { NONE, GROWTH, LATE, READ, WRITE, SEND, SETTING, SEED, ACCEPT, OPTIONS, STEADY };
 enum { SYS_READ = 0, SYS_WRITE = 1, SYS_WRITEV = 20, SYS_SENDTO = 44, SYS_RECVFROM = 45, SYS_SENDMSG = 46, SYS_SETSOCKOPT = 54,
-       SYS_GETSOCKOPT = 55, SYS_ACCEPT4 = 288 };
+       SYS_GETSOCKOPT = 55, SYS_ACCEPT4 = 288, SYS_GETRANDOM = 318 };
 enum { SOL_SOCKET = 1, SO_KEEPALIVE = 9, IPPROTO_TCP = 6, TCP_NODELAY = 1, TCP_KEEPIDLE = 4, TCP_KEEPINTVL = 5, TCP_KEEPCNT = 6,
        TCP_USER_TIMEOUT = 18 };
 enum { EIO = 5, ENOMEM = 12 };
@@ -53,13 +54,14 @@ static const char *after(const char *text, const char *word) {
 }
 
 __attribute__((constructor)) static void read_settings(void) {
-    static const char *const KINDS[] = {"", "growth:", "late:", "read:", "write:", "send:", "setting:", "accept:", "options"};
+    static const char *const KINDS[] = {"", "growth:", "late:", "read:", "write:", "send:", "setting:", "seed:", "accept:", "options",
+                                        "steady"};
     const char *text = getenv("FAIL"), *number;
     if (getenv("FAIL_TOLD"))
         told = number_at(getenv("FAIL_TOLD"));
     if (getenv("FAIL_ERROR"))
         accept_error = number_at(getenv("FAIL_ERROR"));
-    for (int at = GROWTH; text && at <= OPTIONS; at++)
+    for (int at = GROWTH; text && at <= STEADY; at++)
         if ((number = after(text, KINDS[at]))) {
             left = number_at(number);
             for (; *number; number++)
@@ -162,6 +164,16 @@ long sendmsg(int fd, const void *message, int flags) {
 
 int setsockopt(int fd, int level, int name, const void *value, unsigned size) {
     return fails(SETTING, EIO) ? -1 : syscall(SYS_SETSOCKOPT, fd, level, name, value, size);
+}
+
+int getentropy(void *bytes, size_t size) {
+    if (fails(SEED, EIO))
+        return -1;
+    if (kind != STEADY)
+        return syscall(SYS_GETRANDOM, bytes, size, 0) == (long)size ? 0 : -1;
+    for (size_t at = 0; at < size; at++)
+        ((unsigned char *)bytes)[at] = 37 * at + 11;
+    return 0;
 }
 
 int accept4(int fd, void *address, void *size, int flags) {

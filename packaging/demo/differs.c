@@ -30,6 +30,16 @@ static void *mail(gearman_job_st *job, void *context, size_t *size, gearman_retu
     return NULL;
 }
 
+/* As functions of the library's second version answer. */
+static gearman_return_t mail2(gearman_job_st *job, void *context)
+{
+    (void) job;
+    (void) context;
+    puts("job");
+    fflush(stdout);
+    return strcmp(what, "v2-error") == 0 ? GEARMAN_ERROR : strcmp(what, "v2-fail") == 0 ? GEARMAN_FATAL : GEARMAN_SUCCESS;
+}
+
 int main(int count, char **arguments)
 {
     if (count != 3)
@@ -53,7 +63,10 @@ int main(int count, char **arguments)
     gearman_worker_add_options(worker, GEARMAN_WORKER_GRAB_UNIQ);
     gearman_worker_set_identifier(worker, "c@mail", strlen("c@mail"));
     gearman_worker_add_server(worker, "127.0.0.1", atoi(arguments[1]));
-    gearman_worker_add_function(worker, "mail", 0, mail, NULL);
+    if (strncmp(what, "v2", 2) == 0)
+        gearman_worker_define_function(worker, "mail", 4, gearman_function_create(mail2), 0, NULL);
+    else
+        gearman_worker_add_function(worker, "mail", 0, mail, NULL);
     for (;;)
         if (gearman_worker_work(worker) != GEARMAN_SUCCESS)
             usleep(200000);

@@ -64,6 +64,54 @@ if ($what === 'throws' || $what === 'sends' || $what === 'slow' || $what === 'lo
         return $what === 'long' ? str_repeat('x', 2000000) : 'done';
     }, null, (int) $argument);
     work($worker);
+} elseif ($what === 'application') {
+    // A worker that reports all that there is.
+    $worker = worker($port);
+    $worker->addFunction('mail', function ($job) {
+        echo $job->workload(), "\n";
+        $job->sendStatus(1, 2);
+        $job->sendData('part');
+        $job->sendWarning('careful');
+        if ($job->workload() === 'bad') {
+            $job->sendFail();
+            return null;
+        }
+        return strrev($job->workload());
+    });
+    work($worker);
+} elseif ($what === 'queues') {
+    // Jobs in the background of each priority, of which two have one id, and the status of the last.
+    $client = client($port);
+    $client->doLowBackground('mail', 'low');
+    $client->doBackground('mail', 'normal', 'id');
+    $client->doBackground('mail', 'joins', 'id');
+    $handle = $client->doHighBackground('mail', 'high');
+    echo json_encode($client->jobStatus($handle)), "\n";
+} elseif ($what === 'tasks') {
+    // Tasks of each priority at once, with callbacks, and then calls.
+    $client = client($port);
+    $said = [];
+    foreach (['Created', 'Data', 'Warning', 'Status', 'Complete', 'Fail'] as $kind) {
+        $client->{"set{$kind}Callback"}(function ($task) use (&$said, $kind) {
+            $said[$task->unique()][] = $kind . match ($kind) {
+                'Data', 'Warning', 'Complete' => ' ' . $task->data(),
+                'Status' => ' ' . $task->taskNumerator() . '/' . $task->taskDenominator(),
+                default => '',
+            };
+        });
+    }
+    $client->addTaskHigh('mail', 'abc', null, 'one');
+    $client->addTask('mail', 'bad', null, 'two');
+    $client->addTaskLow('mail', 'def', null, 'three');
+    $client->runTasks();
+    ksort($said);
+    echo json_encode($said, JSON_UNESCAPED_SLASHES), "\n", json_encode([$client->doHigh('mail', 'ab'), $client->doLow('mail', 'cd')]), "\n";
+} elseif ($what === 'options') {
+    // What options() says before and after the option is set.
+    $worker = new GearmanWorker();
+    $before = $worker->options();
+    $worker->addOptions(GEARMAN_WORKER_GRAB_UNIQ);
+    echo json_encode([$before, $worker->options()]), "\n";
 } elseif ($what === 'without') {
     $worker = worker($port, false);
     $worker->addFunction('mail', fn ($job) => 'done');

@@ -5,14 +5,15 @@ use Rattle.std.specs.Borrow.{Bor}
 use Rattle.std.specs.Prelude.{MatchOption, ◌==◌, ◌||◌, if◌then◌else◌}
 use Rattle.std.specs.List.{list_any}
 use Rattle.std.specs.Str.{bytes_eq, IsUtf8}
-use Rattle.std.specs.Str.Parse.{ParsesUnsigned, digits_value}
-use Rattle.std.proofs.lemmas.Fmt.{parse-decimal, IsAscii-decimal, decimal_is_IsNumeral}
+use Rattle.std.specs.Str.Parse.{ParsesUnsigned}
+use Rattle.std.proofs.lemmas.Fmt.{parse-decimal, IsAscii-decimal}
 use Rattle.std.proofs.lemmas.Str.{IsUtf8-from_ascii}
 use Rattle.std.proofs.lemmas.Slice.Eq.{bytes_eq-Decides}
 use Rattle.std.proofs.lemmas.List.{append_cancel_left}
 use Rattle.std.proofs.lemmas.Bool.Decides.{nat_tests}
 use Rattle.gm_notes.specs.Settings.{Settings}
 use Rattle.gm_notes.specs.Jobs.{handle, is_handle}
+use Rattle.std.proofs.lemmas.Fmt.{decimal_injective}
 
 -- what is no text is no number
 pub not_utf8 : (bytes : List ℕ) → (IsUtf8 bytes → ⊥) → (n : ℕ) → n < 2 ^ 64 → bytes ≡ decimal n → ⊥
@@ -45,11 +46,8 @@ none_found k text (n ∷ jobs) small none =
     let other : is_handle k text n ≡ false = other_bytes (handle k n) text (λ e. none n small.0 (sym e)) in
     rw other (none_found k text jobs small.1 none)
 
-same_number : (m n : ℕ) → m < 2 ^ 64 → n < 2 ^ 64 → decimal m ≡ decimal n → m ≡ n
-same_number m n small lt e = sym (decimal_is_IsNumeral m small).1 ∙ (ap (digits_value 10) e ∙ (decimal_is_IsNumeral n lt).1)
-
 same_handle : (k : Settings) (m n : ℕ) → m < 2 ^ 64 → n < 2 ^ 64 → handle k m ≡ handle k n → m ≡ n
-same_handle k m n small lt e = same_number m n small lt (append_cancel_left (codes "H:" ++ k.name ++ codes ":") (decimal m) (decimal n) e)
+same_handle k m n small lt e = decimal_injective m n small lt (append_cancel_left (codes "H:" ++ k.name ++ codes ":") (decimal m) (decimal n) e)
 
 pub one_found : (k : Settings) (text : List ℕ) (n : ℕ) (jobs : List ℕ) → AllSmall jobs → n < 2 ^ 64 → text ≡ handle k n
     → find (is_handle k text) jobs ≡ (if list_any (λ m. m == n) jobs then Some n else None)

@@ -15,6 +15,7 @@ use Rattle.gm_conns.specs.Slots.{has}
 use Rattle.gm_conns.specs.Connections.{Connection, closed, opened, is_able}
 use Rattle.gm_conns.specs.ConnTables.{Able, Table, able_of, in_slot, conn, IsOpen, IsKept, Changes}
 use Rattle.gm_conns.specs.declared.conns.Conns.TheInside.{Inside}
+use Rattle.gm_notes.proofs.Numbers.{same_number}
 
 abbrev phase_of : Connection → Phase
 phase_of x = x.phase
@@ -56,9 +57,6 @@ at_slot f conns slot c now within = ap f (in_slot-set conns slot c now within) �
     by : (b : Bool) → f (if b then now else in_slot conns c) ≡ (if b then f now else f (in_slot conns c))
     by true = refl
     by false = refl
-
-same_eq : (n : ℕ) → (n == n) ≡ true
-same_eq n = grind (arith, nat_tests)
 
 other_eq : (m n : ℕ) → m ≢ n → (m == n) ≡ false
 other_eq m n ne = grind (arith, nat_tests)
@@ -198,10 +196,10 @@ module _ (conns : List Connection) (able : List Able) (free asleep : List ℕ) (
         → ((g : ℕ) → is_able g changed ≡ (not (g == f) && is_able g old)) → is_able f old ≡ true
         → IsKept (set conns slot now) (set able f set_now) free asleep
     IsKept-loses slots count ables was =
-        let gone : is_able f changed ≡ false = ables f ∙ ap (λ b. not b && is_able f old) (same_eq f) in
+        let gone : is_able f changed ≡ false = ables f ∙ ap (λ b. not b && is_able f old) (same_number f) in
         let less : set_now.count + 1 ≡ set_of.count + 0 = omega arith in
         changes_set
-        (slots slot ∙ ap (λ b. not b && has set_of.slots slot) (same_eq slot) ∙ sym gone)
+        (slots slot ∙ ap (λ b. not b && has set_of.slots slot) (same_number slot) ∙ sym gone)
         (λ c ne. slots c ∙ ap (λ b. not b && has set_of.slots c) (other_eq c slot ne))
         ((λ j. set_now.count + (if was j then 1 else 0)) ∙ less ∙ (λ j. set_of.count + (if sym gone j then 1 else 0)))
         (λ g ne. ables g ∙ ap (λ b. not b && is_able g old) (other_eq g f ne))
@@ -211,10 +209,10 @@ module _ (conns : List Connection) (able : List Able) (free asleep : List ℕ) (
         → ((g : ℕ) → is_able g changed ≡ ((g == f) || is_able g old)) → is_able f old ≡ false
         → IsKept (set conns slot now) (set able f set_now) free asleep
     IsKept-gains slots count ables was =
-        let come : is_able f changed ≡ true = ables f ∙ ap (λ b. b || is_able f old) (same_eq f) in
+        let come : is_able f changed ≡ true = ables f ∙ ap (λ b. b || is_able f old) (same_number f) in
         let more : set_now.count + 0 ≡ set_of.count + 1 = omega arith in
         changes_set
-        (slots slot ∙ ap (λ b. b || has set_of.slots slot) (same_eq slot) ∙ sym come)
+        (slots slot ∙ ap (λ b. b || has set_of.slots slot) (same_number slot) ∙ sym come)
         (λ c ne. slots c ∙ ap (λ b. b || has set_of.slots c) (other_eq c slot ne))
         ((λ j. set_now.count + (if was j then 1 else 0)) ∙ more ∙ (λ j. set_of.count + (if sym come j then 1 else 0)))
         (λ g ne. ables g ∙ ap (λ b. b || is_able g old) (other_eq g f ne))
@@ -315,7 +313,7 @@ Changes-set conns touched touched' slot change touches old now within read is to
   conns = λ c.
       in_slot-set conns slot c now within
       ∙ sym (chosen (if c == slot then change (in_slot conns c) else in_slot conns c) now (in_slot conns c) c slot
-      (λ e. taken (change (in_slot conns c)) (in_slot conns c) (c == slot) (ap (λ k. k == slot) e ∙ same_eq slot) ∙ ap (λ k. change (in_slot conns k)) e ∙ sym (is ∙ ap change (read ∙ get_or_default conns slot old closed within)))
+      (λ e. taken (change (in_slot conns c)) (in_slot conns c) (c == slot) (ap (λ k. k == slot) e ∙ same_number slot) ∙ ap (λ k. change (in_slot conns k)) e ∙ sym (is ∙ ap change (read ∙ get_or_default conns slot old closed within)))
       (λ ne. passed (change (in_slot conns c)) (in_slot conns c) (c == slot) (other_eq c slot ne)));
   touched = touch;
 }
@@ -370,14 +368,14 @@ requeued {view} change viewed is does = ap (λ (q : Queued). record view { waiti
 -- where the function isn't there, taking it out changes nothing
 pub stays_unable : (f : ℕ) (x : Connection) → is_able f x ≡ false → (g : ℕ) → (not (g == f) && is_able g x) ≡ is_able g x
 stays_unable f x unable g = elim (cases_eq g f) [
-  | inl e ↦ ap (λ b. not b && is_able g x) (ap (λ k. k == f) e ∙ same_eq f) ∙ sym (ap (λ k. is_able k x) e ∙ unable)
+  | inl e ↦ ap (λ b. not b && is_able g x) (ap (λ k. k == f) e ∙ same_number f) ∙ sym (ap (λ k. is_able k x) e ∙ unable)
   | inr ne ↦ ap (λ b. not b && is_able g x) (other_eq g f ne)
 ]
 
 -- and where it is there, adding it makes nobody able
 pub stays_able : (f : ℕ) (x : Connection) → is_able f x ≡ true → (g : ℕ) → ((g == f) || is_able g x) ≡ is_able g x
 stays_able f x able g = elim (cases_eq g f) [
-  | inl e ↦ ap (λ b. b || is_able g x) (ap (λ k. k == f) e ∙ same_eq f) ∙ sym (ap (λ k. is_able k x) e ∙ able)
+  | inl e ↦ ap (λ b. b || is_able g x) (ap (λ k. k == f) e ∙ same_number f) ∙ sym (ap (λ k. is_able k x) e ∙ able)
   | inr ne ↦ ap (λ b. b || is_able g x) (other_eq g f ne)
 ]
 
@@ -424,7 +422,7 @@ module _ (conns : List Connection) (able : List Able) (free asleep : List ℕ) (
 
 -- what a change makes of its slot
 pub changed_here : (slot : ℕ) (change : Connection → Connection) (touches : Bool) (old new : Table) → Changes slot change touches old new → conn new slot ≡ change (conn old slot)
-changed_here slot change touches old new is = is.conns slot ∙ taken (change (conn old slot)) (conn old slot) (slot == slot) (same_eq slot)
+changed_here slot change touches old new is = is.conns slot ∙ taken (change (conn old slot)) (conn old slot) (slot == slot) (same_number slot)
 
 -- one change after another
 pub changes_twice : (slot : ℕ) (first second both : Connection → Connection) (old between new : Table) → Changes slot first false old between → Changes slot second true between new
@@ -448,4 +446,4 @@ count_below p conns slot now within was will =
 
 -- a function that was added is there
 pub is_added : (f : ℕ) (b : Bool) → ((f == f) || b) ≡ true
-is_added f b = ap (λ t. t || b) (same_eq f)
+is_added f b = ap (λ t. t || b) (same_number f)

@@ -1,6 +1,6 @@
 -- What a bit of a word says of a slot.
-use Rattle.std.proofs.Common.{◌≡◌, ◌≢◌, ℕ, zero, suc, ◌+◌, ◌-◌, ◌*◌, ◌/◌, ◌%◌, ◌^◌, ◌<◌, ◌≤◌, min, max, bit_and, bit_or, w64, arith}
-use Rattle.std.proofs.Common.{Bool, true, false, cond, not, ◌&&◌, ◌||◌, ◌==◌, inl, inr, List, [], ◌∷◌, length, filter, get_or, set, refl}
+use Rattle.std.proofs.Common.{◌≡◌, ◌≢◌, ℕ, ◌+◌, ◌-◌, ◌*◌, ◌/◌, ◌%◌, ◌^◌, ◌<◌, ◌≤◌, min, max, bit_and, bit_or, w64, arith}
+use Rattle.std.proofs.Common.{Bool, false, not, ◌&&◌, ◌||◌, ◌==◌, inl, inr, List, length, get_or, set}
 use Rattle.std.proofs.Common.{sym, ap, subst, ◌∙◌}
 use Rattle.std.specs.Int.{bit_at, bit_not, trailing_zeros}
 use Rattle.std.proofs.lemmas.Nat.Bits.{bit_at-zero, bit_at-lt, bit_at_and, bit_at_or, bit_at_set_same, bit_at_set_other, bit_at_clear_same}
@@ -10,8 +10,9 @@ use Rattle.std.proofs.lemmas.List.{get_or-set_same, get_or-set_other, get_or_pas
 use Rattle.std.proofs.lemmas.Bool.{cases_lt, cases_eq}
 use Rattle.std.proofs.lemmas.Bool.Decides.{nat_tests}
 use lib.Bits.{and_lt}
-use Rattle.gm_notes.specs.Notes.{slots_from}
-use Rattle.gm_conns.specs.Slots.{has, slots_left}
+use Rattle.gm_conns.specs.Slots.{has}
+use Rattle.std.proofs.lemmas.Bool.{and_right}
+use Rattle.std.proofs.lemmas.Bool.{and_left}
 
 yes_in : (x i slot : ℕ) (b : Bool) → x ≡ 1 → i ≡ slot → (x == 1) ≡ ((i == slot) || b)
 yes_in x i slot b e same = grind (arith, nat_tests)
@@ -79,20 +80,14 @@ module _ (used : ℕ) (words : List ℕ) (k word : ℕ) (long : length words ≡
 pub has-zero : (words : List ℕ) (i : ℕ) → get_or words (i / 64) 0 ≡ 0 → has words i ≡ false
 has-zero words i is_zero = ap (λ w. bit_at w (i % 64) == 1) is_zero ∙ ap (λ b. b == 1) (bit_at-zero (i % 64))
 
-false_and : (a b : Bool) → a ≡ false → (a && b) ≡ false
-false_and a b h = grind (arith)
-
-and_false : (a b : Bool) → b ≡ false → (a && b) ≡ false
-and_false a b h = grind (arith)
-
 -- where no word is marked in both sets, none of its slots is in both
 module _ (used : ℕ) (words : List ℕ) (are : AreUsed used words) (used_other : ℕ) (other : List ℕ) (are_other : AreUsed used_other other) where
   has_unused : (i : ℕ) → bit_at (bit_and used used_other) (i / 64) ≡ 0 → (has words i && has other i) ≡ false
   has_unused i none =
       let both = sym (bit_at_and used used_other (i / 64)) ∙ none in
       elim (cases_eq (bit_at used (i / 64)) 0) [
-        | inl unset ↦ false_and (has words i) (has other i) (has-zero words i (are (i / 64) unset))
-        | inr some ↦ and_false (has words i) (has other i) (has-zero other i (are_other (i / 64) (omega (arith, both, some))))
+        | inl unset ↦ and_left (has words i) (has other i) (has-zero words i (are (i / 64) unset))
+        | inr some ↦ and_right (has words i) (has other i) (has-zero other i (are_other (i / 64) (omega (arith, both, some))))
       ]
 
   pub has_between : (low high : ℕ) → ((at : ℕ) → low ≤ at → at < high → bit_at (bit_and used used_other) at ≡ 0)
@@ -186,41 +181,4 @@ has_past words i long past =
 
 -- nor is it in two
 pub past_both : (words other : List ℕ) (i : ℕ) → length words ≡ 16 → 1024 ≤ i → (has words i && has other i) ≡ false
-past_both words other i long past = false_and (has words i) (has other i) (has_past words i long past)
-
--- ---- the slots of a set, in rising order
-
-module _ (p : ℕ → Bool) where
-  -- a slot of the set comes first, where none before it is in the set
-  filter-first : (n from r : ℕ) → from ≤ r → r < from + n → p r ≡ true → ((i : ℕ) → from ≤ i → i < r → p i ≡ false)
-      → filter p (slots_from from n) ≡ r ∷ filter p (slots_from (suc r) (from + n - suc r))
-  filter-first zero from r low high is none = absurd (omega arith)
-  filter-first (suc n) from r low high is none = elim (cases_eq from r) [
-    | inl here ↦
-        let left : n ≡ from + suc n - suc r = omega arith in
-        ap (λ b. cond b (from ∷ filter p (slots_from (suc from) n)) (filter p (slots_from (suc from) n))) (ap p here ∙ is)
-        ∙ (λ j. here j ∷ filter p (slots_from (suc (here j)) (left j)))
-    | inr later ↦
-        let left : suc from + n - suc r ≡ from + suc n - suc r = omega arith in
-        ap (λ b. cond b (from ∷ filter p (slots_from (suc from) n)) (filter p (slots_from (suc from) n))) (none from (omega arith) (omega arith))
-        ∙ filter-first n (suc from) r (omega arith) (omega arith) is (λ i l h. none i (omega arith) h)
-        ∙ ap (λ m. r ∷ filter p (slots_from (suc r) m)) left
-  ]
-
-  filter-none : (n from : ℕ) → ((i : ℕ) → from ≤ i → p i ≡ false) → filter p (slots_from from n) ≡ []
-  filter-none zero from none = refl
-  filter-none (suc n) from none =
-      ap (λ b. cond b (from ∷ filter p (slots_from (suc from) n)) (filter p (slots_from (suc from) n))) (none from (omega arith))
-      ∙ filter-none n (suc from) (λ i l. none i (omega arith))
-
-module _ (words : List ℕ) (from : ℕ) where
-  pub slots_left-first : (r : ℕ) → (from ≤ r) × (r < 1024) × (has words r ≡ true) → ((i : ℕ) → from ≤ i → i < r → has words i ≡ false)
-      → slots_left words from ≡ r ∷ slots_left words (r + 1)
-  slots_left-first r found least =
-      let inside : from + (1024 - from) - suc r ≡ 1024 - (r + 1) = omega (arith, found.0, found.1) in
-      let after : suc r ≡ r + 1 = omega arith in
-      filter-first (has words) (1024 - from) from r found.0 (omega (arith, found.0, found.1)) found.2 least
-      ∙ (λ j. r ∷ filter (has words) (slots_from (after j) (inside j)))
-
-  pub slots_left-none : ((i : ℕ) → from ≤ i → has words i ≡ false) → slots_left words from ≡ []
-  slots_left-none none = filter-none (has words) (1024 - from) from none
+past_both words other i long past = and_left (has words i) (has other i) (has_past words i long past)

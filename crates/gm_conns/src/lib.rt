@@ -12,4 +12,4 @@ mod conns;
 mod slot_set;
 
 pub use conns::Conns;
-pub use slot_set::{SlotIter, SlotSet};
+pub use slot_set::SlotSet;

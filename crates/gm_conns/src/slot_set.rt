@@ -2,15 +2,13 @@
 
 ghost use Rattle.std.specs.Prelude.{◌≡◌, ℕ, ◌*◌, ◌<◌, ◌≤◌, false, ◌&&◌, ◌||◌, ◌==◌, if◌then◌else◌, not, IsTrue, IfSome, IfNone};
 ghost use Rattle.std.specs.Int.{bit_at};
-ghost use Rattle.std.specs.Iterator.{YieldsFirst, item_count};
-ghost use Rattle.gm_conns.specs.Slots.{has, slots_of};
+ghost use Rattle.gm_conns.specs.Slots.{has};
 
 use std::marker::Model;
 
 const WORDS: u32 = 16;
 
-/// A set of slots below 1,024, which takes no memory of its own. Contracts see its words: `has` says which slots are in
-/// it, and `slots_of` lists them.
+/// A set of slots below 1,024, which takes no memory of its own. Contracts see its words: `has` says which slots are in it.
 #[derive(Drop)]
 pub struct SlotSet {
     words: [u64; 16],
@@ -106,13 +104,6 @@ impl SlotSet {
         self.next_in_both(self, from)
     }
 
-    /// The slots of the set, in rising order.
-    pub fn iter(&self) -> SlotIter<'_>
-        ensures { result ≡ slots_of self.now }
-    {
-        SlotIter { set: self, from: 0 }
-    }
-
     /// The least slot from `from` on that is in both sets.
     pub(crate) fn next_in_both(&self, other: &SlotSet, from: u32) -> Option<u32>
         ensures found { IfSome result (λ r. (from ≤ r) × (r < 1024) × IsTrue (has self.now r && has other.now r)) }
@@ -155,47 +146,5 @@ impl SlotSet {
             at = next + 1;
         }
         None
-    }
-}
-
-impl<'a> IntoIterator for &'a SlotSet {
-    type Item = u32;
-
-    type IntoIter = SlotIter<'a>;
-
-    ghost into_iter_gives = { λ s r. r ≡ slots_of s.now };
-
-    fn into_iter(self) -> SlotIter<'a> {
-        self.iter()
-    }
-}
-
-/// Goes through a set in rising order. Contracts see the slots that are left.
-#[derive(Drop)]
-pub struct SlotIter<'a> {
-    set: &'a SlotSet,
-    from: u32,
-}
-
-impl<'a> Model for SlotIter<'a> {
-    ghost use Rattle.std.specs.Prelude.{List, ℕ};
-    ghost use Rattle.gm_conns.specs.Slots.{slots_left};
-
-    ghost Value = { List ℕ };
-
-    ghost view = { λ s. slots_left s.set.now s.from };
-}
-
-impl<'a> Iterator for SlotIter<'a> {
-    type Item = u32;
-
-    ghost next_gives = { YieldsFirst (λ s. s) };
-
-    ghost remaining = { item_count (λ s. s) };
-
-    fn next(&mut self) -> Option<u32> {
-        let slot = self.set.next(self.from)?;
-        self.from = slot + 1;
-        Some(slot)
     }
 }

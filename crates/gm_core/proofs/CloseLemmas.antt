@@ -26,6 +26,7 @@ use Rattle.gm_core.proofs.FunctionLemmas.{apart, unknown, number_is, named, some
 use Rattle.gm_queues.proofs.PositionLemmas.{position-within}
 use Rattle.gm_core.proofs.JobLemmas.{made_same, turned, state_waits, state_runs}
 use Rattle.gm_core.proofs.OnceLemmas.{times, filter_alike, once_down, one_more, first_leaves, counted_in, contains_of, without_passed, came_back, last_in, not_in}
+use Rattle.std.proofs.lemmas.Bool.{and_right}
 
 -- ---- one job moves
 
@@ -65,10 +66,6 @@ same_itself : (q : Priority) → same_priority q q ≡ true
 same_itself High = refl
 same_itself Normal = refl
 same_itself Low = refl
-
-and_false : (a b : Bool) → b ≡ false → (a && b) ≡ false
-and_false true b e = e
-and_false false b e = refl
 
 module _ (k : Settings) (functions : queues.Table) (old : Table) (is_open : ℕ → Bool) (notes : List Note) (names : FunctionFacts) (known : HoldsFunctions k functions names)
     (holds : HoldsJobs k functions old is_open (job_facts notes)) (n : ℕ) (found : Live) (at : job old n ≡ Some found) where
@@ -141,10 +138,10 @@ module _ (k : Settings) (functions : queues.Table) (old : Table) (is_open : ℕ 
 
     -- in a queue that isn't its own nothing changes
     others_queued : (other : List ℕ) (q : Priority) → is_job_with other q (facts.job n) ≡ false → filter (waits_now other q) facts.came ≡ queued other q facts
-    others_queued other q e = queue_stays other q (and_false (is_waiting (facts.job_state n)) _ e ∙ sym (and_false (is_waiting (job_state n)) _ e))
+    others_queued other q e = queue_stays other q (and_right (is_waiting (facts.job_state n)) _ e ∙ sym (and_right (is_waiting (job_state n)) _ e))
 
     others_running : (other : List ℕ) (q : Priority) → is_job_with other q (facts.job n) ≡ false → length (filter (runs_now other q) facts.made) ≡ running_with other q facts
-    others_running other q e = running_stays other q (and_false (is_running (facts.job_state n)) _ e ∙ sym (and_false (is_running (job_state n)) _ e))
+    others_running other q e = running_stays other q (and_right (is_running (facts.job_state n)) _ e ∙ sym (and_right (is_running (job_state n)) _ e))
 
     module _ (came : List ℕ) (deadline : ℕ → Option ℕ) (returns : ℕ → ℕ) (after : queues.Table) (new : Table) (first : new.first ≡ old.first) (next : new.next ≡ old.next)
         (came_same : (P : ℕ → Bool) → length (filter P came) ≡ length (filter P facts.came))

@@ -25,7 +25,7 @@ use Rattle.gm_core.specs.Facts.{ConnFacts, FunctionFacts, conn_facts, function_f
 use Rattle.gm_core.specs.Holds.{job_state_at, limit_named, HoldsConns, HoldsFunctions, HoldsJobs, Holds, Keeps, Goes}
 use Rattle.gm_core.specs.Ticks.{OthersStay}
 use Rattle.gm_core.proofs.ConnLemmas.{touched_same}
-use Rattle.gm_core.proofs.OnceLemmas.{same_number}
+use Rattle.std.proofs.lemmas.Bool.{eqb-true}
 
 -- ---- what a job is
 
@@ -42,7 +42,7 @@ run_there slot live e = by live.live_place e
   where
     by : (s : LivePlace) → runs_at slot s ≡ true → s ≡ Running slot
     by Waiting e = absurd (false≢true e)
-    by (Running c) e = ap (λ (x : ℕ). Running x) (same_number c slot e)
+    by (Running c) e = ap (λ (x : ℕ). Running x) (eqb-true c slot e)
     by live_places.Lost e = absurd (false≢true e)
 
 -- only the job that ends changes

@@ -1,6 +1,6 @@
 -- Functions by number and by name.
-use Rattle.std.proofs.Common.{◌≡◌, ◌≢◌, ℕ, zero, suc, ◌<◌, ◌≤◌, Bool, true, false, not, ◌&&◌, ◌||◌, ◌==◌, nat_eq, nat_le}
-use Rattle.std.proofs.Common.{if◌then◌else◌, List, [], ◌∷◌, ◌++◌, length, get_or, map, filter, drop, Option, Some, None, refl}
+use Rattle.std.proofs.Common.{◌≡◌, ◌≢◌, ℕ, zero, suc, ◌<◌, Bool, true, false, not, ◌&&◌, ◌||◌, ◌==◌, nat_eq, nat_le}
+use Rattle.std.proofs.Common.{if◌then◌else◌, List, [], ◌∷◌, ◌++◌, length, map, filter, drop, Option, Some, None, refl}
 use Rattle.std.proofs.Common.{sym, ap, subst, ◌∙◌, arith}
 use Rattle.std.specs.Prelude.{slice_get, is_some, IsNone}
 use Rattle.std.proofs.Math.Seq.{drop-nil}
@@ -24,12 +24,7 @@ use Rattle.gm_queues.specs.FunctionTables as queues
 use Rattle.gm_jobs.specs.Tables as jobs
 use Rattle.gm_core.specs.Facts.{FunctionFacts, function_facts, job_facts}
 use Rattle.gm_core.specs.Holds.{name_at, ability_named, AreFunctions, HoldsFunctions, HoldsJobs, jobs_named, limit_named}
-
--- what stands at an index
-pub stands : {A : Type 0} (xs : List A) (i : ℕ) (d : A) → i < length xs → slice_get xs i ≡ Some (get_or xs i d)
-stands [] i d h = absurd (omega (arith, h))
-stands (x ∷ xs) zero d h = refl
-stands (x ∷ xs) (suc i) d h = stands xs i d (omega (arith, h))
+use Rattle.std.proofs.lemmas.Option.{slice_get-get_or}
 
 pub some_same : {A : Type 0} (x y : A) → (let o : Option A = Some x in o) ≡ Some y → x ≡ y
 some_same x y e = cc
@@ -37,7 +32,7 @@ some_same x y e = cc
 module _ {k : Settings} {table : Table} {facts : FunctionFacts} (holds : HoldsFunctions k table facts) where
   -- a function is found by its name
   pub named : (f : ℕ) → f < length table.names → number_of (name_at table.names f) table ≡ Some f
-  named f within = holds.distinct f (name_at table.names f) (stands table.names f [] within)
+  named f within = holds.distinct f (name_at table.names f) (slice_get-get_or table.names f [] within)
 
   -- and no two have one
   pub apart : (f g : ℕ) → f < length table.names → g < length table.names → bytes_eq (name_at table.names f) (name_at table.names g) ≡ (f == g)
@@ -274,8 +269,3 @@ pub pick_past : (names : List (List ℕ)) (notes : List Note) (abilities : List 
 pick_past names notes [] i at = ap (λ (l : List (ℕ × ℕ)). pick_from (map (ability_named names) l) notes) (drop-nil i)
 pick_past names notes (x ∷ abilities) zero at = absurd cc
 pick_past names notes (x ∷ abilities) (suc i) at = pick_past names notes abilities i at
-
-pub past_end : {A : Type 0} (xs : List A) (i : ℕ) → length xs ≤ i → slice_get xs i ≡ None
-past_end [] i h = refl
-past_end (x ∷ xs) zero h = absurd (omega (arith, h))
-past_end (x ∷ xs) (suc i) h = past_end xs i (omega (arith, h))

@@ -27,9 +27,10 @@ use Rattle.gm_jobs.specs.Tables as jobs
 use Rattle.gm_core.specs.Facts.{Seen, conn_facts, job_facts, runs_with}
 use Rattle.gm_core.specs.Holds.{name_at, ability_named, Holds}
 use Rattle.gm_core.specs.Listings.{is_worker, workers, status_line_of, status_lines, worker_line_of, worker_lines}
-use Rattle.gm_core.proofs.FunctionLemmas.{next_ability, stands}
+use Rattle.gm_core.proofs.FunctionLemmas.{next_ability}
 use Rattle.gm_core.proofs.CountLemmas.{one, counted, of_job, total_is, runs}
 use Rattle.gm_core.proofs.WakeLemmas.{able_is}
+use Rattle.std.proofs.lemmas.Option.{slice_get-get_or}
 
 -- ---- counts and rows, one slot after another
 
@@ -81,7 +82,7 @@ name_next now rows names xs i row ability at is =
     rw (more, add-one i, map-append, append_assoc) (ap (λ (l : List ℕ). map now rows ++ l ∷ told names (drop (suc i) xs)) is)
 
 pub there_is : (xs : List (ℕ × ℕ)) (i : ℕ) → i < length xs → slice_get xs i ≡ None → ⊥
-there_is xs i within none = let wrong = sym none ∙ stands xs i (0, 0) within in cc
+there_is xs i within none = let wrong = sym none ∙ slice_get-get_or xs i (0, 0) within in cc
 
 pub name_end : (names : List (List ℕ)) (xs : List (ℕ × ℕ)) (i : ℕ) → length xs ≤ i → told names (drop i xs) ≡ []
 name_end names [] zero past = refl

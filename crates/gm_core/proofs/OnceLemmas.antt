@@ -7,6 +7,7 @@ use Rattle.std.proofs.lemmas.Bool.Decides.{nat_tests}
 use Rattle.std.proofs.lemmas.Bool.{false≢true}
 use Rattle.gm_core.specs.Holds.{numbers_down}
 use Rattle.gm_core.proofs.MadeLemmas.{none_down, filter_off}
+use Rattle.std.proofs.lemmas.Bool.{eqb-true}
 
 -- how often a number stands in a list
 abbrev pub times : ℕ → List ℕ → ℕ
@@ -25,9 +26,6 @@ once_down n first (suc count) low high = by (first + count == n) refl (λ below.
     by true e less = let rest = none_down n first count (let same : first + count ≡ n = grind (arith, nat_tests) in omega (arith, same)) in rw rest refl
     by false e less = less (let other : first + count ≢ n = grind (arith, nat_tests) in omega (arith, high, other))
 
-pub same_number : (x n : ℕ) → (x == n) ≡ true → x ≡ n
-same_number x n e = grind (arith, nat_tests)
-
 -- tests that agree but at a number that stands once, and where only the second passes, find one more
 pub one_more : (P Q : ℕ → Bool) (n : ℕ) (xs : List ℕ) → times n xs ≡ 1 → ((m : ℕ) → (m == n) ≡ false → P m ≡ Q m) → P n ≡ false → Q n ≡ true
     → length (filter Q xs) ≡ length (filter P xs) + 1
@@ -38,7 +36,7 @@ one_more P Q n (x ∷ xs) once same fails passes = by (x == n) refl once (λ res
         → (times n xs ≡ 1 → length (filter Q xs) ≡ length (filter P xs) + 1)
         → length (if Q x then x ∷ filter Q xs else filter Q xs) ≡ length (if P x then x ∷ filter P xs else filter P xs) + 1
     by true e count rest =
-        let is = same_number x n e in
+        let is = eqb-true x n e in
         let none : times n xs ≡ 0 = omega (arith, count) in
         let alike = filter_off Q P n xs none (λ m off. sym (same m off)) in
         let here : P x ≡ false = ap P is ∙ fails in
@@ -69,7 +67,7 @@ first_leaves P Q n rest (x ∷ xs) once same passes fails is = by (x == n) refl 
         → (if P x then x ∷ filter P xs else filter P xs) ≡ n ∷ rest → (times n xs ≡ 1 → filter P xs ≡ n ∷ rest → filter Q xs ≡ rest)
         → (if Q x then x ∷ filter Q xs else filter Q xs) ≡ rest
     by true e count is more =
-        let it = same_number x n e in
+        let it = eqb-true x n e in
         let none : times n xs ≡ 0 = omega (arith, count) in
         let here : P x ≡ true = ap P it ∙ passes in
         let there : Q x ≡ false = ap Q it ∙ fails in
@@ -96,7 +94,7 @@ module _ (n : ℕ) where
           → times n (if t then x ∷ filter P xs else filter P xs) ≡ length (if s then x ∷ filter (λ m. m == n) xs else filter (λ m. m == n) xs)
       by true true h e rest = rw e (omega (arith, rest))
       by true false h e rest = rw e rest
-      by false true h e rest = absurd (false≢true (sym h ∙ (ap P (same_number x n e) ∙ passes)))
+      by false true h e rest = absurd (false≢true (sym h ∙ (ap P (eqb-true x n e) ∙ passes)))
       by false false h e rest = rest
 
   pub contains_of : (xs : List ℕ) → 1 ≤ times n xs → Contains xs n
@@ -104,7 +102,7 @@ module _ (n : ℕ) where
   contains_of (x ∷ xs) some = by (x == n) refl some (λ more. contains_of xs more)
     where
       by : (t : Bool) → (x == n) ≡ t → 1 ≤ length (if t then x ∷ filter (λ m. m == n) xs else filter (λ m. m == n) xs) → (1 ≤ times n xs → Contains xs n) → Contains (x ∷ xs) n
-      by true e some rest = (0, omega arith, same_number x n e)
+      by true e some rest = (0, omega arith, eqb-true x n e)
       by false e some rest = let it = rest some in let h = it.1 in (suc it.0, omega (arith, h), it.2)
 
   -- what passes without it is what passes once it doesn't
@@ -114,8 +112,8 @@ module _ (n : ℕ) where
     where
       by : (s t : Bool) → (x == n) ≡ s → P x ≡ t → without (filter P xs) ≡ filter Q xs
           → without (if t then x ∷ filter P xs else filter P xs) ≡ (if Q x then x ∷ filter Q xs else filter Q xs)
-      by true true e h rest = let off : Q x ≡ false = ap Q (same_number x n e) ∙ fails in rw (e, off) rest
-      by true false e h rest = let off : Q x ≡ false = ap Q (same_number x n e) ∙ fails in rw off rest
+      by true true e h rest = let off : Q x ≡ false = ap Q (eqb-true x n e) ∙ fails in rw (e, off) rest
+      by true false e h rest = let off : Q x ≡ false = ap Q (eqb-true x n e) ∙ fails in rw off rest
       by false true e h rest = let on : Q x ≡ true = sym (same x e) ∙ h in rw (e, on) (ap (λ (l : List ℕ). x ∷ l) rest)
       by false false e h rest = let on : Q x ≡ false = sym (same x e) ∙ h in rw on rest
 
@@ -126,7 +124,7 @@ module _ (n : ℕ) where
     where
       by : (s t : Bool) → (x == n) ≡ s → P x ≡ t → filter Q (without xs) ≡ filter P xs
           → filter Q (if not s then x ∷ without xs else without xs) ≡ (if t then x ∷ filter P xs else filter P xs)
-      by true true e h rest = absurd (false≢true (sym (ap P (same_number x n e) ∙ fails) ∙ h))
+      by true true e h rest = absurd (false≢true (sym (ap P (eqb-true x n e) ∙ fails) ∙ h))
       by true false e h rest = rest
       by false true e h rest = let on : Q x ≡ true = sym (same x e) ∙ h in rw on (ap (λ (l : List ℕ). x ∷ l) rest)
       by false false e h rest = let on : Q x ≡ false = sym (same x e) ∙ h in rw on rest
@@ -160,7 +158,7 @@ module _ (n : ℕ) where
       by true e once rest =
           let none : times n xs ≡ 0 = omega (arith, once) in
           ap (λ (l : List ℕ). length (filter P l) + length (filter P (n ∷ []))) (none_left xs none)
-          ∙ (here (P n) ∙ ap (λ b. length (if b then x ∷ filter P xs else filter P xs)) (ap P (sym (same_number x n e))))
+          ∙ (here (P n) ∙ ap (λ b. length (if b then x ∷ filter P xs else filter P xs)) (ap P (sym (eqb-true x n e))))
       by false e once rest = there (P x) (rest once)
 
   pub came_back : (P : ℕ → Bool) (xs : List ℕ) → times n xs ≡ 1 → length (filter P (without xs ++ n ∷ [])) ≡ length (filter P xs)

@@ -6,19 +6,17 @@ use Rattle.std.specs.Prelude.{◌==◌}
 use Rattle.gm_feeder.specs.declared.units.Limits.{Limits}
 use Rattle.gm_feeder.specs.Units.{Item, APacket, ALine, IsUnitThen, Spells}
 use Rattle.gm_feeder.proofs.StreamLemmas.{one_after, unit_stays, one_spelling, fault_stays, fault-begins_no_unit}
-use Rattle.gm_notes.specs.declared.event.ApplyError.{ApplyError}
-use Rattle.gm_notes.specs.declared.event.ApplyError.TheVariants.{NotOpen}
 use Rattle.gm_notes.specs.declared.event.UnitFault.{UnitFault}
 use Rattle.gm_notes.specs.Settings.{Settings}
 use Rattle.gm_notes.specs.Notes.{is_open, is_shut, takes_units}
-use Rattle.gm_notes.specs.Steps.{Step, Packet, Line, Fault, refusal, unless_not_open}
+use Rattle.gm_notes.specs.Steps.{Step, Packet, Line, Fault, unless_not_open}
 use Rattle.gm_notes.specs.Steps.{run}
 use Rattle.gm_front.specs.Units.{step_of_unit, Stands, IsFaultAt}
 use Rattle.gm_front.specs.Inputs.{Input, Gives, Reading, with_rest, unless_refused, handed_in, with_units, faulted, kept_if}
-use Rattle.gm_front.specs.Inputs.{given, GivesPiece, AddsUnless, ReadsOn, Reads}
+use Rattle.gm_front.specs.Inputs.{GivesPiece, AddsUnless, ReadsOn, Reads}
 use Rattle.gm_front.proofs.OneReading.{one_standing, one_leading, one_reading}
 use Rattle.gm_front.proofs.Feeders.{this_rest}
-use Rattle.gm_front.proofs.Steps.{fault_shuts, units_only_shut}
+use Rattle.gm_front.proofs.Steps.{fault_shuts}
 
 -- ---- units of a slot that takes none
 

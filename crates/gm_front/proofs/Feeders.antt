@@ -1,8 +1,7 @@
 -- Places, one of which is written.
-use Rattle.std.proofs.Common.{◌≡◌, ◌<◌, ◌≤◌, ℕ, zero, suc, arith, Bool, true, false, List, [], ◌∷◌, ◌++◌, length, get_or, set}
-use Rattle.std.proofs.Common.{Option, Some, None, refl, sym, subst, ◌∙◌}
+use Rattle.std.proofs.Common.{◌≡◌, ◌<◌, ◌≤◌, ℕ, zero, suc, arith, false, List, [], ◌∷◌, ◌++◌, length, get_or, set}
+use Rattle.std.proofs.Common.{Option, Some, None, refl, sym, ◌∙◌}
 use Rattle.std.specs.Prelude.{◌==◌}
-use Rattle.std.proofs.lemmas.Bool.Decides.{nat_tests}
 use Rattle.gm_feeder.specs.declared.units.Limits.{Limits}
 use Rattle.gm_notes.specs.declared.note.Note.{Note}
 use Rattle.gm_notes.specs.Notes.{is_open, is_shut}
@@ -10,12 +9,7 @@ use Rattle.gm_feeder.specs.Streams.{Stream}
 use Rattle.gm_front.specs.Inputs.{with_rest}
 use Rattle.gm_front.specs.Fronts.{FeedsIfOpen, Holds}
 use Rattle.gm_front.proofs.Steps.{OnlyShuts}
-
-pub same_slot : (c : ℕ) → (c == c) ≡ true
-same_slot c = grind (arith, nat_tests)
-
-pub other_slot : (d c : ℕ) → (d ≡ c → ⊥) → (d == c) ≡ false
-other_slot d c differs = grind (arith, nat_tests)
+use Rattle.gm_notes.proofs.Numbers.{same_number}
 
 -- what holds of each feeder holds still once one is written, of which it holds
 pub each_set : (P : ℕ → Option Stream → Type 0) (feeders : List (Option Stream)) (i : ℕ) (p : Option Stream) → i < length feeders
@@ -69,7 +63,7 @@ pub other_rest : (c d : ℕ) (rest : List ℕ) (rests : ℕ → List ℕ) → (d
 other_rest c d rest rests other = rw other refl
 
 pub this_rest : (c : ℕ) (rest : List ℕ) (rests : ℕ → List ℕ) → with_rest c rest rests c ≡ rest
-this_rest c rest rests = rw (same_slot c) refl
+this_rest c rest rests = rw (same_number c) refl
 
 -- all feeders stay where nothing is opened or closed
 pub holds_on : (limits : Limits) (old new : List Note) (rests : ℕ → List ℕ) (feeders : List (Option Stream)) → OnlyShuts old new → Holds limits old rests feeders → Holds limits new rests feeders

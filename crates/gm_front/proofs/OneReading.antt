@@ -1,7 +1,7 @@
 -- Inputs spell one reading.
-use Rattle.std.proofs.Common.{◌≡◌, ℕ, zero, suc, arith, List, [], ◌∷◌, ◌++◌, length, Option, Some, None, refl, sym, ap, ap₂, subst, ◌∙◌}
+use Rattle.std.proofs.Common.{◌≡◌, ℕ, arith, List, [], ◌∷◌, ◌++◌, length, Option, Some, None, refl, sym, ap, ap₂, subst, ◌∙◌}
 use Rattle.gm_feeder.specs.declared.units.Limits.{Limits}
-use Rattle.gm_feeder.specs.Units.{Item, IsUnitThen}
+use Rattle.gm_feeder.specs.Units.{Item}
 use Rattle.gm_feeder.proofs.StreamLemmas.{one_after, one_spelling, one_fault, waits-no_fault}
 use Rattle.gm_notes.specs.declared.event.ApplyError.{ApplyError}
 use Rattle.gm_notes.specs.declared.event.UnitFault.{UnitFault}

@@ -1,8 +1,7 @@
 -- Slots that aren't open have no rest.
-use Rattle.std.proofs.Common.{◌≡◌, ℕ, arith, Bool, true, false, not, ◌&&◌, if◌then◌else◌, List, [], ◌∷◌, Option, Some, None}
+use Rattle.std.proofs.Common.{◌≡◌, ℕ, Bool, true, false, not, ◌&&◌, if◌then◌else◌, List, [], ◌∷◌, Option, Some, None}
 use Rattle.std.proofs.Common.{refl, sym, ap, subst, ◌∙◌}
 use Rattle.std.specs.Prelude.{◌==◌, unwrap_or}
-use Rattle.std.proofs.lemmas.Bool.Decides.{nat_tests}
 use Rattle.gm_feeder.specs.declared.units.Limits.{Limits}
 use Rattle.gm_notes.specs.declared.event.ApplyError.{ApplyError}
 use Rattle.gm_notes.specs.Settings.{Settings}
@@ -16,6 +15,7 @@ use Rattle.gm_front.specs.Inputs.{Input, Opens, Gives, Cuts, Closes, Ticks, Take
 use Rattle.gm_front.specs.Inputs.{with_rest, with_units, faulted, kept_if, with_closed, Adds, AddsUnless, refusal_of, ReadsOn}
 use Rattle.gm_front.specs.Inputs.{Reads}
 use Rattle.gm_front.proofs.Steps.{OnlyShuts, shuts_then, step_only_shuts, units_only_shut, fault_only_shuts, free_is}
+use Rattle.std.proofs.lemmas.Bool.{eqb-true}
 
 -- ---- who isn't open wasn't before
 
@@ -34,9 +34,6 @@ before_open (Some refused) k addr c past e = e
 before_close : (r : Option ApplyError) (k : Settings) (d c : ℕ) (past : Past) → (c == d) ≡ false → is_open c (unless r (close k d past) past).notes ≡ false → is_open c past.notes ≡ false
 before_close None k d c past other e = sym (close_keeps k d c past other).0 ∙ e
 before_close (Some refused) k d c past other e = e
-
-same_number : (c d : ℕ) → (c == d) ≡ true → c ≡ d
-same_number c d e = grind (arith, nat_tests)
 
 takes_open : (o s : Bool) → (o && not s) ≡ true → o ≡ true
 takes_open true s e = refl
@@ -60,7 +57,7 @@ given_none : (t : Bool) (k : Settings) (d c : ℕ) (rest : List ℕ) (steps : Li
     → HasNone k c (record { steps = steps; rests = with_rest d rest old.rests })
 given_none true k d c rest steps old same opened only h = λ e.
     absurd
-    (let here : is_open d (run k steps).notes ≡ false = subst (λ (x : ℕ). is_open x (run k steps).notes ≡ false) (same_number c d same) e in
+    (let here : is_open d (run k steps).notes ≡ false = subst (λ (x : ℕ). is_open x (run k steps).notes ≡ false) (eqb-true c d same) e in
     let wrong : true ≡ false = sym opened ∙ (sym (only.opens d) ∙ here) in
     let bad : ⊥ = cc in bad)
 given_none false k d c rest steps old other opened only h = λ e. rw other (h (sym (only.opens c) ∙ e))

@@ -23,6 +23,7 @@ use Rattle.gm_history.proofs.Caused.{caused}
 use Rattle.gm_history.proofs.StepsKeep.{run_history}
 use Rattle.gm_front.specs.Units.{step_of_unit}
 use Rattle.gm_front.specs.Inputs.{unless_refused, handed_in, with_units, faulted, created_since}
+use Rattle.gm_notes.proofs.Numbers.{same_number}
 
 -- ---- what is open and what is shut
 
@@ -132,9 +133,6 @@ units_grow k c (item ∷ items) steps =
     let next = handed_in k (step_of_unit c item) steps in
     grows_then (jobs k steps) (jobs k next) (jobs k (with_units k c items next)) (handed_grows k (step_of_unit c item) steps) (units_grow k c items next)
 
-pub same_number : (n : ℕ) → (n == n) ≡ true
-same_number n = grind (arith, nat_tests)
-
 greater : (m n : ℕ) → n < m → (m == n) ≡ false
 greater m n lt = grind (arith, nat_tests)
 
@@ -157,11 +155,8 @@ created_then k a b c newer older g h n o = ap₂ (λ (x y : Option ℕ). option_
 
 -- ---- a fault shuts its slot
 
-same_slot : (c : ℕ) → (c == c) ≡ true
-same_slot c = grind (arith, nat_tests)
-
 shut_now : (c : ℕ) (l : List Note) → is_shut c (notes.Shut c ∷ l) ≡ true
-shut_now c l = rw (same_slot c) refl
+shut_now c l = rw (same_number c) refl
 
 -- an open slot that takes no units is shut
 shut_already : (o s : Bool) (refused : ApplyError) → unless_not_open (o && not s) ≡ Some refused → o ≡ true → s ≡ true
@@ -208,7 +203,7 @@ opened_notes k addr steps c taken e =
     ∙ ap (λ (q : Option ℕ). (opening q addr (run k steps)).notes) e
 
 pub opened_here : (c : ℕ) (addr : List ℕ) (l : List Note) → is_open c (notes.Opened c addr ∷ l) ≡ true
-opened_here c addr l = rw (same_slot c) refl
+opened_here c addr l = rw (same_number c) refl
 
 -- an opening that is taken gets a slot
 pub welcome_free : (m : Mode) (free : Option ℕ) → if_accepted m free ≡ None → free ≡ None → ⊥

@@ -1,5 +1,5 @@
 -- Inputs that are taken, cut or refused.
-use Rattle.std.proofs.Common.{◌≡◌, ◌<◌, ◌≤◌, ◌+◌, ◌⊎◌, ℕ, suc, arith, Bool, true, false, not, ◌&&◌, List, [], ◌∷◌, ◌++◌, length}
+use Rattle.std.proofs.Common.{◌≡◌, ◌<◌, ◌≤◌, ◌⊎◌, ℕ, arith, Bool, true, false, not, ◌&&◌, List, [], ◌∷◌, ◌++◌, length}
 use Rattle.std.proofs.Common.{get_or, set, Option, Some, None, Result, Ok, Err, refl, sym, ap, subst, ◌∙◌, length-set}
 use Rattle.std.specs.Prelude.{nat_lt}
 use Rattle.std.specs.Result.{IsErrOf}
@@ -29,13 +29,15 @@ use Rattle.gm_front.specs.declared.input.StepError.{StepError}
 use Rattle.gm_front.specs.declared.input.StepError.TheVariants.{Refused, Cut}
 use Rattle.gm_front.specs.Units.{Stands, BeginsWith, ComesNext}
 use Rattle.gm_front.specs.Inputs.{Input, Opens, Gives, Cuts, Closes, Ticks, Takes, Withdraws, Drains, Reading, nothing_read}
-use Rattle.gm_front.specs.Inputs.{with_step, with_rest, with_units, faulted, kept_if, given, with_closed, AddsUnless, refusal_of}
-use Rattle.gm_front.specs.Inputs.{created_since, done_by}
+use Rattle.gm_front.specs.Inputs.{with_step, with_rest, with_units, faulted, kept_if, given, with_closed, AddsUnless}
+use Rattle.gm_front.specs.Inputs.{created_since}
 use Rattle.gm_front.specs.Feeding.{TakesPiece, CutsShort}
 use Rattle.gm_front.specs.Fronts.{Feeds, FeedsIfOpen, Holds, IsHeld, Agrees, IsTaken, IsRefused, IsCutAt, Serves, inputs_after}
-use Rattle.gm_front.proofs.Feeders.{each_set, past_end, same_slot, other_slot, feeder_stays, other_rest, this_rest, holds_on}
-use Rattle.gm_front.proofs.Steps.{OnlyShuts, shuts_then, is_inner, step_only_shuts, units_only_shut, fault_only_shuts}
+use Rattle.gm_front.proofs.Feeders.{each_set, past_end, feeder_stays, other_rest, this_rest, holds_on}
+use Rattle.gm_front.proofs.Steps.{OnlyShuts, shuts_then, step_only_shuts, units_only_shut, fault_only_shuts}
 use Rattle.gm_front.proofs.Steps.{fault_shuts, free_is, opened_notes, opened_here, welcome_free}
+use Rattle.gm_notes.proofs.Numbers.{same_number}
+use Rattle.std.proofs.lemmas.Bool.{ne_eqb}
 
 -- ---- what a server answers
 
@@ -106,7 +108,7 @@ opens {S} agrees k limits reading addr c answer stepped front front' server feed
             subst (λ (p : List (Option Stream)). Holds limits new reading.rests p) (sym feeders)
             (each_set (λ (d : ℕ) (p : Option Stream). FeedsIfOpen limits d new (reading.rests d) p) front.feeders.items c (Some feeder) lt
             (λ d differs.
-            let other = other_slot d c differs in
+            let other = ne_eqb d c differs in
             feeder_stays limits d old new (reading.rests d) (reading.rests d) (get_or front.feeders.items d None) (ap (is_open d) l ∙ (rw other refl))
             (λ e. let was : is_shut d old ≡ false = (rw other at (sym (ap (is_shut d) l) ∙ e)) in was) refl (h.held d))
             (record {
@@ -152,10 +154,10 @@ closed_feeders k limits c steps rests feeders lt opened others =
     let l : new ≡ (close k c (run k steps)).notes = closed_notes k c steps opened in
     each_set (λ (d : ℕ) (p : Option Stream). FeedsIfOpen limits d new (with_rest c [] rests d) p) feeders c None lt
     (λ d differs.
-    let other = other_slot d c differs in
+    let other = ne_eqb d c differs in
     let kept = close_keeps k c d (run k steps) other in
     feeder_stays limits d old new (rests d) (with_rest c [] rests d) (get_or feeders d None) (ap (is_open d) l ∙ kept.0) (λ e. sym kept.1 ∙ (sym (ap (is_shut d) l) ∙ e)) (other_rest c d [] rests other) (others d differs))
-    (ap (is_open c) l ∙ close_closes k c (run k steps) (same_slot c), this_rest c [] rests)
+    (ap (is_open c) l ∙ close_closes k c (run k steps) (same_number c), this_rest c [] rests)
 
 pub closes : {S : Type 0} (agrees : S → Settings → List Step → Type 0) (k : Settings) (limits : Limits) (reading : Reading) (c : ℕ) (answer : Done) (stepped : Stepped) (front front' : Front S) (server : S)
     → IsHeld agrees k limits reading front → ((refusal k (Close c) (run k reading.steps) ≡ None) × (answer ≡ done k (Close c) (run k reading.steps))) × agrees server k (Close c ∷ reading.steps)
@@ -252,7 +254,7 @@ gives agrees k limits reading c piece created stepped front front' old new h lt 
             (each_set (λ (d : ℕ) (p : Option Stream). FeedsIfOpen limits d (run k steps).notes (after.rests d) p) front.feeders.items c (Some new) lt
             (λ d differs.
             feeder_stays limits d past.notes (run k steps).notes (reading.rests d) (after.rests d) (get_or front.feeders.items d None) (only.opens d) (only.shuts d)
-            (other_rest c d (kept_if (takes_units c (run k steps).notes) rest) reading.rests (other_slot d c differs)) (h.held d))
+            (other_rest c d (kept_if (takes_units c (run k steps).notes) rest) reading.rests (ne_eqb d c differs)) (h.held d))
             (record {
               opened = only.opens c ∙ feeder.opened;
               limited = t.limited ∙ feeder.limited;

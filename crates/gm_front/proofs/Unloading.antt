@@ -1,6 +1,6 @@
 -- Units that are handed in one after another.
-use Rattle.std.proofs.Common.{◌≡◌, ◌≤◌, ◌+◌, ◌⊎◌, inl, inr, ℕ, arith, true, List, [], ◌∷◌, ◌++◌, length, Option, Some, None, refl, sym, ap}
-use Rattle.std.proofs.Common.{subst, ◌∙◌, append_assoc, length-append}
+use Rattle.std.proofs.Common.{◌≡◌, ◌≤◌, ◌+◌, inl, inr, ℕ, arith, true, List, [], ◌∷◌, ◌++◌, length, Option, Some, None, refl, sym, ap}
+use Rattle.std.proofs.Common.{subst, ◌∙◌, length-append}
 use Rattle.std.specs.Option.{option_or}
 use Rattle.gm_feeder.specs.declared.units.Limits.{Limits}
 use Rattle.gm_feeder.specs.Units.{Item, APacket, ALine, IsUnitThen, Spells, BeginsNoUnit}
@@ -15,8 +15,9 @@ use Rattle.gm_front.specs.declared.feeding.Unloaded.{Unloaded}
 use Rattle.gm_front.specs.Units.{step_of_unit, Stands, BeginsWith, GivesEvent, GivesFaultAs}
 use Rattle.gm_front.specs.Inputs.{handed_in, with_units, created_since}
 use Rattle.gm_front.specs.Feeding.{AgreesAfter, Lacks, Unloads, CutsShort}
-use Rattle.gm_front.proofs.Steps.{jobs, same_number, units_grow, handed_grows, created_then}
+use Rattle.gm_front.proofs.Steps.{jobs, units_grow, handed_grows, created_then}
 use Rattle.gm_front.proofs.Heads.{begins_more, begins_spells, spells_begins, falls}
+use Rattle.gm_notes.proofs.Numbers.{same_number}
 
 pub with_units-push : (k : Settings) (c : ℕ) (items : List Item) (item : Item) (steps : List Step) → with_units k c (items ++ item ∷ []) steps ≡ handed_in k (step_of_unit c item) (with_units k c items steps)
 with_units-push k c [] item steps = refl

@@ -1,5 +1,5 @@
 -- What happens to a server and a feeder when a piece comes.
-use Rattle.std.specs.Prelude.{◌≡◌, ◌⊎◌, ℕ, true, List, ◌++◌, length, Option, Some, None}
+use Rattle.std.specs.Prelude.{◌≡◌, ◌⊎◌, ℕ, true, List, ◌++◌, length, Option, None}
 use Rattle.gm_feeder.specs.Units.{Item, Spells}
 use Rattle.gm_feeder.specs.Streams.{Stream}
 use Rattle.gm_notes.specs.declared.event.UnitFault.{UnitFault}

@@ -9,7 +9,7 @@ use Rattle.gm_notes.specs.Settings.{Settings}
 use Rattle.gm_notes.specs.Notes.{takes_units}
 use Rattle.gm_notes.specs.Flow.{waiting}
 use Rattle.gm_notes.specs.Jobs.{made}
-use Rattle.gm_notes.specs.Steps.{Step, Open, Packet, Line, Fault, Close, Tick, Took, Withdrew, Drain, refusal, unless_not_open}
+use Rattle.gm_notes.specs.Steps.{Step, Open, Fault, Close, Tick, Took, Withdrew, Drain, refusal, unless_not_open}
 use Rattle.gm_notes.specs.Steps.{free_slot, made_since}
 use Rattle.gm_notes.specs.Steps.{run}
 use Rattle.gm_front.specs.Units.{step_of_unit, Stands, BeginsWith, ComesNext}

@@ -17,7 +17,7 @@ use Rattle.gm_notes.specs.Past.{Past}
 use Rattle.gm_notes.specs.Requests.{request, request_if_read, packet_of}
 use Rattle.gm_notes.specs.Steps.{Step, Packet, Close}
 use Rattle.gm_history.specs.Causes.{Caused, is_one_of, is_request, asks, PacketAsks, priority_of, job_seconds, is_submission, is_enabling, is_close}
-use Rattle.gm_history.proofs.Finding.{same_number}
+use Rattle.gm_notes.proofs.Numbers.{same_number}
 
 -- ---- packets
 

@@ -14,9 +14,9 @@ use Rattle.gm_notes.specs.Closings.{discard_each, disconnect, rising, close}
 use Rattle.gm_notes.specs.Steps.{Step, Close, step, run}
 use Rattle.gm_history.specs.History.{History}
 use Rattle.gm_history.specs.Laws.{drained, SentSo}
-use Rattle.gm_history.proofs.Finding.{same_number}
 use Rattle.gm_history.proofs.Keeping.{is_inner, Keeps}
 use Rattle.gm_history.proofs.StepsKeep.{gone_keeps, discard_each_keeps, give_back_each_keeps, step_keeps, run_history}
+use Rattle.gm_notes.proofs.Numbers.{same_number}
 
 -- a note that is no opening and no closing leaves open what was
 pub inner_open : (note : Note) (older : List Note) (c : ℕ) → is_inner note ≡ true → is_open c (note ∷ older) ≡ is_open c older

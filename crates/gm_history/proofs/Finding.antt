@@ -1,12 +1,11 @@
 -- What searches over the notes find.
 use Rattle.std.proofs.Common.{◌≡◌, ℕ, Bool, true, false, cond, ◌&&◌, ◌||◌, List, [], ◌∷◌, ◌++◌, find, Option, Some, None}
-use Rattle.std.proofs.Common.{refl, sym, ap, subst, ◌∙◌, arith}
+use Rattle.std.proofs.Common.{refl, sym, ap, subst, ◌∙◌}
 use Rattle.std.specs.Prelude.{◌==◌}
 use Rattle.std.specs.List.{All, list_any}
 use Rattle.std.specs.Str.{bytes_eq}
 use Rattle.std.proofs.lemmas.Bool.{and_parts, and_from, or_left, or_right}
 use Rattle.std.proofs.lemmas.Slice.Eq.{bytes_eq-Decides}
-use Rattle.std.proofs.lemmas.Bool.Decides.{nat_tests}
 use Rattle.std.proofs.lemmas.List.Elements.{All-head, All-append, All-weaker, filter_passes}
 use Rattle.std.proofs.lemmas.Option.{same_Some}
 use Rattle.gm_notes.specs.declared.note.Note.{Note}
@@ -23,6 +22,7 @@ use Rattle.gm_notes.specs.Settings.{Settings}
 use Rattle.gm_notes.proofs.Scans.{scan_members}
 use Rattle.gm_history.specs.History.{is_able_within}
 use Rattle.gm_history.specs.History.{HasWork}
+use Rattle.gm_notes.proofs.Numbers.{same_number}
 
 -- ---- what searches find
 
@@ -94,9 +94,6 @@ Within f seconds all = list_any (λ ability. is_of f ability && ability.timeout 
 
 abbrev pub Found : List Ability → List Note → Pick → Type 0
 Found all notes found = (f : List ℕ) × WaitsFor f notes found.job × Within f found.timeout all
-
-pub same_number : (n : ℕ) → (n == n) ≡ true
-same_number n = grind (arith, nat_tests)
 
 within_now : (ability : Ability) (all : List Ability) → Within ability.function ability.timeout (ability ∷ all)
 within_now ability all =

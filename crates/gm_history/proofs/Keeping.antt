@@ -33,9 +33,10 @@ use Rattle.gm_history.specs.Causes.{is_submission, is_foreground, is_background,
 use Rattle.gm_history.specs.Hearing.{AllOpen}
 use Rattle.gm_history.specs.Hearing.{listens, MayGet}
 use Rattle.gm_history.proofs.Asking.{asks_some, request_asks, submission_kind}
-use Rattle.gm_history.proofs.Finding.{found_passes, joined_is, IsNamed, IsWork, work_for, waiting_work, pick_waits, pick_work, stirred_picks, same_number}
+use Rattle.gm_history.proofs.Finding.{found_passes, joined_is, IsNamed, IsWork, work_for, waiting_work, pick_waits, pick_work, stirred_picks}
 use Rattle.gm_history.proofs.Listeners.{listeners_open, filtered_open, open_after}
 use Rattle.gm_history.proofs.Sayings.{Other, created_other, assigned_other, error_other, no_job_other}
+use Rattle.gm_notes.proofs.Numbers.{same_number}
 
 -- a note that changes no flow: all but openings and closings
 abbrev pub is_inner : Note → Bool

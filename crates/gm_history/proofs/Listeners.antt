@@ -9,6 +9,7 @@ use Rattle.gm_notes.specs.Notes.{is_open, has_option}
 use Rattle.gm_notes.specs.Jobs.{listeners}
 use Rattle.gm_history.specs.History.{History}
 use Rattle.gm_history.specs.Hearing.{AllOpen}
+use Rattle.std.proofs.lemmas.Bool.{not-true}
 
 pub open_after : (slots : List ℕ) (a b : List Note) → ((c : ℕ) → is_open c a ≡ true → is_open c b ≡ true) → AllOpen slots a → AllOpen slots b
 open_after [] a b more all = tt
@@ -31,12 +32,8 @@ pub still_open : (older t : Bool) → t ≡ false → older ≡ true → unwrap_
 still_open older true other opened = absurd cc
 still_open older false other opened = opened
 
-turned : (t : Bool) → not t ≡ true → t ≡ false
-turned true e = absurd cc
-turned false e = refl
-
 left_at : (c d : ℕ) (rest : List ℕ) (l : List Note) (t : Bool) → not (c == d) ≡ t → is_open c l ≡ true → AllOpen rest (Closed d ∷ l) → AllOpen (cond t (c ∷ rest) rest) (Closed d ∷ l)
-left_at c d rest l true is opened all = (still_open (is_open c l) (c == d) (turned (c == d) is) opened, all)
+left_at c d rest l true is opened all = (still_open (is_open c l) (c == d) (not-true (c == d) is) opened, all)
 left_at c d rest l false is opened all = all
 
 left_open : (d : ℕ) (slots : List ℕ) (l : List Note) → AllOpen slots l → AllOpen (filter (λ c. not (c == d)) slots) (Closed d ∷ l)

@@ -1,7 +1,6 @@
 -- Who sleeps, or is owed a NOOP, is open.
-use Rattle.std.proofs.Common.{◌≡◌, ℕ, Bool, true, false, cond, List, [], ◌∷◌, Some, None, refl, sym, ap, ◌∙◌, arith}
+use Rattle.std.proofs.Common.{◌≡◌, ℕ, Bool, true, false, cond, List, [], ◌∷◌, Some, None, refl, sym, ap, ◌∙◌}
 use Rattle.std.specs.Prelude.{◌==◌, unwrap_or}
-use Rattle.std.proofs.lemmas.Bool.Decides.{nat_tests}
 use Rattle.gm_notes.specs.declared.states.Phase.{Phase}
 use Rattle.gm_notes.specs.declared.states.Phase.TheVariants.{Awake, Asleep, Owed}
 use Rattle.gm_notes.specs.declared.note.Note.{Note}
@@ -11,9 +10,7 @@ use Rattle.gm_notes.specs.Notes.{is_open, phase}
 use Rattle.gm_notes.specs.Steps.{Step, run}
 use Rattle.gm_history.specs.History.{History}
 use Rattle.gm_history.proofs.StepsKeep.{run_history}
-
-same : (c d : ℕ) → (c == d) ≡ true → c ≡ d
-same c d e = grind (arith, nat_tests)
+use Rattle.std.proofs.lemmas.Bool.{eqb-true}
 
 opened_now : (old t : Bool) → unwrap_or (cond t (Some true) None) old ≡ false → (t ≡ false) × (old ≡ false)
 opened_now old true e = absurd cc
@@ -30,7 +27,7 @@ closed_now old_open false old rest e = rest e
 
 -- a note that sets the phase of an open slot leaves that of one that isn't
 left : (c d : ℕ) (new old : Phase) (older : List Note) (t : Bool) → (c == d) ≡ t → is_open d older ≡ true → is_open c older ≡ false → old ≡ Awake → unwrap_or (cond t (Some new) None) old ≡ Awake
-left c d new old older true is opened shut e = let there = same c d is in let bad : true ≡ false = sym opened ∙ (ap (λ x. is_open x older) (sym there) ∙ shut) in let worse : ⊥ = cc in absurd worse
+left c d new old older true is opened shut e = let there = eqb-true c d is in let bad : true ≡ false = sym opened ∙ (ap (λ x. is_open x older) (sym there) ∙ shut) in let worse : ⊥ = cc in absurd worse
 left c d new old older false is opened shut e = e
 
 pub awake_unless_open : (k : Settings) (c : ℕ) (l : List Note) → History k l → is_open c l ≡ false → phase c l ≡ Awake

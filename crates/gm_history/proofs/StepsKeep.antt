@@ -58,7 +58,6 @@ use Rattle.gm_history.specs.Causes.{is_sleeping, is_grab, is_ending, is_close, c
 use Rattle.gm_history.specs.Causes.{priority_of, job_seconds, Commands, Ends}
 use Rattle.gm_history.specs.Hearing.{listens, passed_on, MayGet}
 use Rattle.gm_history.proofs.Asking.{kind_read, request_asks, slot_asks, enabling_kind}
-use Rattle.gm_history.proofs.Finding.{same_number}
 use Rattle.gm_history.proofs.Listeners.{listeners_open}
 use Rattle.gm_history.proofs.Sayings.{Another, GivesNone, Other, fail_another, status_other, complete_another, data_other, warning_other, exception_other}
 use Rattle.gm_history.proofs.Sayings.{echo_other, option_other, known_other, ok_other, version_other, refusal_other, fault_other}
@@ -66,6 +65,8 @@ use Rattle.gm_history.proofs.Sayings.{list_other, rows_other}
 use Rattle.gm_history.proofs.Keeping.{Keeps, Held, IsHome, not_said, kept_if, held_if, note_keeps, says_keeps, gives_keeps, refuses_keeps}
 use Rattle.gm_history.proofs.Keeping.{tells_keeps, wake_keeps, mentions_keeps, mentioned, submit_keeps, can_do_keeps, cant_do_keeps}
 use Rattle.gm_history.proofs.Keeping.{pre_sleep_keeps, stir_keeps, grab_keeps, works_keeps, tell_all_notes, runs_somewhere, counted}
+use Rattle.gm_notes.proofs.Numbers.{same_number}
+use Rattle.std.proofs.lemmas.Bool.{not-true}
 
 -- ---- requests
 
@@ -266,16 +267,12 @@ module _ {k : Settings} {before : List Note} {s : Step} {I : Past → Type 0} (K
 
 -- ---- closings and ticks
 
-unwanted : (t : Bool) → not t ≡ true → t ≡ false
-unwanted true e = absurd cc
-unwanted false e = refl
-
 module _ {k : Settings} {before : List Note} {c : ℕ} {I : Past → Type 0} (K : Keeps k before (Close c) I) where
   discard_one_keeps : (n : ℕ) (past : Past) → Held k I past → Held k I (discard_one n past)
   discard_one_keeps n past h =
       held_if K (is_waiting (job_state n past.notes) && not (is_wanted n past.notes)) (with_note (notes.Discarded n) past) past
       (λ e. let p = and_parts (is_waiting (job_state n past.notes)) (not (is_wanted n past.notes)) e in
-      note_keeps K (notes.Discarded n) past refl (or_left (is_waiting (job_state n past.notes)) (runs_at_a_slot (job_state n past.notes)) p.0, unwanted (is_wanted n past.notes) p.1) refl h)
+      note_keeps K (notes.Discarded n) past refl (or_left (is_waiting (job_state n past.notes)) (runs_at_a_slot (job_state n past.notes)) p.0, not-true (is_wanted n past.notes) p.1) refl h)
       (λ e. h)
 
   pub discard_each_keeps : (jobs : List ℕ) (past : Past) → Held k I past → Held k I (discard_each jobs past)

@@ -1,6 +1,7 @@
 -- What is true of the deadlines that are kept.
 use Rattle.std.proofs.Common.{◌≡◌, ℕ, ◌≤◌, ◌⊎◌, inl, inr, Bool, true, false, not, ◌&&◌, List, Contains, Option, Some}
 use Rattle.std.proofs.Common.{None, refl, sym, ap, subst, ◌∙◌, arith}
+use Rattle.std.specs.Option.{option_and_then}
 use Rattle.std.proofs.lemmas.Bool.{false≢true}
 use Rattle.std.proofs.lemmas.Bool.Decides.{nat_tests}
 use Rattle.gm_jobs.specs.declared.job.Query.TheVariants.{Started}
@@ -20,20 +21,17 @@ listed_kept jobs waiting old new listed keeps n live found whole d runs is = by 
     by (inl there) = inl there
     by (inr there) = inr (keeps.numbers n (ap (passes (meets Started)) found ∙ ap not runs) there)
 
--- the one that goes is a due job's, which is among the reached, or no deadline of a job that runs
-pub listed_popped : (jobs : List (ℕ × Live)) (waiting waiting' : List Pair) (reached reached' : HintList) (now d n : ℕ)
+-- the one that goes is its job's deadline, and the job is among the reached, or no job's any more
+pub listed_popped : (jobs : List (ℕ × Live)) (waiting waiting' : List Pair) (reached reached' : HintList) (d n : ℕ)
     → AllListed jobs (listing waiting reached)
     → ((a b : ℕ) → Has waiting a b → Has waiting' a b ⊎ (first_of waiting ≡ Some (a, b)))
     → KeepsHints (λ m. Unit {0}) reached reached'
-    → first_of waiting ≡ Some (d, n) → d ≤ now → (passes (is_due now) (find_job jobs n) ≡ true → IsHinted reached' n)
+    → first_of waiting ≡ Some (d, n) → (option_and_then (λ (l : Live). l.deadline) (find_job jobs n) ≡ Some d → IsHinted reached' n)
     → AllListed jobs (listing waiting' reached')
-listed_popped jobs waiting waiting' reached reached' now d n listed pops keeps first early due m live found whole e runs is = by (listed m live found (keeps.whole whole) e runs is)
+listed_popped jobs waiting waiting' reached reached' d n listed pops keeps first due m live found whole e runs is = by (listed m live found (keeps.whole whole) e runs is)
   where
     same_pair : (x y : ℕ × ℕ) → Some x ≡ Some y → x ≡ y
     same_pair x y h = cc
-
-    is_it : e ≤ now → is_due now live ≡ true
-    is_it soon = (λ i. not (runs i) && is_reached (is i) now) ∙ grind (arith, nat_tests)
 
     at : Has waiting' e m ⊎ (first_of waiting ≡ Some (e, m)) → Has waiting' e m ⊎ Contains reached'.numbers m
     at (inl there) = inl there
@@ -41,7 +39,7 @@ listed_popped jobs waiting waiting' reached reached' now d n listed pops keeps f
         let same = same_pair (d, n) (e, m) (sym first ∙ top) in
         let d_is : d ≡ e = ap (λ (p : ℕ × ℕ). p.0) same in
         let n_is : n ≡ m = ap (λ (p : ℕ × ℕ). p.1) same in
-        inr (subst (λ i. Contains reached'.numbers i) n_is (due (ap (λ i. passes (is_due now) (find_job jobs i)) n_is ∙ ap (passes (is_due now)) found ∙ is_it (omega arith)) whole))
+        inr (subst (λ i. Contains reached'.numbers i) n_is (due (ap (λ i. option_and_then (λ (l : Live). l.deadline) (find_job jobs i)) n_is ∙ ap (option_and_then (λ (l : Live). l.deadline)) found ∙ is ∙ ap (λ i. Some i) (sym d_is)) whole))
 
     by : Has waiting e m ⊎ Contains reached.numbers m → Has waiting' e m ⊎ Contains reached'.numbers m
     by (inl there) = at (pops e m there)

@@ -12,6 +12,7 @@ use Rattle.gm_jobs.specs.Tables.{find_job}
 use Rattle.gm_jobs.proofs.NumberLemmas.{at_number, number_same, number_other, not_some}
 use Rattle.gm_jobs.specs.Changes.{ChangesJob}
 use Rattle.gm_jobs.specs.ByNumber.{with_job, with_live, jobs_of, IsIndexed}
+use Rattle.std.proofs.lemmas.Option.{same_Some}
 
 abbrev At : Type 0
 At = ℕ → Option (ℕ × Live)
@@ -35,9 +36,6 @@ find_in n (p ∷ ps) at h = by (nat_eq n p.0) refl (at p.1) refl h (find_in n ps
 
 number : (x y : ℕ × Live) → Some x ≡ Some y → x.0 ≡ y.0
 number x y h = cc
-
-key : (x y : ℕ) → Some x ≡ Some y → x ≡ y
-key x y h = cc
 
 module _ (keys : List (ℕ × ℕ)) (at : At) (i : IsIndexed keys at) where
   there : (n k : ℕ) → lookup (nat_eq n) keys ≡ Some k → IsSome (at k)
@@ -129,7 +127,7 @@ module _ (keys : List (ℕ × ℕ)) (at : At) (i : IsIndexed keys at) where
             stands j m live e (inl same) = absurd (not_some (at' j) (ap at' same ∙ none) (ap is_some e))
             stands j m live e (inr ne) =
                 let was = i.stands j m live (sym (others j ne) ∙ e) in
-                still m (λ same. ne (key j k (sym was ∙ ap (λ x. lookup (nat_eq x) keys) (sym same) ∙ here))) ∙ was
+                still m (λ same. ne (same_Some j k (sym was ∙ ap (λ x. lookup (nat_eq x) keys) (sym same) ∙ here))) ∙ was
 
         pub find_removed : (m : ℕ) → find_job (jobs_of keys' at') m ≡ (if n == m then None else find_job (jobs_of keys at) m)
         find_removed m = at_number n m _ _ _
@@ -151,7 +149,7 @@ module _ (keys : List (ℕ × ℕ)) (at : At) (i : IsIndexed keys at) where
           where
             leads : (m j : ℕ) → lookup (nat_eq m) keys' ≡ Some j → (n ≡ m) ⊎ (n ≡ m → ⊥) → (l : Live) × (at' j ≡ Some (m, l))
             leads m j e (inl same) =
-                let is : j ≡ k = key j k (sym e ∙ ap (λ x. lookup (nat_eq x) keys') (sym same) ∙ here_now) in
+                let is : j ≡ k = same_Some j k (sym e ∙ ap (λ x. lookup (nat_eq x) keys') (sym same) ∙ here_now) in
                 (live, ap at' is ∙ new ∙ ap (λ x. Some (x, live)) same)
             leads m j e (inr ne) =
                 let was = sym (stays m ne) ∙ e in

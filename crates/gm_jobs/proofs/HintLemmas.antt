@@ -19,10 +19,6 @@ use Rattle.std.specs.Option.{option_map}
 use Rattle.std.proofs.lemmas.Map.Entries.{length-keys_of}
 use Rattle.std.proofs.lemmas.Option.{slice_get-map, get_or_from_slice_get}
 
-pub is_false : (b : Bool) → (b ≡ true → ⊥) → b ≡ false
-is_false true never = absurd (never refl)
-is_false false never = refl
-
 pub passes_live : (test : Live → Bool) (o : Option Live) → passes test o ≡ true → (live : Live) × (o ≡ Some live) × (test live ≡ true)
 passes_live test None h = absurd (false≢true h)
 passes_live test (Some live) h = (live, refl, h)

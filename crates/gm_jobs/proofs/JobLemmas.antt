@@ -23,15 +23,11 @@ use Rattle.gm_jobs.specs.Uniques.{IdTable, LeadsTo, digest_of}
 use Rattle.gm_jobs.proofs.UniqueLemmas.{leads_same}
 use Rattle.gm_jobs.proofs.NumberLemmas.{not_some, number_same}
 use Rattle.gm_jobs.specs.Kept.{Beside, IsInAllTables, IsReady, IsKept}
-
--- one job is named as another where their functions and unique ids are the same
-both_parts : (a b : Bool) → (a && b) ≡ true → (a ≡ true) × (b ≡ true)
-both_parts true b e = (refl, e)
-both_parts false b e = absurd (false≢true e)
+use Rattle.std.proofs.lemmas.Bool.{and_parts}
 
 named_parts : (live other : Live) → is_named live.function live.unique other ≡ true → (other.function ≡ live.function) × (other.unique ≡ live.unique)
 named_parts live other e =
-    let parts = both_parts (other.function == live.function) (bytes_eq other.unique live.unique) e in
+    let parts = and_parts (other.function == live.function) (bytes_eq other.unique live.unique) e in
     (let f : (other.function == live.function) ≡ true = parts.0 in grind (arith, nat_tests), (bytes_eq-Decides other.unique live.unique).0 parts.1)
 
 named_unique : (live other : Live) → is_named live.function live.unique other ≡ true → other.unique ≡ live.unique
@@ -340,7 +336,7 @@ kept_ended b n old new uniques room spare spare' k gone more led ids =
 pub named_live : (f : ℕ) (unique : List ℕ) (o : Option Live) → passes (is_named f unique) o ≡ true → (live : Live) × (o ≡ Some live) × (live.function ≡ f) × (live.unique ≡ unique)
 named_live f unique None e = absurd (false≢true e)
 named_live f unique (Some live) e =
-    let parts = both_parts (live.function == f) (bytes_eq live.unique unique) e in
+    let parts = and_parts (live.function == f) (bytes_eq live.unique unique) e in
     (live, refl, (let same : (live.function == f) ≡ true = parts.0 in grind (arith, nat_tests)), (bytes_eq-Decides live.unique unique).0 parts.1)
 
 pub one_named : (b : Beside) (jobs : List (ℕ × Live)) (room : Option Room) (spare : ℕ) → IsKept b room spare jobs → (f : ℕ) (unique : List ℕ) (m n : ℕ) → joins unique ≡ true

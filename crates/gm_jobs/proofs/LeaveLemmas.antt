@@ -1,5 +1,6 @@
 -- What is true where a slot leaves.
-use Rattle.std.proofs.Common.{◌≡◌, ◌≢◌, ℕ, ◌⊎◌, inl, inr, Bool, true, false, cond, not, ◌||◌, ◌==◌, List, [], ◌∷◌, filter, Contains, Option, Some, None}
+use Rattle.std.proofs.Common.{◌≡◌, ◌≢◌, ℕ, ◌⊎◌, inl, inr, Bool, true, false, cond, not, ◌||◌, ◌==◌, List, [], ◌∷◌, filter, Contains, Option, Some, None, IfSome, get_or, ◌<◌}
+use Rattle.std.specs.Map.{keys_of}
 use Rattle.std.proofs.Common.{refl, sym, ap, subst, ◌∙◌}
 use Rattle.std.specs.List.{list_any}
 use Rattle.std.specs.Option.{option_map}
@@ -8,6 +9,7 @@ use Rattle.gm_jobs.specs.declared.job.Query.TheVariants.{Orphan, RunBy, HeardBy}
 use Rattle.gm_jobs.specs.Live.{Live, is_orphan, is_run_by, without_listener}
 use Rattle.gm_jobs.specs.Queries.{is_heard_by}
 use Rattle.gm_jobs.specs.Tables.{find_job, passes}
+use Rattle.gm_jobs.specs.ByNumber.{JobTable}
 use Rattle.gm_jobs.specs.Changes.{ChangesJob, LeavesEach, LeavesSome}
 use Rattle.gm_jobs.specs.Hints.{HintList, HintTable, IsHinted, AllHinted, AllFound, at_slot, numbers_in}
 use Rattle.gm_jobs.proofs.HintLemmas.{table_found, numbered}
@@ -82,6 +84,14 @@ module _ (slot : ℕ) where
         by (inr left) which = inr (left_still m left)
         by (inl same) (inl e) = inr (subst (λ i. LeavesOne i first mid) (sym e) left_here)
         by (inl same) (inr ne) = inl (other_job number (without_listener slot) now mid change m ne ∙ same)
+
+  -- it left those that the first hints are at, and the last of them is at hand
+  pub record LeftUpTo (hints : HintList) (first : JobTable) (i : ℕ) (now : JobTable) (number : Option ℕ) : Type 0 where
+    pub some : LeavesSome slot first.entries now.entries
+    pub these : (k : ℕ) → k < i → LeavesOne (get_or (numbers_in hints first.entries) k 0) first.entries now.entries
+    pub last : IfSome number (λ n. LeavesOne n first.entries now.entries)
+    pub numbers : keys_of now.entries ≡ keys_of first.entries
+    pub slots : now.room ≡ first.room
 
   -- where it left those that are hinted at, it left all
   pub left_each : (first now : List (ℕ × Live)) (hints : HintList) → AllHinted (is_heard_by slot) first hints → LeavesSome slot first now → ((n : ℕ) → Contains (numbers_in hints first) n → LeavesOne n first now)

@@ -1,6 +1,7 @@
 //! When running jobs are due.
 
 ghost use Rattle.std.specs.Prelude.{◌≡◌, ◌≢◌, ℕ, true, false, Some, slice_get, IfSome, IfNone};
+ghost use Rattle.std.specs.Option.{option_and_then};
 ghost use Rattle.gm_jobs.specs.Live.{Live, is_due};
 ghost use Rattle.gm_jobs.specs.Tables.{find_job, IsNext, IsLast};
 ghost use Rattle.gm_jobs.specs.MinHeap.{Has};
@@ -69,7 +70,15 @@ fn is_reached(waiting: &MinHeap, now: u64) -> bool
     }
 }
 
-// The jobs that are due are among the reached then.
+/// Until when the job of a number runs, if it is live and has a deadline.
+pub(crate) fn deadline_of(jobs: &JobMap, n: u64) -> Option<u64>
+    ensures { result ≡ option_and_then (λ (l : Live). l.deadline) (find_job jobs.now.entries n) }
+{
+    jobs.get(n)?.deadline()
+}
+
+// The jobs that are due are among the reached then, each once: a deadline that its job has no more is passed over, and equal
+// ones of a job follow each other.
 fn gather(waiting: &mut MinHeap, reached: &mut Hints, jobs: &JobMap, now: u64)
     requires { AllListed jobs.now.entries (listing waiting.old reached.old) }
     ensures listed { AllListed jobs.now.entries (listing waiting.new reached.new) }
@@ -79,7 +88,9 @@ fn gather(waiting: &mut MinHeap, reached: &mut Hints, jobs: &JobMap, now: u64)
         if deadline > now {
             return;
         }
-        reached.put_if_met(jobs, Query::Due(now), number);
+        if deadline_of(jobs, number) == Some(deadline) {
+            reached.put_once(number);
+        }
         waiting.pop();
     }
 }

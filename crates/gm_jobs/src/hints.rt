@@ -141,6 +141,16 @@ impl Hints {
         self.numbers.push_reserved(number);
     }
 
+    /// One number more, unless it was put last.
+    pub(crate) fn put_once(&mut self, number: u64)
+        ensures kept { KeepsHints (λ n. Unit {0}) self.old self.new }
+        ensures stands { IsHinted self.new number }
+    {
+        if self.numbers.last() != Some(&number) {
+            self.put(number);
+        }
+    }
+
     /// One number more, if its job is what is asked for.
     pub(crate) fn put_if_met(&mut self, jobs: &JobMap, query: Query, number: u64)
         ensures kept { KeepsHints (λ n. Unit {0}) self.old self.new }
@@ -170,8 +180,8 @@ impl Hints {
         self.numbers.reserve(self.numbers.len().saturating_add(4))
     }
 
-    // The numbers come in their order.
-    fn sort(&mut self)
+    /// The numbers come in their order.
+    pub(crate) fn sort(&mut self)
         ensures kept { KeepsHints (λ n. Unit {0}) self.old self.new }
         ensures sorted { IsNonDecreasingBy (λ n. n) self.new.numbers }
     {

@@ -89,15 +89,20 @@ fn next_run_at(
     next
 }
 
-// The slot doesn't listen any more to the jobs that are hinted at.
+// The slot doesn't listen any more to the jobs that are hinted at. A job is left once where its hints follow each other: leaving it
+// looks at all its listeners.
 fn leave_each(jobs: &mut JobMap, hints: &Hints, slot: u32)
     requires { AllHinted (is_heard_by slot) jobs.old.entries hints.now }
     ensures left { LeavesEach slot jobs.old.entries jobs.new.entries }
     ensures slots { jobs.new.room ≡ jobs.old.room }
 {
     let mut i = 0;
+    let mut last = None;
     while let Some(number) = hints.number_at(jobs, i) {
-        let _left = jobs.change(number, Change::Leave(slot));
+        if last != Some(number) {
+            let _left = jobs.change(number, Change::Leave(slot));
+            last = Some(number);
+        }
         i += 1;
     }
 }
@@ -201,7 +206,8 @@ impl Index {
         ensures found { AllFound jobs.new.entries self.new }
         ensures slots { jobs.new.room ≡ jobs.old.room }
     {
-        let hints = self.take(slot);
+        let mut hints = self.take(slot);
+        hints.sort();
         leave_each(jobs, &hints, slot);
         self.orphans.join(hints);
     }

@@ -1,7 +1,7 @@
 //! The table of jobs.
 
 ghost use Rattle.std.specs.Prelude.{◌≡◌, ℕ, ◌+◌, ◌<◌, ◌≤◌, ◌^◌, ◌↔◌, Some, None, IsSome, true, false, IfSome, IfNone, IfOk, IfErr, OnOk, OnErr, Err, Contains, length};
-ghost use Rattle.std.specs.Option.{option_and_then, option_copied, unwrap_or};
+ghost use Rattle.std.specs.Option.{option_copied, unwrap_or};
 ghost use Rattle.gm_jobs.specs.Live.{Live, AreCarried, fresh, assigned, given_back, kept, reported, with_listener, is_run_by, is_orphan, is_due, is_last_try};
 ghost use Rattle.gm_jobs.specs.Tables.{no_jobs, job, find_job, is_made, place, listeners_of, passes, back_of, IsNamed, IsVacant, HasRoom, with_room, Makes, Changes, Ends, Leaves, IsNext, IsLast};
 ghost use Rattle.gm_jobs.specs.Deadlines.{AllListed};
@@ -9,7 +9,7 @@ ghost use Rattle.gm_jobs.specs.Hints.{HintTable, AllFound};
 ghost use Rattle.gm_jobs.specs.Uniques.{LeadsTo};
 
 use crate::by_number::JobMap;
-use crate::deadlines::Deadlines;
+use crate::deadlines::{Deadlines, deadline_of};
 use crate::index::Index;
 use crate::job::{Change, Job, NewJob, Query, Reservation};
 use crate::uniques::{Uniques, Vacancy, digest};
@@ -95,13 +95,6 @@ fn make_room(
     jobs.reserve_one()?;
     deadlines.reserve(jobs, jobs.len() + 1)?;
     uniques.reserve_one()
-}
-
-// Until when a job runs, if it is live and has a deadline.
-fn deadline_of(jobs: &JobMap, n: u64) -> Option<u64>
-    ensures { result ≡ option_and_then (λ (l : Live). l.deadline) (find_job jobs.now.entries n) }
-{
-    jobs.get(n)?.deadline()
 }
 
 impl Jobs {

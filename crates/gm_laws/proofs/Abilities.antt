@@ -28,11 +28,11 @@ use Rattle.gm_laws.specs.Refusals.{names_function}
 use Rattle.gm_laws.proofs.Created.{bad_name, too_many}
 use Rattle.gm_laws.proofs.Refusals.{named_badly}
 use Rattle.gm_laws.proofs.Taken.{request_does}
-use Rattle.gm_history.proofs.Finding.{same_number}
-use Rattle.gm_laws.proofs.JobLaws.{is_same}
 use Rattle.gm_laws.proofs.Moving.{both_not}
 use Rattle.gm_history.proofs.StepsKeep.{run_history}
 use Rattle.gm_history.proofs.Caused.{note_law}
+use Rattle.gm_notes.proofs.Numbers.{same_number}
+use Rattle.std.proofs.lemmas.Bool.{eqb-true}
 
 -- ---- abilities in lists
 
@@ -133,7 +133,7 @@ closed_none k c (notes.Cant d f ∷ older) h e = rw (closed_none k c older h.1 e
 closed_none k c (notes.Can d f t ∷ older) h e = by (c == d) refl (closed_none k c older h.1 e)
   where
     by : (u : Bool) → (c == d) ≡ u → abilities c older ≡ [] → cond u (put f t (abilities c older)) (abilities c older) ≡ []
-    by true is rest = absurd (both_not (is_open d older) h.0.0 (ap (λ x. is_open x older) (sym (is_same c d is)) ∙ e))
+    by true is rest = absurd (both_not (is_open d older) h.0.0 (ap (λ x. is_open x older) (sym (eqb-true c d is)) ∙ e))
     by false is rest = rest
 closed_none k c (note ∷ older) h e = closed_none k c older h.1 e
 
@@ -167,11 +167,11 @@ module _ (k : Settings) (s : Step) (start : Past) (history : History k start.not
       here is (inr was) = p was
       here is (inl new) =
           let parts = and_parts (bytes_eq g f) (t == seconds) new in
-          let slot : d ≡ c = sym (is_same c d is) in
+          let slot : d ≡ c = sym (eqb-true c d is) in
           inr (
             cause.0,
             subst (λ x. PacketAsks x s cause.0) slot cause.1,
-            (cause.3 ∙ (bytes_eq-Decides g f).0 parts.0, cause.2 ∙ ap Some (is_same t seconds parts.1)),
+            (cause.3 ∙ (bytes_eq-Decides g f).0 parts.0, cause.2 ∙ ap Some (eqb-true t seconds parts.1)),
           )
 
       by : (u : Bool) → (c == d) ≡ u → list_any wanted (cond u (put g t (abilities c older)) (abilities c older)) ≡ true
@@ -202,7 +202,7 @@ module _ (k : Settings) (s : Step) (start : Past) (history : History k start.not
       by : (t : Bool) → (c == d) ≡ t → (list_any wanted (abilities c older) ≡ true) ⊎ Left → (list_any wanted (cond t [] (abilities c older)) ≡ true) ⊎ Left
       by t is (inr left) = inr left
       by true is (inl e) =
-          let none : abilities c older ≡ [] = closed_none k c older h (ap (λ x. is_open x older) (is_same c d is) ∙ allowed.0) in
+          let none : abilities c older ≡ [] = closed_none k c older h (ap (λ x. is_open x older) (eqb-true c d is) ∙ allowed.0) in
           absurd (let bad : false ≡ true = sym (ap (list_any wanted) none) ∙ e in cc)
       by false is (inl e) = inl e
   stays_more (notes.Closed d) older allowed cause h p was = by (c == d) refl (p was)
@@ -215,7 +215,7 @@ module _ (k : Settings) (s : Step) (start : Past) (history : History k start.not
     where
       by : (t : Bool) → (c == d) ≡ t → (list_any wanted (abilities c older) ≡ true) ⊎ Left → (list_any wanted (cond t [] (abilities c older)) ≡ true) ⊎ Left
       by t is (inr left) = inr left
-      by true is (inl e) = inr (inr (cause.0, subst (λ x. PacketAsks x s cause.0) (sym (is_same c d is)) cause.1, inl (inr cause.2)))
+      by true is (inl e) = inr (inr (cause.0, subst (λ x. PacketAsks x s cause.0) (sym (eqb-true c d is)) cause.1, inl (inr cause.2)))
       by false is (inl e) = inl e
   stays_more (notes.Cant d g) older allowed cause h p was = by (c == d) (bytes_eq g f) refl refl (p was)
     where
@@ -223,7 +223,7 @@ module _ (k : Settings) (s : Step) (start : Past) (history : History k start.not
           → (list_any wanted (cond t (filter (λ ability. not (is_of g ability)) (abilities c older)) (abilities c older)) ≡ true) ⊎ Left
       by t u is same (inr left) = inr left
       by false u is same (inl e) = inl e
-      by true true is same (inl e) = inr (inr (cause.0, subst (λ x. PacketAsks x s cause.0) (sym (is_same c d is)) cause.1, inl (inl (cause.2, cause.3 ∙ (bytes_eq-Decides g f).0 same))))
+      by true true is same (inl e) = inr (inr (cause.0, subst (λ x. PacketAsks x s cause.0) (sym (eqb-true c d is)) cause.1, inl (inl (cause.2, cause.3 ∙ (bytes_eq-Decides g f).0 same))))
       by true false is same (inl e) = inl (kept_stays wanted (λ ability. not (is_of g ability)) (abilities c older) (λ ability w. ap not (of_f g same ability w)) e)
   stays_more (notes.Can d g t) older allowed cause h p was = by (c == d) (bytes_eq g f) refl refl (p was)
     where
@@ -231,7 +231,7 @@ module _ (k : Settings) (s : Step) (start : Past) (history : History k start.not
       by u v is same (inr left) = inr left
       by false v is same (inl e) = inl e
       by true true is same (inl e) =
-          inr (inr (cause.0, subst (λ x. PacketAsks x s cause.0) (sym (is_same c d is)) cause.1, inr (t, (cause.3 ∙ (bytes_eq-Decides g f).0 same, cause.2))))
+          inr (inr (cause.0, subst (λ x. PacketAsks x s cause.0) (sym (eqb-true c d is)) cause.1, inr (t, (cause.3 ∙ (bytes_eq-Decides g f).0 same, cause.2))))
       by true false is same (inl e) = inl (put_stays wanted g t (abilities c older) (of_f g same) e)
   stays_more note older allowed cause h p was = p was
 

@@ -21,12 +21,12 @@ use Rattle.gm_history.proofs.StepsKeep.{run_history}
 use Rattle.gm_laws.specs.Listeners.{outputs, Queues, copies}
 use Rattle.gm_laws.specs.Submitted.{grab_answer, OneAssignmentOneJob}
 use Rattle.gm_laws.specs.Waiting.{HasNoWork, IsGiven}
-use Rattle.gm_laws.proofs.JobLaws.{is_same}
 use Rattle.gm_laws.proofs.Moving.{both_not}
 use Rattle.gm_laws.proofs.Grabs.{no_job_no_work}
 use Rattle.gm_laws.proofs.OnlyEnds.{quiet, copied, none_newer}
 use Rattle.gm_laws.proofs.StepLaws.{taken_is}
 use Rattle.gm_laws.proofs.Submitted.{worked_on}
+use Rattle.std.proofs.lemmas.Bool.{eqb-true}
 
 module _ (k : Settings) (steps : List Step) (c : ℕ) (newer : List (List ℕ)) (answer : Answer) (gives : IsAssignment answer) (lt : 0 < copies (answer_packet answer) newer) where
   abbrev start : Past
@@ -45,7 +45,7 @@ module _ (k : Settings) (steps : List Step) (c : ℕ) (newer : List (List ℕ)) 
           → (c ≡ d) × (newer ≡ answer_packet told ∷ []) × (answer_packet answer ≡ answer_packet told)
       by true same e =
           let are : newer ≡ answer_packet told ∷ [] = append_cancel_left (outputs c start.flow) newer (answer_packet told ∷ []) (sym e) in
-          (is_same c d same, are, (copied (answer_packet answer) (answer_packet told) 1 (subst (λ l. 0 < copies (answer_packet answer) l) are lt)).0)
+          (eqb-true c d same, are, (copied (answer_packet answer) (answer_packet told) 1 (subst (λ l. 0 < copies (answer_packet answer) l) are lt)).0)
       by false other e = absurd (none_newer c newer start start (answer_packet answer) refl e lt)
 
   -- a grab without data

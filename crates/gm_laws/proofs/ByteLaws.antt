@@ -12,9 +12,9 @@ use Rattle.gm_notes.specs.Steps.{Step, Drain, step}
 use Rattle.gm_history.specs.History.{History}
 use Rattle.gm_history.specs.Laws.{drained, is_kept_up, IsPrefix, SentSo}
 use Rattle.gm_laws.specs.Laws.{takes_from, OnlyDrainsTake}
-use Rattle.gm_history.proofs.Finding.{same_number}
 use Rattle.gm_history.proofs.StepsKeep.{step_keeps}
 use Rattle.gm_history.proofs.Bytes.{began, emptied, queued, taken, same_slot, AllSent, noted_sent}
+use Rattle.gm_notes.proofs.Numbers.{same_number}
 
 -- ---- what is taken
 

@@ -24,14 +24,15 @@ use Rattle.gm_history.specs.History.{Allowed, History}
 use Rattle.gm_history.specs.Causes.{Caused, Ends, is_request, is_ending, is_grab, is_submission, is_close}
 use Rattle.gm_laws.specs.Laws.{has_place, is_unheard, WorkersAndClocksEndJobs}
 use Rattle.gm_history.proofs.Asking.{packet_does, asked_kind, asks_some, apart_requests, made_request}
-use Rattle.gm_history.proofs.Finding.{same_number}
-use Rattle.gm_laws.proofs.JobLaws.{is_same, running_place}
+use Rattle.gm_laws.proofs.JobLaws.{running_place}
 use Rattle.gm_laws.proofs.Passing.{works_does}
 use Rattle.gm_history.proofs.StepsKeep.{run_history}
 use Rattle.gm_history.proofs.Caused.{note_law}
 use Rattle.gm_laws.proofs.StepLaws.{taken_is}
 use Rattle.gm_history.proofs.Keeping.{tell_all_notes}
 use Rattle.gm_laws.proofs.Moving.{from, In, not_both, both_not, placed_rises}
+use Rattle.gm_notes.proofs.Numbers.{same_number}
+use Rattle.std.proofs.lemmas.Bool.{eqb-true}
 
 -- ---- a tick
 
@@ -150,7 +151,7 @@ module _ (k : Settings) (s : Step) (start : Past) (n c : ℕ) where
     where
       by : (t : Bool) → (n == m) ≡ t → RunsOn (notes.Assigned m d late ∷ older)
       by true is =
-          let runs : job_state m older ≡ states.Running c = subst (λ x. job_state x older ≡ states.Running c) (is_same n m is) h.0 in
+          let runs : job_state m older ≡ states.Running c = subst (λ x. job_state x older ≡ states.Running c) (eqb-true n m is) h.0 in
           absurd (let bad : is_waiting (states.Running c) ≡ true = subst (λ x. is_waiting x ≡ true) runs waits in cc)
       by false is = inl (rw is h.0, rw is h.1)
 

@@ -31,13 +31,15 @@ use Rattle.gm_history.specs.Laws.{InEachStep}
 use Rattle.gm_history.specs.Hearing.{listens}
 use Rattle.gm_laws.specs.Submitted.{IsJoined, JoinsNone, IsNew, KeepsOrListens, IsCreated, HasNoRoom, IsLong, IsBadName, HasBadName, IsTurnedDown, SubmissionsAreAnswered}
 use Rattle.gm_history.proofs.Asking.{packet_does}
-use Rattle.gm_history.proofs.Finding.{joined_is, same_number}
-use Rattle.gm_laws.proofs.JobLaws.{is_same, none_joins, unmade}
+use Rattle.gm_history.proofs.Finding.{joined_is}
+use Rattle.gm_laws.proofs.JobLaws.{none_joins, unmade}
 use Rattle.gm_history.proofs.Keeping.{kept_if, counted}
 use Rattle.gm_laws.proofs.Moving.{from, wake_each_notes}
 use Rattle.gm_history.proofs.StepsKeep.{run_history}
 use Rattle.gm_laws.proofs.StepLaws.{taken_is}
 use Rattle.gm_laws.proofs.Unmade.{unmade_is}
+use Rattle.gm_notes.proofs.Numbers.{same_number}
+use Rattle.std.proofs.lemmas.Bool.{eqb-true}
 
 -- ---- what queues nothing
 
@@ -137,7 +139,7 @@ Answered k c asked start past = Created k c asked start past ⊎ IsTurnedDown k 
 
 -- only the job that is made is new
 one_new : (n m : ℕ) (what : Job) (old : Option Job) (t : Bool) → (m == n) ≡ t → (unwrap_or (cond t (Some (Some what)) None) old ≡ old) ⊎ (m ≡ n)
-one_new n m what old true is = inr (is_same m n is)
+one_new n m what old true is = inr (eqb-true m n is)
 one_new n m what old false is = inl refl
 
 module _ (k : Settings) (c : ℕ) (asked : Asked) (start : Past) (history : History k start.notes) (p : Priority) (background : Bool) (priority : priority_of asked.kind ≡ Some p)

@@ -24,8 +24,7 @@ use Rattle.gm_history.specs.Causes.{Ends, is_ending}
 use Rattle.gm_laws.specs.Laws.{has_place}
 use Rattle.gm_laws.specs.Listeners.{outputs, Queues, copies, times_heard, TellsEnd, EachListenerIsTold}
 use Rattle.gm_history.specs.Hearing.{listens, passed_on}
-use Rattle.gm_history.proofs.Finding.{same_number}
-use Rattle.gm_laws.proofs.JobLaws.{is_same, running_place}
+use Rattle.gm_laws.proofs.JobLaws.{running_place}
 use Rattle.gm_history.proofs.Keeping.{tell_all_notes}
 use Rattle.gm_laws.proofs.Moving.{from, both_not}
 use Rattle.gm_laws.proofs.Handles.{same_handle, fail_handle, placed_small}
@@ -34,6 +33,8 @@ use Rattle.gm_history.proofs.Asking.{asked_kind}
 use Rattle.gm_laws.proofs.Passing.{passed}
 use Rattle.gm_laws.proofs.StepLaws.{ends}
 use Rattle.gm_history.proofs.StepsKeep.{run_history}
+use Rattle.gm_notes.proofs.Numbers.{same_number}
+use Rattle.std.proofs.lemmas.Bool.{eqb-true}
 
 -- ---- by a packet
 
@@ -120,7 +121,7 @@ module _ (k : Settings) (start : Past) (c n : ℕ) (lt : n < 2 ^ 64) where
 
     counts_at : (t : Bool) → (n == m) ≡ t → copies (fails n) (s.newer ++ replicate many (fails m)) ≡ cond (is_ended (unwrap_or (cond t (Some states.Ended) None) (job_state n past.notes))) (listens c n start.notes) 0
     counts_at true is =
-        let same : n ≡ m = is_same n m is in
+        let same : n ≡ m = eqb-true n m is in
         let none : copies (fails n) s.newer ≡ 0 =
         s.counted ∙ ap (λ b. cond b (listens c n start.notes) 0) (running_not (job_state n past.notes) (subst (λ x. is_running (job_state x past.notes) ≡ true) (sym same) runs)) in
         copies_append (fails n) s.newer (replicate many (fails m))

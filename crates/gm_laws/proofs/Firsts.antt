@@ -17,9 +17,7 @@ use Rattle.gm_notes.specs.Requests.{first, request}
 use Rattle.gm_notes.specs.Steps.{step}
 use Rattle.gm_history.specs.History.{History}
 use Rattle.gm_history.specs.Causes.{Caused, PacketAsks, job_seconds}
-use Rattle.gm_history.proofs.Finding.{same_number}
 use Rattle.gm_history.proofs.Caused.{note_law}
-use Rattle.gm_laws.proofs.JobLaws.{is_same}
 use Rattle.gm_laws.proofs.Taken.{request_does, request_shut}
 use Rattle.std.proofs.lemmas.List.Elements.{All-head, All-nil, All-cons}
 use Rattle.std.proofs.lemmas.Option.{same_Some}
@@ -36,6 +34,8 @@ use Rattle.gm_laws.specs.Firsts.{HasNoneWaiting, functions_of, GivesOfTheFirst, 
 use Rattle.gm_laws.proofs.Moving.{from, both_not}
 use Rattle.gm_laws.proofs.StepLaws.{gives}
 use Rattle.gm_laws.proofs.Waiting.{something_waits}
+use Rattle.gm_notes.proofs.Numbers.{same_number}
+use Rattle.std.proofs.lemmas.Bool.{eqb-true}
 
 module _ (notes : List Note) where
   abbrev Splits : List Ability → List ℕ → Type 0
@@ -179,7 +179,7 @@ module _ (c : ℕ) (start : Past) where
     placing note older d asked a e other p = by (c == d) refl p
       where
         by : (t : Bool) → (c == d) ≡ t → LeftSo older → LeftSo (note ∷ older)
-        by true is p = inr (inr (asked, subst (λ x. PacketAsks x s asked) (sym (is_same c d is)) a, e))
+        by true is p = inr (inr (asked, subst (λ x. PacketAsks x s asked) (sym (eqb-true c d is)) a, e))
         by false is (inl p) = inl (other is ∙ p)
         by false is (inr (inl p)) = inr (inl (other is ∙ p))
         by false is (inr (inr p)) = inr (inr p)

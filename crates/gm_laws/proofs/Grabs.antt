@@ -21,11 +21,12 @@ use Rattle.gm_notes.specs.Steps.{run}
 use Rattle.gm_history.specs.Causes.{is_one_of, is_grab}
 use Rattle.gm_history.specs.History.{is_able_within}
 use Rattle.gm_laws.specs.Waiting.{IsDeadline, HasNoWork, IsGiven, NoJobMeansNoWork}
-use Rattle.gm_history.proofs.Finding.{pick_found, waiting_is, job_of, same_number}
+use Rattle.gm_history.proofs.Finding.{pick_found, waiting_is, job_of}
 use Rattle.gm_history.proofs.Keeping.{kept_if}
 use Rattle.gm_laws.proofs.Moving.{both_not}
 use Rattle.gm_laws.proofs.StepLaws.{assigned_notes, taken_is}
 use Rattle.gm_laws.proofs.Waiting.{no_pick}
+use Rattle.gm_notes.proofs.Numbers.{same_number}
 
 -- a deadline is the moment plus the seconds
 deadline_is : (now seconds : ℕ) → IsDeadline now seconds (deadline_after now seconds)

@@ -4,8 +4,6 @@ use Rattle.std.proofs.Common.{Some, refl, sym, ap, subst, ◌∙◌}
 use Rattle.std.specs.Prelude.{◌==◌, codes, decimal}
 use Rattle.std.specs.List.{list_any}
 use Rattle.std.specs.Str.{bytes_eq}
-use Rattle.std.specs.Str.Parse.{digits_value}
-use Rattle.std.proofs.lemmas.Fmt.{decimal_is_IsNumeral}
 use Rattle.std.proofs.lemmas.List.{append_cancel_left}
 use Rattle.std.proofs.lemmas.Slice.Eq.{bytes_eq-Decides}
 use Rattle.gm_packet.specs.Packets.{packet}
@@ -16,13 +14,12 @@ use Rattle.gm_notes.specs.Jobs.{job_state, made, handle, is_handle, job_of_handl
 use Rattle.gm_history.specs.History.{History}
 use Rattle.gm_laws.specs.Laws.{AreConsecutive, has_place}
 use Rattle.gm_laws.proofs.NumberLaws.{numbers}
-use Rattle.gm_laws.proofs.JobLaws.{is_same, places}
-
-same_decimal : (m n : ℕ) → m < 2 ^ 64 → n < 2 ^ 64 → decimal m ≡ decimal n → m ≡ n
-same_decimal m n small lt e = sym (decimal_is_IsNumeral m small).1 ∙ (ap (digits_value 10) e ∙ (decimal_is_IsNumeral n lt).1)
+use Rattle.gm_laws.proofs.JobLaws.{places}
+use Rattle.std.proofs.lemmas.Bool.{eqb-true}
+use Rattle.std.proofs.lemmas.Fmt.{decimal_injective}
 
 pub same_handle : (k : Settings) (m n : ℕ) → m < 2 ^ 64 → n < 2 ^ 64 → handle k m ≡ handle k n → m ≡ n
-same_handle k m n small lt e = same_decimal m n small lt (append_cancel_left (codes "H:" ++ k.name ++ codes ":") (decimal m) (decimal n) e)
+same_handle k m n small lt e = decimal_injective m n small lt (append_cancel_left (codes "H:" ++ k.name ++ codes ":") (decimal m) (decimal n) e)
 
 -- a WORK_FAIL says its handle
 pub fail_handle : (a b : List ℕ) → answer_packet (work_fail a) ≡ answer_packet (work_fail b) → a ≡ b
@@ -33,7 +30,7 @@ fail_handle a b e = ap (drop 12) e
 
 module _ (k : Settings) (n : ℕ) where
   small_at : (m : ℕ) (t : Bool) (more : Bool) → (m == n) ≡ t → m < 2 ^ 64 → (more ≡ true → n < 2 ^ 64) → (t || more) ≡ true → n < 2 ^ 64
-  small_at m true more is lt rest any = subst (λ x. x < 2 ^ 64) (is_same m n is) lt
+  small_at m true more is lt rest any = subst (λ x. x < 2 ^ 64) (eqb-true m n is) lt
   small_at m false more is lt rest any = rest any
 
   made_small : (ns : List ℕ) → AreConsecutive k ns → list_any (λ m. m == n) ns ≡ true → n < 2 ^ 64
@@ -44,7 +41,7 @@ module _ (k : Settings) (n : ℕ) where
   not_itself other = let yes : bytes_eq (handle k n) (handle k n) ≡ true = (bytes_eq-Decides (handle k n) (handle k n)).1 refl in let bad : true ≡ false = sym yes ∙ other in cc
 
   later_at : (m : ℕ) (t more : Bool) (o : Option ℕ) → (m == n) ≡ t → is_handle k (handle k n) m ≡ false → (more ≡ true → o ≡ Some n) → (t || more) ≡ true → o ≡ Some n
-  later_at m true more o is other rest any = absurd (not_itself (subst (λ x. is_handle k (handle k n) x ≡ false) (is_same m n is) other))
+  later_at m true more o is other rest any = absurd (not_itself (subst (λ x. is_handle k (handle k n) x ≡ false) (eqb-true m n is) other))
   later_at m false more o is other rest any = rest any
 
   found_at : (m : ℕ) (t more : Bool) (o : Option ℕ) → is_handle k (handle k n) m ≡ t → m < 2 ^ 64 → n < 2 ^ 64 → (more ≡ true → o ≡ Some n) → ((m == n) || more) ≡ true → cond t (Some m) o ≡ Some n

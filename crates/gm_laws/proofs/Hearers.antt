@@ -23,15 +23,15 @@ use Rattle.gm_notes.specs.Closings.{is_reached, expire_one, expire_each, rising}
 use Rattle.gm_notes.specs.Steps.{Step, Tick, refusal, step, run}
 use Rattle.gm_history.specs.History.{Allowed, History}
 use Rattle.gm_history.specs.Causes.{Caused, closes, JustQueues}
-use Rattle.gm_history.proofs.Finding.{same_number}
 use Rattle.gm_history.proofs.Keeping.{kept_if, tell_all_notes}
 use Rattle.gm_history.proofs.StepsKeep.{run_history}
 use Rattle.gm_history.proofs.Caused.{note_law}
 use Rattle.gm_laws.specs.Exceptions.{WantsExceptions, ExceptionsArePassedOn}
 use Rattle.gm_laws.specs.Answered.{TicksAreTaken, ShutdownIsAnswered}
-use Rattle.gm_laws.proofs.JobLaws.{is_same}
 use Rattle.gm_laws.proofs.Moving.{both_not}
 use Rattle.gm_laws.proofs.Taken.{request_does, line_does}
+use Rattle.gm_notes.proofs.Numbers.{same_number}
+use Rattle.std.proofs.lemmas.Bool.{eqb-true}
 
 -- ---- exceptions
 
@@ -45,7 +45,7 @@ module _ (k : Settings) (s : Step) (start : Past) (history : History k start.not
   gets_more stays (notes.Opened d addr) older allowed cause p = by (c == d) refl
     where
       by : (t : Bool) → (c == d) ≡ t → (unwrap_or (cond t (Some true) None) (is_open c older) ≡ true) × (unwrap_or (cond t (Some false) None) (has_option c older) ≡ true)
-      by true is = absurd (both_not (is_open c older) p.0 (ap (λ x. is_open x older) (is_same c d is) ∙ allowed.0))
+      by true is = absurd (both_not (is_open c older) p.0 (ap (λ x. is_open x older) (eqb-true c d is) ∙ allowed.0))
       by false is = p
   gets_more stays (notes.Closed d) older allowed cause p = by (c == d) refl
     where
@@ -81,7 +81,7 @@ module _ (k : Settings) (s : Step) (start : Past) (history : History k start.not
   asked_more (notes.OptionSet d) older cause p e = by (c == d) refl e
     where
       by : (t : Bool) → (c == d) ≡ t → (is_open c older ≡ true) × (unwrap_or (cond t (Some true) None) (has_option c older) ≡ true) → Gets start.notes ⊎ WantsExceptions c s
-      by true is e = inr (subst (λ x. WantsExceptions x s) (sym (is_same c d is)) cause)
+      by true is e = inr (subst (λ x. WantsExceptions x s) (sym (eqb-true c d is)) cause)
       by false is e = p e
   asked_more note older cause p e = p e
 

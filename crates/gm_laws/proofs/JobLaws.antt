@@ -19,14 +19,12 @@ use Rattle.gm_laws.specs.Laws.{AreConsecutive, was_made, has_place, HavePlaces, 
 use Rattle.gm_history.proofs.StepsKeep.{step_keeps, run_history}
 use Rattle.gm_history.proofs.Keeping.{keeps_notes, slot_runs}
 use Rattle.gm_laws.proofs.NumberLaws.{next_is, numbers}
+use Rattle.std.proofs.lemmas.Bool.{eqb-true}
 
 -- ---- numbers that are equal or not
 
 pub same_test : (n m : ℕ) → (m == n) ≡ (n == m)
 same_test n m = grind (arith, nat_tests)
-
-pub is_same : (n m : ℕ) → (n == m) ≡ true → n ≡ m
-is_same n m e = grind (arith, nat_tests)
 
 pub running_place : (s : JobState) → is_running s ≡ true → has_place s ≡ true
 running_place (states.Running c) e = refl
@@ -73,7 +71,7 @@ place_still false new old p q = q
 -- a new place for job m, which had one
 place_moved : (n m : ℕ) (older : List Note) (new : JobState) (t : Bool) → (n == m) ≡ t → has_place new ≡ true → has_place (job_state m older) ≡ true → has_place (job_state n older) ≡ was_made n older → has_place (unwrap_or (cond t (Some new) None) (job_state n older)) ≡ was_made n older
 place_moved n m older new true is placed had rest =
-    let same : m ≡ n = sym (is_same n m is) in
+    let same : m ≡ n = sym (eqb-true n m is) in
     placed ∙ sym (subst (λ x. has_place (job_state x older) ≡ true) same had) ∙ rest
 place_moved n m older new false is placed had rest = rest
 
@@ -95,7 +93,7 @@ places k (note ∷ older) h n = places k older h.1 n
 
 none_head : (test : ℕ → Bool) (m n : ℕ) (ns : List ℕ) (t u : Bool) → test m ≡ t → (m == n) ≡ u → (find test ns ≡ None → list_any (λ x. x == n) ns ≡ true → test n ≡ false) → cond t (Some m) (find test ns) ≡ None → (u || list_any (λ x. x == n) ns) ≡ true → test n ≡ false
 none_head test m n ns true u is same rest e h = absurd cc
-none_head test m n ns false true is same rest e h = subst (λ x. test x ≡ false) (is_same m n same) is
+none_head test m n ns false true is same rest e h = subst (λ x. test x ≡ false) (eqb-true m n same) is
 none_head test m n ns false false is same rest e h = rest e h
 
 -- where a search finds none, no element passes
@@ -119,7 +117,7 @@ none_joins k f u n older h joining none e =
 -- a job that keeps its liveness: whoever is live and named after the move was before
 moved_live : (f u : List ℕ) (n m : ℕ) (older : List Note) (new : JobState) (t : Bool) → (n == m) ≡ t → is_live (job_state m older) ≡ true → (is_live (unwrap_or (cond t (Some new) None) (job_state n older)) && is_job_named f u (job n older)) ≡ true → is_live_named f u older n ≡ true
 moved_live f u n m older new true is lived e =
-    let same : m ≡ n = sym (is_same n m is) in
+    let same : m ≡ n = sym (eqb-true n m is) in
     and_from (is_live (job_state n older)) (is_job_named f u (job n older)) (subst (λ x. is_live (job_state x older) ≡ true) same lived) (and_parts (is_live new) (is_job_named f u (job n older)) e).1
 moved_live f u n m older new false is lived e = e
 
@@ -144,7 +142,7 @@ two_made : (k : Settings) (f u : List ℕ) (a b m : ℕ) (new : Job) (older : Li
     → (is_live_named f u older a ≡ true → is_live_named f u older b ≡ true → a ≡ b)
     → (s ≡ true → is_job_named f u (Some new) ≡ true) × (s ≡ false → is_live_named f u older a ≡ true)
     → (t ≡ true → is_job_named f u (Some new) ≡ true) × (t ≡ false → is_live_named f u older b ≡ true) → a ≡ b
-two_made k f u a b m new older true true h as_m bs_m joining none rest p q = is_same a m as_m ∙ sym (is_same b m bs_m)
+two_made k f u a b m new older true true h as_m bs_m joining none rest p q = eqb-true a m as_m ∙ sym (eqb-true b m bs_m)
 two_made k f u a b m new older false false h as_m bs_m joining none rest p q = rest (p.1 refl) (q.1 refl)
 two_made k f u a b m new older true false h as_m bs_m joining none rest p q =
     let n = new_named f u new.function new.unique (p.0 refl) in
@@ -179,7 +177,7 @@ one_live k (note ∷ older) h f u a b joining p q = one_live k older h.1 f u a b
 -- ---- who is gone stays so
 
 below_head : (k : Settings) (ns : List ℕ) (m n : ℕ) (t : Bool) → (m == n) ≡ t → m ≡ k.first_job + length ns → (list_any (λ x. x == n) ns ≡ true → n < k.first_job + length ns) → (t || list_any (λ x. x == n) ns) ≡ true → n < k.first_job + suc (length ns)
-below_head k ns m n true same is rest e = let eq = is_same m n same in omega arith
+below_head k ns m n true same is rest e = let eq = eqb-true m n same in omega arith
 below_head k ns m n false same is rest e = let lt = rest e in omega arith
 
 -- the numbers made are below the next one
@@ -198,7 +196,7 @@ gone_dead states.Lost e h = let bad : ⊥ = cc in bad
 -- a note that moves a live job m leaves a job that is gone
 gone_moved : (n m : ℕ) (older : List Note) (new : JobState) (t : Bool) → (n == m) ≡ t → is_gone (job_state n older) ≡ true → is_live (job_state m older) ≡ true → unwrap_or (cond t (Some new) None) (job_state n older) ≡ job_state n older
 gone_moved n m older new true is gone live =
-    let same : m ≡ n = sym (is_same n m is) in
+    let same : m ≡ n = sym (eqb-true n m is) in
     absurd (gone_dead (job_state n older) gone (subst (λ x. is_live (job_state x older) ≡ true) same live))
 gone_moved n m older new false is gone live = refl
 
@@ -219,7 +217,7 @@ unmade k n older h next = unmade_if k n older (has_place (job_state n older)) re
 
 gone_made : (k : Settings) (n m : ℕ) (older : List Note) (t : Bool) → (n == m) ≡ t → History k older → next_number k older ≡ Some m → is_gone (job_state n older) ≡ true → unwrap_or (cond t (Some states.Waiting) None) (job_state n older) ≡ job_state n older
 gone_made k n m older true is h next gone =
-    let new : job_state n older ≡ states.Unmade = subst (λ x. job_state x older ≡ states.Unmade) (sym (is_same n m is)) (unmade k m older h next) in
+    let new : job_state n older ≡ states.Unmade = subst (λ x. job_state x older ≡ states.Unmade) (sym (eqb-true n m is)) (unmade k m older h next) in
     let bad : is_gone states.Unmade ≡ true = subst (λ s. is_gone s ≡ true) new gone in
     absurd cc
 gone_made k n m older false is h next gone = refl

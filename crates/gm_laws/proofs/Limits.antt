@@ -26,9 +26,8 @@ use Rattle.gm_history.specs.History.{Allowed, History}
 use Rattle.gm_history.specs.Causes.{Caused, Commands, is_request, is_submission}
 use Rattle.gm_laws.specs.Laws.{has_place}
 use Rattle.gm_laws.specs.Limits.{MaxqueueIsAnswered, LimitsHold}
-use Rattle.gm_history.proofs.Finding.{same_number}
 use Rattle.gm_history.proofs.Asking.{made_request}
-use Rattle.gm_laws.proofs.JobLaws.{is_same, places, unmade, slot_live, waiting_live, running_live, discarded_live}
+use Rattle.gm_laws.proofs.JobLaws.{places, unmade, slot_live, waiting_live, running_live, discarded_live}
 use Rattle.gm_laws.proofs.Moving.{from, both_not}
 use Rattle.gm_laws.proofs.Sleepers.{fewer, filtered_if, put_other}
 use Rattle.gm_history.proofs.StepsKeep.{run_history}
@@ -37,6 +36,8 @@ use Rattle.gm_laws.proofs.Created.{mention_flow, too_many}
 use Rattle.gm_laws.proofs.Refusals.{bad_word, word_badly}
 use Rattle.gm_laws.proofs.Taken.{line_does}
 use Rattle.gm_history.proofs.Caused.{note_law}
+use Rattle.gm_notes.proofs.Numbers.{same_number}
+use Rattle.std.proofs.lemmas.Bool.{eqb-true}
 
 -- ---- counts
 
@@ -61,7 +62,7 @@ same_pass m p q same (n ∷ ns) none =
 -- ---- how many jobs of a function wait or run
 
 live_before : (n m : ℕ) (older : List Note) (new : JobState) (t : Bool) → (n == m) ≡ t → is_live (job_state m older) ≡ true → is_live (unwrap_or (cond t (Some new) None) (job_state n older)) ≡ true → is_live (job_state n older) ≡ true
-live_before n m older new true is lived e = subst (λ x. is_live (job_state x older) ≡ true) (sym (is_same n m is)) lived
+live_before n m older new true is lived e = subst (λ x. is_live (job_state x older) ≡ true) (sym (eqb-true n m is)) lived
 live_before n m older new false is lived e = e
 
 module _ (f : List ℕ) (k : Settings) where

@@ -27,7 +27,7 @@ use Rattle.gm_notes.specs.declared.event.ApplyError.{ApplyError}
 use Rattle.std.proofs.lemmas.Option.{same_Some}
 use Rattle.gm_history.specs.History.{Allowed, History}
 use Rattle.gm_history.specs.Causes.{Caused, PacketAsks, closes}
-use Rattle.gm_history.proofs.Finding.{job_of, same_number}
+use Rattle.gm_history.proofs.Finding.{job_of}
 use Rattle.gm_history.proofs.StepsKeep.{run_history}
 use Rattle.gm_history.proofs.Caused.{note_law}
 use Rattle.gm_laws.specs.Laws.{AreConsecutive, has_place}
@@ -35,10 +35,12 @@ use Rattle.gm_laws.specs.Answered.{IsCommanded}
 use Rattle.gm_laws.specs.Firsts.{functions_of}
 use Rattle.gm_laws.specs.Lines.{is_in, AreApart, Counts, IsOf, IsTrueOf, StatusTells, IsRising, AreOpenSlots, IsOfConnection, WorkersTells, AdminTellsTheTruth}
 use Rattle.gm_laws.specs.Lines.{FunctionsGrow, ConnectionsAreNamed}
-use Rattle.gm_laws.proofs.JobLaws.{is_same, places, live_place, running_place, below_next}
+use Rattle.gm_laws.proofs.JobLaws.{places, live_place, running_place, below_next}
 use Rattle.gm_laws.proofs.Moving.{both_not}
 use Rattle.gm_laws.proofs.NumberLaws.{numbers, slots}
 use Rattle.gm_laws.proofs.Taken.{request_does, line_does}
+use Rattle.gm_notes.proofs.Numbers.{same_number}
+use Rattle.std.proofs.lemmas.Bool.{eqb-true}
 
 -- ---- lists of numbers
 
@@ -48,7 +50,7 @@ in_filtered test n (m ∷ ms) e = by (test m) (m == n) refl refl (in_filtered te
   where
     by : (t u : Bool) → test m ≡ t → (m == n) ≡ u → (is_in n (filter test ms) ≡ true → (is_in n ms ≡ true) × (test n ≡ true)) → is_in n (cond t (m ∷ filter test ms) (filter test ms)) ≡ true
         → ((u || is_in n ms) ≡ true) × (test n ≡ true)
-    by true true passes same rest e = (refl, ap test (sym (is_same m n same)) ∙ passes)
+    by true true passes same rest e = (refl, ap test (sym (eqb-true m n same)) ∙ passes)
     by true false passes other rest e = rest (sym (ap (λ x. x || is_in n (filter test ms)) other) ∙ e)
     by false u passes same rest e = let r = rest e in (or_right u (is_in n ms) r.0, r.1)
 
@@ -59,7 +61,7 @@ in_kept test n (m ∷ ms) e passes = by (test m) (m == n) refl refl (λ f. in_ke
     by : (t u : Bool) → test m ≡ t → (m == n) ≡ u → (is_in n ms ≡ true → is_in n (filter test ms) ≡ true) → (u || is_in n ms) ≡ true → is_in n (cond t (m ∷ filter test ms) (filter test ms)) ≡ true
     by true true is same rest e = or_left (m == n) (is_in n (filter test ms)) same
     by true false is other rest e = or_right (m == n) (is_in n (filter test ms)) (rest e)
-    by false true is same rest e = absurd (both_not (test m) (ap test (is_same m n same) ∙ passes) is)
+    by false true is same rest e = absurd (both_not (test m) (ap test (eqb-true m n same) ∙ passes) is)
     by false false is other rest e = rest e
 
 -- what isn't there isn't there once some are left out
@@ -105,7 +107,7 @@ slots_above d c zero e = absurd cc
 slots_above d c (suc n) e = by (c == d) refl (slots_above d (suc c) n) e
   where
     by : (t : Bool) → (c == d) ≡ t → (is_in d (slots_from (suc c) n) ≡ true → suc c ≤ d) → (t || is_in d (slots_from (suc c) n)) ≡ true → c ≤ d
-    by true same rest e = let is = is_same c d same in omega arith
+    by true same rest e = let is = eqb-true c d same in omega arith
     by false other rest e = let le = rest e in omega arith
 
 slots_rise : (c n : ℕ) → IsRising (slots_from c n)
@@ -240,7 +242,7 @@ free_next : (c slot : ℕ) (l : List Note) (n : ℕ) (t : Bool) → is_open c l 
 free_next c slot l n true is rest e d low lt = by (c == d) refl
   where
     by : (t : Bool) → (c == d) ≡ t → is_open d l ≡ true
-    by true same = ap (λ x. is_open x l) (sym (is_same c d same)) ∙ is
+    by true same = ap (λ x. is_open x l) (sym (eqb-true c d same)) ∙ is
     by false other = let apart : c < d = grind (arith, nat_tests) in rest e d (omega arith) lt
 free_next c slot l n false is rest e d low lt = let same = same_Some c slot e in absurd (omega (arith, same, low, lt))
 
@@ -253,7 +255,7 @@ opens_free : (k : Settings) (start : Past) (addr : List ℕ) (c : ℕ) → is_op
 opens_free k start addr c shut e = by (refusal k (Open addr) start) (free_slot k start) e
   where
     at : (d : ℕ) (t : Bool) → (c == d) ≡ t → unwrap_or (cond t (Some true) None) (is_open c start.notes) ≡ true → Some d ≡ Some c
-    at d true is e = ap Some (sym (is_same c d is))
+    at d true is e = ap Some (sym (eqb-true c d is))
     at d false is e = absurd (both_not (is_open c start.notes) e shut)
 
     by : (r : Option ApplyError) (o : Option ℕ) → is_open c (unless r (opening o addr start) start).notes ≡ true → o ≡ Some c
@@ -326,7 +328,7 @@ module _ (k : Settings) (s : Step) (start : Past) (history : History k start.not
   called_more (notes.Opened d address) older allowed cause p = by (c == d) refl p.there
     where
       by : (t : Bool) → (c == d) ≡ t → (is_open c older ≡ true) ⊎ (closes c s ≡ true) → CalledSo (notes.Opened d address ∷ older)
-      by true is (inl o) = absurd (both_not (is_open c older) o (ap (λ x. is_open x older) (is_same c d is) ∙ allowed.0))
+      by true is (inl o) = absurd (both_not (is_open c older) o (ap (λ x. is_open x older) (eqb-true c d is) ∙ allowed.0))
       by true is (inr e) = absurd (let bad : closes c (Open address) ≡ true = subst (λ x. closes c x ≡ true) cause e in cc)
       by false is there = record { there = rw is there; address = rw is p.address; named = rw is p.named }
   called_more (notes.Closed d) older allowed cause p = record { there = by (c == d) refl p.there; address = p.address; named = p.named }
@@ -337,7 +339,7 @@ module _ (k : Settings) (s : Step) (start : Past) (history : History k start.not
   called_more (notes.Named d name) older allowed cause p = record { there = p.there; address = p.address; named = by (c == d) refl }
     where
       by : (t : Bool) → (c == d) ≡ t → (unwrap_or (cond t (Some name) None) (id c older) ≡ id c start.notes) ⊎ ((asked : Asked) × PacketAsks c s asked × (asked.kind ≡ SetClientId) × (first asked.arguments ≡ unwrap_or (cond t (Some name) None) (id c older)))
-      by true is = inr (cause.0, subst (λ x. PacketAsks x s cause.0) (sym (is_same c d is)) cause.1, cause.2, cause.3)
+      by true is = inr (cause.0, subst (λ x. PacketAsks x s cause.0) (sym (eqb-true c d is)) cause.1, cause.2, cause.3)
       by false is = p.named
   called_more note older allowed cause p = record { there = p.there; address = p.address; named = p.named }
 

@@ -23,14 +23,14 @@ use Rattle.gm_notes.specs.Steps.{unless_not_open}
 use Rattle.gm_history.specs.History.{progress, Allowed, History}
 use Rattle.gm_history.specs.Causes.{Caused, Commands, closes}
 use Rattle.gm_laws.specs.Laws.{ModesNeverGoBack}
-use Rattle.gm_history.proofs.Finding.{same_number}
-use Rattle.gm_laws.proofs.JobLaws.{is_same}
 use Rattle.gm_history.proofs.Keeping.{kept_if}
 use Rattle.gm_laws.proofs.Moving.{from, In, slot_in, both_not}
 use Rattle.gm_laws.proofs.NumberLaws.{slots}
 use Rattle.gm_history.proofs.StepsKeep.{step_history, run_history}
 use Rattle.gm_history.proofs.Caused.{note_law}
 use Rattle.gm_laws.proofs.StepLaws.{taken_is}
+use Rattle.gm_notes.proofs.Numbers.{same_number}
+use Rattle.std.proofs.lemmas.Bool.{eqb-true}
 
 -- ---- the mode
 
@@ -91,7 +91,7 @@ module _ (k : Settings) (s : Step) (start : Past) (history : History k start.not
   shut_more c stays (notes.Opened d addr) older allowed cause p = by (c == d) refl
     where
       by : (t : Bool) → (c == d) ≡ t → (unwrap_or (cond t (Some true) None) (is_open c older) ≡ true) × (unwrap_or (cond t (Some false) None) (is_shut c older) ≡ true)
-      by true is = absurd (both_not (is_open c older) p.0 (ap (λ x. is_open x older) (is_same c d is) ∙ allowed.0))
+      by true is = absurd (both_not (is_open c older) p.0 (ap (λ x. is_open x older) (eqb-true c d is) ∙ allowed.0))
       by false is = p
   shut_more c stays (notes.Closed d) older allowed cause p = by (c == d) refl
     where
@@ -235,7 +235,7 @@ free_found c d (suc n) l low high closed = by (is_open d l) refl (λ apart. free
     by true is rest = rest (later (c == d) refl)
       where
         later : (u : Bool) → (c == d) ≡ u → suc d ≤ c
-        later true same = absurd (both_not (is_open d l) is (ap (λ x. is_open x l) (sym (is_same c d same)) ∙ closed))
+        later true same = absurd (both_not (is_open d l) is (ap (λ x. is_open x l) (sym (eqb-true c d same)) ∙ closed))
         later false same = grind (arith, nat_tests)
 
 opening_does : (k : Settings) (s : Step) (start : Past) (c : ℕ) (addr : List ℕ) → s ≡ Open addr → mode start.notes ≡ Running → c < k.slots → is_open c start.notes ≡ false

@@ -18,12 +18,13 @@ use Rattle.gm_notes.specs.Steps.{Step, Close}
 use Rattle.gm_history.specs.History.{History}
 use Rattle.gm_laws.specs.Laws.{has_place}
 use Rattle.gm_history.specs.Causes.{is_close}
-use Rattle.gm_laws.proofs.JobLaws.{is_same, places}
+use Rattle.gm_laws.proofs.JobLaws.{places}
 use Rattle.gm_history.proofs.Keeping.{kept_if}
+use Rattle.std.proofs.lemmas.Bool.{eqb-true}
 
 -- a job that a note moves to new: it is at new, or where it was
 pub moved : (n m : ℕ) (new old target : JobState) (t : Bool) → (n == m) ≡ t → unwrap_or (cond t (Some new) None) old ≡ target → ((n ≡ m) × (new ≡ target)) ⊎ (((n == m) ≡ false) × (old ≡ target))
-moved n m new old target true is e = inl (is_same n m is, e)
+moved n m new old target true is e = inl (eqb-true n m is, e)
 moved n m new old target false is e = inr (is, e)
 
 pub from : {A B C : Type 0} → A ⊎ B → (A → C) → (B → C) → C
@@ -40,7 +41,7 @@ In n [] = ⊥
 In n (m ∷ ms) = (n ≡ m) ⊎ In n ms
 
 in_any_at : (n m : ℕ) (ms : List ℕ) (t : Bool) → (m == n) ≡ t → (list_any (λ x. x == n) ms ≡ true → In n ms) → (t || list_any (λ x. x == n) ms) ≡ true → In n (m ∷ ms)
-in_any_at n m ms true is rest e = inl (sym (is_same m n is))
+in_any_at n m ms true is rest e = inl (sym (eqb-true m n is))
 in_any_at n m ms false is rest e = inr (rest e)
 
 in_any : (n : ℕ) (ms : List ℕ) → list_any (λ x. x == n) ms ≡ true → In n ms
@@ -65,7 +66,7 @@ placed_rises k past n h placed =
     in_any n (rising past) (any_reverse (λ m. m == n) (made past.notes) ∙ (sym (places k past.notes h n) ∙ placed))
 
 slot_at : (c d : ℕ) (t : Bool) (rest : List ℕ) → (c == d) ≡ t → (t ≡ false → In c rest) → In c (d ∷ rest)
-slot_at c d true rest is more = inl (is_same c d is)
+slot_at c d true rest is more = inl (eqb-true c d is)
 slot_at c d false rest is more = inr (more refl)
 
 -- a slot from d on is one of these

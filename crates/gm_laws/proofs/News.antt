@@ -22,7 +22,6 @@ use Rattle.gm_notes.proofs.FreeSlots.{free_is}
 use Rattle.gm_history.specs.History.{History}
 use Rattle.gm_history.specs.Causes.{Caused, is_request, is_one_of, is_submission}
 use Rattle.gm_history.proofs.Asking.{made_request}
-use Rattle.gm_history.proofs.Finding.{same_number}
 use Rattle.gm_history.proofs.Keeping.{kept_if}
 use Rattle.gm_history.proofs.StepsKeep.{taken_or_not, packet_of_kinds, run_history}
 use Rattle.gm_history.proofs.Caused.{note_law}
@@ -30,11 +29,12 @@ use Rattle.gm_laws.specs.Laws.{was_made}
 use Rattle.gm_laws.specs.Lines.{is_in, AreApart}
 use Rattle.std.proofs.lemmas.Bool.{or_left}
 use Rattle.gm_laws.specs.Done.{IsOpenedBy, IsMadeBy, AnswersNameWhatIsNew}
-use Rattle.gm_laws.proofs.JobLaws.{is_same}
 use Rattle.gm_laws.proofs.Lines.{made_apart}
 use Rattle.gm_laws.proofs.Modes.{opens}
 use Rattle.gm_laws.proofs.Moving.{from, both_not, wake_each_notes}
 use Rattle.gm_laws.proofs.NumberLaws.{numbers}
+use Rattle.gm_notes.proofs.Numbers.{same_number}
+use Rattle.std.proofs.lemmas.Bool.{eqb-true}
 
 -- ---- the jobs made
 
@@ -134,14 +134,14 @@ module _ (k : Settings) (start : Past) (history : History k start.notes) where
       )
 
       it : (t : Bool) → (m == n) ≡ t → IsMadeBy n start after → AreApart (m ∷ made start.notes) → m ≡ n
-      it true is x a = is_same m n is
+      it true is x a = eqb-true m n is
       it false is x a =
           let there : ((m == n) || is_in n (made start.notes)) ≡ true = subst (λ l. is_in n l ≡ true) more x.1 in
           absurd (both_not (is_in n (made start.notes)) (sym (ap (λ t. t || is_in n (made start.notes)) is) ∙ there) x.0)
 
   -- the slot
   opened_at : (c d : ℕ) (addr : List ℕ) (t : Bool) → (c == d) ≡ t → is_open c start.notes ≡ false → unwrap_or (cond t (Some true) None) (is_open c start.notes) ≡ true → d ≡ c
-  opened_at c d addr true is shut e = sym (is_same c d is)
+  opened_at c d addr true is shut e = sym (eqb-true c d is)
   opened_at c d addr false is shut e = absurd (both_not (is_open c start.notes) e shut)
 
   opens_it : (addr : List ℕ) (o : Option ℕ) → free_slot k start ≡ o → (c : ℕ) → (o ≡ Some c → IsOpenedBy c start (opening o addr start)) × (IsOpenedBy c start (opening o addr start) → o ≡ Some c)

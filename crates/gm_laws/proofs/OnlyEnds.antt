@@ -29,12 +29,13 @@ use Rattle.gm_history.specs.History.{History}
 use Rattle.gm_history.specs.Causes.{IsOfEnd, is_request, is_ending, is_tick, is_one_of}
 use Rattle.gm_laws.specs.Listeners.{outputs, Queues, copies, TellsEnd, OnlyEndsAreTold}
 use Rattle.gm_history.specs.Hearing.{listens}
-use Rattle.gm_history.proofs.Finding.{same_number, found_passes}
+use Rattle.gm_history.proofs.Finding.{found_passes}
 use Rattle.gm_history.proofs.Keeping.{MayQueue, tell_all_notes, slot_runs, runs_somewhere}
 use Rattle.gm_history.proofs.Sayings.{error_other}
 use Rattle.gm_laws.proofs.Outputs.{told, copies_append, copies_other}
 use Rattle.gm_history.proofs.Asking.{kind_read}
 use Rattle.gm_history.proofs.StepsKeep.{step_keeps, taken_or_not, run_history}
+use Rattle.gm_notes.proofs.Numbers.{same_number}
 
 -- ---- copies
 

@@ -23,13 +23,16 @@ use Rattle.gm_history.specs.History.{runs_at_a_slot, Allowed, History}
 use Rattle.gm_history.specs.Causes.{Caused, asks, is_grab}
 use Rattle.gm_laws.specs.Laws.{has_place}
 use Rattle.gm_laws.specs.Waiting.{came, GoesBefore, GivesTheFirst, NothingGetsInBefore, FirstComeFirstServed}
-use Rattle.gm_history.proofs.Finding.{WaitsFor, waiting_for_waits, job_of, same_number}
-use Rattle.gm_laws.proofs.JobLaws.{is_same, unmade, place_still}
+use Rattle.gm_history.proofs.Finding.{WaitsFor, waiting_for_waits, job_of}
+use Rattle.gm_laws.proofs.JobLaws.{unmade, place_still}
 use Rattle.gm_laws.proofs.Moving.{from, moved, In, both_not}
 use Rattle.gm_history.proofs.StepsKeep.{run_history}
 use Rattle.gm_history.proofs.Caused.{note_law}
 use Rattle.gm_laws.proofs.StepLaws.{gives, GivenSo, given_more}
 use Rattle.gm_laws.proofs.Waiting.{waits_came, is_queued_here}
+use Rattle.gm_notes.proofs.Numbers.{same_number}
+use Rattle.std.proofs.lemmas.Bool.{not-true}
+use Rattle.std.proofs.lemmas.Bool.{eqb-true}
 
 -- ---- lists in the order in which jobs came
 
@@ -114,12 +117,8 @@ other_than : (x m : ℕ) (l : List Note) → has_place (job_state x l) ≡ true 
 other_than x m l placed none = by (x == m) refl
   where
     by : (t : Bool) → (x == m) ≡ t → t ≡ false
-    by true is = absurd (let bad : has_place states.Unmade ≡ true = subst (λ s. has_place s ≡ true) (ap (λ y. job_state y l) (is_same x m is) ∙ none) placed in cc)
+    by true is = absurd (let bad : has_place states.Unmade ≡ true = subst (λ s. has_place s ≡ true) (ap (λ y. job_state y l) (eqb-true x m is) ∙ none) placed in cc)
     by false is = refl
-
-unless : (t : Bool) → not t ≡ true → t ≡ false
-unless true e = absurd cc
-unless false e = refl
 
 ordered : (k : Settings) (l : List Note) → History k l → Ordered l
 ordered k [] h = record { rising = tt; known = λ x i. absurd i }
@@ -136,7 +135,7 @@ ordered k (notes.Returned m ∷ older) h =
     let first : came m (notes.Returned m ∷ older) ≡ length older = rw (same_number m) refl in
     let waits : job_state m (notes.Returned m ∷ older) ≡ states.Waiting = rw (same_number m) refl in
     comes_last (notes.Returned m) older m (filter test (as_they_came older)) refl (rising_filter older test (as_they_came older) o.rising)
-    (λ x i. let there = in_filter test x (as_they_came older) i in let a = o.known x there.0 in (a.0, a.1, unless (x == m) there.1))
+    (λ x i. let there = in_filter test x (as_they_came older) i in let a = o.known x there.0 in (a.0, a.1, not-true (x == m) there.1))
     (λ x is. rw is refl) (λ x is. rw is refl) first waits
 ordered k (notes.Assigned m c late ∷ older) h = leaves_order (notes.Assigned m c late) older refl (λ x. refl) (λ x e. place_still (x == m) (states.Running c) (job_state x older) refl e) (ordered k older h.1)
 ordered k (notes.Lost m ∷ older) h = leaves_order (notes.Lost m) older refl (λ x. refl) (λ x e. place_still (x == m) states.Lost (job_state x older) refl e) (ordered k older h.1)
@@ -285,7 +284,7 @@ module _ (k : Settings) (s : Step) (start : Past) (history : History k start.not
       by true is waits = inr (
         (let last : came m (notes.Made j f p u body ∷ older) ≡ length older = rw is refl in let le = since.more in omega (arith, last, le)),
         λ was.
-            let none : job_state m older ≡ states.Unmade = ap (λ x. job_state x older) (is_same m j is) ∙ unmade k j older h allowed.0 in
+            let none : job_state m older ≡ states.Unmade = ap (λ x. job_state x older) (eqb-true m j is) ∙ unmade k j older h allowed.0 in
             let bad : has_place states.Unmade ≡ true = subst (λ x. has_place x ≡ true) none (since.placed (ap has_place was)) in
             let worse : ⊥ = cc in worse,
       )
@@ -295,7 +294,7 @@ module _ (k : Settings) (s : Step) (start : Past) (history : History k start.not
   returned_so j older allowed cause since = by (m == j) refl
     where
       ran : (m == j) ≡ true → (c : ℕ) × (job_state m older ≡ states.Running c)
-      ran is = runs_at (job_state m older) (subst (λ x. runs_at_a_slot (job_state x older) ≡ true) (sym (is_same m j is)) allowed.0)
+      ran is = runs_at (job_state m older) (subst (λ x. runs_at_a_slot (job_state x older) ≡ true) (sym (eqb-true m j is)) allowed.0)
 
       by : (t : Bool) → (m == j) ≡ t → CameSo (notes.Returned j ∷ older)
       by true is waits = inr (

@@ -13,17 +13,18 @@ use Rattle.gm_notes.specs.Past.{Past, with_note}
 use Rattle.gm_notes.specs.Closings.{discard_one, discard_each, wake_for, give_back_one, give_back_each, disconnect, rising, close}
 use Rattle.gm_notes.specs.Steps.{Step, Close, run}
 use Rattle.gm_history.specs.Causes.{Caused, closes}
-use Rattle.gm_history.proofs.Finding.{waiting_is, same_number}
+use Rattle.gm_history.proofs.Finding.{waiting_is}
 use Rattle.gm_history.proofs.Keeping.{kept_if, runs_there}
 use Rattle.gm_history.proofs.Listeners.{opens}
 use Rattle.gm_history.proofs.StepsKeep.{run_history}
 use Rattle.gm_history.proofs.Caused.{note_law}
 use Rattle.gm_laws.specs.Closing.{ListensNoMore, LeavesItsJobs, ClosingCloses}
-use Rattle.gm_laws.proofs.JobLaws.{is_same}
 use Rattle.gm_laws.proofs.Moving.{both_not, not_both, wake_each_notes}
 use Rattle.gm_laws.proofs.Orphans.{none_orphaned}
 use Rattle.gm_laws.proofs.Runners.{runners_open}
 use Rattle.gm_laws.proofs.StepLaws.{taken_is}
+use Rattle.gm_notes.proofs.Numbers.{same_number}
+use Rattle.std.proofs.lemmas.Bool.{eqb-true}
 
 -- ---- who listens still
 
@@ -36,9 +37,9 @@ left_of c d (x ∷ slots) t is = by t (x == c) (d == x) is refl refl (left_of c 
     by : (t u v : Bool) → (c == d) ≡ t → (x == c) ≡ u → (d == x) ≡ v → length (filter (λ y. d == y) (filter (λ y. not (y == c)) slots)) ≡ cond t 0 (length (filter (λ y. d == y) slots))
         → length (filter (λ y. d == y) (cond (not u) (x ∷ filter (λ y. not (y == c)) slots) (filter (λ y. not (y == c)) slots))) ≡ cond t 0 (length (cond v (x ∷ filter (λ y. d == y) slots) (filter (λ y. d == y) slots)))
     by true true v is was same rest = rest
-    by false true true is was same rest = absurd (not_both c d (sym (is_same d x same ∙ is_same x c was)) is)
+    by false true true is was same rest = absurd (not_both c d (sym (eqb-true d x same ∙ eqb-true x c was)) is)
     by false true false is was same rest = rest
-    by true false true is was same rest = absurd (not_both x c (sym (is_same c d is ∙ is_same d x same)) was)
+    by true false true is was same rest = absurd (not_both x c (sym (eqb-true c d is ∙ eqb-true d x same)) was)
     by true false false is was same rest = rw same rest
     by false false true is was same rest = rw same (ap suc rest)
     by false false false is was same rest = rw same rest
@@ -83,7 +84,7 @@ module _ (k : Settings) (c : ℕ) (start : Past) where
       by : (n : ℕ) (t : Bool) → (n == m) ≡ t → (job_state n older ≡ job_state n start.notes) ⊎ Went n (is_wanted n older) (job_state n older)
           → (job_state n (note ∷ older) ≡ job_state n start.notes) ⊎ Went n (is_wanted n (note ∷ older)) (job_state n (note ∷ older))
       by n true is was =
-          inr (subst (λ w. Went n w (job_state n (note ∷ older))) (sym (wants n)) (subst (Went n (is_wanted n older)) (sym (at n true is)) (subst (λ x. Went x (is_wanted x older) new) (sym (is_same n m is)) here)))
+          inr (subst (λ w. Went n w (job_state n (note ∷ older))) (sym (wants n)) (subst (Went n (is_wanted n older)) (sym (at n true is)) (subst (λ x. Went x (is_wanted x older) new) (sym (eqb-true n m is)) here)))
       by n false is (inl same) = inl (at n false is ∙ same)
       by n false is (inr w) = inr (subst (λ w. Went n w (job_state n (note ∷ older))) (sym (wants n)) (subst (Went n (is_wanted n older)) (sym (at n false is)) w))
 

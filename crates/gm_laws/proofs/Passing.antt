@@ -24,14 +24,14 @@ use Rattle.gm_history.specs.Hearing.{AllOpen}
 use Rattle.gm_laws.specs.Laws.{has_place}
 use Rattle.gm_laws.specs.Listeners.{outputs, Queues, times_heard, WhatWorkersSayIsPassedOn}
 use Rattle.gm_history.specs.Hearing.{listens, passed_on}
-use Rattle.gm_history.proofs.Finding.{same_number}
-use Rattle.gm_laws.proofs.JobLaws.{is_same}
 use Rattle.gm_history.proofs.Listeners.{listeners_open}
 use Rattle.gm_laws.proofs.Handles.{handle_names}
 use Rattle.gm_laws.proofs.Outputs.{told}
 use Rattle.gm_laws.proofs.StepLaws.{taken_is}
 use Rattle.gm_history.proofs.StepsKeep.{run_history}
 use Rattle.gm_history.proofs.Asking.{packet_does}
+use Rattle.gm_notes.proofs.Numbers.{same_number}
+use Rattle.std.proofs.lemmas.Bool.{eqb-true}
 
 -- ---- who hears
 
@@ -47,7 +47,7 @@ module _ (c : ℕ) (l : List Note) where
       → counted left ≡ cond (has_option c l) (counted slots) 0
       → counted (cond (opened && has_option d l) (d ∷ left) left) ≡ cond (has_option c l) (length (cond same (d ∷ filter (λ e. c == e) slots) (filter (λ e. c == e) slots))) 0
   with_option_at d slots left same false is opened closed rest = absurd (let bad : true ≡ false = sym opened ∙ closed in cc)
-  with_option_at d slots left true true is opened also rest = by (has_option d l) (has_option c l) (ap (λ x. has_option x l) (sym (is_same c d is))) rest
+  with_option_at d slots left true true is opened also rest = by (has_option d l) (has_option c l) (ap (λ x. has_option x l) (sym (eqb-true c d is))) rest
     where
       by : (t u : Bool) → t ≡ u → counted left ≡ cond u (counted slots) 0 → counted (cond t (d ∷ left) left) ≡ cond u (suc (counted slots)) 0
       by true true e r = rw is (ap suc r)

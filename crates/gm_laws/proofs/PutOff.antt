@@ -21,27 +21,17 @@ use Rattle.gm_notes.specs.Steps.{Step, Packet, Took, Withdrew, refusal, if_owed,
 use Rattle.gm_history.specs.History.{Allowed, History}
 use Rattle.gm_history.specs.Causes.{Caused, asks, is_one_of, is_sleeping}
 use Rattle.gm_laws.specs.Laws.{lets_pass, AllGoAlike, TellAlike, MayBeTakenLater}
-use Rattle.gm_history.proofs.Finding.{same_number}
 use Rattle.gm_history.proofs.Keeping.{keeps_notes}
 use Rattle.gm_history.proofs.StepsKeep.{step_keeps, run_history}
 use Rattle.gm_laws.proofs.Alike.{Alike, alike_taken, alike_untaken}
 use Rattle.gm_laws.proofs.SideBySide.{PhasesFor, steps_alike, phases_after, flows_after, goes_alike}
+use Rattle.gm_notes.proofs.Numbers.{same_number}
+use Rattle.std.proofs.lemmas.Bool.{not-true}
+use Rattle.std.proofs.lemmas.Bool.{eqb-true}
+use Rattle.std.proofs.lemmas.Bool.{false_from_ne_true}
+use Rattle.gm_laws.proofs.Moving.{both_not}
 
 -- ---- tests
-
-isnt : (t : Bool) → (t ≡ true → ⊥) → t ≡ false
-isnt true never = absurd (never refl)
-isnt false never = refl
-
-not_true : (t : Bool) → not t ≡ true → t ≡ false
-not_true true e = absurd cc
-not_true false e = refl
-
-both_ways : (t : Bool) → t ≡ true → t ≡ false → ⊥
-both_ways t e g = let bad : ⊥ = cc in bad
-
-same_slot : (c d : ℕ) → (c == d) ≡ true → c ≡ d
-same_slot c d e = grind (arith, nat_tests)
 
 turned : (c d : ℕ) → (c == d) ≡ false → (d == c) ≡ false
 turned c d e = grind (arith, nat_tests)
@@ -49,7 +39,7 @@ turned c d e = grind (arith, nat_tests)
 -- ---- a slot to which a NOOP is owed, or that was just given one, is left so
 
 sleeps_not : (c : ℕ) (s : Step) → lets_pass c s ≡ true → asks is_sleeping c s ≡ false
-sleeps_not c (Packet d number bytes) e = not_true (asks is_sleeping c (Packet d number bytes)) e
+sleeps_not c (Packet d number bytes) e = not-true (asks is_sleeping c (Packet d number bytes)) e
 sleeps_not c other e = refl
 
 -- slot c is open, and its phase is this
@@ -59,18 +49,18 @@ IsAt c at l = (is_open c l ≡ true) × (phase c l ≡ at)
 module _ (k : Settings) (c : ℕ) (at : Phase) (calm : is_asleep at ≡ false) (start : Past) (s : Step) (lets : lets_pass c s ≡ true) where
   not_asleep : (d : ℕ) (older : List Note) → IsAt c at older → is_asleep (phase d older) ≡ true → (c == d) ≡ false
   not_asleep d older p asleep =
-      isnt (c == d) (λ e. both_ways (is_asleep at) (ap is_asleep (sym p.1) ∙ ap (λ x. is_asleep (phase x older)) (same_slot c d e) ∙ asleep) calm)
+      false_from_ne_true (c == d) (λ e. both_not (is_asleep at) (ap is_asleep (sym p.1) ∙ ap (λ x. is_asleep (phase x older)) (eqb-true c d e) ∙ asleep) calm)
 
   at_more : (note : Note) (older : List Note) → Allowed k note older → Caused k start.notes s note older → IsAt c at older → IsAt c at (note ∷ older)
   at_more (notes.Opened d addr) older allowed cause p =
-      let other = isnt (c == d) (λ e. both_ways (is_open d older) (ap (λ x. is_open x older) (sym (same_slot c d e)) ∙ p.0) allowed.0) in rw other p
-  at_more (notes.Closed d) older allowed cause p = let other = not_true (c == d) (ap (lets_pass c) (sym cause) ∙ lets) in rw other p
+      let other = false_from_ne_true (c == d) (λ e. both_not (is_open d older) (ap (λ x. is_open x older) (sym (eqb-true c d e)) ∙ p.0) allowed.0) in rw other p
+  at_more (notes.Closed d) older allowed cause p = let other = not-true (c == d) (ap (lets_pass c) (sym cause) ∙ lets) in rw other p
   at_more (notes.Slept d) older allowed cause p =
-      let other = isnt (c == d) (λ e. both_ways (asks is_sleeping d s) cause (ap (λ x. asks is_sleeping x s) (sym (same_slot c d e)) ∙ sleeps_not c s lets)) in rw other p
+      let other = false_from_ne_true (c == d) (λ e. both_not (asks is_sleeping d s) cause (ap (λ x. asks is_sleeping x s) (sym (eqb-true c d e)) ∙ sleeps_not c s lets)) in rw other p
   at_more (notes.Woken d) older allowed cause p = let other = not_asleep d older p allowed.1 in rw other p
   at_more (notes.Stirred d) older allowed cause p = let other = not_asleep d older p allowed in rw other p
-  at_more (notes.Took d) older allowed cause p = let other = not_true (c == d) (ap (lets_pass c) (sym cause) ∙ lets) in rw other p
-  at_more (notes.Withdrew d) older allowed cause p = let other = not_true (c == d) (ap (lets_pass c) (sym cause) ∙ lets) in rw other p
+  at_more (notes.Took d) older allowed cause p = let other = not-true (c == d) (ap (lets_pass c) (sym cause) ∙ lets) in rw other p
+  at_more (notes.Withdrew d) older allowed cause p = let other = not-true (c == d) (ap (lets_pass c) (sym cause) ∙ lets) in rw other p
   at_more note older allowed cause p = p
 
   stays : History k start.notes → IsAt c at start.notes → IsAt c at (step k s start).notes
@@ -87,7 +77,7 @@ record Apart (c : ℕ) (late early : Past) : Type 0 where
   flows : late.flow ≡ early.flow
 
 taken_at : (c d : ℕ) (l : List Note) (t : Bool) → (d == c) ≡ t → phase c l ≡ Owed → is_asleep (phase d l) ≡ is_asleep (unwrap_or (cond t (Some Awake) None) (phase d l))
-taken_at c d l true is e = ap (λ x. is_asleep (phase x l)) (same_slot d c is) ∙ ap is_asleep e
+taken_at c d l true is e = ap (λ x. is_asleep (phase x l)) (eqb-true d c is) ∙ ap is_asleep e
 taken_at c d l false is e = refl
 
 apart_at_first : (c : ℕ) (past : Past) → IsAt c Owed past.notes → Apart c past (with_note (notes.Took c) past)
@@ -107,8 +97,8 @@ unasked false u e g = refl
 -- what lets the taking pass doesn't ask for the phase of slot c
 phases_for : (c : ℕ) (s : Step) (late early : Past) → lets_pass c s ≡ true → Apart c late early → PhasesFor s late early
 phases_for c (Packet d number bytes) late early lets p = λ sleeps. p.others d (turned c d (unasked (c == d) (is_one_of is_sleeping (kind_of number)) lets sleeps))
-phases_for c (Took d) late early lets p = p.others d (turned c d (not_true (c == d) lets))
-phases_for c (Withdrew d) late early lets p = p.others d (turned c d (not_true (c == d) lets))
+phases_for c (Took d) late early lets p = p.others d (turned c d (not-true (c == d) lets))
+phases_for c (Withdrew d) late early lets p = p.others d (turned c d (not-true (c == d) lets))
 phases_for c other late early lets p = tt
 
 apart_after : (k : Settings) (c : ℕ) (s : Step) (late early : Past) → lets_pass c s ≡ true → History k late.notes → History k early.notes → Apart c late early → Apart c (step k s late) (step k s early)
@@ -176,7 +166,7 @@ level_for (Withdrew d) a b p = p.phases d
 level_for other a b p = tt
 
 level_phase : (c d : ℕ) (late early : Past) (t : Bool) → (d == c) ≡ t → Apart c late early → unwrap_or (cond t (Some Awake) None) (phase d late.notes) ≡ phase d early.notes
-level_phase c d late early true is p = sym (ap (λ x. phase x early.notes) (same_slot d c is) ∙ p.awake.1)
+level_phase c d late early true is p = sym (ap (λ x. phase x early.notes) (eqb-true d c is) ∙ p.awake.1)
 level_phase c d late early false is p = p.others d is
 
 level_at_last : (c : ℕ) (late early : Past) → Apart c late early → Level (with_note (notes.Took c) late) early

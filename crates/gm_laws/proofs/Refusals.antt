@@ -57,28 +57,21 @@ use Rattle.gm_laws.specs.Refusals.{HasReason, IsUnserved, IsErroneous, IsToldOf,
 use Rattle.gm_laws.proofs.Created.{bad_name, too_many, full, joins_so, mention_flow, request_answered, Answered as SubmittedSo}
 use Rattle.gm_laws.proofs.Handles.{handle_names}
 use Rattle.gm_laws.specs.Laws.{has_place}
-use Rattle.gm_history.proofs.Finding.{same_number}
+use Rattle.gm_notes.proofs.Numbers.{same_number}
 use Rattle.gm_laws.proofs.Moving.{both_not}
 use Rattle.gm_laws.proofs.Grabs.{stirred_flow}
 use Rattle.gm_laws.proofs.StepLaws.{taken_is}
 use Rattle.gm_laws.proofs.Taken.{request_does}
+use Rattle.std.proofs.lemmas.Bool.{false_from_ne_true}
 
 -- ---- the tests and what they say
-
-is_true : (t : Bool) → (t ≡ false → ⊥) → t ≡ true
-is_true true other = refl
-is_true false other = absurd (other refl)
-
-is_false : (t : Bool) → (t ≡ true → ⊥) → t ≡ false
-is_false true other = absurd (other refl)
-is_false false other = refl
 
 pub named_badly : (f : List ℕ) → IsBadName f → is_bad_name f ≡ true
 named_badly f (inl none) = subst (λ g. is_bad_name g ≡ true) (sym none) refl
 named_badly f (inr long) = or_right (length f == 0) (nat_lt max_name (length f)) (grind (arith, nat_tests))
 
 pub named_well : (f : List ℕ) → (IsBadName f → ⊥) → is_bad_name f ≡ false
-named_well f good = is_false (is_bad_name f) (λ e. good (bad_name f e))
+named_well f good = false_from_ne_true (is_bad_name f) (λ e. good (bad_name f e))
 
 pub many_too : (k : Settings) (f : List ℕ) (past : Past) → IsOneTooMany k f past.notes → is_one_too_many k f past.notes ≡ true
 many_too k f past m =
@@ -98,10 +91,10 @@ bad_word f e = by (nat_lt max_name (length f)) (list_any (λ b. b == 0) f) refl 
     by false false long nul e = absurd cc
 
 pub word_well : (f : List ℕ) → (IsBadWord f → ⊥) → is_bad_word f ≡ false
-word_well f good = is_false (is_bad_word f) (λ e. good (bad_word f e))
+word_well f good = false_from_ne_true (is_bad_word f) (λ e. good (bad_word f e))
 
 few_still : (k : Settings) (f : List ℕ) (past : Past) → (IsOneTooMany k f past.notes → ⊥) → is_one_too_many k f past.notes ≡ false
-few_still k f past few = is_false (is_one_too_many k f past.notes) (λ e. few (too_many k f past.notes e))
+few_still k f past few = false_from_ne_true (is_one_too_many k f past.notes) (λ e. few (too_many k f past.notes e))
 
 full_so : (f : List ℕ) (past : Past) → IsAtLimit f past.notes → is_full f past.notes ≡ true
 full_so f past m =
@@ -110,7 +103,7 @@ full_so f past m =
     rw (some, le) refl
 
 room_so : (f : List ℕ) (past : Past) → (IsAtLimit f past.notes → ⊥) → is_full f past.notes ≡ false
-room_so f past room = is_false (is_full f past.notes) (λ e. room (full f past.notes e))
+room_so f past room = false_from_ne_true (is_full f past.notes) (λ e. room (full f past.notes e))
 
 numberless : (k : Settings) (past : Past) → 2 ^ 64 ≤ k.first_job + length (made past.notes) → next_number k past.notes ≡ None
 numberless k past most =
@@ -230,7 +223,7 @@ module _ (k : Settings) (c : ℕ) (start : Past) where
         option_refused runs r = by (later r)
           where
             other : (first asked.arguments ≡ codes "exceptions" → ⊥) → bytes_eq (first asked.arguments) (codes "exceptions") ≡ false
-            other none = is_false (bytes_eq (first asked.arguments) (codes "exceptions")) (λ e. none ((bytes_eq-Decides (first asked.arguments) (codes "exceptions")).0 e))
+            other none = false_from_ne_true (bytes_eq (first asked.arguments) (codes "exceptions")) (λ e. none ((bytes_eq-Decides (first asked.arguments) (codes "exceptions")).0 e))
 
             by : Later → IsError c code start (set_option c (first asked.arguments) start)
             by (inl (is, e, none)) = absurd (both_not (names_run asked.kind) e runs)

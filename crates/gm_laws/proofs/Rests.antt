@@ -20,15 +20,15 @@ use Rattle.gm_notes.specs.Servers.{owes}
 use Rattle.gm_notes.specs.Steps.{Step, Packet, Close, Took, Withdrew, if_owed, unless, step, run}
 use Rattle.gm_history.specs.History.{Allowed, History}
 use Rattle.gm_history.specs.Causes.{Caused, asks, is_sleeping, is_grab, closes}
-use Rattle.gm_history.proofs.Finding.{same_number}
 use Rattle.gm_history.proofs.Phases.{awake_unless_open}
 use Rattle.gm_history.proofs.StepsKeep.{run_history}
 use Rattle.gm_history.proofs.Caused.{note_law}
 use Rattle.gm_laws.specs.Sleeping.{Rests, rouses, SleepersAskedForIt, AskingIsEnough}
-use Rattle.gm_laws.proofs.JobLaws.{is_same}
 use Rattle.gm_laws.proofs.Moving.{both_not}
 use Rattle.gm_laws.proofs.StepLaws.{assigned_notes}
 use Rattle.gm_laws.proofs.Taken.{request_does}
+use Rattle.gm_notes.proofs.Numbers.{same_number}
+use Rattle.std.proofs.lemmas.Bool.{eqb-true}
 
 sleeper_rests : (p : Phase) → is_asleep p ≡ true → is_awake p ≡ false
 sleeper_rests Asleep e = refl
@@ -55,12 +55,12 @@ module _ (k : Settings) (s : Step) (start : Past) (history : History k start.not
   begun_more (notes.Slept d) older allowed cause p e = by (c == d) refl e
     where
       by : (t : Bool) → (c == d) ≡ t → is_awake (unwrap_or (cond t (Some Asleep) None) (phase c older)) ≡ false → Rests c start ⊎ (asks is_sleeping c s ≡ true)
-      by true is e = inr (subst (λ x. asks is_sleeping x s ≡ true) (sym (is_same c d is)) cause)
+      by true is e = inr (subst (λ x. asks is_sleeping x s ≡ true) (sym (eqb-true c d is)) cause)
       by false is e = p e
   begun_more (notes.Woken d) older allowed cause p e = by (c == d) refl e
     where
       by : (t : Bool) → (c == d) ≡ t → is_awake (unwrap_or (cond t (Some Owed) None) (phase c older)) ≡ false → Rests c start ⊎ (asks is_sleeping c s ≡ true)
-      by true is e = p (sleeper_rests (phase c older) (subst (λ x. is_asleep (phase x older) ≡ true) (sym (is_same c d is)) allowed.1))
+      by true is e = p (sleeper_rests (phase c older) (subst (λ x. is_asleep (phase x older) ≡ true) (sym (eqb-true c d is)) allowed.1))
       by false is e = p e
   begun_more note older allowed cause p e = p e
 
@@ -92,17 +92,17 @@ module _ (k : Settings) (s : Step) (start : Past) (history : History k start.not
   module _ (stays : rouses c s ≡ false) where
     -- what rouses slot c isn't slot d's
     apart : (d : ℕ) (one : Step) → s ≡ one → rouses d one ≡ true → (c == d) ≡ true → ⊥
-    apart d one is e same = both_not (rouses c s) (subst (λ x. rouses x s ≡ true) (sym (is_same c d same)) (ap (rouses d) is ∙ e)) stays
+    apart d one is e same = both_not (rouses c s) (subst (λ x. rouses x s ≡ true) (sym (eqb-true c d same)) (ap (rouses d) is ∙ e)) stays
 
     rests_more : (note : Note) (older : List Note) → Allowed k note older → Caused k start.notes s note older → History k older → is_awake (phase c older) ≡ false → is_awake (phase c (note ∷ older)) ≡ false
     rests_more (notes.Opened d addr) older allowed cause h p =
         another d older
-        (λ same. both_not (is_awake (phase c older)) (ap is_awake (awake_unless_open k c older h (ap (λ x. is_open x older) (is_same c d same) ∙ allowed.0))) p) p
+        (λ same. both_not (is_awake (phase c older)) (ap is_awake (awake_unless_open k c older h (ap (λ x. is_open x older) (eqb-true c d same) ∙ allowed.0))) p) p
     rests_more (notes.Closed d) older allowed cause h p = another d older (apart d (Close d) cause (same_number d)) p
     rests_more (notes.Took d) older allowed cause h p = another d older (apart d (Took d) cause (same_number d)) p
     rests_more (notes.Withdrew d) older allowed cause h p = another d older (apart d (Withdrew d) cause (same_number d)) p
     rests_more (notes.Stirred d) older allowed cause h p =
-        another d older (λ same. both_not (rouses c s) (grab_rouses s (subst (λ x. (asks is_grab x s || closes x s) ≡ true) (sym (is_same c d same)) cause)) stays) p
+        another d older (λ same. both_not (rouses c s) (grab_rouses s (subst (λ x. (asks is_grab x s || closes x s) ≡ true) (sym (eqb-true c d same)) cause)) stays) p
     rests_more (notes.Slept d) older allowed cause h p = resting (c == d) Asleep (phase c older) refl p
     rests_more (notes.Woken d) older allowed cause h p = resting (c == d) Owed (phase c older) refl p
     rests_more note older allowed cause h p = p

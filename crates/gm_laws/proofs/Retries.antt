@@ -20,10 +20,11 @@ use Rattle.gm_laws.specs.Laws.{has_place}
 use Rattle.gm_laws.specs.Retries.{times, hands_out, gives_back, loses, NoJobIsHandedOutMoreOften, NoJobIsLostTwice}
 use Rattle.gm_laws.specs.Retries.{NoneIsLostWithoutALimit, IsLostSo, OnlyTheLastTryLoses, LostJobsEndWithTheNextTick}
 use Rattle.gm_laws.proofs.Clocks.{IsDue, tick_ends}
-use Rattle.gm_laws.proofs.JobLaws.{is_same, unmade}
+use Rattle.gm_laws.proofs.JobLaws.{unmade}
 use Rattle.gm_laws.proofs.Moving.{both_not}
 use Rattle.gm_history.proofs.Keeping.{keeps_notes}
 use Rattle.gm_history.proofs.StepsKeep.{step_keeps}
+use Rattle.std.proofs.lemmas.Bool.{eqb-true}
 
 -- ---- how often a job was handed out, came back and was lost, by where it is
 
@@ -82,7 +83,7 @@ module _ (k : Settings) (n m : ℕ) (older : List Note) (rest : CountsOf n older
 
   -- what is so of job m
   here : (P : JobState → Type 0) → (n == m) ≡ true → P (job_state m older) → P (job_state n older)
-  here P is p = subst (λ x. P (job_state x older)) (sym (is_same n m is)) p
+  here P is p = subst (λ x. P (job_state x older)) (sym (eqb-true n m is)) p
 
   made_counts : (t : Bool) → (n == m) ≡ t → job_state m older ≡ states.Unmade → Counts (At t states.Waiting) Out Back Gone
   made_counts true is new =
@@ -132,7 +133,7 @@ in_all states.Discarded out back lost h = (h.0, let none = h.1 in omega arith)
 
 back_made : (n m : ℕ) (older : List Note) (t : Bool) → (n == m) ≡ t → job_state m older ≡ states.Unmade → CountsOf n older → returns n older ≡ times (gives_back n) older → cond t 0 (returns n older) ≡ times (gives_back n) older
 back_made n m older true is new rest e =
-    sym (subst (λ s. Counts s (times (hands_out n) older) (times (gives_back n) older) (times (loses n) older)) (subst (λ x. job_state x older ≡ states.Unmade) (sym (is_same n m is)) new) rest).1
+    sym (subst (λ s. Counts s (times (hands_out n) older) (times (gives_back n) older) (times (loses n) older)) (subst (λ x. job_state x older ≡ states.Unmade) (sym (eqb-true n m is)) new) rest).1
 back_made n m older false is new rest e = e
 
 came_back : (k : Settings) (l : List Note) (n : ℕ) → History k l → returns n l ≡ times (gives_back n) l
@@ -152,7 +153,7 @@ last_one r b e = let p = and_parts (not (r == 0)) (nat_le r (b + 1)) e in let so
 
 below_returned : (n m : ℕ) (k : Settings) (older : List Note) (t : Bool) → (n == m) ≡ t → 0 < k.retries → is_last_try k m older ≡ false → returns n older < k.retries → cond t (suc (returns n older)) (returns n older) < k.retries
 below_returned n m k older true is limit more e =
-    not_last k.retries (returns n older) (subst (λ x. is_last_try k x older ≡ false) (sym (is_same n m is)) more) limit
+    not_last k.retries (returns n older) (subst (λ x. is_last_try k x older ≡ false) (sym (eqb-true n m is)) more) limit
 below_returned n m k older false is limit more e = e
 
 below_made : (r b : ℕ) (t : Bool) → 0 < r → b < r → cond t 0 b < r
@@ -208,7 +209,7 @@ lost_waits s is e = both_not (is_waiting s) e (ap is_waiting is)
 
 -- a note for another job leaves it lost
 off : (n m : ℕ) (new old : JobState) (t : Bool) → (n == m) ≡ t → (n ≡ m → ⊥) → old ≡ states.Lost → unwrap_or (cond t (Some new) None) old ≡ states.Lost
-off n m new old true is other lost = absurd (other (is_same n m is))
+off n m new old true is other lost = absurd (other (eqb-true n m is))
 off n m new old false is other lost = lost
 
 lost_still : (t : Bool) (old : JobState) → old ≡ states.Lost → unwrap_or (cond t (Some states.Lost) None) old ≡ states.Lost

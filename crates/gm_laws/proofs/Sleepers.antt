@@ -38,6 +38,7 @@ use Rattle.gm_history.proofs.Listeners.{opens, still_open}
 use Rattle.gm_laws.proofs.Moving.{both_not, moved, from, not_both, In, slot_in}
 use Rattle.gm_history.proofs.StepsKeep.{step_keeps, taken_or_not, packet_of_kinds, run_history}
 use Rattle.gm_laws.proofs.Waiting.{something_waits, no_pick}
+use Rattle.std.proofs.lemmas.Bool.{or_parts}
 
 -- who sleeps can do none of the jobs that wait, but for these
 abbrev CalmBut : (ℕ → List ℕ → Type 0) → List Note → Type 0
@@ -77,17 +78,13 @@ pub fewer : (test : Ability → Bool) (t : Bool) (xs : List Ability) → list_an
 fewer test true xs e = refl
 fewer test false xs e = e
 
-or_none : (a b : Bool) → (a || b) ≡ false → (a ≡ false) × (b ≡ false)
-or_none true b e = absurd cc
-or_none false b e = (refl, e)
-
 left_at : (test : Ability → Bool) (x : Ability) (rest : List Ability) (t : Bool) → test x ≡ false → list_any test rest ≡ false → list_any test (cond t (x ∷ rest) rest) ≡ false
 left_at test x rest true e more = ap (λ u. u || list_any test rest) e ∙ more
 left_at test x rest false e more = more
 
 filtered : (test keep : Ability → Bool) (xs : List Ability) → list_any test xs ≡ false → list_any test (filter keep xs) ≡ false
 filtered test keep [] e = refl
-filtered test keep (x ∷ xs) e = let p = or_none (test x) (list_any test xs) e in left_at test x _ (keep x) p.0 (filtered test keep xs p.1)
+filtered test keep (x ∷ xs) e = let p = or_parts (test x) (list_any test xs) e in left_at test x _ (keep x) p.0 (filtered test keep xs p.1)
 
 pub filtered_if : (test keep : Ability → Bool) (t : Bool) (xs : List Ability) → list_any test xs ≡ false → list_any test (cond t (filter keep xs) xs) ≡ false
 filtered_if test keep true xs e = filtered test keep xs e
@@ -134,7 +131,7 @@ put_at g f t ability rest more false other a r m = ap (λ x. x || list_any (is_o
 pub put_other : (g f : List ℕ) (t : ℕ) (xs : List Ability) → bytes_eq f g ≡ false → list_any (is_of g) xs ≡ false → list_any (is_of g) (put f t xs) ≡ false
 put_other g f t [] other e = ap (λ x. x || false) other
 put_other g f t (x ∷ xs) other e =
-    let p = or_none (is_of g x) (list_any (is_of g) xs) e in
+    let p = or_parts (is_of g x) (list_any (is_of g) xs) e in
     put_at g f t x xs (put f t xs) (is_of f x) other p.0 p.1 (put_other g f t xs other p.1)
 
 can_at : (c d : ℕ) (f g : List ℕ) (t : ℕ) (xs : List Ability) (u v : Bool) → (c == d) ≡ u → bytes_eq f g ≡ v → list_any (is_of g) xs ≡ false → (list_any (is_of g) (cond u (put f t xs) xs) ≡ false) ⊎ ((c ≡ d) × (f ≡ g))
@@ -362,7 +359,7 @@ request_calm k c start fit w kind a timeout e = absurd cc
 apart_kinds : (o : Option Kind) → is_one_of is_stirring o ≡ false → (is_one_of is_submission o ≡ false) × (is_one_of is_enabling o ≡ false) × (is_one_of is_sleeping o ≡ false)
 apart_kinds None e = (refl, refl, refl)
 apart_kinds (Some kind) e =
-    let p = or_none (is_submission kind || is_enabling kind) (is_sleeping kind) e in let q = or_none (is_submission kind) (is_enabling kind) p.0 in (q.0, q.1, p.1)
+    let p = or_parts (is_submission kind || is_enabling kind) (is_sleeping kind) e in let q = or_parts (is_submission kind) (is_enabling kind) p.0 in (q.0, q.1, p.1)
 
 packet_calm : (k : Settings) (c number : ℕ) (bytes : List ℕ) (start : Past) (t : Bool) → is_one_of is_stirring (kind_of number) ≡ t → History k start.notes → Fit k start.notes → CalmBut Never start.notes
     → CalmBut Never (step k (Packet c number bytes) start).notes

@@ -28,9 +28,8 @@ use Rattle.gm_history.specs.History.{Allowed, History}
 use Rattle.gm_history.specs.Causes.{Caused, PacketAsks}
 use Rattle.gm_laws.specs.Statuses.{is_reporting, numbers_of, reported_numbers, last_reported, TellsOfJob, TellsOfNone, StatusIsTrue}
 use Rattle.gm_history.proofs.Asking.{packet_does}
-use Rattle.gm_history.proofs.Finding.{same_number}
 use Rattle.gm_laws.proofs.Handles.{handle_names}
-use Rattle.gm_laws.proofs.JobLaws.{is_same, unmade, live_place}
+use Rattle.gm_laws.proofs.JobLaws.{unmade, live_place}
 use Rattle.gm_history.proofs.Keeping.{handled_is, runs_there, tell_all_notes}
 use Rattle.gm_laws.proofs.Moving.{from, both_not}
 use Rattle.gm_laws.proofs.Passing.{works_does}
@@ -38,6 +37,8 @@ use Rattle.gm_laws.proofs.Unmade.{nothing_yet, unmade_is}
 use Rattle.gm_history.proofs.StepsKeep.{run_history}
 use Rattle.gm_history.proofs.Caused.{note_law}
 use Rattle.gm_laws.proofs.StepLaws.{taken_is}
+use Rattle.gm_notes.proofs.Numbers.{same_number}
+use Rattle.std.proofs.lemmas.Bool.{eqb-true}
 
 -- WORK_STATUS of the slot where the job runs
 request_reports : (k : Settings) (n : ℕ) (start : Past) → History k start.notes → (c : ℕ) → job_state n start.notes ≡ states.Running c → (a : List (List ℕ)) (timeout : ℕ) (kind : Kind) → is_reporting kind ≡ true → first a ≡ handle k n
@@ -99,14 +100,14 @@ module _ (k : Settings) (n : ℕ) (start : Past) (history : History k start.note
       where
         by : (t : Bool) → (n == m) ≡ t → ReportedSo older → ReportedSo (notes.Made m f p u body ∷ older)
         by true is so =
-            let none : report n older ≡ nothing_yet = (unmade_is k n older h (ap (λ x. job_state x older) (is_same n m is) ∙ unmade k m older h allowed.0)).unreported in
+            let none : report n older ≡ nothing_yet = (unmade_is k n older h (ap (λ x. job_state x older) (eqb-true n m is) ∙ unmade k m older h allowed.0)).unreported in
             let same : report n (notes.Made m f p u body ∷ older) ≡ report n older = rw is (sym none) in
             from so (λ e. inl (same ∙ e)) (λ e. inr (e ∙ ap Some (sym same)))
         by false is so = let same : report n (notes.Made m f p u body ∷ older) ≡ report n older = rw is refl in from so (λ e. inl (same ∙ e)) (λ e. inr (e ∙ ap Some (sym same)))
     reported_more (notes.Report m a b) older allowed cause h so = by (n == m) refl so
       where
         by : (t : Bool) → (n == m) ≡ t → ReportedSo older → ReportedSo (notes.Report m a b ∷ older)
-        by true is so = let here : report n (notes.Report m a b ∷ older) ≡ (a, b) = rw is refl in inr (report_here a b m older (is_same n m is) cause ∙ ap Some (sym here))
+        by true is so = let here : report n (notes.Report m a b ∷ older) ≡ (a, b) = rw is refl in inr (report_here a b m older (eqb-true n m is) cause ∙ ap Some (sym here))
         by false is so = let same : report n (notes.Report m a b ∷ older) ≡ report n older = rw is refl in from so (λ e. inl (same ∙ e)) (λ e. inr (e ∙ ap Some (sym same)))
     reported_more note older allowed cause h so = so
 

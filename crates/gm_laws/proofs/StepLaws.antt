@@ -24,10 +24,10 @@ use Rattle.gm_history.specs.Causes.{is_one_of, Caused, Ends, AllSaid, asks, is_g
 use Rattle.gm_laws.specs.Laws.{DiscardsTheUnwanted, EndsWithItsWorker, GivesThePick, GrabsGetThePick, SaysNoJobWhereNoneIs}
 use Rattle.gm_laws.specs.Listeners.{AllMayGet, AnswersStayHome}
 use Rattle.gm_history.proofs.Asking.{closing_asks}
-use Rattle.gm_history.proofs.Finding.{same_number}
 use Rattle.gm_laws.proofs.Moving.{moved, from}
 use Rattle.gm_history.proofs.Caused.{note_law}
 use Rattle.gm_history.proofs.StepsKeep.{step_keeps}
+use Rattle.gm_notes.proofs.Numbers.{same_number}
 
 some : (n : ℕ) → not (suc n == 0) ≡ false → ⊥
 some n e = let more : (suc n == 0) ≡ false = grind (arith, nat_tests) in let bad : ⊥ = cc in bad

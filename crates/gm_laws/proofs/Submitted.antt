@@ -32,13 +32,14 @@ use Rattle.gm_history.proofs.Asking.{kind_read, submission_kind}
 use Rattle.gm_laws.proofs.Created.{Answered, packet_answered}
 use Rattle.gm_history.proofs.Finding.{pick_found, job_of}
 use Rattle.gm_laws.proofs.Grabs.{stirred_flow}
-use Rattle.gm_laws.proofs.JobLaws.{is_same, unmade}
+use Rattle.gm_laws.proofs.JobLaws.{unmade}
 use Rattle.gm_history.proofs.Keeping.{kept_if}
 use Rattle.gm_laws.proofs.Moving.{from}
 use Rattle.gm_history.proofs.StepsKeep.{taken_or_not, run_history}
 use Rattle.gm_history.proofs.Caused.{note_law}
 use Rattle.gm_laws.proofs.StepLaws.{gives}
 use Rattle.gm_laws.proofs.Unmade.{unmade_is}
+use Rattle.std.proofs.lemmas.Bool.{eqb-true}
 
 -- ---- each job was submitted
 
@@ -52,7 +53,7 @@ module _ (k : Settings) (s : Step) (start : Past) (history : History k start.not
     where
       by : (t : Bool) → (n == m) ≡ t → unwrap_or (cond t (Some (Some (record { function = f; priority = p; unique = u; body = body }))) None) (job n older) ≡ Some what
       by true is =
-          let none : job n older ≡ None = ap (λ x. job x older) (is_same n m is) ∙ (unmade_is k m older h (unmade k m older h allowed.0)).unknown in
+          let none : job n older ≡ None = ap (λ x. job x older) (eqb-true n m is) ∙ (unmade_is k m older h (unmade k m older h allowed.0)).unknown in
           let bad : None ≡ Some what = sym none ∙ e in
           absurd cc
       by false is = e
@@ -185,7 +186,7 @@ gives_job k steps s n c waits runs =
         × (job n (run k steps).notes ≡ Some what) × PacketAsks c s asked × (grab_answer k n what asked.kind ≡ Some answer) × JustQueues c answer (run k steps) (run k (s ∷ steps))
     by (Packet d number bytes) e gets runs =
         let parts = and_parts (c == d) (is_one_of is_grab (kind_of number)) e in
-        let same = is_same c d parts.0 in
+        let same = eqb-true c d parts.0 in
         let g = packet_gives k c (run k steps) n gets waits number bytes parts.1 in
         let there = subst (λ x. GivesIt k c (run k steps) n gets number bytes (step k (Packet x number bytes) (run k steps))) same g in
         let given = there runs in (

@@ -30,8 +30,7 @@ use Rattle.gm_laws.specs.Laws.{has_place}
 use Rattle.gm_laws.specs.Turns.{One}
 use Rattle.gm_laws.specs.Listeners.{outputs, Queues, Tells, WhoStaysIsTold}
 use Rattle.gm_history.specs.Hearing.{listens}
-use Rattle.gm_history.proofs.Finding.{same_number}
-use Rattle.gm_laws.proofs.JobLaws.{is_same, unmade, live_place, place_still}
+use Rattle.gm_laws.proofs.JobLaws.{unmade, live_place, place_still}
 use Rattle.gm_laws.proofs.Moving.{from, both_not}
 use Rattle.gm_laws.proofs.Endings.{all_told}
 use Rattle.gm_history.proofs.Caused.{note_law}
@@ -39,6 +38,8 @@ use Rattle.gm_laws.proofs.StepLaws.{discards}
 use Rattle.gm_history.proofs.Asking.{kind_read}
 use Rattle.gm_laws.proofs.Created.{Answered, request_answered}
 use Rattle.gm_history.proofs.StepsKeep.{taken_or_not, run_history}
+use Rattle.gm_notes.proofs.Numbers.{same_number}
+use Rattle.std.proofs.lemmas.Bool.{eqb-true}
 
 -- ---- what is said of a submission
 
@@ -111,7 +112,7 @@ step_good : (k : Settings) (c : ℕ) (start : Past) → History k start.notes �
 step_good k c start history (Packet d number bytes) e =
     let parts = and_parts (c == d) (is_one_of is_foreground (kind_of number)) e in
     taken_or_not (Good k c start) (unless_not_open (takes_units d start.notes)) (packet_of k d (kind_of number) bytes start) start
-    (λ taken. subst (λ x. Good k c start (packet_of k x (kind_of number) bytes start)) (is_same c d parts.0) (packet_good k c start history bytes (kind_of number) parts.1))
+    (λ taken. subst (λ x. Good k c start (packet_of k x (kind_of number) bytes start)) (eqb-true c d parts.0) (packet_good k c start history bytes (kind_of number) parts.1))
     (nothing_good k c start)
 step_good k c start history s e = absurd cc
 
@@ -141,7 +142,7 @@ module _ (c n : ℕ) where
   stays_at : (d x : ℕ) (slots left : List ℕ) (same closed : Bool) → (c == x) ≡ same → (x == d) ≡ closed → (c == d) ≡ false → counted left ≡ counted slots
       → counted (cond (not closed) (x ∷ left) left) ≡ length (cond same (x ∷ filter (λ e. c == e) slots) (filter (λ e. c == e) slots))
   stays_at d x slots left true true is was other rest =
-      absurd (both_not (c == d) (subst (λ y. (y == d) ≡ true) (sym (is_same c x is)) was) other)
+      absurd (both_not (c == d) (subst (λ y. (y == d) ≡ true) (sym (eqb-true c x is)) was) other)
   stays_at d x slots left true false is was other rest = rw is (ap suc rest)
   stays_at d x slots left false true is was other rest = rest
   stays_at d x slots left false false is was other rest = rw is rest
@@ -156,7 +157,7 @@ module _ (c n : ℕ) where
     where
       by : (t : Bool) → (n == m) ≡ t → (has_place (unwrap_or (cond t (Some states.Waiting) None) (job_state n older)) ≡ true) × (0 < counted (cond t [] (listeners n older)))
       by true is =
-          let none : job_state n older ≡ states.Unmade = subst (λ x. job_state x older ≡ states.Unmade) (sym (is_same n m is)) (unmade k m older h allowed.0) in
+          let none : job_state n older ≡ states.Unmade = subst (λ x. job_state x older ≡ states.Unmade) (sym (eqb-true n m is)) (unmade k m older h allowed.0) in
           absurd (let bad : has_place states.Unmade ≡ true = subst (λ s. has_place s ≡ true) none hears.0 in cc)
       by false is = hears
   hears_more k (notes.Returned m) older allowed h closes hears = (place_still (n == m) states.Waiting (job_state n older) refl hears.0, hears.1)

@@ -30,13 +30,14 @@ use Rattle.gm_history.specs.History.{Gets}
 use Rattle.gm_history.specs.Causes.{Caused, is_one_of, asks, is_grab, is_enabling}
 use Rattle.gm_laws.specs.Turns.{Gives, FindsWaiting, LeavesAbilities, Each, One, TurnsAreFair}
 use Rattle.gm_history.proofs.Asking.{can_asks}
-use Rattle.gm_history.proofs.Finding.{WaitsFor, waiting_for_waits, pick_found, waiting_is, same_number}
+use Rattle.gm_history.proofs.Finding.{WaitsFor, waiting_for_waits, pick_found, waiting_is}
 use Rattle.gm_history.proofs.Keeping.{keeps_notes, kept_if}
-use Rattle.gm_laws.proofs.JobLaws.{is_same}
 use Rattle.gm_laws.proofs.Moving.{from}
 use Rattle.gm_history.proofs.StepsKeep.{taken_or_not, packet_of_kinds, step_keeps, run_history}
 use Rattle.gm_laws.proofs.StepLaws.{gives, assigned_notes, pick_runs}
 use Rattle.gm_laws.proofs.Turned.{abilities_once, turned_again, Ahead, ahead_after, ahead_still}
+use Rattle.gm_notes.proofs.Numbers.{same_number}
+use Rattle.std.proofs.lemmas.Bool.{eqb-true}
 
 -- ---- what is picked
 
@@ -135,7 +136,7 @@ module _ (k : Settings) (c : ℕ) (start : Past) where
 step_grabbed : (k : Settings) (c : ℕ) (start : Past) (s : Step) → asks is_grab c s ≡ true → Grabbed k c start (step k s start).notes
 step_grabbed k c start (Packet d number bytes) e =
     let parts = and_parts (c == d) (is_one_of is_grab (kind_of number)) e in
-    subst (λ x. Grabbed k c start (step k (Packet x number bytes) start).notes) (is_same c d parts.0) (packet_grabbed k c start number bytes parts.1)
+    subst (λ x. Grabbed k c start (step k (Packet x number bytes) start).notes) (eqb-true c d parts.0) (packet_grabbed k c start number bytes parts.1)
 step_grabbed k c start (Open addr) e = absurd cc
 step_grabbed k c start (Line d bytes) e = absurd cc
 step_grabbed k c start (Fault d fault) e = absurd cc
@@ -179,7 +180,7 @@ module _ (c : ℕ) (s : Step) (before : List Note) where
   passed_opened d addr older false is cause (inr q) = inr (q.0, ap (λ t. cond t [] (abilities c older)) is ∙ q.1)
 
   passed_assigned : (n d : ℕ) (late : Option ℕ) (older : List Note) (t : Bool) → (c == d) ≡ t → asks is_grab c s ≡ false → asks is_grab d s ≡ true → Passed c s before older → Passed c s before (notes.Assigned n d late ∷ older)
-  passed_assigned n d late older true is other cause p = absurd (both_ways (asks is_grab c s) other (subst (λ x. asks is_grab x s ≡ true) (sym (is_same c d is)) cause))
+  passed_assigned n d late older true is other cause p = absurd (both_ways (asks is_grab c s) other (subst (λ x. asks is_grab x s ≡ true) (sym (eqb-true c d is)) cause))
   passed_assigned n d late older false is other cause (inl e) = inl (ap (λ t. cond t (option_map (λ (what : Job). what.function) (job n older)) (last_function c older)) is ∙ e)
   passed_assigned n d late older false is other cause (inr q) = inr q
 

@@ -8,8 +8,8 @@ use Rattle.gm_notes.specs.Jobs.{job_state, job, report, listeners, is_kept}
 use Rattle.gm_notes.specs.JobStates.{is_live}
 use Rattle.gm_notes.specs.JobStates as states
 use Rattle.gm_history.specs.History.{runs_at_a_slot, History}
-use Rattle.gm_laws.proofs.JobLaws.{is_same}
 use Rattle.gm_laws.proofs.Moving.{from, moved}
+use Rattle.std.proofs.lemmas.Bool.{eqb-true}
 
 abbrev pub nothing_yet : List ℕ × List ℕ
 nothing_yet = (codes "0", codes "0")
@@ -26,14 +26,14 @@ module _ (n : ℕ) (older : List Note) where
   listens_not m c e live r = by (n == m) refl
     where
       by : (t : Bool) → (n == m) ≡ t → Nothing n (notes.Listens m c ∷ older)
-      by true is = absurd (let bad : is_live states.Unmade ≡ true = subst (λ s. is_live s ≡ true) e (subst (λ x. is_live (job_state x older) ≡ true) (sym (is_same n m is)) live) in cc)
+      by true is = absurd (let bad : is_live states.Unmade ≡ true = subst (λ s. is_live s ≡ true) e (subst (λ x. is_live (job_state x older) ≡ true) (sym (eqb-true n m is)) live) in cc)
       by false is = record { unknown = r.unknown; unkept = r.unkept; unreported = r.unreported; unheard = rw is r.unheard }
 
   keeps_not : (m : ℕ) → job_state n older ≡ states.Unmade → is_live (job_state m older) ≡ true → Nothing n older → Nothing n (notes.Kept m ∷ older)
   keeps_not m e live r = by (n == m) refl
     where
       by : (t : Bool) → (n == m) ≡ t → Nothing n (notes.Kept m ∷ older)
-      by true is = absurd (let bad : is_live states.Unmade ≡ true = subst (λ s. is_live s ≡ true) e (subst (λ x. is_live (job_state x older) ≡ true) (sym (is_same n m is)) live) in cc)
+      by true is = absurd (let bad : is_live states.Unmade ≡ true = subst (λ s. is_live s ≡ true) e (subst (λ x. is_live (job_state x older) ≡ true) (sym (eqb-true n m is)) live) in cc)
       by false is = record { unknown = r.unknown; unkept = rw is r.unkept; unreported = r.unreported; unheard = r.unheard }
 
   reports_not : (m : ℕ) (a b : List ℕ) → job_state n older ≡ states.Unmade → runs_at_a_slot (job_state m older) ≡ true → Nothing n older → Nothing n (notes.Report m a b ∷ older)
@@ -41,7 +41,7 @@ module _ (n : ℕ) (older : List Note) where
     where
       by : (t : Bool) → (n == m) ≡ t → Nothing n (notes.Report m a b ∷ older)
       by true is =
-          absurd (let bad : runs_at_a_slot states.Unmade ≡ true = subst (λ s. runs_at_a_slot s ≡ true) e (subst (λ x. runs_at_a_slot (job_state x older) ≡ true) (sym (is_same n m is)) runs) in cc)
+          absurd (let bad : runs_at_a_slot states.Unmade ≡ true = subst (λ s. runs_at_a_slot s ≡ true) e (subst (λ x. runs_at_a_slot (job_state x older) ≡ true) (sym (eqb-true n m is)) runs) in cc)
       by false is = record { unknown = r.unknown; unkept = r.unkept; unreported = rw is r.unreported; unheard = r.unheard }
 
   others_not : (note : Note) → job n (note ∷ older) ≡ job n older → is_kept n (note ∷ older) ≡ is_kept n older → report n (note ∷ older) ≡ report n older → listeners n (note ∷ older) ≡ listeners n older → Nothing n older

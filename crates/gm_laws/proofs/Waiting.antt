@@ -18,6 +18,7 @@ use Rattle.gm_notes.specs.JobStates as states
 use Rattle.gm_laws.proofs.Moving.{moved, from, In}
 use Rattle.gm_notes.specs.Settings.{Settings}
 use Rattle.gm_notes.proofs.Scans.{scan_members}
+use Rattle.std.proofs.lemmas.Bool.{false_from_ne_true}
 
 in_last : (n : ℕ) (ms : List ℕ) → In n (ms ++ n ∷ [])
 in_last n [] = inl refl
@@ -115,11 +116,7 @@ no_pick_from (ability ∷ abilities) l f none e =
     let parts = none_first (waiting_for ability.function l) ability.timeout (pick_from abilities l) none in
     none_for f ability abilities l (is_of f ability) refl parts.0 (no_pick_from abilities l f parts.1) e
 
-is_false : (t : Bool) → (t ≡ true → ⊥) → t ≡ false
-is_false true no_way = absurd (no_way refl)
-is_false false no_way = refl
-
 pub no_pick : (k : Settings) (c n : ℕ) (l : List Note) (what : Job) → pick k c l ≡ None → job_state n l ≡ states.Waiting → job n l ≡ Some what → is_able c what.function l ≡ false
 no_pick k c n l what none waits is =
-    is_false (is_able c what.function l)
+    false_from_ne_true (is_able c what.function l)
     (λ able. let bad : true ≡ false = sym (no_pick_from (scan k c l) l what.function none (scan_members k c l (is_of what.function) ∙ able)) ∙ something_waits n l what waits is in let worse : ⊥ = cc in worse)

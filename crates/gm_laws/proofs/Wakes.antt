@@ -25,14 +25,16 @@ use Rattle.gm_history.specs.History.{HasWork, runs_at_a_slot, Allowed, History}
 use Rattle.gm_history.specs.Causes.{Caused, Ends, is_request, asks, is_submission, is_enabling, is_sleeping, is_grab, is_ending, is_close}
 use Rattle.gm_laws.specs.Waiting.{WakesHaveWork}
 use Rattle.gm_history.proofs.Asking.{request_is, asks_some, more_requests, apart_requests}
-use Rattle.gm_history.proofs.Finding.{IsWork, work_for, same_number}
-use Rattle.gm_laws.proofs.JobLaws.{is_same, unmade}
+use Rattle.gm_history.proofs.Finding.{IsWork, work_for}
+use Rattle.gm_laws.proofs.JobLaws.{unmade}
 use Rattle.gm_history.proofs.Keeping.{kept_if, runs_somewhere}
 use Rattle.gm_laws.proofs.Moving.{from, both_not, closes_not}
 use Rattle.gm_history.proofs.Phases.{awake_unless_open}
 use Rattle.gm_laws.proofs.Sleepers.{is_stirring}
 use Rattle.gm_history.proofs.StepsKeep.{taken_or_not, run_history}
 use Rattle.gm_history.proofs.Caused.{note_law}
+use Rattle.gm_notes.proofs.Numbers.{same_number}
+use Rattle.std.proofs.lemmas.Bool.{eqb-true}
 
 -- ---- what leaves work
 
@@ -41,7 +43,7 @@ still_waits : (n m : ℕ) (new old : JobState) → (n ≡ m → new ≡ states.W
 still_waits n m new old here e = by (n == m) refl
   where
     by : (t : Bool) → (n == m) ≡ t → unwrap_or (cond t (Some new) None) old ≡ states.Waiting
-    by true is = here (is_same n m is)
+    by true is = here (eqb-true n m is)
     by false is = e
 
 -- the job that is moved waits, or didn't wait
@@ -61,7 +63,7 @@ made_work k c m f p u body older allowed h w = by (w.0 == m) refl
 
     by : (t : Bool) → (w.0 == m) ≡ t → HasWork c (notes.Made m f p u body ∷ older)
     by true is =
-        let none : job_state w.0 older ≡ states.Unmade = ap (λ x. job_state x older) (is_same w.0 m is) ∙ unmade k m older h allowed.0 in
+        let none : job_state w.0 older ≡ states.Unmade = ap (λ x. job_state x older) (eqb-true w.0 m is) ∙ unmade k m older h allowed.0 in
         absurd (let bad : states.Waiting ≡ states.Unmade = sym w.2 ∙ none in cc)
     by false is = (
       w.0,
@@ -150,7 +152,7 @@ module _ (k : Settings) (s : Step) (start : Past) (history : History k start.not
   woken_more other (notes.Woken d) older allowed cause h p = by (c == d) refl
     where
       by : (t : Bool) → (c == d) ≡ t → unwrap_or (cond t (Some Owed) None) (phase c older) ≡ Owed → (phase c start.notes ≡ Owed) ⊎ ((is_request is_stirring s ≡ true) × HasWork c older)
-      by true is e = inr (stirs d other cause, subst (λ x. HasWork x older) (sym (is_same c d is)) allowed.2)
+      by true is e = inr (stirs d other cause, subst (λ x. HasWork x older) (sym (eqb-true c d is)) allowed.2)
       by false is e = p e
   woken_more other (notes.Made m f pr u body) older allowed cause h p = after_it (notes.Made m f pr u body) older (λ e. e) (made_work k c m f pr u body older allowed h) p
   woken_more other (notes.Can d f t) older allowed cause h p = after_it (notes.Can d f t) older (λ e. e) (can_work c d f t older) p
@@ -182,7 +184,7 @@ module _ (k : Settings) (c d : ℕ) (start : Past) where
       wakes_each f slots (wake_one f e past) (kept_if (IsWork f) t (with_note (notes.Woken e) past) past work work) (by t refl)
     where
       here : (is_open e past.notes && is_asleep (phase e past.notes) && is_able e f past.notes) ≡ true → (u : Bool) → (c == e) ≡ u → unwrap_or (cond u (Some Owed) None) (phase c past.notes) ≡ Owed → (phase c start.notes ≡ Owed) ⊎ HasWork c past.notes
-      here is true same o = inr (subst (λ x. HasWork x past.notes) (sym (is_same c e same)) (work_for e f past.notes work (and_parts (is_open e past.notes && is_asleep (phase e past.notes)) (is_able e f past.notes) is).1))
+      here is true same o = inr (subst (λ x. HasWork x past.notes) (sym (eqb-true c e same)) (work_for e f past.notes work (and_parts (is_open e past.notes && is_asleep (phase e past.notes)) (is_able e f past.notes) is).1))
       here is false same o = p o
 
       by : (t : Bool) → (is_open e past.notes && is_asleep (phase e past.notes) && is_able e f past.notes) ≡ t → Owes (cond t (with_note (notes.Woken e) past) past).notes

@@ -16,7 +16,7 @@ use Rattle.gm_plain.specs.Logs.{NoteFits, AllFit, MayCome, AreNumbered, AreInOrd
 use Rattle.gm_plain.specs.Logs.{slot_due, slots_due, jobs_due, due, weight, paid}
 use Rattle.gm_plain.proofs.LogLemmas.{open_below}
 use Rattle.std.proofs.lemmas.List.{reverse-append}
-use Rattle.gm_plain.proofs.NoteLemmas.{self}
+use Rattle.gm_notes.proofs.Numbers.{same_number}
 
 -- ---- sums in which one term changes
 
@@ -128,50 +128,50 @@ job_less note m slots first notes same within less kept slot =
 pub due_next : (slots first : ℕ) (note : Note) (notes : List Note) → MayCome slots first note notes → AllFit slots notes → AreNumbered first notes
     → suc (due slots first (note ∷ notes)) ≤ due slots first notes + weight note
 due_next slots first (Opened d addr) notes stands fit numbered =
-    let at = total_most (λ c. slot_due c (Opened d addr ∷ notes)) (λ c. slot_due c notes) d (λ c h. rw h refl) 1 0 slots (rw (self d) (omega arith)) in
+    let at = total_most (λ c. slot_due c (Opened d addr ∷ notes)) (λ c. slot_due c notes) d (λ c h. rw h refl) 1 0 slots (rw (same_number d) (omega arith)) in
     let jobs : jobs_due first (Opened d addr ∷ notes) ≡ jobs_due first notes = refl in
     omega (arith, at, jobs)
 due_next slots first (Closed d) notes stands fit numbered =
     let opened : due_of_open (is_open d notes) ≡ 1 = ap due_of_open stands in
-    let less = slot_less (Closed d) d slots first notes (λ c h. rw h refl) (open_below slots d notes fit stands) (rw (self d) (omega (arith, opened))) refl in omega (arith, less)
+    let less = slot_less (Closed d) d slots first notes (λ c h. rw h refl) (open_below slots d notes fit stands) (rw (same_number d) (omega (arith, opened))) refl in omega (arith, less)
 due_next slots first (Slept d) notes stands fit numbered =
-    let at = total_most (λ c. slot_due c (Slept d ∷ notes)) (λ c. slot_due c notes) d (λ c h. rw h refl) 2 0 slots (rw (self d) (omega arith)) in
+    let at = total_most (λ c. slot_due c (Slept d ∷ notes)) (λ c. slot_due c notes) d (λ c h. rw h refl) 2 0 slots (rw (same_number d) (omega arith)) in
     let jobs : jobs_due first (Slept d ∷ notes) ≡ jobs_due first notes = refl in
     omega (arith, at, jobs)
 due_next slots first (Woken d) notes stands fit numbered =
     let asleep = asleep_due (phase d notes) stands.1 in
-    let less = slot_less (Woken d) d slots first notes (λ c h. rw h refl) stands.0 (rw (self d) (omega (arith, asleep))) refl in omega (arith, less)
+    let less = slot_less (Woken d) d slots first notes (λ c h. rw h refl) stands.0 (rw (same_number d) (omega (arith, asleep))) refl in omega (arith, less)
 due_next slots first (Stirred d) notes stands fit numbered =
     let asleep = asleep_due (phase d notes) stands.1 in
-    let less = slot_less (Stirred d) d slots first notes (λ c h. rw h refl) stands.0 (rw (self d) (omega (arith, asleep))) refl in omega (arith, less)
+    let less = slot_less (Stirred d) d slots first notes (λ c h. rw h refl) stands.0 (rw (same_number d) (omega (arith, asleep))) refl in omega (arith, less)
 due_next slots first (Took d) notes stands fit numbered =
     let owed = owed_due (phase d notes) stands.1 in
-    let less = slot_less (Took d) d slots first notes (λ c h. rw h refl) stands.0 (rw (self d) (omega (arith, owed))) refl in omega (arith, less)
+    let less = slot_less (Took d) d slots first notes (λ c h. rw h refl) stands.0 (rw (same_number d) (omega (arith, owed))) refl in omega (arith, less)
 due_next slots first (Withdrew d) notes stands fit numbered =
     let owed = owed_due (phase d notes) stands.1 in
-    let less = slot_less (Withdrew d) d slots first notes (λ c h. rw h refl) stands.0 (rw (self d) (omega (arith, owed))) refl in omega (arith, less)
+    let less = slot_less (Withdrew d) d slots first notes (λ c h. rw h refl) stands.0 (rw (same_number d) (omega (arith, owed))) refl in omega (arith, less)
 due_next slots first (Made m f p u body) notes stands fit numbered =
     let slot : slots_due slots (Made m f p u body ∷ notes) ≡ slots_due slots notes = refl in
     let past = total_outside (λ n. due_of_job_state (job_state n (Made m f p u body ∷ notes))) (λ n. due_of_job_state (job_state n notes)) m (λ n h. rw h refl) first (length (made notes)) (omega (arith, stands)) in
-    let here : due_of_job_state (job_state (first + length (made notes)) (Made m f p u body ∷ notes)) ≡ 1 = rw (sym stands, self m) refl in
+    let here : due_of_job_state (job_state (first + length (made notes)) (Made m f p u body ∷ notes)) ≡ 1 = rw (sym stands, same_number m) refl in
     omega (arith, slot, past, here)
 due_next slots first (Assigned m c deadline) notes stands fit numbered =
     let slot : slots_due slots (Assigned m c deadline ∷ notes) ≡ slots_due slots notes = refl in
     let waits = waits_due (job_state m notes) stands in
-    let at = total_most (λ n. due_of_job_state (job_state n (Assigned m c deadline ∷ notes))) (λ n. due_of_job_state (job_state n notes)) m (λ n h. rw h refl) 1 first (length (made notes)) (rw (self m) (omega (arith, waits))) in
+    let at = total_most (λ n. due_of_job_state (job_state n (Assigned m c deadline ∷ notes))) (λ n. due_of_job_state (job_state n notes)) m (λ n h. rw h refl) 1 first (length (made notes)) (rw (same_number m) (omega (arith, waits))) in
     omega (arith, slot, at)
 due_next slots first (Returned m) notes stands fit numbered =
     let runs = runs_at_due (job_state m notes) stands.0 stands.1 in
-    let less = job_less (Returned m) m slots first notes (λ n h. rw h refl) (numbered m (running_there_lives (job_state m notes) stands.0 stands.1)) (rw (self m) (omega (arith, runs))) refl refl in omega (arith, less)
+    let less = job_less (Returned m) m slots first notes (λ n h. rw h refl) (numbered m (running_there_lives (job_state m notes) stands.0 stands.1)) (rw (same_number m) (omega (arith, runs))) refl refl in omega (arith, less)
 due_next slots first (Lost m) notes stands fit numbered =
     let runs = runs_at_due (job_state m notes) stands.0 stands.1 in
-    let less = job_less (Lost m) m slots first notes (λ n h. rw h refl) (numbered m (running_there_lives (job_state m notes) stands.0 stands.1)) (rw (self m) (omega (arith, runs))) refl refl in omega (arith, less)
+    let less = job_less (Lost m) m slots first notes (λ n h. rw h refl) (numbered m (running_there_lives (job_state m notes) stands.0 stands.1)) (rw (same_number m) (omega (arith, runs))) refl refl in omega (arith, less)
 due_next slots first (Ended m) notes stands fit numbered =
     let runs = runs_due (job_state m notes) stands in
-    let less = job_less (Ended m) m slots first notes (λ n h. rw h refl) (numbered m (running_lives (job_state m notes) stands)) (rw (self m) (omega (arith, runs))) refl refl in omega (arith, less)
+    let less = job_less (Ended m) m slots first notes (λ n h. rw h refl) (numbered m (running_lives (job_state m notes) stands)) (rw (same_number m) (omega (arith, runs))) refl refl in omega (arith, less)
 due_next slots first (Discarded m) notes stands fit numbered =
     let lives = live_due (job_state m notes) stands in
-    let less = job_less (Discarded m) m slots first notes (λ n h. rw h refl) (numbered m stands) (rw (self m) (omega (arith, lives))) refl refl in omega (arith, less)
+    let less = job_less (Discarded m) m slots first notes (λ n h. rw h refl) (numbered m stands) (rw (same_number m) (omega (arith, lives))) refl refl in omega (arith, less)
 due_next slots first note notes stands fit numbered = omega arith
 
 -- ---- the jobs made

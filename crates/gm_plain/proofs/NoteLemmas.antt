@@ -8,9 +8,7 @@ use Rattle.std.proofs.Math.Numerals.{add-one}
 use Rattle.gm_notes.specs.declared.note.Note.{Note}
 use Rattle.gm_notes.specs.Notes.{is_open}
 use Rattle.gm_notes.specs.Steps.{free_from}
-
-pub self : (n : ℕ) → (n == n) ≡ true
-self n = grind (arith, nat_tests)
+use Rattle.gm_notes.proofs.Numbers.{same_number}
 
 -- a slot that isn't open is the least free one
 pub free_here : (c n : ℕ) (notes : List Note) → 0 < n → is_open c notes ≡ false → free_from c n notes ≡ Some c

@@ -24,11 +24,11 @@ use Rattle.gm_notes.specs.Past.{Past, with_note, with_output, give, tell_all, wi
 use Rattle.gm_notes.specs.Workers.{sleep_beside, wake_itself, deadline_after, tell_assigned, give_out, keep_report}
 use Rattle.gm_notes.specs.Submissions.{Submission, keep_or_listen, make}
 use Rattle.gm_notes.specs.Closings.{wake_for}
-use Rattle.gm_plain.proofs.NoteLemmas.{self}
 use Rattle.gm_plain.specs.Holds.{Holds, Contents, HeldIn, Becomes, wake_one_for}
 use Rattle.gm_notes.specs.Steps.{if_free, if_accepted, unless_not_open}
 use Rattle.gm_actions.specs.Effects.{if_done}
 use Rattle.gm_actions.proofs.Changing.{changes_then, changes_as, done_as, done_not}
+use Rattle.gm_notes.proofs.Numbers.{same_number}
 
 -- ---- one change after another
 
@@ -105,8 +105,8 @@ job_made n f p u body c s past = go s.background
   where
     go : (t : Bool) → job n (if t then with_note (Kept n) (with_note (Made n f p u body) past) else with_note (Listens n c) (with_note (Made n f p u body) past)).notes
         ≡ Some (record { function = f; priority = p; unique = u; body = body })
-    go true = rw (self n) refl
-    go false = rw (self n) refl
+    go true = rw (same_number n) refl
+    go false = rw (same_number n) refl
 
 -- it doesn't matter that the answer is queued first, nor by which name those are woken who can do the job
 pub make_is : (k : Settings) (c : ℕ) (s : Submission) (n : ℕ) (past : Past)

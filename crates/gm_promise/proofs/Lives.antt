@@ -38,7 +38,7 @@ use Rattle.gm_shared.specs.Histories.{Knows}
 use Rattle.gm_shared.specs.Openings.{if_one_more, opened_by, openings}
 use Rattle.gm_shared.specs.Calls.{events_in, events_of, past_of}
 use Rattle.gm_shared.proofs.Logs.{calls_known}
-use Rattle.gm_shared.proofs.Sharing.{events_of_more, itself}
+use Rattle.gm_shared.proofs.Sharing.{events_of_more}
 use Rattle.gm_session.specs.declared.heard.Heard.{Heard}
 use Rattle.gm_session.specs.Hearings.{AreHeard}
 use Rattle.gm_session.specs.Sessions.{Adds}
@@ -51,6 +51,7 @@ use Rattle.gm_promise.specs.Promise.{says, said_at, if_opened, given_by, given, 
 use Rattle.gm_promise.specs.Connections.{joined, sent_at, left_at, said_since, AreHandedIn, AreSent, AreServed}
 use Rattle.gm_promise.proofs.Owning.{said_own, drain_own}
 use Rattle.gm_promise.proofs.Promised.{all_given}
+use Rattle.gm_notes.proofs.Numbers.{same_number}
 
 -- ---- what a pen gave at an opening
 
@@ -133,7 +134,7 @@ module _ (c : ℕ) (e : Entry) (older : List Entry) (own : is_own e.actor e.step
   drains : (d : ℕ) → e.actor ≡ Pen d → (t : Bool) → (c == d) ≡ t → (if t then given c older ++ bytes_in e.answer else given c older) ≡ given_at (openings c older) c (e ∷ older)
   drains d pen true same =
       ap (λ l. l ++ bytes_in e.answer) last
-      ∙ sym (of_its_pen (openings c older) c e older (ap (λ a. 2 * c + 1 == actor_code a) pen ∙ same_code c d same) (itself (openings c older)))
+      ∙ sym (of_its_pen (openings c older) c e older (ap (λ a. 2 * c + 1 == actor_code a) pen ∙ same_code c d same) (same_number (openings c older)))
   drains d pen false other = last ∙ sym (of_another (openings c older) c e older (ap (λ a. 2 * c + 1 == actor_code a) pen ∙ other_code c d other))
 
   drained : (d : ℕ) → e.actor ≡ Pen d → (a : Answer) → e.answer ≡ a → given_by c (tape.Drain d) a (given c older) ≡ given_at (opened_by c (tape.Drain d) a (openings c older)) c (e ∷ older)
@@ -230,7 +231,7 @@ closing_sends k c past history opened =
       by_saying = λ d bytes p opened may h i. tt;
     } in
     let K = nothing_sent k c past.notes (Close c) (sent c past.flow) (λ addr bad. absurd cc) in
-    let gone : is_open c (disconnect c past).notes ≡ false = rw (itself c) refl in
+    let gone : is_open c (disconnect c past).notes ≡ false = rw (same_number c) refl in
     (give_back_each_keeps K (rising past) (discard_each (rising past) (disconnect c past))
     (discard_each_keeps K (rising past) (disconnect c past) ((gone_keeps anything past opened (history, tt)).0, (gone, asleep (is_asleep (phase c past.notes)))))).1.1
   where
@@ -405,7 +406,7 @@ balance k c (e ∷ older) legal = answered k c e older legal (balance k c older 
 
 sent_now : (k : Settings) (c : ℕ) (log : List Entry) → sent_at k (openings c log) c log ≡ sent c (past_of k log).flow
 sent_now k c [] = refl
-sent_now k c (e ∷ older) = ap (λ (t : Bool). if t then sent c (past_of k (e ∷ older)).flow else sent_at k (openings c (e ∷ older)) c older) (itself (openings c (e ∷ older)))
+sent_now k c (e ∷ older) = ap (λ (t : Bool). if t then sent c (past_of k (e ∷ older)).flow else sent_at k (openings c (e ∷ older)) c older) (same_number (openings c (e ∷ older)))
 
 sent_all : (k : Settings) (n c : ℕ) (log : List Entry) → Legal k log → AreOwn log → sent_at k n c log ≡ given_at n c log ++ left_at k n c log
 sent_all k n c [] legal own = refl
@@ -500,8 +501,8 @@ record IsUnit (c : ℕ) (s : Step) : Type 0 where
   pub closes_none : (older : List Step) → closings c (s ∷ older) ≡ closings c older
 
 unit_is : (c : ℕ) (item : Item) → IsUnit c (step_of_unit c item)
-unit_is c (APacket kind bytes) = record { said = itself c; closes_none = λ older. refl }
-unit_is c (ALine bytes) = record { said = itself c; closes_none = λ older. refl }
+unit_is c (APacket kind bytes) = record { said = same_number c; closes_none = λ older. refl }
+unit_is c (ALine bytes) = record { said = same_number c; closes_none = λ older. refl }
 
 units_are : (c : ℕ) (items : List Item) → ByRecursion (IsUnit c) (map (step_of_unit c) items)
 units_are c [] = tt
@@ -520,7 +521,7 @@ session_units c items fault = turned c (steps_of_units c items fault) (both c (m
   where
     by : (fault : Option UnitFault) → ByRecursion (IsUnit c) (fault_steps c fault)
     by None = tt
-    by (Some fault) = (record { said = itself c; closes_none = λ older. refl }, tt)
+    by (Some fault) = (record { said = same_number c; closes_none = λ older. refl }, tt)
 
 module _ (c : ℕ) where
   closings_units : (xs ys : List Step) → ByRecursion (IsUnit c) xs → closings c (xs ++ ys) ≡ closings c ys
@@ -542,10 +543,10 @@ module _ (c : ℕ) where
   said_units (x ∷ xs) ys a = ap (λ (t : Bool). if t then x ∷ said_at c (xs ++ ys) else said_at c (xs ++ ys)) a.0.said ∙ ap (λ l. x ∷ l) (said_units xs ys a.1)
 
   closing_counts : (steps : List Step) → closings c (Close c ∷ steps) ≡ closings c steps + 1
-  closing_counts steps = ap (λ (t : Bool). if t then closings c steps + 1 else closings c steps) (itself c)
+  closing_counts steps = ap (λ (t : Bool). if t then closings c steps + 1 else closings c steps) (same_number c)
 
   said_closing : (steps : List Step) → said_at c (Close c ∷ steps) ≡ Close c ∷ said_at c steps
-  said_closing steps = ap (λ (t : Bool). if t then Close c ∷ said_at c steps else said_at c steps) (itself c)
+  said_closing steps = ap (λ (t : Bool). if t then Close c ∷ said_at c steps else said_at c steps) (same_number c)
 
   closings_more : (s : Step) (steps : List Step) → closings c steps ≤ closings c (s ∷ steps)
   closings_more (Close d) steps = by (c == d)

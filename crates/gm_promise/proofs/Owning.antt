@@ -22,11 +22,12 @@ use Rattle.gm_shared.specs.Tokens.{WitnessState}
 use Rattle.gm_shared.specs.Calls.{events_in, events_of}
 use Rattle.gm_shared.specs.Shared.{told_by, actor_count, HasSeenOwn, numbers_below, everybody}
 use Rattle.gm_shared.proofs.Logs.{calls_known}
-use Rattle.gm_shared.proofs.Sharing.{and_more, itself}
+use Rattle.gm_shared.proofs.Sharing.{and_more}
 use Rattle.gm_session.specs.Owners.{are_said_by, SaysOwn}
 use Rattle.gm_session.proofs.Owning.{and_first, and_second}
 use Rattle.gm_promise.specs.Owners.{is_own, AreOwn}
 use Rattle.gm_promise.specs.Promise.{says, said_at}
+use Rattle.gm_notes.proofs.Numbers.{same_number}
 
 -- ---- the entries of an actor
 
@@ -68,7 +69,7 @@ first_own (Pen n) e older false is own =
 pub all_own : (made : ℕ) (log : List Entry) → AreBelow made log → ((actor : Actor) → actor_code actor < made → IsOwnOf log actor) → AreOwn log
 all_own made [] below each = All-nil (λ (e : Entry). is_own e.actor e.step ≡ true)
 all_own made (e ∷ older) below each =
-    let same : (actor_code e.actor == actor_code e.actor) ≡ true = itself (actor_code e.actor) in
+    let same : (actor_code e.actor == actor_code e.actor) ≡ true = same_number (actor_code e.actor) in
     All-cons (λ (e : Entry). is_own e.actor e.step ≡ true) e older
     ((first_own e.actor e older true same (each e.actor below.0)).1 refl)
     (all_own made older below.1 (λ actor less. (first_own actor e older (actor_code actor == actor_code e.actor) refl (each actor less)).0))
@@ -82,8 +83,8 @@ is_actor (Desk n) (Pen m) same = absurd cc
 is_actor (Pen n) (Desk m) same = absurd cc
 
 self_is : (a : Actor) → actor_is a a ≡ true
-self_is (Desk n) = itself n
-self_is (Pen n) = itself n
+self_is (Desk n) = same_number n
+self_is (Pen n) = same_number n
 
 pub map_twice : {A B C : Type 0} (f : A → B) (g : B → C) (xs : List A) → map g (map f xs) ≡ map (λ x. g (f x)) xs
 map_twice f g [] = refl

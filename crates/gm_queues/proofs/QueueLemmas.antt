@@ -3,9 +3,9 @@ use Rattle.std.proofs.Common.{◌≡◌, ℕ, zero, suc, ◌+◌, ◌-◌, ◌<�
 use Rattle.std.proofs.Common.{length, set, drop, filter, count_by, slice_get, Contains, Option, Some, None, IfSome, IfNone, IsTrue, ◌↔◌}
 use Rattle.std.proofs.Common.{is_some, refl, sym, ap, ◌∙◌, arith, length-append}
 use Rattle.std.proofs.lemmas.Bool.{false≢true}
-use Rattle.std.proofs.lemmas.Bool.Decides.{nat_tests}
 use Rattle.std.proofs.lemmas.List.Sums.{sum_by-cons}
 use Rattle.gm_queues.specs.Queues.{Queue, Leaves, jobs_in}
+use Rattle.gm_notes.proofs.Numbers.{same_number}
 
 pub jobs_in-append : (xs ys : List (Option ℕ)) → jobs_in (xs ++ ys) ≡ jobs_in xs ++ jobs_in ys
 jobs_in-append [] ys = refl
@@ -82,14 +82,11 @@ searched xs job (Some i) some none = (λ h. jobs_in_some xs i job some, λ there
 count-cons : (job x : ℕ) (xs : List ℕ) → count_by (λ n. n == job) (x ∷ xs) ≡ (if x == job then 1 else 0) + count_by (λ n. n == job) xs
 count-cons job x xs = sum_by-cons (λ n. cond (n == job) 1 0) x xs
 
-same_job : (n : ℕ) → (n == n) ≡ true
-same_job n = grind (arith, nat_tests)
-
 yes_one : (b : Bool) → b ≡ true → ◌≡◌ {A = ℕ} (if b then 1 else 0) 1
 yes_one b e = ap (λ t. if t then 1 else 0) e
 
 one_at_least : (job : ℕ) (before after : List ℕ) → 1 ≤ count_by (λ n. n == job) (before ++ job ∷ after)
-one_at_least job [] after = omega (arith, count-cons job job after, yes_one (job == job) (same_job job))
+one_at_least job [] after = omega (arith, count-cons job job after, yes_one (job == job) (same_number job))
 one_at_least job (x ∷ before) after = omega (arith, count-cons job x (before ++ job ∷ after), one_at_least job before after)
 
 -- where the job isn't, nothing goes
@@ -104,7 +101,7 @@ filter-none job (x ∷ xs) e = by (x == job) (sym (count-cons job x xs) ∙ e) (
 
 -- where it is once, it alone goes
 filter-once : (job : ℕ) (before after : List ℕ) → count_by (λ n. n == job) (before ++ job ∷ after) ≡ 1 → filter (λ n. not (n == job)) (before ++ job ∷ after) ≡ before ++ after
-filter-once job [] after e = by (job == job) (same_job job) (sym (count-cons job job after) ∙ e)
+filter-once job [] after e = by (job == job) (same_number job) (sym (count-cons job job after) ∙ e)
   where
     by : (b : Bool) → b ≡ true → ◌≡◌ {A = ℕ} ((if b then 1 else 0) + count_by (λ n. n == job) after) 1
         → cond (not b) (job ∷ filter (λ n. not (n == job)) after) (filter (λ n. not (n == job)) after) ≡ after

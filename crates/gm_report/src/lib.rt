@@ -2,6 +2,7 @@
 #![tactic(auto)]
 
 mod error;
+mod levels;
 mod notices;
 mod ready;
 mod speaking;
@@ -10,6 +11,7 @@ mod systemd;
 mod timing;
 
 pub use error::ServeError;
+pub use levels::Levels;
 pub use notices::Trouble;
 pub use ready::Announcer;
 pub use speaking::Speaker;
@@ -17,5 +19,5 @@ pub use summary::Summary;
 pub use systemd::{first_socket, handed_sockets};
 pub use timing::{
     ACCEPT_TIMEOUT_MS, AGAIN_MS, DELIVERING_TIME_MS, ENDING_TIME_MS, MOST_ENDING_TIME_MS,
-    TURN_TIME_US, WAKING_TIME_MS, has_passed, now_ms,
+    TURN_TIME_US, VISITING_TIME_MS, WAKING_TIME_MS, has_passed, now_ms,
 };

@@ -115,6 +115,8 @@ pub(crate) struct Notices {
     pub(crate) cut: u64,
     pub(crate) faulty: u64,
     pub(crate) timed_out: u64,
+    /// How many packets came that aren't requests.
+    pub(crate) not_served: u64,
     /// The types of packets that came and aren't requests: the first `type_count` are types that came, each with the peer that sent the
     /// first such packet.
     types: [(u32, Option<SocketAddr>); MOST_TYPES],
@@ -143,6 +145,7 @@ impl Notices {
             cut: 0,
             faulty: 0,
             timed_out: 0,
+            not_served: 0,
             types: [(0, None); MOST_TYPES],
             type_count: 0,
             said_types: 0,

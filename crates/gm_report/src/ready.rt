@@ -1,4 +1,5 @@
-//! How the status of a server is told: that it is ready, how many slots it uses, and how many connections it refused and cut.
+//! How the status of a server is told: that it is ready, how many slots it uses, how many connections it refused and cut, and how many
+//! packets it didn't serve.
 
 use crate::notices::Trouble;
 use crate::speaking::Speaker;
@@ -9,7 +10,7 @@ use std::io::{Cursor, Write};
 use std::sync::Wait;
 
 /// How long the line is at most that says how the service is.
-const STATUS: usize = 160;
+const STATUS: usize = 192;
 
 /// How a server is.
 #[derive(Clone, Copy, Debug, PartialEq, Eq)]
@@ -22,6 +23,8 @@ pub(crate) struct Report {
     pub(crate) refused: u64,
     /// How many were cut since then as there was no memory.
     pub(crate) cut: u64,
+    /// How many packets came since then that aren't requests.
+    pub(crate) not_served: u64,
 }
 
 /// Tells how a server is: an output that it listens, and systemd that it is ready (sd_notify(3)), and then its status.
@@ -101,12 +104,17 @@ impl<'w, W: Write> Announcer<'w, W> {
         if self.told == Some(report) {
             return;
         }
-        let Report { refused, cut, .. } = report;
+        let Report {
+            refused,
+            cut,
+            not_served,
+            ..
+        } = report;
         let mut text = Cursor::new([0; STATUS]);
         // It fits.
         let _ = write!(
             text,
-            "STATUS=slots used: {connections} of {slots}, connections refused: {refused}, cut: {cut}"
+            "STATUS=slots used: {connections} of {slots}, connections refused: {refused}, cut: {cut}, packets not served: {not_served}"
         );
         let len = text.position() as usize;
         let text = text.into_inner();

@@ -2,6 +2,7 @@
 //! that.
 
 use crate::error::ServeError;
+use crate::levels::Levels;
 use crate::notices::{Notices, Remark, TROUBLES, Trouble};
 use crate::ready::Report;
 use crate::summary::Summary;
@@ -20,20 +21,24 @@ pub struct Speaker {
     remarks: Mutex<Notices>,
     /// The thread that speaks waits here for what it is to say, and the program's end for that thread.
     changed: Condvar,
+    levels: Levels,
 }
 
 impl Speaker {
-    /// Starts the thread that speaks, of a server with this many slots. Where it can't be made, nothing is said before the end.
+    /// Starts the thread that speaks, of a server with this many slots: with the journal's levels before what it says, or without.
+    /// Where it can't be made, nothing is said before the end.
     pub fn start<R: Threads + Wait + Clock + Eprint + Copy + Send + 'static>(
         rt: &R,
         alloc: Global,
         slots: u32,
+        levels: Levels,
     ) -> Result<Arc<Speaker, Global>, AllocError> {
         let speaker = Arc::new(
             alloc,
             Speaker {
                 remarks: Mutex::new(Notices::new()),
                 changed: Condvar::new(),
+                levels,
             },
         )?;
         let same = Arc::try_clone(&speaker)?;
@@ -62,7 +67,9 @@ impl Speaker {
 
     /// A packet of this type came from this peer, which isn't a request's.
     pub fn remark_type(&self, rt: &impl Wait, kind: u32, peer: Option<SocketAddr>) {
-        if self.remarks.lock(rt).note(kind, peer) {
+        let mut remarks = self.remarks.lock(rt);
+        remarks.not_served = remarks.not_served.saturating_add(1);
+        if remarks.note(kind, peer) {
             self.changed.notify_all();
         }
     }
@@ -87,6 +94,7 @@ impl Speaker {
             slots,
             refused: remarks.refused,
             cut: remarks.cut,
+            not_served: remarks.not_served,
         }
     }
 
@@ -105,7 +113,7 @@ impl Speaker {
                 .changed
                 .wait_timeout_while(rt, remarks, time, |remarks| !remarks.is_end_said);
         } else {
-            say_end(rt, &outcome, &remarks);
+            say_end(rt, self.levels, &outcome, &remarks);
         }
     }
 
@@ -135,9 +143,9 @@ impl Speaker {
     fn run(&self, rt: &(impl Wait + Clock + Eprint), slots: u32) {
         for _ in rt.forever() {
             let remarks = self.next(rt);
-            say_due(rt, &remarks, slots);
+            say_due(rt, self.levels.warning(), &remarks, slots);
             if let Some(outcome) = &remarks.outcome {
-                say_end(rt, outcome, &remarks);
+                say_end(rt, self.levels, outcome, &remarks);
                 self.remarks.lock(rt).is_end_said = true;
                 self.changed.notify_all();
                 break;
@@ -148,15 +156,15 @@ impl Speaker {
 }
 
 /// Says what is due. Where standard error fails, there is nobody to tell.
-fn say_due(rt: &impl Eprint, remarks: &Notices, slots: u32) {
+fn say_due(rt: &impl Eprint, level: &'static str, remarks: &Notices, slots: u32) {
     for (kind, peer) in remarks.due_types() {
-        say_type(rt, *kind, peer);
+        say_type(rt, level, *kind, peer);
     }
-    say_troubles(rt, &remarks.troubles, slots);
+    say_troubles(rt, level, &remarks.troubles, slots);
 }
 
 /// Says that a packet of this type came, which is no request.
-fn say_type(rt: &impl Eprint, kind: u32, peer: &Option<SocketAddr>) {
+fn say_type(rt: &impl Eprint, level: &'static str, kind: u32, peer: &Option<SocketAddr>) {
     let name = match kind {
         35 => " (SUBMIT_JOB_SCHED)",
         36 => " (SUBMIT_JOB_EPOCH)",
@@ -166,40 +174,67 @@ fn say_type(rt: &impl Eprint, kind: u32, peer: &Option<SocketAddr>) {
         41 => " (GET_STATUS_UNIQUE)",
         _ => "",
     };
+    let cure = if kind == 39 {
+        ": a worker that asks so needs the option GEARMAN_WORKER_GRAB_UNIQ"
+    } else {
+        ""
+    };
     let _ = match peer {
         Some(peer) => {
-            eprintln!(rt; "gmd: {peer} sent a packet of type {kind}{name}, which gmd doesn't serve")
+            eprintln!(rt;
+                "{level}gmd: {peer} sent a packet of type {kind}{name}, which gmd doesn't serve{cure}"
+            )
         }
-        None => eprintln!(rt; "gmd: a packet of type {kind}{name} came, which gmd doesn't serve"),
+        None => {
+            eprintln!(rt;
+                "{level}gmd: a packet of type {kind}{name} came, which gmd doesn't serve{cure}"
+            )
+        }
     };
 }
 
 /// Says which troubles are due.
-fn say_troubles(rt: &impl Eprint, troubles: &[Remark; TROUBLES], slots: u32) {
+fn say_troubles(rt: &impl Eprint, level: &'static str, troubles: &[Remark; TROUBLES], slots: u32) {
     for (at, remark) in troubles.iter().enumerate() {
         if let Some((count, error)) = remark.due() {
-            say_trouble(rt, at, count, error, slots);
+            say_trouble(rt, level, at, count, error, slots);
         }
     }
 }
 
 /// Says one, by its place.
-fn say_trouble(rt: &impl Eprint, at: usize, count: u64, error: i32, slots: u32) {
+fn say_trouble(
+    rt: &impl Eprint,
+    level: &'static str,
+    at: usize,
+    count: u64,
+    error: i32,
+    slots: u32,
+) {
     let error = Error::from_raw_os_error(error);
     let _ = match at {
-        0 => eprintln!(rt; "gmd: all {slots} slots are taken, connections are refused: {count}"),
-        1 => eprintln!(rt; "gmd: out of memory, connections are refused: {count}"),
-        2 => eprintln!(rt; "gmd: out of threads, connections are refused: {count}"),
-        3 => eprintln!(rt; "gmd: can't wait for more, connections are refused: {count}: {error}"),
-        4 => eprintln!(rt; "gmd: out of memory, connections are cut: {count}"),
-        5 => eprintln!(rt; "gmd: out of file descriptors, connections wait: {error}"),
-        6 => eprintln!(rt; "gmd: connections wait: {error}"),
-        _ => eprintln!(rt; "gmd: can't tell systemd how it is: {error}"),
+        0 => eprintln!(rt;
+            "{level}gmd: all {slots} slots are taken, connections are refused: {count}"
+        ),
+        1 => eprintln!(rt; "{level}gmd: out of memory, connections are refused: {count}"),
+        2 => eprintln!(rt; "{level}gmd: out of threads, connections are refused: {count}"),
+        3 => eprintln!(rt;
+            "{level}gmd: can't wait for more, connections are refused: {count}: {error}"
+        ),
+        4 => eprintln!(rt; "{level}gmd: out of memory, connections are cut: {count}"),
+        5 => eprintln!(rt; "{level}gmd: out of file descriptors, connections wait: {error}"),
+        6 => eprintln!(rt; "{level}gmd: connections wait: {error}"),
+        _ => eprintln!(rt; "{level}gmd: can't tell systemd how it is: {error}"),
     };
 }
 
 /// Says how the server ended.
-fn say_end(rt: &impl Eprint, outcome: &Result<Summary, ServeError>, remarks: &Notices) {
+fn say_end(
+    rt: &impl Eprint,
+    levels: Levels,
+    outcome: &Result<Summary, ServeError>,
+    remarks: &Notices,
+) {
     let Notices {
         refused,
         cut,
@@ -227,7 +262,8 @@ fn say_end(rt: &impl Eprint, outcome: &Result<Summary, ServeError>, remarks: &No
             }
         }
         Err(error) => {
-            let _ = eprintln!(rt; "gmd: {error}");
+            let level = levels.error();
+            let _ = eprintln!(rt; "{level}gmd: {error}");
         }
     }
 }

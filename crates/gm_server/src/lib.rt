@@ -6,10 +6,6 @@ mod args;
 mod outcome;
 mod run;
 
-pub use gm_delivery::{WriteFault, write_turn};
-pub use gm_promise::laws;
-pub use gm_report::ServeError;
-pub use gm_session::{Gate, OpenGate, SessionEnd, read_session};
-pub use gm_threads::{Served, Settings, serve};
-pub use outcome::{Outcome, RunError, status_of};
+pub use gm_session::Gate;
+pub use gm_threads::{Settings, serve};
 pub use run::run_words;

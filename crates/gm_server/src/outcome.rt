@@ -3,9 +3,10 @@
 ghost use Rattle.std.specs.Prelude.{◌≡◌};
 ghost use Rattle.gm_server.specs.Statuses.{run_status, ended_status};
 
-use gm_report::ServeError;
+use gm_report::{Levels, ServeError};
 use gm_threads::Served;
 use std::alloc::AllocError;
+use std::env::Env;
 use std::io;
 use thiserror::Error;
 
@@ -93,11 +94,12 @@ impl From<AllocError> for RunError {
 }
 
 /// Says on standard error why the program ended, where that wasn't said. Where that fails, there is nobody left to tell.
-pub(crate) fn report<R: Eprint>(rt: &R, ended: &Result<Outcome, RunError>) {
+pub(crate) fn report<R: Eprint + Env>(rt: &R, ended: &Result<Outcome, RunError>) {
     match ended {
         Ok(_) | Err(RunError::Arguments | RunError::Ended(_)) => {}
         Err(error) => {
-            let _ = eprintln!(rt; "gmd: {error}");
+            let level = Levels::of_environment(rt).error();
+            let _ = eprintln!(rt; "{level}gmd: {error}");
         }
     }
 }

@@ -12,7 +12,7 @@ use crate::args::{Args, parse_args};
 use crate::outcome::{Outcome, RunError, report, status_of};
 use clap::error::ErrorKind;
 use gm_notes::{Config, MAX_FUNCTIONS};
-use gm_report::{Announcer, ServeError, Speaker, first_socket, handed_sockets};
+use gm_report::{Announcer, Levels, ServeError, Speaker, first_socket, handed_sockets};
 use gm_session::OpenGate;
 use gm_threads::{Crews, Hub, Poller, Served, Service, Settings, serve_with};
 use std::alloc::{AllocError, Global};
@@ -210,7 +210,7 @@ fn serve_on<
     };
     let listener = open_listener(rt, args)?;
     let alloc = rt.alloc();
-    let speaker = Speaker::start(rt, alloc, args.server.slots)?;
+    let speaker = Speaker::start(rt, alloc, args.server.slots, Levels::of_environment(rt))?;
     let (crews, pollers) = crews_of(rt, alloc, args)?;
     let service = Service {
         listener,

@@ -12,22 +12,20 @@ use Rattle.gm_notes.specs.Steps.{Step}
 use Rattle.gm_shared.specs.declared.receipt.Receipt.{Receipt}
 use Rattle.gm_shared.specs.declared.tape.Entry.{Entry}
 use Rattle.gm_shared.specs.Calls.{HandedIn, if_taken, events_of}
-use Rattle.gm_shared.proofs.Sharing.{and_more, itself, events_of_more}
+use Rattle.gm_shared.proofs.Sharing.{and_more, events_of_more}
 use Rattle.gm_session.specs.declared.session.SessionEnd.{SessionEnd}
 use Rattle.gm_session.specs.declared.session.Turn.{Turn}
 use Rattle.gm_session.specs.Sessions.{HandsIn, Steps, broke, unread}
 use Rattle.gm_feeder.specs.Streams.{Stream}
 use Rattle.gm_session.specs.Owners.{is_said_by, are_said_by, SaysOwn}
+use Rattle.gm_notes.proofs.Numbers.{same_number}
+use Rattle.std.proofs.lemmas.Bool.{and_from}
 
 -- ---- tests
 
 pub and_first : (a b : Bool) → (a && b) ≡ true → a ≡ true
 and_first true b h = refl
 and_first false b h = absurd cc
-
-and_both : (a b : Bool) → a ≡ true → b ≡ true → (a && b) ≡ true
-and_both true b h k = k
-and_both false b h k = absurd cc
 
 pub and_second : (a b : Bool) → (a && b) ≡ true → b ≡ true
 and_second true b h = h
@@ -44,7 +42,7 @@ said_reverse n [] h = refl
 said_reverse n (s ∷ xs) h =
     ap (are_said_by n) (reverse-append (s ∷ []) xs)
     ∙ (said_append n (reverse xs) (s ∷ [])
-    ∙ and_both (are_said_by n (reverse xs)) (is_said_by n s && true) (said_reverse n xs (and_second (is_said_by n s) (are_said_by n xs) h)) (ap (λ b. b && true) (and_first (is_said_by n s) (are_said_by n xs) h)))
+    ∙ and_from (are_said_by n (reverse xs)) (is_said_by n s && true) (said_reverse n xs (and_second (is_said_by n s) (are_said_by n xs) h)) (ap (λ b. b && true) (and_first (is_said_by n s) (are_said_by n xs) h)))
 
 -- a desk that handed in these events more
 more_own : (n : ℕ) (events : List Step) (seen after : List Entry) → HandedIn n events seen after → are_said_by n events ≡ true → SaysOwn n seen → SaysOwn n after
@@ -52,7 +50,7 @@ more_own n events seen after h own before =
     ap (λ l. are_said_by n (events_of n l)) h.goes_on
     ∙ (ap (are_said_by n) (events_of_more n h.newer seen)
     ∙ (said_append n (events_of n h.newer) (events_of n seen)
-    ∙ and_both (are_said_by n (events_of n h.newer)) (are_said_by n (events_of n seen)) (ap (are_said_by n) h.events_are ∙ own) before))
+    ∙ and_from (are_said_by n (events_of n h.newer)) (are_said_by n (events_of n seen)) (ap (are_said_by n) h.events_are ∙ own) before))
 
 taken_said : (n : ℕ) (s : Step) (result : Result Receipt ApplyError) → is_said_by n s ≡ true → are_said_by n (if_taken s result) ≡ true
 taken_said n s (Ok receipt) own = ap (λ b. b && true) own
@@ -65,9 +63,9 @@ own_event n m s result seen after same own hands before =
 
 units_said : (c : ℕ) (items : List Item) (fault : Option UnitFault) → are_said_by c (steps_of_units c items fault) ≡ true
 units_said c [] None = refl
-units_said c [] (Some fault) = ap (λ b. b && true) (itself c)
-units_said c (APacket kind bytes ∷ items) fault = ap (λ b. b && are_said_by c (steps_of_units c items fault)) (itself c) ∙ units_said c items fault
-units_said c (ALine bytes ∷ items) fault = ap (λ b. b && are_said_by c (steps_of_units c items fault)) (itself c) ∙ units_said c items fault
+units_said c [] (Some fault) = ap (λ b. b && true) (same_number c)
+units_said c (APacket kind bytes ∷ items) fault = ap (λ b. b && are_said_by c (steps_of_units c items fault)) (same_number c) ∙ units_said c items fault
+units_said c (ALine bytes ∷ items) fault = ap (λ b. b && are_said_by c (steps_of_units c items fault)) (same_number c) ∙ units_said c items fault
 
 own_hands : (n m c : ℕ) (limits : Limits) (bytes rest : List ℕ) (fault : Option UnitFault) (seen after : List Entry) → c ≡ n → m ≡ n
     → HandsIn n c limits bytes rest fault seen after → SaysOwn n seen → SaysOwn m after

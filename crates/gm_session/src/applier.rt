@@ -18,6 +18,7 @@ use gm_bytes::{Data, LONG, SharedBytes};
 use gm_feeder::{OwnedPacket, Source};
 use gm_front::{Next, next_event};
 use gm_notes::{ApplyError, Event, UnitFault};
+use gm_packet::Kind;
 use gm_shared::{BookName, Desk, Shared};
 use std::alloc::{AllocError, Global};
 use std::io::Read;
@@ -50,9 +51,20 @@ fn share(alloc: Global, packet: OwnedPacket) -> Result<SharedBytes, AllocError>
 #[derive(Clone, Copy)]
 pub(crate) enum Taken {
     /// A unit, which was applied.
-    Unit { is_line: bool },
+    Unit { may_be_long: bool },
     /// No unit: more bytes are needed.
     Nothing,
+}
+
+/// Whether a unit may be the work of many: a text line lists all functions or workers, a grab looks at all functions of its worker.
+fn may_be_long(event: &Event<'_>) -> bool {
+    match *event {
+        Event::Line { .. } => true,
+        Event::Packet { kind, .. } => {
+            matches!(Kind::of(kind), Some(Kind::GrabJob | Kind::GrabJobUniq))
+        }
+        _ => false,
+    }
 }
 
 /// What cuts a connection's bytes into units, and applies each at its desk: past the gate. What comes of them is added to effects.
@@ -147,15 +159,15 @@ impl<'s, K: BookName, R: Wait + Clock, G: Gate> Applier<'s, K, R, G> {
             batch.admit(around.host, around.rt);
             session.index = index.saturating_add(1);
             self.take_long(desk, index, packet, effects)?;
-            return Ok(Taken::Unit { is_line: false });
+            return Ok(Taken::Unit { may_be_long: false });
         }
         match next_event(&mut session.feeder, slot) {
             Next::Unit(event) => {
-                let is_line = matches!(event, Event::Line { .. });
+                let may_be_long = may_be_long(&event);
                 batch.admit(around.host, around.rt);
                 session.index = index.saturating_add(1);
                 self.apply_unit(desk, index, event, effects)?;
-                Ok(Taken::Unit { is_line })
+                Ok(Taken::Unit { may_be_long })
             }
             Next::Wait => Ok(Taken::Nothing),
             Next::Fault(fault) => {
@@ -227,11 +239,12 @@ impl<'s, K: BookName, R: Wait + Clock, G: Gate> Applier<'s, K, R, G> {
         let length = session.feeder.pending().len();
         let mut batch = Batch::new(session.free_units(length), length);
         loop {
-            let Taken::Unit { is_line } = self.take_unit(session, desk, &mut batch, effects)? else {
+            let Taken::Unit { may_be_long } = self.take_unit(session, desk, &mut batch, effects)?
+            else {
                 session.is_pipelining = batch.units > FIRST_UNITS;
                 return Ok(Turn::Emptied);
             };
-            if batch.has_ended(self.around.rt, is_line) {
+            if batch.has_ended(self.around.rt, may_be_long) {
                 session.is_pipelining = batch.units > FIRST_UNITS;
                 return Ok(Turn::Cut);
             }

@@ -82,29 +82,27 @@ impl<K: BookName> OwnDesk<K> {
         hand_in(rt, shared, &mut self.desk, &ReadEvent::new(event), effects)
     }
 
-    /// Opens a slot for a connection from this address; none where that is refused. What came of it is added to the effects.
+    /// Opens a slot for a connection from this address, which only a refusal leaves without one. What came of it is added to the
+    /// effects.
     pub fn open(
         &mut self,
         rt: &impl Wait,
         shared: &Shared<K>,
         addr: &[u8],
         effects: &mut Effects<K>,
-    ) -> Option<Opened>
+    ) -> Result<Option<Opened>, ApplyError>
         ensures opens { Opens K.settings K.taped self.old.desk.number addr.now result self.old.desk.witness.seen self.new.desk.witness.seen }
         ensures gathers { Gathers K.settings K.taped self.old.desk.number self.old.desk.witness.seen effects.old self.new.desk.witness.seen effects.new }
         ensures number { self.new.desk.number ≡ self.old.desk.number }
     {
         // Modelled in models/shutdown.pml and ticks.pml.
-        let receipt = match self.apply(rt, shared, Event::Open { addr }, effects) {
-            Ok(receipt) => receipt,
-            Err(_) => return None,
-        };
+        let receipt = self.apply(rt, shared, Event::Open { addr }, effects)?;
         match receipt.done.opened {
-            Some(slot) => Some(Opened {
+            Some(slot) => Ok(Some(Opened {
                 slot,
                 opening: receipt.opening,
-            }),
-            None => None,
+            })),
+            None => Ok(None),
         }
     }
 

@@ -89,7 +89,13 @@ impl Booked {
         Ok((booked, table, pens))
     }
 
-    /// `apply`, which adds to the desk's share what it entered on the tape.
+    /// Lets an event take effect, in one holding. It asks the word of the event's slot what became of the NOOP that the
+    /// slot is owed. One that was taken is entered first; so is one that is still owed and that the event withdraws, as taken
+    /// or as withdrawn. What is refused changes nothing but that; a refusal is one of `JobServer::apply`. What is entered on the
+    /// tape is added to the desk's share.
+    ///
+    /// With a tape room for what it enters is found first, and copies of the bytes: where that fails `Memory` comes
+    /// and nothing changes, also where the event would be refused.
     ///
     /// Each slot whose waiting bytes, phase or shut changed is put into `touched`, and perhaps more: it is for them that a writer
     /// may have something to do. A refused event adds none.
@@ -137,7 +143,9 @@ impl Booked {
         })
     }
 
-    /// `drain`, which adds to the pen's share what it entered on the tape.
+    /// Takes the bytes that wait for a slot, which wait no more. `NotOpen` comes where the slot isn't open; it
+    /// changes nothing. Without a tape it needs no memory; with one `Memory` comes where there is none for the entry
+    /// and its bytes, and changes nothing. The pen is the one that asks; what is entered on the tape is added to its share.
     pub(crate) fn drain_into(
         &mut self,
         pen: u32,

@@ -1,7 +1,7 @@
 //! The book of a job server that threads share: its core and the book's seat at the sleep words, as one value under a
 //! lock.
 //!
-//! What is done in one holding of the lock is one call: `Booked::apply` looks at the word of the event's slot, takes
+//! What is done in one holding of the lock is one call: `Booked::hold` looks at the word of the event's slot, takes
 //! back the NOOP that is owed there where the event wants that, lets the event take effect, and sees to it that the
 //! words follow. Nothing here looks at all slots.
 //!

@@ -1,74 +1,21 @@
-//! Calls for programs without threads, and for tests: each is a call that `gmd` makes, without what it hands along.
+//! A call for tests: one that `gmd` makes, without what it hands along.
 
-ghost use Rattle.std.specs.Prelude.{◌≡◌, ℕ, List};
+ghost use Rattle.std.specs.Prelude.{◌≡◌};
 ghost use Rattle.std.specs.Result.{IsErrOf};
-ghost use Rattle.gm_notes.specs.Settings.{Settings};
-ghost use Rattle.gm_notes.specs.Steps.{Step};
 ghost use Rattle.gm_notes.specs.Servers.{step_of, IsSized};
-ghost use Rattle.gm_shared.specs.Books.{BookedAgrees, Held, NeedsNoMemory, Drains};
+ghost use Rattle.gm_shared.specs.Books.{NeedsNoMemory};
 ghost use Rattle.gm_shared.specs.Calls.{Called, HandedIn, if_taken};
-ghost use Rattle.gm_shared.specs.declared.events.Noop.{Noop};
-ghost use Rattle.gm_shared.specs.declared.tape.Told.{Told};
 
-use crate::book::{Booked, DeskCall};
-use crate::events::Noop;
 use crate::name::BookName;
-use crate::receipt::{Drained, Receipt};
+use crate::receipt::Receipt;
 use crate::shared::{Desk, Shared};
 use gm_actions::ReadEvent;
 use gm_conns::SlotSet;
 use gm_notes::{ApplyError, Event};
-use gm_word::SleepTable;
 use std::sync::Wait;
 
-impl Booked {
-    /// Lets an event take effect, in one holding. It asks the word of the event's slot what became of the NOOP that the
-    /// slot is owed. One that was taken is entered first; so is one that is still owed and that the event withdraws, as taken
-    /// or as withdrawn. What is refused changes nothing but that; a refusal is one of `JobServer::apply`.
-    ///
-    /// With a tape room for what it enters is found first, and copies of the bytes: where that fails `Memory` comes
-    /// and nothing changes, also where the event would be refused. The desk is the one that hands the event in. The
-    /// table is the book's.
-    pub fn apply(
-        &mut self,
-        table: &SleepTable,
-        desk: u32,
-        event: &Event<'_>,
-    ) -> Result<Receipt, ApplyError>
-        requires size { IsSized event.now }
-        requires table { self.old.seat.table ≡ table.now }
-        ensures holding { (k : Settings) (steps : List Step) → BookedAgrees self.old k steps
-            → (told : List Told) × (touched : List ℕ) × (noop : Noop) × Held k steps (step_of event.now) desk noop result touched self.old self.new told }
-        ensures memory { NeedsNoMemory self.old.tape.on (step_of event.now) → IsErrOf result ApplyError.Memory → ⊥ }
-        ensures table { self.new.seat.table ≡ self.old.seat.table }
-    {
-        let read = ReadEvent::new(*event);
-        let call = DeskCall {
-            table,
-            desk,
-            read: &read,
-        };
-        let mut share = Vec::new(self.alloc);
-        let mut touched = SlotSet::new();
-        let mut noop = Noop::Left;
-        self.hold(call, &mut share, &mut touched, &mut None, &mut noop)
-    }
-
-    /// Takes the bytes that wait for a slot, which wait no more. `NotOpen` comes where the slot isn't open; it
-    /// changes nothing. Without a tape it needs no memory; with one `Memory` comes where there is none for the entry
-    /// and its bytes, and changes nothing. The pen is the one that asks.
-    pub fn drain(&mut self, pen: u32, slot: u32) -> Result<Drained, ApplyError>
-        ensures drains { (k : Settings) (steps : List Step) → BookedAgrees self.old k steps
-            → (told : List Told) × Drains k steps pen slot result self.old self.new told }
-        ensures seat { self.new.seat ≡ self.old.seat }
-    {
-        let mut share = Vec::new(self.alloc);
-        self.drain_into(pen, slot, &mut share)
-    }
-}
-
 impl<K: BookName> Desk<K> {
-    /// Hands in an event, which takes effect in one critical section, as `Booked::apply` says: it is the next entry of the
+    /// Hands in an event, which takes effect in one critical section, as `Booked::hold` says: it is the next entry of the
     /// history, behind all that the desk has seen of it. It may wait for the lock. Without a tape a closing never lacks
     /// memory. With one the event and its place are in the desk's share, after what was found of a NOOP. It is for callers
     /// that notify nobody of what the event touched.

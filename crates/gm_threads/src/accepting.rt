@@ -9,8 +9,9 @@ use crate::serving::discard;
 use crate::state::ServerState;
 use gm_delivery::{ReadHalf, ServerStage, WriteHalf, split};
 use gm_feeder::Patience;
+use gm_notes::ApplyError;
 use gm_poll::Poller;
-use gm_report::{ACCEPT_TIMEOUT_MS, AGAIN_MS, Announcer, ServeError, Trouble};
+use gm_report::{ACCEPT_TIMEOUT_MS, AGAIN_MS, Announcer, ServeError, Trouble, VISITING_TIME_MS};
 use gm_session::{Gate, LoggedSource, Opened};
 use gm_shared::BookName;
 use gm_slots::Slot;
@@ -187,6 +188,32 @@ impl<'s, K: BookName + Send + Sync> Control<'s, K> {
         Ok(())
     }
 
+    /// Opens a slot for a connection from this address, at the control desk.
+    fn open_slot<R: Wait + Clock>(
+        &self,
+        rt: &R,
+        addr: &[u8],
+    ) -> Result<Option<Opened>, ApplyError> {
+        // Modelled in models/shutdown.pml.
+        let mut desk = self.state.host.desk().lock(rt);
+        self.state.open(rt, &mut desk, addr)
+    }
+
+    /// Opens a slot for a connection. With I/O threads slots may be taken by connections that are gone, and that no thread has
+    /// visited yet: where there is no slot, the threads have a moment for that, and it is tried once more.
+    fn find_slot<R: Wait + Clock>(
+        &self,
+        rt: &R,
+        addr: &[u8],
+    ) -> Result<Option<Opened>, ApplyError> {
+        let opened = self.open_slot(rt, addr);
+        if matches!(opened, Err(ApplyError::NoSlot)) && self.state.service.crews.are_few() {
+            thread::sleep(rt, Duration::from_millis(VISITING_TIME_MS));
+            return self.open_slot(rt, addr);
+        }
+        opened
+    }
+
     /// Opens a connection, and has it served. One that is refused is closed without a byte.
     fn open<E, R: Threads + Wait + Clock + Sync, G: Gate>(
         &mut self,
@@ -201,12 +228,13 @@ impl<'s, K: BookName + Send + Sync> Control<'s, K> {
         let ip = peer.ip();
         let addr = format!(in state.alloc; "{ip}")?;
         let halves = Halves::new(state.alloc, stream)?;
-        let mut desk = state.host.desk().lock(rt);
-        let opened = state.open(rt, &mut desk, addr.as_bytes());
-        drop(desk);
-        let opened = opened.and_then(|opened| Some((state.slot(opened.slot())?, opened)));
-        let Some((slot, opened)) = opened else {
-            return Err(Rejection::new(state.progress.want_of_slot(state.slot_count)));
+        let opened = match self.find_slot(rt, addr.as_bytes()) {
+            Ok(Some(opened)) => opened,
+            Err(ApplyError::Memory) => return Err(Rejection::new(Trouble::Memory)),
+            _ => return Err(Rejection::new(Trouble::Slots)),
+        };
+        let Some(slot) = state.slot(opened.slot()) else {
+            return Err(Rejection::new(Trouble::Slots));
         };
         let halves = halves.of_opening(opened);
         state.progress.connections.fetch_add(1, Ordering::SeqCst);

@@ -61,6 +61,11 @@ impl Crews {
         Ok(Crews::Pairs(pairs))
     }
 
+    /// Whether they are a few for all slots.
+    pub(crate) fn are_few(&self) -> bool {
+        matches!(self, Crews::Few(_))
+    }
+
     /// Has the slot's finisher look at its lane.
     pub(crate) fn wake(&self, slot: u32) {
         // Modelled in models/lane.h.

@@ -1,7 +1,6 @@
 //! How far a server is.
 
 use gm_delivery::{ServerStage, Stage};
-use gm_report::Trouble;
 use std::sync::atomic::{AtomicU64, Ordering};
 
 /// How far a server is, and how many connections it has.
@@ -30,15 +29,6 @@ impl Progress {
     /// Whether the server takes connections.
     pub(crate) fn is_running(&self) -> bool {
         !self.stage.has_reached(ServerStage::Graceful as u8)
-    }
-
-    /// Why a connection was refused for which there was no slot, where there are this many.
-    pub(crate) fn want_of_slot(&self, slots: u32) -> Trouble {
-        if self.connections() < slots as u64 {
-            Trouble::Memory
-        } else {
-            Trouble::Slots
-        }
     }
 
     /// Whether there are no connections any more, and none comes.

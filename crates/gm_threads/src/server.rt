@@ -10,7 +10,7 @@ use crate::settings::Settings;
 use crate::state::ServerState;
 use gm_feeder::Limits;
 use gm_poll::Poller;
-use gm_report::{Announcer, ServeError, Speaker};
+use gm_report::{Announcer, Levels, ServeError, Speaker};
 use gm_session::Gate;
 use gm_shared::{Blank, BookName, TapeMode};
 use gm_slots::Served;
@@ -117,7 +117,7 @@ pub fn serve<R: Threads + Wait + Clock + Eprint + Copy + Send + Sync + 'static, 
         limits: settings.limits,
         peer_timeout: 0,
         crews: Crews::pairs(alloc, slots)?,
-        speaker: Speaker::start(rt, alloc, slots)?,
+        speaker: Speaker::start(rt, alloc, slots, Levels::Unsaid)?,
         seed,
     };
     let mut nowhere = io::sink();

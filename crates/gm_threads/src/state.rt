@@ -10,7 +10,7 @@ use crate::progress::Progress;
 use crate::server::Service;
 use gm_delivery::{DeliveryContext, Finish, Leftover, ServerStage};
 use gm_lane_word::Due;
-use gm_notes::Mode;
+use gm_notes::{ApplyError, Mode};
 use gm_report::{DELIVERING_TIME_MS, has_passed};
 use gm_session::{Effects, Host, Opened, OwnDesk};
 use gm_shared::{Blank, BookName, Shared};
@@ -175,13 +175,13 @@ impl<'s, K: BookName> ServerState<'s, K> {
         }
     }
 
-    /// Opens a slot for a connection from this address; none where that is refused.
+    /// Opens a slot for a connection from this address, which only a refusal leaves without one.
     pub(crate) fn open<R: Wait + Clock>(
         &self,
         rt: &R,
         desk: &mut OwnDesk<K>,
         addr: &[u8],
-    ) -> Option<Opened>
+    ) -> Result<Option<Opened>, ApplyError>
         ensures opens { Opens K.settings K.taped desk.old.desk.number addr.now result desk.old.desk.witness.seen desk.new.desk.witness.seen }
         ensures number { desk.new.desk.number ≡ desk.old.desk.number }
     {

@@ -19,6 +19,8 @@ MAX_HEAD = 8192
 HEAD_TIMEOUT, WRITE_TIMEOUT = 5, 20
 STATUSES = {200: "OK", 400: "Bad Request", 403: "Forbidden", 404: "Not Found", 405: "Method Not Allowed",
             431: "Request Header Fields Too Large", 500: "Internal Server Error", 503: "Service Unavailable"}
+PLAIN = "text/plain; charset=utf-8"
+TYPES = {"/": "text/html; charset=utf-8", "/metrics": "text/plain; version=0.0.4; charset=utf-8", "/json": "application/json"}
 
 
 class HttpError(Exception):
@@ -76,7 +78,7 @@ def message(status, body, *headers, has_body=True):
 
 def refusal(status, reason):
     allowed = ["Allow: GET, HEAD"] if status == 405 else []
-    return message(status, f"{reason}\n".encode(), "Content-Type: text/plain; charset=utf-8", *allowed)
+    return message(status, f"{reason}\n".encode(), f"Content-Type: {PLAIN}", *allowed)
 
 
 class Handler(socketserver.BaseRequestHandler):
@@ -98,16 +100,18 @@ class Handler(socketserver.BaseRequestHandler):
         if self.server.checks_host and "host" in headers and not is_address(headers["host"]):
             raise HttpError(403, "Ask for localhost or for an address.")
         page = self.server.page
+        if path == "/healthz":
+            if failure := page.failure():
+                raise HttpError(503, failure)
+            return message(200, b"ok\n", f"Content-Type: {PLAIN}", has_body=method == "GET")
         try:
             body = page.body(path, query)
         except ValueError as error:
             raise HttpError(400, "This is no request.") from error
         if body is None:
-            raise HttpError(404, "There are / and /metrics.")
-        if path == "/":
-            extra = ["Content-Type: text/html; charset=utf-8", f"Content-Security-Policy: {page.policy}", "Vary: Accept-Encoding"]
-        else:
-            extra = ["Content-Type: text/plain; version=0.0.4; charset=utf-8", "Vary: Accept-Encoding"]
+            raise HttpError(404, "There are /, /metrics, /json and /healthz.")
+        extra = [f"Content-Type: {TYPES[path]}", "Vary: Accept-Encoding"]
+        extra += [f"Content-Security-Policy: {page.policy}"] if path == "/" else []
         if "gzip" in re.split(r"[\s,]+", headers.get("accept-encoding", "")):
             body = gzip.compress(body, 1)
             extra.append("Content-Encoding: gzip")

@@ -5,6 +5,7 @@ import collections
 import hashlib
 import heapq
 import html
+import json
 import os
 import re
 import threading
@@ -12,40 +13,56 @@ import time
 import urllib.parse
 
 from gmd_metrics import printable, prometheus
-from watch import PAUSE, STEP, STEPS
+from watch import NONE, PAUSE, STEP, STEPS, Ended
 
 # The functions and the lines of connections that the page shows at most, and the functions in such a line.
 MAX_SHOWN, MAX_LISTED = 200, 12
 # The pages with different filters and orders that are cached for a second at most.
 MAX_CACHED = 16
-NO_WORKERS, MORE_RUN, ONLY_GROWN, FULL, FINE = range(5)
+# With more functions than this, those that are idle are hidden until they are asked for.
+MAX_UNFOLDED = 20
+# The age of a queue is shown from this many seconds on.
+SHOWN_AGE = 60
+NO_WORKERS, TAKE_NONE, MORE_RUN, ONLY_GROWN, FULL, FINE = range(6)
 STATES = {NO_WORKERS: ("bad", "no workers", "Jobs wait, and no worker can do them."),
+          TAKE_NONE: ("bad", "workers take none", "Jobs wait, and in half a minute none was seen to run or to end. Workers of PHP and C need "
+                      "GEARMAN_WORKER_GRAB_UNIQ; the journal of gmd says which packets it doesn't serve."),
           MORE_RUN: ("warn", "more run than workers", "A worker has several jobs, or one that it has left without an end."),
           ONLY_GROWN: ("note", "only grown", "The queue has grown and not fallen in the last five minutes, or since it was first seen."),
           FULL: ("note", "at its limit", "New jobs are refused with queue_full."),
           FINE: ("", "", "")}
 COLUMNS = {"function": "Function", "server": "Server", "waiting": "Waiting", "running": "Running", "workers": "Workers",
-           "limit": "Limit", "ended": "Done/min"}
+           "limit": "Limit", "ended": "Ended/min"}
 CONNECTION_COLUMNS = {"address": "Address", "server": "Server", "id": "Id", "abilities": "Functions"}
 # A click on these sorts from the first on, and on the others, which are numbers, from the largest on.
 TEXTS = ("function", *CONNECTION_COLUMNS)
-Line = collections.namedtuple("Line", "state watch function waiting running workers limit ended history")
-Query = collections.namedtuple("Query", "text order is_reversed")
+# A function at one server, or at all that have it. Its parts are each server's watch, history and counts.
+Line = collections.namedtuple("Line", "state function waiting running workers limit parts ended", defaults=[None])
+# What the address asks for: a filter, a column to sort by, which a minus reverses, one server, and whether servers are summed up, and idle
+# functions shown.
+Query = collections.namedtuple("Query", "text order is_reversed server is_summed shows_idle")
 
 
 def query_of(text):
-    """What the address asks for: a filter, and a column to sort by, which a minus reverses."""
+    """What the address asks for."""
     given = dict(urllib.parse.parse_qsl(text, keep_blank_values=True, max_num_fields=10))
     order = given.get("sort", "")
     column = order.removeprefix("-")
     is_known = column in COLUMNS or column in CONNECTION_COLUMNS
-    return Query(given.get("filter", "")[:512], column if is_known else "", order.startswith("-"))
+    return Query(given.get("filter", "")[:512], column if is_known else "", order.startswith("-"), given.get("server", "")[:300],
+                 given.get("sum") == "1", given.get("idle") == "1")
 
 
-def link_of(query, order):
-    """The address of the page with this filter in this order."""
-    given = {name: value for name, value in (("filter", query.text), ("sort", order)) if value}
-    return html.escape("/?" + urllib.parse.urlencode(given) if given else "/")
+def parameters_of(query):
+    """The address's parameters that ask for this."""
+    order = f"{'-' * query.is_reversed}{query.order}"
+    given = (("filter", query.text), ("sort", order), ("server", query.server), ("sum", "1" * query.is_summed), ("idle", "1" * query.shows_idle))
+    return {name: value for name, value in given if value}
+
+
+def link_of(query, **changes):
+    """The address of the page for this query with these changes, relative to the page, because a proxy may have it below another path."""
+    return html.escape("?" + urllib.parse.urlencode(parameters_of(query._replace(**changes))))
 
 
 def label_of(target):
@@ -73,35 +90,102 @@ def duration(seconds):
 ### Functions and their states
 
 def state_of(function, history, limit, now):
-    if function.waiting and not function.workers:
+    """What is wrong with a function."""
+    waiting, running = function.waiting or 0, function.running or 0
+    if waiting and function.workers == 0:
         return NO_WORKERS
-    if function.running > function.workers:
+    if waiting and function.workers and history and history.is_taken_by_none(now):
+        return TAKE_NONE
+    if function.workers is not None and running > function.workers:
         return MORE_RUN
     if history and history.has_only_grown(now):
         return ONLY_GROWN
-    return FULL if limit and function.waiting + function.running >= limit else FINE
+    return FULL if limit and waiting + running >= limit else FINE
 
 
 def all_lines(watches, limits, now):
+    """A line for each function of each server."""
     for watch in watches:
+        its_limits = {**watch.limits, **limits}
         for name, function in (watch.answer.functions if watch.answer else {}).items():
-            history, limit = watch.histories.get(name), limits.get(name)
-            yield Line(state_of(function, history, limit, now), watch, name, *function, limit, None, history)
+            history, limit = watch.histories.get(name), its_limits.get(name)
+            yield Line(state_of(function, history, limit, now), name, *function, limit, ((watch, history, function),))
+
+
+def added_up(lines):
+    """A line for each function, of all servers. Its state is that of the server where it is worst."""
+    found = {}
+    for line in lines:
+        found.setdefault(line.function, []).append(line)
+    for name, those in found.items():
+        sums = [None if None in column else sum(column) for column in zip(*(line[2:5] for line in those))]
+        limits = [line.limit for line in those if line.limit]
+        yield Line(min(line.state for line in those), name, *sums, sum(limits) if limits else None,
+                   tuple(part for line in those for part in line.parts))
 
 
 def importance(line):
-    return (line.state, -line.waiting, -line.running, -line.workers, line.function)
+    """What the lines are sorted by: the worst first, and then those with most jobs."""
+    return (line.state, -(line.waiting or 0), -(line.running or 0), -(line.workers or 0), line.function)
+
+
+def is_idle(line):
+    """Whether no job of the function was seen for fifteen minutes."""
+    return line.state == FINE and not line.waiting and not line.running and not any(history for _, history, _ in line.parts)
+
+
+def ended_of(line, now):
+    """How many of the line's jobs ended in the last minute, as far as is known."""
+    found = [watch.ended_of(history, function, now) for watch, history, function in line.parts]
+    for ended in found:
+        if ended.count is None:
+            return ended
+    return Ended(sum(ended.count for ended in found), all(ended.is_exact for ended in found), "")
+
+
+def label_of_line(line):
+    """The server of a line, or of how many servers it is."""
+    return label_of(line.parts[0][0].target) if len(line.parts) == 1 else plural(len(line.parts), "server")
 
 
 def chosen_lines(lines, query, now):
     """The lines that are shown, in the order that is asked for. How many jobs ended is summed up for these only."""
-    chosen = [line._replace(ended=line.history.ended_in_minute(int(now // STEP)) if line.history else 0)
-              for line in heapq.nsmallest(MAX_SHOWN, lines, key=importance)]
+    chosen = [line._replace(ended=ended_of(line, now)) for line in lines[:MAX_SHOWN]]
     if query.order not in COLUMNS:
         return chosen
-    by = {"server": lambda line: label_of(line.watch.target), "function": lambda line: line.function.casefold()}.get(
+    by = {"server": label_of_line, "function": lambda line: line.function.casefold(), "ended": lambda line: line.ended.count or 0}.get(
         query.order, lambda line: getattr(line, query.order) or 0)
     return sorted(chosen, key=by, reverse=query.is_reversed != (query.order not in TEXTS))
+
+
+class Scene:
+    """All functions as they are at one moment, the most important first. Each filter and order of this moment takes its lines from here, so
+    that many filters of many functions don't each sort them."""
+
+    def __init__(self, watches, limits):
+        self.watches, self.limits, self.now = watches, limits, time.monotonic()
+        self.sorted = {}
+        self.problems = problems_of(self.lines(False), watches)
+        self.is_bad = any(watch.answer and watch.answer.failure for watch in watches) or any(
+            STATES[line.state][0] == "bad" for _, line in self.lines(False)[:1])
+
+    def lines(self, is_summed):
+        """The lines, each with what a filter compares."""
+        if is_summed not in self.sorted:
+            lines = all_lines(self.watches, self.limits, self.now)
+            self.sorted[is_summed] = [(line.function.casefold(), line) for line in sorted(added_up(lines) if is_summed else lines, key=importance)]
+        return self.sorted[is_summed]
+
+    def found(self, query):
+        """The lines that match the query's filter and server, and how many idle ones of these are hidden."""
+        wanted = query.text.casefold()
+        lines = [line for name, line in self.lines(query.is_summed and not query.server) if wanted in name]
+        if query.server:
+            lines = [line for line in lines if query.server in (label_of(watch.target) for watch, _, _ in line.parts)]
+        if query.text or query.shows_idle or len(lines) <= MAX_UNFOLDED:
+            return lines, 0
+        busy = [line for line in lines if not is_idle(line)]
+        return busy, len(lines) - len(busy)
 
 
 ### Charts
@@ -130,22 +214,29 @@ def chart_of(values, name, what):
             f'<title>{title}</title><path d="{path_of(values, top)}"/></svg>')
 
 
-def charts_of(watch, history, now):
-    """The charts of what waited, and of what ended in a minute, with gaps where the server didn't answer."""
+def series_of(parts, now, value):
+    """A value for each step of fifteen minutes, added up over servers, or None where none of them answered."""
     step = int(now // STEP)
-    steps = range(step - STEPS + 1, step + 1)
-    # It may not have been asked yet in the step that has just begun.
-    known = [watch.has_answered(index) or index == step and watch.has_answered(step - 1) for index in steps]
-    waiting, ended = [], []
-    for index, is_known in zip(steps, known):
-        last = min(index, history.step) if history else index
-        waiting.append((history.waiting_at(last) if history else 0) if is_known else None)
-        ended.append((history.ended_in_minute(last) if history else 0) if is_known else None)
-    return chart_of(waiting, "waiting", "Waiting jobs"), chart_of(ended, "ended", "Jobs done a minute")
+    found = []
+    for index in range(step - STEPS + 1, step + 1):
+        # It may not have been asked yet in the step that has just begun.
+        known = [value(history, min(index, history.step)) if history else 0 for watch, history, _ in parts
+                 if watch.has_answered(index) or index == step and watch.has_answered(step - 1)]
+        found.append(sum(known) if known else None)
+    return found
 
 
-def ended_text(ended, is_exact):
-    return f'<span>{"" if is_exact else """<small title="at least">≥</small>"""}{number(ended)}</span>'
+def waiting_chart(parts, now):
+    """The chart of what waited, with gaps where the server didn't answer."""
+    return chart_of(series_of(parts, now, lambda history, index: history.waiting_at(index)), "waiting", "Waiting jobs")
+
+
+def ended_cell(ended, parts, now):
+    """How many jobs ended in a minute, with its chart, or a dash that says why nobody knows."""
+    if ended.count is None:
+        return f'<span class="unknown" title="{html.escape(ended.why)}">–</span>'
+    chart = chart_of(series_of(parts, now, lambda history, index: history.ended_in_minute(index)), "ended", "Jobs that ended in a minute")
+    return f'<span>{"" if ended.is_exact else """<small title="at least">≥</small>"""}{number(ended.count)}</span>{chart}'
 
 
 ### Servers
@@ -170,7 +261,8 @@ def counts_of(watch):
     values, found = watch.values, []
     why = "" if watch.target.unit else "Only systemd knows this. Name the service: HOST:PORT=UNIT"
     why = html.escape(watch.unit_failure or why)
-    for name, key in (("Refused", "gearman_connections_refused_total"), ("Cut", "gearman_connections_cut_total")):
+    for name, key in (("Refused", "gearman_connections_refused_total"), ("Cut", "gearman_connections_cut_total"),
+                      ("Packets not served", "gearman_packets_not_served_total")):
         found.append(pair(name, number(values.get(key)), why))
     if "gearman_memory_bytes" in values:
         found.append(pair("Memory", f"{values['gearman_memory_bytes'] / (1 << 20):,.0f} <small>MiB</small>"))
@@ -183,27 +275,40 @@ def since_of(watch, now):
     """For how long it has been up or down, and when it was asked last if that is long ago."""
     if watch.answer is None:
         return "not polled yet"
-    at = time.strftime("%Y-%m-%d %H:%M:%S", time.localtime(watch.since))
-    how = "since" if watch.saw_begin else "since this page began, or longer:"
-    text = f'for {"" if watch.saw_begin else "at least "}<time title="{how} {at}">{duration(time.time() - watch.since)}</time>'
+    since, is_known = watch.up_since()
+    at = time.strftime("%Y-%m-%d %H:%M:%S", time.localtime(since))
+    how = "since" if is_known else "since this page began, or longer:"
     age = now - watch.polled_at
-    return text + (f", polled {duration(age)} ago" if age > 3 * PAUSE else "")
+    return (f'for {"" if is_known else "at least "}<time title="{how} {at}. Polled {duration(age)} ago">{duration(time.time() - since)}</time>'
+            + (f", polled {duration(age)} ago" if age > 3 * PAUSE else ""))
 
 
-def server_card(watch, now):
-    label, values, answer = html.escape(label_of(watch.target)), watch.values, watch.answer
+def server_head(watch, query, watches, now):
+    """The name of a server, which chooses it where there are several, its state, and since when."""
+    label, answer = html.escape(label_of(watch.target)), watch.answer
     state = "unknown" if answer is None else "down" if answer.failure else "up"
-    head = (f'<article class="card {state}" data-key="{label}"><h3><bdi>{label}</bdi></h3>'
+    name = f"<bdi>{label}</bdi>"
+    if len(watches) > 1:
+        is_chosen = query.server == label_of(watch.target)
+        link = link_of(query, server="" if is_chosen else label_of(watch.target))
+        name = (f'<a href="{link}" title="{"Show all servers" if is_chosen else "Show only this server"}"'
+                f'{""" aria-current="true" """ if is_chosen else ""}>{name}</a>')
+    return (f'<article class="card {state}" data-key="{label}"><h3>{name}</h3>'
             f'<p class="state"><b>{state}</b> {since_of(watch, now)}</p>')
+
+
+def server_card(watch, query, watches, now):
+    """All that is shown of a server."""
+    values, answer, head = watch.values, watch.answer, server_head(watch, query, watches, now)
     if answer is None or answer.failure:
         return head + (f'<p class="failure">{html.escape(printable(answer.failure))}</p>' if answer else "") + "</article>"
-    waiting, ended = charts_of(watch, watch.total, now)
-    done = watch.total.ended_in_minute(int(now // STEP))
+    parts = ((watch, watch.total, NONE),)
+    remark = f'<p class="left">{html.escape(answer.remark)}</p>' if answer.remark else ""
     return "".join([
         head, "<dl>", pair("Version", html.escape(values["gearman_info"])), slots_of(values), counts_of(watch), '</dl><dl class="jobs">',
-        pair("Waiting", f"<span>{number(sum(of.waiting for of in answer.functions.values()))}</span>{waiting}"),
-        pair("Running", number(sum(of.running for of in answer.functions.values()))),
-        pair("Done/min", ended_text(done, watch.options.counts_jobs) + ended), "</dl></article>"])
+        pair("Waiting", f"<span>{number(sum(of.waiting or 0 for of in answer.functions.values()))}</span>{waiting_chart(parts, now)}"),
+        pair("Running", number(sum(of.running or 0 for of in answer.functions.values()))),
+        pair("Ended/min", ended_cell(watch.ended_of(watch.total, NONE, now), parts, now)), "</dl>", remark, "</article>"])
 
 
 ### Functions
@@ -213,45 +318,71 @@ def column_head(column, label, query):
     orders = ["ascending", "descending"] if column in TEXTS else ["descending", "ascending"]
     is_sorted = query.order == column
     aria = f' aria-sort="{orders[query.is_reversed]}"' if is_sorted else ""
-    order = f"-{column}" if is_sorted and not query.is_reversed else column
-    return f'<th scope="col" class="{column}"{aria}><a href="{link_of(query, order)}">{label}</a></th>'
+    link = link_of(query, order=column, is_reversed=is_sorted and not query.is_reversed)
+    return f'<th scope="col" class="{column}"{aria}><a href="{link}">{label}</a></th>'
+
+
+def age_of(line, now):
+    """For how long jobs have waited without a break, as far as polls tell: the oldest has waited no longer."""
+    histories = [history for _, history, function in line.parts if history and function.waiting]
+    age = max((now - history.empty_at for history in histories), default=0)
+    if age < SHOWN_AGE:
+        return ""
+    if all(history.saw_empty for history in histories):
+        return f' <small class="age" title="No job here has waited longer">for {duration(age)} at most</small>'
+    return f' <small class="age" title="Since this page first saw the queue">for {duration(age)} or longer</small>'
 
 
 def function_line(line, columns, now):
+    """A line of the table."""
     kind, word, meaning = STATES[line.state]
-    label, name = html.escape(label_of(line.watch.target)), html.escape(line.function)
+    label, name = html.escape(label_of_line(line)), html.escape(line.function)
     badge = f' <span class="badge {kind}" title="{meaning}">{word}</span>' if word else ""
-    waiting, ended = charts_of(line.watch, line.history, now)
-    cells = {"server": f"<bdi>{label}</bdi>", "waiting": f"<span>{number(line.waiting)}</span>{waiting}", "running": number(line.running),
-             "workers": number(line.workers), "limit": number(line.limit), "ended": ended_text(line.ended, False) + ended}
+    cells = {"server": f"<bdi>{label}</bdi>", "waiting": f"<span>{number(line.waiting)}</span>{waiting_chart(line.parts, now)}",
+             "running": number(line.running), "workers": number(line.workers), "limit": number(line.limit),
+             "ended": ended_cell(line.ended, line.parts, now)}
     others = "".join(f'<td class="{column}" data-label="{COLUMNS[column]}">{cells[column]}</td>' for column in columns[1:])
     return (f'<tr class="{kind}" data-key="{label} {name}"><th scope="row" class="function"><bdi class="name" title="{name}">{name}</bdi>'
-            f"{badge}</th>{others}</tr>")
+            f"{badge}{age_of(line, now)}</th>{others}</tr>")
 
 
-def functions_notes(lines, chosen, watches, text):
-    """What the table doesn't show."""
+def functions_notes(lines, chosen, idle, query, watches):
+    """What the table doesn't show, each as HTML."""
     left = sum(watch.answer.functions_left for watch in watches if watch.answer)
     notes = []
     if len(lines) > len(chosen):
         notes.append(f"The {len(chosen)} that matter most are shown, and {len(lines) - len(chosen):,} more aren't.")
+    if idle:
+        notes.append(f'{plural(idle, "function")} without a job in the last fifteen minutes: '
+                     f'<a class="option" href="{link_of(query, shows_idle=True)}">show them</a>')
+    if query.shows_idle:
+        notes.append(f'<a class="option" href="{link_of(query, shows_idle=False)}">Hide idle functions</a>')
     if left:
         notes.append(f"{left:,} more weren't read.")
-    if not lines:
-        notes.append("No function matches the filter." if text else "No function is known.")
+    if not lines and not idle:
+        notes.append("No function matches the filter." if query.text or query.server else "No function is known.")
     return "".join(f'<p class="left">{note}</p>' for note in notes)
 
 
-def functions_section(lines, query, page, now):
-    chosen = chosen_lines(lines, query, now)
-    columns = [column for column in COLUMNS if (column != "server" or len(page.watches) > 1) and (column != "limit" or page.limits)]
+def functions_section(scene, query):
+    """The functions that the query asks for."""
+    lines, idle = scene.found(query)
+    chosen = chosen_lines(lines, query, scene.now)
+    are_several = len(scene.watches) > 1
+    columns = [column for column in COLUMNS
+               if (column != "server" or are_several) and (column != "limit" or scene.limits or any(watch.limits for watch in scene.watches))]
     table = ""
     if lines:
         heads = "".join(column_head(column, COLUMNS[column], query) for column in columns)
         table = (f'<table class="functions"><thead><tr>{heads}</tr></thead>'
-                 f'<tbody>{"".join(function_line(line, columns, now) for line in chosen)}</tbody></table>')
-    notes = functions_notes(lines, chosen, page.watches, query.text)
-    return f'<section id="functions"><h2>Functions <small>{len(lines):,}</small></h2>{table}{notes}</section>'
+                 f'<tbody>{"".join(function_line(line, columns, scene.now) for line in chosen)}</tbody></table>')
+    choice = ""
+    if are_several:
+        word = "show each server" if query.is_summed else "sum up over servers"
+        choice = f' <a class="option" href="{link_of(query, is_summed=not query.is_summed)}">{word}</a>'
+    trouble = ' class="trouble"' if lines and lines[0].state != FINE else ""
+    notes = functions_notes(lines, chosen, idle, query, scene.watches)
+    return (f'<section id="functions"{trouble}><h2>Functions <small>{len(lines) + idle:,}</small></h2>{choice}{table}{notes}</section>')
 
 
 ### Connections
@@ -273,9 +404,11 @@ def connection_line(watches, index, address, name, functions, left, count):
             f'<bdi>{html.escape(name)}</bdi></td><td data-label="Functions">{connection_functions(functions, left)}</td></tr>')
 
 
-def found_connections(watches, text):
-    wanted = text.casefold()
+def found_connections(watches, query):
+    wanted = query.text.casefold()
     for index, watch in enumerate(watches):
+        if query.server not in ("", label_of(watch.target)):
+            continue
         for key, count in (watch.answer.connections if watch.answer else {}).items():
             if wanted in " ".join(key[:3]).casefold():
                 yield (index, *key, count)
@@ -290,13 +423,13 @@ def chosen_connections(found, query, watches):
 
 
 def connections_section(query, watches):
-    found = list(found_connections(watches, query.text))
+    found = list(found_connections(watches, query))
     chosen = chosen_connections(found, query, watches)
     count, left = sum(line[-1] for line in found), sum(watch.answer.connections_left for watch in watches if watch.answer)
     hidden = count - sum(line[-1] for line in chosen)
     notes = [f"{hidden:,} more aren't shown."] if hidden else []
     notes += [f"{left:,} more weren't read."] if left else []
-    notes += [] if found else ["No connection matches the filter." if query.text else "There are no connections."]
+    notes += [] if found else ["No connection matches the filter." if query.text or query.server else "There are no connections."]
     heads = "".join(column_head(column, label, query) for column, label in CONNECTION_COLUMNS.items()
                     if column != "server" or len(watches) > 1)
     table = (f'<table class="connections"><thead><tr>{heads}</tr></thead>'
@@ -308,15 +441,36 @@ def connections_section(query, watches):
 ### The whole
 
 def problems_of(lines, watches):
-    """How many servers don't answer, and how many functions are coloured."""
+    """How many servers don't answer, and how many functions are coloured: what is said, and the section that shows it."""
     down = sum(bool(watch.answer and watch.answer.failure) for watch in watches)
-    coloured = sum(line.state != FINE for line in lines)
-    found = [f"{down} of {len(watches)} servers down" if len(watches) > 1 else "the server is down"] if down else []
-    return found + ([f"{plural(coloured, 'function')} to look at"] if coloured else [])
+    coloured = next((index for index, (_, line) in enumerate(lines) if line.state == FINE), len(lines))
+    found = [(f"{down} of {len(watches)} servers down" if len(watches) > 1 else "the server is down", "servers")] if down else []
+    return found + ([(f"{plural(coloured, 'function')} to look at", "functions")] if coloured else [])
+
+
+def numbers_of(watch, limits, now):
+    """What is known of a server, for programs."""
+    answer, values = watch.answer, watch.values
+    since, is_known = watch.up_since()
+    found = {"server": label_of(watch.target), "up": None if answer is None else not answer.failure, "since": since, "since_is_known": is_known}
+    if answer is None or answer.failure:
+        return {**found, "failure": answer and answer.failure, "functions": []}
+    named = {"version": "gearman_info", "connections": "gearman_connections", "slots": "gearman_slots", "memory": "gearman_memory_bytes",
+             "refused": "gearman_connections_refused_total", "cut": "gearman_connections_cut_total",
+             "not_served": "gearman_packets_not_served_total"}
+    found |= {name: values.get(key) for name, key in named.items()}
+    ended = watch.ended_of(watch.total, NONE, now)
+    found |= {"ended_in_minute": ended.count, "ended_is_exact": ended.is_exact, "polled_seconds_ago": round(now - watch.polled_at, 1)}
+    functions = []
+    for line in sorted(all_lines([watch], limits, now), key=importance):
+        ended = ended_of(line, now)
+        functions.append({"function": line.function, "state": STATES[line.state][1] or "fine", "waiting": line.waiting, "running": line.running,
+                          "workers": line.workers, "limit": line.limit, "ended_in_minute": ended.count, "ended_is_exact": ended.is_exact})
+    return {**found, "functions": functions}
 
 
 class Page:
-    """The page: its file, in which the servers' state is filled in."""
+    """The page: its file, in which the servers' state is filled in, and what programs ask for in its place."""
 
     def __init__(self, options, watches):
         self.limits, self.watches = options.limits, watches
@@ -327,33 +481,44 @@ class Page:
                          .decode() for tag in ("style", "script"))
         self.policy = (f"default-src 'none'; style-src 'sha256-{style}'; script-src 'sha256-{script}'; connect-src 'self'; img-src data:; "
                        "form-action 'self'; base-uri 'none'; frame-ancestors 'none'")
-        self.lock, self.cached, self.cached_second = threading.Lock(), {}, 0
+        self.lock, self.cached, self.scene, self.cached_second = threading.Lock(), {}, None, 0
 
     def body(self, path, query):
         """The body at this path, or None. Each is made once a second at most, and one at a time, however many clients there are."""
-        make = {"/": self.html, "/metrics": self.metrics}.get(path)
+        make = {"/": self.html, "/metrics": self.metrics, "/json": self.json}.get(path)
         key = (path, query_of(query) if path == "/" else None)
         with self.lock:
             second = int(time.monotonic())
-            if second != self.cached_second or len(self.cached) >= MAX_CACHED:
-                self.cached, self.cached_second = {}, second
+            if second != self.cached_second:
+                self.cached, self.scene, self.cached_second = {}, None, second
+            if len(self.cached) >= MAX_CACHED:
+                self.cached = {}
             if make and key not in self.cached:
                 self.cached[key] = make(key[1]).encode(errors="backslashreplace")
             return self.cached.get(key)
 
+    def failure(self):
+        """Why this program isn't well, or nothing. It is well also beside servers that aren't."""
+        now = time.monotonic()
+        stuck = [label_of(watch.target) for watch in self.watches if watch.is_stuck(now)]
+        return f"not asked for a long time: {', '.join(stuck)}" if stuck else ""
+
     def metrics(self, _):
-        return prometheus([(watch.target, watch.values, watch.answer) for watch in self.watches if watch.answer])
+        return prometheus([(watch.target, watch.samples(), watch.answer) for watch in self.watches if watch.answer])
+
+    def json(self, _):
+        now = time.monotonic()
+        return json.dumps({"servers": [numbers_of(watch, self.limits, now) for watch in self.watches]}) + "\n"
 
     def html(self, query):
-        now = time.monotonic()
-        lines, wanted = list(all_lines(self.watches, self.limits, now)), query.text.casefold()
-        problems = problems_of(lines, self.watches)
+        scene = self.scene = self.scene or Scene(self.watches, self.limits)
+        kept = {name: value for name, value in parameters_of(query).items() if name != "filter"}
         fields = {
-            "TITLE": " · ".join([*problems, "Gearman"]), "FILTER": html.escape(query.text),
-            "SORT": f"{'-' * query.is_reversed}{query.order}", "CLOCK": time.strftime("%H:%M:%S"),
-            "SUMMARY": "".join(f"<b>{problem}</b> " for problem in problems) or "all is well",
-            "SERVERS": "".join(server_card(watch, now) for watch in self.watches),
-            "FUNCTIONS": functions_section([line for line in lines if wanted in line.function.casefold()], query, self, now),
-            "CONNECTIONS": connections_section(query, self.watches)}
+            "TITLE": " · ".join([*(text for text, _ in scene.problems), "Gearman"]), "FILTER": html.escape(query.text),
+            "KEPT": "".join(f'<input type="hidden" name="{name}" value="{html.escape(value)}">' for name, value in kept.items()),
+            "COLOUR": "b3232b" if scene.is_bad else "2f6fdb", "CLOCK": time.strftime("%H:%M:%S"),
+            "SUMMARY": "".join(f'<b><a href="#{section}">{text}</a></b> ' for text, section in scene.problems) or "all is well",
+            "SERVERS": "".join(server_card(watch, query, self.watches, scene.now) for watch in self.watches),
+            "FUNCTIONS": functions_section(scene, query), "CONNECTIONS": connections_section(query, self.watches)}
         # In one pass, because a name may look like a field.
         return re.sub("@([A-Z]+)@", lambda field: fields[field[1]], self.text)

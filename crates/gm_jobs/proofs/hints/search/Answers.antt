@@ -4,11 +4,10 @@ use Rattle.gm_jobs.specs.Queries.{meets}
 use Rattle.gm_jobs.specs.Tables.{find_job, passes, IsNext, IsLast}
 use Rattle.gm_jobs.proofs.ListLemmas.{found_at}
 use Rattle.gm_jobs.proofs.NumberLemmas.{not_some}
-use Rattle.gm_jobs.proofs.HintLemmas.{least_some, least_left, least_right, is_false, passes_live}
+use Rattle.gm_jobs.proofs.HintLemmas.{least_some, least_left, least_right, passes_live}
 use Rattle.gm_jobs.proofs.hints.search.Goals as goal
-
-number : (x y : ℕ) → Some x ≡ Some y → x ≡ y
-number x y h = cc
+use Rattle.std.proofs.lemmas.Option.{same_Some}
+use Rattle.std.proofs.lemmas.Bool.{false_from_ne_true}
 
 pub loop-i-preserved : goal.loop-i-preserved
 loop-i-preserved c = record {
@@ -40,11 +39,11 @@ returns-clause-next c = by c.loop-i.best refl
         record {
           above = b.0;
           found = b.1;
-          least = λ m above below. is_false _ (λ due.
+          least = λ m above below. false_from_ne_true _ (λ due.
               let l = passes_live (meets c.args.query) (find_job c.args.jobs.now.entries m) due in
               let at = found_at c.args.jobs.now.entries m l.0 l.1 in
               let r = c.loop-i.invariant.least at.0 m l.0 (omega (arith, at.1, c.len-i-end.ensures.count)) at.2 above l.2 in
-              let same = number r.0 n (sym r.1 ∙ e) in
+              let same = same_Some r.0 n (sym r.1 ∙ e) in
               let less = r.2 in
               omega arith);
         }
@@ -54,7 +53,7 @@ returns-clause-last c = by c.loop-i.best refl
   where
     by : (o : Option ℕ) → c.loop-i.best ≡ o → IfNone o (IsLast (meets c.args.query) c.args.after c.args.jobs.now.entries)
     by (Some n) e = tt
-    by None e = λ m above. is_false _ (λ due.
+    by None e = λ m above. false_from_ne_true _ (λ due.
         let l = passes_live (meets c.args.query) (find_job c.args.jobs.now.entries m) due in
         let at = found_at c.args.jobs.now.entries m l.0 l.1 in
         let r = c.loop-i.invariant.least at.0 m l.0 (omega (arith, at.1, c.len-i-end.ensures.count)) at.2 above l.2 in

@@ -7,9 +7,10 @@ use Rattle.gm_jobs.specs.Tables.{Table, job as job_of}
 use Rattle.gm_core.specs.Facts.{conn_facts, function_facts}
 use Rattle.gm_core.specs.Holds.{name_at, described}
 use Rattle.gm_core.proofs.CoreLemmas.{goes_as, goes_then, goes_nothing, goes_queued}
-use Rattle.gm_core.proofs.FunctionLemmas.{some_same, stands}
+use Rattle.gm_core.proofs.FunctionLemmas.{some_same}
 use Rattle.gm_core.proofs.GrabLemmas.{given, told_first}
 use Rattle.gm_core.proofs.server.Tables.assign.Goals as goal
+use Rattle.std.proofs.lemmas.Option.{slice_get-get_or}
 
 there : {A : Type 0} (o : Option (Bor A)) (x : A) → option_copied o ≡ Some x → IsSome o
 there None x e = absurd cc
@@ -40,7 +41,7 @@ returns c =
     let job_is = keeps.jobs.live n it.live it.at in
     let is : job ≡ it.live = some_same job it.live (sym (ap option_copied c.unwrap-job.ensures) ∙ c.by_number.ensures ∙ ap (λ (t : Table). job_of t n) c.reserve_run.ensures ∙ it.at) in
     let function : c.name.result.now ≡ name_at old.functions.names it.live.function =
-    sym (some_same (name_at old.functions.names c.args.found.function) c.name.result.now (sym (stands old.functions.names c.args.found.function [] c.requires.within) ∙ c.name.ensures.value))
+    sym (some_same (name_at old.functions.names c.args.found.function) c.name.result.now (sym (slice_get-get_or old.functions.names c.args.found.function [] c.requires.within) ∙ c.name.ensures.value))
     ∙ ap (λ (g : ℕ). name_at old.functions.names g) (sym it.function) in
     let priority = c.p.ensures ∙ ap (λ (l : Live). l.priority) is in
     let unique = c.unique.ensures.value ∙ ap (λ (l : Live). l.unique) is in

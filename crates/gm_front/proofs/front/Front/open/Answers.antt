@@ -1,4 +1,3 @@
-use Rattle.std.proofs.Common.{◌∙◌, refl, ap}
 use Rattle.gm_front.proofs.Taking.{opens, opens_none}
 use Rattle.gm_front.proofs.Feeders.{not_some}
 use Rattle.gm_front.proofs.front.Front.open.Goals as goal

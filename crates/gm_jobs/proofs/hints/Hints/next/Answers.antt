@@ -7,9 +7,10 @@ use Rattle.gm_jobs.specs.declared.hints.Hints.TheInside.{Inside}
 use Rattle.gm_jobs.specs.Queries.{meets}
 use Rattle.gm_jobs.specs.Tables.{find_job, passes}
 use Rattle.gm_jobs.specs.Hints.{HintList, KeepsHints}
-use Rattle.gm_jobs.proofs.HintLemmas.{is_false, not_met}
+use Rattle.gm_jobs.proofs.HintLemmas.{not_met}
 use Rattle.gm_jobs.proofs.hints.Hints.next.Goals as goal
 use Rattle.gm_jobs.proofs.hints.Hints.next.Goals.{After-start-i}
+use Rattle.std.proofs.lemmas.Bool.{false_from_ne_true}
 
 module _ (c : After-start-i) where
   abbrev numbers : List ℕ
@@ -24,7 +25,7 @@ module _ (c : After-start-i) where
   -- no other job above `after` and before this index is met
   none : (i : ℕ) → ((k : ℕ) → k < i → c.args.after < slice_index_or numbers k 0 → passes (meets c.args.query) (find_job c.args.jobs.now.entries (slice_index_or numbers k 0)) ≡ false)
       → (m : ℕ) → c.args.after < m → (i < length numbers → m < slice_index_or numbers i 0) → passes (meets c.args.query) (find_job c.args.jobs.now.entries m) ≡ false
-  none i before m above below = is_false _ (λ met.
+  none i before m above below = false_from_ne_true _ (λ met.
       let whole = ap (λ (h : HintList). h.whole) (sym c.self.view_is) ∙ c.if-not-self.false in
       false≢true (sym (not_met (meets c.args.query) c.args.jobs.now.entries numbers c.args.after i rises before m (sorted.numbers m tt (c.requires m met whole)) above below) ∙ met))
 
