@@ -37,18 +37,20 @@ FROM fitting WHERE job.id = fitting.id
 RETURNING job.id, claims, function, unique_id, priority, attempts, max_attempts,
     CASE WHEN octet_length(data) <= %(max_data)s THEN data END, octet_length(data),
     extract(epoch FROM coalesce(retry_at, run_at))::float8"""
+# The case compares columns of both sides, here and below. So rows are found by their ids alone: statistics may say that hardly any row is
+# running, and then all rows would be read, and compared with all values.
 WRITE = """
 UPDATE gearman_jobs AS job SET state = new.state, attempts = job.attempts + new.counted, result = new.result,
     error = CASE WHEN new.state = 'done' THEN NULL ELSE coalesce(new.error, job.error) END,
     retry_at = CASE WHEN new.delay IS NULL THEN job.retry_at ELSE now() + new.delay * interval '1 second' END,
     ended_at = CASE WHEN new.state <> 'waiting' THEN now() END, holder = NULL, lease = NULL, server = NULL, handle = NULL
 FROM (VALUES %s) AS new (id, claims, state, counted, result, error, delay)
-WHERE job.id = new.id AND job.claims = new.claims AND job.state = 'running'
+WHERE job.id = new.id AND CASE WHEN job.claims = new.claims THEN job.state = 'running' ELSE false END
 RETURNING job.id, CASE WHEN isfinite(job.run_at) THEN extract(epoch FROM now() - job.run_at)::float8 ELSE 0 END"""
 RENEW = """
 UPDATE gearman_jobs AS job SET lease = now() + %(lease)s * interval '1 second', server = new.server, handle = new.handle
 FROM unnest(%(ids)s::bigint[], %(claims)s::bigint[], %(servers)s::text[], %(handles)s::text[]) AS new (id, claims, server, handle)
-WHERE job.id = new.id AND job.claims = new.claims AND job.state = 'running'
+WHERE job.id = new.id AND CASE WHEN job.claims = new.claims THEN job.state = 'running' ELSE false END
 RETURNING job.id"""
 # From the sixth time on a lost row is given more and more time, in case that it is what takes each gmd-table down.
 FREE = """
