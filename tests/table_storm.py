@@ -26,7 +26,7 @@ class Storm:
         self.database, self.dice, self.rows = database, random.Random(seed), rows
         self.committed, self.unsure, self.rolled_back = set(), set(), set()  # unique ids
         self.failure = None
-        self.bound, self.events, self.deck = 0, collections.Counter(), []
+        self.bound, self.events, self.deck = 0, [], []
 
     def batch(self, number, dice):
         """The rows of a transaction."""
@@ -80,7 +80,7 @@ class Storm:
             self.deck = ["server", "table", "table", "worker", "worker", *of_database]
             self.dice.shuffle(self.deck)
         kind = self.deck.pop()
-        self.events[kind] += 1
+        self.events.append((time.monotonic(), kind))
         if kind in ("server", "table", "worker"):
             self.bound += self.on_the_way()
         if kind == "server":
@@ -99,7 +99,7 @@ class Storm:
 
     def pause(self, server):
         """A server is stopped for longer than it takes to be found out, and others go on."""
-        self.events["pause"] += 1
+        self.events.append((time.monotonic(), "pause"))
         self.bound += self.on_the_way()
         server.process.send_signal(signal.SIGSTOP)
         time.sleep(PAUSE)
@@ -146,7 +146,8 @@ class Storm:
         twice = sum(times.values()) - len(times)
         if twice > self.bound:
             raise Wrong(f"{twice} were done again, and {self.bound} were on the way at the kills")
-        return (f"{len(rows):,} rows, {', '.join(f'{kind} {number}' for kind, number in sorted(self.events.items()))}, "
+        events = collections.Counter(kind for _, kind in self.events)
+        return (f"{len(rows):,} rows, {', '.join(f'{kind} {number}' for kind, number in sorted(events.items()))}, "
                 f"done again {twice}, on the way at the kills {self.bound}")
 
 
