@@ -30,6 +30,12 @@ def packet(kind, data):
     return struct.pack(">4sII", b"\0REQ", kind, len(data)) + data
 
 
+def head_of(row):
+    """What comes before the data in a row's packet."""
+    unique = row.unique if row.unique not in (b"", b"-") else b"table-%d" % row.id
+    return row.function + b"\0" + unique + b"\0"
+
+
 class Link:
     """A server, and the connection to it."""
 
@@ -180,8 +186,7 @@ class Link:
         """Sends a row as a job."""
         row.server = self.name
         self.of_function[row.function] += 1
-        unique = row.unique if row.unique not in (b"", b"-") else b"table-%d" % row.id
-        head = row.function + b"\0" + unique + b"\0"
+        head = head_of(row)
         size = len(head) + len(row.data)
         if len(row.data) < LONG:
             self.ask(row, packet(SUBMIT[row.priority], head + row.data))
@@ -304,8 +309,8 @@ class Carrier:
         while self.keeper.claimed:
             row = self.keeper.claimed.popleft()
             links = [link for link in self.links[self.turn :] + self.links[: self.turn] if link.is_up]
-            if row.data is None:
-                self.end(failed(row, f"its data have over {self.options.max_data} bytes", self.options.delays, is_final=True))
+            if row.data is None or len(head_of(row)) + len(row.data) > self.options.max_data:
+                self.end(failed(row, f"its packet has over {self.options.max_data} bytes", self.options.delays, is_final=True))
             elif not row.function or b"\0" in row.function + row.unique:
                 self.end(failed(row, "no job has such a function or unique id", self.options.delays, is_final=True))
             elif not links:

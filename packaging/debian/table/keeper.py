@@ -28,7 +28,7 @@ class Keeper(threading.Thread):
         self.store, self.options, self.numbers = store, options, numbers
         self.bell, self.carrier = Bell(), None
         self.on_the_way = {}  # by id
-        self.of_function = collections.Counter()
+        self.of_function, self.bytes_of = collections.Counter(), collections.Counter()
         self.claimed, self.ended = collections.deque(), collections.deque()
         self.unwritten = []
         self.pairs, self.pairs_read, self.pairs_cost = [], 0.0, 0.0
@@ -153,8 +153,9 @@ class Keeper(threading.Thread):
         if self.on_the_way.get(row.id) is row:
             del self.on_the_way[row.id]
         self.of_function[row.function] -= 1
+        self.bytes_of[row.function] -= row.size
         if not self.of_function[row.function]:
-            del self.of_function[row.function]
+            del self.of_function[row.function], self.bytes_of[row.function]
 
     def renew(self):
         """Renews the leases that are a third over, and that of each row once when it has run for a second."""
@@ -190,7 +191,10 @@ class Keeper(threading.Thread):
             self.pairs = found[begin:] + found[:begin]
 
     def room(self, function):
-        """How many more rows of a function may be on the way. Where these are few, they wait a moment for others, to be taken at once."""
+        """How many more rows of a function may be on the way. Where these are few, they wait a moment for others, to be taken at once.
+        Their data are in the servers' memory, so they have a bound too."""
+        if self.bytes_of.get(function, 0) >= self.options.memory:
+            return 0
         most = self.options.most if len(self.on_the_way) < MAX_ON_THE_WAY // 2 else 1
         room = most - self.of_function.get(function, 0)
         if 0 < room < most // 8 and time.monotonic() < self.last_claim + GATHERING:
@@ -235,6 +239,7 @@ class Keeper(threading.Thread):
             row.claimed = row.renewed = now
             self.on_the_way[row.id] = row
             self.of_function[row.function] += 1
+            self.bytes_of[row.function] += row.size
             self.claimed.append(row)
         if rows:
             self.numbers.claimed += len(rows)
