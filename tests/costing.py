@@ -7,7 +7,7 @@ own.
 """
 import typing
 
-from packets import *
+from packets import *  # pylint: disable=wildcard-import,unused-wildcard-import
 
 NOTHING = "nothing"
 TIMES = 64  # how often a tail beside a crowd has its request
@@ -35,10 +35,12 @@ class Script:
         return slot
 
     def close(self, slot):
+        """The connection's end."""
         self.lines.append(f"close {slot}")
         self.free.add(slot)
 
     def tick(self, now):
+        """The clock's second."""
         self.lines.append(f"tick {now}")
 
     def send(self, slot, *units):
@@ -58,6 +60,7 @@ class Script:
         self.send(slot, *count * [packet(SUBMIT_JOB, function, b"one", b"data")])
 
     def grab(self, slot, count):
+        """Jobs of a worker, as many."""
         self.send(slot, *count * [packet(GRAB_JOB)])
 
 
@@ -72,6 +75,7 @@ class Cost(typing.NamedTuple):
 
     @property
     def size(self):
+        """The smaller of the two sizes at which it is tried."""
         return CROWD_SIZE if self.depends == NOTHING else OWN_SIZE
 
 
@@ -83,14 +87,17 @@ def cost(request, depends, setup, counts_lines=False):
     return add
 
 
-def named(function, numbers):
-    return (b"%s%d" % (function, number) for number in numbers)
+def named(name, numbers):
+    """Names with these numbers behind them."""
+    return (b"%s%d" % (name, number) for number in numbers)
 
 
 ### Beside a crowd
 
 def crowd(size, sleepers=True):
-    script = Script(size, ["--slots", "200"])
+    """As many of everything: of functions, of abilities, of jobs that run with a time limit and a listener, of jobs that were discarded from a
+    queue, of jobs that wait in it, and of listeners of one job; and an eighth as many connections. A worker has TIMES jobs."""
+    script = Script(size, ["--slots", "100"])
     for _ in range(SPARE + 1):
         script.open()
     script.send(OTHER, packet(CAN_DO_TIMEOUT, b"limited", b"1000"), *(packet(CAN_DO, name) for name in named(b"other", range(size))))
@@ -104,7 +111,7 @@ def crowd(size, sleepers=True):
     script.send(WORKER, packet(CAN_DO, b"work"), packet(CAN_DO, b"full"))
     script.grab(WORKER, TIMES)
     script.send(IDLER, packet(CAN_DO, b"nothing"))
-    for _ in range(size // 4 if sleepers else 0):
+    for _ in range(size // 8 if sleepers else 0):
         script.send(script.open(), packet(CAN_DO, b"idle"), packet(PRE_SLEEP))
     return script
 
@@ -230,6 +237,25 @@ def comes_and_goes(script):
     return {}
 
 
+@cost("an opening, and the closing of a worker with one job, which waits again", NOTHING, crowd)
+def leaves_a_job(script):
+    script.submit(CLIENT, SUBMIT_JOB, b"single", 1)
+    for _ in range(TIMES):
+        slot = script.open()
+        script.send(slot, packet(CAN_DO, b"single"), packet(GRAB_JOB))
+        script.close(slot)
+    return {JOB_CREATED: 1, JOB_ASSIGN: TIMES}
+
+
+@cost("an opening, and the closing of a client that waits for one job", NOTHING, crowd)
+def waits_no_more(script):
+    for _ in range(TIMES):
+        slot = script.open()
+        script.submit(slot, SUBMIT_JOB, b"single", 1)
+        script.close(slot)
+    return {JOB_CREATED: TIMES}
+
+
 @cost("a fault, and the closing", NOTHING, crowd)
 def faults(script):
     for _ in range(TIMES):
@@ -249,6 +275,7 @@ def ticks(script):
 ### With a set-up of their own
 
 def one_connection(size):
+    """A connection, in slot 0."""
     script = Script(size)
     script.open()
     return script

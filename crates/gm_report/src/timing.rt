@@ -22,7 +22,7 @@ pub const WAKING_TIME_MS: u64 = 1_000;
 pub const ACCEPT_TIMEOUT_MS: u64 = 50;
 
 /// For how long I/O threads may visit connections that are gone, before one that came is refused as there is no slot.
-pub const VISITING_TIME_MS: u64 = 2;
+pub const VISITING_TIME_MS: u64 = 10;
 
 /// How long a thread goes on writing to others. The slots' finishers do the rest.
 pub const DELIVERING_TIME_MS: u64 = 10;
