@@ -129,6 +129,7 @@ class TableWatch(Poller):
         return ask_table(self.target, self.options.seconds, MAX_FUNCTIONS // len(self.options.tables))
 
     def failed(self, failure):
+        """What is known of it if asking failed."""
         return no_answer(failure)
 
     def take(self, answer, now):
@@ -140,11 +141,9 @@ class TableWatch(Poller):
 
     def trouble(self):
         """What is wrong with it, or nothing."""
-        if self.answer is None:
-            return ""
-        if self.answer.failure:
-            return self.answer.failure
-        if self.answer.values.get("database_up") == 0:
+        answer = self.answer
+        if answer is None or answer.failure:
+            return answer.failure if answer else ""
+        if answer.values.get("database_up") == 0:
             return "Its database doesn't answer."
-        down = [name for name, is_up in self.answer.servers.items() if not is_up]
-        return "None of its servers answers." if down and len(down) == len(self.answer.servers) else ""
+        return "None of its servers answers." if answer.servers and not any(answer.servers.values()) else ""

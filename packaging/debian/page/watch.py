@@ -102,9 +102,11 @@ class Poller:
         self.since, self.saw_begin = 0, False
 
     def begin(self):
+        """Polls from now on."""
         threading.Thread(target=self.run, daemon=True).start()
 
     def run(self):
+        """Polls without an end."""
         while True:
             begun, used = time.monotonic(), time.thread_time()
             try:
@@ -116,7 +118,7 @@ class Poller:
             time.sleep(max(PAUSE - self.took, PAUSE_BY_COST * (time.thread_time() - used), 0.1))
 
     def see_begin(self, answer, is_another):
-        """Notes the time if this answer is the first one, or unlike the last one in being one, or if another process gave it."""
+        """Notes the time of the first answer, of a change between up and down, and of an answer that another process gave."""
         if self.answer is None or bool(self.answer.failure) != bool(answer.failure) or is_another:
             self.since, self.saw_begin = time.time(), self.answer is not None
 
