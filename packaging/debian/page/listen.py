@@ -11,6 +11,7 @@ import time
 
 from gmd_metrics import Target, warn
 from page import Page, label_of
+from tables import TableWatch
 from watch import Watch
 
 MAX_CLIENTS = 32
@@ -156,9 +157,10 @@ class Listener(socketserver.ThreadingTCPServer):
 def serve_page(options):
     """Serves the page until it is stopped. The status of the program."""
     watches = [Watch(target, options) for target in options.targets]
+    tables = [TableWatch(target, options) for target in options.tables]
     host, port, _ = options.serve
     try:
-        listener = Listener(host, port, Page(options, watches))
+        listener = Listener(host, port, Page(options, watches, tables))
     except OSError as error:
         warn(f"can't serve at {label_of(options.serve)}: {error.strerror or error}")
         return 1
@@ -167,8 +169,8 @@ def serve_page(options):
         print(f"gmd-metrics: serves http://{at}/", flush=True)
         if not listener.checks_host:
             warn(f"{at} isn't of this machine only: everybody with access to it sees all names, ids and addresses")
-        for watch in watches:
-            watch.begin()
+        for poller in (*watches, *tables):
+            poller.begin()
         try:
             listener.serve_forever(poll_interval=60)
         except KeyboardInterrupt:

@@ -6,6 +6,7 @@ import hashlib
 import heapq
 import html
 import json
+import math
 import os
 import re
 import threading
@@ -13,6 +14,7 @@ import time
 import urllib.parse
 
 from gmd_metrics import printable, prometheus
+from tables import STATES as ROW_STATES, done_within
 from watch import NONE, PAUSE, STEP, STEPS, Ended
 
 # The functions and the lines of connections that the page shows at most, and the functions in such a line.
@@ -163,11 +165,12 @@ class Scene:
     """All functions as they are at one moment, the most important first. Each filter and order of this moment takes its lines from here, so
     that many filters of many functions don't each sort them."""
 
-    def __init__(self, watches, limits):
-        self.watches, self.limits, self.now = watches, limits, time.monotonic()
+    def __init__(self, watches, limits, tables=()):
+        self.watches, self.limits, self.tables, self.now = watches, limits, tables, time.monotonic()
         self.sorted = {}
-        self.problems = problems_of(self.lines(False), watches)
-        self.is_bad = any(watch.answer and watch.answer.failure for watch in watches) or any(
+        troubled = sum(bool(table.trouble()) for table in tables)
+        self.problems = problems_of(self.lines(False), watches, troubled)
+        self.is_bad = troubled > 0 or any(watch.answer and watch.answer.failure for watch in watches) or any(
             STATES[line.state][0] == "bad" for _, line in self.lines(False)[:1])
 
     def lines(self, is_summed):
@@ -298,11 +301,16 @@ def server_head(watch, query, watches, now):
             f'<p class="state"><b>{state}</b> {since_of(watch, now)}</p>')
 
 
+def failure_of(text):
+    """What is wrong, as a paragraph, or nothing."""
+    return f'<p class="failure">{html.escape(printable(text))}</p>' if text else ""
+
+
 def server_card(watch, query, watches, now):
     """All that is shown of a server."""
     values, answer, head = watch.values, watch.answer, server_head(watch, query, watches, now)
     if answer is None or answer.failure:
-        return head + (f'<p class="failure">{html.escape(printable(answer.failure))}</p>' if answer else "") + "</article>"
+        return head + failure_of(answer and answer.failure) + "</article>"
     parts = ((watch, watch.total, NONE),)
     remark = f'<p class="left">{html.escape(answer.remark)}</p>' if answer.remark else ""
     return "".join([
@@ -386,6 +394,78 @@ def functions_section(scene, query):
     return (f'<section id="functions"{trouble}><h2>Functions <small>{len(lines) + idle:,}</small></h2>{choice}{table}{notes}</section>')
 
 
+### Tables
+
+def within(buckets, part):
+    """Within what time this part of the rows was done, as far as buckets tell."""
+    seconds = done_within(buckets, part)
+    if seconds is None:
+        return number(None)
+    if seconds == math.inf:
+        return f"&gt; {duration(max((bound for bound in buckets if bound != seconds), default=0))}"
+    return f"≤ {duration(seconds) if seconds >= 60 else f'{seconds:g} s'}"
+
+
+def table_values(answer):
+    """The numbers of a gmd-table, which are of all its functions."""
+    value, servers, oldest = answer.values.get, answer.servers, answer.values.get("oldest_due_seconds")
+    now = [("Oldest due", number(None) if oldest is None else duration(oldest), "For how long the oldest row has been due that waits"),
+           ("On the way", number(value("on_the_way")), "Rows that this gmd-table took"),
+           ("Servers up", f"{sum(servers.values())} <small>of {len(servers)}</small>", "Servers that answer this gmd-table")]
+    since = [("Attempts", number(value("claims_total")), "Rows that were taken and handed to a server"),
+             ("Attempts failed", number(value("attempts_failed_total")), ""),
+             ("Returned", number(value("returned_total")), "Rows that came back because a server went or refused them for now"),
+             ("Done", number(value("done_total")), ""), ("Failed", number(value("failed_total")), "Rows that failed for good"),
+             ("Due to done, median", within(answer.buckets, 0.5), "Half of the rows were done within this time of when they were due"),
+             ("Due to done, p95", within(answer.buckets, 0.95), "19 of 20 rows were done within this time of when they were due")]
+    first, second = ("".join(pair(*each) for each in pairs) for pairs in (now, since))
+    return f'<dl>{first}</dl><p class="left">Since this gmd-table began:</p><dl class="since">{second}</dl>'
+
+
+def rows_line(function, counts):
+    """The rows of a function, by their states."""
+    name = html.escape(function)
+    cells = "".join(f'<td data-label="{state.capitalize()}">{number(counts[state])}</td>' for state in ROW_STATES)
+    return f'<tr data-key="{name}"><th scope="row"><bdi class="name" title="{name}">{name}</bdi></th>{cells}</tr>'
+
+
+def rows_of(answer, query):
+    """The functions of a table that match the filter, those with most rows that wait first, and what isn't shown."""
+    wanted = query.text.casefold()
+    found = [item for item in answer.functions.items() if wanted in item[0].casefold()]
+    chosen = heapq.nsmallest(MAX_SHOWN, found, key=lambda item: (*(-item[1][state] for state in ("waiting", "running", "failed")), item[0]))
+    hidden = len(found) - len(chosen)
+    notes = [f"{hidden:,} more aren't shown."] if hidden else []
+    notes += [f"{plural(answer.left, 'more line')} of its answer can't be used."] if answer.left else []
+    if "oldest_due_seconds" not in answer.values:
+        notes.append("It doesn't say how many rows there are.")
+    elif not found:
+        notes.append("No function matches the filter." if query.text else "The table has no rows.")
+    heads = "".join(f'<th scope="col">{head}</th>' for head in ("Function", *(state.capitalize() for state in ROW_STATES)))
+    table = (f'<table class="rows"><thead><tr>{heads}</tr></thead>'
+             f'<tbody>{"".join(rows_line(*item) for item in chosen)}</tbody></table>') if chosen else ""
+    return table + "".join(f'<p class="left">{note}</p>' for note in notes)
+
+
+def table_card(table, query, now):
+    """All that is shown of a gmd-table."""
+    head, answer = server_head(table, query, (table,), now) + failure_of(table.trouble()), table.answer
+    if answer is None or answer.failure:
+        return f"{head}</article>"
+    down = [f"<bdi>{html.escape(name)}</bdi>" for name, is_up in answer.servers.items() if not is_up]
+    away = f'<p class="left">These servers don\'t answer it: {", ".join(down)}</p>' if down else ""
+    return f"{head}{table_values(answer)}{away}{rows_of(answer, query)}</article>"
+
+
+def tables_section(scene, query):
+    """What the gmd-tables say that are asked, if there are any."""
+    if not scene.tables:
+        return ""
+    trouble = ' class="trouble"' if any(table.trouble() for table in scene.tables) else ""
+    cards = "".join(table_card(table, query, scene.now) for table in scene.tables)
+    return f'<section id="tables"{trouble}><h2>Tables <small>{len(scene.tables)}</small></h2>{cards}</section>'
+
+
 ### Connections
 
 def connection_functions(functions, left):
@@ -441,20 +521,42 @@ def connections_section(query, watches):
 
 ### The whole
 
-def problems_of(lines, watches):
-    """How many servers don't answer, and how many functions are coloured: what is said, and the section that shows it."""
+def problems_of(lines, watches, troubled):
+    """How many servers don't answer, and how many functions and tables need a look: what is said, and the section that shows it."""
     down = sum(bool(watch.answer and watch.answer.failure) for watch in watches)
     coloured = next((index for index, (_, line) in enumerate(lines) if line.state == FINE), len(lines))
     found = [(f"{down} of {len(watches)} servers down" if len(watches) > 1 else "the server is down", "servers")] if down else []
-    return found + ([(f"{plural(coloured, 'function')} to look at", "functions")] if coloured else [])
+    found += [(f"{plural(coloured, 'function')} to look at", "functions")] if coloured else []
+    return found + ([(f"{plural(troubled, 'table')} to look at", "tables")] if troubled else [])
+
+
+def state_for_programs(kind, poller):
+    """Whether a server or a gmd-table is up, and since when."""
+    since, is_known = poller.up_since()
+    return {kind: label_of(poller.target), "up": None if poller.answer is None else not poller.answer.failure, "since": since,
+            "since_is_known": is_known}
+
+
+def numbers_of_table(table, now):
+    """What is known of a gmd-table, for programs. Its totals are those since it began."""
+    answer, found = table.answer, state_for_programs("table", table)
+    if answer is None or answer.failure:
+        return {**found, "failure": answer and answer.failure, "functions": []}
+    named = {"oldest_due_seconds": "oldest_due_seconds", "on_the_way": "on_the_way", "attempts": "claims_total",
+             "attempts_failed": "attempts_failed_total", "returned": "returned_total", "done": "done_total", "failed": "failed_total"}
+    bounds = {name: done_within(answer.buckets, part) for name, part in (("median_at_most", 0.5), ("percentile_95_at_most", 0.95))}
+    is_up = answer.values.get("database_up")
+    return {**found, "trouble": table.trouble() or None, "polled_seconds_ago": round(now - table.polled_at, 1),
+            **{name: answer.values.get(key) for name, key in named.items()},
+            # JSON has no infinity.
+            **{name: None if bound == math.inf else bound for name, bound in bounds.items()},
+            "database_up": None if is_up is None else is_up != 0, "servers": answer.servers,
+            "functions": [{"function": function, **counts} for function, counts in answer.functions.items()]}
 
 
 def numbers_of(watch, limits, now):
     """What is known of a server, for programs."""
-    answer, values = watch.answer, watch.values
-    since, is_known = watch.up_since()
-    found = {"server": label_of(watch.target), "up": None if answer is None else not answer.failure, "since": since,
-             "since_is_known": is_known}
+    answer, values, found = watch.answer, watch.values, state_for_programs("server", watch)
     if answer is None or answer.failure:
         return {**found, "failure": answer and answer.failure, "functions": []}
     named = {"version": "gearman_info", "connections": "gearman_connections", "slots": "gearman_slots", "memory": "gearman_memory_bytes",
@@ -474,8 +576,8 @@ def numbers_of(watch, limits, now):
 class Page:
     """The page: its file, in which the servers' state is filled in, and what programs ask for in its place."""
 
-    def __init__(self, options, watches):
-        self.limits, self.watches = options.limits, watches
+    def __init__(self, options, watches, tables=()):
+        self.limits, self.watches, self.tables = options.limits, watches, tables
         with open(os.path.join(os.path.dirname(__file__), "page.html"), encoding="utf-8") as file:
             self.text = file.read()
         # The browser applies only the page's own style and script, even if a name could bring another one in.
@@ -502,7 +604,7 @@ class Page:
     def failure(self):
         """Why this program isn't well, or nothing. It is well also beside servers that aren't."""
         now = time.monotonic()
-        stuck = [label_of(watch.target) for watch in self.watches if watch.is_stuck(now)]
+        stuck = [label_of(poller.target) for poller in (*self.watches, *self.tables) if poller.is_stuck(now)]
         return f"not asked for a long time: {', '.join(stuck)}" if stuck else ""
 
     def metrics(self, _):
@@ -510,12 +612,13 @@ class Page:
 
     def json(self, _):
         now = time.monotonic()
-        return json.dumps({"servers": [numbers_of(watch, self.limits, now) for watch in self.watches]}) + "\n"
+        return json.dumps({"servers": [numbers_of(watch, self.limits, now) for watch in self.watches],
+                           "tables": [numbers_of_table(table, now) for table in self.tables]}) + "\n"
 
     def present_scene(self):
         """All functions as they are now, or were a moment ago."""
         if not self.scene:
-            self.scene = Scene(self.watches, self.limits)
+            self.scene = Scene(self.watches, self.limits, self.tables)
             made = time.monotonic()
             self.kept_until = made + max(1, KEPT_BY_COST * (made - self.scene.now))
         return self.scene
@@ -529,6 +632,6 @@ class Page:
             "COLOUR": "b3232b" if scene.is_bad else "2f6fdb", "CLOCK": time.strftime("%H:%M:%S"),
             "SUMMARY": "".join(f'<b><a href="#{section}">{text}</a></b> ' for text, section in scene.problems) or "all is well",
             "SERVERS": "".join(server_card(watch, query, self.watches, scene.now) for watch in self.watches),
-            "FUNCTIONS": functions_section(scene, query), "CONNECTIONS": connections_section(query, self.watches)}
+            "FUNCTIONS": functions_section(scene, query), "TABLES": tables_section(scene, query), "CONNECTIONS": connections_section(query, self.watches)}
         # In one pass, because a name may look like a field.
         return re.sub("@([A-Z]+)@", lambda field: fields[field[1]], self.text)

@@ -91,18 +91,54 @@ class History:
         return sum(self.ended[index % STEPS] for index in range(first, min(step, self.step) + 1))
 
 
-class Watch:
-    """A server, polled by a thread of its own, so that a slow one holds up no other."""
+class Poller:
+    """What is polled by a thread of its own, so that a slow one holds up no other."""
 
     def __init__(self, target, options):
         self.target, self.options = target, options
-        self.max_histories = MAX_FUNCTIONS // len(options.targets)
-        # The last answer, with what systemd knows, and when it came.
-        self.answer, self.values, self.polled_at = None, {}, time.monotonic()
+        # The last answer, when it came, and how long the last poll took.
+        self.answer, self.polled_at, self.took = None, time.monotonic(), None
         # Since when it has been up or down, and whether it was seen to begin then.
         self.since, self.saw_begin = 0, False
-        # How long the last poll took.
-        self.took = None
+
+    def begin(self):
+        """Polls from now on."""
+        threading.Thread(target=self.run, daemon=True).start()
+
+    def run(self):
+        """Polls without an end."""
+        while True:
+            begun, used = time.monotonic(), time.thread_time()
+            try:
+                self.take(self.ask(), time.monotonic())
+            except Exception as error:  # pylint: disable=broad-except
+                # After a fault of this program the page must not show an old answer as the present one.
+                self.take(self.failed(f"gmd-metrics failed: {error!r}"), time.monotonic())
+            self.took = time.monotonic() - begun
+            time.sleep(max(PAUSE - self.took, PAUSE_BY_COST * (time.thread_time() - used), 0.1))
+
+    def see_begin(self, answer, is_another):
+        """Notes the time of the first answer, of a change between up and down, and of an answer that another process gave."""
+        if self.answer is None or bool(self.answer.failure) != bool(answer.failure) or is_another:
+            self.since, self.saw_begin = time.time(), self.answer is not None
+
+    def up_since(self):
+        """Since when it has been up or down, as a Unix time, and whether that is known, or only the end of the time in which it began."""
+        return self.since, self.saw_begin
+
+    def is_stuck(self, now):
+        """Whether it wasn't asked for so long that this program must be at fault."""
+        return now - self.polled_at > 60 + 2 * MAX_WORK * self.options.seconds
+
+
+class Watch(Poller):
+    """A server that is polled."""
+
+    def __init__(self, target, options):
+        super().__init__(target, options)
+        self.max_histories = MAX_FUNCTIONS // len(options.targets)
+        # What the last answer has, with what systemd knows.
+        self.values = {}
         self.histories, self.total, self.fallen = {}, None, None
         # The jobs that ended since this page began, and the last step with ends that weren't counted.
         self.ended, self.uncounted_step = 0, 0
@@ -112,25 +148,18 @@ class Watch:
         self.known_state, self.known_steps = None, []
         self.unit_step, self.unit_values, self.unit_failure = 0, {}, None
 
-    def begin(self):
-        threading.Thread(target=self.run, daemon=True).start()
+    def ask(self):
+        """Asks the server once."""
+        return ask_server(self.target, self.options.seconds, self.options.counts_jobs, MAX_FUNCTIONS)
 
-    def run(self):
-        while True:
-            begun, used = time.monotonic(), time.thread_time()
-            try:
-                self.take(ask_server(self.target, self.options.seconds, self.options.counts_jobs, MAX_FUNCTIONS), time.monotonic())
-            except Exception as error:  # pylint: disable=broad-except
-                # After a fault of this program the page must not show an old answer as the present one.
-                self.take(Answer({"gearman_up": 0}, {}, {}, 0, 0, f"gmd-metrics failed: {error!r}"), time.monotonic())
-            self.took = time.monotonic() - begun
-            time.sleep(max(PAUSE - self.took, PAUSE_BY_COST * (time.thread_time() - used), 0.1))
+    def failed(self, failure):
+        """What is known of a server that doesn't answer."""
+        return Answer({"gearman_up": 0}, {}, {}, 0, 0, failure)
 
     def take(self, answer, now):
         """Remembers an answer."""
         before, step = self.answer, int(now // STEP)
-        if before is None or bool(before.failure) != bool(answer.failure) or has_restarted(before, answer):
-            self.since, self.saw_begin = time.time(), before is not None
+        self.see_begin(answer, before is not None and has_restarted(before, answer))
         values = dict(answer.values)
         if self.target.unit:
             values.update(self.ask_systemd(step))
@@ -147,16 +176,12 @@ class Watch:
         polled = time.time() - (time.monotonic() - self.polled_at)
         return {**self.values, "gearman_poll_time_seconds": round(polled, 3), "gearman_poll_duration_seconds": round(self.took, 3)}
 
-    def is_stuck(self, now):
-        """Whether the server wasn't asked for so long that this program must be at fault."""
-        return now - self.polled_at > 60 + 2 * MAX_WORK * self.options.seconds
-
     def up_since(self):
         """When the server began, as a Unix time, and whether that is known, or only the end of the time in which it began."""
         start = self.values.get("gearman_start_time_seconds")
         if start and self.answer and not self.answer.failure:
             return start, True
-        return self.since, self.saw_begin
+        return super().up_since()
 
     def ask_systemd(self, step):
         """What systemd knows. It is asked once in each step, because each time is a process."""
