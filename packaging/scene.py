@@ -9,7 +9,8 @@ import threading
 import time
 
 import servers
-from servers import (CAN_DO, GRAB_JOB, GRAB_JOB_ALL, JOB_ASSIGN, JOB_CREATED, PATIENCE, ROOM_PATH, SUBMIT_JOB_BG, WORK_COMPLETE, Client, Wrong, within)
+from servers import (CAN_DO, GRAB_JOB, GRAB_JOB_ALL, JOB_ASSIGN, JOB_CREATED, PATIENCE, ROOM_PATH, SUBMIT_JOB_BG, WORK_COMPLETE, Client,
+                     Wrong, within)
 
 SET_CLIENT_ID, CANT_DO = 22, 2
 

@@ -1,14 +1,11 @@
 -- What the searches over notes need.
 use Rattle.std.proofs.Common.{◌≡◌, ℕ, zero, suc, ◌+◌, ◌<◌, true, false, List, [], ◌∷◌, ◌++◌, length, take, get_or, reverse, Some, refl}
 use Rattle.std.proofs.Common.{sym, ap, ◌∙◌, arith}
-use Rattle.std.specs.Prelude.{◌==◌}
-use Rattle.std.proofs.lemmas.Bool.Decides.{nat_tests}
 use Rattle.std.proofs.lemmas.List.{take_more, reverse-append}
 use Rattle.std.proofs.Math.Numerals.{add-one}
 use Rattle.gm_notes.specs.declared.note.Note.{Note}
 use Rattle.gm_notes.specs.Notes.{is_open}
 use Rattle.gm_notes.specs.Steps.{free_from}
-use Rattle.gm_notes.proofs.Numbers.{same_number}
 
 -- a slot that isn't open is the least free one
 pub free_here : (c n : ℕ) (notes : List Note) → 0 < n → is_open c notes ≡ false → free_from c n notes ≡ Some c

@@ -1,5 +1,5 @@
 -- A script prints one text.
-use Rattle.std.proofs.Common.{◌≡◌, ℕ, List, [], ◌∷◌, ◌++◌, Option, Some, None, refl, sym, ap, ap₂, subst, ◌∙◌}
+use Rattle.std.proofs.Common.{◌≡◌, ℕ, List, [], ◌∷◌, ◌++◌, Option, Some, None, sym, ap, ap₂, subst, ◌∙◌}
 use Rattle.gm_feeder.specs.declared.units.Limits.{Limits}
 use Rattle.gm_notes.specs.declared.event.ApplyError.{ApplyError}
 use Rattle.gm_notes.specs.Settings.{Settings}

@@ -1,7 +1,7 @@
 -- The command of `gmd` is one of which clap says how it fails, and what it reads.
 use Rattle.std.proofs.Common.{◌≡◌, ◌∙◌, Bool, true, false, refl, List, Option, Some, None, Result, Ok, Err, Bor, ap, subst, codes, unwrap_or, option_map}
 use Rattle.std.specs.Prelude.{IsErrAnd}
-use Rattle.clap.specs.Words.{App, Rule, Text, Row, first_of, first_value, found_of, matches_of, one_of, one_text, rows_of, is_simple, is_simple_and_free, HasMatchesOf, FailsBy, HasKind, Kinds}
+use Rattle.clap.specs.Words.{App, Text, first_of, first_value, found_of, matches_of, one_of, one_text, rows_of, is_simple, is_simple_and_free, HasMatchesOf, FailsBy, HasKind, Kinds}
 use Rattle.clap.specs.declared.error.Error.{Error}
 use Rattle.clap.specs.declared.parser.matches.ArgMatches.{ArgMatches}
 use Rattle.clap.proofs.WalkLemmas.{first_value-rows, one_text-rows}

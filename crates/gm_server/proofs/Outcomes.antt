@@ -10,7 +10,7 @@ use Rattle.gm_server.specs.declared.outcome.Outcome.TheVariants.{Said, Served}
 use Rattle.gm_server.specs.declared.outcome.RunError.{RunError}
 use Rattle.gm_server.specs.declared.outcome.RunError.TheVariants as errors
 use Rattle.gm_server.specs.Options.{fault_in, Reads}
-use Rattle.gm_server.specs.Outcomes.{IsRequest, SaysSo, DoesSo, EndsAs, Ask}
+use Rattle.gm_server.specs.Outcomes.{IsRequest, SaysSo, DoesSo, EndsAs}
 
 -- memory that ran out is no request
 no_request : (kind : ErrorKind) → kind ≡ kinds.OutOfMemory → IsRequest kind → ⊥

@@ -1,6 +1,6 @@
 -- The options of `gmd`: what clap gets to know of them, and what is read of the words of a call, of which the first is the program's name.
-use Rattle.std.specs.Prelude.{◌≡◌, Bool, true, [], ◌∷◌, List, Some, codes, pos, unwrap_or}
-use Rattle.clap.specs.Words.{App, Rule, Text, fault_of, first_of, matches_of, new_app, one_of, with_rule, Kinds}
+use Rattle.std.specs.Prelude.{◌≡◌, true, List, Some, codes, pos, unwrap_or}
+use Rattle.clap.specs.Words.{App, Text, fault_of, first_of, matches_of, new_app, one_of, with_rule, Kinds}
 use Rattle.gm_options.specs.Options.{number_rule, text_rule, flag_rule, with_server_rules, ReadsNumber, ReadsFlag}
 use Rattle.gm_server.specs.declared.args.Args.{Args}
 

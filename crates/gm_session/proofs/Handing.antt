@@ -74,8 +74,8 @@ pub unloading_none : (desk c : ℕ) (old : Stream) (seen : List Entry) → Unloa
 unloading_none desk c old seen = record { handed = handed_none desk c old.limits old.pending seen; limited = refl }
 
 module _ (k : Settings) (taped : Bool) (desk c : ℕ) (old : Stream) (seen mid_seen after : List Entry) (mid new : Stream) (u : Unloading desk c old seen mid_seen mid) where
-  pub unloading_more : (is_line : Bool) → TakesNext k taped desk c mid (Ok (AUnit is_line)) mid_seen after new → Unloading desk c old seen after new
-  unloading_more is_line t = record {
+  pub unloading_more : (may_be_long : Bool) → TakesNext k taped desk c mid (Ok (AUnit may_be_long)) mid_seen after new → Unloading desk c old seen after new
+  unloading_more may_be_long t = record {
     handed = record {
       items = u.handed.items ++ t.0 ∷ [];
       begins = begins_more old.limits old.pending u.handed.items t.0 mid new u.limited u.handed.begins t.1;
@@ -122,8 +122,8 @@ at_home k taped desk c n mid new seen after result same t = subst (λ (i : ℕ).
 -- ---- the next unit
 
 module _ (k : Settings) (taped : Bool) (desk c : ℕ) (old mid new : Stream) (seen after : List Entry) (same : mid ≡ old) where
-  pub next_unit : (s : Step) (is_line : Bool) → GivesEvent c mid s new → Applies k taped desk s (Ok tt) seen after → TakesNext k taped desk c old (Ok (AUnit is_line)) seen after new
-  next_unit s is_line g applies =
+  pub next_unit : (s : Step) (may_be_long : Bool) → GivesEvent c mid s new → Applies k taped desk s (Ok tt) seen after → TakesNext k taped desk c old (Ok (AUnit may_be_long)) seen after new
+  next_unit s may_be_long g applies =
       (g.item, subst (λ (m : Stream). GivesUnit m g.item new) same g.gives, adds_same desk (s ∷ []) (step_of_unit c g.item ∷ []) seen after (ap (λ (x : Step). x ∷ []) g.is_step) applies)
 
   pub next_none : GivesNone mid new → after ≡ seen → TakesNext k taped desk c old (Ok Nothing) seen after new

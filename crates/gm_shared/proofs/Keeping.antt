@@ -11,7 +11,6 @@ use Rattle.gm_word.specs.Seats.{PenState, fresh_pen, fresh_pens}
 use Rattle.gm_shared.specs.declared.book.Booked.{Booked}
 use Rattle.gm_shared.specs.declared.events.Noop.{Noop}
 use Rattle.gm_shared.specs.declared.tape.Told.{Told}
-use Rattle.gm_shared.specs.declared.tape.Entry.{Entry}
 use Rattle.gm_shared.specs.declared.receipt.Receipt.{Receipt}
 use Rattle.gm_shared.specs.Books.{Held}
 use Rattle.gm_shared.specs.Tokens.{KeeperState, one_witness_more}

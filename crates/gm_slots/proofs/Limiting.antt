@@ -1,5 +1,5 @@
 -- When limits are the same.
-use Rattle.std.proofs.Common.{◌≡◌, ℕ, ◌≤◌, Bool, true, false, nat_eq, refl, sym, ap, subst, ◌∙◌, eq-eqb}
+use Rattle.std.proofs.Common.{◌≡◌, ℕ, ◌≤◌, Bool, true, false, nat_eq, sym, ap, subst, ◌∙◌, eq-eqb}
 use Rattle.std.specs.Prelude.{◌&&◌, MatchBool}
 use Rattle.std.proofs.lemmas.Bool.{eqb-true}
 use Rattle.std.proofs.Math.Bridge.{le_prop}

@@ -17,16 +17,16 @@ from watch import NONE, PAUSE, STEP, STEPS, Ended
 
 # The functions and the lines of connections that the page shows at most, and the functions in such a line.
 MAX_SHOWN, MAX_LISTED = 200, 12
-# The pages with different filters and orders that are cached for a second at most.
-MAX_CACHED = 16
+# The pages with different filters and orders that are kept, for a second or so many times as long as it took to sort all functions.
+MAX_CACHED, KEPT_BY_COST = 64, 4
 # With more functions than this, those that are idle are hidden until they are asked for.
 MAX_UNFOLDED = 20
 # The age of a queue is shown from this many seconds on.
 SHOWN_AGE = 60
 NO_WORKERS, TAKE_NONE, MORE_RUN, ONLY_GROWN, FULL, FINE = range(6)
 STATES = {NO_WORKERS: ("bad", "no workers", "Jobs wait, and no worker can do them."),
-          TAKE_NONE: ("bad", "workers take none", "Jobs wait, and in half a minute none was seen to run or to end. Workers of PHP and C need "
-                      "GEARMAN_WORKER_GRAB_UNIQ; the journal of gmd says which packets it doesn't serve."),
+          TAKE_NONE: ("bad", "workers take none", "Jobs wait, and in half a minute none was seen to run or to end. Workers of PHP and C "
+                      "need GEARMAN_WORKER_GRAB_UNIQ; the journal of gmd says which packets it doesn't serve."),
           MORE_RUN: ("warn", "more run than workers", "A worker has several jobs, or one that it has left without an end."),
           ONLY_GROWN: ("note", "only grown", "The queue has grown and not fallen in the last five minutes, or since it was first seen."),
           FULL: ("note", "at its limit", "New jobs are refused with queue_full."),
@@ -56,7 +56,8 @@ def query_of(text):
 def parameters_of(query):
     """The address's parameters that ask for this."""
     order = f"{'-' * query.is_reversed}{query.order}"
-    given = (("filter", query.text), ("sort", order), ("server", query.server), ("sum", "1" * query.is_summed), ("idle", "1" * query.shows_idle))
+    given = (("filter", query.text), ("sort", order), ("server", query.server), ("sum", "1" * query.is_summed),
+             ("idle", "1" * query.shows_idle))
     return {name: value for name, value in given if value}
 
 
@@ -173,7 +174,8 @@ class Scene:
         """The lines, each with what a filter compares."""
         if is_summed not in self.sorted:
             lines = all_lines(self.watches, self.limits, self.now)
-            self.sorted[is_summed] = [(line.function.casefold(), line) for line in sorted(added_up(lines) if is_summed else lines, key=importance)]
+            lines = sorted(added_up(lines) if is_summed else lines, key=importance)
+            self.sorted[is_summed] = [(line.function.casefold(), line) for line in lines]
         return self.sorted[is_summed]
 
     def found(self, query):
@@ -217,12 +219,10 @@ def chart_of(values, name, what):
 def series_of(parts, now, value):
     """A value for each step of fifteen minutes, added up over servers, or None where none of them answered."""
     step = int(now // STEP)
-    found = []
-    for index in range(step - STEPS + 1, step + 1):
-        # It may not have been asked yet in the step that has just begun.
-        known = [value(history, min(index, history.step)) if history else 0 for watch, history, _ in parts
-                 if watch.has_answered(index) or index == step and watch.has_answered(step - 1)]
-        found.append(sum(known) if known else None)
+    found = [None] * STEPS
+    for watch, history, _ in parts:
+        for place, index in watch.steps_with_answers(step):
+            found[place] = (found[place] or 0) + (value(history, min(index, history.step)) if history else 0)
     return found
 
 
@@ -279,7 +279,8 @@ def since_of(watch, now):
     at = time.strftime("%Y-%m-%d %H:%M:%S", time.localtime(since))
     how = "since" if is_known else "since this page began, or longer:"
     age = now - watch.polled_at
-    return (f'for {"" if is_known else "at least "}<time title="{how} {at}. Polled {duration(age)} ago">{duration(time.time() - since)}</time>'
+    title = f"{how} {at}. Polled {duration(age)} ago"
+    return (f'for {"" if is_known else "at least "}<time title="{title}">{duration(time.time() - since)}</time>'
             + (f", polled {duration(age)} ago" if age > 3 * PAUSE else ""))
 
 
@@ -369,8 +370,8 @@ def functions_section(scene, query):
     lines, idle = scene.found(query)
     chosen = chosen_lines(lines, query, scene.now)
     are_several = len(scene.watches) > 1
-    columns = [column for column in COLUMNS
-               if (column != "server" or are_several) and (column != "limit" or scene.limits or any(watch.limits for watch in scene.watches))]
+    has_limits = scene.limits or any(watch.limits for watch in scene.watches)
+    columns = [column for column in COLUMNS if (column != "server" or are_several) and (column != "limit" or has_limits)]
     table = ""
     if lines:
         heads = "".join(column_head(column, COLUMNS[column], query) for column in columns)
@@ -452,7 +453,8 @@ def numbers_of(watch, limits, now):
     """What is known of a server, for programs."""
     answer, values = watch.answer, watch.values
     since, is_known = watch.up_since()
-    found = {"server": label_of(watch.target), "up": None if answer is None else not answer.failure, "since": since, "since_is_known": is_known}
+    found = {"server": label_of(watch.target), "up": None if answer is None else not answer.failure, "since": since,
+             "since_is_known": is_known}
     if answer is None or answer.failure:
         return {**found, "failure": answer and answer.failure, "functions": []}
     named = {"version": "gearman_info", "connections": "gearman_connections", "slots": "gearman_slots", "memory": "gearman_memory_bytes",
@@ -464,8 +466,8 @@ def numbers_of(watch, limits, now):
     functions = []
     for line in sorted(all_lines([watch], limits, now), key=importance):
         ended = ended_of(line, now)
-        functions.append({"function": line.function, "state": STATES[line.state][1] or "fine", "waiting": line.waiting, "running": line.running,
-                          "workers": line.workers, "limit": line.limit, "ended_in_minute": ended.count, "ended_is_exact": ended.is_exact})
+        functions.append({"function": line.function, "state": STATES[line.state][1] or "fine", "waiting": line.waiting,
+                          "running": line.running, "workers": line.workers, "limit": line.limit, "ended_in_minute": ended.count, "ended_is_exact": ended.is_exact})
     return {**found, "functions": functions}
 
 
@@ -481,19 +483,19 @@ class Page:
                          .decode() for tag in ("style", "script"))
         self.policy = (f"default-src 'none'; style-src 'sha256-{style}'; script-src 'sha256-{script}'; connect-src 'self'; img-src data:; "
                        "form-action 'self'; base-uri 'none'; frame-ancestors 'none'")
-        self.lock, self.cached, self.scene, self.cached_second = threading.Lock(), {}, None, 0
+        self.lock, self.cached, self.scene, self.kept_until = threading.Lock(), {}, None, 0
 
     def body(self, path, query):
         """The body at this path, or None. Each is made once a second at most, and one at a time, however many clients there are."""
         make = {"/": self.html, "/metrics": self.metrics, "/json": self.json}.get(path)
         key = (path, query_of(query) if path == "/" else None)
         with self.lock:
-            second = int(time.monotonic())
-            if second != self.cached_second:
-                self.cached, self.scene, self.cached_second = {}, None, second
-            if len(self.cached) >= MAX_CACHED:
-                self.cached = {}
+            now = time.monotonic()
+            if now >= self.kept_until:
+                self.cached, self.scene, self.kept_until = {}, None, now + 1
             if make and key not in self.cached:
+                if len(self.cached) >= MAX_CACHED:
+                    del self.cached[next(iter(self.cached))]
                 self.cached[key] = make(key[1]).encode(errors="backslashreplace")
             return self.cached.get(key)
 
@@ -510,8 +512,16 @@ class Page:
         now = time.monotonic()
         return json.dumps({"servers": [numbers_of(watch, self.limits, now) for watch in self.watches]}) + "\n"
 
+    def present_scene(self):
+        """All functions as they are now, or were a moment ago."""
+        if not self.scene:
+            self.scene = Scene(self.watches, self.limits)
+            made = time.monotonic()
+            self.kept_until = made + max(1, KEPT_BY_COST * (made - self.scene.now))
+        return self.scene
+
     def html(self, query):
-        scene = self.scene = self.scene or Scene(self.watches, self.limits)
+        scene = self.present_scene()
         kept = {name: value for name, value in parameters_of(query).items() if name != "filter"}
         fields = {
             "TITLE": " · ".join([*(text for text, _ in scene.problems), "Gearman"]), "FILTER": html.escape(query.text),

@@ -35,13 +35,13 @@ MADE = "gearman_jobs_created_total"
 
 class History:
     """Fifteen minutes of a function: the jobs that waited at the end of each step, and the jobs that ended in it, as far as was seen."""
-    __slots__ = ("step", "busy_step", "rises_since", "untaken_since", "empty_at", "saw_empty", "running_steps", "waiting", "ended")
+    __slots__ = ("step", "busy_step", "rises_since", "untaken_since", "empty_at", "saw_empty", "passing_steps", "waiting", "ended")
 
     def __init__(self, now, empty_at=None):
         self.step = self.busy_step = int(now // STEP)
         self.begin(now, empty_at)
-        # A bit for each of the last minute's steps in which jobs were seen to run, the present one lowest.
-        self.running_steps = 0
+        # A bit for each step in which jobs ran or ended beside an empty queue, the present one lowest, and those of the minute before it.
+        self.passing_steps = 0
         self.waiting, self.ended = array.array("I", bytes(4 * STEPS)), array.array("I", bytes(4 * STEPS))
 
     def begin(self, now, empty_at=None):
@@ -61,7 +61,8 @@ class History:
             self.untaken_since = now
         for passed in range(max(self.step, step - STEPS) + 1, step + 1):
             self.waiting[passed % STEPS] = self.ended[passed % STEPS] = 0
-        self.running_steps = (self.running_steps << min(step - self.step, MINUTE) | bool(function.running)) & (1 << MINUTE) - 1
+        is_passing = not waiting and bool(function.running or ended)
+        self.passing_steps = (self.passing_steps << min(step - self.step, MINUTE + 1) | is_passing) & (2 << MINUTE) - 1
         if waiting or ended:
             self.busy_step = step
         self.step = step
@@ -108,6 +109,7 @@ class Watch:
         self.limits = {}
         # The last step with an answer, for each index modulo STEPS.
         self.answered_steps = array.array("Q", bytes(8 * STEPS))
+        self.known_state, self.known_steps = None, []
         self.unit_step, self.unit_values, self.unit_failure = 0, {}, None
 
     def begin(self):
@@ -201,24 +203,36 @@ class Watch:
         self.ended += exact
 
     def ended_of(self, history, function, now):
-        """How many jobs of a function, or of the whole server, ended in the last minute, as far as polls tell."""
-        step = int(now // STEP)
+        """How many jobs of a function, or of the whole server, ended in the minute of the last whole steps, as far as polls tell."""
+        step = int(now // STEP) - 1
         count = history.ended_in_minute(step) if history else 0
-        is_counted = self.options.counts_jobs and step - self.uncounted_step > MINUTE
+        is_counted = self.options.counts_jobs and step - self.uncounted_step >= MINUTE
         if is_counted:
             missing = self.total.ended_in_minute(step) - self.fallen.ended_in_minute(step)
             if history is self.total or missing <= 0 or not (count or function.workers or function.running):
                 return Ended(count, True, "")
             if count < missing:
-                return Ended(None, False, f"{count:,} were seen to end in the last minute. {missing:,} more jobs of this server came and ended "
-                             "between two polls, and of which functions isn't known.")
-        elif history and count < bin(history.running_steps).count("1"):
-            return Ended(None, False, f"{count:,} were seen to end in the last minute, but jobs ran in most of it: they run longer, or come and "
-                         "end between two polls.")
+                return Ended(None, False, f"{count:,} were seen to end in the last minute. {missing:,} more jobs of this server came and "
+                             "ended between two polls, and of which functions isn't known.")
+        elif history and history.passing_steps >> 1:
+            # Where the queue is never empty, a new job waits behind others.
+            return Ended(None, False, f"{count:,} were seen to end in the last minute. The queue was empty meanwhile, so that more may have "
+                         "come and ended between two polls.")
         return Ended(count, False, "")
 
     def has_answered(self, step):
+        """Whether an answer came in this step."""
         return self.answered_steps[step % STEPS] == step
+
+    def steps_with_answers(self, step):
+        """The steps of fifteen minutes up to this one in which answers came, each behind its place. Each chart of a page asks for them."""
+        state = (step, self.polled_at)
+        if state != self.known_state:
+            # It may not have been asked yet in the step that has just begun.
+            self.known_steps = [(place, index) for place, index in enumerate(range(step - STEPS + 1, step + 1))
+                                if self.has_answered(index) or index == step and self.has_answered(step - 1)]
+            self.known_state = state
+        return self.known_steps
 
 
 def jobs_of(function):

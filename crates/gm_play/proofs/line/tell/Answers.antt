@@ -1,4 +1,4 @@
-use Rattle.std.proofs.Common.{◌<◌, ◌∙◌, length, arith, refl}
+use Rattle.std.proofs.Common.{◌<◌, length, arith, refl}
 use Rattle.gm_play.proofs.Telling.{begins, ends, one_more}
 use Rattle.gm_play.proofs.line.tell.Goals as goal
 

@@ -1,5 +1,4 @@
-use Rattle.std.proofs.Common.{sym, subst, map}
-use Rattle.gm_server.specs.Outcomes.{EndsAs}
+use Rattle.std.proofs.Common.{map}
 use Rattle.gm_server.proofs.Outcomes.{says_as, does_as}
 use Rattle.gm_server.proofs.run.outcome_of.Goals as goal
 use Rattle.gm_server.proofs.run.outcome_of.Goals.{in-Ok, in-Err+in-Some-1, in-Err+in-None-1}

@@ -1,0 +1,70 @@
+"""What the commands beside `run` do: they print and change rows."""
+import json
+
+# Rows that `purge` deletes at once, so that no lock is held for long.
+PURGED = 10_000
+
+
+def printable(value):
+    """A value as text, without signs that a terminal may obey."""
+    if value is None:
+        return ""
+    return "".join(sign if sign.isprintable() else sign.encode("unicode_escape").decode() for sign in str(value))
+
+
+def print_table(heads, rows):
+    """Prints rows below heads, in columns. Numbers are to the right."""
+    cells = [[printable(value) for value in row] for row in rows]
+    widths = [max(map(len, column)) for column in zip(heads, *cells)]
+    for line, row in zip([heads, *cells], [heads, *rows]):
+        print("  ".join(f"{cell:>{width}}" if isinstance(value, int) else f"{cell:<{width}}"
+                        for cell, width, value in zip(line, widths, row)).rstrip())
+
+
+def status(store, options):
+    """Prints how many rows there are of each function, by their states, and for how long the oldest has waited that is due."""
+    states = ("waiting", "running", "done", "failed")
+    functions = {}
+    for function, state, count in store.counts():
+        functions.setdefault(function, dict.fromkeys(states, 0))[state] = count
+    oldest = store.oldest()
+    if options.json:
+        print(json.dumps({"functions": functions, "oldest_due_seconds": round(oldest, 3)}))
+        return 0
+    print_table(("function", *states), [(function, *counts.values()) for function, counts in functions.items()])
+    print(f"the oldest row that is due has waited for {oldest:.1f} s")
+    return 0
+
+
+def list_rows(store, options):
+    """Prints the last rows."""
+    found = store.rows(options.state, options.function, options.limit)
+    if options.json:
+        print(json.dumps(found, indent=1))
+        return 0
+    names = ("id", "function", "state", "priority", "run_at", "attempts", "server", "handle", "error")
+    print_table(names, [tuple(row[name] for name in names) for row in found])
+    return 0
+
+
+def change(store, options):
+    """Has rows be tried again, or cancels them. 1 if one of them wasn't in a state for that."""
+    changed = (store.retry if options.command == "retry" else store.cancel)(options.ids)
+    left = sorted(set(options.ids) - changed)
+    if options.json:
+        print(json.dumps({"changed": sorted(changed), "left": left}))
+    else:
+        print(f"{len(changed)} rows changed" + (f"; these are left as they are: {' '.join(map(str, left))}" if left else ""))
+    return 1 if left else 0
+
+
+def purge(store, options):
+    """Deletes rows that ended long ago."""
+    first, last = store.bounds()
+    states = ["done", "failed"] if options.failed else ["done"]
+    count = 0
+    if first is not None:
+        for begin in range(first, last + 1, PURGED):
+            count += store.purge(begin, min(begin + PURGED - 1, last), options.days, states)
+    print(json.dumps({"deleted": count}) if options.json else f"{count} rows deleted")
+    return 0

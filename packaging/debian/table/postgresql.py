@@ -1,0 +1,197 @@
+"""The table in PostgreSQL. Each time in it is by the database's clock."""
+import select
+
+import psycopg2
+import psycopg2.extras
+
+from rows import Row
+from schema import COLUMNS, SIZES, SchemaError, check_version
+
+# Each statement goes by an index, also before the first statistics of a table exist.
+SETTINGS = "; ".join(f"SET {name} = off" for name in ("enable_seqscan", "enable_bitmapscan", "enable_hashjoin", "enable_mergejoin",
+                                                      "enable_sort", "jit"))
+# The different functions and priorities of rows that wait: for each, one look into the index.
+PAIRS = """
+WITH RECURSIVE pairs AS (
+    (SELECT function, priority FROM gearman_jobs WHERE state = 'waiting' ORDER BY function, priority LIMIT 1)
+    UNION ALL
+    SELECT next.function, next.priority FROM pairs, LATERAL (
+        SELECT function, priority FROM gearman_jobs WHERE state = 'waiting' AND (function, priority) > (pairs.function, pairs.priority)
+        ORDER BY function, priority LIMIT 1) AS next)
+SELECT function, priority FROM pairs"""
+CLAIM = """
+WITH picked AS MATERIALIZED (
+    SELECT found.id, row_number() OVER (ORDER BY wanted.place, found.due, found.id) AS place,
+        CASE WHEN found.size <= %(max_data)s THEN found.size ELSE 0 END AS size
+    FROM unnest(%(functions)s::text[], %(rooms)s::integer[]) WITH ORDINALITY AS wanted (function, room, place), LATERAL (
+        SELECT id, coalesce(retry_at, run_at) AS due, octet_length(data) AS size FROM gearman_jobs
+        WHERE state = 'waiting' AND function = wanted.function AND priority = %(priority)s AND coalesce(retry_at, run_at) <= now()
+        ORDER BY coalesce(retry_at, run_at), id LIMIT wanted.room FOR UPDATE SKIP LOCKED) AS found
+), fitting AS (
+    SELECT id FROM (SELECT id, place, sum(size) OVER (ORDER BY place) AS bytes FROM picked) AS sums
+    WHERE bytes <= %(max_bytes)s OR place = 1
+)
+UPDATE gearman_jobs AS job SET state = 'running', claims = claims + 1, holder = %(holder)s, claimed_at = now(),
+    lease = now() + %(lease)s * interval '1 second'
+FROM fitting WHERE job.id = fitting.id
+RETURNING job.id, claims, function, unique_id, priority, attempts, max_attempts,
+    CASE WHEN octet_length(data) <= %(max_data)s THEN data END, octet_length(data),
+    extract(epoch FROM coalesce(retry_at, run_at))::float8"""
+# The case compares columns of both sides, here and below. So rows are found by their ids alone: statistics may say that hardly any row is
+# running, and then all rows would be read, and compared with all values.
+WRITE = """
+UPDATE gearman_jobs AS job SET state = new.state, attempts = job.attempts + new.counted, result = new.result,
+    error = CASE WHEN new.state = 'done' THEN NULL ELSE coalesce(new.error, job.error) END,
+    retry_at = CASE WHEN new.delay IS NULL THEN job.retry_at ELSE now() + new.delay * interval '1 second' END,
+    ended_at = CASE WHEN new.state <> 'waiting' THEN now() END, holder = NULL, lease = NULL, server = NULL, handle = NULL
+FROM (VALUES %s) AS new (id, claims, state, counted, result, error, delay)
+WHERE job.id = new.id AND CASE WHEN job.claims = new.claims THEN job.state = 'running' ELSE false END
+RETURNING job.id, CASE WHEN isfinite(job.run_at) THEN extract(epoch FROM now() - job.run_at)::float8 ELSE 0 END"""
+RENEW = """
+UPDATE gearman_jobs AS job SET lease = now() + %(lease)s * interval '1 second', server = new.server, handle = new.handle
+FROM unnest(%(ids)s::bigint[], %(claims)s::bigint[], %(servers)s::text[], %(handles)s::text[]) AS new (id, claims, server, handle)
+WHERE job.id = new.id AND CASE WHEN job.claims = new.claims THEN job.state = 'running' ELSE false END
+RETURNING job.id"""
+# From the sixth time on a lost row is given more and more time, in case that it is what takes each gmd-table down.
+FREE = """
+UPDATE gearman_jobs SET state = 'waiting', losses = losses + 1, holder = NULL, lease = NULL, server = NULL, handle = NULL,
+    error = 'the lease ended: its gmd-table went',
+    retry_at = CASE WHEN losses >= 5 THEN now() + power(2, least(losses - 5, 6)) * interval '1 second' ELSE retry_at END
+WHERE id IN (SELECT id FROM gearman_jobs WHERE state = 'running' AND lease < now() ORDER BY lease LIMIT 1000 FOR UPDATE SKIP LOCKED)"""
+COUNTS = "SELECT function, state, count(*) FROM gearman_jobs GROUP BY function, state ORDER BY function, state"
+OLDEST = """
+SELECT extract(epoch FROM now() - min(coalesce(retry_at, run_at)))::float8 FROM gearman_jobs
+WHERE state = 'waiting' AND coalesce(retry_at, run_at) <= now() AND isfinite(coalesce(retry_at, run_at))"""
+# Classes of errors that are of the database and not of a row: no resources, a server that stops, a transaction that may not write.
+OF_DATABASE = ("08", "25", "40", "53", "57", "58")
+
+
+class PostgreSQL:
+    """The table, over one connection."""
+    errors = (psycopg2.Error,)
+
+    def __init__(self, database, options=None):
+        is_name = "=" not in database and "/" not in database
+        self.address, self.options = {"dbname": database} if is_name else {"dsn": database}, options
+        self.connection = None
+
+    def open(self):
+        """Connects, and listens for new rows if it is to run."""
+        if self.connection:
+            return
+        connection = psycopg2.connect(**self.address, connect_timeout=10, application_name="gmd-table", keepalives_idle=30,
+                                      keepalives_interval=10, keepalives_count=3, tcp_user_timeout=60_000)
+        connection.autocommit = True
+        connection.set_client_encoding("UTF8")
+        self.connection = connection
+        try:
+            self.check_schema()
+            if self.options:
+                self.ask(SETTINGS)
+                self.ask("LISTEN gearman_jobs")
+        except BaseException:
+            self.close()
+            raise
+
+    def close(self):
+        """Leaves the database. The next `open` connects again."""
+        if self.connection:
+            self.connection.close()
+        self.connection = None
+
+    def ask(self, statement, values=None):
+        """The rows of a statement's answer, or how many it changed."""
+        with self.connection.cursor() as cursor:
+            cursor.execute(statement, values)
+            return cursor.fetchall() if cursor.description else cursor.rowcount
+
+    def check_schema(self):
+        """Whether the table is one that this program can use."""
+        if self.connection.get_parameter_status("server_encoding") == "SQL_ASCII":
+            raise SchemaError("the database's encoding is SQL_ASCII, and has to be one that says which characters there are, as UTF8")
+        [[is_there]] = self.ask("SELECT to_regclass('gearman_jobs_version') IS NOT NULL AND to_regclass('gearman_jobs') IS NOT NULL")
+        check_version(self.ask("SELECT max(version) FROM gearman_jobs_version")[0][0] if is_there else None, "postgresql")
+
+    def is_of_row(self, error):
+        """Whether a row may be at fault, and not the database."""
+        return not self.connection.closed and error.pgcode is not None and not error.pgcode.startswith(OF_DATABASE)
+
+    ### What `run` does
+
+    def pairs(self):
+        """The functions and priorities of rows that wait."""
+        return self.ask(PAIRS)
+
+    def claim(self, priority, rooms, max_bytes):
+        """Takes rows of this priority that are due: of each function at most this many, with at most this many bytes in all, or one."""
+        found = self.ask(CLAIM, {"functions": list(rooms), "rooms": list(rooms.values()), "priority": priority, "max_bytes": max_bytes,
+                                 "max_data": self.options.max_data, "holder": self.options.holder, "lease": self.options.lease})
+        return [Row(id_, claims, function.encode(), (unique or "").encode(), level, attempts, most, None if data is None else bytes(data),
+                    size, due) for id_, claims, function, unique, level, attempts, most, data, size, due in found]
+
+    def write(self, outcomes):
+        """Writes what became of rows. The ids of those that this gmd-table still had, with their seconds since they were due."""
+        values = [(out.row.id, out.row.claims, out.state, out.counted, out.result, out.error, out.delay) for out in outcomes]
+        with self.connection.cursor() as cursor:
+            return psycopg2.extras.execute_values(
+                cursor, WRITE, values, "(%s::bigint, %s::bigint, %s, %s::integer, %s::bytea, %s::text, %s::float8)",
+                page_size=len(values), fetch=True)
+
+    def renew(self, rows):
+        """Renews leases. The ids of the rows that this gmd-table still had."""
+        return {id_ for [id_] in self.ask(RENEW, {
+            "ids": [row.id for row in rows], "claims": [row.claims for row in rows], "lease": self.options.lease,
+            "servers": [row.server for row in rows], "handles": [row.handle.decode(errors="backslashreplace") for row in rows]})}
+
+    def free(self):
+        """Has rows wait again whose leases ended."""
+        return self.ask(FREE)
+
+    def wait(self, bell, seconds):
+        """Waits until the bell rings or rows were inserted. Whether rows were."""
+        if not self.connection.notifies:
+            select.select([self.connection, bell], [], [], seconds)
+        self.connection.poll()
+        has_new = bool(self.connection.notifies)
+        self.connection.notifies.clear()
+        return has_new
+
+    ### What the other commands do
+
+    def counts(self):
+        """How many rows there are of each function and state."""
+        return self.ask(COUNTS)
+
+    def oldest(self):
+        """For how many seconds the oldest row has been due that waits."""
+        return self.ask(OLDEST)[0][0] or 0.0
+
+    def rows(self, state, function, most):
+        """The last rows, by their columns' names: perhaps only those of a state or a function."""
+        names = ", ".join(f"{name}::text" if name.endswith("_at") or name == "lease" else name for name in COLUMNS)
+        found = self.ask(f"""SELECT {names}, octet_length(data), octet_length(result) FROM gearman_jobs
+            WHERE (%(state)s IS NULL OR state = %(state)s) AND (%(function)s IS NULL OR function = %(function)s)
+            ORDER BY id DESC LIMIT %(most)s""", {"state": state, "function": function, "most": most})
+        return [dict(zip(COLUMNS + SIZES, row)) for row in found]
+
+    def retry(self, ids):
+        """Has failed rows, and those that wait for another attempt, be due now. The ids of those."""
+        return {id_ for [id_] in self.ask("""
+            UPDATE gearman_jobs SET state = 'waiting', attempts = 0, losses = 0, ended_at = NULL,
+            retry_at = CASE WHEN run_at > now() THEN now() END
+            WHERE id = ANY(%s) AND state IN ('failed', 'waiting') RETURNING id""", [ids])}
+
+    def cancel(self, ids):
+        """Has rows fail that wait or run. The ids of those."""
+        return {id_ for [id_] in self.ask("""
+            UPDATE gearman_jobs SET state = 'failed', error = 'cancelled', ended_at = now(), holder = NULL, lease = NULL, server = NULL,
+            handle = NULL WHERE id = ANY(%s) AND state IN ('waiting', 'running') RETURNING id""", [ids])}
+
+    def bounds(self):
+        """The least and the greatest id."""
+        return self.ask("SELECT min(id), max(id) FROM gearman_jobs")[0]
+
+    def purge(self, first, last, days, states):
+        """Deletes rows of these states, between these ids, that ended so many days ago. How many."""
+        return self.ask("""DELETE FROM gearman_jobs WHERE id BETWEEN %s AND %s AND state = ANY(%s)
+            AND ended_at < now() - %s * interval '1 day'""", [first, last, states, days])
