@@ -14,6 +14,18 @@ KIT = pathlib.Path(subprocess.run(["rt", "doc"], capture_output=True, text=True,
 ROOM = tempfile.TemporaryDirectory(prefix="gmd-test-")
 ROOM_PATH = pathlib.Path(ROOM.name)
 counts = {"passed": 0, "failed": 0, "skipped": 0}
+# With UNPROVED set the program was built without proofs, and has checks that these trials don't allow for.
+SLOW = "a program that was built without proofs is too slow for it"
+NO_LIMIT = "a program that was built without proofs maps 16 TB, which a limit of address space refuses"
+UNSERVED = {
+    "script_lengths: newlines alone": SLOW,
+    "starts_not: address space": NO_LIMIT,
+    "served_beside_announcers": NO_LIMIT,
+    "shutdown_beside_slow": SLOW,
+    "shutdown_beside_long_end": SLOW,
+    "shutdown_end: beside a peer that takes nothing": SLOW,
+    "shutdown_end: beside one that takes little": SLOW,
+} if "UNPROVED" in os.environ else {}
 
 
 class Wrong(Exception):
@@ -35,6 +47,9 @@ signal.signal(signal.SIGTERM, hang)
 def check(name, call, *args, **named):
     """A check passes where its function returns; what that returns is a remark on it. Its name is that of a trial, and perhaps
     ': ' and what is tried."""
+    if name in UNSERVED:
+        skip(name, UNSERVED[name])
+        return
     try:
         remark = call(*args, **named)
     except Wrong as wrong:
