@@ -48,7 +48,7 @@ impl Leftover {
         Leftover { slot, finish }
     }
 
-    /// Runs `wake` with the slot, which wakes its finisher, if that is to be woken; and says what came of the delivery.
+    /// Says what came of the delivery. If the slot's finisher is to be woken, `wake` is called with the slot.
     pub fn settle<F: FnOnce(u32)>(self, wake: F) -> Finish
         requires { F.FnOnce.pre wake (self.slot, tt) }
         ensures finish { result ≡ self.finish }

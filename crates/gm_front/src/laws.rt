@@ -1,5 +1,4 @@
-//! What is true of all inputs, and so of every front. Each function here is a law: its body does nothing, and its
-//! contract is the law.
+//! What is true of all inputs, and so of every front. Each function here is a law: its contract states it, and its body is empty.
 
 ghost use Rattle.std.specs.Prelude.{◌≡◌, ℕ, List, [], ◌∷◌, ◌++◌, false, Some};
 ghost use Rattle.gm_feeder.specs.declared.units.Limits.{Limits};

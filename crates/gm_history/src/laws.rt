@@ -1,4 +1,4 @@
-//! What every history keeps. Each function here is a law: its body does nothing, and its contract is the law.
+//! What every history keeps. Each function here is a law: its contract states it, and its body is empty.
 
 ghost use Rattle.gm_history.specs.History.{History};
 ghost use Rattle.gm_history.specs.Laws.{AfterAnySteps, InEachStep, NotesAreCaused, SleepersAreOpen, BytesArrive};

@@ -1,5 +1,4 @@
-//! What holds after any steps, under any settings. Each function here is a law: its body does nothing, and its
-//! contract is the law.
+//! What holds after any steps, under any settings. Each function here is a law: its contract states it, and its body is empty.
 
 ghost use Rattle.gm_notes.specs.Jobs.{made};
 ghost use Rattle.gm_history.specs.Laws.{AfterAnySteps, InEachStep};

@@ -1,6 +1,6 @@
 //! The promise, out to the threads: what the one history of a server's calls says. A server ends with such a history, with a tape or
-//! without; it is said for every number of connections, and however their threads interleaved. Each function here is a law: its body
-//! does nothing, and its contract is the law.
+//! without; it is said for every number of connections, and however their threads interleaved. Each function here is a law: its
+//! contract states it, and its body is empty.
 
 ghost use Rattle.gm_promise.specs.Promise.{NoSlotSpeaksForAnother, SessionsAreInTheHistory, BytesAreInTheHistory};
 ghost use Rattle.gm_promise.specs.Promise.{InEachEntry, WhatIsSubmittedIsWorkedOn, ClientsAreTold};

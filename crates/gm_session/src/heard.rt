@@ -133,14 +133,18 @@ impl<I: Source<Patience>> Source<Patience> for LoggedSource<I> {
     }
 }
 
-/// A connection that is gone: what its slot's desk had seen of the history when the one before it was closed, and when it was closed, the slot
-/// and opening to which its half of a socket was assigned, if it was read, all that was read from it, and whether all whole units of that were handed in. No value is made.
+/// What was read from a connection that is gone. Only proofs have such a value: none is made.
 #[derive(Drop)]
 pub struct Heard {
+    /// What the slot's desk had seen of the history when the connection before this one was closed.
     pub since: LinkedList<Entry>,
+    /// What it had seen when this one was closed.
     pub until: LinkedList<Entry>,
+    /// The slot and opening to which the half of a socket was assigned that was read, if one was.
     pub of: Option<(u32, u64)>,
+    /// All that was read.
     pub read: LinkedList<u8>,
+    /// Whether all whole units of that were handed in.
     pub is_whole: bool,
 }
 

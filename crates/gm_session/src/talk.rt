@@ -297,7 +297,7 @@ impl<K: BookName, I: Source<Patience> + Drop> Talk<K, I> {
         }
     }
 
-    /// Reads what comes after the session is over, and drops it: into this room, by one call, and says how many bytes these were.
+    /// Reads once after the session is over, into this room, and drops the bytes. It says how many there were.
     pub fn discard(&mut self, by: &Patience, room: &mut [u8]) -> io::Result<usize>
         ensures discards { Discards self.old.talking self.old self.new }
         ensures over { session_ended self.new.talking ≡ true }

@@ -21,7 +21,7 @@ fn assert_slots(rt: &impl Abort, event: Given, set: &SlotSet, slots: &[u32]) {
     let mut from = 0;
     for slot in slots {
         same(rt, event, &set.next(from), &Some(*slot));
-        from = *slot + 1;
+        from = slot.saturating_add(1);
     }
     same(rt, event, &set.next(from), &None);
 }

@@ -133,7 +133,8 @@ pub fn serve<R: Threads + Wait + Clock + Eprint + Copy + Send + Sync + 'static, 
     }
 }
 
-/// The same (`serve`), with this service and the pollers of its threads that are there from the start. The announcer tells how it is.
+/// As `serve`, with a service that is made already, and with the pollers of the threads that are there from the start. The announcer
+/// tells how the server is.
 pub fn serve_with<R: Threads + Wait + Clock + Sync, G: Gate, W: Write>(
     rt: &R,
     alloc: Global,

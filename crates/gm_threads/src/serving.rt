@@ -20,8 +20,8 @@ use std::time::Clock;
 /// How much is dropped at a time of what a connection still sends that is to end.
 const DROPPED: usize = 4_096;
 
-/// Reads what a connection still sends that is to end, and drops it: before its socket is closed, as the system else forgets what the
-/// peer hasn't read yet. It says whether the input has ended.
+/// Reads and drops what still comes from a connection that is to end. This is done before its socket is closed, because otherwise the
+/// system forgets what the peer hasn't read yet. It says whether the input has ended.
 pub(crate) fn discard<K: BookName>(talk: &mut Talk<K, ReadHalf>, patience: Patience) -> bool
     ensures { session_ended talk.new.talking ≡ true }
 {
@@ -49,7 +49,8 @@ impl<'s, K: BookName> ServerState<'s, K> {
         }
     }
 
-    /// Reads a piece and takes a turn, or reads what is dropped, and says whether nothing is read from the connection any more.
+    /// Reads once from the connection: a piece, of which a turn takes the units, or, after the session is over, bytes that are dropped. It
+    /// says whether the connection's input is over.
     fn read<R: Wait + Clock, G: Gate>(
         &self,
         rt: &R,

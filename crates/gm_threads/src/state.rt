@@ -63,7 +63,8 @@ impl<'s, K: BookName> ServerState<'s, K> {
         })
     }
 
-    /// Settles the book, once no thread has any part of it. This many connections were opened.
+    /// Ends the book and compares it with what the desks and pens were told. No thread has a part of the server any more, and this many
+    /// connections were opened.
     pub(crate) fn settle(self, connections: u64) -> Result<Served, AllocError>
         ensures { IfOk result (λ served. SettledSo K.settings K.taped self.entry.service.now.limits K.history served.book served.accounts.items) }
     {
