@@ -59,6 +59,7 @@ class SQLite:
         self.path, self.options = path, options
         self.connection = None
         self.version = None  # of the file, which changes when another connection writes it
+        self.was_locked = False  # when ended leases were looked for last
 
     def open(self):
         """Opens the file, which has to be there."""
@@ -145,11 +146,22 @@ class SQLite:
                 str(self.options.lease), row.server, row.handle.decode(errors="backslashreplace"), row.id, row.claims))}
 
     def free(self):
-        """Has rows wait again whose leases ended."""
+        """Has rows wait again whose leases ended. It doesn't wait for the file's lock: who has these rows may wait for it too, to renew their
+        leases. Where it was locked, they have until the next look."""
         if not self.ask(f"SELECT 1 FROM gearman_jobs WHERE state = 'running' AND lease < {SQLITE_NOW} LIMIT 1"):
             return 0
-        with self.writing():
-            return self.ask(FREE)
+        self.ask("PRAGMA busy_timeout = 0")
+        try:
+            with self.writing():
+                was_locked, self.was_locked = self.was_locked, False
+                return 0 if was_locked else self.ask(FREE)
+        except sqlite3.OperationalError as error:
+            if "locked" not in str(error):
+                raise
+            self.was_locked = True
+            return 0
+        finally:
+            self.ask(f"PRAGMA busy_timeout = {BUSY * 1000}")
 
     def wait(self, bell, seconds):
         """Waits until the bell rings or another connection wrote the file. Whether one did."""
