@@ -94,7 +94,7 @@ inline resolve_noop(s, takes_back) {
     fi
 }
 
-/* The core takes the unit (gm_core), as far as delivery goes */
+/* The core takes the unit (gm_core), as far as delivery goes. COMPLETE is each report that ends a job, with --as-gearmand an exception too */
 inline core_apply(s, unit) {
         if
         :: unit == GRAB ->
@@ -161,9 +161,10 @@ inline hold(s, unit) {
     found = 0
 }
 
-/* Applier::apply_unit and apply (applier.rt): one critical section, which adds what it touched to the effects. A look that may
- * be followed by a withdrawal is a transition of its own. No pen can tell the other steps at words apart: AWAKE and ASLEEP are the
- * same to it. */
+/* Applier::apply_unit and apply (applier.rt): one critical section, which adds what it touched to the effects. With --as-gearmand
+ * apply_unit first says the unit otherwise (apply_meant), which meets no other thread: a grab of type 39 is a GRAB here, and so is handed
+ * in after the second that its thread read. A look that may be followed by a withdrawal is a transition of its own. No pen can tell the
+ * other steps at words apart: AWAKE and ASLEEP are the same to it. */
 inline apply(s, unit) {
     if
     :: atomic { (book == 0 && seat_phase[s] == OWED && unit == GRAB) -> book = 1; LOOK(found, s) };

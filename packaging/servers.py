@@ -86,7 +86,7 @@ class Server:
 
     def is_listening(self):
         """Whether it said so, or, as gearmand says nothing, a connection can be made."""
-        if "gmd: listening\n" in self.said():
+        if re.search("^gmd: listening(, as gearmand)?\n", self.said(), re.M):
             return True
         if self.process.poll() is not None:
             raise Wrong(f"the server ended with status {self.process.returncode}: {self.said()}")

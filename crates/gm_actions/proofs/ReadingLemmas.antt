@@ -13,17 +13,16 @@ use Rattle.gm_packet.specs.Views.{asking}
 use Rattle.gm_notes.specs.Settings.{Settings}
 use Rattle.gm_notes.specs.Past.{Past, refuse}
 use Rattle.gm_actions.specs.declared.actions.WorkPacket.{WorkPacket}
-use Rattle.gm_actions.specs.Actions.{serve, unread, work_of, ReportFits, WorkFits}
+use Rattle.gm_actions.specs.Actions.{serve, unread, option_report, ReportFits, WorkFits}
 use Rattle.gm_packet.specs.Packets.{Fits}
-use Rattle.gm_packet.specs.Answers.{work_status}
-use Rattle.gm_notes.specs.Workers.{Work}
+use Rattle.gm_packet.specs.Answers.{Answer, answer_of, work_status}
 use Rattle.gm_actions.specs.Carried.{HasCome, AreNumbers}
 use Rattle.gm_bytes.specs.Endings.{EndsIn}
 use Rattle.std.proofs.lemmas.List.{length-append}
 use native.Mathlib.Omega.{arith}
 use Rattle.std.proofs.Math.Seq.{drop-append_seam}
 use Rattle.gm_actions.specs.Refusals.{code_of}
-use Rattle.gm_notes.specs.Requests.{packet_of, request_if_read, passing}
+use Rattle.gm_notes.specs.Requests.{packet_of, request_if_read}
 
 taken : (k : Settings) (c : ℕ) (kind : Kind) (asked : Asked) (past : Past) (found : Option (List (List ℕ) × ℕ))
     → Ok asked ≡ ok_or (option_map (λ (f : List (List ℕ) × ℕ). record { kind = kind; arguments = f.0; timeout = f.1 }) found) faults.BadArguments
@@ -61,12 +60,12 @@ stripped_short bytes = go (ends_with_byte 0 bytes) where
 
 -- a report can be passed on, and its numbers told again
 pub report_fits : (handle numerator denominator : List ℕ) (packet : WorkPacket) → HasCome (asking kinds.WorkStatus (handle ∷ numerator ∷ denominator ∷ []))
-    → work_of packet ≡ record (passing (work_status handle numerator denominator)) { report = Some (numerator, denominator) } → WorkFits packet
-report_fits h a b packet come is =
+    → answer_of packet.response ≡ work_status handle numerator denominator → option_report packet.report ≡ Some (numerator, denominator) → WorkFits packet
+report_fits h a b packet come says numbered =
     let long : length (strip_last 0 come.bytes) ≡ length h + length (0 ∷ (a ++ 0 ∷ b)) = ap length come.spelled.3 ∙ length-append h (0 ∷ (a ++ 0 ∷ b)) in
     let texts : Fits (h ∷ a ∷ b ∷ []) = search rules in
     let numbers : AreNumbers a b = record { separable = search rules; sized = omega (arith, long, stripped_short come.bytes, come.sized) } in
-    record { response = subst (λ (w : Work). Fits w.answer.arguments) (sym is) texts; report = subst (λ (w : Work). ReportFits w.report) (sym is) numbers }
+    record { response = subst (λ (x : Answer). Fits x.arguments) (sym says) texts; report = subst ReportFits (sym numbered) numbers }
 
 -- ---- where the bodies are
 

@@ -1,5 +1,5 @@
 -- What actions do, and what is known of the texts in them.
-use Rattle.std.specs.Prelude.{◌≡◌, ◌⊎◌, ℕ, ◌≤◌, Bool, true, false, codes, List, [], length, Option, Some, None, Result, Ok, Err}
+use Rattle.std.specs.Prelude.{◌≡◌, ◌⊎◌, ℕ, ◌≤◌, Bool, true, false, ◌&&◌, ◌||◌, codes, List, [], length, Option, Some, None, Result, Ok, Err}
 use Rattle.std.specs.Str.{bytes_eq}
 use Rattle.gm_packet.specs.declared.kind.Kind.{Kind}
 use Rattle.gm_packet.specs.declared.kind.Kind.TheVariants as kinds
@@ -52,9 +52,15 @@ abbrev pub option_report : Option Report → Option (List ℕ × List ℕ)
 option_report None = None
 option_report (Some report) = Some (report_of report)
 
-abbrev pub work_of : WorkPacket → Work
-work_of packet =
-    record { answer = answer_of packet.response; exceptions_only = packet.exceptions_only; report = option_report packet.report; ends = packet.ends }
+-- what a worker says of its job; an exception ends it where requests mean what gearmand's applications mean by them
+abbrev pub work_of : Settings → WorkPacket → Work
+work_of k packet =
+    record {
+      answer = answer_of packet.response;
+      exceptions_only = packet.exceptions_only;
+      report = option_report packet.report;
+      ends = packet.ends || (packet.exceptions_only && k.as_gearmand);
+    }
 
 -- ---- what is done
 
@@ -70,7 +76,7 @@ act k c ResetAbilities past = with_note (Reset c) past
 act k c PreSleep past = pre_sleep k c past
 act k c (Grab with_unique) past = grab k c with_unique past
 act k c (Submit asked) past = submit k c (submission_of asked) past
-act k c (Worked packet) past = work k c packet.handle.now (work_of packet) past
+act k c (Worked packet) past = work k c packet.handle.now (work_of k packet) past
 act k c (GetStatus handle) past = tell_status k c handle.now (job_of_handle k handle.now past.notes) past
 act k c (Echo body) past = give c (echo_res body.bytes.now) past
 act k c (SetClientId id) past = with_note (Named c id.now) past

@@ -1,11 +1,12 @@
 //! What packets ask.
 
+ghost use Rattle.std.specs.Prelude.{◌≡◌, ◌&&◌, ◌||◌, None, IsTrue};
 ghost use Rattle.std.specs.Option.{ForSome};
 ghost use Rattle.gm_packet.specs.Answers.{answer_of};
 ghost use Rattle.gm_actions.specs.Bodies.{EndsWith};
 
 use gm_bytes::Data;
-use gm_notes::Priority;
+use gm_notes::{Config, Priority};
 use gm_packet::Response;
 
 /// What is submitted.
@@ -33,7 +34,7 @@ pub struct Report<'a> {
 }
 
 /// A WORK packet of a worker: the handle of its job, the packet that is passed on, whether only to listeners with the exceptions
-/// option, how far the job is, if it says so, and whether the job ends with it.
+/// option, how far the job is, if it says so, and whether the job ends with it whatever the settings are.
 #[derive(Clone, Copy)]
 pub struct WorkPacket<'a> {
     /// The handle of the job.
@@ -45,10 +46,20 @@ pub struct WorkPacket<'a> {
     ghost body_ends: { ForSome body (λ body. EndsWith body.bytes.now (answer_of response)) },
     /// Whether it goes only to listeners with the exceptions option.
     pub exceptions_only: bool,
-    /// How far the job is, if that is said.
+    /// How far the job is, if that is said; all listeners are told it.
     pub report: Option<Report<'a>>,
-    /// Whether the job ends.
+    ghost told_to_all: { IsTrue exceptions_only → report ≡ None },
+    /// Whether the job ends, whatever the settings are.
     pub ends: bool,
+}
+
+impl WorkPacket<'_> {
+    /// Whether the job ends: an exception ends it where requests mean what gearmand's applications mean by them.
+    pub fn ends_job(&self, config: &Config) -> bool
+        ensures { result ≡ (self.now.ends || (self.now.exceptions_only && config.now.as_gearmand)) }
+    {
+        self.ends || (self.exceptions_only && config.as_gearmand())
+    }
 }
 
 /// What a packet asks a server to do.

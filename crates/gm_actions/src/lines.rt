@@ -9,8 +9,8 @@ ghost use Rattle.gm_notes.specs.Past.{Past};
 ghost use Rattle.gm_notes.specs.Lines.{command, maxqueue, fault_error, is_bad_word};
 ghost use Rattle.gm_actions.specs.Lines.{obeyed, NamesFunction};
 
-use crate::reading::MAX_NAME;
 use gm_admin::{AdminError, AdminFault, Command};
+use gm_notes::MAX_NAME;
 
 /// What is answered to a line that is no command.
 fn error_of(fault: AdminFault) -> AdminError

@@ -1,6 +1,6 @@
 //! Packets as they come.
 
-ghost use Rattle.std.specs.Prelude.{◌≡◌, ◌≤◌, ℕ, true, false, [], ◌∷◌, Some, IfOk, length};
+ghost use Rattle.std.specs.Prelude.{◌≡◌, ◌≤◌, ℕ, true, false, ◌&&◌, ◌||◌, [], ◌∷◌, Some, None, IfOk, length};
 ghost use Rattle.std.specs.Str.{bytes_eq};
 ghost use Rattle.std.specs.Prelude.{codes};
 ghost use Rattle.gm_packet.specs.Answers.{answer_of, work_status, work_fail};
@@ -15,7 +15,7 @@ ghost use Rattle.gm_notes.specs.Submissions.{is_bad_name, submit};
 ghost use Rattle.gm_notes.specs.Workers.{can_do, cant_do};
 ghost use Rattle.gm_notes.specs.Withdrawals.{is_grab, asks_a_job};
 ghost use Rattle.gm_actions.specs.ReadEvents.{grabs};
-ghost use Rattle.gm_actions.specs.Actions.{acted, serve, unread, work_of, needs_no_memory, NeedsNoMemory, HasGoodNames};
+ghost use Rattle.gm_actions.specs.Actions.{acted, serve, unread, work_of, option_report, needs_no_memory, NeedsNoMemory, HasGoodNames};
 ghost use Rattle.gm_actions.specs.Actions.{CanBeTold, ActsWithoutMemory};
 ghost use Rattle.gm_actions.specs.Carried.{HasCome, IsCarried};
 ghost use Rattle.gm_actions.specs.Bodies.{IsSpelledBy, EndsWith};
@@ -23,7 +23,7 @@ ghost use Rattle.gm_actions.specs.Bodies.{IsSpelledBy, EndsWith};
 use crate::actions::{Action, Report, Submission, WorkPacket};
 use crate::refusal::Refusal;
 use gm_bytes::Data;
-use gm_notes::Priority;
+use gm_notes::{Priority, is_bad_name};
 use gm_packet::{Kind, Request, Response};
 
 /// Why data that spell nothing are refused.
@@ -36,16 +36,6 @@ fn find_fault(kind: u32) -> Refusal
     }
 }
 
-/// The most bytes of a function's name.
-pub(crate) const MAX_NAME: usize = 512;
-
-/// Whether a function's name is empty, or too long.
-fn is_bad_name(function: &[u8]) -> bool
-    ensures { result ≡ is_bad_name function.now }
-{
-    function.is_empty() || function.len() > MAX_NAME
-}
-
 /// Whether there is an option of this name: there is one.
 fn is_option(name: &[u8]) -> bool
     ensures { result ≡ bytes_eq name.now (codes "exceptions") }
@@ -56,7 +46,9 @@ fn is_option(name: &[u8]) -> bool
 /// How far a job is, as its worker says.
 fn report_on<'a>(handle: &'a [u8], numerator: &'a [u8], denominator: &'a [u8]) -> WorkPacket<'a>
     ensures handle { result.handle.now ≡ handle.now }
-    ensures work { work_of result ≡ record (passing (work_status handle.now numerator.now denominator.now)) { report = Some (numerator.now, denominator.now) } }
+    ensures work { (k : Settings) → work_of k result ≡ record (passing (work_status handle.now numerator.now denominator.now)) { report = Some (numerator.now, denominator.now) } }
+    ensures response { answer_of result.response ≡ work_status handle.now numerator.now denominator.now }
+    ensures report { option_report result.report ≡ Some (numerator.now, denominator.now) }
 {
     WorkPacket {
         handle,
@@ -76,7 +68,7 @@ fn report_on<'a>(handle: &'a [u8], numerator: &'a [u8], denominator: &'a [u8]) -
 }
 
 /// A packet about a job, with this body: it is passed on to the job's listeners, or only to those with the exceptions option, and
-/// may end the job.
+/// may end the job whatever the settings are.
 fn pass_on<'a>(
     handle: &'a [u8],
     response: Response<'a>,
@@ -88,7 +80,9 @@ fn pass_on<'a>(
     requires spelled { Spells (Opaque 1) (handle.now ∷ body.now ∷ []) 0 bytes.now.bytes.now }
     requires ends { EndsWith body.now (answer_of response) }
     ensures handle { result.handle.now ≡ handle.now }
-    ensures work { work_of result ≡ record (passing (answer_of response.entry)) { exceptions_only = exceptions_only; ends = ends } }
+    ensures work { (k : Settings) → work_of k result ≡ record (passing (answer_of response.entry)) { exceptions_only = exceptions_only; ends = ends || (exceptions_only && k.as_gearmand) } }
+    ensures response { answer_of result.response ≡ answer_of response.entry }
+    ensures report { option_report result.report ≡ None }
 {
     WorkPacket {
         handle,
@@ -103,7 +97,9 @@ fn pass_on<'a>(
 /// A job has failed, as its worker says.
 fn fail<'a>(handle: &'a [u8]) -> WorkPacket<'a>
     ensures handle { result.handle.now ≡ handle.now }
-    ensures work { work_of result ≡ ending (work_fail handle.now) }
+    ensures work { (k : Settings) → work_of k result ≡ ending (work_fail handle.now) }
+    ensures response { answer_of result.response ≡ work_fail handle.now }
+    ensures report { option_report result.report ≡ None }
 {
     WorkPacket {
         handle,

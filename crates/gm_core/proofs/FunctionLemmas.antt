@@ -250,7 +250,7 @@ abbrev pub pick_or : Option ℕ → ℕ → Option Pick → Option Pick
 pick_or None timeout otherwise = otherwise
 pick_or (Some n) timeout otherwise = Some (record { job = n; timeout = timeout })
 
-picked : (l : List ℕ) (timeout : ℕ) (otherwise : Option Pick) (o : Option ℕ) → o ≡ slice_get l 0 → first_of l timeout otherwise ≡ pick_or o timeout otherwise
+pub picked : (l : List ℕ) (timeout : ℕ) (otherwise : Option Pick) (o : Option ℕ) → o ≡ slice_get l 0 → first_of l timeout otherwise ≡ pick_or o timeout otherwise
 picked l timeout otherwise None e = first_is_other l timeout otherwise (sym e)
 picked l timeout otherwise (Some n) e = first_is l n timeout otherwise (sym e)
 

@@ -1,7 +1,7 @@
--- The job that is given out next for a function.
+-- The first job of a queue, which is given out.
 use Rattle.std.proofs.Common.{◌≡◌, ℕ, ◌<◌, Bool, true, false, ◌&&◌, ◌==◌, if◌then◌else◌, List, [], ◌∷◌, ◌++◌, length, filter}
 use Rattle.std.proofs.Common.{Option, Some, None, refl, sym, ap, subst, ◌∙◌, arith}
-use Rattle.std.specs.Prelude.{slice_get}
+use Rattle.std.specs.Prelude.{slice_get, IfSome}
 use Rattle.std.specs.Str.{bytes_eq}
 use Rattle.std.proofs.lemmas.Bool.{false≢true, and_parts}
 use Rattle.std.proofs.lemmas.Bool.Decides.{nat_tests}
@@ -24,30 +24,44 @@ use Rattle.gm_jobs.specs.Live.{Live}
 use Rattle.gm_jobs.specs.Tables.{place_or, is_made}
 use Rattle.gm_jobs.specs.Tables as jobs
 use Rattle.gm_core.specs.Facts.{FunctionFacts, job_facts, waits_with}
+use Rattle.gm_core.specs.declared.server.abilities.Choice.{Choice}
+use Rattle.gm_core.specs.Firsts.{IsFirst}
 use Rattle.gm_core.specs.Holds.{name_at, job_state_at, jobs_named, HoldsFunctions, HoldsJobs}
 use Rattle.gm_core.proofs.FunctionLemmas.{apart, named, some_same}
 use Rattle.gm_core.proofs.CloseLemmas.{same_one}
 
 -- what heads the three queues heads one of them
+heads : (table : Table) (f n : ℕ) → slice_get (waiting_for table f) 0 ≡ Some n → IsFirst table f n
+heads table f n e = high (queue table f High).jobs refl e
+  where
+    low : (c : List ℕ) → (queue table f Low).jobs ≡ c → slice_get c 0 ≡ Some n → IsFirst table f n
+    low c is e = record { priority = Low; is = ap (λ (l : List ℕ). slice_get l 0) is ∙ e }
+
+    normal : (b : List ℕ) → (queue table f Normal).jobs ≡ b → slice_get (b ++ (queue table f Low).jobs) 0 ≡ Some n → IsFirst table f n
+    normal [] is e = low (queue table f Low).jobs refl e
+    normal (x ∷ b) is e = record { priority = Normal; is = ap (λ (l : List ℕ). slice_get l 0) is ∙ e }
+
+    high : (a : List ℕ) → (queue table f High).jobs ≡ a → slice_get ((a ++ (queue table f Normal).jobs) ++ (queue table f Low).jobs) 0 ≡ Some n → IsFirst table f n
+    high [] is e = normal (queue table f Normal).jobs refl e
+    high (x ∷ a) is e = record { priority = High; is = ap (λ (l : List ℕ). slice_get l 0) is ∙ e }
+
+pub any_heads : (table : Table) (o : Option Choice) → IfSome o (λ found. slice_get (waiting_for table found.function) 0 ≡ Some found.pick.job)
+    → IfSome o (λ found. IsFirst table found.function found.pick.job)
+any_heads table None e = tt
+any_heads table (Some found) e = heads table found.function found.pick.job e
+
+-- the job, and those behind it
 pub record Heads (table : Table) (f n : ℕ) : Type 0 where
   pub priority : Priority
   pub rest : List ℕ
   pub is : (queue table f priority).jobs ≡ n ∷ rest
 
-pub heads : (table : Table) (f n : ℕ) → slice_get (waiting_for table f) 0 ≡ Some n → Heads table f n
-heads table f n e = high (queue table f High).jobs refl e
+headed : (table : Table) (f n : ℕ) → IsFirst table f n → Heads table f n
+headed table f n first = by (queue table f first.priority).jobs refl first.is
   where
-    low : (c : List ℕ) → (queue table f Low).jobs ≡ c → slice_get c 0 ≡ Some n → Heads table f n
-    low [] is e = absurd cc
-    low (x ∷ c) is e = record { priority = Low; rest = c; is = is ∙ ap (λ (y : ℕ). y ∷ c) (some_same x n e) }
-
-    normal : (b : List ℕ) → (queue table f Normal).jobs ≡ b → slice_get (b ++ (queue table f Low).jobs) 0 ≡ Some n → Heads table f n
-    normal [] is e = low (queue table f Low).jobs refl e
-    normal (x ∷ b) is e = record { priority = Normal; rest = b; is = is ∙ ap (λ (y : ℕ). y ∷ b) (some_same x n e) }
-
-    high : (a : List ℕ) → (queue table f High).jobs ≡ a → slice_get ((a ++ (queue table f Normal).jobs) ++ (queue table f Low).jobs) 0 ≡ Some n → Heads table f n
-    high [] is e = normal (queue table f Normal).jobs refl e
-    high (x ∷ a) is e = record { priority = High; rest = a; is = is ∙ ap (λ (y : ℕ). y ∷ a) (some_same x n e) }
+    by : (l : List ℕ) → (queue table f first.priority).jobs ≡ l → slice_get l 0 ≡ Some n → Heads table f n
+    by [] is e = absurd cc
+    by (x ∷ l) is e = record { priority = first.priority; rest = l; is = is ∙ ap (λ (y : ℕ). y ∷ l) (some_same x n e) }
 
 -- what heads what passes, passes
 head_passes : (P : ℕ → Bool) (n : ℕ) (rest xs : List ℕ) → filter P xs ≡ n ∷ rest → P n ≡ true
@@ -113,9 +127,9 @@ module _ (k : Settings) (functions : Table) (table : jobs.Table) (is_open : ℕ 
               (subst (λ q. (queue functions f q).jobs ≡ n ∷ h.rest) (sym (same_one live.priority h.priority parts.1)) h.is);
         }
 
-  -- the first job of a function lives and waits, and heads its queue
-  pub given : slice_get (waiting_for functions f) 0 ≡ Some n → Given functions table f n
-  given e = by_live (heads functions f n e) (jobs.job table n) refl
+  -- the first job of a queue lives and waits, and heads its queue
+  pub given : IsFirst functions f n → Given functions table f n
+  given first = by_live (headed functions f n first) (jobs.job table n) refl
 
 -- ---- what a worker hears
 

@@ -18,6 +18,7 @@ pub mod MentionLemmas
 pub mod OnceLemmas
 pub mod OpenLemmas
 pub mod PacketLemmas
+pub mod PickLemmas
 pub mod Ranges
 pub mod RisingLemmas
 pub mod StartLemmas

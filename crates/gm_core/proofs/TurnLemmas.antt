@@ -17,7 +17,7 @@ use Rattle.gm_queues.specs.FunctionTables.{Table}
 use Rattle.gm_notes.specs.declared.note.Note.{Note}
 use Rattle.gm_notes.specs.declared.states.Pick.{Pick}
 use Rattle.gm_notes.specs.Settings.{Settings}
-use Rattle.gm_notes.specs.Jobs.{Ability, first_of, pick_from, waiting_for, abilities, last_function, behind, up_to, rotated, scan, pick}
+use Rattle.gm_notes.specs.Jobs.{Ability, first_of, pick_from, waiting_for, abilities, last_function, behind, up_to, rotated, scan}
 use Rattle.gm_notes.specs.Past.{Past}
 use Rattle.gm_conns.specs.ConnTables.{conn, IsOpen}
 use Rattle.gm_core.specs.declared.server.Tables.{Tables}
@@ -164,7 +164,7 @@ pub pick_parts : (core : Tables) (past : Past) (c len last : ℕ) (first rest : 
     → Scans core past c (drop last (conn core.conns c).abilities ++ take last (conn core.conns c).abilities)
     → first ≡ pick_from (map (ability_named core.functions.names) (drop last (take len (conn core.conns c).abilities))) past.notes
     → rest ≡ pick_from (map (ability_named core.functions.names) (take last (conn core.conns c).abilities)) past.notes
-    → option_or first rest ≡ pick core.config c past.notes
+    → option_or first rest ≡ pick_from (scan core.config c past.notes) past.notes
 pick_parts core past c len last first rest all scans one two =
     let xs = (conn core.conns c).abilities in
     let shows = map (ability_named core.functions.names) in

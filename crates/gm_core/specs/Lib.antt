@@ -1,4 +1,5 @@
 pub mod Facts
+pub mod Firsts
 pub mod Freed
 pub mod Holds
 pub mod Listings

@@ -235,6 +235,10 @@ impl JobServer for Core {
         self.tables.conns.is_open(slot) && self.tables.conns.is_shut(slot)
     }
 
+    fn as_gearmand(&self) -> bool {
+        self.tables.config.as_gearmand()
+    }
+
     fn mode(&self) -> Mode {
         self.tables.mode
     }

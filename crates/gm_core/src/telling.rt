@@ -1,6 +1,6 @@
 //! A packet that several connections hear.
 
-ghost use Rattle.std.specs.Prelude.{◌≡◌, ℕ, ◌+◌, ◌≤◌, List, filter, IsTrue, OnOk, length};
+ghost use Rattle.std.specs.Prelude.{◌≡◌, ℕ, ◌+◌, ◌≤◌, true, not, List, filter, IsTrue, IfOk, OnOk, length};
 ghost use Rattle.gm_packet.specs.Answers.{answer_of, answer_packet};
 ghost use Rattle.gm_notes.specs.Settings.{Settings};
 ghost use Rattle.gm_actions.specs.Actions.{WorkFits};
@@ -13,7 +13,7 @@ ghost use Rattle.gm_core.specs.Writing.{CanBePut};
 use crate::written::Written;
 use gm_actions::WorkPacket;
 use gm_conns::Conns;
-use std::alloc::AllocError;
+use std::alloc::{AllocError, Global};
 
 /// Whether a slot gets it: it is open, and has the exceptions option where that is needed.
 fn can_hear(conns: &Conns, slot: u32, exceptions_only: bool) -> bool
@@ -21,6 +21,15 @@ fn can_hear(conns: &Conns, slot: u32, exceptions_only: bool) -> bool
     ensures open { IsTrue result → IsOpen conns.now slot }
 {
     conns.is_open(slot) && (!exceptions_only || conns.has_option(slot))
+}
+
+/// Those of these slots that don't get what is only for connections with the exceptions option.
+pub(crate) fn others(alloc: Global, conns: &Conns, slots: &[u32]) -> Result<Vec<u32>, AllocError>
+    ensures { IfOk result (λ others. others.items ≡ filter (λ c. not (hears conns.now true c)) slots.now) }
+{
+    let mut others = Vec::from_slice(alloc, slots)?;
+    others.retain(|slot| !can_hear(conns, *slot, true));
+    Ok(others)
 }
 
 /// Makes room for `count` more bytes at a slot, if it hears.

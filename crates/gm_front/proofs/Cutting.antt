@@ -20,8 +20,8 @@ use Rattle.gm_front.proofs.Steps.{fault_shuts}
 
 -- ---- units of a slot that takes none
 
-unit_refused : (k : Settings) (c : ℕ) (item : Item) (steps : List Step) → takes_units c (run k steps).notes ≡ false → handed_in k (step_of_unit c item) steps ≡ steps
-unit_refused k c (APacket kind bytes) steps e = ap (λ (b : Bool). unless_refused (unless_not_open b) (Packet c kind bytes) steps) e
+unit_refused : (k : Settings) (c : ℕ) (item : Item) (steps : List Step) → takes_units c (run k steps).notes ≡ false → handed_in k (step_of_unit k c item) steps ≡ steps
+unit_refused k c (APacket kind bytes) steps e = ap (λ (b : Bool). unless_refused (unless_not_open b) (step_of_unit k c (APacket kind bytes)) steps) e
 unit_refused k c (ALine bytes) steps e = ap (λ (b : Bool). unless_refused (unless_not_open b) (Line c bytes) steps) e
 
 units_refused : (k : Settings) (c : ℕ) (items : List Item) (steps : List Step) → takes_units c (run k steps).notes ≡ false → with_units k c items steps ≡ steps
@@ -34,7 +34,7 @@ fault_refused k c (Some fault) steps e = ap (λ (b : Bool). unless_refused (unle
 
 with_units-append : (k : Settings) (c : ℕ) (items more : List Item) (steps : List Step) → with_units k c (items ++ more) steps ≡ with_units k c more (with_units k c items steps)
 with_units-append k c [] more steps = refl
-with_units-append k c (item ∷ items) more steps = with_units-append k c items more (handed_in k (step_of_unit c item) steps)
+with_units-append k c (item ∷ items) more steps = with_units-append k c items more (handed_in k (step_of_unit k c item) steps)
 
 takes_open : (o s : Bool) → (o && not s) ≡ true → o ≡ true
 takes_open true s e = refl

@@ -79,16 +79,16 @@ handed_by (Some refused) k s steps inner = shuts_here (run k steps).notes
 pub handed_only_shuts : (k : Settings) (s : Step) (steps : List Step) → is_inner s ≡ true → OnlyShuts (run k steps).notes (run k (handed_in k s steps)).notes
 handed_only_shuts k s steps inner = handed_by (refusal k s (run k steps)) k s steps inner
 
-unit_inner : (c : ℕ) (item : Item) → is_inner (step_of_unit c item) ≡ true
-unit_inner c (APacket kind bytes) = refl
-unit_inner c (ALine bytes) = refl
+unit_inner : (k : Settings) (c : ℕ) (item : Item) → is_inner (step_of_unit k c item) ≡ true
+unit_inner k c (APacket kind bytes) = refl
+unit_inner k c (ALine bytes) = refl
 
 pub units_only_shut : (k : Settings) (c : ℕ) (items : List Item) (steps : List Step) → OnlyShuts (run k steps).notes (run k (with_units k c items steps)).notes
 units_only_shut k c [] steps = shuts_here (run k steps).notes
 units_only_shut k c (item ∷ items) steps =
-    let next = handed_in k (step_of_unit c item) steps in
+    let next = handed_in k (step_of_unit k c item) steps in
     shuts_then (run k steps).notes (run k next).notes (run k (with_units k c items next)).notes
-    (handed_only_shuts k (step_of_unit c item) steps (unit_inner c item)) (units_only_shut k c items next)
+    (handed_only_shuts k (step_of_unit k c item) steps (unit_inner k c item)) (units_only_shut k c items next)
 
 pub fault_only_shuts : (k : Settings) (c : ℕ) (fault : Option UnitFault) (steps : List Step) → OnlyShuts (run k steps).notes (run k (faulted k c fault steps)).notes
 fault_only_shuts k c None steps = shuts_here (run k steps).notes
@@ -130,8 +130,8 @@ handed_grows k s steps = handed_grows_by (refusal k s (run k steps)) k s steps
 pub units_grow : (k : Settings) (c : ℕ) (items : List Item) (steps : List Step) → Grows (jobs k steps) (jobs k (with_units k c items steps))
 units_grow k c [] steps = ([], refl)
 units_grow k c (item ∷ items) steps =
-    let next = handed_in k (step_of_unit c item) steps in
-    grows_then (jobs k steps) (jobs k next) (jobs k (with_units k c items next)) (handed_grows k (step_of_unit c item) steps) (units_grow k c items next)
+    let next = handed_in k (step_of_unit k c item) steps in
+    grows_then (jobs k steps) (jobs k next) (jobs k (with_units k c items next)) (handed_grows k (step_of_unit k c item) steps) (units_grow k c items next)
 
 greater : (m n : ℕ) → n < m → (m == n) ≡ false
 greater m n lt = grind (arith, nat_tests)

@@ -12,16 +12,18 @@ use Rattle.gm_notes.specs.Notes.{takes_units}
 use Rattle.gm_notes.specs.Steps.{Step, Fault, refusal, run}
 use Rattle.gm_history.proofs.StepsKeep.{takes_open}
 use Rattle.gm_front.specs.declared.feeding.Unloaded.{Unloaded}
-use Rattle.gm_front.specs.Units.{step_of_unit, Stands, BeginsWith, GivesEvent, GivesFaultAs}
+use Rattle.gm_front.specs.Readings.{step_read}
+use Rattle.gm_front.specs.Units.{step_said, step_of_unit, Stands, BeginsWith, GivesEvent, GivesFaultAs}
 use Rattle.gm_front.specs.Inputs.{handed_in, with_units, created_since}
 use Rattle.gm_front.specs.Feeding.{AgreesAfter, Lacks, Unloads, CutsShort}
 use Rattle.gm_front.proofs.Steps.{jobs, units_grow, handed_grows, created_then}
+use Rattle.gm_front.proofs.Reading.{unit_read}
 use Rattle.gm_front.proofs.Heads.{begins_more, begins_spells, spells_begins, falls}
 use Rattle.gm_notes.proofs.Numbers.{same_number}
 
-pub with_units-push : (k : Settings) (c : ℕ) (items : List Item) (item : Item) (steps : List Step) → with_units k c (items ++ item ∷ []) steps ≡ handed_in k (step_of_unit c item) (with_units k c items steps)
+pub with_units-push : (k : Settings) (c : ℕ) (items : List Item) (item : Item) (steps : List Step) → with_units k c (items ++ item ∷ []) steps ≡ handed_in k (step_of_unit k c item) (with_units k c items steps)
 with_units-push k c [] item steps = refl
-with_units-push k c (first ∷ items) item steps = with_units-push k c items item (handed_in k (step_of_unit c first) steps)
+with_units-push k c (first ∷ items) item steps = with_units-push k c items item (handed_in k (step_of_unit k c first) steps)
 
 -- these units were handed in, and more may stand there
 pub record Unloading {S : Type 0} (agrees : S → Settings → List Step → Type 0) (c : ℕ) (server : S) (old : Stream) (units : ℕ) (created : Option ℕ) (server' : S) (new : Stream) : Type 0 where
@@ -47,7 +49,7 @@ unloading_none agrees c server old =
     }
 
 pub unloading_more : {S : Type 0} (agrees : S → Settings → List Step → Type 0) (c : ℕ) (first : S) (old : Stream) (units : ℕ) (created newer : Option ℕ) (server : S) (mid : Stream) (server' : S) (new : Stream) (s : Step)
-    → Unloading agrees c first old units created server mid → GivesEvent c mid s new → AgreesAfter agrees (λ k steps. handed_in k s steps) newer server server'
+    → Unloading agrees c first old units created server mid → GivesEvent c mid s new → AgreesAfter agrees (λ k steps. handed_in k (step_read k.as_gearmand s) steps) newer server server'
     → Unloading agrees c first old (units + 1) (option_or newer created) server' new
 unloading_more agrees c first old units created newer server mid server' new s u h handed =
     record {
@@ -59,10 +61,11 @@ unloading_more agrees c first old units created newer server mid server' new s u
       after = λ k steps a.
           let b = u.after k steps a in
           let mid_steps = with_units k c u.items steps in
-          let d = subst (λ (s : Step). agrees server' k (handed_in k s mid_steps) × (newer ≡ created_since k mid_steps (handed_in k s mid_steps))) h.is_step (handed k mid_steps b.0) in
-          let last = handed_in k (step_of_unit c h.item) mid_steps in
+          let read = ap (step_read k.as_gearmand) h.is_step ∙ unit_read k c h.item in
+          let d = subst (λ (s : Step). agrees server' k (handed_in k s mid_steps) × (newer ≡ created_since k mid_steps (handed_in k s mid_steps))) read (handed k mid_steps b.0) in
+          let last = handed_in k (step_of_unit k c h.item) mid_steps in
           subst (λ (l : List Step). agrees server' k l × (option_or newer created ≡ created_since k steps l)) (sym (with_units-push k c u.items h.item steps))
-          (d.0, created_then k steps mid_steps last newer created (units_grow k c u.items steps) (handed_grows k (step_of_unit c h.item) mid_steps) d.1 b.1);
+          (d.0, created_then k steps mid_steps last newer created (units_grow k c u.items steps) (handed_grows k (step_of_unit k c h.item) mid_steps) d.1 b.1);
     }
 
 -- nothing more stands there
@@ -96,7 +99,7 @@ ends_faulty agrees c first old unloaded server mid fault new u faulty g =
     (subst (λ (f : Option UnitFault). Stands mid.limits mid.pending f) (sym faulty) (record { fed = g.fed; named = g.named; stands = g.gives.stands }))
     (λ e. absurd (let bad : Some fault ≡ None = sym faulty ∙ e in cc))
 
-unit_taken : (k : Settings) (c : ℕ) (item : Item) (steps : List Step) → refusal k (step_of_unit c item) (run k steps) ≡ None → takes_units c (run k steps).notes ≡ true
+unit_taken : (k : Settings) (c : ℕ) (item : Item) (steps : List Step) → refusal k (step_said c item) (run k steps) ≡ None → takes_units c (run k steps).notes ≡ true
 unit_taken k c (APacket kind bytes) steps e = takes_open (takes_units c (run k steps).notes) e
 unit_taken k c (ALine bytes) steps e = takes_open (takes_units c (run k steps).notes) e
 

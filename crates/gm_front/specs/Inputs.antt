@@ -73,7 +73,7 @@ handed_in k s steps = unless_refused (refusal k s (run k steps)) s steps
 -- these units are handed in, in this order; those that come once the slot is shut are refused
 abbrev pub with_units : Settings → ℕ → List Item → List Step → List Step
 with_units k c [] steps = steps
-with_units k c (item ∷ items) steps = with_units k c items (handed_in k (step_of_unit c item) steps)
+with_units k c (item ∷ items) steps = with_units k c items (handed_in k (step_of_unit k c item) steps)
 
 -- a fault of slot c is, where there is one
 abbrev pub faulted : Settings → ℕ → Option UnitFault → List Step → List Step

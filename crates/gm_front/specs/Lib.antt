@@ -1,4 +1,5 @@
 pub mod Feeding
 pub mod Fronts
 pub mod Inputs
+pub mod Readings
 pub mod Units

@@ -7,15 +7,22 @@ use Rattle.gm_feeder.specs.Units.{Item, APacket, ALine, IsUnitThen, IsFaultOf, W
 use Rattle.gm_feeder.specs.Streams.{Stream, GivesUnit, GivesNone, GivesFault}
 use Rattle.gm_notes.specs.declared.event.UnitFault.{UnitFault}
 use Rattle.gm_notes.specs.declared.event.UnitFault.TheVariants as faults
+use Rattle.gm_notes.specs.Settings.{Settings}
 use Rattle.gm_notes.specs.Steps.{Step, Packet, Line, Fault}
 use Rattle.gm_notes.specs.Servers.{step_of, IsSized}
+use Rattle.gm_front.specs.Readings.{packet_read}
 use Rattle.gm_front.specs.declared.units.Next.{Next}
 use Rattle.gm_front.specs.declared.units.Next.TheVariants as nexts
 
--- the step that a unit of slot c is
-abbrev pub step_of_unit : ℕ → Item → Step
-step_of_unit c (APacket kind bytes) = Packet c kind bytes
-step_of_unit c (ALine bytes) = Line c bytes
+-- the step that a unit of slot c says, before the server reads it
+abbrev pub step_said : ℕ → Item → Step
+step_said c (APacket kind bytes) = Packet c kind bytes
+step_said c (ALine bytes) = Line c bytes
+
+-- the step that a unit of slot c is, as the server reads it
+abbrev pub step_of_unit : Settings → ℕ → Item → Step
+step_of_unit k c (APacket kind bytes) = Packet c (packet_read k.as_gearmand kind bytes).0 (packet_read k.as_gearmand kind bytes).1
+step_of_unit k c (ALine bytes) = Line c bytes
 
 -- the step that a fault of slot c is, where there is one
 abbrev pub fault_steps : ℕ → Option UnitFault → List Step
@@ -23,8 +30,8 @@ fault_steps c None = []
 fault_steps c (Some fault) = Fault c fault ∷ []
 
 -- the steps that these units of slot c are, and the fault behind them
-abbrev pub steps_of : ℕ → List Item → Option UnitFault → List Step
-steps_of c items fault = map (step_of_unit c) items ++ fault_steps c fault
+abbrev pub steps_of : Settings → ℕ → List Item → Option UnitFault → List Step
+steps_of k c items fault = map (step_of_unit k c) items ++ fault_steps c fault
 
 -- the fault of a feeder as the server's; Memory is none
 abbrev pub unit_fault : FeedFault → Option UnitFault
@@ -61,10 +68,10 @@ IsSizedNext (nexts.Unit event) = IsSized event
 IsSizedNext nexts.Wait = Unit {0}
 IsSizedNext (nexts.Fault fault) = Unit {0}
 
--- the feeder gave a unit, and this event of slot c says it
+-- the feeder gave a unit, and this event of slot c says it, before the server reads it
 pub record GivesEvent (c : ℕ) (old : Stream) (s : Step) (new : Stream) : Type 0 where
   pub item : Item
-  pub is_step : s ≡ step_of_unit c item
+  pub is_step : s ≡ step_said c item
   pub gives : GivesUnit old item new
 
 -- the feeder answers a fault, and this is its name for the server

@@ -1,11 +1,13 @@
 //! A connection's bytes on their way to the server.
 
-ghost use Rattle.std.specs.Prelude.{◌≡◌, IfOk, IfErr, OnErr};
+ghost use Rattle.std.specs.Prelude.{◌≡◌, true, IfOk, IfErr, OnErr};
 ghost use Rattle.gm_notes.specs.Servers.{step_of, IsSized};
 ghost use Rattle.gm_front.specs.Inputs.{handed_in};
+ghost use Rattle.gm_front.specs.Readings.{step_read};
 ghost use Rattle.gm_front.specs.Feeding.{AgreesAfter, Lacks, Unloads, CutsShort, TakesPiece};
 ghost use Rattle.gm_feeder.specs.Streams.{with_bytes};
 
+use crate::readings::{Room, mean_event};
 use crate::units::{Next, next_event};
 use gm_feeder::Feeder;
 use gm_notes::{ApplyError, Event, JobServer, UnitFault};
@@ -35,6 +37,31 @@ fn hand_in<S: JobServer>(server: &mut S, event: &Event<'_>) -> Result<Option<u64
     }
 }
 
+/// Hands in an event as gearmand's applications mean it. `hand_in_unit` calls it only where that is asked, because each call clears the
+/// room for the data.
+#[inline(never)]
+fn hand_in_meant<S: JobServer>(server: &mut S, event: Event<'_>) -> Result<Option<u64>, AllocError>
+    requires { IsSized event }
+    ensures ok { IfOk result (λ created. AgreesAfter S.agrees (λ k steps. handed_in k (step_read true (step_of event.entry)) steps) created server.old server.new) }
+    ensures err { OnErr result (Lacks S.agrees (step_read true (step_of event.entry)) server.old server.new) }
+{
+    let mut room = Room::new();
+    hand_in(server, &mean_event(event, &mut room))
+}
+
+/// Hands in the event that a unit says, as the server reads it.
+fn hand_in_unit<S: JobServer>(server: &mut S, event: Event<'_>) -> Result<Option<u64>, AllocError>
+    requires { IsSized event }
+    ensures ok { IfOk result (λ created. AgreesAfter S.agrees (λ k steps. handed_in k (step_read k.as_gearmand (step_of event.entry)) steps) created server.old server.new) }
+    ensures err { OnErr result (Lacks S.agrees (step_of event.entry) server.old server.new) }
+{
+    if server.as_gearmand() {
+        hand_in_meant(server, event)
+    } else {
+        hand_in(server, &event)
+    }
+}
+
 /// Hands in each whole unit of the feeder. If out of memory, it answers how many were taken.
 fn unload<S: JobServer>(server: &mut S, feeder: &mut Feeder, slot: u32) -> Result<Unloaded, u64>
     ensures ok { IfOk result (λ unloaded. Unloads S.agrees slot server.old feeder.old unloaded server.new feeder.new) }
@@ -47,7 +74,7 @@ fn unload<S: JobServer>(server: &mut S, feeder: &mut Feeder, slot: u32) -> Resul
     loop {
         let fault = match next_event(feeder, slot) {
             Next::Unit(event) => {
-                let Ok(newer) = hand_in(server, &event) else {
+                let Ok(newer) = hand_in_unit(server, event) else {
                     return Err(units);
                 };
                 units += 1;

@@ -1,13 +1,16 @@
 //! What is true of all inputs, and so of every front. Each function here is a law: its contract states it, and its body is empty.
 
-ghost use Rattle.std.specs.Prelude.{◌≡◌, ℕ, List, [], ◌∷◌, ◌++◌, false, Some};
+ghost use Rattle.std.specs.Prelude.{◌≡◌, ◌+◌, ◌*◌, ◌<◌, ◌≤◌, ℕ, max, List, [], ◌∷◌, ◌++◌, true, false, Some};
 ghost use Rattle.gm_feeder.specs.declared.units.Limits.{Limits};
+ghost use Rattle.gm_feeder.specs.Units.{Item, APacket};
 ghost use Rattle.gm_notes.specs.declared.event.ApplyError.{ApplyError};
 ghost use Rattle.gm_notes.specs.Settings.{Settings};
 ghost use Rattle.gm_notes.specs.Notes.{is_open};
 ghost use Rattle.gm_notes.specs.Steps.{free_slot};
 ghost use Rattle.gm_notes.specs.Steps.{run};
 ghost use Rattle.gm_history.specs.Laws.{SentSo};
+ghost use Rattle.gm_front.specs.Readings.{seconds_meant};
+ghost use Rattle.gm_front.specs.Units.{step_said, step_of_unit};
 ghost use Rattle.gm_front.specs.Inputs.{Input, Opens, Gives, Reading, ReadsOn, Reads, refusal_of};
 
 /// Inputs spell one list of steps, and one rest for each slot.
@@ -44,4 +47,23 @@ pub fn bytes_queued()
 pub fn refused_step()
     ensures { (k : Settings) (limits : Limits) (input : Input) (old new : Reading) (refused : ApplyError)
         → refusal_of k input old ≡ Some refused → ReadsOn k limits input old new → new ≡ old }
+{}
+
+/// Without `as_gearmand` a packet is read as it came.
+pub fn packets_are_read_as_they_came()
+    ensures { (k : Settings) (c : ℕ) (item : Item) → k.as_gearmand ≡ false → step_of_unit k c item ≡ step_said c item }
+{}
+
+/// With `as_gearmand` a grab by GRAB_JOB_ALL (39) is one by GRAB_JOB_UNIQ (30), whatever its data.
+pub fn grabs_are_alike()
+    ensures { (k : Settings) (c : ℕ) (bytes : List ℕ) → k.as_gearmand ≡ true → step_of_unit k c (APacket 39 bytes) ≡ step_of_unit k c (APacket 30 bytes) }
+{}
+
+/// With `as_gearmand` a time limit of m milliseconds, of which fewer than 1,000 count as 1,000, is read as s seconds with
+/// `m ≤ 1000 * (s - 1) < m + 1000`. The deadline of a job is the beginning of the s-th second after the clock's second in which the job is
+/// given out. That second may have just begun or be nearly over, so the deadline is more than s - 1 seconds after the job is given out, and
+/// at most s: at least m milliseconds, and less than m + 2,000.
+pub fn limits_are_neither_early_nor_late()
+    ensures not_early { (milliseconds : ℕ) → max milliseconds 1000 + 1000 ≤ 1000 * seconds_meant milliseconds }
+    ensures not_late { (milliseconds : ℕ) → 1000 * seconds_meant milliseconds < max milliseconds 1000 + 2000 }
 {}

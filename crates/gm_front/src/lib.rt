@@ -9,8 +9,10 @@ mod feeding;
 mod front;
 mod input;
 pub mod laws;
+mod readings;
 mod units;
 
 pub use front::Front;
 pub use input::{Input, StepError, Stepped};
+pub use readings::{GRAB_JOB_ALL, Room, mean_event};
 pub use units::{Next, next_event};

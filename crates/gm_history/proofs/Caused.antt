@@ -12,7 +12,7 @@ use Rattle.gm_history.proofs.StepsKeep.{step_keeps}
 
 module _ (k : Settings) (s : Step) (start : Past) (history : History k start.notes) where
   pub note_law : (P : List Note → Type 0) → ((note : Note) (older : List Note) → Allowed k note older → Caused k start.notes s note older → History k older → P older → P (note ∷ older)) → P start.notes → P (step k s start).notes
-  note_law P more p = (step_keeps start s (keeps_notes P more) (λ c e h u. u) (history, p)).1
+  note_law P more p = (step_keeps start s (keeps_notes {k = k} P more) (λ c e h u. u) (history, p)).1
 
   pub caused : NotesAreCaused k start s (step k s start)
   caused =

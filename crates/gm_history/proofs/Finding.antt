@@ -3,6 +3,7 @@ use Rattle.std.proofs.Common.{◌≡◌, ℕ, Bool, true, false, cond, ◌&&◌,
 use Rattle.std.proofs.Common.{refl, sym, ap, subst, ◌∙◌}
 use Rattle.std.specs.Prelude.{◌==◌}
 use Rattle.std.specs.List.{All, list_any}
+use Rattle.std.specs.Option.{option_or}
 use Rattle.std.specs.Str.{bytes_eq}
 use Rattle.std.proofs.lemmas.Bool.{and_parts, and_from, or_left, or_right}
 use Rattle.std.proofs.lemmas.Slice.Eq.{bytes_eq-Decides}
@@ -13,7 +14,8 @@ use Rattle.gm_notes.specs.declared.note.Note.TheVariants.{Stirred}
 use Rattle.gm_notes.specs.declared.states.Priority.{Priority}
 use Rattle.gm_notes.specs.declared.states.Priority.TheVariants.{High, Normal, Low}
 use Rattle.gm_notes.specs.Jobs.{Job, Ability, job_state, job, is_job_of, is_job_named, is_job_with, is_queued, same_priority}
-use Rattle.gm_notes.specs.Jobs.{as_they_came, queue, waiting_for, first_of, pick_from, pick, joins, joined, made, scan, is_of, is_able, abilities}
+use Rattle.gm_notes.specs.Jobs.{as_they_came, queue, waiting_for, first_of, pick_from, pick_with, pick_highest, pick, joins, joined, made, scan}
+use Rattle.gm_notes.specs.Jobs.{is_of, is_able, abilities}
 use Rattle.gm_notes.specs.Jobs.{is_empty}
 use Rattle.gm_notes.specs.declared.states.Pick.{Pick}
 use Rattle.gm_notes.specs.JobStates.{JobState, is_waiting, is_live}
@@ -104,22 +106,40 @@ found_later : (ability : Ability) (all : List Ability) (notes : List Note) (foun
 found_later ability all notes found f =
     (f.0, f.1, or_right (is_of f.0 ability && ability.timeout == found.timeout) (list_any (λ other. is_of f.0 other && other.timeout == found.timeout) all) f.2)
 
-first_waits : (ability : Ability) (all : List Ability) (ns : List ℕ) (found : Pick) (notes : List Note) → All (WaitsFor ability.function notes) ns → (pick_from all notes ≡ Some found → Found all notes found)
-    → first_of ns ability.timeout (pick_from all notes) ≡ Some found → Found (ability ∷ all) notes found
-first_waits ability all [] found notes each rest e = found_later ability all notes found (rest e)
-first_waits ability all (n ∷ ns) found notes each rest e =
+first_waits : (ability : Ability) (all : List Ability) (ns : List ℕ) (found : Pick) (notes : List Note) (o : Option Pick) → All (WaitsFor ability.function notes) ns → (o ≡ Some found → Found all notes found)
+    → first_of ns ability.timeout o ≡ Some found → Found (ability ∷ all) notes found
+first_waits ability all [] found notes o each rest e = found_later ability all notes found (rest e)
+first_waits ability all (n ∷ ns) found notes o each rest e =
     subst (Found (ability ∷ all) notes) (same_Some (record { job = n; timeout = ability.timeout }) found e)
     (ability.function, All-head (WaitsFor ability.function notes) n ns each, within_now ability all)
 
 pick_from_waits : (abilities : List Ability) (found : Pick) (notes : List Note) → pick_from abilities notes ≡ Some found → Found abilities notes found
 pick_from_waits [] found notes e = absurd cc
 pick_from_waits (ability ∷ abilities) found notes e =
-    first_waits ability abilities (waiting_for ability.function notes) found notes (waiting_for_waits ability.function notes) (pick_from_waits abilities found notes) e
+    first_waits ability abilities (waiting_for ability.function notes) found notes (pick_from abilities notes) (waiting_for_waits ability.function notes) (pick_from_waits abilities found notes) e
+
+pick_with_waits : (p : Priority) (abilities : List Ability) (found : Pick) (notes : List Note) → pick_with p abilities notes ≡ Some found → Found abilities notes found
+pick_with_waits p [] found notes e = absurd cc
+pick_with_waits p (ability ∷ abilities) found notes e =
+    first_waits ability abilities (queue ability.function p notes) found notes (pick_with p abilities notes) (queue_waits ability.function p notes) (pick_with_waits p abilities found notes) e
+
+either_is : {X : Type 0} (P : X → Type 0) (o other : Option X) (x : X) → (o ≡ Some x → P x) → (other ≡ Some x → P x) → option_or o other ≡ Some x → P x
+either_is P None other x here there e = there e
+either_is P (Some y) other x here there e = here e
+
+pick_highest_waits : (abilities : List Ability) (found : Pick) (notes : List Note) → pick_highest abilities notes ≡ Some found → Found abilities notes found
+pick_highest_waits abilities found notes e =
+    let lower = either_is (Found abilities notes) (pick_with Normal abilities notes) (pick_with Low abilities notes) found (pick_with_waits Normal abilities found notes) (pick_with_waits Low abilities found notes) in
+    either_is (Found abilities notes) (pick_with High abilities notes) (option_or (pick_with Normal abilities notes) (pick_with Low abilities notes)) found (pick_with_waits High abilities found notes) lower e
+
+picked_waits : (t : Bool) (abilities : List Ability) (found : Pick) (notes : List Note) → cond t (pick_highest abilities notes) (pick_from abilities notes) ≡ Some found → Found abilities notes found
+picked_waits true abilities found notes e = pick_highest_waits abilities found notes e
+picked_waits false abilities found notes e = pick_from_waits abilities found notes e
 
 pub pick_found : (k : Settings) (c : ℕ) (found : Pick) (notes : List Note) → pick k c notes ≡ Some found
     → (f : List ℕ) × WaitsFor f notes found.job × (is_able_within c f found.timeout notes ≡ true)
 pick_found k c found notes e =
-    let there = pick_from_waits (scan k c notes) found notes e in
+    let there = picked_waits k.as_gearmand (scan k c notes) found notes e in
     (there.0, there.1, sym (scan_members k c notes (λ ability. is_of there.0 ability && ability.timeout == found.timeout)) ∙ there.2)
 
 weaker_at : (a b more later : Bool) → (a ≡ true → b ≡ true) → (more ≡ true → later ≡ true) → (a || more) ≡ true → (b || later) ≡ true
@@ -175,7 +195,18 @@ pick_work k c found notes e =
     let there = pick_found k c found notes e in
     work_for c there.0 notes (waits_work there.0 notes found.job there.1) (within_able c there.0 found.timeout notes there.2)
 
--- a stirring changes no pick
-pub stirred_picks : (c : ℕ) (abilities : List Ability) (notes : List Note) → pick_from abilities (Stirred c ∷ notes) ≡ pick_from abilities notes
+stirred_picks : (c : ℕ) (abilities : List Ability) (notes : List Note) → pick_from abilities (Stirred c ∷ notes) ≡ pick_from abilities notes
 stirred_picks c [] notes = refl
 stirred_picks c (ability ∷ abilities) notes = ap (first_of (waiting_for ability.function notes) ability.timeout) (stirred_picks c abilities notes)
+
+stirred_with : (p : Priority) (c : ℕ) (abilities : List Ability) (notes : List Note) → pick_with p abilities (Stirred c ∷ notes) ≡ pick_with p abilities notes
+stirred_with p c [] notes = refl
+stirred_with p c (ability ∷ abilities) notes = ap (first_of (queue ability.function p notes) ability.timeout) (stirred_with p c abilities notes)
+
+-- a stirring changes no pick
+pub stirred_pick : (k : Settings) (c : ℕ) (notes : List Note) → pick k c (Stirred c ∷ notes) ≡ pick k c notes
+stirred_pick k c notes = by k.as_gearmand
+  where
+    by : (t : Bool) → cond t (pick_highest (scan k c notes) (Stirred c ∷ notes)) (pick_from (scan k c notes) (Stirred c ∷ notes)) ≡ cond t (pick_highest (scan k c notes) notes) (pick_from (scan k c notes) notes)
+    by true = simp (stirred_with High c (scan k c notes) notes, stirred_with Normal c (scan k c notes) notes, stirred_with Low c (scan k c notes) notes)
+    by false = stirred_picks c (scan k c notes) notes

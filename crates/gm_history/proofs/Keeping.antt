@@ -4,19 +4,19 @@ use Rattle.std.proofs.Common.{Option, Some, None, refl, sym, ap, subst, ◌∙�
 use Rattle.std.specs.Prelude.{codes, ◌==◌, nat_le}
 use Rattle.std.specs.List.{list_any}
 use Rattle.std.specs.Str.{bytes_eq}
-use Rattle.std.proofs.lemmas.Bool.{and_parts, or_left, or_right}
+use Rattle.std.proofs.lemmas.Bool.{and_parts, or_left, or_right, not-true}
 use Rattle.std.proofs.lemmas.List.Folds.{list_any-append}
 use Rattle.std.proofs.lemmas.Slice.Eq.{bytes_eq-Decides}
 use Rattle.std.proofs.lemmas.Bool.Decides.{nat_tests}
 use Rattle.gm_packet.specs.Requests.{Asked}
-use Rattle.gm_packet.specs.Answers.{Answer, answer_packet, job_created, no_job}
+use Rattle.gm_packet.specs.Answers.{Answer, answer_packet, job_created, no_job, work_fail}
 use Rattle.gm_notes.specs.declared.note.Note.{Note}
 use Rattle.gm_notes.specs.declared.note.Note.TheVariants as notes
 use Rattle.gm_notes.specs.Settings.{Settings}
-use Rattle.gm_notes.specs.Notes.{is_open, has_option, phase, is_asleep, is_awake, moment, slots_from}
+use Rattle.gm_notes.specs.Notes.{is_open, phase, is_asleep, is_awake, moment, slots_from}
 use Rattle.gm_notes.specs.Flow.{Began, Emptied}
 use Rattle.gm_notes.specs.Jobs.{Job, job_state, job, is_able, is_mentioned, is_empty, waiting_for, pick, joined, next_number}
-use Rattle.gm_notes.specs.Jobs.{made, handle, is_handle, job_of_handle, listeners, scan, functions, limit, total, abilities, put, is_of, Ability}
+use Rattle.gm_notes.specs.Jobs.{made, handle, is_handle, job_of_handle, listeners, functions, limit, total, abilities, put, is_of, Ability}
 use Rattle.gm_notes.specs.declared.states.Pick.{Pick}
 use Rattle.gm_notes.specs.JobStates.{JobState, is_running, is_running_at, is_live}
 use Rattle.gm_notes.specs.JobStates as states
@@ -24,7 +24,8 @@ use Rattle.gm_notes.specs.Past.{Past, with_note, with_flow, with_output, give, r
 use Rattle.gm_notes.specs.Texts.{error_of, spaced}
 use Rattle.gm_notes.specs.Submissions.{Submission, is_bad_name, is_one_too_many, is_full, keep_or_listen, make, join_or_make, submit}
 use Rattle.gm_notes.specs.Workers.{wake_if, can_do, cant_do, sleep_beside, pre_sleep, wake_itself, deadline_after, assignment}
-use Rattle.gm_notes.specs.Workers.{tell_assigned, give_out, grab, Work, keep_report, end_if, hearers, tell_work, work_on, work}
+use Rattle.gm_notes.specs.Workers.{tell_assigned, give_out, grab, Work, keep_report, end_if, wants_exceptions, hearers, tell_others}
+use Rattle.gm_notes.specs.Workers.{tell_work, work_on, work}
 use Rattle.gm_notes.specs.Requests.{first, second, third}
 use Rattle.gm_notes.specs.Steps.{Step}
 use Rattle.gm_history.specs.History.{runs_at_a_slot, IsBelowLimit, HasWork, Allowed, History}
@@ -33,8 +34,8 @@ use Rattle.gm_history.specs.Causes.{is_submission, is_foreground, is_background,
 use Rattle.gm_history.specs.Hearing.{AllOpen}
 use Rattle.gm_history.specs.Hearing.{listens, MayGet}
 use Rattle.gm_history.proofs.Asking.{asks_some, request_asks, submission_kind}
-use Rattle.gm_history.proofs.Finding.{found_passes, joined_is, IsNamed, IsWork, work_for, waiting_work, pick_waits, pick_work, stirred_picks}
-use Rattle.gm_history.proofs.Listeners.{listeners_open, filtered_open, open_after}
+use Rattle.gm_history.proofs.Finding.{found_passes, joined_is, IsNamed, IsWork, work_for, waiting_work, pick_waits, pick_work, stirred_pick}
+use Rattle.gm_history.proofs.Listeners.{listeners_open, filtered_open, some_open, open_after}
 use Rattle.gm_history.proofs.Sayings.{Other, created_other, assigned_other, error_other, no_job_other}
 use Rattle.gm_notes.proofs.Numbers.{same_number}
 
@@ -48,7 +49,7 @@ is_inner note = true
 -- and what hands out a job only for a grab
 abbrev pub MayQueue : Settings → List Note → Step → ℕ → List ℕ → Type 0
 MayQueue k before s c bytes =
-    MaySay k before s c bytes × ((answer : Answer) → IsOfEnd answer → bytes ≡ answer_packet answer → (is_request is_ending s || is_tick s) ≡ true)
+    MaySay k before s c bytes × ((answer : Answer) → IsOfEnd k answer → bytes ≡ answer_packet answer → (is_request (is_ending k) s || is_tick s) ≡ true)
     × MayGet k before s c bytes × ((answer : Answer) → IsAssignment answer → bytes ≡ answer_packet answer → is_request is_grab s ≡ true)
 
 -- the step is slot c's, and anything may be answered to it
@@ -92,7 +93,8 @@ pub record MaySubmit (s : Step) (c : ℕ) (sub : Submission) : Type 0 where
 
 -- the step may report this of job n: what it may queue to a slot that listens, what may be noted, and whether the job ends
 pub record MayReport (k : Settings) (before : List Note) (s : Step) (n : ℕ) (w : Work) (l : List Note) : Type 0 where
-  pub tells : (d : ℕ) → 0 < listens d n l → MayQueue k before s d (answer_packet w.answer)
+  pub tells : (d : ℕ) → 0 < listens d n l → (w.exceptions_only ≡ true → wants_exceptions d l ≡ true) → MayQueue k before s d (answer_packet w.answer)
+  pub tells_others : (d : ℕ) → 0 < listens d n l → (w.exceptions_only && w.ends) ≡ true → wants_exceptions d l ≡ false → MayQueue k before s d (answer_packet (work_fail (handle k n)))
   pub reports : (a b : List ℕ) → w.report ≡ Some (a, b) → Caused k before s (notes.Report n a b) l
   pub ends : w.ends ≡ true → Ends k before s n
 
@@ -178,9 +180,23 @@ counts_more test d (c ∷ slots) lt = by (test c) (d == c) refl (counts_more tes
     by true false is rest h = rest (rw is at h)
     by false false is rest h = rest h
 
+-- and passes the test
+counts_passed : (test : ℕ → Bool) (d : ℕ) (slots : List ℕ) → 0 < counted d (filter test slots) → test d ≡ true
+counts_passed test d [] lt = absurd (omega (arith, lt))
+counts_passed test d (c ∷ slots) lt = by (test c) (d == c) refl refl (counts_passed test d slots) lt
+  where
+    by : (t u : Bool) → test c ≡ t → (d == c) ≡ u → (0 < counted d (filter test slots) → test d ≡ true) → 0 < counted d (cond t (c ∷ filter test slots) (filter test slots)) → test d ≡ true
+    by true true passes is rest h = let same : d ≡ c = grind (arith, nat_tests) in ap test same ∙ passes
+    by true false passes is rest h = rest (rw is at h)
+    by false u passes is rest h = rest h
+
 pub hears_listens : (only : Bool) (d : ℕ) (slots : List ℕ) (l : List Note) → 0 < counted d (hearers only slots l) → 0 < counted d slots
-hears_listens true d slots l lt = counts_more (λ c. is_open c l && has_option c l) d slots lt
+hears_listens true d slots l lt = counts_more (λ c. wants_exceptions c l) d slots lt
 hears_listens false d slots l lt = lt
+
+hears_wants : (only : Bool) (d : ℕ) (slots : List ℕ) (l : List Note) → 0 < counted d (hearers only slots l) → only ≡ true → wants_exceptions d l ≡ true
+hears_wants true d slots l lt e = counts_passed (λ c. wants_exceptions c l) d slots lt
+hears_wants false d slots l lt e = absurd cc
 
 -- a handle is the text that names its job
 pub handled_is : (k : Settings) (text : List ℕ) (l : List Note) (n : ℕ) → job_of_handle k text l ≡ Some n → text ≡ handle k n
@@ -190,6 +206,10 @@ handled_is k text l n e = sym ((bytes_eq-Decides (handle k n) text).0 (found_pas
 pub tell_all_notes : (answer : Answer) (slots : List ℕ) (past : Past) → (tell_all answer slots past).notes ≡ past.notes
 tell_all_notes answer [] past = refl
 tell_all_notes answer (c ∷ slots) past = tell_all_notes answer slots (give c answer past)
+
+pub tell_others_notes : (t : Bool) (answer : Answer) (slots : List ℕ) (l : List Note) (past : Past) → (tell_others t answer slots l past).notes ≡ past.notes
+tell_others_notes true answer slots l past = tell_all_notes answer (filter (λ c. not (wants_exceptions c l)) slots) past
+tell_others_notes false answer slots l past = refl
 
 module _ {k : Settings} {before : List Note} {s : Step} {I : Past → Type 0} (K : Keeps k before s I) where
   pub held_if : (t : Bool) (a b : Past) → (t ≡ true → Held k I a) → (t ≡ false → Held k I b) → Held k I (cond t a b)
@@ -203,7 +223,7 @@ module _ {k : Settings} {before : List Note} {s : Step} {I : Past → Type 0} (K
   says_keeps c bytes past opened may h = (h.0, K.by_saying c bytes past opened may h.0 h.1)
 
   pub not_said : (c : ℕ) (bytes : List ℕ) → Other bytes → MayGet k before s c bytes → MayQueue k before s c bytes
-  not_said c bytes other gets = ((λ e. absurd (other.0 e)), (λ answer ends e. absurd (other.1 answer ends e)), gets, (λ answer gives e. absurd (other.2 answer gives e)))
+  not_said c bytes other gets = ((λ e. absurd (other.0 e)), (λ answer ends e. absurd (other.1 k answer ends e)), gets, (λ answer gives e. absurd (other.2 answer gives e)))
 
   pub tells_keeps : (answer : Answer) (slots : List ℕ) (past : Past) → ((d : ℕ) → 0 < counted d slots → MayQueue k before s d (answer_packet answer)) → AllOpen slots past.notes → Held k I past
       → Held k I (tell_all answer slots past)
@@ -362,11 +382,11 @@ module _ {k : Settings} {before : List Note} {s : Step} {I : Past → Type 0} (K
     assigned_keeps uniq n (Some job) past may opened h =
         let other = assigned_other k uniq n job in
         says_keeps c (answer_packet (assignment k uniq n job)) past opened
-        ((λ e. absurd (other.0 e)), (λ answer ends e. absurd (other.1 answer ends e)), home (answer_packet (assignment k uniq n job)), (λ answer gives e. asks_some is_grab c s may)) h
+        ((λ e. absurd (other.0 e)), (λ answer ends e. absurd (other.1 k answer ends e)), home (answer_packet (assignment k uniq n job)), (λ answer gives e. asks_some is_grab c s may)) h
 
     gives_out_keeps : (uniq : Bool) (o : Option Pick) (past : Past) → asks is_grab c s ≡ true → pick k c before ≡ o → is_open c past.notes ≡ true → pick k c past.notes ≡ o → Held k I past → Held k I (give_out k c uniq o past)
     gives_out_keeps uniq None past may first opened is h =
-        says_keeps c (answer_packet no_job) past opened ((λ e. (may, first)), (λ answer ends e. absurd (no_job_other.0 answer ends e)), home (answer_packet no_job), (λ answer gives e. absurd (no_job_other.1 answer gives e))) h
+        says_keeps c (answer_packet no_job) past opened ((λ e. (may, first)), (λ answer ends e. absurd (no_job_other.0 k answer ends e)), home (answer_packet no_job), (λ answer gives e. absurd (no_job_other.1 answer gives e))) h
     gives_out_keeps uniq (Some found) past may first opened is h =
         let one = with_note (notes.Assigned found.job c (deadline_after (moment past.notes) found.timeout)) past in
         assigned_keeps uniq found.job (job found.job past.notes) one may opened
@@ -376,7 +396,7 @@ module _ {k : Settings} {before : List Note} {s : Step} {I : Past → Type 0} (K
     grab_keeps uniq past may first opened h =
         gives_out_keeps uniq (pick k c past.notes) (wake_itself c past) may first
         (kept_if (λ l. is_open c l ≡ true) (is_asleep (phase c past.notes)) (with_note (notes.Stirred c) past) past opened opened)
-        (kept_if (λ l. pick k c l ≡ pick k c past.notes) (is_asleep (phase c past.notes)) (with_note (notes.Stirred c) past) past (stirred_picks c (scan k c past.notes) past.notes) refl)
+        (kept_if (λ l. pick k c l ≡ pick k c past.notes) (is_asleep (phase c past.notes)) (with_note (notes.Stirred c) past) past (stirred_pick k c past.notes) refl)
         (stir_keeps c past (or_left (asks is_grab c s) (closes c s) may) h)
 
     -- ---- work
@@ -398,24 +418,40 @@ module _ {k : Settings} {before : List Note} {s : Step} {I : Past → Type 0} (K
     hearers_open true slots l all = filtered_open slots l
     hearers_open false slots l all = all
 
-    tells_work_keeps : (w : Work) (n : ℕ) (past : Past) → MayReport k before s n w past.notes → runs_at_a_slot (job_state n past.notes) ≡ true → Held k I past → Held k I (tell_work w n past)
+    others_keeps : (t : Bool) (answer : Answer) (slots : List ℕ) (l : List Note) (past : Past) → ((d : ℕ) → 0 < counted d slots → t ≡ true → wants_exceptions d l ≡ false → MayQueue k before s d (answer_packet answer)) → AllOpen slots past.notes
+        → Held k I past → Held k I (tell_others t answer slots l past)
+    others_keeps true answer slots l past may all h =
+        tells_keeps answer (filter (λ c. not (wants_exceptions c l)) slots) past
+        (λ d lt. may d (counts_more (λ c. not (wants_exceptions c l)) d slots lt) refl (not-true (wants_exceptions d l) (counts_passed (λ c. not (wants_exceptions c l)) d slots lt)))
+        (some_open (λ c. not (wants_exceptions c l)) slots past.notes all) h
+    others_keeps false answer slots l past may all h = h
+
+    tells_work_keeps : (w : Work) (n : ℕ) (past : Past) → MayReport k before s n w past.notes → runs_at_a_slot (job_state n past.notes) ≡ true → Held k I past → Held k I (tell_work k w n past)
     tells_work_keeps w n past may running h =
-        let slots = hearers w.exceptions_only (listeners n past.notes) past.notes in
+        let all = listeners n past.notes in
+        let slots = hearers w.exceptions_only all past.notes in
         let one = keep_report n w.report past in
-        let all = hearers_open w.exceptions_only (listeners n past.notes) past.notes (listeners_open k past.notes h.0 n) in
-        let all_one = report_notes (λ l. AllOpen slots l) n w.report past all (λ a b. open_after slots past.notes (notes.Report n a b ∷ past.notes) (λ d e. e) all) in
+        let two = tell_all w.answer slots one in
+        let three = tell_others (w.exceptions_only && w.ends) (work_fail (handle k n)) all past.notes two in
+        let opened = listeners_open k past.notes h.0 n in
+        let heard = hearers_open w.exceptions_only all past.notes opened in
+        let heard_one = report_notes (λ l. AllOpen slots l) n w.report past heard (λ a b. open_after slots past.notes (notes.Report n a b ∷ past.notes) (λ d e. e) heard) in
+        let opened_one = report_notes (λ l. AllOpen all l) n w.report past opened (λ a b. open_after all past.notes (notes.Report n a b ∷ past.notes) (λ d e. e) opened) in
         let runs = slot_runs (job_state n past.notes) running in
         let running_one = report_notes (λ l. is_running (job_state n l) ≡ true) n w.report past runs (λ a b. runs) in
-        ended_keeps w.ends n (tell_all w.answer slots one) may.ends
-        (subst (λ l. is_running (job_state n l) ≡ true) (sym (tell_all_notes w.answer slots one)) running_one)
-        (tells_keeps w.answer slots one (λ d lt. may.tells d (hears_listens w.exceptions_only d (listeners n past.notes) past.notes lt)) all_one (report_keeps n w.report past may.reports running h))
+        let same = tell_all_notes w.answer slots one in
+        let same_too = tell_others_notes (w.exceptions_only && w.ends) (work_fail (handle k n)) all past.notes two in
+        ended_keeps w.ends n three may.ends (subst (λ l. is_running (job_state n l) ≡ true) (sym (same_too ∙ same)) running_one)
+        (others_keeps (w.exceptions_only && w.ends) (work_fail (handle k n)) all past.notes two may.tells_others (subst (AllOpen all) (sym same) opened_one)
+        (tells_keeps w.answer slots one (λ d lt. may.tells d (hears_listens w.exceptions_only d all past.notes lt) (hears_wants w.exceptions_only d all past.notes lt)) heard_one
+        (report_keeps n w.report past may.reports running h)))
 
     -- the job that the handle names, if it runs at the slot
     works_on_keeps : (text : List ℕ) (w : Work) (o : Option ℕ) (past : Past) → job_of_handle k text past.notes ≡ o
-        → ((n : ℕ) → job_state n past.notes ≡ states.Running c → text ≡ handle k n → MayReport k before s n w past.notes) → is_open c past.notes ≡ true → Held k I past → Held k I (work_on c w o past)
+        → ((n : ℕ) → job_state n past.notes ≡ states.Running c → text ≡ handle k n → MayReport k before s n w past.notes) → is_open c past.notes ≡ true → Held k I past → Held k I (work_on k c w o past)
     works_on_keeps text w None past is may opened h = refuses_keeps (codes "job_not_found") past opened h
     works_on_keeps text w (Some n) past is may opened h =
-        held_if (is_running_at c (job_state n past.notes)) (tell_work w n past) (refuse c (codes "job_not_found") past)
+        held_if (is_running_at c (job_state n past.notes)) (tell_work k w n past) (refuse c (codes "job_not_found") past)
         (λ e. tells_work_keeps w n past (may n (runs_there c (job_state n past.notes) e) (handled_is k text past.notes n is)) (runs_somewhere c (job_state n past.notes) e) h)
         (λ e. refuses_keeps (codes "job_not_found") past opened h)
 

@@ -1,5 +1,5 @@
 -- Who listens to a job is open.
-use Rattle.std.proofs.Common.{◌≡◌, ℕ, Bool, true, false, cond, not, ◌&&◌, List, [], ◌∷◌, ◌++◌, filter, Some, None, refl}
+use Rattle.std.proofs.Common.{◌≡◌, ℕ, Bool, true, false, cond, not, List, [], ◌∷◌, ◌++◌, filter, Some, None, refl}
 use Rattle.std.specs.Prelude.{◌==◌, unwrap_or}
 use Rattle.std.proofs.lemmas.Bool.{and_parts}
 use Rattle.gm_notes.specs.declared.note.Note.{Note}
@@ -7,6 +7,7 @@ use Rattle.gm_notes.specs.declared.note.Note.TheVariants.{Opened, Closed, Made, 
 use Rattle.gm_notes.specs.Settings.{Settings}
 use Rattle.gm_notes.specs.Notes.{is_open, has_option}
 use Rattle.gm_notes.specs.Jobs.{listeners}
+use Rattle.gm_notes.specs.Workers.{wants_exceptions}
 use Rattle.gm_history.specs.History.{History}
 use Rattle.gm_history.specs.Hearing.{AllOpen}
 use Rattle.std.proofs.lemmas.Bool.{not-true}
@@ -19,13 +20,22 @@ both_open : (slots more : List ℕ) (l : List Note) → AllOpen slots l → AllO
 both_open [] more l p q = q
 both_open (c ∷ slots) more l p q = (p.0, both_open slots more l p.1 q)
 
-filtered_at : (c : ℕ) (rest : List ℕ) (l : List Note) (t : Bool) → (is_open c l && has_option c l) ≡ t → AllOpen rest l → AllOpen (cond t (c ∷ rest) rest) l
+-- some of the open slots are open
+pub some_open : (test : ℕ → Bool) (slots : List ℕ) (l : List Note) → AllOpen slots l → AllOpen (filter test slots) l
+some_open test [] l all = tt
+some_open test (c ∷ slots) l all = by (test c) (some_open test slots l all.1)
+  where
+    by : (t : Bool) → AllOpen (filter test slots) l → AllOpen (cond t (c ∷ filter test slots) (filter test slots)) l
+    by true rest = (all.0, rest)
+    by false rest = rest
+
+filtered_at : (c : ℕ) (rest : List ℕ) (l : List Note) (t : Bool) → wants_exceptions c l ≡ t → AllOpen rest l → AllOpen (cond t (c ∷ rest) rest) l
 filtered_at c rest l true is all = ((and_parts (is_open c l) (has_option c l) is).0, all)
 filtered_at c rest l false is all = all
 
-pub filtered_open : (slots : List ℕ) (l : List Note) → AllOpen (filter (λ c. is_open c l && has_option c l) slots) l
+pub filtered_open : (slots : List ℕ) (l : List Note) → AllOpen (filter (λ c. wants_exceptions c l) slots) l
 filtered_open [] l = tt
-filtered_open (c ∷ slots) l = filtered_at c _ l (is_open c l && has_option c l) refl (filtered_open slots l)
+filtered_open (c ∷ slots) l = filtered_at c _ l (wants_exceptions c l) refl (filtered_open slots l)
 
 -- the others are open once slot d was closed
 pub still_open : (older t : Bool) → t ≡ false → older ≡ true → unwrap_or (cond t (Some false) None) older ≡ true

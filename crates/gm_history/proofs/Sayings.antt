@@ -27,7 +27,7 @@ Another bytes = bytes ≡ answer_packet no_job → ⊥
 
 -- no packet that tells of an end
 abbrev pub EndsNone : List ℕ → Type 0
-EndsNone bytes = (answer : Answer) → IsOfEnd answer → bytes ≡ answer_packet answer → ⊥
+EndsNone bytes = (k : Settings) (answer : Answer) → IsOfEnd k answer → bytes ≡ answer_packet answer → ⊥
 
 -- no packet that hands out a job
 abbrev pub GivesNone : List ℕ → Type 0
@@ -46,10 +46,15 @@ apart m n other e = let same : (m == n) ≡ true = grind (arith, nat_tests) in l
 type_byte : (answer : Answer) (m : ℕ) → answer.kind ≡ m → get_or (answer_packet answer) 7 0 ≡ get_or (packet response_magic m (join_with_byte 0 answer.arguments)) 7 0
 type_byte answer m is = ap (λ (kind : ℕ). get_or (packet response_magic kind (join_with_byte 0 answer.arguments)) 7 0) is
 
-end_byte : (answer : Answer) → IsOfEnd answer → (get_or (answer_packet answer) 7 0 ≡ 13) ⊎ (get_or (answer_packet answer) 7 0 ≡ 14)
+-- the type byte is one of an end
+abbrev IsEndByte : Settings → ℕ → Type 0
+IsEndByte k x = (x ≡ 13) ⊎ ((x ≡ 14) ⊎ ((k.as_gearmand ≡ true) × (x ≡ 25)))
+
+end_byte : (k : Settings) (answer : Answer) → IsOfEnd k answer → IsEndByte k (get_or (answer_packet answer) 7 0)
 unfolding packet
-end_byte answer (inl is) = inl (type_byte answer 13 is)
-end_byte answer (inr is) = inr (type_byte answer 14 is)
+end_byte k answer (inl is) = inl (type_byte answer 13 is)
+end_byte k answer (inr (inl is)) = inr (inl (type_byte answer 14 is))
+end_byte k answer (inr (inr (set, is))) = inr (inr (set, type_byte answer 25 is))
 
 assignment_byte : (answer : Answer) → IsAssignment answer → (get_or (answer_packet answer) 7 0 ≡ 11) ⊎ (get_or (answer_packet answer) 7 0 ≡ 31)
 unfolding packet
@@ -57,16 +62,17 @@ assignment_byte answer (inl is) = inl (type_byte answer 11 is)
 assignment_byte answer (inr is) = inr (type_byte answer 31 is)
 
 -- what has another type byte
-untold : (m : ℕ) (bytes : List ℕ) → get_or bytes 7 0 ≡ m → (m == 10) ≡ false → (m == 13) ≡ false → (m == 14) ≡ false → Another bytes × EndsNone bytes
+untold : (m : ℕ) (bytes : List ℕ) → get_or bytes 7 0 ≡ m → (m == 10) ≡ false → (m == 13) ≡ false → (m == 14) ≡ false → (m == 25) ≡ false → Another bytes × EndsNone bytes
 unfolding packet
-untold m bytes is job complete fail = (
+untold m bytes is job complete fail exception = (
   (λ e. apart m 10 job (sym is ∙ ap (λ (l : List ℕ). get_or l 7 0) e)),
-  λ answer ends e. by (end_byte answer ends) (sym is ∙ ap (λ (l : List ℕ). get_or l 7 0) e),
+  λ k answer ends e. by k (end_byte k answer ends) (sym is ∙ ap (λ (l : List ℕ). get_or l 7 0) e),
 )
   where
-    by : {x : ℕ} → (x ≡ 13) ⊎ (x ≡ 14) → m ≡ x → ⊥
-    by (inl a) e = apart m 13 complete (e ∙ a)
-    by (inr a) e = apart m 14 fail (e ∙ a)
+    by : (k : Settings) {x : ℕ} → IsEndByte k x → m ≡ x → ⊥
+    by k (inl a) e = apart m 13 complete (e ∙ a)
+    by k (inr (inl a)) e = apart m 14 fail (e ∙ a)
+    by k (inr (inr (set, a))) e = apart m 25 exception (e ∙ a)
 
 ungiven : (m : ℕ) (bytes : List ℕ) → get_or bytes 7 0 ≡ m → (m == 11) ≡ false → (m == 31) ≡ false → GivesNone bytes
 ungiven m bytes is plain uniq answer gives e = by (assignment_byte answer gives) (sym is ∙ ap (λ (l : List ℕ). get_or l 7 0) e)
@@ -75,16 +81,16 @@ ungiven m bytes is plain uniq answer gives e = by (assignment_byte answer gives)
     by (inl a) e = apart m 11 plain (e ∙ a)
     by (inr a) e = apart m 31 uniq (e ∙ a)
 
-typed : (m : ℕ) (bytes : List ℕ) → get_or bytes 7 0 ≡ m → (m == 10) ≡ false → (m == 13) ≡ false → (m == 14) ≡ false → (m == 11) ≡ false → (m == 31) ≡ false → Other bytes
-typed m bytes is job complete fail plain uniq = let u = untold m bytes is job complete fail in (u.0, u.1, ungiven m bytes is plain uniq)
+typed : (m : ℕ) (bytes : List ℕ) → get_or bytes 7 0 ≡ m → (m == 10) ≡ false → (m == 13) ≡ false → (m == 14) ≡ false → (m == 25) ≡ false → (m == 11) ≡ false → (m == 31) ≡ false → Other bytes
+typed m bytes is job complete fail exception plain uniq = let u = untold m bytes is job complete fail exception in (u.0, u.1, ungiven m bytes is plain uniq)
 
 pub created_other : (h : List ℕ) → Other (answer_packet (job_created h))
 unfolding packet
-created_other h = typed 8 _ refl refl refl refl refl refl
+created_other h = typed 8 _ refl refl refl refl refl refl refl
 
 pub error_other : (code text : List ℕ) → Other (answer_packet (error code text))
 unfolding packet
-error_other code text = typed 19 _ refl refl refl refl refl refl
+error_other code text = typed 19 _ refl refl refl refl refl refl refl
 
 pub fail_another : (h : List ℕ) → Another (answer_packet (work_fail h)) × GivesNone (answer_packet (work_fail h))
 unfolding packet
@@ -97,44 +103,55 @@ complete_another h b = ((λ e. apart 13 10 refl (ap (λ (l : List ℕ). get_or l
 -- NO_JOB tells of no end, and hands out nothing
 pub no_job_other : EndsNone (answer_packet no_job) × GivesNone (answer_packet no_job)
 unfolding packet
-no_job_other = ((λ answer ends e. by (end_byte answer ends) (ap (λ (l : List ℕ). get_or l 7 0) e)), ungiven 10 _ refl refl refl)
+no_job_other = ((λ k answer ends e. by k (end_byte k answer ends) (ap (λ (l : List ℕ). get_or l 7 0) e)), ungiven 10 _ refl refl refl)
   where
-    by : {x : ℕ} → (x ≡ 13) ⊎ (x ≡ 14) → 10 ≡ x → ⊥
-    by (inl a) e = apart 10 13 refl (e ∙ a)
-    by (inr a) e = apart 10 14 refl (e ∙ a)
+    by : (k : Settings) {x : ℕ} → IsEndByte k x → 10 ≡ x → ⊥
+    by k (inl a) e = apart 10 13 refl (e ∙ a)
+    by k (inr (inl a)) e = apart 10 14 refl (e ∙ a)
+    by k (inr (inr (set, a))) e = apart 10 25 refl (e ∙ a)
 
 pub status_other : (h a b : List ℕ) → Other (answer_packet (work_status h a b))
 unfolding packet
-status_other h a b = typed 12 _ refl refl refl refl refl refl
+status_other h a b = typed 12 _ refl refl refl refl refl refl refl
 
 pub data_other : (h b : List ℕ) → Other (answer_packet (work_data h b))
 unfolding packet
-data_other h b = typed 28 _ refl refl refl refl refl refl
+data_other h b = typed 28 _ refl refl refl refl refl refl refl
 
 pub warning_other : (h b : List ℕ) → Other (answer_packet (work_warning h b))
 unfolding packet
-warning_other h b = typed 29 _ refl refl refl refl refl refl
+warning_other h b = typed 29 _ refl refl refl refl refl refl refl
 
-pub exception_other : (h b : List ℕ) → Other (answer_packet (work_exception h b))
+pub exception_another : (h b : List ℕ) → Another (answer_packet (work_exception h b)) × GivesNone (answer_packet (work_exception h b))
 unfolding packet
-exception_other h b = typed 25 _ refl refl refl refl refl refl
+exception_another h b = ((λ e. apart 25 10 refl (ap (λ (l : List ℕ). get_or l 7 0) e)), ungiven 25 _ refl refl refl)
+
+-- an exception tells of an end only to gearmand's applications
+pub exception_ends : (h b : List ℕ) (k : Settings) (answer : Answer) → IsOfEnd k answer → answer_packet (work_exception h b) ≡ answer_packet answer → k.as_gearmand ≡ true
+unfolding packet
+exception_ends h b k answer ends e = by (end_byte k answer ends) (ap (λ (l : List ℕ). get_or l 7 0) e)
+  where
+    by : {x : ℕ} → IsEndByte k x → 25 ≡ x → k.as_gearmand ≡ true
+    by (inl a) e = absurd (apart 25 13 refl (e ∙ a))
+    by (inr (inl a)) e = absurd (apart 25 14 refl (e ∙ a))
+    by (inr (inr (set, a))) e = set
 
 pub echo_other : (b : List ℕ) → Other (answer_packet (echo_res b))
 unfolding packet
-echo_other b = typed 17 _ refl refl refl refl refl refl
+echo_other b = typed 17 _ refl refl refl refl refl refl refl
 
 pub option_other : (b : List ℕ) → Other (answer_packet (option_res b))
 unfolding packet
-option_other b = typed 27 _ refl refl refl refl refl refl
+option_other b = typed 27 _ refl refl refl refl refl refl refl
 
 pub known_other : (h : List ℕ) (known running : Bool) (a b : List ℕ) → Other (answer_packet (status_res h known running a b))
 unfolding packet
-known_other h known running a b = typed 20 _ refl refl refl refl refl refl
+known_other h known running a b = typed 20 _ refl refl refl refl refl refl refl
 
 pub assigned_other : (k : Settings) (uniq : Bool) (n : ℕ) (job : Job) → Another (answer_packet (assignment k uniq n job)) × EndsNone (answer_packet (assignment k uniq n job))
 unfolding packet
-assigned_other k true n job = untold 31 _ refl refl refl refl
-assigned_other k false n job = untold 11 _ refl refl refl refl
+assigned_other k true n job = untold 31 _ refl refl refl refl refl
+assigned_other k false n job = untold 11 _ refl refl refl refl refl
 
 -- ---- texts
 
@@ -143,7 +160,7 @@ pub head_other : (b : ℕ) (bytes : List ℕ) → b ≢ 0 → Other (b ∷ bytes
 unfolding packet
 head_other b bytes other = (
   (λ e. other (ap (λ (l : List ℕ). get_or l 0 0) e)),
-  (λ answer ends e. other (ap (λ (l : List ℕ). get_or l 0 0) e)),
+  (λ k answer ends e. other (ap (λ (l : List ℕ). get_or l 0 0) e)),
   λ answer gives e. other (ap (λ (l : List ℕ). get_or l 0 0) e),
 )
 

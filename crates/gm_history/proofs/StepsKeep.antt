@@ -42,7 +42,7 @@ use Rattle.gm_notes.specs.Submissions.{is_one_too_many}
 use Rattle.gm_notes.specs.Texts.{fault_text}
 use Rattle.gm_notes.specs.Flow.{Drained}
 use Rattle.gm_notes.specs.Submissions.{submit}
-use Rattle.gm_notes.specs.Workers.{wake_itself, can_do, work}
+use Rattle.gm_notes.specs.Workers.{wake_itself, can_do, wants_exceptions, work}
 use Rattle.gm_notes.specs.Requests.{packet_of, first, second, third, submission, passing, ending, tell_status, set_option}
 use Rattle.gm_notes.specs.Requests.{request, request_if_read}
 use Rattle.gm_notes.specs.Lines.{refuse_line, fault_error, status_rows, worker_rows, is_bad_word, maxqueue, shut_one}
@@ -59,10 +59,11 @@ use Rattle.gm_history.specs.Causes.{priority_of, job_seconds, Commands, Ends}
 use Rattle.gm_history.specs.Hearing.{listens, passed_on, MayGet}
 use Rattle.gm_history.proofs.Asking.{kind_read, request_asks, slot_asks, enabling_kind}
 use Rattle.gm_history.proofs.Listeners.{listeners_open}
-use Rattle.gm_history.proofs.Sayings.{Another, GivesNone, Other, fail_another, status_other, complete_another, data_other, warning_other, exception_other}
+use Rattle.gm_history.proofs.Sayings.{Another, GivesNone, Other, fail_another, status_other, complete_another, data_other, warning_other}
+use Rattle.gm_history.proofs.Sayings.{exception_another, exception_ends}
 use Rattle.gm_history.proofs.Sayings.{echo_other, option_other, known_other, ok_other, version_other, refusal_other, fault_other}
 use Rattle.gm_history.proofs.Sayings.{list_other, rows_other}
-use Rattle.gm_history.proofs.Keeping.{Keeps, Held, IsHome, not_said, kept_if, held_if, note_keeps, says_keeps, gives_keeps, refuses_keeps}
+use Rattle.gm_history.proofs.Keeping.{Keeps, Held, MayQueue, IsHome, not_said, kept_if, held_if, note_keeps, says_keeps, gives_keeps, refuses_keeps}
 use Rattle.gm_history.proofs.Keeping.{tells_keeps, wake_keeps, mentions_keeps, mentioned, submit_keeps, can_do_keeps, cant_do_keeps}
 use Rattle.gm_history.proofs.Keeping.{pre_sleep_keeps, stir_keeps, grab_keeps, works_keeps, tell_all_notes, runs_somewhere, counted}
 use Rattle.gm_notes.proofs.Numbers.{same_number}
@@ -106,34 +107,40 @@ module _ {k : Settings} {I : Past → Type 0} (start : Past) (c number : ℕ) (b
         start opened h
 
     -- what is passed on
-    gets : (n : ℕ) (answer passed : Answer) → job_state n start.notes ≡ states.Running c → first asked.arguments ≡ handle k n → passed_on k n asked.kind asked.arguments ≡ Some passed
-        → answer_packet answer ≡ answer_packet passed → (d : ℕ) → 0 < listens d n start.notes → MayGet k start.notes the_step d (answer_packet answer)
-    gets n answer passed runs names is same d lt = inr (n, asked, passed, (refl, reads), runs, names, is, same, lt)
+    gets : (n : ℕ) (answer passed : Answer) → job_state n start.notes ≡ states.Running c → first asked.arguments ≡ handle k n → (d : ℕ) → passed_on k (wants_exceptions d start.notes) n asked.kind asked.arguments ≡ Some passed
+        → answer_packet answer ≡ answer_packet passed → 0 < listens d n start.notes → MayGet k start.notes the_step d (answer_packet answer)
+    gets n answer passed runs names d is same lt = inr (n, asked, passed, (refl, reads), runs, names, is, same, lt)
 
     -- what doesn't end the job
-    passes : (answer : Answer) (only : Bool) (to : List ℕ → Answer) → ((n : ℕ) → passed_on k n asked.kind asked.arguments ≡ Some (to (handle k n))) → to (first asked.arguments) ≡ answer → Other (answer_packet answer)
-        → Held k I (work k c (first asked.arguments) (record (passing answer) { exceptions_only = only }) start)
-    passes answer only to passed is other =
-        works_keeps K c home (first asked.arguments) (record (passing answer) { exceptions_only = only }) start
+    passes : (answer : Answer) (to : List ℕ → Answer) → ((n : ℕ) (wants : Bool) → passed_on k wants n asked.kind asked.arguments ≡ Some (to (handle k n))) → to (first asked.arguments) ≡ answer → Other (answer_packet answer)
+        → Held k I (work k c (first asked.arguments) (passing answer) start)
+    passes answer to passed is other =
+        works_keeps K c home (first asked.arguments) (passing answer) start
         (λ n runs names. record {
-          tells = λ d lt. not_said K d (answer_packet answer) other (gets n answer (to (handle k n)) runs names (passed n) (ap answer_packet (sym is) ∙ ap (λ h. answer_packet (to h)) names) d lt);
+          tells = λ d lt wants.
+              not_said K d (answer_packet answer) other
+              (gets n answer (to (handle k n)) runs names d (passed n (wants_exceptions d start.notes)) (ap answer_packet (sym is) ∙ ap (λ h. answer_packet (to h)) names) lt);
+          tells_others = λ d lt e. absurd cc;
           reports = λ a b e. absurd cc;
           ends = λ e. absurd cc;
         }) opened h
 
-    ends_with : (answer : Answer) (to : List ℕ → Answer) → ((n : ℕ) → passed_on k n asked.kind asked.arguments ≡ Some (to (handle k n))) → to (first asked.arguments) ≡ answer → is_ending asked.kind ≡ true → Another (answer_packet answer) × GivesNone (answer_packet answer)
+    -- what tells of an end is said, where the request ends the job that it names
+    says_end : (d : ℕ) (out : List ℕ) → is_ending k asked.kind ≡ true → Another out × GivesNone out → MayGet k start.notes the_step d out → MayQueue k start.notes the_step d out
+    says_end d out may other gets =
+        ((λ e. absurd (other.0 e)), (λ x y e. or_left (is_one_of (is_ending k) (kind_of number)) false (by_kind (is_ending k) may)), gets, (λ x y e. absurd (other.1 x y e)))
+
+    ends_with : (answer : Answer) (to : List ℕ → Answer) → ((n : ℕ) (wants : Bool) → passed_on k wants n asked.kind asked.arguments ≡ Some (to (handle k n))) → to (first asked.arguments) ≡ answer → is_ending k asked.kind ≡ true → Another (answer_packet answer) × GivesNone (answer_packet answer)
         → Held k I (work k c (first asked.arguments) (ending answer) start)
     ends_with answer to passed is may other =
         works_keeps K c home (first asked.arguments) (ending answer) start
         (λ n runs names. record {
-          tells = λ d lt. (
-            (λ e. absurd (other.0 e)),
-            (λ x y e. or_left (is_one_of is_ending (kind_of number)) false (by_kind is_ending may)),
-            gets n answer (to (handle k n)) runs names (passed n) (ap answer_packet (sym is) ∙ ap (λ h. answer_packet (to h)) names) d lt,
-            (λ x y e. absurd (other.1 x y e)),
-          );
+          tells = λ d lt wants.
+              says_end d (answer_packet answer) may other
+              (gets n answer (to (handle k n)) runs names d (passed n (wants_exceptions d start.notes)) (ap answer_packet (sym is) ∙ ap (λ h. answer_packet (to h)) names) lt);
+          tells_others = λ d lt e. absurd cc;
           reports = λ a b e. absurd cc;
-          ends = λ e. (by_kind is_ending may, runs, (asked, reads, names));
+          ends = λ e. (by_kind (is_ending k) may, runs, (asked, reads, names));
         }) opened h
 
   module _ (a : List (List ℕ)) (timeout : ℕ) where
@@ -148,12 +155,33 @@ module _ {k : Settings} {I : Past → Type 0} (start : Past) (c number : ℕ) (b
         let answer = work_status (first a) (second a) (third a) in
         works_keeps K c home (first a) (record (passing answer) { report = Some (second a, third a) }) start
         (λ n runs names. record {
-          tells = λ d lt. not_said K d (answer_packet answer) (status_other (first a) (second a) (third a))
-              (gets (asks_for WorkStatus) reads n answer (work_status (handle k n) (second a) (third a)) runs names refl (ap (λ h. answer_packet (work_status h (second a) (third a))) names) d lt);
+          tells = λ d lt wants. not_said K d (answer_packet answer) (status_other (first a) (second a) (third a))
+              (gets (asks_for WorkStatus) reads n answer (work_status (handle k n) (second a) (third a)) runs names d refl (ap (λ h. answer_packet (work_status h (second a) (third a))) names) lt);
+          tells_others = λ d lt e. absurd cc;
           reports = λ x y e.
               let same : (second a, third a) ≡ (x, y) = same_Some (second a, third a) (x, y) e in
               (c, asks_for WorkStatus, (refl, reads), refl, runs, names, ap (λ (p : List ℕ × List ℕ). p.0) same, ap (λ (p : List ℕ × List ℕ). p.1) same);
           ends = λ e. absurd cc;
+        }) opened h
+
+    -- an exception goes to whom wants it; where it ends the job, the others are told so
+    raises : Reads WorkException → Held k I (work k c (first a) (record (passing (work_exception (first a) (second a))) { exceptions_only = true; ends = k.as_gearmand }) start)
+    raises reads =
+        let asked = asks_for WorkException in
+        let answer = work_exception (first a) (second a) in
+        let other = exception_another (first a) (second a) in
+        works_keeps K c home (first a) (record (passing answer) { exceptions_only = true; ends = k.as_gearmand }) start
+        (λ n runs names. record {
+          tells = λ d lt wants. (
+            (λ e. absurd (other.0 e)),
+            (λ x y e. or_left (is_one_of (is_ending k) (kind_of number)) false (by_kind asked reads (is_ending k) (exception_ends (first a) (second a) k x y e))),
+            gets asked reads n answer (work_exception (handle k n) (second a)) runs names d (rw (wants refl) refl) (ap (λ h. answer_packet (work_exception h (second a))) names) lt,
+            (λ x y e. absurd (other.1 x y e)),
+          );
+          tells_others = λ d lt set wants.
+              says_end asked reads d (answer_packet (work_fail (handle k n))) set (fail_another (handle k n)) (gets asked reads n (work_fail (handle k n)) (work_fail (handle k n)) runs names d (rw (wants, set) refl) refl lt);
+          reports = λ x y e. absurd cc;
+          ends = λ e. (by_kind asked reads (is_ending k) e, runs, (asked, reads, names));
         }) opened h
 
     chooses : Reads OptionReq → Held k I (set_option c (first a) start)
@@ -178,11 +206,11 @@ module _ {k : Settings} {I : Past → Type 0} (start : Past) (c number : ℕ) (b
     request_keeps SubmitJobLow reads = submits (asks_for SubmitJobLow) reads Low false refl (λ e. absurd cc) (λ e. refl)
     request_keeps SubmitJobLowBg reads = submits (asks_for SubmitJobLowBg) reads Low true refl (λ e. refl) (λ e. absurd cc)
     request_keeps WorkStatus reads = reports_status reads
-    request_keeps WorkData reads = passes (asks_for WorkData) reads (work_data (first a) (second a)) false (λ h. work_data h (second a)) (λ n. refl) refl (data_other (first a) (second a))
-    request_keeps WorkWarning reads = passes (asks_for WorkWarning) reads (work_warning (first a) (second a)) false (λ h. work_warning h (second a)) (λ n. refl) refl (warning_other (first a) (second a))
-    request_keeps WorkException reads = passes (asks_for WorkException) reads (work_exception (first a) (second a)) true (λ h. work_exception h (second a)) (λ n. refl) refl (exception_other (first a) (second a))
-    request_keeps WorkComplete reads = ends_with (asks_for WorkComplete) reads (work_complete (first a) (second a)) (λ h. work_complete h (second a)) (λ n. refl) refl refl (complete_another (first a) (second a))
-    request_keeps WorkFail reads = ends_with (asks_for WorkFail) reads (work_fail (first a)) (λ h. work_fail h) (λ n. refl) refl refl (fail_another (first a))
+    request_keeps WorkData reads = passes (asks_for WorkData) reads (work_data (first a) (second a)) (λ h. work_data h (second a)) (λ n wants. refl) refl (data_other (first a) (second a))
+    request_keeps WorkWarning reads = passes (asks_for WorkWarning) reads (work_warning (first a) (second a)) (λ h. work_warning h (second a)) (λ n wants. refl) refl (warning_other (first a) (second a))
+    request_keeps WorkException reads = raises reads
+    request_keeps WorkComplete reads = ends_with (asks_for WorkComplete) reads (work_complete (first a) (second a)) (λ h. work_complete h (second a)) (λ n wants. refl) refl refl (complete_another (first a) (second a))
+    request_keeps WorkFail reads = ends_with (asks_for WorkFail) reads (work_fail (first a)) (λ h. work_fail h) (λ n wants. refl) refl refl (fail_another (first a))
     request_keeps GetStatus reads = tells_status (first a) (job_of_handle k (first a) start.notes)
     request_keeps EchoReq reads = gives_keeps K c home (echo_res (first a)) start opened (echo_other (first a)) h
     request_keeps SetClientId reads = note_keeps K (notes.Named c (first a)) start refl opened (asks_for SetClientId, (refl, reads), refl, refl) h

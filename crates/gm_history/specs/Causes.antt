@@ -2,7 +2,7 @@
 use Rattle.std.specs.Prelude.{◌≡◌, ◌⊎◌, ℕ, ◌≤◌, Bool, true, false, ◌&&◌, ◌||◌, ◌==◌, max, codes, List, [], ◌∷◌, ◌++◌, Option, Some, None, Ok}
 use Rattle.gm_packet.specs.declared.kind.Kind.{Kind}
 use Rattle.gm_packet.specs.declared.kind.Kind.TheVariants.{CanDo, CantDo, ResetAbilities, PreSleep, SubmitJob}
-use Rattle.gm_packet.specs.declared.kind.Kind.TheVariants.{WorkStatus, WorkComplete, WorkFail, SubmitJobBg, SubmitJobHigh}
+use Rattle.gm_packet.specs.declared.kind.Kind.TheVariants.{WorkStatus, WorkComplete, WorkFail, WorkException, SubmitJobBg, SubmitJobHigh}
 use Rattle.gm_packet.specs.declared.kind.Kind.TheVariants.{SetClientId, CanDoTimeout, OptionReq, SubmitJobHighBg}
 use Rattle.gm_packet.specs.declared.kind.Kind.TheVariants.{SubmitJobLow, SubmitJobLowBg}
 use Rattle.gm_packet.specs.Kinds.{number, kind_of}
@@ -53,10 +53,12 @@ abbrev pub is_sleeping : Kind → Bool
 is_sleeping PreSleep = true
 is_sleeping kind = false
 
-abbrev pub is_ending : Kind → Bool
-is_ending WorkComplete = true
-is_ending WorkFail = true
-is_ending kind = false
+-- it ends the job that it names; an exception does so for gearmand's applications
+abbrev pub is_ending : Settings → Kind → Bool
+is_ending k WorkComplete = true
+is_ending k WorkFail = true
+is_ending k WorkException = k.as_gearmand
+is_ending k kind = false
 
 -- the priority of a submission
 abbrev pub priority_of : Kind → Option Priority
@@ -146,10 +148,10 @@ GoesTo modes.Stopped s = Commands s (Shutdown false)
 abbrev pub NamesJob : Settings → ℕ → List ℕ → ℕ → Type 0
 NamesJob k number bytes n = (asked : Asked) × (request_of number bytes ≡ Ok asked) × (first asked.arguments ≡ handle k n)
 
--- a step ends job n: WORK_COMPLETE or WORK_FAIL with its handle, of the slot where it runs, or a tick that reaches its
--- deadline; any tick reaches that of a lost job
+-- a step ends job n: WORK_COMPLETE or WORK_FAIL with its handle, of the slot where it runs, and with as_gearmand WORK_EXCEPTION as well,
+-- or a tick that reaches its deadline; any tick reaches that of a lost job
 abbrev pub Ends : Settings → List Note → Step → ℕ → Type 0
-Ends k before (Packet c number bytes) n = (is_one_of is_ending (kind_of number) ≡ true) × (job_state n before ≡ states.Running c) × NamesJob k number bytes n
+Ends k before (Packet c number bytes) n = (is_one_of (is_ending k) (kind_of number) ≡ true) × (job_state n before ≡ states.Running c) × NamesJob k number bytes n
 Ends k before (Tick now) n = (is_running (job_state n before) ≡ true) × (late : ℕ) × (deadline n before ≡ Some late) × (late ≤ max now (moment before))
 Ends k before other n = ⊥
 
@@ -194,9 +196,10 @@ Caused k before s (notes.Limit f size) older = Commands s (MaxQueue f size)
 Caused k before s (notes.Now t) older = (now : ℕ) × (s ≡ Tick now) × (t ≡ max now (moment before))
 Caused k before s (notes.Went m) older = GoesTo m s
 
--- the answer tells of a job's end
-abbrev pub IsOfEnd : Answer → Type 0
-IsOfEnd answer = (answer.kind ≡ number WorkComplete) ⊎ (answer.kind ≡ number WorkFail)
+-- the answer tells of a job's end: it is WORK_COMPLETE or WORK_FAIL, or with as_gearmand WORK_EXCEPTION
+abbrev pub IsOfEnd : Settings → Answer → Type 0
+IsOfEnd k answer =
+    (answer.kind ≡ number WorkComplete) ⊎ ((answer.kind ≡ number WorkFail) ⊎ ((k.as_gearmand ≡ true) × (answer.kind ≡ number WorkException)))
 
 -- the answer hands out a job: JOB_ASSIGN or JOB_ASSIGN_UNIQ
 abbrev pub IsAssignment : Answer → Type 0

@@ -1,5 +1,5 @@
 -- The listeners of a job, and the slots to which a step may queue bytes.
-use Rattle.std.specs.Prelude.{◌≡◌, ℕ, ◌<◌, true, ◌==◌, ◌⊎◌, List, [], ◌∷◌, length, filter, Option, Some, None}
+use Rattle.std.specs.Prelude.{◌≡◌, ℕ, ◌<◌, Bool, true, ◌==◌, ◌⊎◌, if◌then◌else◌, List, [], ◌∷◌, length, filter, Option, Some, None}
 use Rattle.gm_packet.specs.declared.kind.Kind.{Kind}
 use Rattle.gm_packet.specs.declared.kind.Kind.TheVariants.{WorkStatus, WorkComplete, WorkFail, WorkException, WorkData, WorkWarning}
 use Rattle.gm_packet.specs.Requests.{Asked}
@@ -10,6 +10,7 @@ use Rattle.gm_notes.specs.Settings.{Settings}
 use Rattle.gm_notes.specs.Notes.{is_open}
 use Rattle.gm_notes.specs.Jobs.{job_state, listeners, handle}
 use Rattle.gm_notes.specs.JobStates as states
+use Rattle.gm_notes.specs.Workers.{wants_exceptions}
 use Rattle.gm_notes.specs.Requests.{first, second, third}
 use Rattle.gm_notes.specs.Steps.{Step, Packet, Line, Fault, Tick}
 use Rattle.gm_history.specs.Causes.{PacketAsks, Ends}
@@ -23,21 +24,23 @@ AllOpen (c ∷ slots) notes = (is_open c notes ≡ true) × AllOpen slots notes
 abbrev pub listens : ℕ → ℕ → List Note → ℕ
 listens c n notes = length (filter (λ d. c == d) (listeners n notes))
 
--- what the worker of job n asks to be passed on to its listeners
-abbrev pub passed_on : Settings → ℕ → Kind → List (List ℕ) → Option Answer
-passed_on k n WorkStatus a = Some (work_status (handle k n) (second a) (third a))
-passed_on k n WorkData a = Some (work_data (handle k n) (second a))
-passed_on k n WorkWarning a = Some (work_warning (handle k n) (second a))
-passed_on k n WorkException a = Some (work_exception (handle k n) (second a))
-passed_on k n WorkComplete a = Some (work_complete (handle k n) (second a))
-passed_on k n WorkFail a = Some (work_fail (handle k n))
-passed_on k n kind a = None
+-- what the worker of job n asks to be passed on to a listener, by whether that gets exceptions; with as_gearmand one that gets none gets
+-- WORK_FAIL instead
+abbrev pub passed_on : Settings → Bool → ℕ → Kind → List (List ℕ) → Option Answer
+passed_on k wants n WorkStatus a = Some (work_status (handle k n) (second a) (third a))
+passed_on k wants n WorkData a = Some (work_data (handle k n) (second a))
+passed_on k wants n WorkWarning a = Some (work_warning (handle k n) (second a))
+passed_on k wants n WorkException a =
+    if wants then Some (work_exception (handle k n) (second a)) else (if k.as_gearmand then Some (work_fail (handle k n)) else None)
+passed_on k wants n WorkComplete a = Some (work_complete (handle k n) (second a))
+passed_on k wants n WorkFail a = Some (work_fail (handle k n))
+passed_on k wants n kind a = None
 
--- slot c, where job n runs, asks that these bytes be passed on, and slot d listens to the job
+-- slot c, where job n runs, asks that these bytes be passed on to slot d, and that listens to the job
 abbrev pub PassesOn : Settings → List Note → ℕ → Step → ℕ → List ℕ → Type 0
 PassesOn k before c s d bytes =
     (n : ℕ) × (asked : Asked) × (answer : Answer) × PacketAsks c s asked × (job_state n before ≡ states.Running c) × (first asked.arguments ≡ handle k n)
-    × (passed_on k n asked.kind asked.arguments ≡ Some answer) × (bytes ≡ answer_packet answer) × (0 < listens d n before)
+    × (passed_on k (wants_exceptions d before) n asked.kind asked.arguments ≡ Some answer) × (bytes ≡ answer_packet answer) × (0 < listens d n before)
 
 -- The step after these notes may queue the bytes to slot d. What a slot asks is answered only to it. Another slot gets reports of the
 -- worker of a job to which it listens, and WORK_FAIL in the tick that ends such a job. Other steps queue nothing.

@@ -1,9 +1,10 @@
 -- Notes that answer alike whatever is asked of them, but for who is awake and who is owed a NOOP.
-use Rattle.std.proofs.Common.{◌≡◌, ℕ, zero, suc, Bool, true, false, not, ◌&&◌, List, [], ◌∷◌, ◌++◌, Option, Some, None, refl, ap, ◌∙◌}
+use Rattle.std.proofs.Common.{◌≡◌, ℕ, zero, suc, Bool, true, false, cond, not, ◌&&◌, List, [], ◌∷◌, ◌++◌, filter, Option, Some, None, refl, ap, ◌∙◌}
 use Rattle.std.proofs.Math.Path.{fun_ext}
 use Rattle.std.specs.Prelude.{unwrap_or}
 use Rattle.gm_notes.specs.declared.states.Phase.{Phase}
 use Rattle.gm_notes.specs.declared.states.Priority.{Priority}
+use Rattle.gm_notes.specs.declared.states.Priority.TheVariants.{High, Normal, Low}
 use Rattle.gm_notes.specs.declared.note.Note.{Note}
 use Rattle.gm_notes.specs.declared.note.Note.TheVariants as notes
 use Rattle.gm_notes.specs.Settings.{Settings}
@@ -11,11 +12,11 @@ use Rattle.gm_notes.specs.Notes.{is_open, says_open, is_shut, says_shut, addr, s
 use Rattle.gm_notes.specs.Notes.{phase, says_phase, is_asleep, moment, says_moment, mode, says_mode, takes_units}
 use Rattle.gm_notes.specs.Jobs.{Ability, job_state, says_job_state, is_empty, job, says_job, made, is_kept, says_kept}
 use Rattle.gm_notes.specs.Jobs.{listeners, is_wanted, returns, is_last_try, report, says_report, deadline, says_deadline, functions, is_mentioned}
-use Rattle.gm_notes.specs.Jobs.{limit, says_limit, abilities, is_able, as_they_came, waiting_for, pick_from, pick, joined}
+use Rattle.gm_notes.specs.Jobs.{limit, says_limit, abilities, is_able, as_they_came, queue, waiting_for, pick_from, pick_with, pick_highest, pick, joined}
 use Rattle.gm_notes.specs.Jobs.{next_number, total, is_live_of, is_live_named, is_queued, job_of_handle, last_function, scan}
 use Rattle.gm_notes.specs.JobStates.{is_waiting, is_running}
 use Rattle.gm_notes.specs.Submissions.{is_one_too_many, is_full}
-use Rattle.gm_notes.specs.Workers.{hearers}
+use Rattle.gm_notes.specs.Workers.{wants_exceptions, hearers}
 use Rattle.gm_notes.specs.Closings.{is_reached}
 use Rattle.gm_notes.specs.Lines.{status_rows, worker_rows}
 use Rattle.gm_notes.specs.Steps.{free_from}
@@ -194,6 +195,9 @@ module _ {l m : List Note} (a : Alike l m) where
   hearers_alike true n = simp (a.opened, a.option, a.hear)
   hearers_alike false n = a.hear n
 
+  pub others_alike : (n : ℕ) → filter (λ c. not (wants_exceptions c l)) (listeners n l) ≡ filter (λ c. not (wants_exceptions c m)) (listeners n m)
+  others_alike n = simp (a.opened, a.option, a.hear)
+
   pub expired_alike : (n : ℕ) → (is_running (job_state n l) && is_reached (deadline n l) (moment l)) ≡ (is_running (job_state n m) && is_reached (deadline n m) (moment m))
   expired_alike n = simp (a.place, a.late, a.now)
 
@@ -234,8 +238,17 @@ module _ {l m : List Note} (a : Alike l m) where
   scan_alike : (k : Settings) (c : ℕ) → scan k c l ≡ scan k c m
   scan_alike k c = simp (a.can, a.last)
 
+  pick_with_alike : (p : Priority) (abilities : List Ability) → pick_with p abilities l ≡ pick_with p abilities m
+  pick_with_alike p [] = refl
+  pick_with_alike p (ability ∷ abilities) =
+      let first : queue ability.function p l ≡ queue ability.function p m = simp (queued_alike, a.came) in let rest = pick_with_alike p abilities in cc
+
+  picks_alike : (t : Bool) (abilities : List Ability) → cond t (pick_highest abilities l) (pick_from abilities l) ≡ cond t (pick_highest abilities m) (pick_from abilities m)
+  picks_alike true abilities = simp (pick_with_alike High abilities, pick_with_alike Normal abilities, pick_with_alike Low abilities)
+  picks_alike false abilities = pick_from_alike abilities
+
   pub pick_alike : (k : Settings) (c : ℕ) → pick k c l ≡ pick k c m
-  pick_alike k c = ap (λ can. pick_from can l) (scan_alike k c) ∙ pick_from_alike (scan k c m)
+  pick_alike k c = ap (λ can. cond k.as_gearmand (pick_highest can l) (pick_from can l)) (scan_alike k c) ∙ picks_alike k.as_gearmand (scan k c m)
 
   pub statuses_alike : (k : Settings) → status_rows k l ≡ status_rows k m
   statuses_alike k = simp (live_alike, a.place, a.what, a.numbers, a.known, a.opened, a.can)

@@ -5,9 +5,9 @@ use Rattle.std.specs.Prelude.{◌==◌, nat_le, unwrap_or}
 use Rattle.std.proofs.lemmas.Bool.{and_from}
 use Rattle.std.proofs.lemmas.Bool.Decides.{nat_tests}
 use Rattle.gm_packet.specs.declared.kind.Kind.{Kind}
-use Rattle.gm_packet.specs.declared.kind.Kind.TheVariants.{WorkComplete, WorkFail, GrabJob, GrabJobUniq}
+use Rattle.gm_packet.specs.declared.kind.Kind.TheVariants.{WorkComplete, WorkFail, WorkException, GrabJob, GrabJobUniq}
 use Rattle.gm_packet.specs.Kinds.{kind_of}
-use Rattle.gm_packet.specs.Answers.{Answer, work_complete, work_fail}
+use Rattle.gm_packet.specs.Answers.{work_fail}
 use Rattle.gm_notes.specs.declared.note.Note.{Note}
 use Rattle.gm_notes.specs.declared.note.Note.TheVariants as notes
 use Rattle.gm_notes.specs.Settings.{Settings}
@@ -17,15 +17,15 @@ use Rattle.gm_notes.specs.JobStates.{JobState, is_running, is_waiting}
 use Rattle.gm_notes.specs.JobStates as states
 use Rattle.gm_notes.specs.Past.{Past, with_note, tell_all}
 use Rattle.gm_notes.specs.Closings.{is_reached, expire_one, expire_each, rising, tick}
-use Rattle.gm_notes.specs.Workers.{tell_work, work}
-use Rattle.gm_notes.specs.Requests.{first, second, ending, request, packet_of}
+use Rattle.gm_notes.specs.Workers.{tell_work}
+use Rattle.gm_notes.specs.Requests.{first, request, packet_of}
 use Rattle.gm_notes.specs.Steps.{Step, Packet, Tick, step, run}
 use Rattle.gm_history.specs.History.{Allowed, History}
 use Rattle.gm_history.specs.Causes.{Caused, Ends, is_request, is_ending, is_grab, is_submission, is_close}
 use Rattle.gm_laws.specs.Laws.{has_place, is_unheard, WorkersAndClocksEndJobs}
 use Rattle.gm_history.proofs.Asking.{packet_does, asked_kind, asks_some, apart_requests, made_request}
 use Rattle.gm_laws.proofs.JobLaws.{running_place}
-use Rattle.gm_laws.proofs.Passing.{works_does}
+use Rattle.gm_laws.proofs.Passing.{reports, end_reported, works_does}
 use Rattle.gm_history.proofs.StepsKeep.{run_history}
 use Rattle.gm_history.proofs.Caused.{note_law}
 use Rattle.gm_laws.proofs.StepLaws.{taken_is}
@@ -82,20 +82,13 @@ heard_takes true e = refl
 heard_takes false e = absurd cc
 
 module _ (k : Settings) (start : Past) (history : History k start.notes) where
-  worker_ends : (worker n : ℕ) (kind : Kind) (a : List (List ℕ)) (timeout : ℕ) → job_state n start.notes ≡ states.Running worker → is_ending kind ≡ true → first a ≡ handle k n
+  pub worker_ends : (worker n : ℕ) (kind : Kind) (a : List (List ℕ)) (timeout : ℕ) → job_state n start.notes ≡ states.Running worker → is_ending k kind ≡ true → first a ≡ handle k n
       → job_state n (request k worker kind a timeout start).notes ≡ states.Ended
-  worker_ends worker n kind a timeout runs e names = by kind e
-    where
-      over : (answer : Answer) → job_state n (tell_work (ending answer) n start).notes ≡ states.Ended
-      over answer = rw (same_number n) refl
-
-      does : (answer : Answer) → job_state n (work k worker (first a) (ending answer) start).notes ≡ states.Ended
-      does answer = ap (λ (past : Past). job_state n past.notes) (works_does k worker n start history runs (ending answer) (first a) names) ∙ over answer
-
-      by : (kind : Kind) → is_ending kind ≡ true → job_state n (request k worker kind a timeout start).notes ≡ states.Ended
-      by WorkComplete e = does (work_complete (first a) (second a))
-      by WorkFail e = does (work_fail (first a))
-      by kind e = absurd cc
+  worker_ends worker n kind a timeout runs e names =
+      let report = end_reported k n true kind a e in
+      let r = reports k n kind a report.0 report.1 in
+      let over : job_state n (tell_work k r.packet n start).notes ≡ states.Ended = rw (r.ends, e, same_number n) refl in
+      ap (λ (past : Past). job_state n past.notes) (r.does worker timeout start ∙ works_does k worker n start history runs r.packet (first a) names) ∙ over
 
   due_then : (now late : ℕ) (n : ℕ) → is_running (job_state n start.notes) ≡ true → deadline n start.notes ≡ Some late → late ≤ max now (moment start.notes)
       → IsDue n (notes.Now (max now (moment start.notes)) ∷ start.notes)
@@ -108,16 +101,17 @@ module _ (k : Settings) (start : Past) (history : History k start.notes) where
       let asked = e.2.0 in
       ap (λ (past : Past). job_state n past.notes)
       (taken_is (takes_units worker start.notes) (packet_of k worker (kind_of number) bytes start) start (heard_takes (takes_units worker start.notes) heard) ∙ packet_does bytes asked k worker start (kind_of number) e.2.1)
-      ∙ worker_ends worker n asked.kind asked.arguments asked.timeout e.1 (sym (asked_kind bytes asked is_ending (kind_of number) e.2.1) ∙ e.0) e.2.2
+      ∙ worker_ends worker n asked.kind asked.arguments asked.timeout e.1 (sym (asked_kind bytes asked (is_ending k) (kind_of number) e.2.1) ∙ e.0) e.2.2
   ends_it (Tick now) n heard e = tick_ends k now start n history (running_place (job_state n start.notes) e.0) (due_then now e.1 n e.0 e.2 e.3)
   ends_it other n heard e = absurd e
 
 -- ---- deadlines
 
-end_apart : (kind : Kind) → is_ending kind ≡ true → is_grab kind ≡ false
-end_apart WorkComplete e = refl
-end_apart WorkFail e = refl
-end_apart kind e = absurd cc
+end_apart : (k : Settings) (kind : Kind) → is_ending k kind ≡ true → is_grab kind ≡ false
+end_apart k WorkComplete e = refl
+end_apart k WorkFail e = refl
+end_apart k WorkException e = refl
+end_apart k kind e = absurd cc
 
 submission_apart : (kind : Kind) → is_submission kind ≡ true → is_grab kind ≡ false
 submission_apart GrabJob e = absurd cc
@@ -159,7 +153,7 @@ module _ (k : Settings) (s : Step) (start : Past) (n c : ℕ) where
   ends_apart m e = by s e
     where
       by : (s : Step) → Ends k start.notes s m → is_request is_grab s ≡ false
-      by (Packet d number bytes) e = apart_requests is_ending is_grab end_apart (Packet d number bytes) e.0
+      by (Packet d number bytes) e = apart_requests (is_ending k) is_grab (end_apart k) (Packet d number bytes) e.0
       by other e = refl
 
   runs_on : (note : Note) (older : List Note) → Allowed k note older → Caused k start.notes s note older → RunsOn older → RunsOn (note ∷ older)

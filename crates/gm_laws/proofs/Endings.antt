@@ -4,11 +4,8 @@ use Rattle.std.proofs.Common.{Some, None, refl, sym, ap, subst, ◌∙◌, arith
 use Rattle.std.specs.Prelude.{◌==◌, unwrap_or}
 use Rattle.std.proofs.lemmas.Bool.{and_parts}
 use Rattle.std.proofs.lemmas.List.{append-nil}
-use Rattle.gm_packet.specs.declared.kind.Kind.{Kind}
-use Rattle.gm_packet.specs.declared.kind.Kind.TheVariants.{WorkComplete, WorkFail}
 use Rattle.gm_packet.specs.Kinds.{kind_of}
 use Rattle.gm_packet.specs.Answers.{Answer, answer_packet, work_fail}
-use Rattle.gm_notes.specs.declared.note.Note.{Note}
 use Rattle.gm_notes.specs.declared.note.Note.TheVariants.{Ended, Now}
 use Rattle.gm_notes.specs.Settings.{Settings}
 use Rattle.gm_notes.specs.Notes.{moment, takes_units}
@@ -22,15 +19,16 @@ use Rattle.gm_notes.specs.Steps.{Step, Packet, Tick, unless, unless_not_open, ru
 use Rattle.gm_history.specs.History.{History}
 use Rattle.gm_history.specs.Causes.{Ends, is_ending}
 use Rattle.gm_laws.specs.Laws.{has_place}
-use Rattle.gm_laws.specs.Listeners.{outputs, Queues, copies, times_heard, TellsEnd, EachListenerIsTold}
-use Rattle.gm_history.specs.Hearing.{listens, passed_on}
+use Rattle.gm_laws.specs.Listeners.{outputs, Queues, copies, heard, TellsEnd, EachListenerIsTold}
+use Rattle.gm_notes.specs.Workers.{wants_exceptions}
+use Rattle.gm_history.specs.Hearing.{listens}
 use Rattle.gm_laws.proofs.JobLaws.{running_place}
 use Rattle.gm_history.proofs.Keeping.{tell_all_notes}
 use Rattle.gm_laws.proofs.Moving.{from, both_not}
 use Rattle.gm_laws.proofs.Handles.{same_handle, fail_handle, placed_small}
 use Rattle.gm_laws.proofs.Outputs.{told, copies_append, copies_same, copies_other}
 use Rattle.gm_history.proofs.Asking.{asked_kind}
-use Rattle.gm_laws.proofs.Passing.{passed}
+use Rattle.gm_laws.proofs.Passing.{end_reported, passed}
 use Rattle.gm_laws.proofs.StepLaws.{ends}
 use Rattle.gm_history.proofs.StepsKeep.{run_history}
 use Rattle.gm_notes.proofs.Numbers.{same_number}
@@ -38,36 +36,26 @@ use Rattle.std.proofs.lemmas.Bool.{eqb-true}
 
 -- ---- by a packet
 
--- what ends a job is passed on to all who listen
-record SaysEnd (k : Settings) (n : ℕ) (kind : Kind) (a : List (List ℕ)) : Type 0 where
-  answer : Answer
-  is : passed_on k n kind a ≡ Some answer
-  to_all : (c : ℕ) (l : List Note) → times_heard c n kind l ≡ listens c n l
-
-says_end : (k : Settings) (n : ℕ) (kind : Kind) (a : List (List ℕ)) → is_ending kind ≡ true → SaysEnd k n kind a
-says_end k n WorkComplete a e = record { answer = _; is = refl; to_all = λ c l. refl }
-says_end k n WorkFail a e = record { answer = _; is = refl; to_all = λ c l. refl }
-says_end k n kind a e = absurd cc
-
 module _ (k : Settings) (start : Past) (history : History k start.notes) (n : ℕ) where
   -- the job ends in this step, and was not ended before
   abbrev ToldOf : Step → Type 0
   ToldOf s =
-      (answer : Answer) × TellsEnd k n s answer
-      × ((c : ℕ) → (newer : List (List ℕ)) × Queues c newer start (step k s start) × (copies (answer_packet answer) newer ≡ listens c n start.notes))
+      (c : ℕ) → (answer : Answer) × TellsEnd k start.notes c n s answer
+      × ((newer : List (List ℕ)) × Queues c newer start (step k s start) × (copies (answer_packet answer) newer ≡ listens c n start.notes))
 
   told_by_packet : (worker number : ℕ) (bytes : List ℕ) → takes_units worker start.notes ≡ true → Ends k start.notes (Packet worker number bytes) n → ToldOf (Packet worker number bytes)
-  told_by_packet worker number bytes takes e =
+  told_by_packet worker number bytes takes e c =
       let names = e.2 in
       let asked = names.0 in
-      let may : is_ending asked.kind ≡ true = sym (asked_kind bytes asked is_ending (kind_of number) names.1) ∙ e.0 in
-      let says = says_end k n asked.kind asked.arguments may in (
-        says.answer,
-        (asked, names.1, may, says.is),
-        λ c. (
-          replicate (times_heard c n asked.kind start.notes) (answer_packet says.answer),
-          passed k start history worker n number bytes asked says.answer takes e.1 names.1 names.2 says.is c,
-          copies_same (answer_packet says.answer) (times_heard c n asked.kind start.notes) ∙ says.to_all c start.notes,
+      let may : is_ending k asked.kind ≡ true = sym (asked_kind bytes asked (is_ending k) (kind_of number) names.1) ∙ e.0 in
+      let report = end_reported k n true asked.kind asked.arguments may in
+      let says = end_reported k n (wants_exceptions c start.notes) asked.kind asked.arguments may in (
+        says.0,
+        (asked, names.1, may, says.1),
+        (
+          replicate (listens c n start.notes) (answer_packet says.0),
+          passed k start history worker n number bytes asked report.0 takes e.1 names.1 names.2 report.1 c ∙ ap (λ o. outputs c start.flow ++ heard o (listens c n start.notes)) says.1,
+          copies_same (answer_packet says.0) (listens c n start.notes),
         ),
       )
 
@@ -197,10 +185,10 @@ all_told k s steps n e = from (ends k s start history n e) inl (λ h. by s e h)
     by (Packet worker number bytes) e h = by_packet worker number bytes (takes_units worker start.notes) refl e h
     by (Tick now) e h =
         from (ended_is (job_state n start.notes) _ refl) inl
-        (λ yet. inr (
+        (λ yet. inr (λ c. (
           work_fail (handle k n),
           refl,
-          λ c. let sofar = told_by_tick k start c n (placed_small k (run k (Tick now ∷ steps)).notes n (run_history k (Tick now ∷ steps)) (ap has_place e)) now history yet in
+          let sofar = told_by_tick k start c n (placed_small k (run k (Tick now ∷ steps)).notes n (run_history k (Tick now ∷ steps)) (ap has_place e)) now history yet in
               (sofar.newer, sofar.queued, sofar.counted ∙ ap (λ b. cond b (listens c n start.notes) 0) (ap is_ended e)),
-        ))
+        )))
     by other e h = absurd h

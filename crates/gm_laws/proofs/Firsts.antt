@@ -19,55 +19,100 @@ use Rattle.gm_history.specs.History.{History}
 use Rattle.gm_history.specs.Causes.{Caused, PacketAsks, job_seconds}
 use Rattle.gm_history.proofs.Caused.{note_law}
 use Rattle.gm_laws.proofs.Taken.{request_does, request_shut}
-use Rattle.std.proofs.lemmas.List.Elements.{All-head, All-nil, All-cons}
+use Rattle.std.proofs.lemmas.List.Elements.{All-nil, All-cons}
 use Rattle.std.proofs.lemmas.Option.{same_Some}
 use Rattle.gm_notes.specs.declared.note.Note.{Note}
 use Rattle.gm_notes.specs.declared.states.Pick.{Pick}
+use Rattle.gm_notes.specs.declared.states.Priority.{Priority}
 use Rattle.gm_notes.specs.Settings.{Settings}
-use Rattle.gm_notes.specs.Jobs.{Job, Ability, job, waiting_for, is_empty, first_of, pick_from, pick, abilities, last_function, rotated}
+use Rattle.gm_notes.specs.Jobs.{Job, Ability, job, queue, waiting_for, is_empty, first_of, pick, abilities, last_function, rotated, scan}
 use Rattle.gm_notes.specs.JobStates as states
 use Rattle.gm_notes.specs.Past.{Past}
 use Rattle.gm_notes.specs.Steps.{Step, run}
-use Rattle.gm_history.proofs.Finding.{WaitsFor, waiting_for_waits, job_of}
 use Rattle.gm_history.proofs.StepsKeep.{run_history}
-use Rattle.gm_laws.specs.Firsts.{HasNoneWaiting, functions_of, GivesOfTheFirst, FirstAbilityWins}
+use Rattle.gm_laws.specs.Firsts.{HasNoneWaiting, HasNoneWaitingOf, functions_of, GivesOfTheFirst, FirstAbilityWins}
 use Rattle.gm_laws.proofs.Moving.{from, both_not}
 use Rattle.gm_laws.proofs.StepLaws.{gives}
-use Rattle.gm_laws.proofs.Waiting.{something_waits}
+use Rattle.gm_laws.proofs.Waiting.{queue_waits, something_waits}
+use Rattle.gm_laws.proofs.Orders.{queue_head, first_of_function}
+use Rattle.gm_laws.proofs.Highest.{pick_by, from_by, with_by, head_by, picks_from, picks_highest, highest}
 use Rattle.gm_notes.proofs.Numbers.{same_number}
 use Rattle.std.proofs.lemmas.Bool.{eqb-true}
 
-module _ (notes : List Note) where
-  abbrev Splits : List Ability → List ℕ → Type 0
-  Splits all f = (earlier later : List (List ℕ)) × (map (λ (ability : Ability). ability.function) all ≡ earlier ++ f ∷ later) × All (HasNoneWaiting notes) earlier
+-- the function comes after some for which nothing of this kind waits
+abbrev Splits : (List ℕ → Type 0) → List Ability → List ℕ → Type 0
+Splits None_of all f = (earlier later : List (List ℕ)) × (map (λ (ability : Ability). ability.function) all ≡ earlier ++ f ∷ later) × All None_of earlier
 
+-- the pick is of the first function that has one
+module _ (of : List ℕ → List ℕ) (None_of : List ℕ → Type 0) (none : (f : List ℕ) → is_empty (of f) ≡ true → None_of f) where
+  splits : (all : List Ability) (found : Pick) (what : Job) → ((f : List ℕ) (ns : List ℕ) → of f ≡ found.job ∷ ns → what.function ≡ f) → pick_by of all ≡ Some found → Splits None_of all what.function
+  splits [] found what named e = absurd cc
+  splits (ability ∷ all) found what named e = by (of ability.function) refl (λ f. splits all found what named f) e
+    where
+      by : (ns : List ℕ) → of ability.function ≡ ns → (pick_by of all ≡ Some found → Splits None_of all what.function) → first_of ns ability.timeout (pick_by of all) ≡ Some found → Splits None_of (ability ∷ all) what.function
+      by [] is more e =
+          let rest = more e in
+          (ability.function ∷ rest.0, rest.1, ap (λ l. ability.function ∷ l) rest.2, All-cons None_of ability.function rest.0 (none ability.function (ap is_empty is)) rest.3)
+      by (n ∷ ns) there more e =
+          let here : n ≡ found.job = ap (λ (p : Pick). p.job) (same_Some (record { job = n; timeout = ability.timeout }) found e) in
+          let same = named ability.function ns (there ∙ ap (λ m. m ∷ ns) here) in
+          ([], map (λ (a : Ability). a.function) all, ap (λ f. f ∷ map (λ (a : Ability). a.function) all) (sym same), All-nil None_of)
+
+module _ (notes : List Note) where
   none_waits : (f : List ℕ) → is_empty (waiting_for f notes) ≡ true → HasNoneWaiting notes f
   none_waits f none n what waits is same =
       both_not (is_empty (waiting_for f notes)) none (subst (λ g. is_empty (waiting_for g notes) ≡ false) same (something_waits n notes what waits is))
 
-  -- the pick is of the first function for which one waits
-  splits : (all : List Ability) (found : Pick) (what : Job) → pick_from all notes ≡ Some found → job found.job notes ≡ Some what → Splits all what.function
-  splits [] found what e is = absurd cc
-  splits (ability ∷ all) found what e is = by (waiting_for ability.function notes) refl (waiting_for_waits ability.function notes) (λ f. splits all found what f is) e
+  none_waits_of : (p : Priority) (f : List ℕ) → is_empty (queue f p notes) ≡ true → HasNoneWaitingOf p notes f
+  none_waits_of p f none n what waits is same priority =
+      both_not (is_empty (queue f p notes)) none (subst (λ g. is_empty (queue g p notes) ≡ false) same (subst (λ q. is_empty (queue what.function q notes) ≡ false) priority (queue_waits n notes what waits is)))
+
+module _ (k : Settings) (c : ℕ) (l : List Note) (plain : k.round_robin ≡ false) (what : Job) where
+  abbrev GivesIt : Type 0
+  GivesIt =
+      (earlier later : List (List ℕ)) × (functions_of c l ≡ earlier ++ what.function ∷ later)
+      × (k.as_gearmand ≡ false → All (HasNoneWaiting l) earlier) × (k.as_gearmand ≡ true → All (HasNoneWaitingOf what.priority l) earlier)
+
+  scan_is : scan k c l ≡ abilities c l
+  scan_is = ap (λ t. cond t (rotated (last_function c l) (abilities c l)) (abilities c l)) plain
+
+  all_of_priority : k.as_gearmand ≡ true → (p : Priority) → what.priority ≡ p → Splits (HasNoneWaitingOf p l) (scan k c l) what.function → GivesIt
+  all_of_priority set p is found =
+      let split = subst (λ all. Splits (HasNoneWaitingOf p l) all what.function) scan_is found in
+      (split.0, split.1, split.2, (λ plainly. absurd (both_not k.as_gearmand set plainly)), λ e. subst (λ q. All (HasNoneWaitingOf q l) split.0) (sym is) split.3)
+
+  all_of_any : k.as_gearmand ≡ false → Splits (HasNoneWaiting l) (scan k c l) what.function → GivesIt
+  all_of_any plainly found =
+      let split = subst (λ all. Splits (HasNoneWaiting l) all what.function) scan_is found in
+      (split.0, split.1, split.2, (λ e. split.3), λ set. absurd (both_not k.as_gearmand set plainly))
+
+  gives_of_priority : k.as_gearmand ≡ true → (found : Pick) → pick k c l ≡ Some found → job found.job l ≡ Some what → GivesIt
+  gives_of_priority set found e known =
+      let top = highest (scan k c l) l found (sym (picks_highest k c l set) ∙ e) in
+      let named : (f : List ℕ) (ns : List ℕ) → queue f top.p l ≡ found.job ∷ ns → (what.function ≡ f) × (what.priority ≡ top.p) = λ f ns here. queue_head f top.p l found.job ns what here known in
+      let picked = sym (with_by top.p (scan k c l) l) ∙ top.is in
+      let there = head_by (λ f. queue f top.p l) (scan k c l) found picked in
+      all_of_priority set top.p (named there.0 there.1 there.2).1
+      (splits (λ f. queue f top.p l) (HasNoneWaitingOf top.p l) (none_waits_of l top.p) (scan k c l) found what (λ f ns here. (named f ns here).0) picked)
+
+  gives_of_any : k.as_gearmand ≡ false → (found : Pick) → pick k c l ≡ Some found → job found.job l ≡ Some what → GivesIt
+  gives_of_any plainly found e known =
+      let picked = sym (from_by (scan k c l) l) ∙ (sym (picks_from k c l plainly) ∙ e) in
+      all_of_any plainly
+      (splits (λ f. waiting_for f l) (HasNoneWaiting l) (none_waits l) (scan k c l) found what (λ f ns here. first_of_function f l found.job ns what here known) picked)
+
+  gives_it : (found : Pick) → pick k c l ≡ Some found → job found.job l ≡ Some what → GivesIt
+  gives_it found e known = by k.as_gearmand refl
     where
-      by : (ns : List ℕ) → waiting_for ability.function notes ≡ ns → All (WaitsFor ability.function notes) ns → (pick_from all notes ≡ Some found → Splits all what.function) → first_of ns ability.timeout (pick_from all notes) ≡ Some found → Splits (ability ∷ all) what.function
-      by [] none each more e =
-          let rest = more e in
-          (ability.function ∷ rest.0, rest.1, ap (λ l. ability.function ∷ l) rest.2, All-cons (HasNoneWaiting notes) ability.function rest.0 (none_waits ability.function (ap is_empty none)) rest.3)
-      by (n ∷ ns) there each more e =
-          let here : n ≡ found.job = ap (λ (p : Pick). p.job) (same_Some (record { job = n; timeout = ability.timeout }) found e) in
-          let of = job_of ability.function (job n notes) (All-head (WaitsFor ability.function notes) n ns each).1 in
-          let same : of.0 ≡ what = same_Some of.0 what (sym of.1 ∙ (ap (λ m. job m notes) here ∙ is)) in
-          ([], map (λ (a : Ability). a.function) all, ap (λ f. f ∷ map (λ (a : Ability). a.function) all) (sym of.2 ∙ ap (λ (j : Job). j.function) same), All-nil (HasNoneWaiting notes))
+      by : (t : Bool) → k.as_gearmand ≡ t → GivesIt
+      by true set = gives_of_priority set found e known
+      by false plainly = gives_of_any plainly found e known
 
 gives_first : (k : Settings) (steps : List Step) (s : Step) → GivesOfTheFirst k (run k steps) (run k (s ∷ steps))
 gives_first k steps s n c what plain waited runs is =
     from (gives k s (run k steps) (run_history k steps) n c runs)
     (λ ran. absurd (let bad : states.Waiting ≡ states.Running c = sym waited ∙ ran in cc))
-    (λ g. splits (run k steps).notes (abilities c (run k steps).notes) g.1.0 what (picked g.1.1) (ap (λ m. job m (run k steps).notes) g.1.2 ∙ is))
-  where
-    picked : {found : Pick} → pick k c (run k steps).notes ≡ Some found → pick_from (abilities c (run k steps).notes) (run k steps).notes ≡ Some found
-    picked e = sym (ap (λ t. pick_from (cond t (rotated (last_function c (run k steps).notes) (abilities c (run k steps).notes)) (abilities c (run k steps).notes)) (run k steps).notes) plain) ∙ e
+    (λ g. gives_it k c (run k steps).notes plain what g.1.0 g.1.1 (ap (λ m. job m (run k steps).notes) g.1.2 ∙ is))
 
 -- ---- the order
 

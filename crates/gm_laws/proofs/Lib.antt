@@ -6,6 +6,7 @@ pub mod Created
 pub mod Endings
 pub mod Grabs
 mod Handles
+pub mod Highest
 pub mod JobLaws
 pub mod Limits
 pub mod Modes
@@ -33,6 +34,7 @@ mod Waiting
 pub mod Wakes
 pub mod Taken
 pub mod Rests
+pub mod Raised
 pub mod Hearers
 pub mod Firsts
 pub mod Refusals

@@ -8,11 +8,10 @@ use Rattle.std.proofs.lemmas.Bool.{and_parts}
 use Rattle.std.proofs.lemmas.List.{append-nil, append_cancel_left}
 use Rattle.std.proofs.lemmas.Slice.Eq.{bytes_eq-Decides}
 use Rattle.gm_packet.specs.declared.kind.Kind.{Kind}
-use Rattle.gm_packet.specs.declared.kind.Kind.TheVariants.{WorkComplete, WorkFail}
 use Rattle.gm_packet.specs.Kinds.{kind_of}
 use Rattle.gm_packet.specs.Requests.{Asked, read_as, read_kind, request_of}
 use Rattle.gm_packet.specs.declared.request.RequestFault.TheVariants.{BadArguments}
-use Rattle.gm_packet.specs.Answers.{Answer, answer_packet, work_fail, work_complete}
+use Rattle.gm_packet.specs.Answers.{Answer, answer_packet, work_fail}
 use Rattle.gm_notes.specs.declared.note.Note.TheVariants.{Ended, Now}
 use Rattle.gm_notes.specs.Settings.{Settings}
 use Rattle.gm_notes.specs.Notes.{moment, takes_units}
@@ -21,18 +20,19 @@ use Rattle.gm_notes.specs.JobStates.{JobState, is_running, is_running_at}
 use Rattle.gm_notes.specs.JobStates as states
 use Rattle.gm_notes.specs.Past.{Past, with_note, refuse, tell_all}
 use Rattle.gm_notes.specs.Texts.{error_of, spaced}
-use Rattle.gm_notes.specs.Workers.{tell_work, work_on}
+use Rattle.gm_notes.specs.Workers.{Work, wants_exceptions, tell_work, work_on}
 use Rattle.gm_notes.specs.Closings.{rising, is_reached, expire_one, expire_each, tick}
-use Rattle.gm_notes.specs.Requests.{packet_of, first, second, ending, request, request_if_read}
+use Rattle.gm_notes.specs.Requests.{packet_of, first, request, request_if_read}
 use Rattle.gm_notes.specs.Steps.{Step, Packet, Tick, unless_not_open, run, step}
 use Rattle.gm_history.specs.History.{History}
 use Rattle.gm_history.specs.Causes.{IsOfEnd, is_request, is_ending, is_tick, is_one_of}
-use Rattle.gm_laws.specs.Listeners.{outputs, Queues, copies, TellsEnd, OnlyEndsAreTold}
-use Rattle.gm_history.specs.Hearing.{listens}
+use Rattle.gm_laws.specs.Listeners.{outputs, Queues, copies, heard, TellsEnd, OnlyEndsAreTold}
+use Rattle.gm_history.specs.Hearing.{listens, passed_on}
 use Rattle.gm_history.proofs.Finding.{found_passes}
 use Rattle.gm_history.proofs.Keeping.{MayQueue, tell_all_notes, slot_runs, runs_somewhere}
 use Rattle.gm_history.proofs.Sayings.{error_other}
 use Rattle.gm_laws.proofs.Outputs.{told, copies_append, copies_other}
+use Rattle.gm_laws.proofs.Passing.{says_to, tells, Reports, reports, end_reported}
 use Rattle.gm_history.proofs.Asking.{kind_read}
 use Rattle.gm_history.proofs.StepsKeep.{step_keeps, taken_or_not, run_history}
 use Rattle.gm_notes.proofs.Numbers.{same_number}
@@ -49,6 +49,11 @@ copied bytes other (suc m) lt = by (bytes_eq bytes other) refl
     by false is =
         let none = copies_other bytes other (suc m) (λ e. let yes : true ≡ false = sym ((bytes_eq-Decides bytes other).1 e) ∙ is in cc) in
         absurd (omega (arith, none, lt))
+
+-- and of what was heard
+heard_copied : (bytes : List ℕ) (o : Option Answer) (m : ℕ) → 0 < copies bytes (heard o m) → (answer : Answer) × (o ≡ Some answer) × (bytes ≡ answer_packet answer) × (0 < m)
+heard_copied bytes None m lt = absurd (omega arith)
+heard_copied bytes (Some answer) m lt = let is = copied bytes (answer_packet answer) m lt in (answer, refl, is.0, is.1)
 
 -- nothing newer was queued
 pub none_newer : (c : ℕ) (newer : List (List ℕ)) (before after : Past) (bytes : List ℕ) → outputs c after.flow ≡ outputs c before.flow → Queues c newer before after → 0 < copies bytes newer → ⊥
@@ -95,10 +100,10 @@ module _ (k : Settings) (s : Step) (start : Past) (history : History k start.not
 
 -- ---- a request that ends a job
 
-module _ (k : Settings) (start : Past) (c worker number : ℕ) (bytes : List ℕ) (newer : List (List ℕ)) (answer : Answer) (ends : IsOfEnd answer) (lt : 0 < copies (answer_packet answer) newer) where
+module _ (k : Settings) (start : Past) (c worker number : ℕ) (bytes : List ℕ) (newer : List (List ℕ)) (answer : Answer) (ends : IsOfEnd k answer) (lt : 0 < copies (answer_packet answer) newer) where
   abbrev OnlyIts : Past → Type 0
   OnlyIts past = Queues c newer start past →
-      (n : ℕ) × (tells : Answer) × (answer_packet answer ≡ answer_packet tells) × TellsEnd k n (Packet worker number bytes) tells
+      (n : ℕ) × (tells : Answer) × (answer_packet answer ≡ answer_packet tells) × TellsEnd k start.notes c n (Packet worker number bytes) tells
       × (is_running (job_state n start.notes) ≡ true) × (job_state n past.notes ≡ states.Ended) × (0 < listens c n start.notes)
 
   nothing_its : OnlyIts start
@@ -112,51 +117,45 @@ module _ (k : Settings) (start : Past) (c worker number : ℕ) (bytes : List ℕ
   given_at false error differ e = none_newer c newer start start (answer_packet answer) refl (e) lt
 
   refused_its : (code : List ℕ) → OnlyIts (refuse worker code start)
-  refused_its code queued = absurd (given_at (c == worker) (answer_packet (error_of code)) ((error_other code (spaced code)).1 answer ends) queued)
+  refused_its code queued = absurd (given_at (c == worker) (answer_packet (error_of code)) ((error_other code (spaced code)).1 k answer ends) queued)
 
-  -- what tells of the end of the job that the handle names
-  abbrev SaysIts : List ℕ → Answer → Type 0
-  SaysIts text says = (n : ℕ) → text ≡ handle k n → (tells : Answer) × (answer_packet says ≡ answer_packet tells) × TellsEnd k n (Packet worker number bytes) tells
+  -- a request that ends the job that the handle names
+  module _ (asked : Asked) (may : is_ending k asked.kind ≡ true) (reads : request_of number bytes ≡ Ok asked) where
+    ended_its : (w : Work) (m : ℕ) → w.ends ≡ true → says_to k w m (wants_exceptions c start.notes) ≡ passed_on k (wants_exceptions c start.notes) m asked.kind asked.arguments
+        → is_running (job_state m start.notes) ≡ true → OnlyIts (tell_work k w m start)
+    ended_its w m ends_it says runs queued =
+        let says_it = says_to k w m (wants_exceptions c start.notes) in
+        let are : newer ≡ heard says_it (listens c m start.notes) =
+        append_cancel_left (outputs c start.flow) newer (heard says_it (listens c m start.notes)) (sym queued ∙ tells k w m start c) in
+        let same = heard_copied (answer_packet answer) says_it (listens c m start.notes) (subst (λ l. 0 < copies (answer_packet answer) l) are lt) in
+        let over : job_state m (tell_work k w m start).notes ≡ states.Ended = rw (ends_it, same_number m) refl in
+        (m, same.0, same.2, (asked, reads, may, sym says ∙ same.1), runs, over, same.3)
 
-  ended_its : (text : List ℕ) (says : Answer) (m : ℕ) → SaysIts text says → text ≡ handle k m → is_running (job_state m start.notes) ≡ true → OnlyIts (tell_work (ending says) m start)
-  ended_its text says m its names runs queued =
-      let are : newer ≡ replicate (listens c m start.notes) (answer_packet says) =
-      append_cancel_left (outputs c start.flow) newer (replicate (listens c m start.notes) (answer_packet says)) (sym queued ∙ told c says (listeners m start.notes) start) in
-      let same = copied (answer_packet answer) (answer_packet says) (listens c m start.notes) (subst (λ l. 0 < copies (answer_packet answer) l) are lt) in
-      let it = its m names in
-      let over : job_state m (Ended m ∷ (tell_all says (listeners m start.notes) start).notes) ≡ states.Ended = rw (same_number m) refl in
-      (m, it.0, same.0 ∙ it.1, it.2, runs, over, same.1)
+    asks_its : OnlyIts (request k worker asked.kind asked.arguments asked.timeout start)
+    asks_its =
+        let report = end_reported k 0 true asked.kind asked.arguments may in
+        let r = reports k 0 asked.kind asked.arguments report.0 report.1 in
+        subst OnlyIts (sym (r.does worker asked.timeout start)) (by r (job_of_handle k (first asked.arguments) start.notes) refl)
+      where
+        by : (r : Reports k asked.kind asked.arguments) (o : Option ℕ) → job_of_handle k (first asked.arguments) start.notes ≡ o → OnlyIts (work_on k worker r.packet o start)
+        by r None is = refused_its (codes "job_not_found")
+        by r (Some m) is = at (is_running_at worker (job_state m start.notes)) refl
+          where
+            names : first asked.arguments ≡ handle k m
+            names = sym ((bytes_eq-Decides (handle k m) (first asked.arguments)).0 (found_passes (is_handle k (first asked.arguments)) (made start.notes) m is))
 
-  works_its : (text : List ℕ) (says : Answer) → SaysIts text says → (o : Option ℕ) → job_of_handle k text start.notes ≡ o → OnlyIts (work_on worker (ending says) o start)
-  works_its text says its None is = refused_its (codes "job_not_found")
-  works_its text says its (Some m) is = by (is_running_at worker (job_state m start.notes)) refl
-    where
-      names : text ≡ handle k m
-      names = sym ((bytes_eq-Decides (handle k m) text).0 (found_passes (is_handle k text) (made start.notes) m is))
+            at : (t : Bool) → is_running_at worker (job_state m start.notes) ≡ t → OnlyIts (cond t (tell_work k r.packet m start) (refuse worker (codes "job_not_found") start))
+            at true here = ended_its r.packet m (r.ends ∙ may) (r.says m (wants_exceptions c start.notes) names) (slot_runs (job_state m start.notes) (runs_somewhere worker (job_state m start.notes) here))
+            at false here = refused_its (codes "job_not_found")
 
-      by : (t : Bool) → is_running_at worker (job_state m start.notes) ≡ t → OnlyIts (cond t (tell_work (ending says) m start) (refuse worker (codes "job_not_found") start))
-      by true here = ended_its text says m its names (slot_runs (job_state m start.notes) (runs_somewhere worker (job_state m start.notes) here))
-      by false here = refused_its (codes "job_not_found")
-
-  asks_its : (kind : Kind) (a : List (List ℕ)) (timeout : ℕ) → is_ending kind ≡ true → request_of number bytes ≡ Ok (record { kind = kind; arguments = a; timeout = timeout }) → OnlyIts (request k worker kind a timeout start)
-  asks_its WorkComplete a timeout e reads =
-      works_its (first a) (work_complete (first a) (second a))
-      (λ n names. (work_complete (handle k n) (second a), ap (λ h. answer_packet (work_complete h (second a))) names, (record { kind = WorkComplete; arguments = a; timeout = timeout }, reads, refl, refl)))
-      (job_of_handle k (first a) start.notes) refl
-  asks_its WorkFail a timeout e reads =
-      works_its (first a) (work_fail (first a))
-      (λ n names. (work_fail (handle k n), ap (λ h. answer_packet (work_fail h)) names, (record { kind = WorkFail; arguments = a; timeout = timeout }, reads, refl, refl)))
-      (job_of_handle k (first a) start.notes) refl
-  asks_its kind a timeout e reads = absurd cc
-
-  packet_its : (o : Option Kind) → kind_of number ≡ o → is_one_of is_ending o ≡ true → OnlyIts (packet_of k worker o bytes start)
+  packet_its : (o : Option Kind) → kind_of number ≡ o → is_one_of (is_ending k) o ≡ true → OnlyIts (packet_of k worker o bytes start)
   packet_its None is e = absurd cc
   packet_its (Some kind) is e = by (read_as kind bytes) refl
     where
       by : (o : Option Asked) → read_as kind bytes ≡ o → OnlyIts (request_if_read k worker o start)
       by None read = refused_its (codes "bad_arguments")
       by (Some asked) read =
-          asks_its asked.kind asked.arguments asked.timeout (ap is_ending (kind_read kind bytes asked read) ∙ e) (ap (λ o. read_kind o bytes) is ∙ ap (λ o. ok_or o BadArguments) read)
+          asks_its asked (ap (is_ending k) (kind_read kind bytes asked read) ∙ e) (ap (λ o. read_kind o bytes) is ∙ ap (λ o. ok_or o BadArguments) read)
 
 -- ---- a tick
 
@@ -235,24 +234,24 @@ module _ (k : Settings) (start : Past) (c : ℕ) (bytes : List ℕ) where
 
 -- ---- steps
 
-module _ (k : Settings) (start : Past) (history : History k start.notes) (c : ℕ) (newer : List (List ℕ)) (answer : Answer) (ends : IsOfEnd answer) (lt : 0 < copies (answer_packet answer) newer) where
+module _ (k : Settings) (start : Past) (history : History k start.notes) (c : ℕ) (newer : List (List ℕ)) (answer : Answer) (ends : IsOfEnd k answer) (lt : 0 < copies (answer_packet answer) newer) where
   abbrev Only : Step → Type 0
   Only s = Queues c newer start (step k s start) →
-      (n : ℕ) × (tells : Answer) × (answer_packet answer ≡ answer_packet tells) × TellsEnd k n s tells
+      (n : ℕ) × (tells : Answer) × (answer_packet answer ≡ answer_packet tells) × TellsEnd k start.notes c n s tells
       × (is_running (job_state n start.notes) ≡ true) × (job_state n (step k s start).notes ≡ states.Ended) × (0 < listens c n start.notes)
 
-  still : (s : Step) → (is_request is_ending s || is_tick s) ≡ false → Only s
+  still : (s : Step) → (is_request (is_ending k) s || is_tick s) ≡ false → Only s
   still s other q =
       absurd (quiet k s start history c answer (λ d bytes may e. let bad : true ≡ false = sym (may.1 answer ends e) ∙ other in let worse : ⊥ = cc in worse) newer q lt)
 
-  by_packet : (worker number : ℕ) (bytes : List ℕ) (t : Bool) → is_one_of is_ending (kind_of number) ≡ t → Only (Packet worker number bytes)
+  by_packet : (worker number : ℕ) (bytes : List ℕ) (t : Bool) → is_one_of (is_ending k) (kind_of number) ≡ t → Only (Packet worker number bytes)
   by_packet worker number bytes true is =
       taken_or_not (OnlyIts k start c worker number bytes newer answer ends lt) (unless_not_open (takes_units worker start.notes)) (packet_of k worker (kind_of number) bytes start) start
       (λ taken. packet_its k start c worker number bytes newer answer ends lt (kind_of number) refl is) (nothing_its k start c worker number bytes newer answer ends lt)
   by_packet worker number bytes false is = still (Packet worker number bytes) (ap (λ t. t || false) is)
 
   only_of : (s : Step) → Only s
-  only_of (Packet worker number bytes) = by_packet worker number bytes (is_one_of is_ending (kind_of number)) refl
+  only_of (Packet worker number bytes) = by_packet worker number bytes (is_one_of (is_ending k) (kind_of number)) refl
   only_of (Tick now) = λ q.
       let t = ticked k start c (answer_packet answer) now in
       let are : newer ≡ t.newer = append_cancel_left (outputs c start.flow) newer t.newer (sym q ∙ t.queued) in

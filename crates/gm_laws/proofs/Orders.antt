@@ -12,9 +12,8 @@ use Rattle.gm_notes.specs.declared.note.Note.{Note}
 use Rattle.gm_notes.specs.declared.note.Note.TheVariants as notes
 use Rattle.gm_notes.specs.declared.states.Priority.{Priority}
 use Rattle.gm_notes.specs.declared.states.Priority.TheVariants.{High, Normal, Low}
-use Rattle.gm_notes.specs.declared.states.Pick.{Pick}
 use Rattle.gm_notes.specs.Settings.{Settings}
-use Rattle.gm_notes.specs.Jobs.{Job, Ability, job_state, job, as_they_came, same_priority, rank, is_job_with, is_queued, queue, waiting_for, first_of, pick_from, scan}
+use Rattle.gm_notes.specs.Jobs.{Job, job_state, job, as_they_came, same_priority, rank, is_job_with, is_queued, queue, waiting_for, is_empty, is_of, scan}
 use Rattle.gm_notes.specs.JobStates.{JobState, is_waiting}
 use Rattle.gm_notes.specs.JobStates as states
 use Rattle.gm_notes.specs.Past.{Past}
@@ -22,15 +21,17 @@ use Rattle.gm_notes.specs.Steps.{Step, Close, step, run}
 use Rattle.gm_history.specs.History.{runs_at_a_slot, Allowed, History}
 use Rattle.gm_history.specs.Causes.{Caused, asks, is_grab}
 use Rattle.gm_laws.specs.Laws.{has_place}
-use Rattle.gm_laws.specs.Waiting.{came, GoesBefore, GivesTheFirst, NothingGetsInBefore, FirstComeFirstServed}
+use Rattle.gm_laws.specs.Waiting.{came, GoesBefore, GivesTheFirst, NothingGetsInBefore, FirstComeFirstServed, IsHigher, HighGoesFirst}
 use Rattle.gm_history.proofs.Finding.{WaitsFor, waiting_for_waits, job_of}
 use Rattle.gm_laws.proofs.JobLaws.{unmade, place_still}
 use Rattle.gm_laws.proofs.Moving.{from, moved, In, both_not}
 use Rattle.gm_history.proofs.StepsKeep.{run_history}
 use Rattle.gm_history.proofs.Caused.{note_law}
 use Rattle.gm_laws.proofs.StepLaws.{gives, GivenSo, given_more}
-use Rattle.gm_laws.proofs.Waiting.{waits_came, is_queued_here}
+use Rattle.gm_laws.proofs.Waiting.{waits_came, is_queued_here, queue_waits}
+use Rattle.gm_laws.proofs.Highest.{pick_first, highest, head_by, none_by, with_by, picks_highest}
 use Rattle.gm_notes.proofs.Numbers.{same_number}
+use Rattle.gm_notes.proofs.Scans.{scan_members}
 use Rattle.std.proofs.lemmas.Bool.{not-true}
 use Rattle.std.proofs.lemmas.Bool.{eqb-true}
 
@@ -145,16 +146,6 @@ ordered k (note ∷ older) h = leaves_order note older refl (λ x. refl) (λ x e
 
 -- ---- the pick goes before the others
 
--- the pick is the first that waits for a function
-pick_first : (all : List Ability) (l : List Note) (found : Pick) → pick_from all l ≡ Some found → (f : List ℕ) × (ns : List ℕ) × (waiting_for f l ≡ found.job ∷ ns)
-pick_first [] l found e = absurd cc
-pick_first (ability ∷ all) l found e = by (waiting_for ability.function l) refl (pick_first all l found) e
-  where
-    by : (ns : List ℕ) → waiting_for ability.function l ≡ ns → (pick_from all l ≡ Some found → (f : List ℕ) × (ns : List ℕ) × (waiting_for f l ≡ found.job ∷ ns)) → first_of ns ability.timeout (pick_from all l) ≡ Some found
-        → (f : List ℕ) × (ns : List ℕ) × (waiting_for f l ≡ found.job ∷ ns)
-    by [] is rest e = rest e
-    by (n ∷ ns) is rest e = (ability.function, ns, is ∙ ap (λ (p : Pick). p.job ∷ ns) (same_Some (record { job = n; timeout = ability.timeout }) found e))
-
 priority_is : (p q : Priority) → same_priority p q ≡ true → p ≡ q
 priority_is High High e = refl
 priority_is Normal Normal e = refl
@@ -166,18 +157,18 @@ priority_is Normal Low e = absurd cc
 priority_is Low High e = absurd cc
 priority_is Low Normal e = absurd cc
 
+-- the first of a queue has its function and priority
+pub queue_head : (f : List ℕ) (p : Priority) (l : List Note) (n : ℕ) (ns : List ℕ) (what : Job) → queue f p l ≡ n ∷ ns → job n l ≡ Some what → (what.function ≡ f) × (what.priority ≡ p)
+queue_head f p l n ns what is known =
+    let there = (in_filter (is_queued f p l) n (as_they_came l) (subst (In n) (sym is) (inl refl))).1 in
+    let with_it = (and_parts (is_waiting (job_state n l)) (is_job_with f p (job n l)) there).1 in
+    let parts = and_parts (bytes_eq what.function f) (same_priority what.priority p) (ap (is_job_with f p) (sym known) ∙ with_it) in
+    ((bytes_eq-Decides what.function f).0 parts.0, priority_is what.priority p parts.1)
+
 module _ (k : Settings) (l : List Note) (history : History k l) (n : ℕ) (what : Job) (known : job n l ≡ Some what) (m : ℕ) (other : Job) (waits : job_state m l ≡ states.Waiting) (knows : job m l ≡ Some other) (apart : n ≡ m → ⊥) where
   -- the other stands in its queue
   stands : In m (queue other.function other.priority l)
   stands = in_kept (is_queued other.function other.priority l) m (as_they_came l) (waits_came m l waits) (is_queued_here m l other waits knows)
-
-  -- the first of a queue has its function and priority
-  head_is : (f : List ℕ) (p : Priority) (ns : List ℕ) → queue f p l ≡ n ∷ ns → (what.function ≡ f) × (what.priority ≡ p)
-  head_is f p ns is =
-      let there = (in_filter (is_queued f p l) n (as_they_came l) (subst (In n) (sym is) (inl refl))).1 in
-      let with_it = (and_parts (is_waiting (job_state n l)) (is_job_with f p (job n l)) there).1 in
-      let parts = and_parts (bytes_eq what.function f) (same_priority what.priority p) (ap (is_job_with f p) (sym known) ∙ with_it) in
-      ((bytes_eq-Decides what.function f).0 parts.0, priority_is what.priority p parts.1)
 
   -- of one priority, it came first
   head_came : (ns : List ℕ) → queue other.function other.priority l ≡ n ∷ ns → came n l < came m l
@@ -186,8 +177,8 @@ module _ (k : Settings) (l : List Note) (history : History k l) (n : ℕ) (what 
       from (subst (In m) is stands) (λ same. absurd (apart (sym same))) (λ there. rises.0 m there)
 
   goes_before : (p : Priority) (ns : List ℕ) → queue other.function p l ≡ n ∷ ns → (p ≡ other.priority) ⊎ (rank p < rank other.priority) → GoesBefore l n what m other
-  goes_before p ns is (inl same) = let head = head_is other.function p ns is in inr (head.1 ∙ same, head_came ns (ap (λ q. queue other.function q l) (sym same) ∙ is))
-  goes_before p ns is (inr less) = let head = head_is other.function p ns is in inl (subst (λ q. rank q < rank other.priority) (sym head.1) less)
+  goes_before p ns is (inl same) = let head = queue_head other.function p l n ns what is known in inr (head.1 ∙ same, head_came ns (ap (λ q. queue other.function q l) (sym same) ∙ is))
+  goes_before p ns is (inr less) = let head = queue_head other.function p l n ns what is known in inl (subst (λ q. rank q < rank other.priority) (sym head.1) less)
 
   -- the other isn't in an empty queue
   not_empty : (p : Priority) → queue other.function p l ≡ [] → p ≡ other.priority → ⊥
@@ -226,7 +217,7 @@ module _ (k : Settings) (l : List Note) (history : History k l) (n : ℕ) (what 
 -- ---- steps
 
 -- the first that waits for a function is of it
-first_of_function : (f : List ℕ) (l : List Note) (n : ℕ) (ns : List ℕ) (what : Job) → waiting_for f l ≡ n ∷ ns → job n l ≡ Some what → what.function ≡ f
+pub first_of_function : (f : List ℕ) (l : List Note) (n : ℕ) (ns : List ℕ) (what : Job) → waiting_for f l ≡ n ∷ ns → job n l ≡ Some what → what.function ≡ f
 first_of_function f l n ns what is known =
     let waits = All-head (WaitsFor f l) n ns (subst (All (WaitsFor f l)) is (waiting_for_waits f l)) in
     let found = job_of f (job n l) waits.1 in
@@ -239,9 +230,25 @@ gives_first k steps s c n m what other waits runs also known knows same apart =
     from (gives k s start (run_history k steps) n c runs) (λ e. let bad : states.Waiting ≡ states.Running c = sym waits ∙ e in absurd cc)
     (λ h.
     let found = h.1.0 in
-    let first = pick_first (scan k c l) l found h.1.1 in
+    let first = pick_first k c l found h.1.1 in
     let is : waiting_for first.0 l ≡ n ∷ first.1 = first.2 ∙ ap (λ x. x ∷ first.1) h.1.2 in
     first_before k l (run_history k steps) n what known m other also knows apart first.1 (ap (λ f. waiting_for f l) (same ∙ first_of_function first.0 l n first.1 what is known) ∙ is))
+
+-- with as_gearmand the pick is of the highest priority
+pub high_first : (k : Settings) (steps : List Step) (s : Step) → HighGoesFirst k (run k steps) s (run k (s ∷ steps))
+high_first k steps s c n m what other set waits runs known also knows able higher =
+    let start = run k steps in
+    let l = start.notes in
+    from (gives k s start (run_history k steps) n c runs) (λ e. let bad : states.Waiting ≡ states.Running c = sym waits ∙ e in absurd cc)
+    (λ h.
+    let found = h.1.0 in
+    let top = highest (scan k c l) l found (sym (picks_highest k c l set) ∙ h.1.1) in
+    let there = head_by (λ f. queue f top.p l) (scan k c l) found (sym (with_by top.p (scan k c l) l) ∙ top.is) in
+    let of = (queue_head there.0 top.p l n there.1 what (there.2 ∙ ap (λ x. x ∷ there.1) h.1.2) known).1 in
+    let none = top.above other.priority (subst (IsHigher other.priority) of higher) in
+    both_not (is_empty (queue other.function other.priority l))
+    (none_by (λ f. queue f other.priority l) (scan k c l) other.function (sym (with_by other.priority (scan k c l) l) ∙ none) (scan_members k c l (is_of other.function) ∙ able))
+    (queue_waits m l other also knows))
 
 -- ---- nothing gets in before
 

@@ -1,5 +1,5 @@
 -- What is refused has its reason, and each reason refuses.
-use Rattle.std.proofs.Common.{◌≡◌, ◌⊎◌, inl, inr, ℕ, ◌+◌, ◌≤◌, ◌^◌, Bool, true, false, cond, not, ◌&&◌, ◌||◌, List, [], ◌∷◌, ◌++◌, length}
+use Rattle.std.proofs.Common.{◌≡◌, ◌⊎◌, inl, inr, ℕ, ◌+◌, ◌≤◌, ◌^◌, Bool, true, false, cond, not, ◌&&◌, ◌||◌, List, [], ◌∷◌, ◌++◌, length, filter}
 use Rattle.std.proofs.Common.{Option, Some, None, Result, Ok, Err, refl, sym, ap, subst, ◌∙◌, arith, append_assoc}
 use Rattle.std.specs.Option.{ok_or}
 use Rattle.std.proofs.lemmas.Option.{same_Some}
@@ -42,7 +42,7 @@ use Rattle.gm_notes.specs.declared.event.UnitFault.{UnitFault}
 use Rattle.gm_notes.specs.declared.event.UnitFault.TheVariants.{BadMagic, PacketTooLarge, LineTooLong}
 use Rattle.gm_notes.specs.Submissions.{Submission, max_name, is_bad_name, is_one_too_many, is_full, submit}
 use Rattle.gm_notes.specs.Workers.{wake_if, add_ability, can_do, cant_do, sleep_beside, pre_sleep, wake_itself, assignment, tell_assigned, give_out, grab}
-use Rattle.gm_notes.specs.Workers.{Work, keep_report, end_if, hearers, tell_work, work_on, work}
+use Rattle.gm_notes.specs.Workers.{Work, keep_report, end_if, wants_exceptions, hearers, tell_others, tell_work, work_on, work}
 use Rattle.gm_notes.specs.Requests.{first, second, third, submission, passing, ending, tell_status, set_option, request, request_if_read, packet_of}
 use Rattle.gm_notes.specs.Lines.{is_bad_word, refuse_line, maxqueue, command}
 use Rattle.gm_notes.specs.Steps.{Step, step, run}
@@ -204,11 +204,11 @@ module _ (k : Settings) (c : ℕ) (start : Past) where
         found_not : (w : Work) → ((n : ℕ) → job_state n start.notes ≡ states.Running c → first asked.arguments ≡ handle k n → ⊥) → work k c (first asked.arguments) w start ≡ refuse c (codes "job_not_found") start
         found_not w none = by (job_of_handle k (first asked.arguments) start.notes) refl
           where
-            by : (o : Option ℕ) → job_of_handle k (first asked.arguments) start.notes ≡ o → work_on c w o start ≡ refuse c (codes "job_not_found") start
+            by : (o : Option ℕ) → job_of_handle k (first asked.arguments) start.notes ≡ o → work_on k c w o start ≡ refuse c (codes "job_not_found") start
             by None is = refl
             by (Some n) is = at (is_running_at c (job_state n start.notes)) refl
               where
-                at : (t : Bool) → is_running_at c (job_state n start.notes) ≡ t → cond t (tell_work w n start) (refuse c (codes "job_not_found") start) ≡ refuse c (codes "job_not_found") start
+                at : (t : Bool) → is_running_at c (job_state n start.notes) ≡ t → cond t (tell_work k w n start) (refuse c (codes "job_not_found") start) ≡ refuse c (codes "job_not_found") start
                 at true here = absurd (none n (runs_there c (job_state n start.notes) here) (handled_is k (first asked.arguments) start.notes n is))
                 at false here = refl
 
@@ -254,7 +254,7 @@ module _ (k : Settings) (c : ℕ) (start : Past) where
     refused WorkStatus code r = working_refused (asks_for WorkStatus) code refl refl refl (record (passing (work_status (first a) (second a) (third a))) { report = Some (second a, third a) }) (λ e. let bad : ⊥ = cc in bad) r
     refused WorkData code r = working_refused (asks_for WorkData) code refl refl refl (passing (work_data (first a) (second a))) (λ e. let bad : ⊥ = cc in bad) r
     refused WorkWarning code r = working_refused (asks_for WorkWarning) code refl refl refl (passing (work_warning (first a) (second a))) (λ e. let bad : ⊥ = cc in bad) r
-    refused WorkException code r = working_refused (asks_for WorkException) code refl refl refl (record (passing (work_exception (first a) (second a))) { exceptions_only = true }) (λ e. let bad : ⊥ = cc in bad) r
+    refused WorkException code r = working_refused (asks_for WorkException) code refl refl refl (record (passing (work_exception (first a) (second a))) { exceptions_only = true; ends = k.as_gearmand }) (λ e. let bad : ⊥ = cc in bad) r
     refused WorkComplete code r = working_refused (asks_for WorkComplete) code refl refl refl (ending (work_complete (first a) (second a))) (λ e. let bad : ⊥ = cc in bad) r
     refused WorkFail code r = working_refused (asks_for WorkFail) code refl refl refl (ending (work_fail (first a))) (λ e. let bad : ⊥ = cc in bad) r
     refused OptionReq code r = option_refused (asks_for OptionReq) code refl refl refl refl r
@@ -271,23 +271,23 @@ unserved k c start bytes code (Some kind) is = by (read_as kind bytes) is
 
 -- ---- what a request is answered with
 
-module _ (kind : Kind) where
-  quiet : (start after : Past) → after.flow ≡ start.flow → JustAnswers kind start after
+module _ (k : Settings) (kind : Kind) where
+  quiet : (start after : Past) → after.flow ≡ start.flow → JustAnswers k kind start after
   quiet start after e = ([], e, tt)
 
-  says : (c : ℕ) (answer : Answer) (start after : Past) → answers kind answer.kind ≡ true → after.flow ≡ Queued c (answer_packet answer) ∷ start.flow → JustAnswers kind start after
+  says : (c : ℕ) (answer : Answer) (start after : Past) → answers k kind answer.kind ≡ true → after.flow ≡ Queued c (answer_packet answer) ∷ start.flow → JustAnswers k kind start after
   says c answer start after is e = (Queued c (answer_packet answer) ∷ [], e, ((answer, refl, is), tt))
 
-  both_answer : (newer older : List Flow) → AllAnswer kind newer → AllAnswer kind older → AllAnswer kind (newer ++ older)
+  both_answer : (newer older : List Flow) → AllAnswer k kind newer → AllAnswer k kind older → AllAnswer k kind (newer ++ older)
   both_answer [] older a b = b
   both_answer (Queued c bytes ∷ newer) older a b = (a.0, both_answer newer older a.1 b)
   both_answer (other ∷ newer) older a b = absurd a
 
-  further : (start between after : Past) → JustAnswers kind start between → JustAnswers kind between after → JustAnswers kind start after
+  further : (start between after : Past) → JustAnswers k kind start between → JustAnswers k kind between after → JustAnswers k kind start after
   further start between after a b =
       (b.0 ++ a.0, b.1 ∙ (ap (λ l. b.0 ++ l) a.1 ∙ sym (append_assoc b.0 a.0 start.flow)), both_answer b.0 a.0 b.2 a.2)
 
-  tells : (answer : Answer) → answers kind answer.kind ≡ true → (slots : List ℕ) (past : Past) → JustAnswers kind past (tell_all answer slots past)
+  tells : (answer : Answer) → answers k kind answer.kind ≡ true → (slots : List ℕ) (past : Past) → JustAnswers k kind past (tell_all answer slots past)
   tells answer is [] past = quiet past past refl
   tells answer is (c ∷ slots) past = further past (give c answer past) (tell_all answer slots (give c answer past)) (says c answer past (give c answer past) is refl) (tells answer is slots (give c answer past))
 
@@ -296,7 +296,7 @@ module _ (k : Settings) (c : ℕ) (start : Past) (history : History k start.note
   asked kind = record { kind = kind; arguments = a; timeout = timeout }
 
   abbrev Answered : Kind → Past → Type 0
-  Answered kind after = ((code : List ℕ) × HasReason k c (asked kind) start code) ⊎ JustAnswers kind start after
+  Answered kind after = ((code : List ℕ) × HasReason k c (asked kind) start code) ⊎ JustAnswers k kind start after
 
   enabled : (kind : Kind) → is_enabling kind ≡ true → names_function kind ≡ true → (t : ℕ) → Answered kind (can_do k c (first a) t start)
   enabled kind enables names t = by (is_bad_name (first a)) (is_one_too_many k (first a) start.notes) refl refl
@@ -319,30 +319,30 @@ module _ (k : Settings) (c : ℕ) (start : Past) (history : History k start.note
       by false bad = inr ([], refl, tt)
 
   slept : Answered PreSleep (pre_sleep k c start)
-  slept = inr (quiet PreSleep start (pre_sleep k c start) (by (is_awake (phase c start.notes)) (pick k c start.notes)))
+  slept = inr (quiet k PreSleep start (pre_sleep k c start) (by (is_awake (phase c start.notes)) (pick k c start.notes)))
     where
       by : (t : Bool) (o : Option Pick) → (cond t (sleep_beside o c (with_note (notes.Slept c) start)) start).flow ≡ start.flow
       by true None = refl
       by true (Some found) = refl
       by false o = refl
 
-  grabbed : (kind : Kind) (uniq : Bool) → answers kind 10 ≡ true → answers kind (cond uniq 31 11) ≡ true → Answered kind (grab k c uniq start)
+  grabbed : (kind : Kind) (uniq : Bool) → answers k kind 10 ≡ true → answers k kind (cond uniq 31 11) ≡ true → Answered kind (grab k c uniq start)
   grabbed kind uniq none some = inr (by (pick k c start.notes))
     where
-      told : (n : ℕ) (o : Option Job) (past : Past) → past.flow ≡ start.flow → JustAnswers kind start (tell_assigned k c uniq n o past)
-      told n None past same = quiet kind start past same
-      told n (Some job) past same = says kind c (assignment k uniq n job) start (give c (assignment k uniq n job) past) (is uniq some) (ap (λ flow. Queued c (answer_packet (assignment k uniq n job)) ∷ flow) same)
+      told : (n : ℕ) (o : Option Job) (past : Past) → past.flow ≡ start.flow → JustAnswers k kind start (tell_assigned k c uniq n o past)
+      told n None past same = quiet k kind start past same
+      told n (Some job) past same = says k kind c (assignment k uniq n job) start (give c (assignment k uniq n job) past) (is uniq some) (ap (λ flow. Queued c (answer_packet (assignment k uniq n job)) ∷ flow) same)
         where
-          is : (u : Bool) → answers kind (cond u 31 11) ≡ true → answers kind (assignment k u n job).kind ≡ true
+          is : (u : Bool) → answers k kind (cond u 31 11) ≡ true → answers k kind (assignment k u n job).kind ≡ true
           is true e = e
           is false e = e
 
-      by : (o : Option Pick) → JustAnswers kind start (give_out k c uniq o (wake_itself c start))
-      by None = says kind c no_job start (give c no_job (wake_itself c start)) none (ap (λ flow. Queued c (answer_packet no_job) ∷ flow) (stirred_flow c start))
+      by : (o : Option Pick) → JustAnswers k kind start (give_out k c uniq o (wake_itself c start))
+      by None = says k kind c no_job start (give c no_job (wake_itself c start)) none (ap (λ flow. Queued c (answer_packet no_job) ∷ flow) (stirred_flow c start))
       by (Some found) = told found.job (job found.job (wake_itself c start).notes) _ (stirred_flow c start)
 
   -- a submission
-  module _ (kind : Kind) (submits : is_submission kind ≡ true) (names : names_function kind ≡ true) (created : answers kind 8 ≡ true) (good : IsBadName (first a) → ⊥) where
+  module _ (kind : Kind) (submits : is_submission kind ≡ true) (names : names_function kind ≡ true) (created : answers k kind 8 ≡ true) (good : IsBadName (first a) → ⊥) where
     module _ (none : JoinsNone (asked kind) start) where
       many_then : IsOneTooMany k (first a) start.notes → Answered kind (request k c kind a timeout start)
       many_then many = inl (codes "too_many_functions", inr (inl (refl, good, inr (submits, none), many)))
@@ -372,13 +372,13 @@ module _ (k : Settings) (c : ℕ) (start : Past) (history : History k start.note
           )
 
     answered_so : SubmittedSo k c (asked kind) start (request k c kind a timeout start) → Answered kind (request k c kind a timeout start)
-    answered_so (inl r) = inr (says kind c (job_created (handle k r.n)) start (request k c kind a timeout start) created r.queued)
+    answered_so (inl r) = inr (says k kind c (job_created (handle k r.n)) start (request k c kind a timeout start) created r.queued)
     answered_so (inr (code, text, queued, same, inl bad)) = absurd (good bad.1)
     answered_so (inr (code, text, queued, same, inr (none, inl many))) = many_then none (many.1, many.2)
     answered_so (inr (code, text, queued, same, inr (none, inr (inl fills)))) = fills_then none (fills.1, fills.2)
     answered_so (inr (code, text, queued, same, inr (none, inr (inr most)))) = last_then none most.1
 
-  submitted : (kind : Kind) → is_submission kind ≡ true → names_function kind ≡ true → answers kind 8 ≡ true → Answered kind (request k c kind a timeout start)
+  submitted : (kind : Kind) → is_submission kind ≡ true → names_function kind ≡ true → answers k kind 8 ≡ true → Answered kind (request k c kind a timeout start)
   submitted kind submits names created = by (is_bad_name (first a)) refl
     where
       by : (t : Bool) → is_bad_name (first a) ≡ t → Answered kind (request k c kind a timeout start)
@@ -386,8 +386,8 @@ module _ (k : Settings) (c : ℕ) (start : Past) (history : History k start.note
       by false good = answered_so kind submits names created (λ bad. both_not (is_bad_name (first a)) (named_badly (first a) bad) good) (request_answered k c start history kind a timeout submits)
 
   -- a report
-  worked : (kind : Kind) → names_run kind ≡ true → (w : Work) → answers kind w.answer.kind ≡ true → Answered kind (work k c (first a) w start)
-  worked kind runs w is = by (job_of_handle k (first a) start.notes) refl
+  worked : (kind : Kind) → names_run kind ≡ true → (w : Work) → answers k kind w.answer.kind ≡ true → ((w.exceptions_only && w.ends) ≡ true → answers k kind 14 ≡ true) → Answered kind (work k c (first a) w start)
+  worked kind runs w is fails = by (job_of_handle k (first a) start.notes) refl
     where
       same_job : (n m : ℕ) → job_of_handle k (first a) start.notes ≡ Some n → job_state m start.notes ≡ states.Running c → first a ≡ handle k m → n ≡ m
       same_job n m found here names =
@@ -398,26 +398,34 @@ module _ (k : Settings) (c : ℕ) (start : Past) (history : History k start.note
           let there : job_of_handle k (first a) start.notes ≡ Some n = ap (λ text. job_of_handle k text start.notes) names ∙ handle_names k start.notes n history (ap has_place here) in
           let bad : None ≡ Some n = sym none ∙ there in let worse : ⊥ = cc in worse
 
-      passed : (n : ℕ) → JustAnswers kind start (tell_work w n start)
+      passed : (n : ℕ) → JustAnswers k kind start (tell_work k w n start)
       passed n =
-          let slots = hearers w.exceptions_only (listeners n start.notes) start.notes in
-          let told = tells kind w.answer is slots (keep_report n w.report start) in
-          (told.0, ended w.ends ∙ (told.1 ∙ ap (λ flow. told.0 ++ flow) (reported w.report)), told.2)
+          let slots = listeners n start.notes in
+          let one = keep_report n w.report start in
+          let two = tell_all w.answer (hearers w.exceptions_only slots start.notes) one in
+          let three = tell_others (w.exceptions_only && w.ends) (work_fail (handle k n)) slots start.notes two in
+          let told = tells k kind w.answer is (hearers w.exceptions_only slots start.notes) one in
+          let first_told : JustAnswers k kind start two = (told.0, told.1 ∙ ap (λ flow. told.0 ++ flow) (reported w.report), told.2) in
+          let all = further k kind start two three first_told (others (w.exceptions_only && w.ends) fails two) in
+          (all.0, ended w.ends three ∙ all.1, all.2)
         where
-          ended : (t : Bool) → (end_if t n (tell_all w.answer (hearers w.exceptions_only (listeners n start.notes) start.notes) (keep_report n w.report start))).flow
-              ≡ (tell_all w.answer (hearers w.exceptions_only (listeners n start.notes) start.notes) (keep_report n w.report start)).flow
-          ended true = refl
-          ended false = refl
+          others : (t : Bool) → (t ≡ true → answers k kind 14 ≡ true) → (past : Past) → JustAnswers k kind past (tell_others t (work_fail (handle k n)) (listeners n start.notes) start.notes past)
+          others true may past = tells k kind (work_fail (handle k n)) (may refl) (filter (λ d. not (wants_exceptions d start.notes)) (listeners n start.notes)) past
+          others false may past = quiet k kind past past refl
+
+          ended : (t : Bool) (past : Past) → (end_if t n past).flow ≡ past.flow
+          ended true past = refl
+          ended false past = refl
 
           reported : (o : Option (List ℕ × List ℕ)) → (keep_report n o start).flow ≡ start.flow
           reported None = refl
           reported (Some numbers) = refl
 
-      by : (o : Option ℕ) → job_of_handle k (first a) start.notes ≡ o → Answered kind (work_on c w o start)
+      by : (o : Option ℕ) → job_of_handle k (first a) start.notes ≡ o → Answered kind (work_on k c w o start)
       by None none = inl (codes "job_not_found", inr (inr (inr (inr (inl (refl, runs, λ n here names. none_found n none here names))))))
       by (Some n) found = at (is_running_at c (job_state n start.notes)) refl
         where
-          at : (t : Bool) → is_running_at c (job_state n start.notes) ≡ t → Answered kind (cond t (tell_work w n start) (refuse c (codes "job_not_found") start))
+          at : (t : Bool) → is_running_at c (job_state n start.notes) ≡ t → Answered kind (cond t (tell_work k w n start) (refuse c (codes "job_not_found") start))
           at true here = inr (passed n)
           at false other = inl (
             codes "job_not_found",
@@ -430,17 +438,17 @@ module _ (k : Settings) (c : ℕ) (start : Past) (history : History k start.note
             ))))),
           )
 
-  known : (answer : Answer) → answers GetStatus answer.kind ≡ true → JustAnswers GetStatus start (give c answer start)
-  known answer is = says GetStatus c answer start (give c answer start) is refl
+  known : (answer : Answer) → answers k GetStatus answer.kind ≡ true → JustAnswers k GetStatus start (give c answer start)
+  known answer is = says k GetStatus c answer start (give c answer start) is refl
 
   told_status : Answered GetStatus (tell_status k c (first a) (job_of_handle k (first a) start.notes) start)
   told_status = inr (by (job_of_handle k (first a) start.notes))
     where
-      by : (o : Option ℕ) → JustAnswers GetStatus start (tell_status k c (first a) o start)
+      by : (o : Option ℕ) → JustAnswers k GetStatus start (tell_status k c (first a) o start)
       by None = known (status_res (first a) false false (codes "0") (codes "0")) refl
       by (Some n) = at (is_live (job_state n start.notes))
         where
-          at : (t : Bool) → JustAnswers GetStatus start (cond t (give c (status_res (first a) true (is_running (job_state n start.notes)) (report n start.notes).0 (report n start.notes).1) start) (give c (status_res (first a) false false (codes "0") (codes "0")) start))
+          at : (t : Bool) → JustAnswers k GetStatus start (cond t (give c (status_res (first a) true (is_running (job_state n start.notes)) (report n start.notes).0 (report n start.notes).1) start) (give c (status_res (first a) false false (codes "0") (codes "0")) start))
           at true = known (status_res (first a) true (is_running (job_state n start.notes)) (report n start.notes).0 (report n start.notes).1) refl
           at false = known (status_res (first a) false false (codes "0") (codes "0")) refl
 
@@ -448,7 +456,7 @@ module _ (k : Settings) (c : ℕ) (start : Past) (history : History k start.note
   chosen = by (bytes_eq (first a) (codes "exceptions")) refl
     where
       by : (t : Bool) → bytes_eq (first a) (codes "exceptions") ≡ t → Answered OptionReq (cond t (give c (option_res (first a)) (with_note (notes.OptionSet c) start)) (refuse c (codes "unknown_option") start))
-      by true is = inr (says OptionReq c (option_res (first a)) start (give c (option_res (first a)) (with_note (notes.OptionSet c) start)) refl refl)
+      by true is = inr (says k OptionReq c (option_res (first a)) start (give c (option_res (first a)) (with_note (notes.OptionSet c) start)) refl refl)
       by false other = inl (
         codes "unknown_option",
         inr (inr (inr (inr (inr (refl, refl, λ e. both_not (bytes_eq (first a) (codes "exceptions")) ((bytes_eq-Decides (first a) (codes "exceptions")).1 e) other))))),
@@ -467,16 +475,16 @@ module _ (k : Settings) (c : ℕ) (start : Past) (history : History k start.note
   answered SubmitJobHighBg = submitted SubmitJobHighBg refl refl refl
   answered SubmitJobLow = submitted SubmitJobLow refl refl refl
   answered SubmitJobLowBg = submitted SubmitJobLowBg refl refl refl
-  answered WorkStatus = worked WorkStatus refl (record (passing (work_status (first a) (second a) (third a))) { report = Some (second a, third a) }) refl
-  answered WorkData = worked WorkData refl (passing (work_data (first a) (second a))) refl
-  answered WorkWarning = worked WorkWarning refl (passing (work_warning (first a) (second a))) refl
-  answered WorkException = worked WorkException refl (record (passing (work_exception (first a) (second a))) { exceptions_only = true }) refl
-  answered WorkComplete = worked WorkComplete refl (ending (work_complete (first a) (second a))) refl
-  answered WorkFail = worked WorkFail refl (ending (work_fail (first a))) refl
+  answered WorkStatus = worked WorkStatus refl (record (passing (work_status (first a) (second a) (third a))) { report = Some (second a, third a) }) refl (λ e. absurd cc)
+  answered WorkData = worked WorkData refl (passing (work_data (first a) (second a))) refl (λ e. absurd cc)
+  answered WorkWarning = worked WorkWarning refl (passing (work_warning (first a) (second a))) refl (λ e. absurd cc)
+  answered WorkException = worked WorkException refl (record (passing (work_exception (first a) (second a))) { exceptions_only = true; ends = k.as_gearmand }) refl (λ e. rw e refl)
+  answered WorkComplete = worked WorkComplete refl (ending (work_complete (first a) (second a))) refl (λ e. absurd cc)
+  answered WorkFail = worked WorkFail refl (ending (work_fail (first a))) refl (λ e. absurd cc)
   answered GetStatus = told_status
-  answered EchoReq = inr (says EchoReq c (echo_res (first a)) start (give c (echo_res (first a)) start) refl refl)
+  answered EchoReq = inr (says k EchoReq c (echo_res (first a)) start (give c (echo_res (first a)) start) refl refl)
   answered OptionReq = chosen
-  answered kind = inr (quiet kind start (request k c kind a timeout start) refl)
+  answered kind = inr (quiet k kind start (request k c kind a timeout start) refl)
 
 -- ---- text lines
 
@@ -504,6 +512,6 @@ refusals k steps s c takes =
       (λ fault is.
           subst (IsToldOf c fault start) (sym (ap (λ x. step k x start) is ∙ taken_is (takes_units c start.notes) (with_note (notes.Shut c) (with_output c (fault_text fault) start)) start takes)) (told_of c fault start)),
       λ asked asks.
-          subst (λ after. ((code : List ℕ) × HasReason k c asked start code) ⊎ JustAnswers asked.kind start after) (sym (request_does k s start c asked takes asks))
+          subst (λ after. ((code : List ℕ) × HasReason k c asked start code) ⊎ JustAnswers k asked.kind start after) (sym (request_does k s start c asked takes asks))
           (answered k c start (run_history k steps) asked.arguments asked.timeout asked.kind),
     )

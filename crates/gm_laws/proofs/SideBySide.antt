@@ -1,5 +1,5 @@
 -- Two pasts side by side: a step adds the same to both, if what it asks of both is answered alike.
-use Rattle.std.proofs.Common.{◌≡◌, ℕ, Bool, true, false, cond, List, [], ◌∷◌, ◌++◌, Option, Some, None, Result, Ok, Err, refl}
+use Rattle.std.proofs.Common.{◌≡◌, ℕ, Bool, true, false, cond, not, ◌&&◌, List, [], ◌∷◌, ◌++◌, filter, Option, Some, None, Result, Ok, Err, refl}
 use Rattle.std.proofs.Common.{sym, ap, subst, ◌∙◌, max, reverse}
 use Rattle.std.specs.Prelude.{codes, unwrap_or}
 use Rattle.std.specs.Str.{bytes_eq}
@@ -32,7 +32,8 @@ use Rattle.gm_notes.specs.Past.{Past, with_note, with_flow, with_output, give, w
 use Rattle.gm_notes.specs.Texts.{fault_text}
 use Rattle.gm_notes.specs.Submissions.{Submission, is_bad_name, keep_or_listen, make, join_or_make, submit}
 use Rattle.gm_notes.specs.Workers.{wake_if, can_do, cant_do, sleep_beside, pre_sleep, wake_itself, deadline_after, assignment}
-use Rattle.gm_notes.specs.Workers.{tell_assigned, give_out, grab, Work, keep_report, end_if, hearers, tell_work, work_on, work}
+use Rattle.gm_notes.specs.Workers.{tell_assigned, give_out, grab, Work, keep_report, end_if, wants_exceptions, hearers, tell_others}
+use Rattle.gm_notes.specs.Workers.{tell_work, work_on, work}
 use Rattle.gm_notes.specs.Requests.{first, second, third, submission, passing, ending, tell_status, set_option, request}
 use Rattle.gm_notes.specs.Requests.{request_if_read, packet_of}
 use Rattle.gm_notes.specs.Lines.{is_bad_word, maxqueue, shut_each, go_graceful, shutdown, command}
@@ -42,7 +43,7 @@ use Rattle.gm_notes.specs.Steps.{refusal, unless_not_open, if_owed, unless, step
 use Rattle.gm_history.specs.Causes.{is_one_of, is_sleeping}
 use Rattle.gm_laws.specs.Laws.{GoesAlike}
 use Rattle.gm_laws.proofs.Alike.{Alike, alike_on, units_alike, wanted_alike, last_try_alike, mentioned_alike, many_alike, unwanted_alike}
-use Rattle.gm_laws.proofs.Alike.{waked_alike, hearers_alike, expired_alike, full_alike, joined_alike, next_alike}
+use Rattle.gm_laws.proofs.Alike.{waked_alike, hearers_alike, others_alike, expired_alike, full_alike, joined_alike, next_alike}
 use Rattle.gm_laws.proofs.Alike.{handled_alike, enabled_alike, pick_alike, statuses_alike, workers_alike, free_alike}
 use Rattle.gm_history.proofs.Asking.{kind_read}
 use Rattle.gm_history.proofs.StepsKeep.{}
@@ -188,18 +189,24 @@ module _ (a b : Past) (base : Alike a.notes b.notes) where
   ended_both true n s = note_both (notes.Ended n) s
   ended_both false n s = s
 
-  tell_work_both : (w : Work) (n : ℕ) {p q : Past} → Same a b p q → Same a b (tell_work w n p) (tell_work w n q)
-  tell_work_both w n {p = p} {q = q} s =
-      ended_both w.ends n
-      (at_both (tell_all w.answer) (keep_report n w.report p) (keep_report n w.report q) (hearers_alike (seen s) w.exceptions_only n)
-      (tell_both w.answer (hearers w.exceptions_only (listeners n p.notes) p.notes) (report_both n w.report s)))
+  others_both : (t : Bool) (answer : Answer) (n : ℕ) {p q r v : Past} → Same a b p q → Same a b r v → Same a b (tell_others t answer (listeners n p.notes) p.notes r) (tell_others t answer (listeners n q.notes) q.notes v)
+  others_both true answer n {p = p} {r = r} {v = v} s t =
+      at_both (tell_all answer) r v (others_alike (seen s) n) (tell_both answer (filter (λ c. not (wants_exceptions c p.notes)) (listeners n p.notes)) t)
+  others_both false answer n s t = t
 
-  work_on_both : (c : ℕ) (w : Work) (o : Option ℕ) {p q : Past} → Same a b p q → Same a b (work_on c w o p) (work_on c w o q)
-  work_on_both c w None s = flow_both _ s
-  work_on_both c w (Some n) s = if_both (ap (is_running_at c) ((seen s).place n)) (tell_work_both w n s) (flow_both _ s)
+  tell_work_both : (k : Settings) (w : Work) (n : ℕ) {p q : Past} → Same a b p q → Same a b (tell_work k w n p) (tell_work k w n q)
+  tell_work_both k w n {p = p} {q = q} s =
+      ended_both w.ends n
+      (others_both (w.exceptions_only && w.ends) (work_fail (handle k n)) n s
+      (at_both (tell_all w.answer) (keep_report n w.report p) (keep_report n w.report q) (hearers_alike (seen s) w.exceptions_only n)
+      (tell_both w.answer (hearers w.exceptions_only (listeners n p.notes) p.notes) (report_both n w.report s))))
+
+  work_on_both : (k : Settings) (c : ℕ) (w : Work) (o : Option ℕ) {p q : Past} → Same a b p q → Same a b (work_on k c w o p) (work_on k c w o q)
+  work_on_both k c w None s = flow_both _ s
+  work_on_both k c w (Some n) s = if_both (ap (is_running_at c) ((seen s).place n)) (tell_work_both k w n s) (flow_both _ s)
 
   work_both : (k : Settings) (c : ℕ) (text : List ℕ) (w : Work) {p q : Past} → Same a b p q → Same a b (work k c text w p) (work k c text w q)
-  work_both k c text w {p = p} {q = q} s = at_both (work_on c w) p q (handled_alike (seen s) k text) (work_on_both c w (job_of_handle k text p.notes) s)
+  work_both k c text w {p = p} {q = q} s = at_both (work_on k c w) p q (handled_alike (seen s) k text) (work_on_both k c w (job_of_handle k text p.notes) s)
 
   -- ---- requests
 
@@ -231,7 +238,7 @@ module _ (a b : Past) (base : Alike a.notes b.notes) where
   request_both k c WorkStatus x timeout e s = work_both k c (first x) (record (passing (work_status (first x) (second x) (third x))) { report = Some (second x, third x) }) s
   request_both k c WorkData x timeout e s = work_both k c (first x) (passing (work_data (first x) (second x))) s
   request_both k c WorkWarning x timeout e s = work_both k c (first x) (passing (work_warning (first x) (second x))) s
-  request_both k c WorkException x timeout e s = work_both k c (first x) (record (passing (work_exception (first x) (second x))) { exceptions_only = true }) s
+  request_both k c WorkException x timeout e s = work_both k c (first x) (record (passing (work_exception (first x) (second x))) { exceptions_only = true; ends = k.as_gearmand }) s
   request_both k c WorkComplete x timeout e s = work_both k c (first x) (ending (work_complete (first x) (second x))) s
   request_both k c WorkFail x timeout e s = work_both k c (first x) (ending (work_fail (first x))) s
   request_both k c GetStatus x timeout {p = p} {q = q} e s = at_both (tell_status k c (first x)) p q (handled_alike (seen s) k (first x)) (status_both k c (first x) (job_of_handle k (first x) p.notes) s)

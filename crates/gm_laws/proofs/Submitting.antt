@@ -200,7 +200,7 @@ module _ (k : Settings) (c n : ℕ) where
   told_now steps s states.Lost is was now = inl refl
   told_now steps s states.Ended is was now =
       from (all_told k s steps n is) (λ e. absurd (let bad : is_live states.Ended ≡ true = subst (λ x. is_live x ≡ true) e was.0 in cc))
-      (λ t. let mine = t.2 c in inr (t.0, t.1, (mine.0, mine.1, subst (λ x. 0 < x) (sym mine.2) was.1)))
+      (λ t. let mine = t c in inr (mine.0, mine.1, (mine.2.0, mine.2.1, subst (λ x. 0 < x) (sym mine.2.2) was.1)))
   told_now steps s states.Discarded is was now =
       from (discards k s (run k steps) (run_history k steps) n is) (λ e. absurd (let bad : is_live states.Discarded ≡ true = subst (λ x. is_live x ≡ true) e was.0 in cc))
       (λ t. absurd (heard_wanted (listeners n (run k (s ∷ steps)).notes) (is_kept n (run k (s ∷ steps)).notes) now.1 t.1))

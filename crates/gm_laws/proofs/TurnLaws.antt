@@ -26,6 +26,7 @@ use Rattle.gm_notes.specs.Workers.{wake_itself, deadline_after, give_out}
 use Rattle.gm_notes.specs.Requests.{request}
 use Rattle.gm_notes.specs.Steps.{Step, Open, Packet, Line, Fault, Close, Tick, Took, Withdrew, Drain, refusal, add, step, run}
 use Rattle.gm_notes.proofs.Scans.{scan_members}
+use Rattle.gm_laws.proofs.Highest.{picks_from}
 use Rattle.gm_history.specs.History.{Gets}
 use Rattle.gm_history.specs.Causes.{Caused, is_one_of, asks, is_grab, is_enabling}
 use Rattle.gm_laws.specs.Turns.{Gives, FindsWaiting, LeavesAbilities, Each, One, TurnsAreFair}
@@ -234,12 +235,12 @@ turning k c steps s = turning_at k c steps s (asks is_grab c s) refl
 
 -- ---- turns are fair
 
-module _ (k : Settings) (in_turn : k.round_robin ≡ true) (c : ℕ) (f h : List ℕ) (other : bytes_eq f h ≡ false) where
+module _ (k : Settings) (in_turn : k.round_robin ≡ true) (plain : k.as_gearmand ≡ false) (c : ℕ) (f h : List ℕ) (other : bytes_eq f h ≡ false) where
   scan_is : (l : List Note) → scan k c l ≡ rotated (last_function c l) (abilities c l)
   scan_is l = ap (λ t. cond t (rotated (last_function c l) (abilities c l)) (abilities c l)) in_turn
 
   given_picks : (g : List ℕ) (before after : List Note) → Given k c g before after → Picks g (rotated (last_function c before) (abilities c before)) before
-  given_picks g before after gave = subst (λ all. Picks g all before) (scan_is before) (picks g (scan k c before) before gave.found gave.is gave.function)
+  given_picks g before after gave = subst (λ all. Picks g all before) (scan_is before) (picks g (scan k c before) before gave.found (sym (picks_from k c before plain) ∙ gave.is) gave.function)
 
   -- slot c can do h, which comes before f
   abbrev HasTurn : List Note → Type 0
@@ -294,6 +295,6 @@ module _ (k : Settings) (in_turn : k.round_robin ≡ true) (c : ℕ) (f h : List
       (able, ap (λ o. list_any (is_of h) (up_to f (rotated o (abilities c l)))) (given k c f before first gave).last ∙ ahead_after h f (abilities c l) (abilities_once f c l) able)
 
 pub fair : TurnsAreFair
-fair k c f h before between first again in_turn other able gave gives_again leave find =
-    from (all_turn k in_turn c f h other between (first ∷ before) (first_turn k in_turn c f h other before first gave able) leave find.1)
-    (λ turn. absurd (not_given k in_turn c f h other (between ++ first ∷ before) again turn find.0 gives_again)) (λ one. one)
+fair k c f h before between first again in_turn plain other able gave gives_again leave find =
+    from (all_turn k in_turn plain c f h other between (first ∷ before) (first_turn k in_turn plain c f h other before first gave able) leave find.1)
+    (λ turn. absurd (not_given k in_turn plain c f h other (between ++ first ∷ before) again turn find.0 gives_again)) (λ one. one)

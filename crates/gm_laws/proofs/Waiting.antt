@@ -1,5 +1,5 @@
 -- A job that waits is among those that a grab would look at.
-use Rattle.std.proofs.Common.{◌≡◌, ◌⊎◌, inl, inr, ℕ, Bool, true, false, cond, not, ◌||◌, List, [], ◌∷◌, ◌++◌, filter, Option}
+use Rattle.std.proofs.Common.{◌≡◌, ◌⊎◌, inl, inr, ℕ, Bool, true, false, cond, not, List, [], ◌∷◌, ◌++◌, filter}
 use Rattle.std.proofs.Common.{Some, None, refl, sym, ap, subst, ◌∙◌}
 use Rattle.std.specs.Prelude.{◌==◌}
 use Rattle.std.specs.List.{list_any}
@@ -10,12 +10,12 @@ use Rattle.gm_notes.specs.declared.note.Note.{Note}
 use Rattle.gm_notes.specs.declared.note.Note.TheVariants as notes
 use Rattle.gm_notes.specs.declared.states.Priority.{Priority}
 use Rattle.gm_notes.specs.declared.states.Priority.TheVariants.{High, Normal, Low}
-use Rattle.gm_notes.specs.Jobs.{Job, Ability, job_state, job, is_job_with, is_queued, same_priority, as_they_came, queue}
-use Rattle.gm_notes.specs.Jobs.{waiting_for, is_empty, first_of, pick_from, pick, abilities, is_of, is_able, scan}
-use Rattle.gm_notes.specs.declared.states.Pick.{Pick}
+use Rattle.gm_notes.specs.Jobs.{Job, job_state, job, is_job_with, is_queued, same_priority, as_they_came, queue}
+use Rattle.gm_notes.specs.Jobs.{waiting_for, is_empty, pick, is_of, is_able, scan}
 use Rattle.gm_notes.specs.JobStates.{is_waiting}
 use Rattle.gm_notes.specs.JobStates as states
-use Rattle.gm_laws.proofs.Moving.{moved, from, In}
+use Rattle.gm_laws.proofs.Moving.{moved, from, In, both_not}
+use Rattle.gm_laws.proofs.Highest.{from_by, with_by, none_by, picks_from, picks_highest, none_highest}
 use Rattle.gm_notes.specs.Settings.{Settings}
 use Rattle.gm_notes.proofs.Scans.{scan_members}
 use Rattle.std.proofs.lemmas.Bool.{false_from_ne_true}
@@ -96,27 +96,24 @@ is_queued_here n l what waits is =
     (ap (is_job_with what.function what.priority) is
     ∙ and_from (bytes_eq what.function what.function) (same_priority what.priority what.priority) ((bytes_eq-Decides what.function what.function).1 refl) (priority_same what.priority))
 
+-- in the queue of a job that waits, something waits
+pub queue_waits : (n : ℕ) (l : List Note) (what : Job) → job_state n l ≡ states.Waiting → job n l ≡ Some what → is_empty (queue what.function what.priority l) ≡ false
+queue_waits n l what waits is = some_left (is_queued what.function what.priority l) n (as_they_came l) (waits_came n l waits) (is_queued_here n l what waits is)
+
 -- for the function of a job that waits, something waits
 pub something_waits : (n : ℕ) (l : List Note) (what : Job) → job_state n l ≡ states.Waiting → job n l ≡ Some what → is_empty (waiting_for what.function l) ≡ false
 something_waits n l what waits is =
-    by_priority what.priority what.function l (some_left (is_queued what.function what.priority l) n (as_they_came l) (waits_came n l waits) (is_queued_here n l what waits is))
+    by_priority what.priority what.function l (queue_waits n l what waits is)
 
-none_first : (ns : List ℕ) (timeout : ℕ) (rest : Option Pick) → first_of ns timeout rest ≡ None → (is_empty ns ≡ true) × (rest ≡ None)
-none_first [] timeout rest e = (refl, e)
-none_first (n ∷ ns) timeout rest e = absurd cc
-
-none_for : (f : List ℕ) (ability : Ability) (rest : List Ability) (l : List Note) (t : Bool) → is_of f ability ≡ t → is_empty (waiting_for ability.function l) ≡ true → (list_any (is_of f) rest ≡ true → is_empty (waiting_for f l) ≡ true) → (t || list_any (is_of f) rest) ≡ true → is_empty (waiting_for f l) ≡ true
-none_for f ability rest l true is none more e = subst (λ g. is_empty (waiting_for g l) ≡ true) ((bytes_eq-Decides ability.function f).0 is) none
-none_for f ability rest l false is none more e = more e
-
--- where there is no pick, nothing waits for a function that can be done
-no_pick_from : (abilities : List Ability) (l : List Note) (f : List ℕ) → pick_from abilities l ≡ None → list_any (is_of f) abilities ≡ true → is_empty (waiting_for f l) ≡ true
-no_pick_from [] l f none e = absurd cc
-no_pick_from (ability ∷ abilities) l f none e =
-    let parts = none_first (waiting_for ability.function l) ability.timeout (pick_from abilities l) none in
-    none_for f ability abilities l (is_of f ability) refl parts.0 (no_pick_from abilities l f parts.1) e
-
+-- where there is no pick, nothing waits that can be done
 pub no_pick : (k : Settings) (c n : ℕ) (l : List Note) (what : Job) → pick k c l ≡ None → job_state n l ≡ states.Waiting → job n l ≡ Some what → is_able c what.function l ≡ false
-no_pick k c n l what none waits is =
-    false_from_ne_true (is_able c what.function l)
-    (λ able. let bad : true ≡ false = sym (no_pick_from (scan k c l) l what.function none (scan_members k c l (is_of what.function) ∙ able)) ∙ something_waits n l what waits is in let worse : ⊥ = cc in worse)
+no_pick k c n l what none waits is = false_from_ne_true (is_able c what.function l) (λ able. by k.as_gearmand refl (scan_members k c l (is_of what.function) ∙ able))
+  where
+    by : (t : Bool) → k.as_gearmand ≡ t → list_any (is_of what.function) (scan k c l) ≡ true → ⊥
+    by true set able =
+        let none_with = none_highest (scan k c l) l (sym (picks_highest k c l set) ∙ none) what.priority in
+        both_not (is_empty (queue what.function what.priority l))
+        (none_by (λ f. queue f what.priority l) (scan k c l) what.function (sym (with_by what.priority (scan k c l) l) ∙ none_with) able) (queue_waits n l what waits is)
+    by false plain able =
+        both_not (is_empty (waiting_for what.function l))
+        (none_by (λ f. waiting_for f l) (scan k c l) what.function (sym (from_by (scan k c l) l) ∙ (sym (picks_from k c l plain) ∙ none)) able) (something_waits n l what waits is)

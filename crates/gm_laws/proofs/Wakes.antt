@@ -7,7 +7,7 @@ use Rattle.std.specs.Str.{bytes_eq}
 use Rattle.std.proofs.lemmas.Bool.{and_parts, or_left, or_right}
 use Rattle.std.proofs.lemmas.Slice.Eq.{bytes_eq-Decides}
 use Rattle.gm_packet.specs.declared.kind.Kind.{Kind}
-use Rattle.gm_packet.specs.declared.kind.Kind.TheVariants.{GrabJob, GrabJobUniq, WorkComplete, WorkFail}
+use Rattle.gm_packet.specs.declared.kind.Kind.TheVariants.{GrabJob, GrabJobUniq, WorkComplete, WorkFail, WorkException}
 use Rattle.gm_notes.specs.declared.states.Phase.{Phase}
 use Rattle.gm_notes.specs.declared.states.Phase.TheVariants.{Awake, Asleep, Owed}
 use Rattle.gm_notes.specs.declared.note.Note.{Note}
@@ -106,10 +106,11 @@ grab_apart GrabJob e = refl
 grab_apart GrabJobUniq e = refl
 grab_apart kind e = absurd cc
 
-end_apart : (kind : Kind) → is_ending kind ≡ true → is_stirring kind ≡ false
-end_apart WorkComplete e = refl
-end_apart WorkFail e = refl
-end_apart kind e = absurd cc
+end_apart : (k : Settings) (kind : Kind) → is_ending k kind ≡ true → is_stirring kind ≡ false
+end_apart k WorkComplete e = refl
+end_apart k WorkFail e = refl
+end_apart k WorkException e = refl
+end_apart k kind e = absurd cc
 
 module _ (k : Settings) (s : Step) (start : Past) (history : History k start.notes) (c : ℕ) where
   -- who is owed a NOOP was, or the step may wake and there is work
@@ -139,7 +140,7 @@ module _ (k : Settings) (s : Step) (start : Past) (history : History k start.not
   ends_apart n e = by s e
     where
       by : (s : Step) → Ends k start.notes s n → is_request is_stirring s ≡ false
-      by (Packet d number bytes) e = apart_requests is_ending is_stirring end_apart (Packet d number bytes) e.0
+      by (Packet d number bytes) e = apart_requests (is_ending k) is_stirring (end_apart k) (Packet d number bytes) e.0
       by other e = refl
 
   woken_more : is_close s ≡ false → (note : Note) (older : List Note) → Allowed k note older → Caused k start.notes s note older → History k older → WokenSo older → WokenSo (note ∷ older)

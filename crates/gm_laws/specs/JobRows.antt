@@ -4,7 +4,7 @@ use Rattle.std.specs.Prelude.{true, false, [], ◌∷◌, ◌++◌, replicate, c
 use Rattle.gm_notes.specs.Steps.{Close}
 use Rattle.gm_packet.specs.Answers.{job_assign_uniq}
 use Rattle.gm_notes.specs.declared.states.Place.TheVariants as places
-use Rattle.gm_laws.specs.RowWords.{settings, defaults, from_the_last, one_function, four_slots, connect, says, sends, can_do}
+use Rattle.gm_laws.specs.RowWords.{settings, defaults, for_gearmand, from_the_last, one_function, four_slots, connect, says, sends, can_do}
 use Rattle.gm_laws.specs.RowWords.{cant_do, pre_sleep, submit_job, grab_job, work_status, work_complete, work_fail, get_status}
 use Rattle.gm_laws.specs.RowWords.{submit_job_bg, submit_job_high, can_do_timeout, all_yours, work_exception, option_req}
 use Rattle.gm_laws.specs.RowWords.{work_data, work_warning, grab_job_uniq, submit_job_high_bg, submit_job_low}
@@ -149,6 +149,16 @@ ExceptionsOption =
     option_set 0 "exceptions" ∷ error 0 "unknown_option" "unknown option" ∷ created 0 "H:gmd:1"
     ∷ created 2 "H:gmd:1" ∷ assigned 1 "H:gmd:1" "f" "1" ∷ raised 0 "H:gmd:1" "boom" ∷ failed 0 "H:gmd:1"
     ∷ failed 2 "H:gmd:1" ∷ [])
+
+-- with `--as-gearmand` an exception ends its job: the listeners with that option get it, and the others WORK_FAIL
+abbrev pub ExceptionEnds : Type 0
+ExceptionEnds =
+    Plays for_gearmand (
+    connect ∷ connect ∷ connect ∷ option_req 0 "exceptions" ∷ submit_job 0 "f" "x" "1" ∷ submit_job 2 "f" "x" "2" ∷ can_do 1 "f"
+    ∷ grab_job 1 ∷ work_exception 1 "H:gmd:1" "boom" ∷ work_fail 1 "H:gmd:1" ∷ get_status 0 "H:gmd:1" ∷ []) (
+    option_set 0 "exceptions" ∷ created 0 "H:gmd:1" ∷ created 2 "H:gmd:1" ∷ assigned 1 "H:gmd:1" "f" "1"
+    ∷ raised 0 "H:gmd:1" "boom" ∷ failed 2 "H:gmd:1" ∷ error 1 "job_not_found" "job not found"
+    ∷ status 0 "H:gmd:1" false false "0" "0" ∷ [])
 
 -- A body may hold NUL
 abbrev pub DataWithNul : Type 0

@@ -66,8 +66,8 @@ abbrev pub DiscardsTheUnwanted : Settings → Past → Step → Past → Type 0
 DiscardsTheUnwanted k before s after = (n : ℕ) → job_state n after.notes ≡ states.Discarded →
     (job_state n before.notes ≡ states.Discarded) ⊎ ((is_close s ≡ true) × (is_wanted n after.notes ≡ false))
 
--- a job ends only with WORK_COMPLETE or WORK_FAIL with its handle, of the slot where it runs, or in a tick that reaches its
--- deadline
+-- a job ends only with WORK_COMPLETE or WORK_FAIL with its handle, of the slot where it runs, and with as_gearmand with WORK_EXCEPTION as
+-- well, or in a tick that reaches its deadline
 abbrev pub EndsWithItsWorker : Settings → Past → Step → Past → Type 0
 EndsWithItsWorker k before s after = (n : ℕ) → job_state n after.notes ≡ states.Ended → (job_state n before.notes ≡ states.Ended) ⊎ Ends k before.notes s n
 

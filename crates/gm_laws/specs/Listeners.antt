@@ -1,25 +1,24 @@
 -- What a job's listeners get.
 use Rattle.std.specs.Prelude.{◌≡◌, ℕ, ◌<◌, true, not, ◌==◌, ◌⊎◌, if◌then◌else◌, List, [], ◌∷◌, ◌++◌, length, filter, replicate}
-use Rattle.std.specs.Prelude.{Some, Ok}
+use Rattle.std.specs.Prelude.{Option, Some, None, Ok}
 use Rattle.std.specs.List.{concat, list_all}
 use Rattle.std.specs.Str.{bytes_eq}
-use Rattle.gm_packet.specs.declared.kind.Kind.{Kind}
 use Rattle.gm_packet.specs.declared.kind.Kind.TheVariants.{WorkException}
 use Rattle.gm_packet.specs.Requests.{Asked, request_of}
-use Rattle.gm_packet.specs.Answers.{Answer, answer_packet, work_fail}
-use Rattle.gm_packet.specs.Answers.{job_created}
+use Rattle.gm_packet.specs.Answers.{Answer, answer_packet, work_fail, work_exception, job_created}
 use Rattle.gm_notes.specs.declared.note.Note.{Note}
 use Rattle.gm_notes.specs.Settings.{Settings}
-use Rattle.gm_notes.specs.Notes.{takes_units, has_option}
+use Rattle.gm_notes.specs.Notes.{takes_units}
 use Rattle.gm_notes.specs.Flow.{Flow, Began, Queued, Drained, Emptied, sent}
 use Rattle.gm_notes.specs.Jobs.{job_state, handle}
 use Rattle.gm_notes.specs.JobStates.{is_running, is_live}
 use Rattle.gm_notes.specs.JobStates as states
 use Rattle.gm_notes.specs.Past.{Past}
-use Rattle.gm_notes.specs.Requests.{first}
+use Rattle.gm_notes.specs.Workers.{wants_exceptions}
+use Rattle.gm_notes.specs.Requests.{first, second}
 use Rattle.gm_notes.specs.Steps.{Step, Packet, Tick, run}
 use Rattle.gm_history.specs.Hearing.{listens, passed_on, MayGet}
-use Rattle.gm_history.specs.Causes.{asks, is_foreground, is_ending, closes, IsOfEnd}
+use Rattle.gm_history.specs.Causes.{PacketAsks, asks, is_foreground, is_ending, closes, IsOfEnd}
 use Rattle.gm_laws.specs.Laws.{was_made}
 use Rattle.gm_laws.specs.Turns.{One}
 
@@ -47,18 +46,32 @@ copies bytes queued = length (filter (bytes_eq bytes) queued)
 
 -- ---- what is told
 
--- how often slot c gets it: as often as it listens, but of a WORK_EXCEPTION only with the exceptions option
-abbrev pub times_heard : ℕ → ℕ → Kind → List Note → ℕ
-times_heard c n WorkException notes = if has_option c notes then listens c n notes else 0
-times_heard c n kind notes = listens c n notes
+-- what a slot gets that listens this often, if there is something for it
+abbrev pub heard : Option Answer → ℕ → List (List ℕ)
+heard None times = []
+heard (Some answer) times = replicate times (answer_packet answer)
 
--- Reports by the slot where a job runs are passed on to each slot as often as that is to get it, and nothing else is queued.
+-- A report by the slot where a job runs is passed on to each slot, as what that is to get of it, as often as it listens, and nothing else
+-- is queued. A report is a request of which there is something for those that get exceptions.
 abbrev pub WhatWorkersSayIsPassedOn : Type 0
-WhatWorkersSayIsPassedOn = (k : Settings) (steps : List Step) (worker n number : ℕ) (bytes : List ℕ) (asked : Asked) (answer : Answer) →
+WhatWorkersSayIsPassedOn = (k : Settings) (steps : List Step) (worker n number : ℕ) (bytes : List ℕ) (asked : Asked) (report : Answer) →
     let before = run k steps in
     takes_units worker before.notes ≡ true → job_state n before.notes ≡ states.Running worker →
-    request_of number bytes ≡ Ok asked → first asked.arguments ≡ handle k n → passed_on k n asked.kind asked.arguments ≡ Some answer →
-    (c : ℕ) → Queues c (replicate (times_heard c n asked.kind before.notes) (answer_packet answer)) before (run k (Packet worker number bytes ∷ steps))
+    request_of number bytes ≡ Ok asked → first asked.arguments ≡ handle k n → passed_on k true n asked.kind asked.arguments ≡ Some report →
+    (c : ℕ) →
+    Queues c (heard (passed_on k (wants_exceptions c before.notes) n asked.kind asked.arguments) (listens c n before.notes)) before
+    (run k (Packet worker number bytes ∷ steps))
+
+-- With as_gearmand WORK_EXCEPTION with a job's handle, of the slot where it runs, ends the job. Each slot gets it if it gets exceptions, and
+-- WORK_FAIL if not, as often as it listened to the job before that step, and nothing else is queued.
+abbrev pub ExceptionsEndJobs : Settings → Past → Step → Past → Type 0
+ExceptionsEndJobs k before s after = (worker n : ℕ) (asked : Asked) → k.as_gearmand ≡ true →
+    takes_units worker before.notes ≡ true → job_state n before.notes ≡ states.Running worker →
+    PacketAsks worker s asked → asked.kind ≡ WorkException → first asked.arguments ≡ handle k n →
+    (job_state n after.notes ≡ states.Ended)
+    × ((c : ℕ) →
+    let answer = if wants_exceptions c before.notes then work_exception (handle k n) (second asked.arguments) else work_fail (handle k n) in
+    Queues c (replicate (listens c n before.notes) (answer_packet answer)) before after)
 
 -- ---- which slots may get what
 
@@ -72,26 +85,27 @@ AnswersStayHome k before s after = (newer : List Flow) × (after.flow ≡ newer 
 
 -- ---- ends
 
--- what a step says of the end of job n: what its worker says, or WORK_FAIL in a tick
-abbrev pub TellsEnd : Settings → ℕ → Step → Answer → Type 0
-TellsEnd k n (Packet worker number bytes) answer =
-    (asked : Asked) × (request_of number bytes ≡ Ok asked) × (is_ending asked.kind ≡ true) × (passed_on k n asked.kind asked.arguments ≡ Some answer)
-TellsEnd k n (Tick now) answer = answer ≡ work_fail (handle k n)
-TellsEnd k n other answer = ⊥
+-- what a step after these notes says to slot c of the end of job n: what its worker says, or WORK_FAIL in a tick
+abbrev pub TellsEnd : Settings → List Note → ℕ → ℕ → Step → Answer → Type 0
+TellsEnd k before c n (Packet worker number bytes) answer =
+    (asked : Asked) × (request_of number bytes ≡ Ok asked) × (is_ending k asked.kind ≡ true)
+    × (passed_on k (wants_exceptions c before) n asked.kind asked.arguments ≡ Some answer)
+TellsEnd k before c n (Tick now) answer = answer ≡ work_fail (handle k n)
+TellsEnd k before c n other answer = ⊥
 
 -- In the step that ends a job each slot is told as often as it listened to the job before that step.
 abbrev pub EachListenerIsTold : Settings → Past → Step → Past → Type 0
 EachListenerIsTold k before s after = (n : ℕ) → job_state n after.notes ≡ states.Ended →
     (job_state n before.notes ≡ states.Ended)
-    ⊎ ((answer : Answer) × TellsEnd k n s answer
-    × ((c : ℕ) → (newer : List (List ℕ)) × Queues c newer before after × (copies (answer_packet answer) newer ≡ listens c n before.notes)))
+    ⊎ ((c : ℕ) → (answer : Answer) × TellsEnd k before.notes c n s answer
+    × ((newer : List (List ℕ)) × Queues c newer before after × (copies (answer_packet answer) newer ≡ listens c n before.notes)))
 
--- WORK_COMPLETE and WORK_FAIL are queued to a slot only as what tells of the end of a job, in the step that ends it, and only where the
--- slot listens to it.
+-- WORK_COMPLETE and WORK_FAIL, and with as_gearmand WORK_EXCEPTION, are queued to a slot only as what tells of the end of a job, in the step
+-- that ends it, and only where the slot listens to it.
 abbrev pub OnlyEndsAreTold : Settings → Past → Step → Past → Type 0
 OnlyEndsAreTold k before s after = (c : ℕ) (newer : List (List ℕ)) (answer : Answer) →
-    Queues c newer before after → IsOfEnd answer → 0 < copies (answer_packet answer) newer →
-    (n : ℕ) × (told : Answer) × (answer_packet answer ≡ answer_packet told) × TellsEnd k n s told
+    Queues c newer before after → IsOfEnd k answer → 0 < copies (answer_packet answer) newer →
+    (n : ℕ) × (told : Answer) × (answer_packet answer ≡ answer_packet told) × TellsEnd k before.notes c n s told
     × (is_running (job_state n before.notes) ≡ true) × (job_state n after.notes ≡ states.Ended) × (0 < listens c n before.notes)
 
 -- ---- from the submission to the end
@@ -99,7 +113,7 @@ OnlyEndsAreTold k before s after = (c : ℕ) (newer : List (List ℕ)) (answer :
 -- the step after these earlier ones tells slot c of the end of job n
 abbrev pub Tells : Settings → ℕ → ℕ → List Step → Step → Type 0
 Tells k c n earlier s =
-    (answer : Answer) × TellsEnd k n s answer
+    (answer : Answer) × TellsEnd k (run k earlier).notes c n s answer
     × ((newer : List (List ℕ)) × Queues c newer (run k earlier) (run k (s ∷ earlier)) × (0 < copies (answer_packet answer) newer))
 
 -- A slot that submits a job in the foreground is told its handle. As long as the slot isn't closed, the job waits or runs, or one of

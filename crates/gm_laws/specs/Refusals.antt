@@ -114,23 +114,26 @@ IsToldOf c LineTooLong before after = after.flow ≡ Queued c (error_text errors
 
 -- ---- the law
 
--- the packet types that may answer a request or be passed on for it, but for ERROR
-abbrev pub answers : Kind → ℕ → Bool
-answers GrabJob type = type == 10 || type == 11
-answers GrabJobUniq type = type == 10 || type == 31
-answers GetStatus type = type == 20
-answers EchoReq type = type == 17
-answers OptionReq type = type == 27
-answers kind type = (is_submission kind && type == 8) || (names_run kind && type == number kind)
+-- the packet types that may answer a request or be passed on for it, but for ERROR; with as_gearmand an exception is passed on as WORK_FAIL
+-- to slots that get no exceptions
+abbrev pub answers : Settings → Kind → ℕ → Bool
+answers k GrabJob type = type == 10 || type == 11
+answers k GrabJobUniq type = type == 10 || type == 31
+answers k GetStatus type = type == 20
+answers k EchoReq type = type == 17
+answers k OptionReq type = type == 27
+answers k WorkException type = type == number WorkException || (k.as_gearmand && type == number WorkFail)
+answers k kind type = (is_submission kind && type == 8) || (names_run kind && type == number kind)
 
 -- nothing but such packets is queued
-abbrev pub AllAnswer : Kind → List Flow → Type 0
-AllAnswer kind [] = Unit {0}
-AllAnswer kind (Queued c bytes ∷ newer) = ((answer : Answer) × (bytes ≡ answer_packet answer) × (answers kind answer.kind ≡ true)) × AllAnswer kind newer
-AllAnswer kind (other ∷ newer) = ⊥
+abbrev pub AllAnswer : Settings → Kind → List Flow → Type 0
+AllAnswer k kind [] = Unit {0}
+AllAnswer k kind (Queued c bytes ∷ newer) =
+    ((answer : Answer) × (bytes ≡ answer_packet answer) × (answers k kind answer.kind ≡ true)) × AllAnswer k kind newer
+AllAnswer k kind (other ∷ newer) = ⊥
 
-abbrev pub JustAnswers : Kind → Past → Past → Type 0
-JustAnswers kind before after = (newer : List Flow) × (after.flow ≡ newer ++ before.flow) × AllAnswer kind newer
+abbrev pub JustAnswers : Settings → Kind → Past → Past → Type 0
+JustAnswers k kind before after = (newer : List Flow) × (after.flow ≡ newer ++ before.flow) × AllAnswer k kind newer
 
 -- A packet or a line of a slot that takes units, for whose refusal there is a reason, is refused with its code, and a fault is answered with
 -- what it is. A request for whose refusal there is none gets no ERROR.
@@ -139,4 +142,4 @@ RefusalsHaveTheirReason k before s after = (c : ℕ) → takes_units c before.no
     ((number : ℕ) (bytes code : List ℕ) → s ≡ Packet c number bytes → IsUnserved k c (request_of number bytes) before code → IsError c code before after)
     × ((line : List ℕ) (error : AdminError) → s ≡ Line c line → IsErroneous k (command_of line) before error → IsErr c error before after)
     × ((fault : UnitFault) → s ≡ Fault c fault → IsToldOf c fault before after)
-    × ((asked : Asked) → PacketAsks c s asked → ((code : List ℕ) × HasReason k c asked before code) ⊎ JustAnswers asked.kind before after)
+    × ((asked : Asked) → PacketAsks c s asked → ((code : List ℕ) × HasReason k c asked before code) ⊎ JustAnswers k asked.kind before after)

@@ -21,7 +21,7 @@ use Rattle.gm_notes.specs.Steps.{Step, Open, Packet, Line, refusal, run, done}
 
 abbrev pub settings : ℕ → ℕ → ℕ → Settings
 settings first slots functions =
-    record { name = codes "gmd"; first_job = first; slots = slots; max_functions = functions; round_robin = false; retries = 0 }
+    record { name = codes "gmd"; first_job = first; slots = slots; max_functions = functions; round_robin = false; retries = 0; as_gearmand = false }
 
 abbrev pub defaults : Settings
 defaults = settings 1 64 65536
@@ -29,6 +29,10 @@ defaults = settings 1 64 65536
 -- a worker's functions take turns
 abbrev pub in_turn : Settings
 in_turn = record defaults { round_robin = true }
+
+-- requests mean what gearmand's applications mean by them
+abbrev pub for_gearmand : Settings
+for_gearmand = record defaults { as_gearmand = true }
 
 -- to how many workers a job may be given
 abbrev pub given_to : ℕ → Settings

@@ -35,11 +35,12 @@ One P [] earlier = ⊥
 One P (s ∷ newer) earlier = P (newer ++ earlier) s ⊎ One P newer earlier
 
 -- between two steps that give slot c a job of function f, one of the steps gives it a job of h, another of its functions:
--- if its abilities stay as they are, and a job of h waits each time that it is given a job
+-- if its abilities stay as they are, and a job of h waits each time that it is given a job; with as_gearmand priorities go before
+-- turns
 abbrev pub TurnsAreFair : Type 0
 TurnsAreFair = (k : Settings) (c : ℕ) (f h : List ℕ) (before between : List Step) (first again : Step) →
     let start = first ∷ before in
-    k.round_robin ≡ true →
+    k.round_robin ≡ true → k.as_gearmand ≡ false →
     bytes_eq f h ≡ false → is_able c h (run k start).notes ≡ true →
     Gives k c f before first → Gives k c f (between ++ start) again →
     Each (LeavesAbilities k c) between start →

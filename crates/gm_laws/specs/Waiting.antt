@@ -5,9 +5,11 @@ use Rattle.gm_packet.specs.Kinds.{kind_of}
 use Rattle.gm_packet.specs.Answers.{no_job}
 use Rattle.gm_notes.specs.declared.note.Note.{Note}
 use Rattle.gm_notes.specs.declared.note.Note.TheVariants.{Made, Returned}
+use Rattle.gm_notes.specs.declared.states.Priority.{Priority}
+use Rattle.gm_notes.specs.declared.states.Priority.TheVariants.{High, Normal, Low}
 use Rattle.gm_notes.specs.Settings.{Settings}
 use Rattle.gm_notes.specs.Notes.{takes_units, moment}
-use Rattle.gm_notes.specs.Jobs.{Job, rank, job_state, job, deadline}
+use Rattle.gm_notes.specs.Jobs.{Job, rank, job_state, job, deadline, is_able}
 use Rattle.gm_notes.specs.JobStates as states
 use Rattle.gm_notes.specs.Past.{Past}
 use Rattle.gm_notes.specs.Servers.{owes}
@@ -44,6 +46,20 @@ NothingGetsInBefore before after = (n m : ℕ) →
 
 abbrev pub FirstComeFirstServed : Settings → Past → Step → Past → Type 0
 FirstComeFirstServed k before s after = GivesTheFirst before after × NothingGetsInBefore before after
+
+-- high goes before normal and low, and normal before low
+abbrev pub IsHigher : Priority → Priority → Type 0
+IsHigher High Normal = Unit {0}
+IsHigher High Low = Unit {0}
+IsHigher Normal Low = Unit {0}
+IsHigher p q = ⊥
+
+-- with as_gearmand no job waits that the slot can do and whose priority is higher than that of the job that the slot is given
+abbrev pub HighGoesFirst : Settings → Past → Step → Past → Type 0
+HighGoesFirst k before s after = (c n m : ℕ) (what other : Job) → k.as_gearmand ≡ true →
+    job_state n before.notes ≡ states.Waiting → job_state n after.notes ≡ states.Running c → job n before.notes ≡ Some what →
+    job_state m before.notes ≡ states.Waiting → job m before.notes ≡ Some other → is_able c other.function before.notes ≡ true →
+    IsHigher other.priority what.priority → ⊥
 
 -- ---- which workers are woken
 

@@ -2,8 +2,8 @@
 use Rattle.std.specs.Prelude.{true, false, [], ◌∷◌, ◌++◌}
 use Rattle.gm_notes.specs.Steps.{Close, Tick, Took, Withdrew}
 use Rattle.gm_notes.specs.declared.event.ApplyError.TheVariants.{NotOpen, NotOwed}
-use Rattle.gm_laws.specs.RowWords.{defaults, in_turn, four_slots, connect, says, can_do, cant_do, reset_abilities, pre_sleep}
-use Rattle.gm_laws.specs.RowWords.{submit_job, grab_job, work_complete, get_status, submit_job_bg, submit_job_high}
+use Rattle.gm_laws.specs.RowWords.{defaults, in_turn, for_gearmand, four_slots, connect, says, can_do, cant_do, reset_abilities, pre_sleep}
+use Rattle.gm_laws.specs.RowWords.{submit_job, grab_job, work_complete, get_status, submit_job_bg, submit_job_high, submit_job_low}
 use Rattle.gm_laws.specs.RowWords.{can_do_timeout, grab_job_uniq, line, created, no_job, assigned, assigned_uniq, completed}
 use Rattle.gm_laws.specs.RowWords.{failed, status, error, Plays, Owes, Refuses}
 
@@ -27,6 +27,22 @@ RoundRobin =
     created 0 "H:gmd:1" ∷ created 0 "H:gmd:2" ∷ created 0 "H:gmd:3" ∷ [] in
     Plays in_turn steps (accepted ++ assigned 1 "H:gmd:1" "a" "1" ∷ assigned 1 "H:gmd:3" "b" "3" ∷ assigned 1 "H:gmd:2" "a" "2" ∷ [])
     × Plays defaults steps (accepted ++ assigned 1 "H:gmd:1" "a" "1" ∷ assigned 1 "H:gmd:2" "a" "2" ∷ assigned 1 "H:gmd:3" "b" "3" ∷ [])
+
+-- with `--as-gearmand` high priority goes before normal, and normal before low, whatever the functions are
+abbrev pub PriorityFirst : Type 0
+PriorityFirst =
+    let steps =
+    connect ∷ connect ∷ submit_job_low 0 "f" "a" "1" ∷ submit_job 0 "f" "b" "2" ∷ submit_job_high 0 "g" "c" "3"
+    ∷ submit_job 0 "g" "d" "4" ∷ can_do 1 "f" ∷ can_do 1 "g" ∷ grab_job 1 ∷ grab_job 1 ∷ grab_job 1 ∷ grab_job 1 ∷ grab_job 1
+    ∷ [] in
+    let accepted =
+    created 0 "H:gmd:1" ∷ created 0 "H:gmd:2" ∷ created 0 "H:gmd:3" ∷ created 0 "H:gmd:4" ∷ [] in
+    Plays for_gearmand steps (
+    accepted ++ assigned 1 "H:gmd:3" "g" "3" ∷ assigned 1 "H:gmd:2" "f" "2" ∷ assigned 1 "H:gmd:4" "g" "4"
+    ∷ assigned 1 "H:gmd:1" "f" "1" ∷ no_job 1 ∷ [])
+    × Plays defaults steps (
+    accepted ++ assigned 1 "H:gmd:2" "f" "2" ∷ assigned 1 "H:gmd:1" "f" "1" ∷ assigned 1 "H:gmd:3" "g" "3"
+    ∷ assigned 1 "H:gmd:4" "g" "4" ∷ no_job 1 ∷ [])
 
 -- a new connection begins with its first function, whatever its slot did before
 abbrev pub RoundRobinAnew : Type 0

@@ -6,13 +6,13 @@ ghost use Rattle.gm_laws.specs.Abilities.{AbilitiesAreAsAsked};
 ghost use Rattle.gm_laws.specs.Laws.{AreConsecutive, AreSlots, HavePlaces, AreOne, StayGone, AllIsSent};
 ghost use Rattle.gm_laws.specs.Laws.{DiscardsTheUnwanted, EndsWithItsWorker, WorkersAndClocksEndJobs, GivesThePick};
 ghost use Rattle.gm_laws.specs.Laws.{GrabsGetThePick, SaysNoJobWhereNoneIs, OnlyDrainsTake, ModesNeverGoBack, MayBeTakenLater};
-ghost use Rattle.gm_laws.specs.Listeners.{OutputsAreSent, WhatWorkersSayIsPassedOn, EachListenerIsTold, OnlyEndsAreTold};
+ghost use Rattle.gm_laws.specs.Listeners.{OutputsAreSent, WhatWorkersSayIsPassedOn, ExceptionsEndJobs, EachListenerIsTold, OnlyEndsAreTold};
 ghost use Rattle.gm_laws.specs.Listeners.{NobodyIsToldTwice, WhoStaysIsTold, AnswersStayHome};
 ghost use Rattle.gm_laws.specs.Limits.{LimitsHold};
 ghost use Rattle.gm_laws.specs.Statuses.{StatusIsTrue};
 ghost use Rattle.gm_laws.specs.Submitted.{SubmissionsAreAnswered, WhatIsSubmittedIsWorkedOn};
 ghost use Rattle.gm_laws.specs.Turns.{TurnsAreFair};
-ghost use Rattle.gm_laws.specs.Waiting.{FirstComeFirstServed, WakesHaveWork, NoJobMeansNoWork};
+ghost use Rattle.gm_laws.specs.Waiting.{FirstComeFirstServed, HighGoesFirst, WakesHaveWork, NoJobMeansNoWork};
 ghost use Rattle.gm_laws.specs.Retries.{NoJobIsHandedOutMoreOften, NoJobIsLostTwice, NoneIsLostWithoutALimit};
 ghost use Rattle.gm_laws.specs.Retries.{OnlyTheLastTryLoses, LostJobsEndWithTheNextTick};
 ghost use Rattle.gm_laws.specs.Between.{ListenersAreOpen, RunnersAreOpen, NoWaitingJobIsOrphaned, NoOneSleepsBesideWork};
@@ -86,26 +86,29 @@ pub fn discards_the_unwanted()
 {}
 
 /// A job ends only with WORK_COMPLETE or WORK_FAIL with its handle, of the slot where it runs, or in a tick that
-/// reaches its deadline. Any tick reaches that of a lost job.
+/// reaches its deadline. Any tick reaches that of a lost job. With `as_gearmand` WORK_EXCEPTION with its handle, of the
+/// slot where it runs, ends it as well.
 pub fn ends_with_its_worker()
     ensures { InEachStep EndsWithItsWorker }
 {}
 
 /// WORK_COMPLETE and WORK_FAIL with a job's handle, of the slot where it runs, end the job, unless the slot is shut; so does a tick that
-/// reaches its deadline. While a job runs at a slot, its deadline stays as it is.
+/// reaches its deadline. With `as_gearmand` such a WORK_EXCEPTION ends the job as well. While a job runs at a slot, its deadline stays as it
+/// is.
 pub fn workers_and_clocks_end_jobs()
     ensures { InEachStep WorkersAndClocksEndJobs }
 {}
 
 /// In the step that ends a job, each slot gets its end exactly as often as it listened to the job before that step: the
 /// WORK_COMPLETE or WORK_FAIL of its worker, with the job's handle, or WORK_FAIL where a tick ends it, since its deadline is
-/// reached or its last worker disconnected.
+/// reached or its last worker disconnected. With `as_gearmand` the job can end with its worker's WORK_EXCEPTION as well: its
+/// end is then the WORK_EXCEPTION for a slot that gets exceptions, and WORK_FAIL for any other.
 pub fn each_listener_is_told()
     ensures { InEachStep EachListenerIsTold }
 {}
 
 /// WORK_COMPLETE and WORK_FAIL are queued to a slot only as what tells of a job's end, in the step that ends the job, and only
-/// where the slot listens to it.
+/// where the slot listens to it. With `as_gearmand` this holds of WORK_EXCEPTION as well.
 pub fn only_ends_are_told()
     ensures { InEachStep OnlyEndsAreTold }
 {}
@@ -122,13 +125,22 @@ pub fn who_stays_is_told()
 {}
 
 /// A worker's report on the job that it runs is passed on, with the job's handle, exactly as often to each slot as that
-/// listens to the job, and nothing else is queued. WORK_EXCEPTION goes only to slots with the exceptions option.
+/// listens to the job, and nothing else is queued. WORK_EXCEPTION goes only to slots with the exceptions option. With
+/// `as_gearmand` the others get WORK_FAIL instead, as often as they listen.
 pub fn what_workers_say_is_passed_on()
     ensures { WhatWorkersSayIsPassedOn }
 {}
 
+/// With `as_gearmand`, WORK_EXCEPTION with a job's handle, of the slot where it runs, ends the job, unless the slot is shut. Each slot gets
+/// WORK_EXCEPTION if it has the exceptions option, and WORK_FAIL otherwise, exactly as often as it listened to the job before that step, and
+/// nothing else is queued.
+pub fn exceptions_end_jobs()
+    ensures { InEachStep ExceptionsEndJobs }
+{}
+
 /// What a slot asks is answered to it alone. Others get only what the worker of a job reports of it, if they listen to the job, and
-/// WORK_FAIL in the tick that ends a job to which they listen. Openings, closings, takings, withdrawals and drains queue nothing.
+/// WORK_FAIL in the tick that ends a job to which they listen. With `as_gearmand` a listener without the exceptions option gets WORK_FAIL
+/// where the worker reports WORK_EXCEPTION. Openings, closings, takings, withdrawals and drains queue nothing.
 pub fn answers_stay_home()
     ensures { InEachStep AnswersStayHome }
 {}
@@ -142,6 +154,12 @@ pub fn gives_the_pick()
 /// wait earlier. While a job waits, no other gets in before it.
 pub fn first_come_first_served()
     ensures { InEachStep FirstComeFirstServed }
+{}
+
+/// With `as_gearmand` a job of high priority goes before all of normal priority, and those go before all of low priority, whatever their
+/// functions are: when a slot is given a job, no job of a higher priority waits that the slot can do.
+pub fn high_goes_first()
+    ensures { InEachStep HighGoesFirst }
 {}
 
 /// A grab of a slot that takes units gets its pick: the job runs there.
@@ -165,7 +183,8 @@ pub fn no_job_means_no_work()
 /// With round-robin on, the functions of a worker take turns: between two grabs that give it jobs of one function it
 /// is given a job of each other of its functions, if one waits each time that it is given a job, and if its
 /// abilities stay as they are. Where jobs of both wait all the time, it is given just one of the other in between:
-/// two would have one of the first between them, by the same law.
+/// two would have one of the first between them, by the same law. With `as_gearmand` this need not be so, since a job of
+/// a higher priority goes before the turn of a function.
 pub fn turns_are_fair()
     ensures { TurnsAreFair }
 {}
@@ -282,8 +301,8 @@ pub fn shutdown_is_answered()
     ensures { InEachStep ShutdownIsAnswered }
 {}
 
-/// Without round-robin the job that a slot is given is of the first of its functions for which a job waits. Its functions keep their order:
-/// one that it could not do before comes last.
+/// Without round-robin the job that a slot is given is of the first of its functions for which a job waits. With `as_gearmand` it is of the
+/// first for which a job of its own priority waits. The functions of a slot keep their order: one that it could not do before comes last.
 pub fn first_ability_wins()
     ensures { InEachStep FirstAbilityWins }
 {}
@@ -297,8 +316,8 @@ pub fn closing_closes()
 
 /// A request or a text line of a slot that takes units is refused, with the code of the first reason that there is, and nothing happens; a
 /// fault is answered with what it is. A request for whose refusal there is no reason gets no ERROR, and nobody gets any packet but those of
-/// its kind. `Refusals` has the reasons: a bad name, one function too many, a full queue, no number left, no such job, another option than
-/// `exceptions`, and data or words that say nothing.
+/// its kind. With `as_gearmand` WORK_FAIL may be passed on for WORK_EXCEPTION as well. `Refusals` has the reasons: a bad name, one function
+/// too many, a full queue, no number left, no such job, another option than `exceptions`, and data or words that say nothing.
 pub fn refusals_have_their_reason()
     ensures { InEachStep RefusalsHaveTheirReason }
 {}

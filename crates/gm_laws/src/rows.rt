@@ -1,11 +1,11 @@
 //! Worked rows: what the definitions give for whole runs of steps. Each clause here is a row, of what is queued, refused,
 //! answered or owed; the functions do nothing. They test the definitions.
 
-ghost use Rattle.gm_laws.specs.JobRows.{ExceptionsOption, DataWithNul, QueueLimit, LimitCounts, FunctionLimit, LastNumber};
+ghost use Rattle.gm_laws.specs.JobRows.{ExceptionsOption, ExceptionEnds, DataWithNul, QueueLimit, LimitCounts, FunctionLimit, LastNumber};
 ghost use Rattle.gm_laws.specs.JobRows.{JoiningKeys, JoinsRunning, EndedJobs, OnlyItsWorker, Progress, ReportKept};
 ghost use Rattle.gm_laws.specs.JobRows.{Priorities, SixPriorities, SixKeepings, SixHearings, JoinedListeners, JoinedJob};
 ghost use Rattle.gm_laws.specs.JobRows.{RefusalOrder, FunctionNames, Handles, Places};
-ghost use Rattle.gm_laws.specs.WorkerRows.{AbilityOrder, RoundRobin, RoundRobinAnew, OnlyItsFunctions, QueueOrder, OneWake};
+ghost use Rattle.gm_laws.specs.WorkerRows.{AbilityOrder, PriorityFirst, RoundRobin, RoundRobinAnew, OnlyItsFunctions, QueueOrder, OneWake};
 ghost use Rattle.gm_laws.specs.WorkerRows.{GrabStirs, StaleNoop, StillOwed, WithdrawnNoop, TakenNoop, Deadline, NoDeadline};
 ghost use Rattle.gm_laws.specs.WorkerRows.{OneWakeThen, AllWake, OnlyAbleWake, WorkBeforeSleep, WorkBeforeAbility};
 ghost use Rattle.gm_laws.specs.WorkerRows.{OnlyItsWork, WorkBeforeGrab};
@@ -47,6 +47,8 @@ pub fn jobs()
     ensures report_kept { ReportKept }
     // Exceptions go to the listeners with that option, and end no job.
     ensures exceptions_option { ExceptionsOption }
+    // With `--as-gearmand` an exception ends its job: the listeners with that option get it, and the others WORK_FAIL.
+    ensures exception_ends { ExceptionEnds }
     // A body may hold NUL.
     ensures data_with_nul { DataWithNul }
     // `maxqueue` refuses new jobs and lets submissions join.
@@ -73,6 +75,8 @@ pub fn workers()
     ensures ability_order { AbilityOrder }
     // With `--round-robin` a worker's functions take turns.
     ensures round_robin { RoundRobin }
+    // With `--as-gearmand` high priority goes before normal, and normal before low, whatever the functions are.
+    ensures priority_first { PriorityFirst }
     // A new connection begins with its first function, whatever its slot did before.
     ensures round_robin_anew { RoundRobinAnew }
     // A grab gets only jobs of functions that the worker can do now.

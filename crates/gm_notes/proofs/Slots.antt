@@ -1,6 +1,6 @@
 -- No packet opens, closes or shuts a slot.
 use Rattle.std.proofs.Common.{◌≡◌, ℕ, Bool, true, false, List, [], ◌∷◌, Option, Some, None, refl, ◌∙◌}
-use Rattle.std.specs.Prelude.{not, ◌&&◌, ◌==◌, if◌then◌else◌}
+use Rattle.std.specs.Prelude.{not, ◌&&◌, ◌==◌, filter, if◌then◌else◌}
 use Rattle.std.specs.Str.{bytes_eq}
 use Rattle.std.proofs.Common.{codes}
 use Rattle.gm_packet.specs.declared.kind.Kind.{Kind}
@@ -16,13 +16,13 @@ use Rattle.gm_notes.specs.declared.note.Note.{Note}
 use Rattle.gm_notes.specs.Settings.{Settings}
 use Rattle.gm_notes.specs.Notes.{is_open, is_shut, phase, is_asleep, is_awake, slots_from}
 use Rattle.gm_notes.specs.Jobs.{Job, job, job_state, is_wanted, is_last_try, is_mentioned, is_able, listeners, joined, job_of_handle}
-use Rattle.gm_notes.specs.Jobs.{next_number, pick, waiting_for, is_empty}
+use Rattle.gm_notes.specs.Jobs.{next_number, pick, waiting_for, is_empty, handle}
 use Rattle.gm_notes.specs.declared.states.Pick.{Pick}
 use Rattle.gm_notes.specs.JobStates.{is_live, is_waiting, is_running_at}
 use Rattle.gm_notes.specs.Past.{Past, with_note, give, with_mention, tell_all, wake_one, wake_each}
 use Rattle.gm_notes.specs.Submissions.{Submission, is_bad_name, is_one_too_many, is_full, keep_or_listen, make, join_or_make, submit}
 use Rattle.gm_notes.specs.Workers.{Work, wake_if, add_ability, can_do, cant_do, sleep_beside, pre_sleep, wake_itself}
-use Rattle.gm_notes.specs.Workers.{tell_assigned, give_out, grab, keep_report, end_if, hearers, tell_work, work_on, work}
+use Rattle.gm_notes.specs.Workers.{tell_assigned, give_out, grab, keep_report, end_if, hearers, wants_exceptions, tell_others, tell_work, work_on, work}
 use Rattle.gm_notes.specs.declared.note.Note.TheVariants.{Returned, Lost}
 use Rattle.gm_notes.specs.Closings.{discard_one, discard_each, wake_for, return_or_lose, give_back_one, give_back_each, disconnect, rising, close}
 use Rattle.gm_notes.specs.Requests.{first, second, third, submission, passing, ending, tell_status, set_option, request}
@@ -137,19 +137,26 @@ ended_stays : (t : Bool) (n : ℕ) (past : Past) → Stays past.notes (end_if t 
 ended_stays true n past = record { opens = λ d. refl; shuts = λ d. refl }
 ended_stays false n past = stays_here past.notes
 
-work_told : (w : Work) (n : ℕ) (past : Past) → Stays past.notes (tell_work w n past).notes
-work_told w n past =
-    let kept = keep_report n w.report past in
-    let told = tell_all w.answer (hearers w.exceptions_only (listeners n past.notes) past.notes) kept in
-    stays_then past.notes kept.notes _ (report_stays n w.report past)
-    (stays_then kept.notes told.notes _ (tell_stays w.answer (hearers w.exceptions_only (listeners n past.notes) past.notes) kept) (ended_stays w.ends n told))
+others_stay : (t : Bool) (answer : Answer) (slots : List ℕ) (notes : List Note) (past : Past) → Stays past.notes (tell_others t answer slots notes past).notes
+others_stay true answer slots notes past = tell_stays answer (filter (λ c. not (wants_exceptions c notes)) slots) past
+others_stay false answer slots notes past = stays_here past.notes
 
-work_on_stays : (c : ℕ) (w : Work) (found : Option ℕ) (past : Past) → Stays past.notes (work_on c w found past).notes
-work_on_stays c w None past = stays_here past.notes
-work_on_stays c w (Some n) past = either (is_running_at c (job_state n past.notes)) past.notes _ _ (work_told w n past) (stays_here past.notes)
+work_told : (k : Settings) (w : Work) (n : ℕ) (past : Past) → Stays past.notes (tell_work k w n past).notes
+work_told k w n past =
+    let slots = listeners n past.notes in
+    let kept = keep_report n w.report past in
+    let told = tell_all w.answer (hearers w.exceptions_only slots past.notes) kept in
+    let others = tell_others (w.exceptions_only && w.ends) (work_fail (handle k n)) slots past.notes told in
+    stays_then past.notes kept.notes _ (report_stays n w.report past)
+    (stays_then kept.notes told.notes _ (tell_stays w.answer (hearers w.exceptions_only slots past.notes) kept)
+    (stays_then told.notes others.notes _ (others_stay (w.exceptions_only && w.ends) (work_fail (handle k n)) slots past.notes told) (ended_stays w.ends n others)))
+
+work_on_stays : (k : Settings) (c : ℕ) (w : Work) (found : Option ℕ) (past : Past) → Stays past.notes (work_on k c w found past).notes
+work_on_stays k c w None past = stays_here past.notes
+work_on_stays k c w (Some n) past = either (is_running_at c (job_state n past.notes)) past.notes _ _ (work_told k w n past) (stays_here past.notes)
 
 work_stays : (k : Settings) (c : ℕ) (text : List ℕ) (w : Work) (past : Past) → Stays past.notes (work k c text w past).notes
-work_stays k c text w past = work_on_stays c w (job_of_handle k text past.notes) past
+work_stays k c text w past = work_on_stays k c w (job_of_handle k text past.notes) past
 
 status_stays : (k : Settings) (c : ℕ) (text : List ℕ) (found : Option ℕ) (past : Past) → Stays past.notes (tell_status k c text found past).notes
 status_stays k c text None past = stays_here past.notes
@@ -177,7 +184,7 @@ request_stays k c WorkStatus a timeout past =
     work_stays k c (first a) (record (passing (work_status (first a) (second a) (third a))) { report = Some (second a, third a) }) past
 request_stays k c WorkData a timeout past = work_stays k c (first a) (passing (work_data (first a) (second a))) past
 request_stays k c WorkWarning a timeout past = work_stays k c (first a) (passing (work_warning (first a) (second a))) past
-request_stays k c WorkException a timeout past = work_stays k c (first a) (record (passing (work_exception (first a) (second a))) { exceptions_only = true }) past
+request_stays k c WorkException a timeout past = work_stays k c (first a) (record (passing (work_exception (first a) (second a))) { exceptions_only = true; ends = k.as_gearmand }) past
 request_stays k c WorkComplete a timeout past = work_stays k c (first a) (ending (work_complete (first a) (second a))) past
 request_stays k c WorkFail a timeout past = work_stays k c (first a) (ending (work_fail (first a))) past
 request_stays k c GetStatus a timeout past = status_stays k c (first a) (job_of_handle k (first a) past.notes) past

@@ -2,7 +2,7 @@
 use Rattle.std.specs.Prelude.{ℕ, suc, ◌+◌, ◌^◌, Bool, true, false, not, ◌&&◌, ◌||◌, ◌==◌, nat_lt, nat_le, if◌then◌else◌, List, [], ◌∷◌}
 use Rattle.std.specs.Prelude.{◌++◌, length, filter, find, codes, decimal, Option, Some, None}
 use Rattle.std.specs.List.{list_any}
-use Rattle.std.specs.Option.{option_map}
+use Rattle.std.specs.Option.{option_map, option_or}
 use Rattle.std.specs.Str.{bytes_eq}
 use Rattle.gm_notes.specs.declared.states.Priority.{Priority}
 use Rattle.gm_notes.specs.declared.states.Priority.TheVariants.{High, Normal, Low}
@@ -206,6 +206,16 @@ abbrev pub pick_from : List Ability → List Note → Option Pick
 pick_from [] notes = None
 pick_from (ability ∷ abilities) notes = first_of (waiting_for ability.function notes) ability.timeout (pick_from abilities notes)
 
+-- the first job of this priority
+abbrev pub pick_with : Priority → List Ability → List Note → Option Pick
+pick_with p [] notes = None
+pick_with p (ability ∷ abilities) notes = first_of (queue ability.function p notes) ability.timeout (pick_with p abilities notes)
+
+-- the first of the highest priority of which a job waits
+abbrev pub pick_highest : List Ability → List Note → Option Pick
+pick_highest abilities notes =
+    option_or (pick_with High abilities notes) (option_or (pick_with Normal abilities notes) (pick_with Low abilities notes))
+
 -- the function of the job that slot c was given last, since it was opened
 abbrev pub last_function : ℕ → List Note → Option (List ℕ)
 last_function c [] = None
@@ -232,9 +242,10 @@ rotated (Some f) abilities = behind f abilities ++ up_to f abilities
 abbrev pub scan : Settings → ℕ → List Note → List Ability
 scan k c notes = if k.round_robin then rotated (last_function c notes) (abilities c notes) else abilities c notes
 
--- the job that a grab of slot c gets
+-- the job that a grab of slot c gets: of the first of its functions that has one, or, for gearmand's applications, of the highest priority
+-- of which any of them has one
 abbrev pub pick : Settings → ℕ → List Note → Option Pick
-pick k c notes = pick_from (scan k c notes) notes
+pick k c notes = if k.as_gearmand then pick_highest (scan k c notes) notes else pick_from (scan k c notes) notes
 
 -- ---- joining, numbers and counts
 

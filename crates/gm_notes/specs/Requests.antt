@@ -76,7 +76,7 @@ request k c WorkStatus a timeout past =
     work k c (first a) (record (passing (work_status (first a) (second a) (third a))) { report = Some (second a, third a) }) past
 request k c WorkData a timeout past = work k c (first a) (passing (work_data (first a) (second a))) past
 request k c WorkWarning a timeout past = work k c (first a) (passing (work_warning (first a) (second a))) past
-request k c WorkException a timeout past = work k c (first a) (record (passing (work_exception (first a) (second a))) { exceptions_only = true }) past
+request k c WorkException a timeout past = work k c (first a) (record (passing (work_exception (first a) (second a))) { exceptions_only = true; ends = k.as_gearmand }) past
 request k c WorkComplete a timeout past = work k c (first a) (ending (work_complete (first a) (second a))) past
 request k c WorkFail a timeout past = work k c (first a) (ending (work_fail (first a))) past
 request k c GetStatus a timeout past = tell_status k c (first a) (job_of_handle k (first a) past.notes) past

@@ -6,7 +6,8 @@ use Rattle.gm_notes.specs.declared.config.ConfigError.{ConfigError}
 use Rattle.gm_notes.specs.declared.config.ConfigError.TheVariants.{BadName, BadNumber, BadSlots, BadFunctions}
 
 -- the name in job handles, the first job's number, the most connections and functions at once, whether a worker's
--- functions take turns, and to how many workers a job may be given; 0 is no limit
+-- functions take turns, to how many workers a job may be given, 0 is no limit, and whether requests mean what gearmand's
+-- applications mean by them
 pub record Settings : Type 0 where
   pub name : List ℕ
   pub first_job : ℕ
@@ -14,6 +15,7 @@ pub record Settings : Type 0 where
   pub max_functions : ℕ
   pub round_robin : Bool
   pub retries : ℕ
+  pub as_gearmand : Bool
 
 -- a letter, a digit, a dot (46) or a dash (45)
 abbrev pub is_name_byte : ℕ → Bool

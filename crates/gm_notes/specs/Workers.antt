@@ -1,7 +1,7 @@
 -- What the requests of workers do.
 use Rattle.std.specs.Prelude.{ℕ, ◌+◌, ◌-◌, ◌^◌, Bool, true, false, not, ◌&&◌, ◌==◌, min, if◌then◌else◌, List, filter, codes}
 use Rattle.std.specs.Prelude.{Option, Some, None}
-use Rattle.gm_packet.specs.Answers.{Answer, no_job, job_assign, job_assign_uniq}
+use Rattle.gm_packet.specs.Answers.{Answer, no_job, job_assign, job_assign_uniq, work_fail}
 use Rattle.gm_notes.specs.declared.note.Note.{Note}
 use Rattle.gm_notes.specs.declared.note.Note.TheVariants.{Can, Cant, Slept, Woken, Stirred, Assigned, Ended, Report}
 use Rattle.gm_notes.specs.Settings.{Settings}
@@ -85,19 +85,30 @@ abbrev pub end_if : Bool → ℕ → Past → Past
 end_if true n past = with_note (Ended n) past
 end_if false n past = past
 
+-- whether slot c gets exceptions
+abbrev pub wants_exceptions : ℕ → List Note → Bool
+wants_exceptions c notes = is_open c notes && has_option c notes
+
 -- which slots get it
 abbrev pub hearers : Bool → List ℕ → List Note → List ℕ
-hearers true slots notes = filter (λ c. is_open c notes && has_option c notes) slots
+hearers true slots notes = filter (λ c. wants_exceptions c notes) slots
 hearers false slots notes = slots
 
-abbrev pub tell_work : Work → ℕ → Past → Past
-tell_work w n past =
-    end_if w.ends n (tell_all w.answer (hearers w.exceptions_only (listeners n past.notes) past.notes) (keep_report n w.report past))
+-- a packet that only some listeners get, and that ends the job: the others get WORK_FAIL
+abbrev pub tell_others : Bool → Answer → List ℕ → List Note → Past → Past
+tell_others true answer slots notes past = tell_all answer (filter (λ c. not (wants_exceptions c notes)) slots) past
+tell_others false answer slots notes past = past
+
+abbrev pub tell_work : Settings → Work → ℕ → Past → Past
+tell_work k w n past =
+    end_if w.ends n
+    (tell_others (w.exceptions_only && w.ends) (work_fail (handle k n)) (listeners n past.notes) past.notes
+    (tell_all w.answer (hearers w.exceptions_only (listeners n past.notes) past.notes) (keep_report n w.report past)))
 
 -- the job that the handle names runs at the slot, or the packet is refused
-abbrev pub work_on : ℕ → Work → Option ℕ → Past → Past
-work_on c w None past = refuse c (codes "job_not_found") past
-work_on c w (Some n) past = if is_running_at c (job_state n past.notes) then tell_work w n past else refuse c (codes "job_not_found") past
+abbrev pub work_on : Settings → ℕ → Work → Option ℕ → Past → Past
+work_on k c w None past = refuse c (codes "job_not_found") past
+work_on k c w (Some n) past = if is_running_at c (job_state n past.notes) then tell_work k w n past else refuse c (codes "job_not_found") past
 
 abbrev pub work : Settings → ℕ → List ℕ → Work → Past → Past
-work k c text w past = work_on c w (job_of_handle k text past.notes) past
+work k c text w past = work_on k c w (job_of_handle k text past.notes) past

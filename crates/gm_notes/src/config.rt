@@ -39,8 +39,8 @@ impl ConfigError {
 }
 
 /// The settings of a server: the name in job handles, the first job's number, the most
-/// connections and functions that there may be at once, whether a worker's functions take turns, and to how
-/// many workers a job may be given.
+/// connections and functions that there may be at once, whether a worker's functions take turns, to how
+/// many workers a job may be given, and whether requests mean what gearmand's applications mean by them.
 #[derive(Debug, Drop)]
 pub struct Config {
     name: Text,
@@ -49,6 +49,7 @@ pub struct Config {
     max_functions: u32,
     round_robin: bool,
     retries: u32,
+    as_gearmand: bool,
 }
 
 impl Model for Config {
@@ -80,15 +81,15 @@ fn is_name(name: &[u8]) -> bool
 
 impl Config {
     /// Settings with this name in job handles, this number for the first job, and at most this many
-    /// connections and functions. A worker's functions don't take turns, and a job may be given to any number of
-    /// workers. What is wrong is answered in the order of `ConfigError`. It takes no memory.
+    /// connections and functions. A worker's functions don't take turns, a job may be given to any number of
+    /// workers, and requests mean what this server's documents say. What is wrong is answered in the order of `ConfigError`. It takes no memory.
     pub fn new(
         name: Vec<u8>,
         first_job: u64,
         slots: u32,
         max_functions: u32,
     ) -> Result<Config, ConfigError>
-        ensures { let asked : Settings = record { name = name.items; first_job = first_job; slots = slots; max_functions = max_functions; round_robin = false; retries = 0 } in
+        ensures { let asked : Settings = record { name = name.items; first_job = first_job; slots = slots; max_functions = max_functions; round_robin = false; retries = 0; as_gearmand = false } in
             MatchResult result (λ config. (config ≡ asked)) (λ fault. config_fault asked ≡ Some fault) }
     {
         if !is_name(&name) {
@@ -110,6 +111,7 @@ impl Config {
             max_functions,
             round_robin: false,
             retries: 0,
+            as_gearmand: false,
         })
     }
 
@@ -126,6 +128,7 @@ impl Config {
             max_functions: self.max_functions,
             round_robin: on,
             retries: self.retries,
+            as_gearmand: self.as_gearmand,
         }
     }
 
@@ -141,7 +144,31 @@ impl Config {
             max_functions: self.max_functions,
             round_robin: self.round_robin,
             retries: r,
+            as_gearmand: self.as_gearmand,
         }
+    }
+
+    /// The same settings, but that requests mean what gearmand's applications mean by them, or what this server's documents say.
+    /// It takes no memory.
+    pub fn with_as_gearmand(self, on: bool) -> Config
+        ensures { result ≡ record self { as_gearmand = on } }
+    {
+        Config {
+            name: self.name,
+            first_job: self.first_job,
+            slots: self.slots,
+            max_functions: self.max_functions,
+            round_robin: self.round_robin,
+            retries: self.retries,
+            as_gearmand: on,
+        }
+    }
+
+    /// Whether requests mean what gearmand's applications mean by them.
+    pub fn as_gearmand(&self) -> bool
+        ensures { result ≡ self.now.as_gearmand }
+    {
+        self.as_gearmand
     }
 
     /// Whether a worker's functions take turns.

@@ -46,6 +46,11 @@ pub trait JobServer {
         ensures { (k : Settings) (steps : List Step) → agrees self.now k steps
             → result ≡ is_closing slot (run k steps) };
 
+    /// Whether requests mean what gearmand's applications mean by them.
+    fn as_gearmand(&self) -> bool
+        ensures { (k : Settings) (steps : List Step) → agrees self.now k steps
+            → result ≡ k.as_gearmand };
+
     /// Whether the server goes on.
     fn mode(&self) -> Mode
         ensures { (k : Settings) (steps : List Step) → agrees self.now k steps

@@ -37,9 +37,13 @@ round_robin_rule = flag_rule (codes "round-robin")
 abbrev pub job_retries_rule : Rule
 job_retries_rule = number_rule (codes "job-retries") (pos 0) (pos 4294967295) (codes "0")
 
+abbrev pub as_gearmand_rule : Rule
+as_gearmand_rule = flag_rule (codes "as-gearmand")
+
 -- a command with them, behind the options that it has
 abbrev pub with_server_rules : App → App
-with_server_rules app = with_rule (with_rule (with_rule (with_rule app slots_rule) max_data_rule) round_robin_rule) job_retries_rule
+with_server_rules app =
+    with_rule (with_rule (with_rule (with_rule (with_rule app slots_rule) max_data_rule) round_robin_rule) job_retries_rule) as_gearmand_rule
 
 -- ---- what is read
 

@@ -78,7 +78,7 @@ pub fn flag<'a>(alloc: Global, name: &'a str, help: &'a str) -> Arg<'a>
 }
 
 /// The command with the options of every job server: how many connections there may be, how large a packet may be,
-/// whether a worker's functions take turns, and to how many workers a job may be given.
+/// whether a worker's functions take turns, to how many workers a job may be given, and whether it serves as gearmand does.
 pub fn with_server_options<'a>(
     alloc: Global,
     command: Command<'a>,
@@ -119,6 +119,12 @@ pub fn with_server_options<'a>(
             "0",
             "Gives a job to at most N workers, and lets it fail when the last of them disconnects; 0 is no limit",
         )
+        .help_heading(JOBS))?
+        .arg(flag(
+            alloc,
+            "as-gearmand",
+            "Serves what was written for gearmand unchanged: grabs of type 39, exceptions that end a job, time limits in milliseconds, and priorities that go before the order of functions",
+        )
         .help_heading(JOBS))
 }
 
@@ -133,6 +139,8 @@ pub struct ServerOptions {
     pub round_robin: bool,
     /// To how many workers a job may be given; 0 is no limit.
     pub job_retries: u32,
+    /// Whether requests mean what gearmand's applications mean by them.
+    pub as_gearmand: bool,
 }
 
 /// What the options of every job server ask for, where the command had them.
@@ -142,6 +150,7 @@ pub fn server_options(matches: &ArgMatches<'_>) -> ServerOptions
     ensures max_line { result.limits.max_line ≡ 1024 }
     ensures round_robin { ReadsFlag (one_text (found_of matches.now) (codes "round-robin")) result.round_robin }
     ensures job_retries { ReadsNumber (one_text (found_of matches.now) (codes "job-retries")) 0 result.job_retries }
+    ensures as_gearmand { ReadsFlag (one_text (found_of matches.now) (codes "as-gearmand")) result.as_gearmand }
 {
     let max_data = matches.get_one::<u32>("max-data").unwrap_or(67_108_864);
     ServerOptions {
@@ -153,5 +162,6 @@ pub fn server_options(matches: &ArgMatches<'_>) -> ServerOptions
         },
         round_robin: matches.get_flag("round-robin"),
         job_retries: matches.get_one::<u32>("job-retries").unwrap_or(0),
+        as_gearmand: matches.get_flag("as-gearmand"),
     }
 }

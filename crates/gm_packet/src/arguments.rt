@@ -1,6 +1,6 @@
 //! Walks through the data of a request, for each shape of arguments.
 
-ghost use Rattle.std.specs.Prelude.{◌≡◌, ◌≤◌, ◌==◌, [], ◌∷◌, true, false, length, position};
+ghost use Rattle.std.specs.Prelude.{◌≡◌, ◌≤◌, ◌==◌, [], ◌∷◌, true, false, IfSome, length, position};
 ghost use Rattle.std.specs.Option.{option_map, option_and_then};
 ghost use Rattle.std.specs.Io.BufRead.{strip_last};
 ghost use Rattle.gm_packet.specs.Packets.{has_nul};
@@ -26,15 +26,17 @@ fn nul_at(bytes: &[u8]) -> Option<usize>
 /// The bytes before the first NUL, and those after it.
 #[tactic(auto, using(crate::proofs::Cuts::cuts))]
 pub(crate) fn cut(bytes: &[u8]) -> Option<(&[u8], &[u8])>
-    ensures { option_map (λ x. (x.0.now, x.1.now)) result ≡ cut bytes.now }
+    ensures value { option_map (λ x. (x.0.now, x.1.now)) result ≡ cut bytes.now }
+    ensures within { IfSome result (λ x. length x.0.now ≤ length bytes.now) }
 {
     let at = nul_at(bytes)?;
     Some((&bytes[..at], &bytes[at + 1..]))
 }
 
 /// The data without the one NUL that may be their last byte.
-fn stripped(bytes: &[u8]) -> &[u8]
-    ensures { result.now ≡ strip_last 0 bytes.now }
+pub fn stripped(bytes: &[u8]) -> &[u8]
+    ensures value { result.now ≡ strip_last 0 bytes.now }
+    ensures within { length result.now ≤ length bytes.now }
 {
     match bytes {
         [start @ .., 0] => start,
@@ -89,18 +91,26 @@ pub(crate) fn three_opaque(bytes: &[u8]) -> Option<(&[u8], &[u8], &[u8])>
     Some((first, second, last))
 }
 
-/// The number of seconds that 1 to 10 decimal digits say, if it fits 32 bits.
-fn seconds(digits: &[u8]) -> Option<u32>
+/// The number that a time limit of 1 to 10 decimal digits says, if it fits 32 bits.
+pub fn read_timeout(digits: &[u8]) -> Option<u32>
     ensures { result ≡ seconds_of digits.now }
 {
     u32::try_from(read_decimal(digits, 10)?).ok()
+}
+
+/// A function and the text of its time limit, in the data of a CAN_DO_TIMEOUT: what is before the first NUL, and what is after it.
+pub fn function_and_limit(bytes: &[u8]) -> Option<(&[u8], &[u8])>
+    ensures value { option_map (λ x. (x.0.now, x.1.now)) result ≡ cut (strip_last 0 bytes.now) }
+    ensures within { IfSome result (λ x. length x.0.now ≤ length bytes.now) }
+{
+    cut(stripped(bytes))
 }
 
 /// A function and a timeout.
 pub(crate) fn function_and_timeout(bytes: &[u8]) -> Option<(&[u8], u32)>
     ensures { option_map (λ x. (x.0.now ∷ [], x.1)) result ≡ option_and_then with_timeout (parts (λ _. false) 1 (strip_last 0 bytes.now)) }
 {
-    let (function, digits) = cut(stripped(bytes))?;
-    let timeout = seconds(digits)?;
+    let (function, digits) = function_and_limit(bytes)?;
+    let timeout = read_timeout(digits)?;
     Some((function, timeout))
 }

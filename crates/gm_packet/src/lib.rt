@@ -15,6 +15,7 @@ mod response;
 mod texts;
 mod writing;
 
+pub use arguments::{function_and_limit, read_timeout, stripped};
 pub use decimal::read_decimal;
 pub use header::{BadMagic, Header, REQUEST_MAGIC, RESPONSE_MAGIC, read_header};
 pub use kind::Kind;

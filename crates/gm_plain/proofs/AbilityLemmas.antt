@@ -5,6 +5,7 @@ use Rattle.std.specs.Prelude.{not, ◌&&◌, ◌||◌, ◌==◌, nat_lt, positio
 use Rattle.std.specs.List.{list_any, position_or_len}
 use Rattle.std.specs.Option.{option_map}
 use Rattle.std.specs.Str.{bytes_eq}
+use Rattle.std.proofs.Math.Numerals.{add-one}
 use Rattle.std.proofs.Math.Seq.{drop-cons}
 use Rattle.std.proofs.lemmas.Bool.Decides.{nat_tests}
 use borrow.Author.Tests.{ltb-true, ltb-false}
@@ -12,8 +13,10 @@ use Rattle.std.proofs.lemmas.Slice.Eq.{bytes_eq-Decides}
 use Rattle.gm_notes.specs.declared.note.Note.{Note}
 use Rattle.gm_notes.specs.Notes.{last_said}
 use Rattle.gm_notes.specs.declared.note.Note.TheVariants.{Opened, Closed, Can, Cant, Reset, Made, Returned}
+use Rattle.gm_notes.specs.declared.states.Pick.{Pick}
+use Rattle.gm_notes.specs.declared.states.Priority.{Priority}
 use Rattle.gm_notes.specs.declared.states.Priority.TheVariants.{High, Normal, Low}
-use Rattle.gm_notes.specs.Jobs.{Ability, put, is_of, abilities, is_able, as_they_came, is_queued, queue, waiting_for, pick_from}
+use Rattle.gm_notes.specs.Jobs.{Ability, put, is_of, abilities, is_able, as_they_came, is_queued, queue, waiting_for, pick_from, pick_with}
 use Rattle.gm_notes.specs.Jobs.{first_of}
 use Rattle.gm_plain.specs.Searches.{says_able, abilities_after, order_after, head}
 
@@ -261,3 +264,34 @@ pub pick_at : {V : Type 0} (f : V → Ability) (items : List V) (i : ℕ) (d : V
     → pick_from (map f (drop i items)) notes ≡ Some (record { job = n; timeout = (f (get_or items i d)).timeout })
 pick_at f items i d notes n lt e =
     ap (λ l. pick_from (map f l) notes) (drop-cons items i d lt) ∙ pick_here (f (get_or items i d)) (map f (drop (suc i) items)) notes n (sym e)
+
+-- the first of a queue is the first of all jobs that is in it
+first_queued : (f : List ℕ) (p : Priority) (notes : List Note) (jobs : List ℕ) → jobs ≡ as_they_came notes → find (is_queued f p notes) jobs ≡ head (queue f p notes)
+first_queued f p notes jobs is = ap (find (is_queued f p notes)) is ∙ sym (head_filter (is_queued f p notes) (as_they_came notes))
+
+first_here : (ns : List ℕ) (n timeout : ℕ) (otherwise : Option Pick) → Some n ≡ head ns → first_of ns timeout otherwise ≡ Some (record { job = n; timeout = timeout })
+first_here [] n timeout otherwise e = absurd cc
+first_here (m ∷ ns) n timeout otherwise e = ap (λ (o : Option ℕ). option_map (λ (j : ℕ). record { job = j; timeout = timeout }) o) (sym e)
+
+first_later : (ns : List ℕ) (timeout : ℕ) (otherwise : Option Pick) → (let o : Option ℕ = None in o) ≡ head ns → first_of ns timeout otherwise ≡ otherwise
+first_later [] timeout otherwise e = refl
+first_later (m ∷ ns) timeout otherwise e = absurd cc
+
+-- the pick of a priority is for the ability at this place
+pub pick_with_at : {V : Type 0} (f : V → Ability) (p : Priority) (items : List V) (i : ℕ) (d : V) (notes : List Note) (jobs : List ℕ) (n : ℕ) → i < length items
+    → jobs ≡ as_they_came notes → Some n ≡ find (is_queued (f (get_or items i d)).function p notes) jobs
+    → pick_with p (map f (drop i items)) notes ≡ Some (record { job = n; timeout = (f (get_or items i d)).timeout })
+pick_with_at f p items i d notes jobs n lt is e =
+    let ability = f (get_or items i d) in
+    ap (λ l. pick_with p (map f l) notes) (drop-cons items i d lt)
+    ∙ first_here (queue ability.function p notes) n ability.timeout (pick_with p (map f (drop (suc i) items)) notes) (e ∙ first_queued ability.function p notes jobs is)
+
+-- or for one behind it
+pub pick_with_past : {V : Type 0} (f : V → Ability) (p : Priority) (items : List V) (i : ℕ) (d : V) (notes : List Note) (jobs : List ℕ) → i < length items
+    → jobs ≡ as_they_came notes → (let o : Option ℕ = None in o) ≡ find (is_queued (f (get_or items i d)).function p notes) jobs
+    → pick_with p (map f (drop i items)) notes ≡ pick_with p (map f (drop (i + 1) items)) notes
+pick_with_past f p items i d notes jobs lt is e =
+    let ability = f (get_or items i d) in
+    ap (λ l. pick_with p (map f l) notes) (drop-cons items i d lt)
+    ∙ (first_later (queue ability.function p notes) ability.timeout (pick_with p (map f (drop (suc i) items)) notes) (e ∙ first_queued ability.function p notes jobs is)
+    ∙ ap (λ n. pick_with p (map f (drop n items)) notes) (sym (add-one i)))

@@ -1,11 +1,12 @@
 -- What is picked waits.
 use Rattle.std.proofs.Common.{◌≡◌, ℕ, Bool, true, false, List, [], ◌∷◌, ◌++◌, Option, Some, None, refl, sym, subst}
 use Rattle.std.specs.Prelude.{if◌then◌else◌, filter, IfSome}
+use Rattle.std.specs.Option.{option_or}
 use Rattle.std.proofs.lemmas.Bool.{and_parts}
 use Rattle.gm_notes.specs.declared.states.Priority.{Priority}
 use Rattle.gm_notes.specs.declared.states.Priority.TheVariants.{High, Normal, Low}
 use Rattle.gm_notes.specs.declared.note.Note.{Note}
-use Rattle.gm_notes.specs.Jobs.{Ability, job_state, job, is_job_with, is_queued, queue, waiting_for, first_of, as_they_came, pick_from}
+use Rattle.gm_notes.specs.Jobs.{Ability, job_state, job, is_job_with, is_queued, queue, waiting_for, first_of, as_they_came, pick_from, pick_with, pick_highest}
 use Rattle.gm_notes.specs.declared.states.Pick.{Pick}
 use Rattle.gm_notes.specs.JobStates.{is_waiting}
 
@@ -53,3 +54,22 @@ found_waits notes (Some picked) waits = waits
 pub picked_waits : (abilities : List Ability) (notes : List Note) (found : Option Pick) → found ≡ pick_from abilities notes
     → IfSome found (λ picked. is_waiting (job_state picked.job notes) ≡ true)
 picked_waits abilities notes found is = found_waits notes found (subst (PickWaits notes) (sym is) (pick_waits abilities notes))
+
+with_waits : (p : Priority) (abilities : List Ability) (notes : List Note) → PickWaits notes (pick_with p abilities notes)
+with_waits p [] notes = tt
+with_waits p (ability ∷ abilities) notes =
+    first_waits notes (queue ability.function p notes) ability.timeout (pick_with p abilities notes) (filtered ability.function p notes (as_they_came notes)) (with_waits p abilities notes)
+
+either_waits : (notes : List Note) (found otherwise : Option Pick) → PickWaits notes found → PickWaits notes otherwise → PickWaits notes (option_or found otherwise)
+either_waits notes None otherwise waits rest = rest
+either_waits notes (Some picked) otherwise waits rest = waits
+
+highest_waits : (abilities : List Ability) (notes : List Note) → PickWaits notes (pick_highest abilities notes)
+highest_waits abilities notes =
+    either_waits notes (pick_with High abilities notes) (option_or (pick_with Normal abilities notes) (pick_with Low abilities notes)) (with_waits High abilities notes)
+    (either_waits notes (pick_with Normal abilities notes) (pick_with Low abilities notes) (with_waits Normal abilities notes) (with_waits Low abilities notes))
+
+-- of the highest priority
+pub highest_picked_waits : (abilities : List Ability) (notes : List Note) (found : Option Pick) → found ≡ pick_highest abilities notes
+    → IfSome found (λ picked. is_waiting (job_state picked.job notes) ≡ true)
+highest_picked_waits abilities notes found is = found_waits notes found (subst (PickWaits notes) (sym is) (highest_waits abilities notes))

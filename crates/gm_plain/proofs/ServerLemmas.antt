@@ -1,14 +1,14 @@
 -- What a plain server needs of the definitions.
 use Rattle.std.proofs.Common.{◌≡◌, ◌≢◌, ℕ, suc, ◌+◌, ◌<◌, Bool, true, false, cond, List, [], ◌∷◌, ◌++◌, length, get_or, set, Option, Some}
 use Rattle.std.proofs.Common.{None, Result, Ok, Err, refl, sym, ap, subst, ◌∙◌, arith, length-set}
-use Rattle.std.specs.Prelude.{is_some, ◌&&◌, ◌==◌, if◌then◌else◌}
+use Rattle.std.specs.Prelude.{is_some, not, filter, ◌&&◌, ◌==◌, if◌then◌else◌}
 use Rattle.std.specs.Result.{IsErr, OnOk, OnErr}
 use Rattle.std.specs.List.{All}
 use Rattle.std.proofs.lemmas.Bool.Decides.{nat_tests}
 use Rattle.std.proofs.lemmas.List.{get_or-set_same, get_or-set_other}
 use Rattle.std.proofs.Math.Numerals.{add-one}
 use Rattle.std.specs.declared.alloc.AllocError.{AllocError}
-use Rattle.gm_packet.specs.Answers.{Answer, answer_packet, job_created}
+use Rattle.gm_packet.specs.Answers.{Answer, answer_packet, job_created, work_fail}
 use Rattle.gm_notes.specs.declared.note.Note.{Note}
 use Rattle.gm_notes.specs.declared.note.Note.TheVariants.{Woken, Stirred, Kept, Listens, Made, Mention, Assigned}
 use Rattle.gm_notes.specs.declared.states.Priority.{Priority}
@@ -16,15 +16,16 @@ use Rattle.gm_notes.specs.declared.states.Mode.{Mode}
 use Rattle.gm_notes.specs.declared.states.Mode.TheVariants as modes
 use Rattle.gm_notes.specs.Settings.{Settings}
 use Rattle.gm_notes.specs.Notes.{is_open, phase, is_asleep, slots_from, takes_units, moment, accepts_connections}
-use Rattle.gm_notes.specs.Jobs.{Job, job, is_able, is_mentioned, handle}
+use Rattle.gm_notes.specs.Jobs.{Job, job, is_able, is_mentioned, handle, listeners}
 use Rattle.gm_notes.specs.declared.states.Pick.{Pick}
 use Rattle.gm_notes.specs.Flow.{Flow, waiting}
 use Rattle.gm_plain.specs.Outboxes.{with_bytes, with_bytes_each}
 use Rattle.gm_notes.specs.Past.{Past, with_note, with_output, give, tell_all, with_mention, wake_each, wake}
 use Rattle.gm_notes.specs.Workers.{sleep_beside, wake_itself, deadline_after, tell_assigned, give_out, keep_report}
+use Rattle.gm_notes.specs.Workers.{Work, hearers, wants_exceptions, tell_others, tell_work, end_if}
 use Rattle.gm_notes.specs.Submissions.{Submission, keep_or_listen, make}
 use Rattle.gm_notes.specs.Closings.{wake_for}
-use Rattle.gm_plain.specs.Holds.{Holds, Contents, HeldIn, Becomes, wake_one_for}
+use Rattle.gm_plain.specs.Holds.{Holds, Contents, HeldIn, Becomes, tell_listeners, wake_one_for}
 use Rattle.gm_notes.specs.Steps.{if_free, if_accepted, unless_not_open}
 use Rattle.gm_actions.specs.Effects.{if_done}
 use Rattle.gm_actions.proofs.Changing.{changes_then, changes_as, done_as, done_not}
@@ -192,6 +193,31 @@ pub kept_told : (n : ℕ) (r : Option (List ℕ × List ℕ)) (answer : Answer) 
 kept_told n r answer [] past = refl
 kept_told n None answer (c ∷ slots) past = refl
 kept_told n (Some numbers) answer (c ∷ slots) past = kept_told n (Some numbers) answer slots (give c answer past)
+
+kept_beside : (n : ℕ) (r : Option (List ℕ × List ℕ)) (t : Bool) (answer : Answer) (slots : List ℕ) (notes : List Note) (past : Past)
+    → keep_report n r (tell_others t answer slots notes past) ≡ tell_others t answer slots notes (keep_report n r past)
+kept_beside n r true answer slots notes past = kept_told n r answer (filter (λ c. not (wants_exceptions c notes)) slots) past
+kept_beside n r false answer slots notes past = refl
+
+pub kept_listening : (k : Settings) (w : Work) (n : ℕ) (past : Past) → end_if w.ends n (keep_report n w.report (tell_listeners k w n past)) ≡ tell_work k w n past
+kept_listening k w n past =
+    let slots = listeners n past.notes in
+    let heard = hearers w.exceptions_only slots past.notes in
+    let fails = w.exceptions_only && w.ends in
+    ap (end_if w.ends n)
+    (kept_beside n w.report fails (work_fail (handle k n)) slots past.notes (tell_all w.answer heard past)
+    ∙ ap (tell_others fails (work_fail (handle k n)) slots past.notes) (kept_told n w.report w.answer heard past))
+
+-- where nobody else is told anything, and where the others are told of a failure
+pub told_alone : (k : Settings) (w : Work) (n : ℕ) (past : Past) → (w.exceptions_only && w.ends) ≡ false
+    → tell_all w.answer (hearers w.exceptions_only (listeners n past.notes) past.notes) past ≡ tell_listeners k w n past
+told_alone k w n past e = rw e refl
+
+pub told_beside : (k : Settings) (w : Work) (n : ℕ) (past : Past) → (w.exceptions_only && w.ends) ≡ true
+    → tell_all (work_fail (handle k n)) (filter (λ c. not (wants_exceptions c past.notes)) (listeners n past.notes))
+    (tell_all w.answer (hearers w.exceptions_only (listeners n past.notes) past.notes) past)
+    ≡ tell_listeners k w n past
+told_beside k w n past e = rw e refl
 
 pub beside_some : (c : ℕ) (o : Option Pick) (past : Past) → is_some o ≡ true → with_note (Woken c) past ≡ sleep_beside o c past
 beside_some c None past e = absurd cc

@@ -1,13 +1,15 @@
 -- What a plain server holds, against the definitions.
-use Rattle.std.specs.Prelude.{◌≡◌, ℕ, List, [], ◌++◌, Option, Some, None, Result}
+use Rattle.std.specs.Prelude.{◌≡◌, ℕ, ◌&&◌, List, [], ◌++◌, Option, Some, None, Result}
 use Rattle.std.specs.List.{slice_index_or}
+use Rattle.gm_packet.specs.Answers.{work_fail}
 use Rattle.gm_notes.specs.declared.note.Note.{Note}
 use Rattle.gm_plain.specs.declared.server.PlainServer.{PlainServer}
 use Rattle.gm_notes.specs.Settings.{Settings}
 use Rattle.gm_notes.specs.Flow.{waiting}
-use Rattle.gm_notes.specs.Jobs.{Job}
-use Rattle.gm_notes.specs.Past.{Past, wake_one}
+use Rattle.gm_notes.specs.Jobs.{Job, handle, listeners}
+use Rattle.gm_notes.specs.Past.{Past, tell_all, wake_one}
 use Rattle.gm_notes.specs.Steps.{Step}
+use Rattle.gm_notes.specs.Workers.{Work, hearers, tell_others}
 use Rattle.gm_actions.specs.Effects.{Changes, Agrees, if_done}
 
 -- these notes, and these bytes for each slot, are what has happened
@@ -64,6 +66,12 @@ abbrev pub PlainAgrees : PlainServer → Settings → List Step → Type 0
 PlainAgrees server k steps = Agrees config_of HeldIn (contents_of server) k steps
 
 -- ---- what is handed on
+
+-- a worker says something of job n to its listeners
+abbrev pub tell_listeners : Settings → Work → ℕ → Past → Past
+tell_listeners k w n past =
+    tell_others (w.exceptions_only && w.ends) (work_fail (handle k n)) (listeners n past.notes) past.notes
+    (tell_all w.answer (hearers w.exceptions_only (listeners n past.notes) past.notes) past)
 
 -- the worker in slot c is owed a NOOP if it sleeps and can do such a job
 abbrev pub wake_one_for : Option Job → ℕ → Past → Past

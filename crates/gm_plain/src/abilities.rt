@@ -3,7 +3,7 @@
 ghost use Rattle.std.specs.Prelude.{◌≡◌, Some, true, map, not, ◌&&◌, position, find, IfOk, OnOk, IfSome};
 ghost use Rattle.std.specs.Option.{option_copied};
 ghost use Rattle.gm_notes.specs.Jobs.{job_state, job, is_of, put, abilities, is_able, as_they_came, is_queued, waiting_for, is_empty, pick};
-ghost use Rattle.gm_notes.specs.Jobs.{pick_from, able, last_function, rotated, scan};
+ghost use Rattle.gm_notes.specs.Jobs.{pick_from, pick_with, pick_highest, able, last_function, rotated, scan};
 ghost use Rattle.gm_notes.specs.JobStates.{is_waiting};
 ghost use Rattle.gm_notes.specs.Notes.{is_open, phase, is_asleep};
 ghost use Rattle.gm_plain.specs.Searches.{ability_of, abilities_after, order_after, head, wakes_for};
@@ -240,6 +240,38 @@ fn pick_from(log: &Log, jobs: &[u64], abilities: &[Ability<'_>]) -> Option<Pick>
     None
 }
 
+/// The first job of a priority for the first of these abilities that has one, of jobs in the order in which they
+/// came to wait.
+fn pick_with(log: &Log, jobs: &[u64], abilities: &[Ability<'_>], priority: Priority) -> Option<Pick>
+    requires { jobs.now ≡ as_they_came log.now.notes }
+    ensures { result ≡ pick_with priority (map ability_of abilities.now) log.now.notes }
+{
+    for ability in abilities {
+        if let Some(job) = first_in(log, jobs, ability.function, priority) {
+            return Some(Pick {
+                job,
+                timeout: ability.timeout,
+            });
+        }
+    }
+    None
+}
+
+/// The first job of the highest priority of which any of these abilities has one, of jobs in the order in which
+/// they came to wait.
+fn pick_highest(log: &Log, jobs: &[u64], abilities: &[Ability<'_>]) -> Option<Pick>
+    requires { jobs.now ≡ as_they_came log.now.notes }
+    ensures { result ≡ pick_highest (map ability_of abilities.now) log.now.notes }
+{
+    if let Some(pick) = pick_with(log, jobs, abilities, Priority::High) {
+        return Some(pick);
+    }
+    if let Some(pick) = pick_with(log, jobs, abilities, Priority::Normal) {
+        return Some(pick);
+    }
+    pick_with(log, jobs, abilities, Priority::Low)
+}
+
 /// The function of the job that a slot was given last, since it was opened.
 fn last_function(log: &Log, slot: u32) -> Option<&[u8]>
     ensures { option_copied result ≡ last_function slot log.now.notes }
@@ -300,5 +332,9 @@ pub fn pick(
 {
     let abilities = scan(alloc, log, config, slot)?;
     let jobs = as_they_came(alloc, log)?;
-    Ok(pick_from(log, &jobs, &abilities))
+    Ok(if config.as_gearmand() {
+        pick_highest(log, &jobs, &abilities)
+    } else {
+        pick_from(log, &jobs, &abilities)
+    })
 }

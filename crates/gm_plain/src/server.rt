@@ -116,6 +116,33 @@ impl PlainServer {
         self.outboxes.give_all(self.alloc, slots, &packet)
     }
 
+    /// Queues an answer to each of these slots, and then another to each of the others.
+    /// Out of memory, it changes nothing.
+    fn give_both(
+        &mut self,
+        slots: &[u32],
+        response: &Response<'_>,
+        others: &[u32],
+        other: &Response<'_>,
+    ) -> Result<(), AllocError>
+        requires slots { All (λ c. c < self.old.config.slots) slots.now }
+        requires fits { Fits (answer_of response.now).arguments }
+        requires others { All (λ c. c < self.old.config.slots) others.now }
+        requires other_fits { Fits (answer_of other.now).arguments }
+        ensures does { Does self.old result self.new (λ past. tell_all (answer_of other.now) others.now (tell_all (answer_of response.now) slots.now past)) }
+        ensures log { self.new.log ≡ self.old.log }
+    {
+        let before = self.outboxes.copy(self.alloc)?;
+        self.give_all(slots, response)?;
+        match self.give_all(others, other) {
+            Ok(()) => Ok(()),
+            Err(fault) => {
+                self.outboxes = before;
+                Err(fault)
+            }
+        }
+    }
+
     /// Queues a text to a slot. Out of memory, it changes nothing.
     fn say(&mut self, slot: u32, text: &[u8]) -> Result<(), AllocError>
         requires { slot < self.old.config.slots }
@@ -168,6 +195,10 @@ impl JobServer for PlainServer {
     fn shut(&self, slot: u32) -> bool {
         let seen = seen(&self.log, slot);
         seen.is_open && seen.is_shut
+    }
+
+    fn as_gearmand(&self) -> bool {
+        self.config.as_gearmand()
     }
 
     fn mode(&self) -> Mode {

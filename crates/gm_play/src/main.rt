@@ -46,7 +46,8 @@ fn settings_of(alloc: Global, args: Args) -> Result<PlaySettings, RunError> {
     Ok(PlaySettings {
         config: config
             .with_round_robin(args.server.round_robin)
-            .with_retries(args.server.job_retries),
+            .with_retries(args.server.job_retries)
+            .with_as_gearmand(args.server.as_gearmand),
         limits: args.server.limits,
         plain: args.plain,
     })

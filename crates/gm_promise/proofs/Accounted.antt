@@ -39,37 +39,37 @@ PenSeen = ℕ × List Entry × ℕ
 
 -- ---- as slots are taken apart
 
-pub one_account_more : (desks : List DeskSeen) (pens : List PenSeen) (accounts : List Account) (desk : DeskSeen) (pen : PenSeen) (account : Account)
-    → length desks ≡ length accounts → length pens ≡ length accounts → AreAccounts desks pens accounts → IsAccount desk pen account
-    → AreAccounts (desks ++ desk ∷ []) (pens ++ pen ∷ []) (accounts ++ account ∷ [])
-one_account_more [] [] [] desk pen account d p are is = (is, tt)
-one_account_more (x ∷ desks) [] [] desk pen account d p are is = absurd (omega (arith, d))
-one_account_more [] (x ∷ pens) [] desk pen account d p are is = absurd (omega (arith, p))
-one_account_more (x ∷ desks) (y ∷ pens) [] desk pen account d p are is = absurd (omega (arith, d))
-one_account_more [] pens (a ∷ accounts) desk pen account d p are is = absurd (omega (arith, d))
-one_account_more (x ∷ desks) [] (a ∷ accounts) desk pen account d p are is = absurd (omega (arith, p))
-one_account_more (x ∷ desks) (y ∷ pens) (a ∷ accounts) desk pen account d p are is =
-    (are.0, one_account_more desks pens accounts desk pen account (omega (arith, d)) (omega (arith, p)) are.1 is)
+pub one_account_more : (k : Settings) (desks : List DeskSeen) (pens : List PenSeen) (accounts : List Account) (desk : DeskSeen) (pen : PenSeen) (account : Account)
+    → length desks ≡ length accounts → length pens ≡ length accounts → AreAccounts k desks pens accounts → IsAccount k desk pen account
+    → AreAccounts k (desks ++ desk ∷ []) (pens ++ pen ∷ []) (accounts ++ account ∷ [])
+one_account_more k [] [] [] desk pen account d p are is = (is, tt)
+one_account_more k (x ∷ desks) [] [] desk pen account d p are is = absurd (omega (arith, d))
+one_account_more k [] (x ∷ pens) [] desk pen account d p are is = absurd (omega (arith, p))
+one_account_more k (x ∷ desks) (y ∷ pens) [] desk pen account d p are is = absurd (omega (arith, d))
+one_account_more k [] pens (a ∷ accounts) desk pen account d p are is = absurd (omega (arith, d))
+one_account_more k (x ∷ desks) [] (a ∷ accounts) desk pen account d p are is = absurd (omega (arith, p))
+one_account_more k (x ∷ desks) (y ∷ pens) (a ∷ accounts) desk pen account d p are is =
+    (are.0, one_account_more k desks pens accounts desk pen account (omega (arith, d)) (omega (arith, p)) are.1 is)
 
-pub one_desk_more : (desks : List DeskSeen) (pens : List PenSeen) (accounts : List Account) (desk : DeskSeen) → AreAccounts desks pens accounts → AreAccounts (desks ++ desk ∷ []) pens accounts
-one_desk_more desks pens [] desk are = tt
-one_desk_more [] pens (a ∷ accounts) desk are = absurd are
-one_desk_more (x ∷ desks) [] (a ∷ accounts) desk are = absurd are
-one_desk_more (x ∷ desks) (y ∷ pens) (a ∷ accounts) desk are = (are.0, one_desk_more desks pens accounts desk are.1)
+pub one_desk_more : (k : Settings) (desks : List DeskSeen) (pens : List PenSeen) (accounts : List Account) (desk : DeskSeen) → AreAccounts k desks pens accounts → AreAccounts k (desks ++ desk ∷ []) pens accounts
+one_desk_more k desks pens [] desk are = tt
+one_desk_more k [] pens (a ∷ accounts) desk are = absurd are
+one_desk_more k (x ∷ desks) [] (a ∷ accounts) desk are = absurd are
+one_desk_more k (x ∷ desks) (y ∷ pens) (a ∷ accounts) desk are = (are.0, one_desk_more k desks pens accounts desk are.1)
 
-pub account_pushed : {A B : Type 0} (f : A → DeskSeen) (h : B → PenSeen) (desks all : List A) (pens all_pens : List B) (accounts all_accounts : List Account) (desk given : A) (pen : B) (account : Account)
+pub account_pushed : {A B : Type 0} (k : Settings) (f : A → DeskSeen) (h : B → PenSeen) (desks all : List A) (pens all_pens : List B) (accounts all_accounts : List Account) (desk given : A) (pen : B) (account : Account)
     → all ≡ desks ++ desk ∷ [] → all_pens ≡ pens ++ pen ∷ [] → all_accounts ≡ accounts ++ account ∷ [] → length desks ≡ length accounts → length pens ≡ length accounts
-    → AreAccounts (map f desks) (map h pens) accounts → desk ≡ given → IsAccount (f given) (h pen) account → AreAccounts (map f all) (map h all_pens) all_accounts
-account_pushed f h desks all pens all_pens accounts all_accounts desk given pen account d p a long wide are same is =
-    subst (λ l. AreAccounts (map f all) (map h all_pens) l) (sym a)
-    (subst (λ l. AreAccounts (map f all) l (accounts ++ account ∷ [])) (sym (ap (map h) p ∙ map-append h pens (pen ∷ [])))
-    (subst (λ l. AreAccounts l (map h pens ++ h pen ∷ []) (accounts ++ account ∷ [])) (sym (ap (map f) d ∙ map-append f desks (desk ∷ [])))
-    (one_account_more (map f desks) (map h pens) accounts (f desk) (h pen) account (length-map desks f ∙ long) (length-map pens h ∙ wide) are
-    (subst (λ x. IsAccount (f x) (h pen) account) (sym same) is))))
+    → AreAccounts k (map f desks) (map h pens) accounts → desk ≡ given → IsAccount k (f given) (h pen) account → AreAccounts k (map f all) (map h all_pens) all_accounts
+account_pushed k f h desks all pens all_pens accounts all_accounts desk given pen account d p a long wide are same is =
+    subst (λ l. AreAccounts k (map f all) (map h all_pens) l) (sym a)
+    (subst (λ l. AreAccounts k (map f all) l (accounts ++ account ∷ [])) (sym (ap (map h) p ∙ map-append h pens (pen ∷ [])))
+    (subst (λ l. AreAccounts k l (map h pens ++ h pen ∷ []) (accounts ++ account ∷ [])) (sym (ap (map f) d ∙ map-append f desks (desk ∷ [])))
+    (one_account_more k (map f desks) (map h pens) accounts (f desk) (h pen) account (length-map desks f ∙ long) (length-map pens h ∙ wide) are
+    (subst (λ x. IsAccount k (f x) (h pen) account) (sym same) is))))
 
-pub desk_pushed : {A : Type 0} (f : A → DeskSeen) (desks all : List A) (pens : List PenSeen) (accounts : List Account) (desk : A) → all ≡ desks ++ desk ∷ [] → AreAccounts (map f desks) pens accounts → AreAccounts (map f all) pens accounts
-desk_pushed f desks all pens accounts desk d are =
-    subst (λ l. AreAccounts l pens accounts) (sym (ap (map f) d ∙ map-append f desks (desk ∷ []))) (one_desk_more (map f desks) pens accounts (f desk) are)
+pub desk_pushed : {A : Type 0} (k : Settings) (f : A → DeskSeen) (desks all : List A) (pens : List PenSeen) (accounts : List Account) (desk : A) → all ≡ desks ++ desk ∷ [] → AreAccounts k (map f desks) pens accounts → AreAccounts k (map f all) pens accounts
+desk_pushed k f desks all pens accounts desk d are =
+    subst (λ l. AreAccounts k l pens accounts) (sym (ap (map f) d ∙ map-append f desks (desk ∷ []))) (one_desk_more k (map f desks) pens accounts (f desk) are)
 
 -- one more on each side
 pub longer : {A B : Type 0} (xs all : List A) (x : A) (ys more : List B) (y : B) → all ≡ xs ++ x ∷ [] → more ≡ ys ++ y ∷ [] → length xs ≡ length ys → length all ≡ length more
@@ -166,13 +166,13 @@ module _ (k : Settings) (log : List Entry) (legal : Legal k log) (own : AreOwn l
   abbrev IsPensOwn : PenSeen → Type 0
   IsPensOwn pen = Knows log (2 * pen.0 + 1) pen.1 × (pen.0 < k.slots → pen.2 ≡ takings pen.0 (steps_of log))
 
-  served_so : (c : ℕ) (desk : DeskSeen) (pen : PenSeen) (account : Account) → c < k.slots → desk.0 ≡ c → pen.0 ≡ c → Knows log (2 * desk.0) desk.1 → IsPensOwn pen → IsAccount desk pen account
+  served_so : (c : ℕ) (desk : DeskSeen) (pen : PenSeen) (account : Account) → c < k.slots → desk.0 ≡ c → pen.0 ≡ c → Knows log (2 * desk.0) desk.1 → IsPensOwn pen → IsAccount k desk pen account
       → IsSo c account
   served_so c desk pen account less d p seen gave is below =
       let counted = is.counted below in (
         are_served k account.limits log legal own c (takings c (steps_of log)) account.heard.past account.sent.past account.heard.since desk.1 pen.1 is.talking
-            (subst (λ (n : ℕ). AreHeard n account.limits account.heard.past account.heard.since) d is.are_heard)
-            (subst (λ (n : ℕ). IsTalking n account.limits account.heard.since desk.1 is.talking) d is.talks)
+            (subst (λ (n : ℕ). AreHeard k n account.limits account.heard.past account.heard.since) d is.are_heard)
+            (subst (λ (n : ℕ). IsTalking k n account.limits account.heard.since desk.1 is.talking) d is.talks)
             (subst (λ (n : ℕ). Knows log (2 * n) desk.1) d seen)
             (subst (λ (n : ℕ). ArePast n account.sent.past pen.1 (takings n (steps_of log))) p (subst (ArePast pen.0 account.sent.past pen.1) (gave.1 (subst (λ (n : ℕ). n < k.slots) (sym p) less)) is.past))
             (subst (λ (n : ℕ). AreOver n account.sent.past pen.1) p counted.1)
@@ -181,7 +181,7 @@ module _ (k : Settings) (log : List Entry) (legal : Legal k log) (own : AreOwn l
       )
 
   each_from : (c n : ℕ) (desks : List DeskSeen) (pens : List PenSeen) (accounts : List Account) (rest : List ℕ) → c + n ≤ k.slots → map (λ d. d.0) desks ≡ counting c n ++ rest → map (λ p. p.0) pens ≡ counting c n
-      → ByRecursion (λ d. Knows log (2 * d.0) d.1) desks → ByRecursion IsPensOwn pens → AreAccounts desks pens accounts
+      → ByRecursion (λ d. Knows log (2 * d.0) d.1) desks → ByRecursion IsPensOwn pens → AreAccounts k desks pens accounts
       → (i : ℕ) (account : Account) → slice_get accounts i ≡ Some account → IsSo (c + i) account
   each_from c n desks pens [] rest most d p seen gave are i account is = absurd cc
   each_from c n [] pens (a ∷ accounts) rest most d p seen gave are i account is = absurd are
@@ -205,7 +205,7 @@ pub accounted : {A B : Type 0} (number : A → ℕ) (desk_share : A → List Tol
     → map told_by shares ≡ map (λ desk. (Desk (number desk), desk_share desk)) desks ++ map (λ pen. (Pen (slot pen), pen_share pen)) pens
     → All (HasSeenOwn log) (map desk_witness desks ++ map pen_witness pens) → All (λ desk. (desk_witness desk).who ≡ 2 * number desk) desks → All (λ pen. (pen_witness pen).who ≡ 2 * slot pen + 1) pens
     → All (λ pen. slot pen < k.slots → takes pen ≡ takings (slot pen) (steps_of log)) pens → map (λ (share : Share). share.actor) shares ≡ everybody k.slots
-    → AreAccounts (map (λ desk. (number desk, (desk_witness desk).seen)) desks) (map (λ pen. (slot pen, (pen_witness pen).seen, takes pen)) pens) accounts → length accounts ≡ k.slots → AreCounted limits log accounts
+    → AreAccounts k (map (λ desk. (number desk, (desk_witness desk).seen)) desks) (map (λ pen. (slot pen, (pen_witness pen).seen, takes pen)) pens) accounts → length accounts ≡ k.slots → AreCounted limits log accounts
     → AreAccounted k limits log accounts
 accounted {A} {B} number desk_share desk_witness slot pen_share pen_witness takes k limits log legal own desks pens shares accounts are seen desk_who pen_who took all accounts_are count told =
     let first : Actor × List Told → Actor = λ pair. pair.0 in

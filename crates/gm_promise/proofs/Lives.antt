@@ -500,13 +500,13 @@ record IsUnit (c : ℕ) (s : Step) : Type 0 where
   pub said : says c (slot_of s) ≡ true
   pub closes_none : (older : List Step) → closings c (s ∷ older) ≡ closings c older
 
-unit_is : (c : ℕ) (item : Item) → IsUnit c (step_of_unit c item)
-unit_is c (APacket kind bytes) = record { said = same_number c; closes_none = λ older. refl }
-unit_is c (ALine bytes) = record { said = same_number c; closes_none = λ older. refl }
+unit_is : (k : Settings) (c : ℕ) (item : Item) → IsUnit c (step_of_unit k c item)
+unit_is k c (APacket kind bytes) = record { said = same_number c; closes_none = λ older. refl }
+unit_is k c (ALine bytes) = record { said = same_number c; closes_none = λ older. refl }
 
-units_are : (c : ℕ) (items : List Item) → ByRecursion (IsUnit c) (map (step_of_unit c) items)
-units_are c [] = tt
-units_are c (item ∷ items) = (unit_is c item, units_are c items)
+units_are : (k : Settings) (c : ℕ) (items : List Item) → ByRecursion (IsUnit c) (map (step_of_unit k c) items)
+units_are k c [] = tt
+units_are k c (item ∷ items) = (unit_is k c item, units_are k c items)
 
 both : (c : ℕ) (xs ys : List Step) → ByRecursion (IsUnit c) xs → ByRecursion (IsUnit c) ys → ByRecursion (IsUnit c) (xs ++ ys)
 both c [] ys a b = b
@@ -516,14 +516,14 @@ turned : (c : ℕ) (xs : List Step) → ByRecursion (IsUnit c) xs → ByRecursio
 turned c [] a = tt
 turned c (x ∷ xs) a = subst (ByRecursion (IsUnit c)) (sym (reverse-append (x ∷ []) xs)) (both c (reverse xs) (x ∷ []) (turned c xs a.1) (a.0, tt))
 
-session_units : (c : ℕ) (items : List Item) (fault : Option UnitFault) → ByRecursion (IsUnit c) (reverse (steps_of_units c items fault))
-session_units c items fault = turned c (steps_of_units c items fault) (both c (map (step_of_unit c) items) (fault_steps c fault) (units_are c items) (by fault))
+session_units : (k : Settings) (c : ℕ) (items : List Item) (fault : Option UnitFault) → ByRecursion (IsUnit c) (reverse (steps_of_units k c items fault))
+session_units k c items fault = turned c (steps_of_units k c items fault) (both c (map (step_of_unit k c) items) (fault_steps c fault) (units_are k c items) (by fault))
   where
     by : (fault : Option UnitFault) → ByRecursion (IsUnit c) (fault_steps c fault)
     by None = tt
     by (Some fault) = (record { said = same_number c; closes_none = λ older. refl }, tt)
 
-module _ (c : ℕ) where
+module _ (k : Settings) (c : ℕ) where
   closings_units : (xs ys : List Step) → ByRecursion (IsUnit c) xs → closings c (xs ++ ys) ≡ closings c ys
   closings_units [] ys a = refl
   closings_units (x ∷ xs) ys a = a.0.closes_none (xs ++ ys) ∙ closings_units xs ys a.1
@@ -570,70 +570,70 @@ module _ (c : ℕ) where
 
   -- ---- the connections that are closed
 
-  abbrev heard_events : (limits : Limits) (heard : List Heard) (since : List Entry) → AreHeard c limits heard since → List Step
+  abbrev heard_events : (limits : Limits) (heard : List Heard) (since : List Entry) → AreHeard k c limits heard since → List Step
   heard_events limits [] since are = []
-  heard_events limits (h ∷ older) since are = Close c ∷ (reverse (steps_of_units c are.1.items are.1.fault) ++ heard_events limits older h.since are.2)
+  heard_events limits (h ∷ older) since are = Close c ∷ (reverse (steps_of_units k c are.1.items are.1.fault) ++ heard_events limits older h.since are.2)
 
-  events_are : (limits : Limits) (heard : List Heard) (since : List Entry) (are : AreHeard c limits heard since) → events_of c since ≡ heard_events limits heard since are
+  events_are : (limits : Limits) (heard : List Heard) (since : List Entry) (are : AreHeard k c limits heard since) → events_of c since ≡ heard_events limits heard since are
   events_are limits [] since are = ap (events_of c) are
   events_are limits (h ∷ older) since are =
-      let steps = steps_of_units c are.1.items are.1.fault in
+      let steps = steps_of_units k c are.1.items are.1.fault in
       ap (events_of c) (are.0 ∙ are.1.adds.goes_on)
       ∙ (events_of_more c are.1.adds.newer h.since
       ∙ ap₂ (λ xs ys. xs ++ ys) (are.1.adds.events_are ∙ reverse-append steps (Close c ∷ [])) (events_are limits older h.since are.2))
 
-  closings_heard : (limits : Limits) (heard : List Heard) (since : List Entry) (are : AreHeard c limits heard since) → closings c (heard_events limits heard since are) ≡ length heard
+  closings_heard : (limits : Limits) (heard : List Heard) (since : List Entry) (are : AreHeard k c limits heard since) → closings c (heard_events limits heard since are) ≡ length heard
   closings_heard limits [] since are = refl
   closings_heard limits (h ∷ older) since are =
-      let units = reverse (steps_of_units c are.1.items are.1.fault) in
+      let units = reverse (steps_of_units k c are.1.items are.1.fault) in
       let rest = heard_events limits older h.since are.2 in
       let first = closing_counts (units ++ rest) in
-      let among = closings_units units rest (session_units c are.1.items are.1.fault) in
+      let among = closings_units units rest (session_units k c are.1.items are.1.fault) in
       let before = closings_heard limits older h.since are.2 in
       omega (arith, first, among, before)
 
-  said_heard : (limits : Limits) (heard : List Heard) (since : List Entry) (are : AreHeard c limits heard since) → said_at c (heard_events limits heard since are) ≡ heard_events limits heard since are
+  said_heard : (limits : Limits) (heard : List Heard) (since : List Entry) (are : AreHeard k c limits heard since) → said_at c (heard_events limits heard since are) ≡ heard_events limits heard since are
   said_heard limits [] since are = refl
   said_heard limits (h ∷ older) since are =
-      let units = reverse (steps_of_units c are.1.items are.1.fault) in
+      let units = reverse (steps_of_units k c are.1.items are.1.fault) in
       let rest = heard_events limits older h.since are.2 in
       said_closing (units ++ rest)
-      ∙ ap (λ l. Close c ∷ l) (said_units units rest (session_units c are.1.items are.1.fault) ∙ ap (λ l. units ++ l) (said_heard limits older h.since are.2))
+      ∙ ap (λ l. Close c ∷ l) (said_units units rest (session_units k c are.1.items are.1.fault) ∙ ap (λ l. units ++ l) (said_heard limits older h.since are.2))
 
   -- there are no more blocks than closings
-  none_later : (limits : Limits) (heard : List Heard) (since : List Entry) (are : AreHeard c limits heard since) (m : ℕ) → length heard ≤ m → block m c (heard_events limits heard since are) ≡ []
+  none_later : (limits : Limits) (heard : List Heard) (since : List Entry) (are : AreHeard k c limits heard since) (m : ℕ) → length heard ≤ m → block m c (heard_events limits heard since are) ≡ []
   none_later limits [] since are m less = refl
   none_later limits (h ∷ older) since are m less =
-      let units = reverse (steps_of_units c are.1.items are.1.fault) in
+      let units = reverse (steps_of_units k c are.1.items are.1.fault) in
       let rest = heard_events limits older h.since are.2 in
       let long : closings c rest ≡ length older = closings_heard limits older h.since are.2 in
       let other : (closings c rest == m) ≡ false = ne_eqb (closings c rest) m (λ is. absurd (omega (arith, is, long, less))) in
-      let among : closings c (units ++ rest) ≡ closings c rest = closings_units units rest (session_units c are.1.items are.1.fault) in
+      let among : closings c (units ++ rest) ≡ closings c rest = closings_units units rest (session_units k c are.1.items are.1.fault) in
       ap (λ (n : ℕ). if n == m then Close c ∷ block m c (units ++ rest) else block m c (units ++ rest)) among
       ∙ (ap (λ (t : Bool). if t then Close c ∷ block m c (units ++ rest) else block m c (units ++ rest)) other
-      ∙ (block_units m false units rest (session_units c are.1.items are.1.fault) other ∙ none_later limits older h.since are.2 m (omega (arith, less))))
+      ∙ (block_units m false units rest (session_units k c are.1.items are.1.fault) other ∙ none_later limits older h.since are.2 m (omega (arith, less))))
 
   -- the block of a connection
-  its_block : (limits : Limits) (h : Heard) (older : List Heard) (since : List Entry) (are : AreHeard c limits (h ∷ older) since)
-      → block (length older) c (heard_events limits (h ∷ older) since are) ≡ Close c ∷ reverse (steps_of_units c are.1.items are.1.fault)
+  its_block : (limits : Limits) (h : Heard) (older : List Heard) (since : List Entry) (are : AreHeard k c limits (h ∷ older) since)
+      → block (length older) c (heard_events limits (h ∷ older) since are) ≡ Close c ∷ reverse (steps_of_units k c are.1.items are.1.fault)
   its_block limits h older since are =
       let m = length older in
-      let units = reverse (steps_of_units c are.1.items are.1.fault) in
+      let units = reverse (steps_of_units k c are.1.items are.1.fault) in
       let rest = heard_events limits older h.since are.2 in
       let here : (closings c rest == m) ≡ true = eq-eqb (closings c rest) m (closings_heard limits older h.since are.2) in
-      let among : closings c (units ++ rest) ≡ closings c rest = closings_units units rest (session_units c are.1.items are.1.fault) in
+      let among : closings c (units ++ rest) ≡ closings c rest = closings_units units rest (session_units k c are.1.items are.1.fault) in
       ap (λ (n : ℕ). if n == m then Close c ∷ block m c (units ++ rest) else block m c (units ++ rest)) among
       ∙ (ap (λ (t : Bool). if t then Close c ∷ block m c (units ++ rest) else block m c (units ++ rest)) here
-      ∙ ap (λ l. Close c ∷ l) (block_units m true units rest (session_units c are.1.items are.1.fault) here
+      ∙ ap (λ l. Close c ∷ l) (block_units m true units rest (session_units k c are.1.items are.1.fault) here
       ∙ (ap (λ l. units ++ l) (none_later limits older h.since are.2 m (omega arith)) ∙ append-nil units)))
 
-  handed_in : (k : Settings) (limits : Limits) (log : List Entry) → Legal k log → (heard : List Heard) (since : List Entry) (are : AreHeard c limits heard since) (newer : List Step)
-      → said_at c (steps_of log) ≡ newer ++ heard_events limits heard since are → AreHandedIn limits log c heard
-  handed_in k limits log legal [] since are newer is = tt
-  handed_in k limits log legal (h ∷ older) since are newer is =
+  handed_in : (limits : Limits) (log : List Entry) → Legal k log → (heard : List Heard) (since : List Entry) (are : AreHeard k c limits heard since) (newer : List Step)
+      → said_at c (steps_of log) ≡ newer ++ heard_events limits heard since are → AreHandedIn k limits log c heard
+  handed_in limits log legal [] since are newer is = tt
+  handed_in limits log legal (h ∷ older) since are newer is =
       let m = length older in
       let events = heard_events limits (h ∷ older) since are in
-      let units = reverse (steps_of_units c are.1.items are.1.fault) in
+      let units = reverse (steps_of_units k c are.1.items are.1.fault) in
       let rest = heard_events limits older h.since are.2 in
       let count = closings_heard limits (h ∷ older) since are in (
         record {
@@ -646,41 +646,41 @@ module _ (c : ℕ) where
           said = since_is k m c log legal ∙ (ap (block m c) is ∙ (later m newer events (omega (arith, count)) ∙ its_block limits h older since are));
           whole = are.1.whole;
         },
-        handed_in k limits log legal older h.since are.2 (newer ++ Close c ∷ units) (is ∙ sym (append_assoc newer (Close c ∷ units) rest)),
+        handed_in limits log legal older h.since are.2 (newer ++ Close c ∷ units) (is ∙ sym (append_assoc newer (Close c ∷ units) rest)),
       )
 
 -- what the present connection said, if there is one
-record Lead (c : ℕ) (since until : List Entry) : Type 0 where
+record Lead (k : Settings) (c : ℕ) (since until : List Entry) : Type 0 where
   pub items : List Item
   pub fault : Option UnitFault
-  pub adds : Adds c (steps_of_units c items fault) since until
+  pub adds : Adds c (steps_of_units k c items fault) since until
 
-lead_of : (c : ℕ) (limits : Limits) (since until : List Entry) (talking : Option TalkingState) → IsTalking c limits since until talking → Lead c since until
-lead_of c limits since until None is = record { items = []; fault = None; adds = is }
-lead_of c limits since until (Some t) is = by t.over is
+lead_of : (k : Settings) (c : ℕ) (limits : Limits) (since until : List Entry) (talking : Option TalkingState) → IsTalking k c limits since until talking → Lead k c since until
+lead_of k c limits since until None is = record { items = []; fault = None; adds = is }
+lead_of k c limits since until (Some t) is = by t.over is
   where
-    by : (b : Option Bool) → IsTalkingBy b c limits since until t → Lead c since until
+    by : (b : Option Bool) → IsTalkingBy k b c limits since until t → Lead k c since until
     by None so = record { items = so.hands.items; fault = None; adds = so.hands.adds }
     by (Some is_whole) so = record { items = so.hands.items; fault = so.fault; adds = so.hands.adds }
 
 pub are_served : (k : Settings) (limits : Limits) (log : List Entry) → Legal k log → AreOwn log → (c takes : ℕ) (heard : List Heard) (past : List Past)
     (since heard_until given_until : List Entry) (talking : Option TalkingState)
-    → AreHeard c limits heard since → IsTalking c limits since heard_until talking → Knows log (2 * c) heard_until
+    → AreHeard k c limits heard since → IsTalking k c limits since heard_until talking → Knows log (2 * c) heard_until
     → ArePast c past given_until takes → AreOver c past given_until → Knows log (2 * c + 1) given_until
     → AreServed k limits log c takes heard past
 are_served k limits log legal own c takes heard past since heard_until given_until talking are talks knows are_past over gave =
-    let lead = lead_of c limits since heard_until talking talks in
-    let units = reverse (steps_of_units c lead.items lead.fault) in
-    let events = heard_events c limits heard since are in
+    let lead = lead_of k c limits since heard_until talking talks in
+    let units = reverse (steps_of_units k c lead.items lead.fault) in
+    let events = heard_events k c limits heard since are in
     let all : events_of c log ≡ units ++ events =
     ap events_in (calls_known log (2 * c) heard_until knows)
-    ∙ (ap (events_of c) lead.adds.goes_on ∙ (events_of_more c lead.adds.newer since ∙ ap₂ (λ xs ys. xs ++ ys) lead.adds.events_are (events_are c limits heard since are))) in
+    ∙ (ap (events_of c) lead.adds.goes_on ∙ (events_of_more c lead.adds.newer since ∙ ap₂ (λ xs ys. xs ++ ys) lead.adds.events_are (events_are k c limits heard since are))) in
     let said : said_at c (steps_of log) ≡ units ++ events =
-    said_own c log own ∙ (ap (said_at c) all ∙ (said_units c units events (session_units c lead.items lead.fault) ∙ ap (λ l. units ++ l) (said_heard c limits heard since are))) in
+    said_own c log own ∙ (ap (said_at c) all ∙ (said_units k c units events (session_units k c lead.items lead.fault) ∙ ap (λ l. units ++ l) (said_heard k c limits heard since are))) in
     let closed : closings c (said_at c (steps_of log)) ≡ length heard =
-    ap (closings c) said ∙ (closings_units c units events (session_units c lead.items lead.fault) ∙ closings_heard c limits heard since are) in
+    ap (closings c) said ∙ (closings_units k c units events (session_units k c lead.items lead.fault) ∙ closings_heard k c limits heard since are) in
     record {
-      handed_in = handed_in c k limits log legal heard since are units said;
+      handed_in = handed_in k c limits log legal heard since are units said;
       all = balance k c log legal ∙ ap (λ (n : ℕ). n + one_if (is_open c (past_of k log).notes)) closed;
       sent = are_sent k log legal own c past given_until given_until takes (λ n. ap (drains_at n c) gave.goes_on ∙ none_drained n c gave.newer given_until gave.others) over are_past;
     }

@@ -79,9 +79,9 @@ all_given k log legal c =
 -- ---- sessions
 
 -- the events that a session handed in, among those of its desk
-pub in_order : (desk c : ℕ) (limits : Limits) (bytes rest : List ℕ) (fault : Option UnitFault) (seen after newer : List Entry) (h : HandsIn desk c limits bytes rest fault seen after)
-    → events_of desk (newer ++ after) ≡ events_of desk newer ++ (reverse (steps_of_units c h.items fault) ++ events_of desk seen)
-in_order desk c limits bytes rest fault seen after newer h =
+pub in_order : (k : Settings) (desk c : ℕ) (limits : Limits) (bytes rest : List ℕ) (fault : Option UnitFault) (seen after newer : List Entry) (h : HandsIn k desk c limits bytes rest fault seen after)
+    → events_of desk (newer ++ after) ≡ events_of desk newer ++ (reverse (steps_of_units k c h.items fault) ++ events_of desk seen)
+in_order k desk c limits bytes rest fault seen after newer h =
     events_of_more desk newer after
     ∙ ap (λ l. events_of desk newer ++ l) (ap (events_of desk) h.adds.goes_on ∙ (events_of_more desk h.adds.newer seen ∙ ap (λ l. l ++ events_of desk seen) h.adds.events_are))
 

@@ -15,18 +15,18 @@ use Rattle.gm_promise.specs.declared.account.Account.{Account}
 -- The desk of this number, which had seen this of the history, handed in what was read from the slot's connections; and to each was written what the pen of
 -- this slot gave for it, when it had seen this and taken this count of NOOPs. The account says to how many, and then it has all that the pen gave, if a
 -- count of 64 bits tells it.
-pub record IsAccount (desk : ℕ × List Entry) (pen : ℕ × List Entry × ℕ) (account : Account) : Type 0 where
+pub record IsAccount (k : Settings) (desk : ℕ × List Entry) (pen : ℕ × List Entry × ℕ) (account : Account) : Type 0 where
   pub talking : Option TalkingState
-  pub are_heard : AreHeard desk.0 account.limits account.heard.past account.heard.since
-  pub talks : IsTalking desk.0 account.limits account.heard.since desk.1 talking
+  pub are_heard : AreHeard k desk.0 account.limits account.heard.past account.heard.since
+  pub talks : IsTalking k desk.0 account.limits account.heard.since desk.1 talking
   pub past : ArePast pen.0 account.sent.past pen.1 pen.2
   pub counted : account.openings < most_openings → (length account.sent.past ≡ account.openings) × AreOver pen.0 account.sent.past pen.1
 
 -- these are the accounts of these desks and pens, in their order; there may be more desks
-abbrev pub AreAccounts : List (ℕ × List Entry) → List (ℕ × List Entry × ℕ) → List Account → Type 0
-AreAccounts desks pens [] = Unit {0}
-AreAccounts (desk ∷ desks) (pen ∷ pens) (account ∷ accounts) = IsAccount desk pen account × AreAccounts desks pens accounts
-AreAccounts desks pens accounts = ⊥
+abbrev pub AreAccounts : Settings → List (ℕ × List Entry) → List (ℕ × List Entry × ℕ) → List Account → Type 0
+AreAccounts k desks pens [] = Unit {0}
+AreAccounts k (desk ∷ desks) (pen ∷ pens) (account ∷ accounts) = IsAccount k desk pen account × AreAccounts k desks pens accounts
+AreAccounts k desks pens accounts = ⊥
 
 -- Each account says how often its slot was opened, and a count of 64 bits tells that. Its units were within these limits.
 abbrev pub AreCounted : Limits → List Entry → List Account → Type 0

@@ -45,20 +45,20 @@ said_since n c (e ∷ older) = if says c (slot_of (step_in e.step)) && (openings
 
 -- The connection of the n-th opening of slot c is closed, and this was read from it, by the half of a socket that was assigned to this opening: what the slot said are the first units of that, in order, then the
 -- fault behind them or none, and the closing. If it is said that these are all, no whole unit is left, and there was no fault.
-pub record IsHandedIn (limits : Limits) (log : List Entry) (c n : ℕ) (heard : Heard) : Type 0 where
+pub record IsHandedIn (k : Settings) (limits : Limits) (log : List Entry) (c n : ℕ) (heard : Heard) : Type 0 where
   pub own : IsReadOf c n heard.of heard.read
   pub items : List Item
   pub rest : List ℕ
   pub fault : Option UnitFault
   pub begins : BeginsWith limits heard.read items rest
   pub stands : IfSome fault (λ fault. IsFaultAt limits rest fault)
-  pub said : said_since n c log ≡ Close c ∷ reverse (steps_of_units c items fault)
+  pub said : said_since n c log ≡ Close c ∷ reverse (steps_of_units k c items fault)
   pub whole : heard.is_whole ≡ true → (fault ≡ None) × Waits limits rest
 
 -- so it is of each connection that is closed, the newest first; the last of them is of the first opening
-abbrev pub AreHandedIn : Limits → List Entry → ℕ → List Heard → Type 0
-AreHandedIn limits log c [] = Unit {0}
-AreHandedIn limits log c (heard ∷ older) = IsHandedIn limits log c (length older + 1) heard × AreHandedIn limits log c older
+abbrev pub AreHandedIn : Settings → Limits → List Entry → ℕ → List Heard → Type 0
+AreHandedIn k limits log c [] = Unit {0}
+AreHandedIn k limits log c (heard ∷ older) = IsHandedIn k limits log c (length older + 1) heard × AreHandedIn k limits log c older
 
 -- ---- what was written
 
@@ -93,7 +93,7 @@ AreSent k log c takes (p ∷ older) = (takes ≡ p.takes_after) × IsSent k log 
 -- What was read from each connection of slot c that is closed is handed in. There is one for each opening of the slot, but for the last one while the
 -- slot is open. What was written to each that is gone was sent to it, and for all of these together this number of NOOPs was taken.
 pub record AreServed (k : Settings) (limits : Limits) (log : List Entry) (c takes : ℕ) (heard : List Heard) (past : List Past) : Type 0 where
-  pub handed_in : AreHandedIn limits log c heard
+  pub handed_in : AreHandedIn k limits log c heard
   pub all : openings c log ≡ length heard + (if is_open c (past_of k log).notes then 1 else 0)
   pub sent : AreSent k log c takes past
 
@@ -103,6 +103,6 @@ pub record AreServed (k : Settings) (limits : Limits) (log : List Entry) (c take
 abbrev pub ConnectionsAreServed : Type 0
 ConnectionsAreServed = (k : Settings) (limits : Limits) (log : List Entry) → Legal k log → AreOwn log → (c takes : ℕ) (heard : List Heard) (past : List Past)
     (since heard_until given_until : List Entry) (talking : Option TalkingState)
-    → AreHeard c limits heard since → IsTalking c limits since heard_until talking → Knows log (2 * c) heard_until
+    → AreHeard k c limits heard since → IsTalking k c limits since heard_until talking → Knows log (2 * c) heard_until
     → ArePast c past given_until takes → AreOver c past given_until → Knows log (2 * c + 1) given_until
     → AreServed k limits log c takes heard past

@@ -38,10 +38,10 @@ use Rattle.gm_promise.specs.Owners.{AreOwn}
 -- A session handed in the units of what it read, while what its desk had seen grew from this to that: they are the desk's events in the
 -- history, in their order, and nothing of the desk's between them.
 abbrev pub SessionsAreInTheHistory : Type 0
-SessionsAreInTheHistory = (desk c : ℕ) (limits : Limits) (bytes rest : List ℕ) (fault : Option UnitFault) (seen after newer : List Entry)
-    → HandsIn desk c limits bytes rest fault seen after
+SessionsAreInTheHistory = (k : Settings) (desk c : ℕ) (limits : Limits) (bytes rest : List ℕ) (fault : Option UnitFault) (seen after newer : List Entry)
+    → HandsIn k desk c limits bytes rest fault seen after
     → (items : List Item) × BeginsWith limits bytes items rest
-    × (events_of desk (newer ++ after) ≡ events_of desk newer ++ (reverse (steps_of_units c items fault) ++ events_of desk seen))
+    × (events_of desk (newer ++ after) ≡ events_of desk newer ++ (reverse (steps_of_units k c items fault) ++ events_of desk seen))
 
 -- ---- whose it is
 

@@ -73,7 +73,8 @@ pub fn first_come_first_served()
     ensures { InEachEntry FirstComeFirstServed }
 {}
 
-/// WORK_COMPLETE and WORK_FAIL of the slot where a job runs end it, unless the slot is shut; so does a tick that reaches its deadline.
+/// WORK_COMPLETE and WORK_FAIL of the slot where a job runs end it, unless the slot is shut; with `as_gearmand` so does WORK_EXCEPTION. So
+/// does a tick that reaches its deadline.
 pub fn workers_and_clocks_end_jobs()
     ensures { InEachEntry WorkersAndClocksEndJobs }
 {}
@@ -108,8 +109,8 @@ pub fn waiting_jobs_are_wanted()
 /// Each entry does what its step says. A Close closes its slot, and its jobs wait again, are lost or are discarded. A slot sleeps, or is owed a
 /// NOOP, exactly after a PRE_SLEEP, until it grabs, closes or the NOOP is taken or withdrawn. JOB_ASSIGN is queued only where the job is given.
 /// Each ERROR and `ERR` line has its reason, and only what has a reason is refused. Without `--round-robin` the first ability with a waiting job
-/// wins. `status`, `workers`, `version` and ECHO_RES are true, and each connection has the name that it was given. Exceptions are passed on, ticks
-/// are taken, `shutdown` is answered. The answer names what is new.
+/// wins, with `as_gearmand` the first with one of the job's priority. `status`, `workers`, `version` and ECHO_RES are true, and each connection
+/// has the name that it was given. Exceptions are passed on, ticks are taken, `shutdown` is answered. The answer names what is new.
 pub fn each_entry_does_what_it_says()
     ensures closing { InEachEntry ClosingCloses }
     ensures asking { InEachEntry AskingIsEnough }

@@ -310,8 +310,8 @@ impl Functions {
         }
     }
 
-    // The first job of a queue.
-    fn first_in(&mut self, f: u32, p: Priority) -> Option<u64>
+    /// The oldest job of a function that waits with a priority.
+    pub fn first_in(&mut self, f: u32, p: Priority) -> Option<u64>
         requires { f < length self.old.names }
         ensures value { result ≡ slice_get (queue self.old f p).jobs 0 }
         ensures same { self.new ≡ self.old }

@@ -2,12 +2,13 @@
 //! doesn't serve once, for the first 64 such types.
 
 ghost use Rattle.std.specs.Prelude.{◌≡◌, ◌++◌, ◌∷◌, [], ◌&&◌, not, true, false, take};
-ghost use Rattle.std.specs.Prelude.{nat_lt};
+ghost use Rattle.std.specs.Prelude.{◌-◌, nat_lt, nat_le};
 ghost use Rattle.std.specs.List.{list_any};
 ghost use Rattle.gm_report.specs.Notices.{met, is_well, cleared, spoken, is_of_type};
 
 use crate::error::ServeError;
 use crate::summary::Summary;
+use crate::timing::SAID_AGAIN_MS;
 use std::net::SocketAddr;
 
 /// How many kinds of trouble there are.
@@ -15,6 +16,9 @@ pub(crate) const TROUBLES: usize = 8;
 
 /// How many types of packets are said that aren't requests. No peer can fill standard error with more.
 const MOST_TYPES: usize = 64;
+
+/// The packet type of GRAB_JOB_ALL, which is served only with `--as-gearmand`.
+pub(crate) const GRAB_JOB_ALL: u32 = 39;
 
 /// Why a connection isn't served.
 #[derive(Clone, Copy, Debug, PartialEq, Eq)]
@@ -123,6 +127,11 @@ pub(crate) struct Notices {
     type_count: usize,
     /// How many of them were said.
     said_types: usize,
+    /// How many grabs of the type GRAB_JOB_ALL came since that was last said, and when it was, in milliseconds.
+    grabs: u64,
+    grabs_said_ms: u64,
+    /// How many of these are to be said.
+    pub(crate) due_grabs: u64,
     /// There is something to be said.
     pub(crate) is_due: bool,
     /// How the server ended, and whether that was said.
@@ -149,6 +158,9 @@ impl Notices {
             types: [(0, None); MOST_TYPES],
             type_count: 0,
             said_types: 0,
+            grabs: 0,
+            grabs_said_ms: 0,
+            due_grabs: 0,
             is_due: false,
             outcome: None,
             is_end_said: false,
@@ -204,6 +216,27 @@ impl Notices {
         true
     }
 
+    /// At this time, in milliseconds, a grab of the type GRAB_JOB_ALL came that isn't the first. It says whether that is to be said: once
+    /// a minute.
+    pub(crate) fn count_grab(&mut self, now_ms: u64) -> bool
+        ensures { result ≡ nat_le 60000 (now_ms - self.old.grabs_said_ms) }
+    {
+        self.grabs = self.grabs.saturating_add(1);
+        if now_ms.saturating_sub(self.grabs_said_ms) < SAID_AGAIN_MS {
+            return false;
+        }
+        self.due_grabs = self.grabs;
+        self.grabs = 0;
+        self.grabs_said_ms = now_ms;
+        self.is_due = true;
+        true
+    }
+
+    /// The first grab of the type GRAB_JOB_ALL came at this time, in milliseconds, which is said with its type.
+    pub(crate) fn begin_grabs(&mut self, now_ms: u64) {
+        self.grabs_said_ms = now_ms;
+    }
+
     /// The types that are to be said, each with the peer that sent the first such packet.
     pub(crate) fn due_types(&self) -> &[(u32, Option<SocketAddr>)] {
         self.types
@@ -215,6 +248,7 @@ impl Notices {
     pub(crate) fn take(&mut self) {
         self.is_due = false;
         self.said_types = self.type_count;
+        self.due_grabs = 0;
         for remark in &mut self.troubles {
             remark.say();
         }

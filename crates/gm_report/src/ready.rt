@@ -33,6 +33,8 @@ pub struct Announcer<'w, W> {
     output: &'w mut W,
     /// The output took what it was told.
     pub is_well: bool,
+    /// The server serves what was written for gearmand unchanged.
+    as_gearmand: bool,
     /// Where systemd listens, if it is told.
     systemd: io::Result<Option<Address>>,
     /// It was told that the server is ready.
@@ -47,6 +49,7 @@ impl<'w, W: Write> Announcer<'w, W> {
         Announcer {
             output,
             is_well: true,
+            as_gearmand: false,
             systemd: Ok(None),
             is_ready: false,
             told: None,
@@ -60,11 +63,22 @@ impl<'w, W: Write> Announcer<'w, W> {
         announcer
     }
 
+    /// Says with the announcement whether the server serves what was written for gearmand unchanged.
+    pub fn with_as_gearmand(self, as_gearmand: bool) -> Announcer<'w, W> {
+        let mut announcer = self;
+        announcer.as_gearmand = as_gearmand;
+        announcer
+    }
+
     /// Announces that the server's book is open, its threads are there, and it is about to take connections, and says whether the output
     /// took that. Where not, the server is to end at once.
     pub fn announce(&mut self, rt: &impl Wait, speaker: &Speaker) -> bool {
-        self.is_well = self.output.write_all(b"gmd: listening\n").is_ok()
-            && self.output.flush().is_ok();
+        let line: &[u8] = if self.as_gearmand {
+            b"gmd: listening, as gearmand\n"
+        } else {
+            b"gmd: listening\n"
+        };
+        self.is_well = self.output.write_all(line).is_ok() && self.output.flush().is_ok();
         if self.is_well {
             self.tell_ready(rt, speaker);
         }

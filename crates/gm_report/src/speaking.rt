@@ -3,10 +3,10 @@
 
 use crate::error::ServeError;
 use crate::levels::Levels;
-use crate::notices::{Notices, Remark, TROUBLES, Trouble};
+use crate::notices::{GRAB_JOB_ALL, Notices, Remark, TROUBLES, Trouble};
 use crate::ready::Report;
 use crate::summary::Summary;
-use crate::timing::{PAUSE_MS, SAYING_TIME_MS};
+use crate::timing::{PAUSE_MS, SAYING_TIME_MS, now_ms};
 use std::alloc::{AllocError, Global};
 use std::io::Error;
 use std::net::SocketAddr;
@@ -66,10 +66,14 @@ impl Speaker {
     }
 
     /// A packet of this type came from this peer, which isn't a request's.
-    pub fn remark_type(&self, rt: &impl Wait, kind: u32, peer: Option<SocketAddr>) {
+    pub fn remark_type(&self, rt: &(impl Wait + Clock), kind: u32, peer: Option<SocketAddr>) {
+        let now = if kind == GRAB_JOB_ALL { now_ms(rt) } else { 0 };
         let mut remarks = self.remarks.lock(rt);
         remarks.not_served = remarks.not_served.saturating_add(1);
         if remarks.note(kind, peer) {
+            remarks.begin_grabs(now);
+            self.changed.notify_all();
+        } else if kind == GRAB_JOB_ALL && remarks.count_grab(now) {
             self.changed.notify_all();
         }
     }
@@ -160,8 +164,18 @@ fn say_due(rt: &impl Eprint, level: &'static str, remarks: &Notices, slots: u32)
     for (kind, peer) in remarks.due_types() {
         say_type(rt, level, *kind, peer);
     }
+    if remarks.due_grabs > 0 {
+        let count = remarks.due_grabs;
+        let _ = eprintln!(rt;
+            "{level}gmd: packets of type 39 (GRAB_JOB_ALL) came again, which gmd doesn't serve: {count}{GRAB_CURE}"
+        );
+    }
     say_troubles(rt, level, &remarks.troubles, slots);
 }
+
+/// What helps a worker that grabs by GRAB_JOB_ALL.
+const GRAB_CURE: &str =
+    ": start gmd with --as-gearmand, or the worker with the option GEARMAN_WORKER_GRAB_UNIQ";
 
 /// Says that a packet of this type came, which is no request.
 fn say_type(rt: &impl Eprint, level: &'static str, kind: u32, peer: &Option<SocketAddr>) {
@@ -174,11 +188,7 @@ fn say_type(rt: &impl Eprint, level: &'static str, kind: u32, peer: &Option<Sock
         41 => " (GET_STATUS_UNIQUE)",
         _ => "",
     };
-    let cure = if kind == 39 {
-        ": a worker that asks so needs the option GEARMAN_WORKER_GRAB_UNIQ"
-    } else {
-        ""
-    };
+    let cure = if kind == GRAB_JOB_ALL { GRAB_CURE } else { "" };
     let _ = match peer {
         Some(peer) => {
             eprintln!(rt;

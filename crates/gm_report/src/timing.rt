@@ -33,6 +33,9 @@ pub const TURN_TIME_US: u64 = 250;
 /// How long nothing is said on standard error after something was said.
 pub(crate) const PAUSE_MS: u64 = 1_000;
 
+/// After how long it is said again that workers grab jobs in vain: "said once, and once a minute while such packets come".
+pub(crate) const SAID_AGAIN_MS: u64 = 60_000;
+
 /// How long the program's end waits for whoever reads what is said there.
 pub(crate) const SAYING_TIME_MS: u64 = 2_000;
 

@@ -11,4 +11,5 @@ asked_settings args = record {
   max_functions = 65536;
   round_robin = args.server.round_robin;
   retries = args.server.job_retries;
+  as_gearmand = args.server.as_gearmand;
 }

@@ -42,5 +42,6 @@ pub record Reads (words : List Text) (args : Args) : Type 0 where
   pub slots : ReadsNumber (one_of (codes "slots") (matches_of gmd_app words)) 64 args.server.slots
   pub round_robin : ReadsFlag (one_of (codes "round-robin") (matches_of gmd_app words)) args.server.round_robin
   pub job_retries : ReadsNumber (one_of (codes "job-retries") (matches_of gmd_app words)) 0 args.server.job_retries
+  pub as_gearmand : ReadsFlag (one_of (codes "as-gearmand") (matches_of gmd_app words)) args.server.as_gearmand
   pub check : ReadsFlag (one_of (codes "check") (matches_of gmd_app words)) args.check
   pub tape : ReadsFlag (one_of (codes "tape") (matches_of gmd_app words)) args.tape

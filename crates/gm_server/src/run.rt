@@ -70,7 +70,8 @@ fn settings_of(alloc: Global, args: Args<'_>) -> Result<Settings, RunError>
     Ok(Settings {
         config: config
             .with_round_robin(args.server.round_robin)
-            .with_retries(args.server.job_retries),
+            .with_retries(args.server.job_retries)
+            .with_as_gearmand(args.server.as_gearmand),
         limits: args.server.limits,
         tape: args.tape,
     })
@@ -103,6 +104,9 @@ fn print_settings<W: Write>(args: Args<'_>, w: &mut W) -> io::Result<()> {
     }
     if has_io_threads {
         writeln!(w, "io-threads={io_threads}")?;
+    }
+    if args.server.as_gearmand {
+        writeln!(w, "as-gearmand=1")?;
     }
     w.flush()
 }
@@ -220,7 +224,9 @@ fn serve_on<
         speaker: Arc::try_clone(&speaker)?,
         seed,
     };
-    let mut announcer = Announcer::new(w).with_systemd(rt);
+    let mut announcer = Announcer::new(w)
+        .with_systemd(rt)
+        .with_as_gearmand(args.server.as_gearmand);
     let ended = serve_with(
         rt,
         alloc,

@@ -12,8 +12,10 @@ use Rattle.gm_feeder.proofs.StreamLemmas.{unit_not_empty}
 use Rattle.gm_notes.specs.declared.event.UnitFault.{UnitFault}
 use Rattle.gm_notes.specs.Settings.{Settings}
 use Rattle.gm_notes.specs.Steps.{Step, Fault}
-use Rattle.gm_front.specs.Units.{step_of_unit, steps_of, IsFaultAt, BeginsWith, GivesEvent, GivesFaultAs}
+use Rattle.gm_front.specs.Readings.{step_read}
+use Rattle.gm_front.specs.Units.{step_said, step_of_unit, steps_of, IsFaultAt, BeginsWith, GivesEvent, GivesFaultAs}
 use Rattle.gm_front.proofs.Heads.{begins_then, begins_stay, begins_more}
+use Rattle.gm_front.proofs.Reading.{unit_read}
 use Rattle.gm_shared.specs.declared.tape.Entry.{Entry}
 use Rattle.gm_shared.proofs.Sharing.{events_of_more}
 use Rattle.gm_session.specs.declared.session.SessionEnd.{SessionEnd}
@@ -40,56 +42,56 @@ pub adds_same : (desk : ℕ) (xs ys : List Step) (seen after : List Entry) → x
 adds_same desk xs ys seen after e a = subst (λ zs. Adds desk zs seen after) e a
 
 -- the steps of units, and then more
-steps_then : (c : ℕ) (items more : List Item) (fault : Option UnitFault) → map (step_of_unit c) items ++ steps_of c more fault ≡ steps_of c (items ++ more) fault
-steps_then c [] more fault = refl
-steps_then c (item ∷ items) more fault = ap (λ steps. step_of_unit c item ∷ steps) (steps_then c items more fault)
+steps_then : (k : Settings) (c : ℕ) (items more : List Item) (fault : Option UnitFault) → map (step_of_unit k c) items ++ steps_of k c more fault ≡ steps_of k c (items ++ more) fault
+steps_then k c [] more fault = refl
+steps_then k c (item ∷ items) more fault = ap (λ steps. step_of_unit k c item ∷ steps) (steps_then k c items more fault)
 
 -- ---- a feeder that is emptied
 
 -- these units were handed in
-pub record Handed (desk c : ℕ) (limits : Limits) (bytes rest : List ℕ) (seen after : List Entry) : Type 0 where
+pub record Handed (k : Settings) (desk c : ℕ) (limits : Limits) (bytes rest : List ℕ) (seen after : List Entry) : Type 0 where
   pub items : List Item
   pub begins : BeginsWith limits bytes items rest
-  pub adds : Adds desk (map (step_of_unit c) items) seen after
+  pub adds : Adds desk (map (step_of_unit k c) items) seen after
 
-pub handed_none : (desk c : ℕ) (limits : Limits) (bytes : List ℕ) (seen : List Entry) → Handed desk c limits bytes bytes seen seen
-handed_none desk c limits bytes seen = record { items = []; begins = refl; adds = adds_none desk seen }
+pub handed_none : (k : Settings) (desk c : ℕ) (limits : Limits) (bytes : List ℕ) (seen : List Entry) → Handed k desk c limits bytes bytes seen seen
+handed_none k desk c limits bytes seen = record { items = []; begins = refl; adds = adds_none desk seen }
 
 -- what was handed in, with the fault that stands behind it or without
-hands : (desk c : ℕ) (limits : Limits) (bytes rest : List ℕ) (fault : Option UnitFault) (seen mid after : List Entry) → Handed desk c limits bytes rest seen mid
-    → IfSome fault (λ fault. IsFaultAt limits rest fault) → Adds desk (steps_of c [] fault) mid after → HandsIn desk c limits bytes rest fault seen after
-hands desk c limits bytes rest fault seen mid after h stands adds = record {
+hands : (k : Settings) (desk c : ℕ) (limits : Limits) (bytes rest : List ℕ) (fault : Option UnitFault) (seen mid after : List Entry) → Handed k desk c limits bytes rest seen mid
+    → IfSome fault (λ fault. IsFaultAt limits rest fault) → Adds desk (steps_of k c [] fault) mid after → HandsIn k desk c limits bytes rest fault seen after
+hands k desk c limits bytes rest fault seen mid after h stands adds = record {
   items = h.items;
   begins = h.begins;
   stands = stands;
-  adds = adds_then desk (map (step_of_unit c) h.items) (steps_of c [] fault) seen mid after h.adds adds;
+  adds = adds_then desk (map (step_of_unit k c) h.items) (steps_of k c [] fault) seen mid after h.adds adds;
 }
 
 -- some units of the feeder were handed in, and the rest stands there still
-pub record Unloading (desk c : ℕ) (old : Stream) (seen after : List Entry) (new : Stream) : Type 0 where
-  pub handed : Handed desk c old.limits old.pending new.pending seen after
+pub record Unloading (k : Settings) (desk c : ℕ) (old : Stream) (seen after : List Entry) (new : Stream) : Type 0 where
+  pub handed : Handed k desk c old.limits old.pending new.pending seen after
   pub limited : new.limits ≡ old.limits
 
-pub unloading_none : (desk c : ℕ) (old : Stream) (seen : List Entry) → Unloading desk c old seen seen old
-unloading_none desk c old seen = record { handed = handed_none desk c old.limits old.pending seen; limited = refl }
+pub unloading_none : (k : Settings) (desk c : ℕ) (old : Stream) (seen : List Entry) → Unloading k desk c old seen seen old
+unloading_none k desk c old seen = record { handed = handed_none k desk c old.limits old.pending seen; limited = refl }
 
-module _ (k : Settings) (taped : Bool) (desk c : ℕ) (old : Stream) (seen mid_seen after : List Entry) (mid new : Stream) (u : Unloading desk c old seen mid_seen mid) where
-  pub unloading_more : (may_be_long : Bool) → TakesNext k taped desk c mid (Ok (AUnit may_be_long)) mid_seen after new → Unloading desk c old seen after new
+module _ (k : Settings) (taped : Bool) (desk c : ℕ) (old : Stream) (seen mid_seen after : List Entry) (mid new : Stream) (u : Unloading k desk c old seen mid_seen mid) where
+  pub unloading_more : (may_be_long : Bool) → TakesNext k taped desk c mid (Ok (AUnit may_be_long)) mid_seen after new → Unloading k desk c old seen after new
   unloading_more may_be_long t = record {
     handed = record {
       items = u.handed.items ++ t.0 ∷ [];
       begins = begins_more old.limits old.pending u.handed.items t.0 mid new u.limited u.handed.begins t.1;
-      adds = adds_same desk (map (step_of_unit c) u.handed.items ++ step_of_unit c t.0 ∷ []) (map (step_of_unit c) (u.handed.items ++ t.0 ∷ [])) seen after
-          (sym (map-append (step_of_unit c) u.handed.items (t.0 ∷ [])))
-          (adds_then desk (map (step_of_unit c) u.handed.items) (step_of_unit c t.0 ∷ []) seen mid_seen after u.handed.adds t.2);
+      adds = adds_same desk (map (step_of_unit k c) u.handed.items ++ step_of_unit k c t.0 ∷ []) (map (step_of_unit k c) (u.handed.items ++ t.0 ∷ [])) seen after
+          (sym (map-append (step_of_unit k c) u.handed.items (t.0 ∷ [])))
+          (adds_then desk (map (step_of_unit k c) u.handed.items) (step_of_unit k c t.0 ∷ []) seen mid_seen after u.handed.adds t.2);
     };
     limited = ap (λ (s : Stream). s.limits) t.1.kept ∙ u.limited;
   }
 
   pub unloads_all : TakesNext k taped desk c mid (Ok Nothing) mid_seen after new → Unloads k taped desk c old (Ok turns.Emptied) seen after new
   unloads_all t = record {
-    hands = hands desk c old.limits old.pending new.pending None seen mid_seen after
-        (subst (λ (s : Stream). Handed desk c old.limits old.pending s.pending seen mid_seen) (sym t.0.kept) u.handed) tt
+    hands = hands k desk c old.limits old.pending new.pending None seen mid_seen after
+        (subst (λ (s : Stream). Handed k desk c old.limits old.pending s.pending seen mid_seen) (sym t.0.kept) u.handed) tt
         (subst (λ (l : List Entry). Adds desk [] mid_seen l) (sym t.1) (adds_none desk mid_seen));
     waits = λ is. subst (λ (s : Stream). Waits old.limits s.pending) (sym t.0.kept) (subst (λ (l : Limits). Waits l mid.pending) u.limited t.0.waits);
     limited = ap (λ (s : Stream). s.limits) t.0.kept ∙ u.limited;
@@ -100,16 +102,16 @@ module _ (k : Settings) (taped : Bool) (desk c : ℕ) (old : Stream) (seen mid_s
   unloads_stops end t = record {
     rest = mid.pending;
     fault = t.fault;
-    hands = hands desk c old.limits old.pending mid.pending t.fault seen mid_seen after u.handed
+    hands = hands k desk c old.limits old.pending mid.pending t.fault seen mid_seen after u.handed
         (subst (λ (l : Limits). IfSome t.fault (λ fault. IsFaultAt l mid.pending fault)) u.limited t.stands) t.adds;
     broken = t.broken;
     shut = λ is. subst (λ (l : Limits). IsShutBy k taped desk c l mid.pending t.fault after) u.limited (t.shut is);
   }
 
 -- what was taken is not all, perhaps
-pub unloads_some : (k : Settings) (taped : Bool) (desk c : ℕ) (old : Stream) (seen after : List Entry) (new : Stream) → Unloading desk c old seen after new → Unloads k taped desk c old (Ok turns.Cut) seen after new
+pub unloads_some : (k : Settings) (taped : Bool) (desk c : ℕ) (old : Stream) (seen after : List Entry) (new : Stream) → Unloading k desk c old seen after new → Unloads k taped desk c old (Ok turns.Cut) seen after new
 unloads_some k taped desk c old seen after new u = record {
-  hands = hands desk c old.limits old.pending new.pending None seen after after u.handed tt (adds_none desk after);
+  hands = hands k desk c old.limits old.pending new.pending None seen after after u.handed tt (adds_none desk after);
   waits = λ is. absurd cc;
   limited = u.limited;
 }
@@ -122,9 +124,13 @@ at_home k taped desk c n mid new seen after result same t = subst (λ (i : ℕ).
 -- ---- the next unit
 
 module _ (k : Settings) (taped : Bool) (desk c : ℕ) (old mid new : Stream) (seen after : List Entry) (same : mid ≡ old) where
-  pub next_unit : (s : Step) (may_be_long : Bool) → GivesEvent c mid s new → Applies k taped desk s (Ok tt) seen after → TakesNext k taped desk c old (Ok (AUnit may_be_long)) seen after new
+  -- what the unit says is read as its step
+  read_as : (s : Step) (g : GivesEvent c mid s new) → step_read k.as_gearmand s ≡ step_of_unit k c g.item
+  read_as s g = ap (step_read k.as_gearmand) g.is_step ∙ unit_read k c g.item
+
+  pub next_unit : (s : Step) (may_be_long : Bool) → GivesEvent c mid s new → Applies k taped desk (step_read k.as_gearmand s) (Ok tt) seen after → TakesNext k taped desk c old (Ok (AUnit may_be_long)) seen after new
   next_unit s may_be_long g applies =
-      (g.item, subst (λ (m : Stream). GivesUnit m g.item new) same g.gives, adds_same desk (s ∷ []) (step_of_unit c g.item ∷ []) seen after (ap (λ (x : Step). x ∷ []) g.is_step) applies)
+      (g.item, subst (λ (m : Stream). GivesUnit m g.item new) same g.gives, adds_same desk (step_read k.as_gearmand s ∷ []) (step_of_unit k c g.item ∷ []) seen after (ap (λ (x : Step). x ∷ []) (read_as s g)) applies)
 
   pub next_none : GivesNone mid new → after ≡ seen → TakesNext k taped desk c old (Ok Nothing) seen after new
   next_none g left = (subst (λ (m : Stream). GivesNone m new) same g, left)
@@ -142,20 +148,20 @@ module _ (k : Settings) (taped : Bool) (desk c : ℕ) (old mid new : Stream) (se
   }
 
   -- a unit or a fault that was refused
-  stops : (s : Step) (end : SessionEnd) → StandsNext c old.limits old.pending s → Applies k taped desk s (Err end) seen after → Stops k taped desk c old end seen after
+  stops : (s : Step) (end : SessionEnd) → StandsNext k c old.limits old.pending s → Applies k taped desk s (Err end) seen after → Stops k taped desk c old end seen after
   stops s end stands applies = record { fault = None; stands = tt; adds = applies.0; broken = applies.1; shut = λ is. (s, stands, applies.2 is) }
 
-  pub unit_stops : (s : Step) (end : SessionEnd) → GivesEvent c mid s new → Applies k taped desk s (Err end) seen after → Stops k taped desk c old end seen after
+  pub unit_stops : (s : Step) (end : SessionEnd) → GivesEvent c mid s new → Applies k taped desk (step_read k.as_gearmand s) (Err end) seen after → Stops k taped desk c old end seen after
   unit_stops s end g applies =
-      stops s end (subst (λ (x : Step). StandsNext c old.limits old.pending x) (sym g.is_step)
+      stops (step_read k.as_gearmand s) end (subst (λ (x : Step). StandsNext k c old.limits old.pending x) (sym (read_as s g))
       (unit g.item new.pending (subst (λ (m : Stream). IsUnitThen m.limits m.pending g.item new.pending) same g.gives.unit))) applies
 
   pub fault_stops : (fault : UnitFault) (end : SessionEnd) → GivesFaultAs mid fault new → Applies k taped desk (Fault c fault) (Err end) seen after → Stops k taped desk c old end seen after
   fault_stops fault end g applies = stops (Fault c fault) end (broken fault (fault_stands fault g)) applies
 
 -- a packet that was taken with its memory was refused
-pub packet_stops : (k : Settings) (taped : Bool) (desk c : ℕ) (old new : Stream) (item : Item) (s : Step) (end : SessionEnd) (seen after : List Entry) → s ≡ step_of_unit c item → GivesUnit old item new
-    → Applies k taped desk s (Err end) seen after → Stops k taped desk c old end seen after
+pub packet_stops : (k : Settings) (taped : Bool) (desk c : ℕ) (old new : Stream) (item : Item) (s : Step) (end : SessionEnd) (seen after : List Entry) → s ≡ step_said c item → GivesUnit old item new
+    → Applies k taped desk (step_read k.as_gearmand s) (Err end) seen after → Stops k taped desk c old end seen after
 packet_stops k taped desk c old new item s end seen after is g applies =
     unit_stops k taped desk c old old new seen after refl s end (record { item = item; is_step = is; gives = g }) applies
 
@@ -176,11 +182,11 @@ emptied turns.Emptied none = refl
 emptied turns.Cut none = absurd cc
 
 -- so much was read, and all of it that is a unit was handed in, unless some may be left
-pub record Reading (desk c : ℕ) (limits : Limits) (old now : Option (List ℕ)) (seen after : List Entry) (feeder : Stream) (units : Bool) : Type 0 where
+pub record Reading (k : Settings) (desk c : ℕ) (limits : Limits) (old now : Option (List ℕ)) (seen after : List Entry) (feeder : Stream) (units : Bool) : Type 0 where
   pub read : List ℕ
   pub consumes : Consumes old now read
   pub limited : feeder.limits ≡ limits
-  pub handed : Handed desk c limits read feeder.pending seen after
+  pub handed : Handed k desk c limits read feeder.pending seen after
   pub waits : units ≡ false → Waits limits feeder.pending
 
 -- nothing stands at the end of no bytes
@@ -190,12 +196,12 @@ waits_none limits = record {
   goes_on = empty_goes_on limits [] (omega arith) refl;
 }
 
-pub reading_none : (desk c : ℕ) (old : Option (List ℕ)) (seen : List Entry) (feeder : Stream) (units : Bool) → feeder.pending ≡ [] → Reading desk c feeder.limits old old seen seen feeder units
-reading_none desk c old seen feeder units empty = record {
+pub reading_none : (k : Settings) (desk c : ℕ) (old : Option (List ℕ)) (seen : List Entry) (feeder : Stream) (units : Bool) → feeder.pending ≡ [] → Reading k desk c feeder.limits old old seen seen feeder units
+reading_none k desk c old seen feeder units empty = record {
   read = [];
   consumes = consumes_none old;
   limited = refl;
-  handed = subst (λ rest. Handed desk c feeder.limits [] rest seen seen) (sym empty) (handed_none desk c feeder.limits [] seen);
+  handed = subst (λ rest. Handed k desk c feeder.limits [] rest seen seen) (sym empty) (handed_none k desk c feeder.limits [] seen);
   waits = λ left. subst (λ rest. Waits feeder.limits rest) (sym empty) (waits_none feeder.limits);
 }
 
@@ -227,34 +233,34 @@ fed_none input heard feeder = record {
 }
 
 module _ (k : Settings) (taped : Bool) (desk c : ℕ) (limits : Limits) (old now new heard after_heard : Option (List ℕ)) (seen mid after : List Entry) (feeder : Stream) (units : Bool)
-    (r : Reading desk c limits old now seen mid feeder units) where
+    (r : Reading k desk c limits old now seen mid feeder units) where
   -- more units, and the fault behind them, after those that were handed in
-  hands_more : (piece rest : List ℕ) (fault : Option UnitFault) → HandsIn desk c feeder.limits (feeder.pending ++ piece) rest fault mid after → HandsIn desk c limits (r.read ++ piece) rest fault seen after
+  hands_more : (piece rest : List ℕ) (fault : Option UnitFault) → HandsIn k desk c feeder.limits (feeder.pending ++ piece) rest fault mid after → HandsIn k desk c limits (r.read ++ piece) rest fault seen after
   hands_more piece rest fault h =
       let begins = subst (λ (l : Limits). BeginsWith l (feeder.pending ++ piece) h.items rest) r.limited h.begins in
       record {
         items = r.handed.items ++ h.items;
         begins = begins_then limits (r.read ++ piece) (feeder.pending ++ piece) rest r.handed.items h.items (begins_stay limits r.read feeder.pending piece r.handed.items r.handed.begins) begins;
         stands = subst (λ (l : Limits). IfSome fault (λ fault. IsFaultAt l rest fault)) r.limited h.stands;
-        adds = adds_same desk (map (step_of_unit c) r.handed.items ++ steps_of c h.items fault) (steps_of c (r.handed.items ++ h.items) fault) seen after
-            (steps_then c r.handed.items h.items fault) (adds_then desk (map (step_of_unit c) r.handed.items) (steps_of c h.items fault) seen mid after r.handed.adds h.adds);
+        adds = adds_same desk (map (step_of_unit k c) r.handed.items ++ steps_of k c h.items fault) (steps_of k c (r.handed.items ++ h.items) fault) seen after
+            (steps_then k c r.handed.items h.items fault) (adds_then desk (map (step_of_unit k c) r.handed.items) (steps_of k c h.items fault) seen mid after r.handed.adds h.adds);
       }
 
-  reading_more_here : (turn : Turn) (next : Stream) → Steps k taped desk c feeder units now new heard after_heard (Ok turn) mid after next → Reading desk c limits old new seen after next (may_leave turn)
+  reading_more_here : (turn : Turn) (next : Stream) → Steps k taped desk c feeder units now new heard after_heard (Ok turn) mid after next → Reading k desk c limits old new seen after next (may_leave turn)
   reading_more_here turn next s =
       let more = hands_more s.piece next.pending None s.goes_on.hands in
       record {
         read = r.read ++ s.piece;
         consumes = consumes_then old now new r.read s.piece r.consumes s.consumes;
         limited = s.goes_on.limited ∙ r.limited;
-        handed = record { items = more.items; begins = more.begins; adds = adds_same desk (steps_of c more.items None) (map (step_of_unit c) more.items) seen after (append-nil (map (step_of_unit c) more.items)) more.adds };
+        handed = record { items = more.items; begins = more.begins; adds = adds_same desk (steps_of k c more.items None) (map (step_of_unit k c) more.items) seen after (append-nil (map (step_of_unit k c) more.items)) more.adds };
         waits = λ none. subst (λ (l : Limits). Waits l next.pending) r.limited (s.goes_on.waits (emptied turn none));
       }
 
   pub reading_more : (n : ℕ) → n ≡ desk → (turn : Turn) (next : Stream) (left : Bool) → left ≡ may_leave turn → Steps k taped n c feeder units now new heard after_heard (Ok turn) mid after next
-      → Reading desk c limits old new seen after next left
+      → Reading k desk c limits old new seen after next left
   reading_more n same turn next left is stepped =
-      subst (λ (b : Bool). Reading desk c limits old new seen after next b) (sym is)
+      subst (λ (b : Bool). Reading k desk c limits old new seen after next b) (sym is)
       (reading_more_here turn next (subst (λ (i : ℕ). Steps k taped i c feeder units now new heard after_heard (Ok turn) mid after next) same stepped))
 
   -- nothing was read any more
@@ -264,8 +270,8 @@ module _ (k : Settings) (taped : Bool) (desk c : ℕ) (limits : Limits) (old now
     consumes = consumes_then old now new r.read [] r.consumes kept;
     rest = feeder.pending;
     fault = None;
-    hands = hands desk c limits (r.read ++ []) feeder.pending None seen mid mid
-        (subst (λ bytes. Handed desk c limits bytes feeder.pending seen mid) (sym (append-nil r.read)) r.handed) tt (adds_none desk mid);
+    hands = hands k desk c limits (r.read ++ []) feeder.pending None seen mid mid
+        (subst (λ bytes. Handed k desk c limits bytes feeder.pending seen mid) (sym (append-nil r.read)) r.handed) tt (adds_none desk mid);
     whole = λ w. (refl, r.waits none);
     shut = λ is. absurd (unshut is);
   }

@@ -61,25 +61,25 @@ pub own_event : (n m : ℕ) (s : Step) (result : Result Receipt ApplyError) (see
 own_event n m s result seen after same own hands before =
     ap (λ (i : ℕ). are_said_by i (events_of i after)) same ∙ more_own n (if_taken s result) seen after hands (taken_said n s result own) before
 
-units_said : (c : ℕ) (items : List Item) (fault : Option UnitFault) → are_said_by c (steps_of_units c items fault) ≡ true
-units_said c [] None = refl
-units_said c [] (Some fault) = ap (λ b. b && true) (same_number c)
-units_said c (APacket kind bytes ∷ items) fault = ap (λ b. b && are_said_by c (steps_of_units c items fault)) (same_number c) ∙ units_said c items fault
-units_said c (ALine bytes ∷ items) fault = ap (λ b. b && are_said_by c (steps_of_units c items fault)) (same_number c) ∙ units_said c items fault
+units_said : (k : Settings) (c : ℕ) (items : List Item) (fault : Option UnitFault) → are_said_by c (steps_of_units k c items fault) ≡ true
+units_said k c [] None = refl
+units_said k c [] (Some fault) = ap (λ b. b && true) (same_number c)
+units_said k c (APacket kind bytes ∷ items) fault = ap (λ b. b && are_said_by c (steps_of_units k c items fault)) (same_number c) ∙ units_said k c items fault
+units_said k c (ALine bytes ∷ items) fault = ap (λ b. b && are_said_by c (steps_of_units k c items fault)) (same_number c) ∙ units_said k c items fault
 
-own_hands : (n m c : ℕ) (limits : Limits) (bytes rest : List ℕ) (fault : Option UnitFault) (seen after : List Entry) → c ≡ n → m ≡ n
-    → HandsIn n c limits bytes rest fault seen after → SaysOwn n seen → SaysOwn m after
-own_hands n m c limits bytes rest fault seen after here same hands before =
-    let steps = steps_of_units c hands.items fault in
+own_hands : (k : Settings) (n m c : ℕ) (limits : Limits) (bytes rest : List ℕ) (fault : Option UnitFault) (seen after : List Entry) → c ≡ n → m ≡ n
+    → HandsIn k n c limits bytes rest fault seen after → SaysOwn n seen → SaysOwn m after
+own_hands k n m c limits bytes rest fault seen after here same hands before =
+    let steps = steps_of_units k c hands.items fault in
     ap (λ (i : ℕ). are_said_by i (events_of i after)) same
-    ∙ more_own n (reverse steps) seen after hands.adds (said_reverse n steps (subst (λ (i : ℕ). are_said_by i steps ≡ true) here (units_said c hands.items fault))) before
+    ∙ more_own n (reverse steps) seen after hands.adds (said_reverse n steps (subst (λ (i : ℕ). are_said_by i steps ≡ true) here (units_said k c hands.items fault))) before
 
 -- what a session reads in a step is said at its desk
 pub own_steps : (k : Settings) (taped : Bool) (n m c : ℕ) (old : Stream) (units : Bool) (input left heard after_heard : Option (List ℕ)) (outcome : Result Turn SessionEnd) (seen after : List Entry) (new : Stream)
     → c ≡ n → m ≡ n → Steps k taped n c old units input left heard after_heard outcome seen after new → SaysOwn n seen → SaysOwn m after
 own_steps k taped n m c old units input left heard after_heard (Ok turn) seen after new here same s before =
-    own_hands n m c old.limits (old.pending ++ s.piece) new.pending None seen after here same s.goes_on.hands before
+    own_hands k n m c old.limits (old.pending ++ s.piece) new.pending None seen after here same s.goes_on.hands before
 own_steps k taped n m c old units input left heard after_heard (Err end) seen after new here same (broke piece consumes hears b) before =
-    own_hands n m c old.limits (old.pending ++ piece) b.rest b.fault seen after here same b.hands before
+    own_hands k n m c old.limits (old.pending ++ piece) b.rest b.fault seen after here same b.hands before
 own_steps k taped n m c old units input left heard after_heard (Err end) seen after new here same (unread none consumes kept unshut e) before =
     subst (λ (l : List Entry). SaysOwn m l) (sym e) (ap (λ (i : ℕ). are_said_by i (events_of i seen)) same ∙ before)

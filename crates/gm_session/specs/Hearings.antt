@@ -3,6 +3,7 @@ use Rattle.std.specs.Prelude.{◌≡◌, ℕ, ◌+◌, Bool, true, List, [], ◌
 use Rattle.gm_feeder.specs.declared.units.Limits.{Limits}
 use Rattle.gm_feeder.specs.Units.{Item, Waits}
 use Rattle.gm_notes.specs.declared.event.UnitFault.{UnitFault}
+use Rattle.gm_notes.specs.Settings.{Settings}
 use Rattle.gm_notes.specs.Steps.{Close}
 use Rattle.gm_front.specs.Units.{steps_of, IsFaultAt, BeginsWith}
 use Rattle.gm_shared.specs.declared.tape.Entry.{Entry}
@@ -24,18 +25,18 @@ IsReadOf c n (Some of) read = of ≡ (c, n)
 
 -- What was handed in at the desk of slot n of the connection of this opening: the first units of what was read from it, in order, then the fault behind
 -- them or none, and its closing. If it is said that these are all, no whole unit is left, and there was no fault.
-pub record IsHeard (n opening : ℕ) (limits : Limits) (heard : Heard) : Type 0 where
+pub record IsHeard (k : Settings) (n opening : ℕ) (limits : Limits) (heard : Heard) : Type 0 where
   pub own : IsReadOf n opening heard.of heard.read
   pub items : List Item
   pub rest : List ℕ
   pub fault : Option UnitFault
   pub begins : BeginsWith limits heard.read items rest
   pub stands : IfSome fault (λ fault. IsFaultAt limits rest fault)
-  pub adds : Adds n (steps_of n items fault ++ Close n ∷ []) heard.since heard.until
+  pub adds : Adds n (steps_of k n items fault ++ Close n ∷ []) heard.since heard.until
   pub whole : heard.is_whole ≡ true → (fault ≡ None) × Waits limits rest
 
 -- All that the desk of slot n had handed in when it had seen this: what was handed in of each connection, one after another. The last of them is of the
 -- first opening, each before it of the next.
-abbrev pub AreHeard : ℕ → Limits → List Heard → List Entry → Type 0
-AreHeard n limits [] seen = seen ≡ []
-AreHeard n limits (heard ∷ older) seen = (seen ≡ heard.until) × IsHeard n (length older + 1) limits heard × AreHeard n limits older heard.since
+abbrev pub AreHeard : Settings → ℕ → Limits → List Heard → List Entry → Type 0
+AreHeard k n limits [] seen = seen ≡ []
+AreHeard k n limits (heard ∷ older) seen = (seen ≡ heard.until) × IsHeard k n (length older + 1) limits heard × AreHeard k n limits older heard.since

@@ -37,11 +37,11 @@ abbrev pub Adds : ℕ → List Step → List Entry → List Entry → Type 0
 Adds desk steps seen after = HandedIn desk (reverse steps) seen after
 
 -- The events that a desk handed in meanwhile are the first units of these bytes, in order, and then the fault behind them, or none.
-pub record HandsIn (desk c : ℕ) (limits : Limits) (bytes rest : List ℕ) (fault : Option UnitFault) (seen after : List Entry) : Type 0 where
+pub record HandsIn (k : Settings) (desk c : ℕ) (limits : Limits) (bytes rest : List ℕ) (fault : Option UnitFault) (seen after : List Entry) : Type 0 where
   pub items : List Item
   pub begins : BeginsWith limits bytes items rest
   pub stands : IfSome fault (λ fault. IsFaultAt limits rest fault)
-  pub adds : Adds desk (steps_of c items fault) seen after
+  pub adds : Adds desk (steps_of k c items fault) seen after
 
 -- the input is used up, or the reader failed, or it read as many pieces as it may
 abbrev pub IsWhole : SessionEnd → Type 0
@@ -61,14 +61,14 @@ pub record Refuses (k : Settings) (taped : Bool) (s : Step) (desk : ℕ) (after 
   pub reason : error ≡ refusals.Memory → ⊥
 
 -- this event of slot c comes next in the bytes
-pub data StandsNext (c : ℕ) (limits : Limits) (bytes : List ℕ) : Step → Type 0 where
-  unit : (item : Item) (later : List ℕ) → IsUnitThen limits bytes item later → StandsNext c limits bytes (step_of_unit c item)
-  broken : (fault : UnitFault) → IsFaultAt limits bytes fault → StandsNext c limits bytes (Fault c fault)
+pub data StandsNext (k : Settings) (c : ℕ) (limits : Limits) (bytes : List ℕ) : Step → Type 0 where
+  unit : (item : Item) (later : List ℕ) → IsUnitThen limits bytes item later → StandsNext k c limits bytes (step_of_unit k c item)
+  broken : (fault : UnitFault) → IsFaultAt limits bytes fault → StandsNext k c limits bytes (Fault c fault)
 
 -- The fault at the rest was handed in; or the book refused what comes there.
 abbrev pub IsShutBy : Settings → Bool → ℕ → ℕ → Limits → List ℕ → Option UnitFault → List Entry → Type 0
 IsShutBy k taped desk c limits rest (Some fault) after = Unit {0}
-IsShutBy k taped desk c limits rest None after = (s : Step) × StandsNext c limits rest s × Refuses k taped s desk after
+IsShutBy k taped desk c limits rest None after = (s : Step) × StandsNext k c limits rest s × Refuses k taped s desk after
 
 -- ---- a session
 
@@ -80,7 +80,7 @@ pub record Reads (k : Settings) (taped : Bool) (desk c : ℕ) (limits : Limits) 
   pub consumes : Consumes old new read
   pub rest : List ℕ
   pub fault : Option UnitFault
-  pub hands : HandsIn desk c limits read rest fault seen after
+  pub hands : HandsIn k desk c limits read rest fault seen after
   pub whole : IsWhole end → (fault ≡ None) × Waits limits rest
   pub shut : end ≡ ends.Shut → IsShutBy k taped desk c limits rest fault after
 
@@ -101,13 +101,13 @@ pub record Stops (k : Settings) (taped : Bool) (desk c : ℕ) (old : Stream) (en
 
 -- what becomes of the next unit: it was applied; or there is none, and more bytes are waited for; or the session is over
 abbrev pub TakesNext : Settings → Bool → ℕ → ℕ → Stream → Result Taken SessionEnd → List Entry → List Entry → Stream → Type 0
-TakesNext k taped desk c old (Ok (AUnit is_line)) seen after new = (item : Item) × GivesUnit old item new × Adds desk (step_of_unit c item ∷ []) seen after
+TakesNext k taped desk c old (Ok (AUnit is_line)) seen after new = (item : Item) × GivesUnit old item new × Adds desk (step_of_unit k c item ∷ []) seen after
 TakesNext k taped desk c old (Ok Nothing) seen after new = GivesNone old new × (after ≡ seen)
 TakesNext k taped desk c old (Err end) seen after new = Stops k taped desk c old end seen after
 
 -- after a turn the session goes on: all whole units were taken, if that is said
-pub record GoesOn (desk c : ℕ) (limits : Limits) (bytes : List ℕ) (turn : Turn) (seen after : List Entry) (new : Stream) : Type 0 where
-  pub hands : HandsIn desk c limits bytes new.pending None seen after
+pub record GoesOn (k : Settings) (desk c : ℕ) (limits : Limits) (bytes : List ℕ) (turn : Turn) (seen after : List Entry) (new : Stream) : Type 0 where
+  pub hands : HandsIn k desk c limits bytes new.pending None seen after
   pub waits : turn ≡ turns.Emptied → Waits limits new.pending
   pub limited : new.limits ≡ limits
 
@@ -115,13 +115,13 @@ pub record GoesOn (desk c : ℕ) (limits : Limits) (bytes : List ℕ) (turn : Tu
 pub record Breaks (k : Settings) (taped : Bool) (desk c : ℕ) (limits : Limits) (bytes : List ℕ) (end : SessionEnd) (seen after : List Entry) : Type 0 where
   pub rest : List ℕ
   pub fault : Option UnitFault
-  pub hands : HandsIn desk c limits bytes rest fault seen after
+  pub hands : HandsIn k desk c limits bytes rest fault seen after
   pub broken : IsWhole end → ⊥
   pub shut : end ≡ ends.Shut → IsShutBy k taped desk c limits rest fault after
 
 -- what becomes of these bytes in a turn
 abbrev pub Takes : Settings → Bool → ℕ → ℕ → Limits → List ℕ → Result Turn SessionEnd → List Entry → List Entry → Stream → Type 0
-Takes k taped desk c limits bytes (Ok turn) seen after new = GoesOn desk c limits bytes turn seen after new
+Takes k taped desk c limits bytes (Ok turn) seen after new = GoesOn k desk c limits bytes turn seen after new
 Takes k taped desk c limits bytes (Err end) seen after new = Breaks k taped desk c limits bytes end seen after
 
 abbrev pub Unloads : Settings → Bool → ℕ → ℕ → Stream → Result Turn SessionEnd → List Entry → List Entry → Stream → Type 0
@@ -150,14 +150,14 @@ pub data Ends (k : Settings) (taped : Bool) (desk c : ℕ) (old : Stream) (units
   unread : units ≡ false → Consumes input left [] → Keeps heard after_heard → (end ≡ ends.Shut → ⊥) → after ≡ seen → Ends k taped desk c old units input left heard after_heard end seen after
 
 -- a piece was read and heard, or none, and the session goes on
-pub record Reaches (desk c : ℕ) (old : Stream) (input left heard after_heard : Option (List ℕ)) (turn : Turn) (seen after : List Entry) (new : Stream) : Type 0 where
+pub record Reaches (k : Settings) (desk c : ℕ) (old : Stream) (input left heard after_heard : Option (List ℕ)) (turn : Turn) (seen after : List Entry) (new : Stream) : Type 0 where
   pub piece : List ℕ
   pub consumes : Consumes input left piece
   pub hears : Appends heard after_heard piece
-  pub goes_on : GoesOn desk c old.limits (old.pending ++ piece) turn seen after new
+  pub goes_on : GoesOn k desk c old.limits (old.pending ++ piece) turn seen after new
 
 abbrev pub Steps : Settings → Bool → ℕ → ℕ → Stream → Bool → Option (List ℕ) → Option (List ℕ) → Option (List ℕ) → Option (List ℕ) → Result Turn SessionEnd → List Entry → List Entry → Stream → Type 0
-Steps k taped desk c old units input left heard after_heard (Ok turn) seen after new = Reaches desk c old input left heard after_heard turn seen after new
+Steps k taped desk c old units input left heard after_heard (Ok turn) seen after new = Reaches k desk c old input left heard after_heard turn seen after new
 Steps k taped desk c old units input left heard after_heard (Err end) seen after new = Ends k taped desk c old units input left heard after_heard end seen after
 
 -- whether whole units may be left after a turn

@@ -42,33 +42,33 @@ pub record TalkState : Type 0 where
 
 -- What was handed in since the slot was last closed are the first units of what was read from the connection, in order: all that are whole,
 -- unless some may be left.
-pub record GoesOnSo (n : ℕ) (limits : Limits) (since seen : List Entry) (t : TalkingState) : Type 0 where
+pub record GoesOnSo (k : Settings) (n : ℕ) (limits : Limits) (since seen : List Entry) (t : TalkingState) : Type 0 where
   pub limited : t.stream.limits ≡ limits
-  pub hands : HandsIn n n limits t.heard t.stream.pending None since seen
+  pub hands : HandsIn k n n limits t.heard t.stream.pending None since seen
   pub waits : t.has_units ≡ false → Waits limits t.stream.pending
 
 -- Once the session is over: the first units, in order, and then the fault behind them or none. These are all, and there is no fault, if that is said.
-pub record IsOverSo (n : ℕ) (limits : Limits) (since seen : List Entry) (heard : List ℕ) (is_whole : Bool) : Type 0 where
+pub record IsOverSo (k : Settings) (n : ℕ) (limits : Limits) (since seen : List Entry) (heard : List ℕ) (is_whole : Bool) : Type 0 where
   pub rest : List ℕ
   pub fault : Option UnitFault
-  pub hands : HandsIn n n limits heard rest fault since seen
+  pub hands : HandsIn k n n limits heard rest fault since seen
   pub whole : is_whole ≡ true → (fault ≡ None) × Waits limits rest
 
-abbrev pub IsTalkingBy : Option Bool → ℕ → Limits → List Entry → List Entry → TalkingState → Type 0
-IsTalkingBy None n limits since seen t = GoesOnSo n limits since seen t
-IsTalkingBy (Some is_whole) n limits since seen t = IsOverSo n limits since seen t.heard is_whole
+abbrev pub IsTalkingBy : Settings → Option Bool → ℕ → Limits → List Entry → List Entry → TalkingState → Type 0
+IsTalkingBy k None n limits since seen t = GoesOnSo k n limits since seen t
+IsTalkingBy k (Some is_whole) n limits since seen t = IsOverSo k n limits since seen t.heard is_whole
 
 -- with no connection nothing was handed in
-abbrev pub IsTalking : ℕ → Limits → List Entry → List Entry → Option TalkingState → Type 0
-IsTalking n limits since seen None = Adds n [] since seen
-IsTalking n limits since seen (Some t) = IsTalkingBy t.over n limits since seen t
+abbrev pub IsTalking : Settings → ℕ → Limits → List Entry → List Entry → Option TalkingState → Type 0
+IsTalking k n limits since seen None = Adds n [] since seen
+IsTalking k n limits since seen (Some t) = IsTalkingBy k t.over n limits since seen t
 
 -- Each connection that is gone is counted, unless the count can't tell. The one that is there is of the opening after theirs.
-pub record IsTalk (t : TalkState) : Type 0 where
+pub record IsTalk (k : Settings) (t : TalkState) : Type 0 where
   pub count : t.closings < most_openings → t.closings ≡ length t.hearings.past
   pub own : IfSome t.talking (λ u. u.of ≡ (t.number, length t.hearings.past + 1))
-  pub past : AreHeard t.number t.limits t.hearings.past t.hearings.since
-  pub now : IsTalking t.number t.limits t.hearings.since t.seen t.talking
+  pub past : AreHeard k t.number t.limits t.hearings.past t.hearings.since
+  pub now : IsTalking k t.number t.limits t.hearings.since t.seen t.talking
 
 -- ---- a connection's way
 

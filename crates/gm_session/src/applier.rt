@@ -1,10 +1,11 @@
 //! How a session's units are applied.
 
-ghost use Rattle.std.specs.Prelude.{◌≡◌, ◌≤◌, [], IfOk, IfErr, length, drop};
+ghost use Rattle.std.specs.Prelude.{◌≡◌, ◌≤◌, [], true, IfOk, IfErr, length, drop};
 ghost use Rattle.std.specs.Io.KnownBytes.{IsAtEnd};
 ghost use Rattle.gm_actions.specs.ReadEvents.{ReadsEvent};
 ghost use Rattle.gm_notes.specs.Servers.{step_of, IsSized};
 ghost use Rattle.gm_notes.specs.Steps.{Packet, Fault};
+ghost use Rattle.gm_front.specs.Readings.{step_read};
 ghost use Rattle.gm_session.specs.Effects.{Gathers, Ticks};
 ghost use Rattle.gm_session.specs.Sessions.{Applies, TakesNext, Unloads, Steps, Reads, may_leave};
 
@@ -16,7 +17,7 @@ use crate::session::{FIRST_UNITS, Session, SessionEnd, Turn};
 use gm_actions::{Action, ReadEvent, Refusal};
 use gm_bytes::{Data, LONG, SharedBytes};
 use gm_feeder::{OwnedPacket, Source};
-use gm_front::{Next, next_event};
+use gm_front::{GRAB_JOB_ALL, Next, Room, mean_event, next_event};
 use gm_notes::{ApplyError, Event, UnitFault};
 use gm_packet::Kind;
 use gm_shared::{BookName, Desk, Shared};
@@ -61,7 +62,8 @@ fn may_be_long(event: &Event<'_>) -> bool {
     match *event {
         Event::Line { .. } => true,
         Event::Packet { kind, .. } => {
-            matches!(Kind::of(kind), Some(Kind::GrabJob | Kind::GrabJobUniq))
+            kind == GRAB_JOB_ALL
+                || matches!(Kind::of(kind), Some(Kind::GrabJob | Kind::GrabJobUniq))
         }
         _ => false,
     }
@@ -119,7 +121,25 @@ impl<'s, K: BookName, R: Wait + Clock, G: Gate> Applier<'s, K, R, G> {
         }
     }
 
-    /// Lets a unit pass the gate, and applies it.
+    /// Applies an event as gearmand's applications mean it. It isn't inlined, as each unit would clear the room for the data.
+    #[inline(never)]
+    fn apply_meant(
+        &self,
+        desk: &mut Desk<K>,
+        event: Event<'_>,
+        effects: &mut Effects<K>,
+    ) -> Result<(), SessionEnd>
+        requires { IsSized event }
+        ensures applies { Applies K.settings K.taped desk.old.number (step_read true (step_of event.entry)) result desk.old.witness.seen desk.new.witness.seen }
+        ensures gathers { Gathers K.settings K.taped desk.old.number desk.old.witness.seen effects.old desk.new.witness.seen effects.new }
+        ensures number { desk.new.number ≡ desk.old.number }
+    {
+        let mut room = Room::new();
+        let event = mean_event(event, &mut room);
+        self.apply(desk, &ReadEvent::new(event), effects)
+    }
+
+    /// Lets a unit pass the gate, and applies it as the server reads it.
     fn apply_unit(
         &self,
         desk: &mut Desk<K>,
@@ -128,12 +148,16 @@ impl<'s, K: BookName, R: Wait + Clock, G: Gate> Applier<'s, K, R, G> {
         effects: &mut Effects<K>,
     ) -> Result<(), SessionEnd>
         requires { IsSized event }
-        ensures applies { Applies K.settings K.taped desk.old.number (step_of event.entry) result desk.old.witness.seen desk.new.witness.seen }
+        ensures applies { Applies K.settings K.taped desk.old.number (step_read K.settings.as_gearmand (step_of event.entry)) result
+            desk.old.witness.seen desk.new.witness.seen }
         ensures gathers { Gathers K.settings K.taped desk.old.number desk.old.witness.seen effects.old desk.new.witness.seen effects.new }
         ensures number { desk.new.number ≡ desk.old.number }
     {
         // Modelled in models/jobs.pml.
         self.around.gate.pass(self.around.rt, self.slot, index);
+        if self.around.shared.as_gearmand() {
+            return self.apply_meant(desk, event, effects);
+        }
         // What was read is large, and so it isn't moved.
         self.apply(desk, &ReadEvent::new(event), effects)
     }
@@ -209,7 +233,8 @@ impl<'s, K: BookName, R: Wait + Clock, G: Gate> Applier<'s, K, R, G> {
         effects: &mut Effects<K>,
     ) -> Result<(), SessionEnd>
         requires { length (drop packet.data_at packet.bytes.items) ≤ 1073741824 }
-        ensures applies { Applies K.settings K.taped desk.old.number (Packet self.now.slot packet.kind (drop packet.data_at packet.bytes.items)) result
+        ensures applies { Applies K.settings K.taped desk.old.number
+            (step_read K.settings.as_gearmand (Packet self.now.slot packet.kind (drop packet.data_at packet.bytes.items))) result
             desk.old.witness.seen desk.new.witness.seen }
         ensures gathers { Gathers K.settings K.taped desk.old.number desk.old.witness.seen effects.old desk.new.witness.seen effects.new }
         ensures number { desk.new.number ≡ desk.old.number }

@@ -83,7 +83,7 @@ impl<K: BookName, I: Source<Patience>> Model for Talk<K, I> {
       talking = option_map (λ x. record { of = x.of; stream = x.session.feeder; has_units = x.session.has_units; over = x.over; heard = x.source.2; has_ended = x.has_ended }) t.talking;
     } };
 
-    ghost invariant = { λ t. IsTalk (record {
+    ghost invariant = { λ t. IsTalk K.settings (record {
       number = t.desk.desk.number;
       limits = t.limits;
       closings = t.closings;
@@ -341,7 +341,7 @@ impl<K: BookName, I: Source<Patience> + Drop> Talk<K, I> {
         ensures desk { (result.0.desk.number ≡ self.number) × (result.0.desk.witness.seen ≡ self.seen) }
         ensures limits { result.1 ≡ self.limits }
         ensures hearings { result.2 ≡ self.hearings }
-        ensures talk { IsTalk self }
+        ensures talk { IsTalk K.settings self }
     {
         let Talk {
             desk,

@@ -21,9 +21,11 @@ pub struct Blank {
     pub(crate) booked: Booked,
     pub(crate) seats: Vec<PenSeat>,
     pub(crate) slots: u32,
+    pub(crate) as_gearmand: bool,
 }
 
 impl Model for Blank {
+    ghost use Rattle.std.specs.Prelude.{◌≡◌};
     ghost use Rattle.gm_core.specs.Holds.{config_of};
     ghost use Rattle.gm_shared.specs.Shared.{BlankState, IsBlank, IsNew};
 
@@ -31,7 +33,8 @@ impl Model for Blank {
 
     ghost view = { λ b. record { table = b.table; history = b.history; settings = config_of b.booked.core; taped = b.booked.tape.on } };
 
-    ghost invariant = { λ b. IsBlank b.table (config_of b.booked.core) b.slots b.booked b.seats.items × IsNew b.history b.keeper };
+    ghost invariant = { λ b. IsBlank b.table (config_of b.booked.core) b.slots b.booked b.seats.items × IsNew b.history b.keeper
+        × (b.as_gearmand ≡ (config_of b.booked.core).as_gearmand) };
 }
 
 impl Blank {
@@ -49,6 +52,7 @@ impl Blank {
         ensures taped { IfOk result (λ blank. blank.taped ≡ is_on tape) }
     {
         let slots = config.slots();
+        let as_gearmand = config.as_gearmand();
         let (booked, table, seats) = Booked::new(alloc, seed, config, tape)?;
         let (history, keeper) = History::new(alloc)?;
         Ok(Blank {
@@ -58,6 +62,7 @@ impl Blank {
             booked,
             seats,
             slots,
+            as_gearmand,
         })
     }
 

@@ -24,7 +24,7 @@ impl BookName for Brand {
 
     ghost table = { record { words = 0; slots = 0; views_name = 0; atom = 0; block = 0; offset = 0; slot_names = [] } };
 
-    ghost settings = { record { name = []; first_job = 0; slots = 0; max_functions = 0; round_robin = false; retries = 0 } };
+    ghost settings = { record { name = []; first_job = 0; slots = 0; max_functions = 0; round_robin = false; retries = 0; as_gearmand = false } };
 
     ghost taped = { false };
 }

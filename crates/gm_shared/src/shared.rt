@@ -38,8 +38,10 @@ pub struct Shared<K: BookName> {
     pub(crate) table: SleepTable,
     pub(crate) history: History,
     pub(crate) book: Mutex<Guarded<K>>,
+    as_gearmand: bool,
     ghost named: { table ≡ K.table },
     ghost historic: { history ≡ K.history },
+    ghost meant: { as_gearmand ≡ K.settings.as_gearmand },
 }
 
 /// Where one thread hands in events. Desks have numbers: one for each slot, and that of the control desk is the
@@ -94,6 +96,7 @@ impl<K: BookName> Shared<K> {
             booked,
             seats,
             slots,
+            as_gearmand,
         } = blank;
         let (desks, pens) = new_owners(alloc, &history, &mut keeper, seats, slots)?;
         let control = Desk::new(alloc, slots, keeper.new_witness(&history));
@@ -101,8 +104,16 @@ impl<K: BookName> Shared<K> {
             table,
             history,
             book: Mutex::new(Guarded::new(booked, keeper)),
+            as_gearmand,
         };
         Ok((shared, desks, pens, control))
+    }
+
+    /// Whether requests mean what gearmand's applications mean by them. It takes no lock.
+    pub fn as_gearmand(&self) -> bool
+        ensures { result ≡ K.settings.as_gearmand }
+    {
+        self.as_gearmand
     }
 
     /// Takes the book's lock. It is held for about a microsecond, so a thread looks for a while whether it is free, before it sleeps.

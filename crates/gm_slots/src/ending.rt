@@ -73,7 +73,7 @@ fn all_parts<K: BookName>(
     control: OwnDesk<K>,
 ) -> Result<AllParts<K>, AllocError>
     ensures own { IfOk result (λ all. All (λ desk. SaysOwn desk.number desk.witness.seen) all.desks.items) }
-    ensures accounts { IfOk result (λ all. AreAccounts (map (λ desk. (desk.number, desk.witness.seen)) all.desks.items)
+    ensures accounts { IfOk result (λ all. AreAccounts K.settings (map (λ desk. (desk.number, desk.witness.seen)) all.desks.items)
         (map (λ pen. (pen.slot, pen.witness.seen, pen.seat.takes)) all.pens.items) all.accounts.items) }
     ensures all { IfOk result (λ all. length all.accounts.items ≡ length slots.items) }
 {

@@ -32,7 +32,7 @@ pub(crate) struct SlotParts<K: BookName> {
 impl<K: BookName> Slot<K> {
     /// What was given to the slot, and the account of its connections.
     pub(crate) fn into_parts(self) -> SlotParts<K>
-        ensures { IsAccount (result.desk.desk.number, result.desk.desk.witness.seen) (result.pen.slot, result.pen.witness.seen, result.pen.seat.takes)
+        ensures { IsAccount K.settings (result.desk.desk.number, result.desk.desk.witness.seen) (result.pen.slot, result.pen.witness.seen, result.pen.seat.takes)
             result.account }
     {
         let Slot { talk, lane } = self;

@@ -24,6 +24,7 @@ pub struct Settings {
     functions: u32,
     round_robin: bool,
     retries: u32,
+    as_gearmand: bool,
     seed: RandomState,
 }
 
@@ -36,10 +37,10 @@ where
 }
 
 impl Settings {
-    /// The settings that these numbers say: the first job's, those of slots and functions, whether functions take turns, and to
-    /// how many workers a job is given.
+    /// The settings that these numbers say: the first job's, those of slots and functions, whether functions take turns, to
+    /// how many workers a job is given, and whether requests mean what gearmand's applications mean by them.
     pub fn parse(seed: RandomState, numbers: &[&str]) -> Result<Settings, TrialError> {
-        let [first_job, slots, functions, turns, retries] = numbers else {
+        let [first_job, slots, functions, turns, retries, as_gearmand] = numbers else {
             return Err(TrialError::Usage);
         };
         Ok(Settings {
@@ -48,6 +49,7 @@ impl Settings {
             functions: number(functions)?,
             round_robin: number::<u32>(turns)? != 0,
             retries: number(retries)?,
+            as_gearmand: number::<u32>(as_gearmand)? != 0,
             seed,
         })
     }
@@ -60,7 +62,8 @@ impl Settings {
         Ok(
             config
                 .with_round_robin(self.round_robin)
-                .with_retries(self.retries),
+                .with_retries(self.retries)
+                .with_as_gearmand(self.as_gearmand),
         )
     }
 }

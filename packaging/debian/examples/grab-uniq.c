@@ -1,5 +1,5 @@
-/* Lets workers in C that can't be changed get jobs from gmd: it sets the option GEARMAN_WORKER_GRAB_UNIQ in each worker that the program
- * makes. It doesn't reach PHP's workers.
+/* Lets workers in C that can't be changed get jobs from a gmd without --as-gearmand: it sets the option GEARMAN_WORKER_GRAB_UNIQ in each
+ * worker that the program makes. It doesn't reach PHP's workers.
  *     cc -shared -fPIC -o grab-uniq.so grab-uniq.c -ldl        (needs libgearman-dev)
  *     LD_PRELOAD=$PWD/grab-uniq.so gearman -w -f wc wc -c */
 #define _GNU_SOURCE

@@ -28,7 +28,7 @@ SHOWN_AGE = 60
 NO_WORKERS, TAKE_NONE, MORE_RUN, ONLY_GROWN, FULL, FINE = range(6)
 STATES = {NO_WORKERS: ("bad", "no workers", "Jobs wait, and no worker can do them."),
           TAKE_NONE: ("bad", "workers take none", "Jobs wait, and in half a minute none was seen to run or to end. Workers of PHP and C "
-                      "need GEARMAN_WORKER_GRAB_UNIQ; the journal of gmd says which packets it doesn't serve."),
+                      "need gmd --as-gearmand; the journal of gmd says which packets it doesn't serve."),
           MORE_RUN: ("warn", "more run than workers", "A worker has several jobs, or one that it has left without an end."),
           ONLY_GROWN: ("note", "only grown", "The queue has grown and not fallen in the last five minutes, or since it was first seen."),
           FULL: ("note", "at its limit", "New jobs are refused with queue_full."),

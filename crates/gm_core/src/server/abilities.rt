@@ -5,17 +5,18 @@ ghost use Rattle.std.specs.Option.{option_map};
 ghost use Rattle.gm_packet.specs.Packets.{has_nul};
 ghost use Rattle.gm_conns.specs.ConnTables.{IsOpen, conn};
 ghost use Rattle.gm_queues.specs.FunctionTables.{number_of, waiting_for};
-ghost use Rattle.gm_notes.specs.Jobs.{scan, pick_from, pick};
+ghost use Rattle.gm_notes.specs.Jobs.{scan, pick_from, pick_with, pick_highest, pick};
 ghost use Rattle.gm_notes.specs.Past.{Past, with_note};
 ghost use Rattle.gm_notes.specs.Workers.{can_do, cant_do, pre_sleep};
 ghost use Rattle.gm_notes.specs.Submissions.{is_bad_name};
 ghost use Rattle.gm_notes.specs.declared.note.Note.TheVariants.{Reset};
+ghost use Rattle.gm_core.specs.Firsts.{IsFirst};
 ghost use Rattle.gm_core.specs.Holds.{name_at, ability_named, wake_if_waiting};
 ghost use Rattle.gm_core.specs.declared.server.abilities.Choice.{Choice};
 
 use super::Tables;
 use gm_actions::Refusal;
-use gm_notes::{Phase, Pick};
+use gm_notes::{Phase, Pick, Priority};
 use gm_queues::MentionError;
 use std::alloc::AllocError;
 
@@ -72,11 +73,11 @@ impl Tables {
         None
     }
 
-    /// The job that a grab of a slot gets.
-    pub(super) fn pick(&mut self, slot: u32) -> Option<Choice>
+    /// The first job of the first function of a slot that has one, in the order in which they are tried.
+    fn pick_by_function(&mut self, slot: u32) -> Option<Choice>
         requires open { IsOpen self.old.conns slot }
         requires kept { IsKept self.old }
-        ensures value { (past : Past) → Keeps self.old past → option_map (λ (found : Choice). found.pick) result ≡ pick self.old.config slot past.notes }
+        ensures value { (past : Past) → Keeps self.old past → option_map (λ (found : Choice). found.pick) result ≡ pick_from (scan self.old.config slot past.notes) past.notes }
         ensures first { IfSome result (λ found. slice_get (waiting_for self.old.functions found.function) 0 ≡ Some found.pick.job) }
         ensures within { IfSome result (λ found. found.function < length self.old.functions.names) }
         ensures same { self.new ≡ self.old }
@@ -86,6 +87,89 @@ impl Tables {
         match self.pick_among(slot, last, len) {
             Some(found) => Some(found),
             None => self.pick_among(slot, 0, last),
+        }
+    }
+
+    /// The first job of a priority for one of these abilities of a slot.
+    fn pick_with(&mut self, slot: u32, from: usize, to: usize, priority: Priority) -> Option<Choice>
+        requires open { IsOpen self.old.conns slot }
+        requires to { to ≤ length (conn self.old.conns slot).abilities }
+        requires kept { IsKept self.old }
+        ensures value { (past : Past) → Keeps self.old past → option_map (λ (found : Choice). found.pick) result
+            ≡ pick_with priority (map (ability_named self.old.functions.names) (drop from (take to (conn self.old.conns slot).abilities))) past.notes }
+        ensures first { IfSome result (λ found. IsFirst self.old.functions found.function found.pick.job) }
+        ensures within { IfSome result (λ found. found.function < length self.old.functions.names) }
+        ensures same { self.new ≡ self.old }
+    {
+        for i in from..to {
+            let (function, timeout) = self.conns.able(slot, i)?;
+            if let Some(job) = self.functions.first_in(function, priority) {
+                return Some(Choice {
+                    pick: Pick { job, timeout },
+                    function,
+                });
+            }
+        }
+        None
+    }
+
+    /// The first job of a priority for a slot, `last` of whose `len` abilities are tried last.
+    fn pick_in_turn(
+        &mut self,
+        slot: u32,
+        last: usize,
+        len: usize,
+        priority: Priority,
+    ) -> Option<Choice>
+        requires open { IsOpen self.old.conns slot }
+        requires len { len ≡ length (conn self.old.conns slot).abilities }
+        requires last { last ≤ length (conn self.old.conns slot).abilities }
+        requires kept { IsKept self.old }
+        ensures value { (past : Past) → Keeps self.old past → option_map (λ (found : Choice). found.pick) result ≡ pick_with priority
+            (map (ability_named self.old.functions.names) (drop last (conn self.old.conns slot).abilities ++ take last (conn self.old.conns slot).abilities)) past.notes }
+        ensures first { IfSome result (λ found. IsFirst self.old.functions found.function found.pick.job) }
+        ensures within { IfSome result (λ found. found.function < length self.old.functions.names) }
+        ensures same { self.new ≡ self.old }
+    {
+        match self.pick_with(slot, last, len, priority) {
+            Some(found) => Some(found),
+            None => self.pick_with(slot, 0, last, priority),
+        }
+    }
+
+    /// The first job of the highest priority of which any function of a slot has one.
+    fn pick_by_priority(&mut self, slot: u32) -> Option<Choice>
+        requires open { IsOpen self.old.conns slot }
+        requires kept { IsKept self.old }
+        ensures value { (past : Past) → Keeps self.old past → option_map (λ (found : Choice). found.pick) result ≡ pick_highest (scan self.old.config slot past.notes) past.notes }
+        ensures first { IfSome result (λ found. IsFirst self.old.functions found.function found.pick.job) }
+        ensures within { IfSome result (λ found. found.function < length self.old.functions.names) }
+        ensures same { self.new ≡ self.old }
+    {
+        let len = self.conns.abilities_len(slot);
+        let last = self.tried_last(slot, len);
+        if let Some(found) = self.pick_in_turn(slot, last, len, Priority::High) {
+            return Some(found);
+        }
+        if let Some(found) = self.pick_in_turn(slot, last, len, Priority::Normal) {
+            return Some(found);
+        }
+        self.pick_in_turn(slot, last, len, Priority::Low)
+    }
+
+    /// The job that a grab of a slot gets.
+    pub(super) fn pick(&mut self, slot: u32) -> Option<Choice>
+        requires open { IsOpen self.old.conns slot }
+        requires kept { IsKept self.old }
+        ensures value { (past : Past) → Keeps self.old past → option_map (λ (found : Choice). found.pick) result ≡ pick self.old.config slot past.notes }
+        ensures first { IfSome result (λ found. IsFirst self.old.functions found.function found.pick.job) }
+        ensures within { IfSome result (λ found. found.function < length self.old.functions.names) }
+        ensures same { self.new ≡ self.old }
+    {
+        if self.config.as_gearmand() {
+            self.pick_by_priority(slot)
+        } else {
+            self.pick_by_function(slot)
         }
     }
 

@@ -1,13 +1,13 @@
 //! Workers that ask for jobs.
 
-ghost use Rattle.std.specs.Prelude.{◌≡◌, ◌<◌, Some, length, slice_get};
+ghost use Rattle.std.specs.Prelude.{◌≡◌, ◌<◌, Some, length};
 ghost use Rattle.std.specs.Option.{option_map};
 ghost use Rattle.gm_conns.specs.ConnTables.{IsOpen};
-ghost use Rattle.gm_queues.specs.FunctionTables.{waiting_for};
 ghost use Rattle.gm_jobs.specs.Tables as jobs;
 ghost use Rattle.gm_notes.specs.declared.note.Note.TheVariants.{Assigned};
 ghost use Rattle.gm_notes.specs.Past.{with_note};
 ghost use Rattle.gm_notes.specs.Workers.{deadline_after, give_out, wake_itself, grab};
+ghost use Rattle.gm_core.specs.Firsts.{IsFirst};
 
 use super::Tables;
 use super::abilities::Choice;
@@ -20,11 +20,11 @@ use std::alloc::AllocError;
 impl Tables {
     ghost use Rattle.gm_core.specs.Holds.{IsKept, Goes, Does};
 
-    /// The job that is given out next for a function runs at a slot now. It needs no memory.
+    /// A job that is the first in a queue of its function runs at a slot now. It needs no memory.
     fn give_out(&mut self, slot: u32, found: Choice, priority: Priority)
         requires open { IsOpen self.old.conns slot }
         requires within { found.function < length self.old.functions.names }
-        requires first { slice_get (waiting_for self.old.functions found.function) 0 ≡ Some found.pick.job }
+        requires first { IsFirst self.old.functions found.function found.pick.job }
         requires priority { option_map (λ live. live.priority) (jobs.job self.old.jobs found.pick.job) ≡ Some priority }
         ensures { Goes self.old self.new (with_note (Assigned found.pick.job slot (deadline_after self.old.moment found.pick.timeout))) }
     {
@@ -39,7 +39,7 @@ impl Tables {
         requires open { IsOpen self.old.conns slot }
         requires kept { IsKept self.old }
         requires within { found.function < length self.old.functions.names }
-        requires first { slice_get (waiting_for self.old.functions found.function) 0 ≡ Some found.pick.job }
+        requires first { IsFirst self.old.functions found.function found.pick.job }
         ensures { Does self.old result self.new (λ past. give_out self.old.config slot with_unique (Some found.pick) (wake_itself slot past)) }
     {
         self.jobs.reserve_run(slot)?;

@@ -24,7 +24,7 @@ use std::alloc::{AllocError, Global};
 use std::collections::VecDeque;
 
 /// The packet that tells of a job's failure.
-fn fail_packet(alloc: Global, config: &Config, job: u64) -> Result<Vec<u8>, AllocError>
+pub(super) fn fail_packet(alloc: Global, config: &Config, job: u64) -> Result<Vec<u8>, AllocError>
     ensures { IfOk result (λ packet. packet.items ≡ answer_packet (work_fail (handle config.now job))) }
 {
     let handle = handle(alloc, config, job)?;

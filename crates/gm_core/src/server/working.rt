@@ -1,6 +1,6 @@
 //! What workers say of their jobs.
 
-ghost use Rattle.std.specs.Prelude.{◌≡◌, ◌⊎◌, ℕ, Bool, Some, None, IfSome};
+ghost use Rattle.std.specs.Prelude.{◌≡◌, ◌⊎◌, ℕ, Bool, true, Some, None, IfSome};
 ghost use Rattle.std.specs.Option.{option_map};
 ghost use Rattle.gm_conns.specs.ConnTables.{IsOpen};
 ghost use Rattle.gm_queues.specs.FunctionTables as queues;
@@ -8,7 +8,7 @@ ghost use Rattle.gm_jobs.specs.Tables.{job as job_of, listeners_of};
 ghost use Rattle.gm_notes.specs.Jobs.{job_of_handle};
 ghost use Rattle.gm_notes.specs.Past.{Past, with_note};
 ghost use Rattle.gm_notes.specs.declared.note.Note.TheVariants.{Discarded, Ended};
-ghost use Rattle.gm_notes.specs.Workers.{end_if, work};
+ghost use Rattle.gm_notes.specs.Workers.{end_if, tell_work, work};
 ghost use Rattle.gm_actions.specs.Actions.{WorkFits, work_of};
 ghost use Rattle.gm_core.specs.Facts.{job_facts};
 ghost use Rattle.gm_core.specs.Holds.{HoldsJobs};
@@ -17,7 +17,9 @@ ghost use Rattle.gm_core.specs.Telling.{IsRunning, running_there};
 ghost use Rattle.gm_core.specs.Freed.{body_at, Frees};
 
 use super::Tables;
-use crate::telling::{prepare_each, put_each};
+use super::ticking::fail_packet;
+use crate::telling::{others, prepare_each, put_each, reserve_each};
+use crate::written::Written;
 use gm_actions::{Refusal, WorkPacket, number_in};
 use gm_bytes::SharedBytes;
 use gm_jobs::{Job, Jobs};
@@ -59,12 +61,15 @@ impl Tables {
         requires open { IsOpen self.old.conns slot }
         requires fits { WorkFits packet.now }
         requires kept { IsKept self.old }
-        ensures does { Does self.old result self.new (work self.old.config slot packet.now.handle.now (work_of packet.now)) }
+        ensures does { Does self.old result self.new (work self.old.config slot packet.now.handle.now (work_of self.old.config packet.now)) }
         ensures freed { Frees self.old.jobs self.new.jobs freed.old freed.new }
     {
         let Some((job, slots)) = running_at(&self.config, &self.jobs, slot, packet.handle) else {
             return self.refuse(slot, Refusal::JobNotFound);
         };
+        if packet.exceptions_only && packet.ends_job(&self.config) {
+            return self.except(job, packet, freed);
+        }
         prepare_each(&mut self.conns, &mut self.text, slots, packet)?;
         match packet.report {
             None => put_each(
@@ -85,6 +90,33 @@ impl Tables {
             }
         }
         self.end_if(job, packet.ends, freed);
+        Ok(())
+    }
+
+    /// An exception ends a running job: its listeners with the exceptions option get it, and the others get WORK_FAIL.
+    fn except(
+        &mut self,
+        job: u64,
+        packet: &WorkPacket<'_>,
+        freed: &mut Option<SharedBytes>,
+    ) -> Result<(), AllocError>
+        requires runs { IsRunning (job_of self.old.jobs job) }
+        requires fits { WorkFits packet.now }
+        requires only { packet.now.exceptions_only ≡ true }
+        requires ends { (work_of self.old.config packet.now).ends ≡ true }
+        requires kept { IsKept self.old }
+        ensures does { Does self.old result self.new (tell_work self.old.config (work_of self.old.config packet.now) job) }
+        ensures freed { Frees self.old.jobs self.new.jobs freed.old freed.new }
+    {
+        let slots = self.jobs.listeners(job);
+        let others = others(self.alloc, &self.conns, slots)?;
+        let failure = fail_packet(self.alloc, &self.config, job)?;
+        prepare_each(&mut self.conns, &mut self.text, slots, packet)?;
+        reserve_each(&mut self.conns, &others, false, failure.len())?;
+        let mut failure = Written::of(failure);
+        put_each(&mut self.conns, slots, true, &mut self.text);
+        put_each(&mut self.conns, &others, false, &mut failure);
+        self.end_if(job, true, freed);
         Ok(())
     }
 

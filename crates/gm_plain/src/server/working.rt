@@ -1,20 +1,20 @@
 //! What workers say of their jobs.
 
-ghost use Rattle.std.specs.Prelude.{◌≡◌, ◌<◌, ◌≤◌, ◌&&◌, true, IfOk};
-ghost use Rattle.gm_notes.specs.Notes.{is_open, has_option};
+ghost use Rattle.std.specs.Prelude.{◌≡◌, ◌<◌, ◌≤◌, not, true, filter, IfOk};
 ghost use Rattle.std.specs.List.{All};
 ghost use Rattle.gm_notes.specs.Jobs.{job_state, listeners};
 ghost use Rattle.gm_notes.specs.JobStates.{is_running};
-ghost use Rattle.gm_plain.specs.Holds.{Goes, Does};
+ghost use Rattle.gm_plain.specs.Holds.{Goes, Does, tell_listeners};
 ghost use Rattle.gm_actions.specs.Actions.{WorkFits, ReportFits, work_of, option_report};
-ghost use Rattle.gm_notes.specs.Workers.{hearers, keep_report, end_if, work, tell_work};
+ghost use Rattle.gm_notes.specs.Workers.{hearers, wants_exceptions, keep_report, end_if, work, tell_work};
 
 use super::PlainServer;
 use crate::connections::seen;
 use crate::jobs::{job_of_handle, listeners, place};
 use crate::log::Log;
-use gm_actions::{Refusal, Report, WorkPacket};
+use gm_actions::{Refusal, Report, WorkPacket, handle};
 use gm_notes::{Note, Text};
+use gm_packet::Response;
 use std::alloc::{AllocError, Global};
 
 /// Copies the numerator and the denominator of a report, if there is one.
@@ -34,7 +34,7 @@ fn copy_report(
 
 /// Whether a slot is open, and its connection wants exceptions.
 fn wants_exceptions(log: &Log, slot: u32) -> bool
-    ensures { result ≡ (is_open slot log.now.notes && has_option slot log.now.notes) }
+    ensures { result ≡ wants_exceptions slot log.now.notes }
 {
     let seen = seen(log, slot);
     seen.is_open && seen.has_option
@@ -58,12 +58,22 @@ fn hearers(
     Ok(slots)
 }
 
+/// Which listeners of a job don't get a report that is only for connections that want exceptions.
+fn others(alloc: Global, log: &Log, job: u64) -> Result<Vec<u32>, AllocError>
+    ensures value { IfOk result (λ slots. slots.items ≡ filter (λ c. not (wants_exceptions c log.now.notes)) (listeners job log.now.notes)) }
+    ensures below { IfOk result (λ slots. All (λ c. c < log.now.slots) slots.items) }
+{
+    let mut slots = listeners(alloc, log, job)?;
+    slots.retain(|slot| !wants_exceptions(log, *slot));
+    Ok(slots)
+}
+
 impl PlainServer {
     /// The worker in a slot sends a WORK packet on a job.
     pub(super) fn work(&mut self, slot: u32, packet: &WorkPacket<'_>) -> Result<(), AllocError>
         requires slot { slot < self.old.config.slots }
         requires fits { WorkFits packet.now }
-        ensures { Does self.old result self.new (work self.old.config slot packet.now.handle.now (work_of packet.now)) }
+        ensures { Does self.old result self.new (work self.old.config slot packet.now.handle.now (work_of self.old.config packet.now)) }
     {
         let Some(job) = job_of_handle(&self.log, &self.config, packet.handle) else {
             return self.refuse(slot, Refusal::JobNotFound);
@@ -77,15 +87,32 @@ impl PlainServer {
     fn tell_work(&mut self, job: u64, packet: &WorkPacket<'_>) -> Result<(), AllocError>
         requires runs { is_running (job_state job self.old.log.notes) ≡ true }
         requires fits { WorkFits packet.now }
-        ensures { Does self.old result self.new (tell_work (work_of packet.now) job) }
+        ensures { Does self.old result self.new (tell_work self.old.config (work_of self.old.config packet.now) job) }
     {
-        let slots = hearers(self.alloc, &self.log, job, packet.exceptions_only)?;
         let report = copy_report(self.alloc, packet.report)?;
         self.make_room(1)?;
-        self.give_all(&slots, &packet.response)?;
+        self.tell_listeners(job, packet)?;
         self.keep_report(job, report);
-        self.end_if(job, packet.ends);
+        let ends = packet.ends_job(&self.config);
+        self.end_if(job, ends);
         Ok(())
+    }
+
+    /// The listeners of a job are told what its worker says; where only some of them get that, and the job ends, the others are
+    /// told that it failed. Out of memory, it changes nothing.
+    fn tell_listeners(&mut self, job: u64, packet: &WorkPacket<'_>) -> Result<(), AllocError>
+        requires fits { WorkFits packet.now }
+        ensures does { Does self.old result self.new (tell_listeners self.old.config (work_of self.old.config packet.now) job) }
+        ensures log { self.new.log ≡ self.old.log }
+    {
+        let slots = hearers(self.alloc, &self.log, job, packet.exceptions_only)?;
+        if !packet.exceptions_only || !packet.ends_job(&self.config) {
+            return self.give_all(&slots, &packet.response);
+        }
+        let others = others(self.alloc, &self.log, job)?;
+        let handle = handle(self.alloc, &self.config, job)?;
+        let failure = Response::WorkFail { handle: &handle };
+        self.give_both(&slots, &packet.response, &others, &failure)
     }
 
     /// A running job ends, if so. It needs no memory.

@@ -11,7 +11,7 @@ loop-event-smaller g c =
 pub loop-event-preserved : goal.loop-event-preserved
 loop-event-preserved g c =
     rw c.or-created.ensures
-    (unloading_more g.S.JobServer.agrees c.args.slot c.args.server.now c.args.feeder.now c.loop-event.units c.loop-event.created c.in-Ok.newer c.loop-event.server c.loop-event.feeder c.hand_in.new.server
+    (unloading_more g.S.JobServer.agrees c.args.slot c.args.server.now c.args.feeder.now c.loop-event.units c.loop-event.created c.in-Ok.newer c.loop-event.server c.loop-event.feeder c.hand_in_unit.new.server
     c.next_event.follows.lender-at-none _ c.loop-event.invariant (rw c.in-Unit.is at c.next_event.follows.holds-at-none) c.in-Ok.ensures.ok)
 
 pub returns-in-Wait-clause-ok : goal.returns-in-Wait-clause-ok
@@ -27,4 +27,4 @@ returns-in-Fault-clause-ok g c =
 pub returns-in_default-clause-err : goal.returns-in_default-clause-err
 returns-in_default-clause-err g c =
     ends_short g.S.JobServer.agrees c.args.slot c.args.server.now c.args.feeder.now c.loop-event.units c.loop-event.created c.loop-event.server c.loop-event.feeder
-    c.next_event.follows.lender-at-none c.hand_in.new.server _ c.loop-event.invariant (rw c.in-Unit.is at c.next_event.follows.holds-at-none) c.in_default.ensures.err
+    c.next_event.follows.lender-at-none c.hand_in_unit.new.server _ c.loop-event.invariant (rw c.in-Unit.is at c.next_event.follows.holds-at-none) c.in_default.ensures.err

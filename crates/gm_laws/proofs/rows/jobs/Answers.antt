@@ -54,6 +54,10 @@ pub returns-clause-exceptions_option : goal.returns-clause-exceptions_option
 unfolding digits
 returns-clause-exceptions_option c = refl
 
+pub returns-clause-exception_ends : goal.returns-clause-exception_ends
+unfolding digits
+returns-clause-exception_ends c = refl
+
 pub returns-clause-data_with_nul : goal.returns-clause-data_with_nul
 unfolding digits
 returns-clause-data_with_nul c = refl

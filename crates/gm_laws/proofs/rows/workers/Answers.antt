@@ -10,6 +10,10 @@ pub returns-clause-round_robin : goal.returns-clause-round_robin
 unfolding digits
 returns-clause-round_robin c = (refl, refl)
 
+pub returns-clause-priority_first : goal.returns-clause-priority_first
+unfolding digits
+returns-clause-priority_first c = (refl, refl)
+
 pub returns-clause-round_robin_anew : goal.returns-clause-round_robin_anew
 unfolding digits
 returns-clause-round_robin_anew c = refl

@@ -25,6 +25,7 @@ returns-clause-reads g c =
       slots = subst (λ text. ReadsNumber text 64 read.slots) (at (codes "slots")) options.slots;
       round_robin = subst (λ text. ReadsFlag text read.round_robin) (at (codes "round-robin")) options.round_robin;
       job_retries = subst (λ text. ReadsNumber text 0 read.job_retries) (at (codes "job-retries")) options.job_retries;
+      as_gearmand = subst (λ text. ReadsFlag text read.as_gearmand) (at (codes "as-gearmand")) options.as_gearmand;
       check = subst (λ text. ReadsFlag text c.get_flag.result) (at (codes "check")) (flag _ _ c.get_flag.ensures.none c.get_flag.ensures.value c.get_flag.ensures.other);
       tape = subst (λ text. ReadsFlag text c.get_flag-2.result) (at (codes "tape")) (flag _ _ c.get_flag-2.ensures.none c.get_flag-2.ensures.value c.get_flag-2.ensures.other);
     }

@@ -11,7 +11,7 @@ loop-slot-preserved g c =
     let account = c.in_ok-push-3.ensures.items in
     record {
       own = all_then (λ desk. SaysOwn desk.number desk.witness.seen) _ _ _ desk i.own c.into_desk.ensures.own;
-      accounts = account_pushed (λ desk. (desk.number, desk.witness.seen)) (λ pen. (pen.slot, pen.witness.seen, pen.seat.takes)) _ _ _ _ _ _ _ _ _ _ desk pen account i.desks i.pens i.accounts
+      accounts = account_pushed g.K.BookName.settings (λ desk. (desk.number, desk.witness.seen)) (λ pen. (pen.slot, pen.witness.seen, pen.seat.takes)) _ _ _ _ _ _ _ _ _ _ desk pen account i.desks i.pens i.accounts
           c.into_desk.ensures.desk c.into_parts-desk.ensures;
       desks = longer _ _ _ _ _ _ desk account i.desks;
       pens = longer _ _ _ _ _ _ pen account i.pens;
@@ -19,4 +19,4 @@ loop-slot-preserved g c =
     }
 
 pub returns-clause-accounts : goal.returns-clause-accounts
-returns-clause-accounts g c = desk_pushed (λ desk. (desk.number, desk.witness.seen)) _ _ _ _ _ c.in_ok-push-4.ensures.items c.loop-slot.invariant.accounts
+returns-clause-accounts g c = desk_pushed g.K.BookName.settings (λ desk. (desk.number, desk.witness.seen)) _ _ _ _ _ c.in_ok-push-4.ensures.items c.loop-slot.invariant.accounts

@@ -14,4 +14,4 @@ returns-in_ok-work-in-Work-clause-made c past keeps =
     let packet = c.in-Work.packet in
     let none : Option ℕ = None in
     subst (λ (action : Action). none ≡ made_since (made past.notes) (made (act k slot action past).notes)) (sym c.in-Work.is)
-    (none_by past (work k slot packet.handle.now (work_of packet) past) (work_on_made slot (work_of packet) (job_of_handle k packet.handle.now past.notes) past))
+    (none_by past (work k slot packet.handle.now (work_of k packet) past) (work_on_made k slot (work_of k packet) (job_of_handle k packet.handle.now past.notes) past))

@@ -1,11 +1,12 @@
-use Rattle.std.proofs.Common.{◌≡◌, ◌≤◌, ℕ, List, Some, None, Ok, codes, filter, refl, sym, ap, subst, ◌∙◌}
+use Rattle.std.proofs.Common.{◌≡◌, ◌≤◌, ◌&&◌, ℕ, Bool, false, List, Some, None, Ok, codes, filter, refl, sym, ap, subst, ◌∙◌}
 use Rattle.std.specs.Option.{option_map}
 use Rattle.std.specs.Borrow.{Bor}
+use Rattle.std.proofs.lemmas.Bool.{and_right}
 use Rattle.gm_packet.specs.Answers.{answer_of}
 use Rattle.gm_notes.specs.Settings.{Settings}
 use Rattle.gm_notes.specs.Jobs.{job_of_handle, listeners}
 use Rattle.gm_notes.specs.Past.{Past, refuse, tell_all}
-use Rattle.gm_notes.specs.Workers.{hearers, keep_report, work}
+use Rattle.gm_notes.specs.Workers.{hearers, keep_report, tell_work, work}
 use Rattle.gm_conns.specs.ConnTables as conns
 use Rattle.gm_jobs.specs.Live.{reported}
 use Rattle.gm_jobs.specs.Tables as jobs
@@ -15,12 +16,13 @@ use Rattle.gm_actions.specs.Actions.{option_report, work_of}
 use Rattle.gm_core.specs.declared.server.Tables.{Tables}
 use Rattle.gm_core.specs.Facts.{ConnFacts}
 use Rattle.gm_core.specs.Holds.{AllTouched, Goes, HoldsConns}
-use Rattle.gm_core.specs.Telling.{hears, needed, poured}
+use Rattle.gm_core.specs.Telling.{IsRunning, hears, needed, poured}
 use Rattle.gm_core.specs.Writing.{Text}
 use Rattle.gm_core.proofs.CoreLemmas.{does_as, does_not, goes_as, goes_nothing, goes_then, kept_then}
-use Rattle.gm_core.proofs.WorkLemmas.{does_report, goes_with_room, reported_listeners, reported_runs, told_after, told_each, works_there, works_nowhere}
+use Rattle.gm_core.proofs.WorkLemmas.{does_report, goes_with_room, reported_listeners, reported_runs, ends_itself, told_after, told_each, works_there, works_nowhere}
 use Rattle.gm_core.proofs.server.Tables.work.Goals as goal
 use Rattle.gm_core.proofs.server.Tables.work.Goals.{In_ok-prepare_each, in-None, in-Some-report+in_ok-report-in-Some-report}
+use Rattle.gm_core.proofs.server.Tables.work.Goals.{else-packet-via-then-packet+else-ends_job, else-packet-via-else-packet}
 
 -- what is written, with room for it, and how it is then told
 abbrev ready : In_ok-prepare_each → Tables
@@ -69,13 +71,33 @@ pub returns-in_default-clause-does : goal.returns-in_default-clause-does
 returns-in_default-clause-does c =
     let old = c.args.self.now in
     let none = ap (option_map (λ (found : ℕ × Bor (List ℕ)). found.0)) (sym c.in_default.is) in
-    does_as {f = refuse c.args.slot (codes "job_not_found")} c.refuse.result (work old.config c.args.slot c.args.packet.now.handle.now (work_of c.args.packet.now)) c.refuse.ensures
-    (λ p keeps. works_nowhere c.args.slot (work_of c.args.packet.now) (job_of_handle old.config c.args.packet.now.handle.now p.notes) p (none ∙ c.running_at.ensures.value old.functions _ p keeps.jobs))
+    does_as {f = refuse c.args.slot (codes "job_not_found")} c.refuse.result (work old.config c.args.slot c.args.packet.now.handle.now (work_of c.args.self.now.config c.args.packet.now)) c.refuse.ensures
+    (λ p keeps. works_nowhere old.config c.args.slot (work_of c.args.self.now.config c.args.packet.now) (job_of_handle old.config c.args.packet.now.handle.now p.notes) p (none ∙ c.running_at.ensures.value old.functions _ p keeps.jobs))
+
+pub returns-then-ends_job-clause-does : goal.returns-then-ends_job-clause-does
+returns-then-ends_job-clause-does c =
+    let old = c.args.self.now in
+    let w = work_of old.config c.args.packet.now in
+    let n = c.in-Some.job in
+    let some = ap (option_map (λ (found : ℕ × Bor (List ℕ)). found.0)) (sym c.in-Some.is) in
+    does_as {f = tell_work old.config w n} c.except.result (work old.config c.args.slot c.args.packet.now.handle.now w) c.except.ensures.does
+    (λ p keeps. works_there old.config c.args.slot w n (job_of_handle old.config c.args.packet.now.handle.now p.notes) p (some ∙ c.running_at.ensures.value old.functions _ p keeps.jobs))
+
+pub end_if-requires-clause-runs : goal.end_if-requires-clause-runs
+end_if-requires-clause-runs c =
+    let old = c.args.self.now in
+    let n = c.in-Some.job in
+    elim c.match-packet.branch [
+      | in-None w ↦ subst (λ (new : Tables). IsRunning (job new.jobs n)) (sym w.self-is) c.in-Some.ensures.runs
+      | in-Some-report+in_ok-report-in-Some-report w ↦
+          subst (λ (new : Tables). IsRunning (job new.jobs n)) (sym w.self-is)
+          (reported_runs old.jobs w.report.new.self n w.in-Some-report.report.numerator.now w.in-Some-report.report.denominator.now (Ok tt) w.in_ok-report-in-Some-report.ensures.ok tt c.in-Some.ensures.runs)
+    ]
 
 pub returns-in_err-prepare_each-clause-does : goal.returns-in_err-prepare_each-clause-does
 returns-in_err-prepare_each-clause-does c =
     let old = c.args.self.now in
-    does_not c.from_residual.result (work old.config c.args.slot c.args.packet.now.handle.now (work_of c.args.packet.now)) c.from_residual.ensures
+    does_not c.from_residual.result (work old.config c.args.slot c.args.packet.now.handle.now (work_of c.args.self.now.config c.args.packet.now)) c.from_residual.ensures
     (goes_with_room {old = old} {new = record old { conns = c.prepare_each.new.conns; text = c.prepare_each.new.text }}
     (record { config = refl; functions = refl; jobs = refl; moment = refl; mode = refl }) c.in_err-prepare_each.ensures.roomed)
 
@@ -83,7 +105,7 @@ pub returns-in_err-report-in-Some-report-clause-does : goal.returns-in_err-repor
 returns-in_err-report-in-Some-report-clause-does c =
     let old = c.args.self.now in
     let ready = ready (goal.at.returns-in_err-report-in-Some-report-clause-does c).In_ok-prepare_each in
-    does_not c.from_residual-in_err-report-in-Some-report.result (work old.config c.args.slot c.args.packet.now.handle.now (work_of c.args.packet.now)) c.from_residual-in_err-report-in-Some-report.ensures
+    does_not c.from_residual-in_err-report-in-Some-report.result (work old.config c.args.slot c.args.packet.now.handle.now (work_of c.args.self.now.config c.args.packet.now)) c.from_residual-in_err-report-in-Some-report.ensures
     (goes_then (roomed (goal.at.returns-in_err-report-in-Some-report-clause-does c).In_ok-prepare_each)
     (goes_nothing {a = ready} {b = record ready { jobs = c.report.new.self }} refl refl refl c.in_err-report-in-Some-report.ensures.err refl refl))
 
@@ -126,7 +148,11 @@ returns-clause-does c =
           (numbered ready w.in-Some-report.report w.report.new.self w.listeners-slots.result.now w.put_each-in-Some-report.new.conns w.put_each-in-Some-report.new.text w.in-Some-report.is
           w.in_ok-report-in-Some-report.ensures.ok w.listeners-slots.ensures w.put_each-in-Some-report.ensures.poured.touched w.put_each-in-Some-report.ensures.holds)
     ] in
-    goes_as (work old.config c.args.slot c.args.packet.now.handle.now (work_of packet)) (goes_then told c.end_if.ensures.goes)
+    goes_as (work old.config c.args.slot c.args.packet.now.handle.now (work_of old.config packet)) (goes_then told c.end_if.ensures.goes)
     (λ p keeps.
-    told_after packet.ends n (answer_of packet.response) packet.exceptions_only (option_report packet.report) p
-    ∙ works_there c.args.slot (work_of packet) n (job_of_handle old.config c.args.packet.now.handle.now p.notes) p (some ∙ c.running_at.ensures.value old.functions _ p keeps.jobs))
+    let alone : (packet.exceptions_only && (work_of old.config packet).ends) ≡ false = elim c.else-packet.branch [
+      | else-packet-via-then-packet+else-ends_job w ↦ and_right packet.exceptions_only (work_of old.config packet).ends (sym w.ends_job.ensures ∙ w.if-ends_job.false)
+      | else-packet-via-else-packet w ↦ ap (λ (t : Bool). t && (work_of old.config packet).ends) w.if-packet.false
+    ] in
+    told_after old.config (work_of old.config packet) packet.ends n p alone (ends_itself packet.ends packet.exceptions_only old.config.as_gearmand alone)
+    ∙ works_there old.config c.args.slot (work_of old.config packet) n (job_of_handle old.config c.args.packet.now.handle.now p.notes) p (some ∙ c.running_at.ensures.value old.functions _ p keeps.jobs))

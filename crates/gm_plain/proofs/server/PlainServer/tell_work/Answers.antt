@@ -1,24 +1,27 @@
-use Rattle.std.proofs.Common.{◌≡◌, List, ℕ, Option, ap, ap₂, ◌∙◌}
-use Rattle.gm_notes.specs.declared.note.Note.{Note}
-use Rattle.gm_notes.specs.Jobs.{listeners}
-use Rattle.gm_notes.specs.Past.{tell_all}
-use Rattle.gm_notes.specs.Workers.{hearers, keep_report, end_if}
+use Rattle.std.proofs.Common.{◌≡◌, ◌&&◌, ◌||◌, Bool, ℕ, List, Option, ap, ap₂, ◌∙◌}
+use Rattle.gm_notes.specs.Settings.{Settings}
+use Rattle.gm_notes.specs.Workers.{keep_report, end_if}
 use Rattle.gm_actions.specs.Actions.{work_of}
-use Rattle.gm_plain.proofs.ServerLemmas.{does_not, goes_then, goes_as, kept_told}
+use Rattle.gm_plain.specs.Holds.{tell_listeners}
+use Rattle.gm_plain.proofs.ServerLemmas.{does_not, goes_then, goes_as, kept_listening}
 use Rattle.gm_plain.proofs.server.PlainServer.tell_work.Goals as goal
 
 pub returns-in_err-make_room : goal.returns-in_err-make_room
 returns-in_err-make_room c = does_not _ _ c.from_residual-in_err-make_room.ensures c.make_room.ensures.goes
 
-pub returns-in_err-give_all : goal.returns-in_err-give_all
-returns-in_err-give_all c = does_not _ _ c.from_residual-in_err-give_all.ensures (goes_then c.make_room.ensures.goes c.in_err-give_all.ensures.does)
+pub returns-in_err-tell_listeners : goal.returns-in_err-tell_listeners
+returns-in_err-tell_listeners c = does_not _ _ c.from_residual-in_err-tell_listeners.ensures (goes_then c.make_room.ensures.goes c.in_err-tell_listeners.ensures.does)
 
 pub returns : goal.returns
 returns c =
-    let w = work_of c.args.packet.now in
-    goes_as (goes_then (goes_then (goes_then c.make_room.ensures.goes c.in_ok-give_all.ensures.does) c.keep_report.ensures.goes) c.end_if.ensures)
+    let k = c.args.self.now.config in
+    let n = c.args.job in
+    let packet = c.args.packet.now in
+    let w = work_of k packet in
+    let later : c.keep_report.new.self.config ≡ k = c.keep_report.ensures.goes.config ∙ (c.in_ok-tell_listeners.ensures.does.config ∙ c.make_room.ensures.goes.config) in
+    let ends : c.ends_job-ends.result ≡ w.ends = c.ends_job-ends.ensures ∙ ap (λ (j : Settings). packet.ends || (packet.exceptions_only && j.as_gearmand)) later in
+    goes_as (goes_then (goes_then (goes_then c.make_room.ensures.goes c.in_ok-tell_listeners.ensures.does) c.keep_report.ensures.goes) c.end_if.ensures)
     (λ p keeps.
-    let slots : c.deref.result.now ≡ hearers w.exceptions_only (listeners c.args.job p.notes) p.notes =
-    c.deref.ensures.value ∙ (c.in_ok-slots.ensures.value ∙ ap (λ (l : List Note). hearers w.exceptions_only (listeners c.args.job l) l) keeps.notes_are) in
-    ap₂ (λ (l : List ℕ) (r : Option (List ℕ × List ℕ)). end_if w.ends c.args.job (keep_report c.args.job r (tell_all w.answer l p))) slots c.in_ok-report.ensures
-    ∙ ap (end_if w.ends c.args.job) (kept_told c.args.job w.report w.answer (hearers w.exceptions_only (listeners c.args.job p.notes) p.notes) p))
+    ap₂ (λ (j : Settings) (r : Option (List ℕ × List ℕ)). end_if c.ends_job-ends.result n (keep_report n r (tell_listeners j (work_of j packet) n p))) c.make_room.ensures.goes.config c.in_ok-report.ensures
+    ∙ (ap (λ (t : Bool). end_if t n (keep_report n w.report (tell_listeners k w n p))) ends
+    ∙ kept_listening k w n p))

@@ -1,16 +1,15 @@
 use Rattle.std.proofs.Common.{◌<◌, Bool, rules, ℕ, List, sym, ap, subst, ◌∙◌}
-use Rattle.std.specs.Prelude.{◌&&◌, filter}
+use Rattle.std.specs.Prelude.{filter}
 use Rattle.std.specs.List.{All}
 use Rattle.std.proofs.lemmas.Fn.{filter_same}
 use Rattle.std.proofs.lemmas.List.Elements.{All-filter}
 use Rattle.gm_notes.specs.declared.note.Note.{Note}
-use Rattle.gm_notes.specs.Notes.{is_open, has_option}
-use Rattle.gm_notes.specs.Workers.{hearers}
+use Rattle.gm_notes.specs.Workers.{hearers, wants_exceptions}
 use Rattle.gm_notes.specs.Jobs.{listeners}
 use Rattle.gm_plain.proofs.server.working.hearers.Goals as goal
 
 abbrev wants : List Note → ℕ → Bool
-wants notes d = is_open d notes && has_option d notes
+wants notes d = wants_exceptions d notes
 
 pub returns-clause-value : goal.returns-clause-value
 returns-clause-value c =

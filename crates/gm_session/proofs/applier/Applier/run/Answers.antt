@@ -4,7 +4,7 @@ use Rattle.gm_session.proofs.applier.Applier.run.Goals as goal
 
 pub loop-init : goal.loop-init
 loop-init g c = record {
-  reading = reading_none c.args.desk.now.number c.args.self.now.slot (g.I.Read.remaining c.args.reader.now) c.args.desk.now.witness.seen c.args.session.now.feeder c.args.session.now.has_units c.requires;
+  reading = reading_none g.K.BookName.settings c.args.desk.now.number c.args.self.now.slot (g.I.Read.remaining c.args.reader.now) c.args.desk.now.witness.seen c.args.session.now.feeder c.args.session.now.has_units c.requires;
   number = refl;
 }
 

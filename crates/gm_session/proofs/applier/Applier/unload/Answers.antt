@@ -8,7 +8,7 @@ use Rattle.gm_session.proofs.Handing.{at_home, unloading_none, unloading_more, u
 use Rattle.gm_session.proofs.applier.Applier.unload.Goals as goal
 
 pub loop-batch-init : goal.loop-batch-init
-loop-batch-init g c = record { unloading = unloading_none c.args.desk.now.number c.args.self.now.slot c.args.session.now.feeder c.args.desk.now.witness.seen; gathers = nothing; number = refl }
+loop-batch-init g c = record { unloading = unloading_none g.K.BookName.settings c.args.desk.now.number c.args.self.now.slot c.args.session.now.feeder c.args.desk.now.witness.seen; gathers = nothing; number = refl }
 
 pub loop-batch-smaller : goal.loop-batch-smaller
 loop-batch-smaller g c =

@@ -5,7 +5,7 @@ use Rattle.gm_session.proofs.applier.Applier.unload.Given as goal
 
 abbrev pub invariant-loop-batch : goal.invariant-loop-batch
 invariant-loop-batch g l = record {
-  unloading : Unloading l.fn.desk.number l.fn.self.slot l.fn.session.feeder l.fn.desk.witness.seen l.desk.witness.seen l.session.feeder;
+  unloading : Unloading g.K.BookName.settings l.fn.desk.number l.fn.self.slot l.fn.session.feeder l.fn.desk.witness.seen l.desk.witness.seen l.session.feeder;
   gathers : Gathers g.K.BookName.settings g.K.BookName.taped l.fn.desk.number l.fn.desk.witness.seen l.fn.effects l.desk.witness.seen l.effects;
   number : l.desk.number ≡ l.fn.desk.number;
 }

@@ -7,7 +7,7 @@ invariant_of-self g c =
     elim c.match-self.branch [
       | in-Some w ↦
           rw w.self-inside-is
-          (talk_discarded _ c.self.invariant _ _ w.discard_on.ensures.heard.0 (some_talking _ _ w.in-Some.talking w.in-Some.is) w.discard_on.ensures.over w.discard_on.ensures.heard.1
+          (talk_discarded g.K.BookName.settings _ c.self.invariant _ _ w.discard_on.ensures.heard.0 (some_talking _ _ w.in-Some.talking w.in-Some.is) w.discard_on.ensures.over w.discard_on.ensures.heard.1
           w.discard_on.ensures.of)
       | in-None w ↦ rw w.self-inside-is c.self.invariant
     ]
