@@ -1,6 +1,8 @@
 """A gmd that lacks something: memory, descriptors, threads, a standard stream, or a call of the system that succeeds."""
 import os
+import pathlib
 import random
+import re
 import resource
 import shutil
 import time
@@ -27,20 +29,32 @@ class Server(loopback.Server):
     def __init__(self, *options, under=(), env=None, told=()):
         super().__init__(GMD, *options, under=under, env={**PATH, **(env or {})}, told=told)
 
+    def used(self):
+        """How many seconds of processor time it used."""
+        with open(f"/proc/{self.process.pid}/stat", encoding="ascii") as stat:
+            fields = stat.read().rpartition(")")[2].split()
+        return (int(fields[11]) + int(fields[12])) / os.sysconf("SC_CLK_TCK")
+
+    def wakings(self):
+        """How often those of its threads that are there waited and were woken."""
+        count = 0
+        for path in pathlib.Path(f"/proc/{self.process.pid}/task").glob("*/status"):
+            count += int(re.search("^voluntary_ctxt_switches:\t([0-9]+)$", path.read_text(encoding="ascii"), re.M)[1])
+        return count
+
+    def descriptors(self):
+        """How many descriptors it has."""
+        return len(os.listdir(f"/proc/{self.process.pid}/fd"))
+
     def is_idle(self):
         """It is there, and uses next to no processor time in one of five seconds. In others the machine may fetch its memory again."""
-        def used():
-            with open(f"/proc/{self.process.pid}/stat", encoding="ascii") as stat:
-                fields = stat.read().rpartition(")")[2].split()
-            return (int(fields[11]) + int(fields[12])) / os.sysconf("SC_CLK_TCK")
-
         parts = []
         while not parts or parts[-1] >= BUSY:
             if len(parts) == 5:
                 raise Wrong(f"{min(parts):.0%} of a processor while nothing happens")
-            before, begun = used(), time.monotonic()
+            before, begun = self.used(), time.monotonic()
             time.sleep(1)
-            parts.append((used() - before) / (time.monotonic() - begun))
+            parts.append((self.used() - before) / (time.monotonic() - begun))
             if self.process.poll() is not None:
                 raise Wrong(f"it ended with status {self.process.returncode}, and said {self.errors()!r}")
 

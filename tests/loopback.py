@@ -11,7 +11,7 @@ from packets import *  # pylint: disable=wildcard-import,unused-wildcard-import
 from trials import ROOM_PATH, Wrong
 
 PATIENCE = 60  # seconds, after which something doesn't come any more
-LISTENING = b"gmd: listening\n"
+LISTENING, LISTENING_AS_GEARMAND = b"gmd: listening\n", b"gmd: listening, as gearmand\n"
 MEBIBYTE = 1_048_576
 # Lets connections to different servers share a port, which is taken for a minute after an end (ip(7)). Python names it from 3.12 on.
 IP_BIND_ADDRESS_NO_PORT = 24
@@ -58,7 +58,7 @@ class Server:
         self.held.close()
 
     def is_listening(self):
-        return self.said == LISTENING
+        return self.said == (LISTENING_AS_GEARMAND if "--as-gearmand" in self.process.args else LISTENING)
 
     def errors(self):
         # A seek would move where the server writes.

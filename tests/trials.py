@@ -19,6 +19,7 @@ SLOW = "a program that was built without proofs is too slow for it"
 NO_LIMIT = "a program that was built without proofs maps 16 TB, which a limit of address space refuses"
 UNSERVED = {
     "script_lengths: newlines alone": SLOW,
+    "long_packet": SLOW,
     "starts_not: address space": NO_LIMIT,
     "served_beside_announcers": NO_LIMIT,
     "shutdown_beside_slow": SLOW,
