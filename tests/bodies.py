@@ -1,5 +1,5 @@
 """Makes the bodies of a script's packets long. What is printed for it is made long in the same way: a body stands for another
-wherever it comes."""
+wherever it comes. An empty one stays empty, as is that of a result without its separator."""
 import bisect
 import itertools
 import os
@@ -28,7 +28,7 @@ def changes(stream, kinds, size):
     begin = 0
     while (end := unit_end(stream, begin)) is not None:
         head, arguments = stream[begin : begin + 12], stream[begin + 12 : end].split(b"\0", kinds.get(kind_of(stream[begin:]), 0))
-        if not head[0] and kind_of(head) in kinds and len(arguments) == kinds[kind_of(head)] + 1:
+        if not head[0] and kind_of(head) in kinds and len(arguments) == kinds[kind_of(head)] + 1 and arguments[-1]:
             more = lengthened(arguments[-1], size)[len(arguments[-1]) :]
             yield begin + 8, begin + 12, (end - begin - 12 + len(more)).to_bytes(4, "big")
             yield end, end, more

@@ -5,8 +5,8 @@ import socket
 import subprocess
 import time
 
-from loopback import (ALL_YOURS, CAN_DO, CAN_DO_TIMEOUT, CANT_DO, ECHO_REQ, ECHO_RES, GRAB_JOB, GRAB_JOB_UNIQ, NO_JOB, PATIENCE,
-                      PRE_SLEEP, RESET_ABILITIES, SET_CLIENT_ID, WORK_COMPLETE, WORK_DATA, WORK_EXCEPTION, WORK_FAIL, WORK_STATUS, WORK_WARNING,
+from loopback import (ALL_YOURS, CAN_DO, CAN_DO_TIMEOUT, CANT_DO, ECHO_REQ, ECHO_RES, GRAB_JOB, GRAB_JOB_ALL, GRAB_JOB_UNIQ, NO_JOB,
+                      PATIENCE, PRE_SLEEP, RESET_ABILITIES, SET_CLIENT_ID, WORK_COMPLETE, WORK_DATA, WORK_EXCEPTION, WORK_FAIL, WORK_STATUS, WORK_WARNING,
                       Client, Server, kind_of, packet, unit_end, units_of)
 from trials import Wrong
 
@@ -118,7 +118,7 @@ def noops_of(units, noops):
     """The least and the most NOOPs that come of what a slot sends, where this many come if they are taken at the end of it: a grab
     withdraws one that isn't taken yet, and a slot can sleep again after one that is."""
     kinds = [kind_of(unit) for unit in units]
-    has_grab = GRAB_JOB in kinds or GRAB_JOB_UNIQ in kinds
+    has_grab = any(kind in kinds for kind in (GRAB_JOB, GRAB_JOB_UNIQ, GRAB_JOB_ALL))
     return 0 if has_grab else noops, max(noops, kinds.count(PRE_SLEEP) + 1) if len(kinds) > 1 else noops
 
 

@@ -10,6 +10,9 @@ REQUESTS = {
     28: ("WORK_DATA", "hb"), 29: ("WORK_WARNING", "hb"), 30: ("GRAB_JOB_UNIQ", ""), 32: ("SUBMIT_JOB_HIGH_BG", "fub"),
     33: ("SUBMIT_JOB_LOW", "fub"), 34: ("SUBMIT_JOB_LOW_BG", "fub"),
 }
+# What is served besides with `--as-gearmand`.
+AS_GEARMAND = {39: ("GRAB_JOB_ALL", "")}
+
 RESPONSES = {
     6: ("NOOP", ""), 8: ("JOB_CREATED", "h"), 10: ("NO_JOB", ""), 11: ("JOB_ASSIGN", "hfb"), 12: ("WORK_STATUS", "hnn"),
     13: ("WORK_COMPLETE", "hb"), 14: ("WORK_FAIL", "h"), 17: ("ECHO_RES", "b"), 19: ("ERROR", "ct"), 20: ("STATUS_RES", "hnnnn"),
@@ -17,7 +20,7 @@ RESPONSES = {
     31: ("JOB_ASSIGN_UNIQ", "hfub"),
 }
 # Each type's number by its name: CAN_DO and so on.
-globals().update({name: kind for table in (REQUESTS, RESPONSES) for kind, (name, _) in table.items()})
+globals().update({name: kind for table in (REQUESTS, AS_GEARMAND, RESPONSES) for kind, (name, _) in table.items()})
 
 
 def packet(kind, *arguments, magic=b"\0REQ"):

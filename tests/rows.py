@@ -9,7 +9,7 @@ import re
 import typing
 
 FOLDER = pathlib.Path(__file__).resolve().parent / "rows"
-TOPICS = ["packets", "streams", "submissions", "runs", "workers", "turns", "retries", "lines"]
+TOPICS = ["packets", "streams", "submissions", "runs", "workers", "turns", "retries", "as_gearmand", "lines"]
 
 
 class Row(typing.NamedTuple):
