@@ -17,6 +17,16 @@ MEBIBYTE = 1_048_576
 IP_BIND_ADDRESS_NO_PORT = 24
 
 
+def within(what, call, seconds=PATIENCE):
+    """Waits until this is so, and returns it."""
+    end = time.monotonic() + seconds
+    while not (found := call()):
+        if time.monotonic() > end:
+            raise Wrong(f"{what}: not within {seconds} seconds")
+        time.sleep(0.02)
+    return found
+
+
 @contextlib.contextmanager
 def own_port():
     """A port for a server, which nobody else gets meanwhile, neither before it listens nor after its end: a socket that doesn't listen

@@ -6,22 +6,13 @@ import socket
 import subprocess
 import time
 
-from loopback import (CAN_DO, GRAB_JOB_ALL, JOB_ASSIGN_UNIQ, JOB_CREATED, PATIENCE, SUBMIT_JOB, WORK_FAIL, Client, Server, own_port)
-from trials import ROOM_PATH, ROOT, Wrong, program, same
+from loopback import (CAN_DO, GRAB_JOB_ALL, JOB_ASSIGN_UNIQ, JOB_CREATED, PATIENCE, SUBMIT_JOB, WORK_FAIL, Client, own_port, within)
+from serving import GMD, serving
+from trials import ROOM_PATH, ROOT, same
 
-GMD = program("gmd", "gmd")
 GEARMAND = shutil.which("gearmand", path=f"{os.environ['PATH']}:/usr/sbin")
 HERE = ROOT / "tests"
 C, PHP, PERL = (ROOM_PATH / "peers",), ("php", HERE / "peers.php"), ("perl", HERE / "peers.pl")
-
-
-def within(what, call):
-    """Waits until this is so."""
-    end = time.monotonic() + PATIENCE
-    while not call():
-        if time.monotonic() > end:
-            raise Wrong(f"{what}: it doesn't come")
-        time.sleep(0.01)
 
 
 def can_connect(port):
@@ -29,17 +20,9 @@ def can_connect(port):
         return probe.connect_ex(("127.0.0.1", port)) == 0
 
 
-@contextlib.contextmanager
 def gmd():
     """The port of a gmd that serves what was written for gearmand. It ends well."""
-    with Server(GMD, "--as-gearmand", "--slots", "256") as server:
-        if not server.is_listening():
-            raise Wrong(server.errors())
-        yield server.port
-        last = Client(server.port)
-        same("shutdown", last.lines(b"shutdown"), ["OK"])
-        last.close()
-        server.ended(0, "gmd: ended, connections served: ")
+    return serving("--as-gearmand", "--slots", "256")
 
 
 @contextlib.contextmanager

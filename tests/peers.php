@@ -1,6 +1,7 @@
 <?php
 // What PHP's workers and clients of tests/peers do, with the extension's own options: peers.php PORT WHAT [NUMBER]. A worker prints a line
 // for each job, and goes on until it is ended; a client prints what it got. NUMBER is a worker's time limit.
+require __DIR__ . '/../packaging/demo/work.php';
 [, $port, $what] = $argv;
 $number = (int) ($argv[3] ?? 0);
 
@@ -68,14 +69,5 @@ if ($what === 'do') {
     if ($what === 'leaves') {
         $worker->unregister('f');
     }
-    while (true) {
-        try {
-            @$worker->work();
-        } catch (Throwable $e) {
-        }
-        if ($worker->returnCode() !== GEARMAN_SUCCESS) {
-            echo 'code ', $worker->returnCode(), "\n";
-            usleep(200000);
-        }
-    }
+    work($worker);
 }

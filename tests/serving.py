@@ -9,8 +9,9 @@ GMD = program("gmd", "gmd")
 
 
 @contextlib.contextmanager
-def serving(*options, connections):
-    """A server's port. When the test is done with it, it is shut down, ends with status 0, and says how many connections it served."""
+def serving(*options, connections=None):
+    """A server's port. When the test is done with it, it is shut down, ends with status 0, and says that it served so many connections, if
+    their number is given."""
     with Server(GMD, *options) as server:
         if not server.is_listening():
             raise Wrong(server.errors())
@@ -18,7 +19,7 @@ def serving(*options, connections):
         last = Client(server.port)
         same("shutdown", last.lines(b"shutdown"), ["OK"])
         last.close()
-        server.ended(0, f"gmd: ended, connections served: {connections + 1}\n")
+        server.ended(0, "gmd: ended, connections served: " + ("" if connections is None else f"{connections + 1}\n"))
 
 
 def drip(client, most, is_over):

@@ -18,22 +18,13 @@ try:
 except ImportError:
     psycopg2 = None
 
-from loopback import (CAN_DO, GRAB_JOB_UNIQ, JOB_ASSIGN_UNIQ, NO_JOB, NOOP, PATIENCE, PRE_SLEEP, WORK_COMPLETE, Client, own_port, packet)
+from loopback import (CAN_DO, GRAB_JOB_UNIQ, JOB_ASSIGN_UNIQ, NO_JOB, NOOP, PATIENCE, PRE_SLEEP, WORK_COMPLETE, Client, own_port, packet,
+                      within)
 from trials import ROOM_PATH, ROOT, Wrong
 
 PROGRAM = ROOT / "packaging/debian/gmd-table"
 # PostgreSQL doesn't run as root.
 OTHER_USER = "nobody"
-
-
-def within(what, call, seconds=PATIENCE):
-    """Waits until this is so, and returns it."""
-    end = time.monotonic() + seconds
-    while not (found := call()):
-        if time.monotonic() > end:
-            raise Wrong(f"{what}: not within {seconds} seconds")
-        time.sleep(0.02)
-    return found
 
 
 def postgres():

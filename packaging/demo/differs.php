@@ -1,6 +1,7 @@
 <?php
 // What PHP's workers and clients of packaging/demo/differs do: differs.php PORT WHAT [ARGUMENT].. A worker does jobs of the function mail
 // until it is ended, and prints a line for each.
+require __DIR__ . '/work.php';
 [, $port, $what] = $argv;
 $argument = $argv[3] ?? '';
 
@@ -12,19 +13,6 @@ function worker(string $port, bool $has_option = true): GearmanWorker
     }
     $worker->addServer('127.0.0.1', (int) $port);
     return $worker;
-}
-function work(GearmanWorker $worker): void
-{
-    while (true) {
-        try {
-            @$worker->work();
-        } catch (Throwable $e) {
-        }
-        if ($worker->returnCode() !== GEARMAN_SUCCESS) {
-            echo 'code ', $worker->returnCode(), "\n";
-            usleep(200000);
-        }
-    }
 }
 function client(string $port): GearmanClient
 {

@@ -18,7 +18,7 @@ Parts = ℕ × List ℕ
 abbrev pub result_meant : List ℕ → Parts
 result_meant bytes = if not (has_nul bytes) && nat_le (length bytes) 64 then (13, bytes ++ 0 ∷ []) else (13, bytes)
 
--- a time limit is milliseconds, of which fewer than 1,000 count as 1,000; they are rounded up to seconds, with one more for the second that the
+-- a time limit is in milliseconds, and less than 1,000 counts as 1,000; it is rounded up to seconds, with one more for the second that the
 -- clock is in
 abbrev pub seconds_meant : ℕ → ℕ
 seconds_meant milliseconds = (max milliseconds 1000 + 999) / 1000 + 1

@@ -43,7 +43,7 @@ fn mean_result<'a>(bytes: Data<'a>, room: &'a mut Room) -> Parts<'a>
     (kind, Data::lent(room.as_slice()))
 }
 
-/// The seconds of a time limit in milliseconds, of which fewer than 1,000 count as 1,000: rounded up, with one more for the second that
+/// The seconds of a time limit in milliseconds, where less than 1,000 counts as 1,000: rounded up, with one more for the second that
 /// the clock is in, so that a job never fails too early.
 fn mean_seconds(milliseconds: u32) -> u64
     ensures { result ≡ seconds_meant milliseconds }

@@ -119,7 +119,7 @@ module _ (k : Settings) (w : Work) (n : ℕ) (start : Past) (c : ℕ) where
 
 -- ---- reports
 
--- a report is a WORK packet, of which each slot is to get what is passed on to it
+-- a report is a WORK packet, and each slot is to get what is passed on to it
 pub record Reports (k : Settings) (kind : Kind) (a : List (List ℕ)) : Type 0 where
   pub packet : Work
   pub does : (c timeout : ℕ) (past : Past) → request k c kind a timeout past ≡ work k c (first a) packet past

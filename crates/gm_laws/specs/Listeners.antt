@@ -51,8 +51,8 @@ abbrev pub heard : Option Answer → ℕ → List (List ℕ)
 heard None times = []
 heard (Some answer) times = replicate times (answer_packet answer)
 
--- A report by the slot where a job runs is passed on to each slot, as what that is to get of it, as often as it listens, and nothing else
--- is queued. A report is a request of which there is something for those that get exceptions.
+-- A report by the slot where a job runs is passed on to each slot as often as the slot listens, and nothing else is queued. What is passed
+-- on depends on whether the slot gets exceptions. A report is a request that passes something on to slots that get exceptions.
 abbrev pub WhatWorkersSayIsPassedOn : Type 0
 WhatWorkersSayIsPassedOn = (k : Settings) (steps : List Step) (worker n number : ℕ) (bytes : List ℕ) (asked : Asked) (report : Answer) →
     let before = run k steps in

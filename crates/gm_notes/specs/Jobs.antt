@@ -211,7 +211,7 @@ abbrev pub pick_with : Priority → List Ability → List Note → Option Pick
 pick_with p [] notes = None
 pick_with p (ability ∷ abilities) notes = first_of (queue ability.function p notes) ability.timeout (pick_with p abilities notes)
 
--- the first of the highest priority of which a job waits
+-- the first job of the highest priority that waits
 abbrev pub pick_highest : List Ability → List Note → Option Pick
 pick_highest abilities notes =
     option_or (pick_with High abilities notes) (option_or (pick_with Normal abilities notes) (pick_with Low abilities notes))
@@ -242,8 +242,8 @@ rotated (Some f) abilities = behind f abilities ++ up_to f abilities
 abbrev pub scan : Settings → ℕ → List Note → List Ability
 scan k c notes = if k.round_robin then rotated (last_function c notes) (abilities c notes) else abilities c notes
 
--- the job that a grab of slot c gets: of the first of its functions that has one, or, for gearmand's applications, of the highest priority
--- of which any of them has one
+-- the job that a grab of slot c gets: that of its first function for which one waits, or, with as_gearmand, that of the highest priority
+-- that waits for any of its functions
 abbrev pub pick : Settings → ℕ → List Note → Option Pick
 pick k c notes = if k.as_gearmand then pick_highest (scan k c notes) notes else pick_from (scan k c notes) notes
 

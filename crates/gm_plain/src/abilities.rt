@@ -257,8 +257,8 @@ fn pick_with(log: &Log, jobs: &[u64], abilities: &[Ability<'_>], priority: Prior
     None
 }
 
-/// The first job of the highest priority of which any of these abilities has one, of jobs in the order in which
-/// they came to wait.
+/// The first job of the highest priority that waits for any of these abilities, of jobs in the order in which they
+/// came to wait.
 fn pick_highest(log: &Log, jobs: &[u64], abilities: &[Ability<'_>]) -> Option<Pick>
     requires { jobs.now ≡ as_they_came log.now.notes }
     ensures { result ≡ pick_highest (map ability_of abilities.now) log.now.notes }

@@ -137,7 +137,7 @@ impl Tables {
         }
     }
 
-    /// The first job of the highest priority of which any function of a slot has one.
+    /// The first job of the highest priority that waits for any function of a slot.
     fn pick_by_priority(&mut self, slot: u32) -> Option<Choice>
         requires open { IsOpen self.old.conns slot }
         requires kept { IsKept self.old }
